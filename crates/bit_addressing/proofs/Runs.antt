@@ -1,0 +1,168 @@
+-- A run of a row that is written word by word: a part of the first word, whole words, and a part of the last.
+use Rattle.std.proofs.Common.{◌≡◌, ◌≢◌, ℕ, ◌+◌, ◌-◌, ◌*◌, ◌/◌, ◌%◌, ◌<◌, ◌≤◌, Bool, List, ◌++◌, length, take, drop, replicate, slice_range, refl, sym, ◌∙◌, ap, subst, arith, inl, inr}
+use Rattle.std.proofs.lemmas.List.{length-replicate, length-append, replicate-append-replicate, take-replicate, drop-replicate, length-take, length-drop, places, same_lists}
+use Rattle.std.proofs.lemmas.Nat.{div-add-mod', div-mul-add, le-div}
+use Rattle.std.proofs.Math.Nat.{mod-lt, mul-le-mul_left, div-mul-le_self}
+use Rattle.std.proofs.Common.{mul_comm, rules}
+use Rattle.std.proofs.lemmas.Bool.{cases_lt}
+use Rattle.bit_addressing.specs.Row.{put, words_for}
+use Rattle.bit_addressing.proofs.Lists.{put_joined, words_for_mono}
+
+-- the run from .. upto begins at index `low` of word `first`, and ends at index `end` of word `last`
+pub record IsRun (w from upto first low last end : ℕ) : Type 0 where
+  pub begins : first * w + low ≡ from
+  pub low_below : low < w
+  pub ends : last * w + end ≡ upto
+  pub some : 0 < end
+  pub end_within : end ≤ w
+  pub ordered : first ≤ last
+
+pub div_mono : (a b w : ℕ) → 0 < w → a ≤ b → a / w ≤ b / w
+div_mono a b w positive h = le-div (a / w) b w positive (let e = div-mul-le_self a w in omega arith)
+
+pub mul_mono : (a b w : ℕ) → a ≤ b → a * w ≤ b * w
+mul_mono a b w h = let m : w * a ≤ w * b = mul-le-mul_left w h in let x : w * a ≡ a * w = mul_comm w a in let y : w * b ≡ b * w = mul_comm w b in omega arith
+
+pub one_more_word : (k w : ℕ) → (k + 1) * w ≡ k * w + w
+one_more_word k w = grind arith
+
+pub run_of : (w width from upto : ℕ) → 0 < w → width ≡ w → from < upto → IsRun w from upto (from / width) (from % width) ((upto - 1) / width) ((upto - 1) % width + 1)
+run_of w width from upto positive is h =
+    let p : 0 < width = omega arith in
+    let last : (upto - 1) / width * width + (upto - 1) % width ≡ upto - 1 = div-add-mod' (upto - 1) width in
+    let below : (upto - 1) % width < width = mod-lt (upto - 1) p in
+    record {
+      begins = subst (λ n. from / width * n + from % width ≡ from) is (div-add-mod' from width);
+      low_below = subst (λ n. from % width < n) is (mod-lt from p);
+      ends = subst (λ n. (upto - 1) / width * n + ((upto - 1) % width + 1) ≡ upto) is (omega arith);
+      some = omega arith;
+      end_within = omega arith;
+      ordered = div_mono from (upto - 1) width p (omega arith);
+    }
+
+-- the last word is one of the words that have room for the run
+pub last_inside : (w from upto first low last end n : ℕ) → IsRun w from upto first low last end → upto ≤ w * n → last < n
+last_inside w from upto first low last end n run fits = elim (cases_lt last n) [
+  | inl h ↦ h
+  | inr h ↦ let m = mul_mono n last w h in let x : w * n ≡ n * w = mul_comm w n in let r = run in absurd (omega arith)
+]
+
+-- a word with a place below the words' end is one of them
+pub inside_words : (w k n at : ℕ) → at ≡ k * w → at < w * n → k < n
+inside_words w k n at is h = elim (cases_lt k n) [
+  | inl below ↦ below
+  | inr above ↦ let m = mul_mono n k w above in let x : w * n ≡ n * w = mul_comm w n in absurd (omega arith)
+]
+
+-- part a b are the bits that belong at the places a .. b
+pub record ArePartsOf (from upto : ℕ) (part : ℕ → ℕ → List Bool) : Type 0 where
+  pub size : (a b : ℕ) → from ≤ a → a ≤ b → b ≤ upto → length (part a b) ≡ b - a
+  pub joined : (a b c : ℕ) → from ≤ a → a ≤ b → b ≤ c → c ≤ upto → part a b ++ part b c ≡ part a c
+
+module _ (w from upto first low last end : ℕ) (part : ℕ → ℕ → List Bool) (run : IsRun w from upto first low last end) (parts : ArePartsOf from upto part) where
+  -- the bits up to place k were written, and then those up to place m
+  pub parts_joined : (xs piece : List Bool) (k m : ℕ) → from ≤ k → k ≤ m → m ≤ upto → m ≤ length xs → piece ≡ part k m → put (put xs from (part from k)) k piece ≡ put xs from (part from m)
+  parts_joined xs piece k m a b c fits is =
+      let one : length (part from k) ≡ k - from = parts.size from k (omega arith) a (omega arith) in
+      let two : length (part k m) ≡ m - k = parts.size k m a b c in
+      ap (put (put xs from (part from k)) k) is
+      ∙ put_joined xs (part from k) (part k m) from k (omega arith) (omega arith)
+      ∙ ap (put xs from) (parts.joined from k m (omega arith) a b c)
+
+  -- all of it lies in one word
+  pub one_word : (xs piece : List Bool) → first ≡ last → piece ≡ part from upto → put xs (first * w + low) piece ≡ put xs from (part from upto)
+  one_word xs piece same is = ap (λ n. put xs n piece) run.begins ∙ ap (put xs from) is
+
+  pub first_word : (xs piece : List Bool) → first ≢ last → piece ≡ part from ((first + 1) * w) → put xs (first * w + low) piece ≡ put xs from (part from ((first + 1) * w))
+  first_word xs piece apart is = ap (λ n. put xs n piece) run.begins ∙ ap (put xs from) is
+
+  pub next_word : (xs piece : List Bool) (k : ℕ) → first + 1 ≤ k → k < last → upto ≤ length xs → piece ≡ part (k * w) ((k + 1) * w) → put (put xs from (part from (k * w))) (k * w) piece ≡ put xs from (part from ((k + 1) * w))
+  next_word xs piece k above below fits is =
+      let a = mul_mono (first + 1) k w above in
+      let b = mul_mono (k + 1) last w (omega arith) in
+      let f = one_more_word first w in
+      let n = one_more_word k w in
+      let r = run in
+      parts_joined xs piece (k * w) ((k + 1) * w) (omega arith) (omega arith) (omega arith) (omega arith) is
+
+  pub last_word : (xs piece : List Bool) (k : ℕ) → first + 1 ≤ k → k ≡ last → upto ≤ length xs → piece ≡ part (last * w) upto → put (put xs from (part from (k * w))) (last * w + 0) piece ≡ put xs from (part from upto)
+  last_word xs piece k above same fits is =
+      let a = mul_mono (first + 1) k w above in
+      let f = one_more_word first w in
+      let at : last * w + 0 ≡ k * w = ap (λ n. n * w + 0) (sym same) ∙ (omega arith) in
+      let m : k * w ≡ last * w = ap (λ n. n * w) same in
+      let r = run in
+      ap (λ n. put (put xs from (part from (k * w))) n piece) at
+      ∙ parts_joined xs piece (k * w) upto (omega arith) (omega arith) (omega arith) fits (is ∙ ap (λ n. part n upto) (sym m))
+
+-- ---- one bit, repeated
+
+pub repeated_parts : (from upto : ℕ) (b : Bool) → ArePartsOf from upto (λ i j. replicate (j - i) b)
+repeated_parts from upto b = record {
+  size = λ i j h k l. length-replicate (j - i) b;
+  joined = λ i j m h k l n. replicate-append-replicate (j - i) (m - j) b ∙ ap (λ d. replicate d b) (omega arith);
+}
+
+pub slice_repeated : (one : List Bool) (w low high n : ℕ) (b : Bool) → one ≡ replicate w b → high ≤ w → high - low ≡ n → slice_range one low high ≡ replicate n b
+slice_repeated one w low high n b is h size = rw (is, ← size) (same_lists _ _ (search (rules, places)) (λ i d below. grind (arith, places)))
+
+-- ---- a run of another row
+
+pub slices_joined : (zs : List Bool) (a b c : ℕ) → a ≤ b → b ≤ c → c ≤ length zs → slice_range zs a b ++ slice_range zs b c ≡ slice_range zs a c
+slices_joined zs a b c h k l = same_lists _ _ (simp (length-append, length-take, length-drop) (omega arith)) (λ i d below. grind (arith, places))
+
+pub copied_parts : (zs : List Bool) (at upto from : ℕ) → from + (upto - at) ≤ length zs → ArePartsOf at upto (λ i j. slice_range zs (from + (i - at)) (from + (j - at)))
+copied_parts zs at upto from fits = record {
+  size = λ i j h k l. simp (length-take, length-drop) (omega arith);
+  joined = λ i j m h k l n. slices_joined zs (from + (i - at)) (from + (j - at)) (from + (m - at)) (omega arith) (omega arith) (omega arith);
+}
+
+-- ---- one bit more
+
+pub words_for_next : (w b : ℕ) → 0 < w → words_for w (b + 1) ≡ b / w + 1
+unfolding words_for
+words_for_next w b positive =
+    let d : b / w * w + b % w ≡ b = div-add-mod' b w in
+    let m = one_more_word (b / w) w in
+    let e : b + 1 + (w - 1) ≡ (b / w + 1) * w + b % w = omega arith in
+    ap (λ n. n / w) e ∙ div-mul-add (b / w + 1) w (b % w) (mod-lt b positive)
+
+words_for_above : (w b : ℕ) → 0 < w → b / w ≤ words_for w b
+unfolding words_for
+words_for_above w b positive = div_mono b (b + (w - 1)) w positive (omega arith)
+
+-- the words for b bits have room for one more where its word is there
+pub words_for_same : (w b n : ℕ) → 0 < w → n ≡ words_for w b → b / w ≢ n → (b / w < n) × (n ≡ words_for w (b + 1))
+words_for_same w b n positive is apart =
+    let low = words_for_above w b positive in
+    let high = words_for_mono w b (b + 1) positive (omega arith) in
+    let next = words_for_next w b positive in
+    (omega arith, omega arith)
+
+-- the next place of the same word
+pub same_word_next : (j w : ℕ) → 0 < w → (j + 1) % w ≢ 0 → (j + 1) / w ≡ j / w
+same_word_next j w positive some =
+    let d : (j + 1) / w * w + (j + 1) % w ≡ j + 1 = div-add-mod' (j + 1) w in
+    let low : (j + 1) % w < w = mod-lt (j + 1) positive in
+    let e : j ≡ (j + 1) / w * w + ((j + 1) % w - 1) = omega arith in
+    sym (ap (λ n. n / w) e ∙ div-mul-add ((j + 1) / w) w ((j + 1) % w - 1) (omega arith))
+
+-- ---- a run that begins at the same index of a word in two rows
+
+right_sum : (a b w : ℕ) → (a + b) * w ≡ a * w + b * w
+right_sum a b w = grind arith
+
+split_words : (w begin first k : ℕ) → first ≤ k → (begin + (k - first)) * w ≡ begin * w + (k * w - first * w)
+split_words w begin first k h =
+    let e : k ≡ first + (k - first) = omega arith in
+    let m : k * w ≡ first * w + (k - first) * w = ap (λ n. n * w) e ∙ right_sum first (k - first) w in
+    right_sum begin (k - first) w ∙ ap (λ n. begin * w + n) (omega arith)
+
+module _ (w at from n begin first low last end : ℕ) (positive : 0 < w) (run : IsRun w at (at + n) first low last end) (source : begin * w + low ≡ from) where
+  -- where the bits of target word k stand in the source
+  pub source_word : (k : ℕ) → first ≤ k → at ≤ k * w → from + (k * w - at) ≡ (begin + (k - first)) * w
+  source_word k h below =
+      let r = run in
+      let e : (begin + (k - first)) * w ≡ begin * w + (k * w - first * w) = split_words w begin first k h in
+      let m = mul_mono first k w h in
+      omega arith

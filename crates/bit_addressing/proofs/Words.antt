@@ -1,0 +1,152 @@
+-- The bits of what the machine's operations on words give.
+use Rattle.std.proofs.Common.{◌≡◌, ℕ, ◌+◌, ◌-◌, ◌*◌, ◌/◌, ◌%◌, ◌^◌, ◌<◌, ◌≤◌, Bool, true, false, not, ◌&&◌, ◌||◌, if◌then◌else◌, eqb, leb, ltb, inl, inr, refl, sym, ◌∙◌, ap, arith, bit_and, bit_or, bit_xor, pow-add, add-zero, add_comm, lit<}
+use Rattle.std.proofs.lemmas.Bool.{cases_lt, lt-leb, le-leb, lt-ltb, le-ltb}
+use Rattle.std.proofs.lemmas.Bool.Decides.{nat_tests, eqb_tells}
+use Rattle.std.proofs.lemmas.Nat.Bits.{bit_at_and, bit_at_or, bit_at_xor, bit_at-lt, bit_at_not, bit_at_clear_same, bit_at_clear_other, bit_at_cat_low, bit_at_cat_high, bit_at_above, bit_at-zero, same_from_bits_below}
+use Rattle.std.specs.Int.{bit_at, Width, bit_not}
+use Rattle.std.proofs.Math.Nat.{div-div-eq-div-mul}
+use Rattle.std.proofs.Math.Pow.{pow_pos}
+use Rattle.std.proofs.lemmas.Nat.{div-add-mod'}
+use mir.Val.{bits, bool_byte}
+use Rattle.bit_addressing.specs.Bits.{has_bit}
+
+pub has_and : (a b p : ℕ) → has_bit (bit_and a b) p ≡ (has_bit a p && has_bit b p)
+has_and a b p =
+    let e = bit_at_and a b p in let f = bit_at-lt a p in let g = bit_at-lt b p in
+    grind (arith, nat_tests, e, f, g)
+
+pub has_or : (a b p : ℕ) → has_bit (bit_or a b) p ≡ (has_bit a p || has_bit b p)
+has_or a b p =
+    let e = bit_at_or a b p in let f = bit_at-lt a p in let g = bit_at-lt b p in
+    grind (arith, nat_tests, e, f, g)
+
+pub has_not : (w : Width) → (a p : ℕ) → a < 2 ^ bits w → p < bits w → has_bit (bit_not w a) p ≡ not (has_bit a p)
+has_not w a p h k =
+    let e = bit_at_not w a p h k in let f = bit_at-lt a p in
+    grind (arith, nat_tests, e, f)
+
+has_none : (p : ℕ) → has_bit 0 p ≡ false
+has_none p = ap (λ m. eqb m 1) (bit_at-zero p)
+
+pub has_xor : (a b p : ℕ) → has_bit (bit_xor a b) p ≡ (if has_bit a p then not (has_bit b p) else has_bit b p)
+has_xor a b p =
+    let e = bit_at_xor a b p in let f = bit_at-lt a p in let g = bit_at-lt b p in
+    elim (eqb_tells (bit_at a p) 1) [
+      | inl h ↦ rw h.0 (elim (eqb_tells (bit_at b p) 1) [
+        | inl k ↦ rw k.0 (let s : bit_at (bit_xor a b) p ≡ 0 = rw (e, h.1, k.1) refl in ap (λ m. eqb m 1) s)
+        | inr k ↦ rw k.0 (let z : bit_at b p ≡ 0 = omega arith in let s : bit_at (bit_xor a b) p ≡ 1 = rw (e, h.1, z) refl in ap (λ m. eqb m 1) s)
+      ])
+      | inr h ↦ rw h.0 (let z : bit_at a p ≡ 0 = omega arith in elim (eqb_tells (bit_at b p) 1) [
+        | inl k ↦ rw k.0 (let s : bit_at (bit_xor a b) p ≡ 1 = rw (e, z, k.1) refl in ap (λ m. eqb m 1) s)
+        | inr k ↦ rw k.0 (let y : bit_at b p ≡ 0 = omega arith in let s : bit_at (bit_xor a b) p ≡ 0 = rw (e, z, y) refl in ap (λ m. eqb m 1) s)
+      ])
+    ]
+
+-- ---- shifts
+
+pub has_shr_low : (a k p : ℕ) → has_bit (a / 2 ^ k) p ≡ has_bit a (p + k)
+has_shr_low a k p = ap (λ n. eqb (n % 2) 1) (div-div-eq-div-mul a (2 ^ k) (2 ^ p) ∙ ap (λ n. a / n) (sym (pow-add 2 k p)) ∙ ap (λ n. a / 2 ^ n) (add_comm k p))
+
+pub has_shr_high : (w a k p : ℕ) → a < 2 ^ w → w ≤ p + k → has_bit (a / 2 ^ k) p ≡ false
+has_shr_high w a k p h q = rw (has_shr_low a k p) (let f = bit_at_above a w (p + k) h q in grind (arith, nat_tests, f))
+
+bit_at_mod : (x n p : ℕ) → p < n → bit_at (x % 2 ^ n) p ≡ bit_at x p
+bit_at_mod x n p h = sym (bit_at_cat_low (x / 2 ^ n) n (x % 2 ^ n) p h) ∙ ap (λ m. bit_at m p) (div-add-mod' x (2 ^ n))
+
+bit_at_shl_low : (a k p : ℕ) → p < k → bit_at (a * 2 ^ k) p ≡ 0
+bit_at_shl_low a k p h = ap (λ m. bit_at m p) (sym (add-zero (a * 2 ^ k))) ∙ bit_at_cat_low a k 0 p h ∙ bit_at-zero p
+
+bit_at_shl_high : (a k p : ℕ) → k ≤ p → bit_at (a * 2 ^ k) p ≡ bit_at a (p - k)
+bit_at_shl_high a k p h = ap (λ m. bit_at m p) (sym (add-zero (a * 2 ^ k))) ∙ bit_at_cat_high a k 0 p (pow_pos k) h
+
+pub has_shl_low : (w a k p : ℕ) → p < k → k < w → has_bit (a * 2 ^ k % 2 ^ w) p ≡ false
+has_shl_low w a k p h q =
+    let e : bit_at (a * 2 ^ k % 2 ^ w) p ≡ 0 = bit_at_mod (a * 2 ^ k) w p (omega arith) ∙ bit_at_shl_low a k p h in
+    grind (arith, nat_tests, e)
+
+pub has_shl_high : (w a k p : ℕ) → k ≤ p → p < w → has_bit (a * 2 ^ k % 2 ^ w) p ≡ has_bit a (p - k)
+has_shl_high w a k p h q = ap (λ m. eqb m 1) (bit_at_mod (a * 2 ^ k) w p q ∙ bit_at_shl_high a k p h)
+
+-- ---- one bit written
+
+-- a bit as a number has a bit at place 0 alone
+has_byte_low : (b : Bool) → has_bit (bool_byte b) 0 ≡ b
+has_byte_low true = refl
+has_byte_low false = refl
+
+byte_small : (b : Bool) → bool_byte b < 2 ^ 1
+byte_small true = lit< tt
+byte_small false = lit< tt
+
+has_byte_high : (b : Bool) (p : ℕ) → 1 ≤ p → has_bit (bool_byte b) p ≡ false
+has_byte_high b p h = let e = bit_at_above (bool_byte b) 1 p (byte_small b) h in grind (arith, nat_tests, e)
+
+-- a bit at place k, and no other
+has_one_bit : (w k p : ℕ) (b : Bool) → k < w → p < w → has_bit (bool_byte b * 2 ^ k % 2 ^ w) p ≡ (if eqb p k then b else false)
+has_one_bit w k p b h q = elim (eqb_tells p k) [
+  | inl e ↦
+      let none : k - k ≡ 0 = omega arith in
+      rw (e.0, e.1) (has_shl_high w (bool_byte b) k k (omega arith) h ∙ ap (has_bit (bool_byte b)) none ∙ has_byte_low b)
+  | inr e ↦ rw e.0 (elim (cases_lt p k) [
+    | inl l ↦ has_shl_low w (bool_byte b) k p l h
+    | inr l ↦ has_shl_high w (bool_byte b) k p l q ∙ has_byte_high b (p - k) (omega arith)
+  ])
+]
+
+has_clear : (w : Width) → (a k p : ℕ) → k < bits w → p < bits w → has_bit (bit_and a (bit_not w (1 * 2 ^ k % 2 ^ bits w))) p ≡ (if eqb p k then false else has_bit a p)
+has_clear w a k p h q = elim (eqb_tells p k) [
+  | inl e ↦ rw (e.0, e.1) (ap (λ n. eqb n 1) (bit_at_clear_same w a k h))
+  | inr e ↦ rw e.0 (ap (λ n. eqb n 1) (bit_at_clear_other w a k h p q e.1))
+]
+
+one_of_both : (t a b : Bool) → ((if t then false else a) || (if t then b else false)) ≡ (if t then b else a)
+one_of_both true a b = refl
+one_of_both false true b = refl
+one_of_both false false b = refl
+
+-- place k is cleared, and then set to b
+pub has_put : (w : Width) → (a k p : ℕ) (b : Bool) → k < bits w → p < bits w → has_bit (bit_or (bit_and a (bit_not w (1 * 2 ^ k % 2 ^ bits w))) (bool_byte b * 2 ^ k % 2 ^ bits w)) p ≡ (if eqb p k then b else has_bit a p)
+has_put w a k p b h q =
+    has_or (bit_and a (bit_not w (1 * 2 ^ k % 2 ^ bits w))) (bool_byte b * 2 ^ k % 2 ^ bits w) p
+    ∙ ap (λ x. x || has_bit (bool_byte b * 2 ^ k % 2 ^ bits w) p) (has_clear w a k p h q)
+    ∙ ap (λ y. (if eqb p k then false else has_bit a p) || y) (has_one_bit (bits w) k p b h q)
+    ∙ one_of_both (eqb p k) (has_bit a p) b
+
+-- ---- words by their bits
+
+-- two words with the same bits are the same word
+pub same_word : (w a b : ℕ) → a < 2 ^ w → b < 2 ^ w → ((p : ℕ) → p < w → has_bit a p ≡ has_bit b p) → a ≡ b
+same_word w a b h k same = same_from_bits_below w a b h k (λ p below. let e = same p below in let f = bit_at-lt a p in let g = bit_at-lt b p in grind (arith, nat_tests, e, f, g))
+
+-- ---- masks made of two shifts of the word whose bits are all set
+
+pub ones_bit : (w blank ones p : ℕ) → blank ≡ 0 → p < w → ((q : ℕ) → q < w → has_bit ones q ≡ not (has_bit blank q)) → has_bit ones p ≡ true
+ones_bit w blank ones p none h flips = flips p h ∙ ap (λ n. not (has_bit n p)) none ∙ ap not (has_none p)
+
+-- counted from the lowest place
+pub mask_up : (w low high back ones up down out p : ℕ) → high ≤ w → back ≡ w - high → p < w → ((q : ℕ) → q < w → has_bit ones q ≡ true)
+    → ((q : ℕ) → q < low → has_bit up q ≡ false) → ((q : ℕ) → low ≤ q → q < w → has_bit up q ≡ has_bit ones (q - low))
+    → ((q : ℕ) → q + back < w → has_bit down q ≡ has_bit ones (q + back)) → ((q : ℕ) → w ≤ q + back → has_bit down q ≡ false)
+    → ((q : ℕ) → q < w → has_bit out q ≡ (has_bit up q && has_bit down q))
+    → has_bit out p ≡ (leb low p && ltb p high)
+mask_up w low high back ones up down out p fits is h all below above inside past both = both p h ∙ elim (cases_lt p low) [
+  | inl k ↦ rw (below p k, lt-leb low p k) refl
+  | inr k ↦ rw (above p k h, all (p - low) (omega arith), le-leb low p k) (elim (cases_lt p high) [
+    | inl l ↦ rw (inside p (omega arith), all (p + back) (omega arith), lt-ltb p high l) refl
+    | inr l ↦ rw (past p (omega arith), le-ltb p high l) refl
+  ])
+]
+
+-- counted from the highest place
+pub mask_down : (w low high back ones down up out i : ℕ) → high ≤ w → back ≡ w - high → i < w → ((q : ℕ) → q < w → has_bit ones q ≡ true)
+    → ((q : ℕ) → q + low < w → has_bit down q ≡ has_bit ones (q + low)) → ((q : ℕ) → w ≤ q + low → has_bit down q ≡ false)
+    → ((q : ℕ) → q < back → has_bit up q ≡ false) → ((q : ℕ) → back ≤ q → q < w → has_bit up q ≡ has_bit ones (q - back))
+    → ((q : ℕ) → q < w → has_bit out q ≡ (has_bit down q && has_bit up q))
+    → has_bit out (w - 1 - i) ≡ (leb low i && ltb i high)
+mask_down w low high back ones down up out i fits is h all inside past below above both = both (w - 1 - i) (omega arith) ∙ elim (cases_lt i low) [
+  | inl k ↦ rw (past (w - 1 - i) (omega arith), lt-leb low i k) refl
+  | inr k ↦ rw (inside (w - 1 - i) (omega arith), all (w - 1 - i + low) (omega arith), le-leb low i k) (elim (cases_lt i high) [
+    | inl l ↦ rw (above (w - 1 - i) (omega arith) (omega arith), all (w - 1 - i - back) (omega arith), lt-ltb i high l) refl
+    | inr l ↦ rw (below (w - 1 - i) (omega arith), le-ltb i high l) refl
+  ])
+]

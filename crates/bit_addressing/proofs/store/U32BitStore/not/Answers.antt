@@ -1,0 +1,6 @@
+use Rattle.std.proofs.Common.{arith, w32}
+use Rattle.bit_addressing.proofs.Words.{has_not}
+use Rattle.bit_addressing.proofs.store.U32BitStore.not.Goals as goal
+
+pub returns : goal.returns
+returns c = λ p h. has_not w32 c.args.self p (omega arith) h

@@ -1,0 +1,73 @@
+-- The definitions on small inputs. Words are written in decimal, lists as they stand in memory's order.
+use Rattle.std.specs.Prelude.{◌≡◌, ℕ, ◌-◌, Bool, true, false, List, [], ◌∷◌, ◌++◌, replicate, refl}
+use Rattle.bit_addressing.specs.Order.{xor4_place, scramble_place}
+use Rattle.bit_addressing.specs.Row.{row_of, words_for, put, sized, filled, moved, touched}
+
+-- the word 1c (hexadecimal) from its lowest place, and from its highest
+lowest_first : row_of (λ w i. i) 8 (28 ∷ []) ≡ false ∷ false ∷ true ∷ true ∷ true ∷ false ∷ false ∷ false ∷ []
+unfolding row_of
+lowest_first = refl
+
+highest_first : row_of (λ w i. w - 1 - i) 8 (28 ∷ []) ≡ false ∷ false ∷ false ∷ true ∷ true ∷ true ∷ false ∷ false ∷ []
+unfolding row_of
+highest_first = refl
+
+-- the words 31 and 89 hold 1, 1, 0, 0, 1 by two orders of a user's own
+halves_exchanged : row_of xor4_place 8 (49 ∷ []) ≡ true ∷ true ∷ false ∷ false ∷ true ∷ false ∷ false ∷ false ∷ []
+unfolding row_of
+halves_exchanged = refl
+
+scrambled : row_of scramble_place 8 (137 ∷ []) ≡ true ∷ true ∷ false ∷ false ∷ true ∷ false ∷ false ∷ false ∷ []
+unfolding row_of
+scrambled = refl
+
+-- the first word comes first
+word_by_word : row_of (λ w i. i) 8 (1 ∷ 128 ∷ []) ≡ (true ∷ []) ++ (replicate 14 false ++ true ∷ [])
+unfolding row_of
+word_by_word = refl
+
+no_words : words_for 8 0 ≡ 0
+unfolding words_for
+no_words = refl
+
+one_word : words_for 8 8 ≡ 1
+unfolding words_for
+one_word = refl
+
+one_bit_more : words_for 8 9 ≡ 2
+unfolding words_for
+one_bit_more = refl
+
+put_in_the_middle : put (false ∷ false ∷ false ∷ false ∷ []) 1 (true ∷ true ∷ []) ≡ false ∷ true ∷ true ∷ false ∷ []
+unfolding put
+put_in_the_middle = refl
+
+grown_by_a_word : sized 8 (replicate 8 true) 9 ≡ replicate 8 true ++ replicate 8 false
+unfolding sized words_for
+grown_by_a_word = refl
+
+cut_to_a_word : sized 8 (replicate 16 true) 8 ≡ replicate 8 true
+unfolding sized words_for
+cut_to_a_word = refl
+
+both_ends_filled : filled (false ∷ false ∷ true ∷ false ∷ []) 1 2 true ≡ true ∷ false ∷ true ∷ true ∷ []
+unfolding filled
+both_ends_filled = refl
+
+-- a run that overlaps its target
+moved_up : moved (true ∷ false ∷ false ∷ false ∷ []) 0 1 3 ≡ true ∷ true ∷ false ∷ false ∷ []
+unfolding moved
+moved_up = refl
+
+moved_down : moved (true ∷ false ∷ true ∷ true ∷ []) 1 0 3 ≡ false ∷ true ∷ true ∷ true ∷ []
+unfolding moved
+moved_down = refl
+
+within_a_word : touched 8 5 3 ≡ 1
+within_a_word = refl
+
+over_an_edge : touched 8 7 2 ≡ 2
+over_an_edge = refl
+
+nothing_touched : touched 8 7 0 ≡ 0
+nothing_touched = refl

@@ -1,0 +1,5 @@
+pub mod Bits
+pub mod Order
+pub mod Row
+pub mod Typed
+pub mod Examples

@@ -1,0 +1,10 @@
+-- The row of words of a type, in an order: the one bridge from words of the code to rows.
+use Rattle.std.specs.Prelude.{ℕ, Bool, List, map}
+use Rattle.bit_addressing.specs.declared.store.BitStore as store
+use Rattle.bit_addressing.specs.declared.order.BitOrder as order
+use Rattle.bit_addressing.specs.Row.{row_of}
+
+module _ {X Y : Type 0} (W : store.Ghosts X) (P : order.Ghosts Y) where
+  -- the bits of these words in a row
+  abbrev pub row : List X → List Bool
+  row words = row_of P.place W.BITS (map W.value words)

@@ -1,0 +1,19 @@
+//! Where bits lie in words: words, orders of bits, rows of words, ranges, and moves of runs of bits.
+#![tactic(auto)]
+
+mod bits;
+mod index;
+mod length;
+mod order;
+mod range;
+mod store;
+
+pub use bits::{
+    copy_bits, copy_bits_alike, copy_bits_in, cut_words, fill_bits, fill_bits_in, flip_bits,
+    flip_bits_in, push_bit, read_bit, resize_words, write_bit, write_bit_in,
+};
+pub use index::{BitEnd, BitIdx, BitPos};
+pub use length::{GrowError, MAX_BITS, elts};
+pub use order::{BitOrder, Lsb0, Msb0};
+pub use range::RangeExt;
+pub use store::{BitStore, BitStore as BitRegister};

@@ -1,0 +1,325 @@
+//! The words that bits lie in.
+ghost use Rattle.std.specs.Prelude.{◌≡◌, ◌≢◌, ℕ, ◌+◌, ◌-◌, ◌<◌, ◌≤◌, Bool, false, not, ◌&&◌, ◌||◌, if◌then◌else◌, eqb, refl};
+ghost use Rattle.std.proofs.Common.{inl, inr};
+ghost use Rattle.bit_addressing.specs.Bits.{has_bit, IsWidth};
+
+/// A word of bits: `u8`, `u16`, `u32`, `u64` or `usize`, which has 64 bits.
+///
+/// Places are counted from the least significant one: place `p` is worth 2 to the power `p`. Each
+/// operation is stated bit by bit, for the places below `BITS`, and none takes memory.
+///
+/// ```text
+/// 0x1c_u8.bit(2)                == true
+/// 0x1c_u8.with_bit(2, false)    == 0x18
+/// ```
+pub trait BitStore: Copy + Drop {
+    // The number that a word is.
+    ghost value: { Self → ℕ };
+
+    ghost BITS: { ℕ };
+
+    ghost ZERO: { Self };
+
+    /// How many bits a word has.
+    const BITS: u8;
+
+    /// The word with no bit set.
+    const ZERO: Self;
+
+    /// The bits that are set in both.
+    fn and(self, other: Self) -> Self
+        ensures { (p : ℕ) → p < BITS → has_bit (value result) p ≡ (has_bit (value self) p && has_bit (value other) p) };
+
+    /// The bits that are set in one or in both.
+    fn or(self, other: Self) -> Self
+        ensures { (p : ℕ) → p < BITS → has_bit (value result) p ≡ (has_bit (value self) p || has_bit (value other) p) };
+
+    /// The bits that are set in one alone.
+    fn xor(self, other: Self) -> Self
+        ensures { (p : ℕ) → p < BITS → has_bit (value result) p ≡ (if has_bit (value self) p then not (has_bit (value other) p) else has_bit (value other) p) };
+
+    /// Every bit flipped.
+    fn not(self) -> Self
+        ensures { (p : ℕ) → p < BITS → has_bit (value result) p ≡ not (has_bit (value self) p) };
+
+    /// Moves the bits up by `count` places, and clears the places below. The condition: `count` is below `BITS`.
+    fn shl(self, count: u8) -> Self
+        requires { count < BITS }
+        ensures low { (p : ℕ) → p < count → has_bit (value result) p ≡ false }
+        ensures high { (p : ℕ) → count ≤ p → p < BITS → has_bit (value result) p ≡ has_bit (value self) (p - count) };
+
+    /// Moves the bits down by `count` places, and clears the places above. The condition: `count` is below `BITS`.
+    fn shr(self, count: u8) -> Self
+        requires { count < BITS }
+        ensures low { (p : ℕ) → p + count < BITS → has_bit (value result) p ≡ has_bit (value self) (p + count) }
+        ensures high { (p : ℕ) → BITS ≤ p + count → has_bit (value result) p ≡ false };
+
+    /// The bit at a place. The condition: `place` is below `BITS`.
+    fn bit(self, place: u8) -> bool
+        requires { place < BITS }
+        ensures { result ≡ has_bit (value self) place };
+
+    /// The word with `bit` written at a place, and its other bits kept. The condition: `place` is below `BITS`.
+    fn with_bit(self, place: u8, bit: bool) -> Self
+        requires { place < BITS }
+        ensures { (p : ℕ) → p < BITS → has_bit (value result) p ≡ (if eqb p place then bit else has_bit (value self) p) };
+
+    ghost width: { IsWidth BITS };
+
+    ghost zero_is: { value ZERO ≡ 0 };
+}
+
+impl BitStore for u8 {
+    ghost value = { λ w. w };
+
+    ghost BITS = { 8 };
+
+    ghost ZERO = { 0 };
+
+    ghost width = { inl refl };
+
+    ghost zero_is = { refl };
+
+    const BITS: u8 = 8;
+
+    const ZERO: u8 = 0;
+
+    #[tactic(auto, using(crate::proofs::Words::has_and))]
+    fn and(self, other: u8) -> u8 {
+        self & other
+    }
+
+    #[tactic(auto, using(crate::proofs::Words::has_or))]
+    fn or(self, other: u8) -> u8 {
+        self | other
+    }
+
+    #[tactic(auto, using(crate::proofs::Words::has_xor))]
+    fn xor(self, other: u8) -> u8 {
+        self ^ other
+    }
+
+    fn not(self) -> u8 {
+        !self
+    }
+
+    fn shl(self, count: u8) -> u8 {
+        self << count
+    }
+
+    fn shr(self, count: u8) -> u8 {
+        self >> count
+    }
+
+    fn bit(self, place: u8) -> bool {
+        (self >> place) & 1 == 1
+    }
+
+    fn with_bit(self, place: u8, bit: bool) -> u8 {
+        (self & !(1 << place)) | ((bit as u8) << place)
+    }
+}
+
+impl BitStore for u16 {
+    ghost value = { λ w. w };
+
+    ghost BITS = { 16 };
+
+    ghost ZERO = { 0 };
+
+    ghost width = { inr (inl refl) };
+
+    ghost zero_is = { refl };
+
+    const BITS: u8 = 16;
+
+    const ZERO: u16 = 0;
+
+    #[tactic(auto, using(crate::proofs::Words::has_and))]
+    fn and(self, other: u16) -> u16 {
+        self & other
+    }
+
+    #[tactic(auto, using(crate::proofs::Words::has_or))]
+    fn or(self, other: u16) -> u16 {
+        self | other
+    }
+
+    #[tactic(auto, using(crate::proofs::Words::has_xor))]
+    fn xor(self, other: u16) -> u16 {
+        self ^ other
+    }
+
+    fn not(self) -> u16 {
+        !self
+    }
+
+    fn shl(self, count: u8) -> u16 {
+        self << count
+    }
+
+    fn shr(self, count: u8) -> u16 {
+        self >> count
+    }
+
+    fn bit(self, place: u8) -> bool {
+        (self >> place) & 1 == 1
+    }
+
+    fn with_bit(self, place: u8, bit: bool) -> u16 {
+        (self & !(1 << place)) | ((bit as u16) << place)
+    }
+}
+
+impl BitStore for u32 {
+    ghost value = { λ w. w };
+
+    ghost BITS = { 32 };
+
+    ghost ZERO = { 0 };
+
+    ghost width = { inr (inr (inl refl)) };
+
+    ghost zero_is = { refl };
+
+    const BITS: u8 = 32;
+
+    const ZERO: u32 = 0;
+
+    #[tactic(auto, using(crate::proofs::Words::has_and))]
+    fn and(self, other: u32) -> u32 {
+        self & other
+    }
+
+    #[tactic(auto, using(crate::proofs::Words::has_or))]
+    fn or(self, other: u32) -> u32 {
+        self | other
+    }
+
+    #[tactic(auto, using(crate::proofs::Words::has_xor))]
+    fn xor(self, other: u32) -> u32 {
+        self ^ other
+    }
+
+    fn not(self) -> u32 {
+        !self
+    }
+
+    fn shl(self, count: u8) -> u32 {
+        self << count
+    }
+
+    fn shr(self, count: u8) -> u32 {
+        self >> count
+    }
+
+    fn bit(self, place: u8) -> bool {
+        (self >> place) & 1 == 1
+    }
+
+    fn with_bit(self, place: u8, bit: bool) -> u32 {
+        (self & !(1 << place)) | ((bit as u32) << place)
+    }
+}
+
+impl BitStore for u64 {
+    ghost value = { λ w. w };
+
+    ghost BITS = { 64 };
+
+    ghost ZERO = { 0 };
+
+    ghost width = { inr (inr (inr refl)) };
+
+    ghost zero_is = { refl };
+
+    const BITS: u8 = 64;
+
+    const ZERO: u64 = 0;
+
+    #[tactic(auto, using(crate::proofs::Words::has_and))]
+    fn and(self, other: u64) -> u64 {
+        self & other
+    }
+
+    #[tactic(auto, using(crate::proofs::Words::has_or))]
+    fn or(self, other: u64) -> u64 {
+        self | other
+    }
+
+    #[tactic(auto, using(crate::proofs::Words::has_xor))]
+    fn xor(self, other: u64) -> u64 {
+        self ^ other
+    }
+
+    fn not(self) -> u64 {
+        !self
+    }
+
+    fn shl(self, count: u8) -> u64 {
+        self << count
+    }
+
+    fn shr(self, count: u8) -> u64 {
+        self >> count
+    }
+
+    fn bit(self, place: u8) -> bool {
+        (self >> place) & 1 == 1
+    }
+
+    fn with_bit(self, place: u8, bit: bool) -> u64 {
+        (self & !(1 << place)) | ((bit as u64) << place)
+    }
+}
+
+impl BitStore for usize {
+    ghost value = { λ w. w };
+
+    ghost BITS = { 64 };
+
+    ghost ZERO = { 0 };
+
+    ghost width = { inr (inr (inr refl)) };
+
+    ghost zero_is = { refl };
+
+    const BITS: u8 = 64;
+
+    const ZERO: usize = 0;
+
+    #[tactic(auto, using(crate::proofs::Words::has_and))]
+    fn and(self, other: usize) -> usize {
+        self & other
+    }
+
+    #[tactic(auto, using(crate::proofs::Words::has_or))]
+    fn or(self, other: usize) -> usize {
+        self | other
+    }
+
+    #[tactic(auto, using(crate::proofs::Words::has_xor))]
+    fn xor(self, other: usize) -> usize {
+        self ^ other
+    }
+
+    fn not(self) -> usize {
+        !self
+    }
+
+    fn shl(self, count: u8) -> usize {
+        self << count
+    }
+
+    fn shr(self, count: u8) -> usize {
+        self >> count
+    }
+
+    fn bit(self, place: u8) -> bool {
+        (self >> place) & 1 == 1
+    }
+
+    fn with_bit(self, place: u8, bit: bool) -> usize {
+        (self & !(1 << place)) | ((bit as usize) << place)
+    }
+}

@@ -1,0 +1,84 @@
+-- What holds of each vector.
+use Rattle.std.proofs.Common.{false, map, slice_range, ◌≡◌, ℕ, ◌+◌, ◌-◌, ◌*◌, ◌^◌, ◌<◌, ◌≤◌, List, Bool, length, min, sym, ◌∙◌, ap, subst, refl, arith}
+use Rattle.std.proofs.Common.{inl, inr}
+use Rattle.std.proofs.lemmas.Bool.{cases_lt}
+use Rattle.std.proofs.Math.Nat.{mul-le-mul_left}
+use Rattle.bit_addressing.specs.Bits.{IsWidth}
+use Rattle.bit_addressing.specs.declared.store.BitStore as store
+use Rattle.bit_addressing.specs.declared.order.BitOrder as order
+use Rattle.std.proofs.lemmas.List.{length-map}
+use Rattle.bit_addressing.specs.Row.{words_for, sized, filled, IsCanonical}
+use Rattle.bit_addressing.specs.Typed.{row}
+use Rattle.bit_addressing.proofs.Lists.{room, shows_filled, length-shows, canonical_row}
+use Rattle.bit_addressing.proofs.Rows.{width_positive}
+use Rattle.bit_addressing.proofs.Typed.{length_row}
+use Rattle.bit_containers.specs.Held.{IsVector, bits_in}
+use Rattle.bit_containers.specs.Growth.{IsKept}
+
+mul_one_more : (w n : ℕ) → w * (n + 1) ≡ w * n + w
+mul_one_more w n = grind arith
+
+-- the places up to the list's end are in the words
+pub in_words : (w n head len : ℕ) → IsWidth w → IsVector w n head len → head + len ≤ w * n
+in_words w n head len width v = v.fits
+
+pub shown : {X Y : Type 0} (W : store.Ghosts X) (P : order.Ghosts Y) (ws : List X) (head len : ℕ) → IsWidth W.BITS → IsVector W.BITS (length ws) head len → head + len ≤ length (row W P ws)
+shown W P ws head len width v = rw (length_row W.value P.place W.BITS ws) v.fits
+
+-- a capacity below the words for so many bits has no room for them
+pub no_room : (w words head wanted : ℕ) → 0 < w → 0 < wanted → words < words_for w (head + wanted) → bits_in w words head < wanted
+no_room w words head wanted positive some h =
+    let r = (room w (head + wanted) positive).1 in
+    let m : w * (words + 1) ≤ w * words_for w (head + wanted) = mul-le-mul_left w (omega arith) in
+    let e : w * (words + 1) ≡ w * words + w = mul_one_more w words in
+    omega arith
+
+canonical_0 : {X Y : Type 0} (W : store.Ghosts X) (P : order.Ghosts Y) (old new : List X) (len : ℕ) → IsWidth W.BITS → IsVector W.BITS (length old) 0 len → length new ≡ length old → row W P new ≡ filled (row W P old) 0 len false
+    → IsCanonical P.place W.BITS (map W.value new) (slice_range (row W P new) 0 (0 + len))
+canonical_0 W P old new len width v size is =
+    let w = W.BITS in
+    let fits : 0 + len ≤ length (row W P old) = shown W P old 0 len width v in
+    let lists : slice_range (row W P new) 0 (0 + len) ≡ slice_range (row W P old) 0 (0 + len) = ap (λ r. slice_range r 0 (0 + len)) is ∙ shows_filled (row W P old) 0 len false fits in
+    let short : length (slice_range (row W P new) 0 (0 + len)) ≡ 0 + len = ap length lists ∙ length-shows (row W P old) 0 len fits ∙ omega arith in
+    record {
+      count = length-map new W.value ∙ size ∙ v.count ∙ ap (words_for w) (sym short);
+      row = is ∙ canonical_row w (row W P old) len (width_positive w width) (length_row W.value P.place w old ∙ ap (λ n. w * n) v.count)
+        ∙ ap (λ l. sized w l (0 + len)) (sym lists) ∙ ap (sized w (slice_range (row W P new) 0 (0 + len))) (sym short);
+    }
+
+-- a vector with head 0 whose dead bits are cleared has the canonical words of its list
+pub canonical : {X Y : Type 0} (W : store.Ghosts X) (P : order.Ghosts Y) (old new : List X) (head len : ℕ) (b : Bool) → IsWidth W.BITS → IsVector W.BITS (length old) head len → length new ≡ length old → row W P new ≡ filled (row W P old) head len b → head ≡ 0 → b ≡ false
+    → IsCanonical P.place W.BITS (map W.value new) (slice_range (row W P new) head (head + len))
+canonical W P old new head len b width v size is none clear =
+    subst (λ h. IsCanonical P.place W.BITS (map W.value new) (slice_range (row W P new) h (h + len))) (sym none)
+    (canonical_0 W P old new len width (subst (λ h. IsVector W.BITS (length old) h len) none v) size (is ∙ ap (λ h. filled (row W P old) h len b) none ∙ ap (filled (row W P old) 0 len) clear))
+
+-- as many bits are shown as the length says
+pub shown_length : {X Y : Type 0} (W : store.Ghosts X) (P : order.Ghosts Y) (ws : List X) (head len : ℕ) → head + len ≤ W.BITS * length ws → length (slice_range (row W P ws) head (head + len)) ≡ len
+shown_length W P ws head len fits = length-shows (row W P ws) head len (rw (length_row W.value P.place W.BITS ws) fits)
+
+-- a capacity of the words for so many bits has room for them
+pub has_room : (w words head wanted : ℕ) → 0 < w → head + wanted < 18446744073709551616 → words_for w (head + wanted) ≤ words → wanted ≤ bits_in w words head
+has_room w words head wanted positive short h =
+    let r = (room w (head + wanted) positive).0 in
+    let m : w * words_for w (head + wanted) ≤ w * words = mul-le-mul_left w h in
+    omega arith
+
+-- the same where nothing may be wanted: the words that are there are enough for what is there
+pub no_room_for : (w n words head len wanted : ℕ) → 0 < w → IsVector w n head len → n ≤ words → len ≤ wanted → words < words_for w (head + wanted) → bits_in w words head < wanted
+no_room_for w n words head len wanted positive v enough more h = elim (cases_lt 0 wanted) [
+  | inl some ↦ no_room w words head wanted positive some h
+  | inr none ↦ let e : words_for w (head + wanted) ≡ words_for w (head + len) = ap (words_for w) (omega arith) in let c = v.count in absurd (omega arith)
+]
+
+-- the same words at the same head and length are the same vector, but for the capacity
+pub kept : {X Y : Type 0} (W : store.Ghosts X) (P : order.Ghosts Y) (old new : List X) (head len room more : ℕ) → new ≡ old
+    → IsKept (record { words = old; row = row W P old; head = head; len = len; list = slice_range (row W P old) head (head + len); capacity = room })
+      (record { words = new; row = row W P new; head = head; len = len; list = slice_range (row W P new) head (head + len); capacity = more })
+kept W P old new head len room more same = record {
+  words = same;
+  row = ap (row W P) same;
+  head = refl;
+  len = refl;
+  list = ap (λ ws. slice_range (row W P ws) head (head + len)) same;
+}

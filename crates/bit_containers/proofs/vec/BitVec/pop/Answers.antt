@@ -1,0 +1,46 @@
+use Rattle.std.proofs.Common.{◌≡◌, ◌+◌, ◌-◌, ◌*◌, ◌<◌, ◌≤◌, ◌≢◌, [], ◌∷◌, ◌++◌, true, false, not, min, map, take, set, replicate, length, slice_range, get_or, refl, sym, ◌∙◌, ap, subst, arith, Ok, Err, OnErr}
+use Rattle.bit_addressing.specs.Row.{words_for, put, sized, filled}
+use Rattle.bit_addressing.specs.Typed.{row}
+use Rattle.bit_addressing.proofs.Lists.{room, words_for_le, words_for_mono, words_for_all, put_one, put_both, length-sized, length-put, length-shows, shows_some, shows_none, shows_set, shows_map, shows_filled, grown_shows, shrunk_shows, shows_fewer, shows_sized, sized_same, canonical_row, resized_shows, popped_shows, put_ends}
+use Rattle.std.proofs.lemmas.List.{append-nil, take_all, length-map}
+use Rattle.std.proofs.Common.{vec_capacity, ℕ, List, Bool}
+use Rattle.bit_addressing.proofs.Rows.{width_positive, width_small}
+use Rattle.bit_addressing.proofs.Typed.{length_row}
+use Rattle.bit_containers.proofs.Vectors.{in_words, shown, no_room, canonical}
+use Rattle.bit_addressing.specs.declared.length.TheConstants.{MAX_BITS}
+use Rattle.std.proofs.Math.Nat.{mul-le-mul_left}
+use Rattle.std.proofs.Common.{mul_comm}
+use Rattle.bit_containers.proofs.vec.BitVec.pop.Goals as goal
+
+pub returns-then-self-eq0-clause-row : goal.returns-then-self-eq0-clause-row
+returns-then-self-eq0-clause-row g c =
+    let i = c.self.inside in
+    let w = g.T.BitStore.BITS in
+    let none : i.len - 1 ≡ i.len = omega arith in
+    rw (← c.self.view_is) (rw none (record {
+      head = refl; len = refl; capacity = refl;
+      row = sym (sized_same w (row g.T.BitStore g.O.BitOrder i.words.items) (i.head + i.len) (length_row g.T.BitStore.value g.O.BitOrder.place w i.words.items ∙ ap (λ n. w * n) c.self.invariant.count));
+    }))
+
+
+pub returns-clause-answer : goal.returns-clause-answer
+returns-clause-answer g c =
+    let i = c.self.inside in
+    let w = g.T.BitStore.BITS in
+    let bits = row g.T.BitStore g.O.BitOrder i.words.items in
+    let fits = shown g.T.BitStore g.O.BitOrder i.words.items i.head i.len g.met.T.BitStore.width c.self.invariant in
+    rw (← c.self.view_is) (popped_shows w bits i.head i.len c.read_bit-bit.result (width_positive w g.met.T.BitStore.width) (omega arith) fits (rw (← c.as_slice.ensures.value) c.read_bit-bit.ensures)
+    ∙ ap (λ r. slice_range r i.head (i.head + (i.len - 1)) ++ c.read_bit-bit.result ∷ []) (sym c.cut_words.ensures.bits))
+
+pub returns-clause-list : goal.returns-clause-list
+returns-clause-list g c =
+    let i = c.self.inside in
+    let w = g.T.BitStore.BITS in
+    let fits = shown g.T.BitStore g.O.BitOrder i.words.items i.head i.len g.met.T.BitStore.width c.self.invariant in
+    rw (← c.self.view_is) (ap (λ r. slice_range r i.head (i.head + (i.len - 1))) c.cut_words.ensures.bits ∙ shrunk_shows w (row g.T.BitStore g.O.BitOrder i.words.items) i.head i.len (i.len - 1) (width_positive w g.met.T.BitStore.width) (omega arith) fits)
+
+pub returns-clause-value : goal.returns-clause-value
+returns-clause-value g c =
+    let i = c.self.inside in
+    let fits = shown g.T.BitStore g.O.BitOrder i.words.items i.head i.len g.met.T.BitStore.width c.self.invariant in
+    rw (← c.self.view_is) (shows_some (row g.T.BitStore g.O.BitOrder i.words.items) i.head i.len (i.len - 1) c.read_bit-bit.result (omega arith) fits (rw (← c.as_slice.ensures.value) c.read_bit-bit.ensures))

@@ -1,0 +1,34 @@
+use Rattle.std.proofs.Common.{◌≡◌, ◌+◌, ◌-◌, ◌*◌, ◌<◌, ◌≤◌, ◌≢◌, [], ◌∷◌, ◌++◌, true, false, not, min, map, take, set, replicate, length, slice_range, get_or, refl, sym, ◌∙◌, ap, subst, arith, Ok, Err, OnErr}
+use Rattle.bit_addressing.specs.Row.{words_for, put, sized, filled}
+use Rattle.bit_addressing.specs.Typed.{row}
+use Rattle.bit_addressing.proofs.Lists.{room, words_for_le, words_for_mono, words_for_all, put_one, put_both, length-sized, length-put, length-shows, shows_some, shows_none, shows_set, shows_map, shows_filled, grown_shows, shrunk_shows, shows_fewer, shows_sized, sized_same, canonical_row, resized_shows, popped_shows, put_ends}
+use Rattle.std.proofs.lemmas.List.{append-nil, take_all, length-map}
+use Rattle.std.proofs.Common.{vec_capacity, ℕ, List, Bool}
+use Rattle.bit_addressing.proofs.Rows.{width_positive, width_small}
+use Rattle.bit_addressing.proofs.Typed.{length_row}
+use Rattle.bit_containers.proofs.Vectors.{kept, shown, no_room}
+use Rattle.bit_addressing.specs.declared.length.TheConstants.{MAX_BITS}
+use Rattle.std.proofs.Math.Nat.{mul-le-mul_left}
+use Rattle.std.proofs.Common.{mul_comm}
+use Rattle.bit_containers.proofs.vec.BitVec.push.Goals as goal
+
+
+pub returns-in_default-clause-refusal : goal.returns-in_default-clause-refusal
+returns-in_default-clause-refusal g c =
+    let i = c.self.inside in
+    let same = c.in_default.ensures.unchanged in
+    rw (← c.self.view_is) (record {
+      too_long = ((λ e. cc), (λ h. absurd (omega (arith, c.self.invariant.len_small, c.if-self-eq-MAX_BITS.false))));
+      memory = λ _. no_room g.T.BitStore.BITS (vec_capacity i.words) i.head (i.len + 1) (width_positive _ g.met.T.BitStore.width) (omega arith) (subst (λ b. vec_capacity i.words < words_for g.T.BitStore.BITS b) (omega arith) c.in_default.ensures.full);
+      unchanged = kept g.T.BitStore g.O.BitOrder i.words.items c.push_bit.new.words.items i.head i.len _ _ same;
+    })
+
+pub returns-clause-list : goal.returns-clause-list
+returns-clause-list g c =
+    let i = c.self.inside in
+    let w = g.T.BitStore.BITS in
+    let bits = row g.T.BitStore g.O.BitOrder i.words.items in
+    let fits = shown g.T.BitStore g.O.BitOrder i.words.items i.head i.len g.met.T.BitStore.width c.self.invariant in
+    ap (λ r. slice_range r i.head (i.head + (i.len + 1))) c.in-Ok.ensures.bits
+    ∙ grown_shows w bits (c.args.bit ∷ []) i.head i.len 1 (width_positive w g.met.T.BitStore.width) fits refl
+    ∙ ap (λ v. v.list ++ c.args.bit ∷ []) c.self.view_is

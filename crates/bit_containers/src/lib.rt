@@ -1,0 +1,7 @@
+//! A vector of bits, and runs of commands over it.
+#![tactic(auto)]
+
+mod vec;
+
+pub use bit_addressing::{BitOrder, BitRegister, BitStore, GrowError, Lsb0, MAX_BITS, Msb0};
+pub use vec::BitVec;

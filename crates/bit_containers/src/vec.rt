@@ -1,0 +1,96 @@
+//! The vector: what it is, and how it is made and taken apart.
+ghost use Rattle.std.specs.Prelude.{◌≡◌, ◌*◌, ◌≤◌, ◌↔◌, [], IsTrue, length};
+ghost use Rattle.bit_addressing.specs.declared.length.TheConstants.{MAX_BITS};
+ghost use Rattle.bit_addressing.specs.Typed.{row};
+
+use bit_addressing::{BitOrder, BitStore, Lsb0, MAX_BITS};
+use std::alloc::Global;
+use std::marker::{Model, PhantomData};
+
+mod api;
+
+/// A vector of truth values, one bit each, in words of type `T`, in the order `O` of the bits in a word.
+///
+/// It grows and shrinks like a `Vec<bool>`. Its bits begin at the head, an index below the bits of a
+/// word, and lie one behind the other in exactly the words that it takes for them: the visible words.
+/// The other bits of those words are dead.
+///
+/// In contracts a vector `v` is its visible words `v.words`, their bits in a row `v.row`, the head
+/// `v.head`, the length in bits `v.len`, the list `v.list` and the capacity in bits `v.capacity`.
+///
+/// ```text
+/// let mut v = BitVec::<u8, Msb0>::new(alloc);
+/// v.push(false)?;
+/// v.push(true)?;
+/// v.into_vec()            // the one word 0x40
+/// ```
+#[derive(Drop)]
+pub struct BitVec<T: BitStore = usize, O: BitOrder = Lsb0> {
+    words: Vec<T>,
+    head: usize,
+    len: usize,
+    order: PhantomData<O>,
+}
+
+impl<T: BitStore, O: BitOrder> Model for BitVec<T, O> {
+    ghost use Rattle.std.specs.Prelude.{◌+◌, length, slice_range, vec_capacity};
+    ghost use Rattle.bit_addressing.specs.Typed.{row};
+    ghost use Rattle.bit_containers.specs.Held.{Held, IsVector, held_code, bits_in};
+
+    ghost Value = { Held T };
+
+    ghost coded = { held_code T.code };
+
+    ghost view = { λ v. record { words = v.words.items; row = row T.BitStore O.BitOrder v.words.items; head = v.head; len = v.len; list = slice_range (row T.BitStore O.BitOrder v.words.items) v.head (v.head + v.len); capacity = bits_in T.BITS (vec_capacity v.words) v.head } };
+
+    ghost invariant = { λ v. IsVector T.BITS (length v.words.items) v.head v.len };
+}
+
+impl<T: BitStore, O: BitOrder> BitVec<T, O> {
+    /// The empty vector: head 0, and no word. Takes no memory.
+    pub fn new(alloc: Global) -> Self
+        ensures words { result.words ≡ [] }
+        ensures head { result.head ≡ 0 }
+        ensures len { result.len ≡ 0 }
+        ensures list { result.list ≡ [] }
+    {
+        BitVec {
+            words: Vec::new(alloc),
+            head: 0,
+            len: 0,
+            order: PhantomData,
+        }
+    }
+
+    /// Whether so many words have at most `MAX_BITS` bits: the condition of `from_vec`.
+    pub fn fits(words: usize) -> bool
+        ensures { IsTrue result ↔ (T.BITS * words ≤ MAX_BITS) }
+    {
+        words <= MAX_BITS / T::BITS as usize
+    }
+
+    /// All bits of these words, which are kept: head 0. Takes no memory. The condition: they fit, as `fits` tests.
+    pub fn from_vec(words: Vec<T>) -> Self
+        requires { T.BITS * length words.items ≤ MAX_BITS }
+        ensures words { result.words ≡ words.items }
+        ensures head { result.head ≡ 0 }
+        ensures len { result.len ≡ T.BITS * length words.items }
+        ensures row { result.row ≡ row T.BitStore O.BitOrder words.items }
+        ensures list { result.list ≡ row T.BitStore O.BitOrder words.items }
+    {
+        let len = T::BITS as usize * words.len();
+        BitVec {
+            words,
+            head: 0,
+            len,
+            order: PhantomData,
+        }
+    }
+
+    /// The visible words, as they are. Takes no memory.
+    pub fn into_vec(self) -> Vec<T>
+        ensures { result.items ≡ self.words }
+    {
+        self.words
+    }
+}

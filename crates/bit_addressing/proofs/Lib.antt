@@ -5,3 +5,5 @@ pub mod Runs
 pub mod Rows
 pub mod Typed
 pub mod Canon
+pub mod Moves
+pub mod MovedLists

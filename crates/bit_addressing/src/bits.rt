@@ -6,13 +6,15 @@
 //! end in `_in` work on the words of a vector, and keep its capacity.
 ghost use Rattle.std.specs.Prelude.{◌≡◌, ℕ, ◌+◌, ◌-◌, ◌*◌, ◌/◌, ◌%◌, ◌^◌, ◌<◌, ◌≤◌, if◌then◌else◌, Bool, false, not, [], ◌∷◌, map, length, replicate, slice_index_or, slice_range, set, OnOk, OnErr, vec_capacity};
 ghost use Rattle.bit_addressing.specs.Bits.{has_bit};
-ghost use Rattle.bit_addressing.specs.Row.{words_for, put, sized};
+ghost use Rattle.bit_addressing.specs.Row.{words_for, put, sized, moved};
+ghost use Rattle.bit_addressing.specs.declared.length.TheConstants.{MAX_BITS};
 ghost use Rattle.bit_addressing.specs.Typed.{row};
 
 use crate::index::{BitEnd, BitIdx};
 use crate::length::elts;
 use crate::order::BitOrder;
 use crate::store::BitStore;
+use crate::word_row::WordRow;
 use std::alloc::AllocError;
 
 /// The bit at `at` of the row. The condition: `at` is in the words.
@@ -193,6 +195,20 @@ fn copy_words<T: BitStore, O: BitOrder>(
     write_part::<T, O>(words, last, 0, end, source[begin + (last - first)]);
 }
 
+/// Moves the `n` bits from `src` on to the places from `dst` on, as if they were copied out first, by
+/// one `BitOrder::move_run` over these words. The condition: both runs lie in the words, which have at
+/// most `MAX_BITS + 2 * T::BITS` bits.
+pub fn move_bits<T: BitStore, O: BitOrder>(words: &mut [T], src: usize, dst: usize, n: usize)
+    requires room { T.BITS * length words.old ≤ MAX_BITS + 2 * T.BITS }
+    requires source { src + n ≤ T.BITS * length words.old }
+    requires target { dst + n ≤ T.BITS * length words.old }
+    ensures bits { row T.BitStore O.BitOrder words.new ≡ moved (row T.BitStore O.BitOrder words.old) src dst n }
+    ensures size { length words.new ≡ length words.old }
+{
+    let mut row = WordRow::new(words);
+    O::move_run(&mut row, src, dst, n);
+}
+
 /// Cuts the words to those for `bits` bits, or fills them up with words of zero. Takes memory.
 /// It is refused only where the capacity, in words, is too small.
 pub fn resize_words<T: BitStore, O: BitOrder>(
@@ -304,4 +320,16 @@ pub fn copy_bits_in<T: BitStore, O: BitOrder, U: BitStore, P: BitOrder>(
     ensures capacity { vec_capacity words.new ≡ vec_capacity words.old }
 {
     copy_bits::<T, O, U, P>(words.as_mut_slice(), at, source, from, n);
+}
+
+/// As `move_bits`, in the words of a vector.
+pub fn move_bits_in<T: BitStore, O: BitOrder>(words: &mut Vec<T>, src: usize, dst: usize, n: usize)
+    requires room { T.BITS * length words.old.items ≤ MAX_BITS + 2 * T.BITS }
+    requires source { src + n ≤ T.BITS * length words.old.items }
+    requires target { dst + n ≤ T.BITS * length words.old.items }
+    ensures bits { row T.BitStore O.BitOrder words.new.items ≡ moved (row T.BitStore O.BitOrder words.old.items) src dst n }
+    ensures size { length words.new.items ≡ length words.old.items }
+    ensures capacity { vec_capacity words.new ≡ vec_capacity words.old }
+{
+    move_bits::<T, O>(words.as_mut_slice(), src, dst, n);
 }

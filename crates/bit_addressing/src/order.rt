@@ -1,10 +1,26 @@
 //! Orders of the bits in a word.
-ghost use Rattle.std.specs.Prelude.{◌≡◌, ℕ, ◌-◌, ◌<◌, ◌≤◌, ◌&&◌, leb, ltb};
+ghost use Rattle.std.specs.Prelude.{◌≡◌, ℕ, ◌+◌, ◌-◌, ◌*◌, ◌^◌, ◌<◌, ◌≤◌, ◌&&◌, leb, length, ltb, map};
 ghost use Rattle.bit_addressing.specs.Bits.{has_bit};
 ghost use Rattle.bit_addressing.specs.Order.{IsLawful, lsb0_lawful, msb0_lawful};
+ghost use Rattle.bit_addressing.specs.Row.{row_of, source_of, moved, touched};
 
 use crate::index::{BitEnd, BitIdx, BitPos};
 use crate::store::BitStore;
+use crate::word_row::WordRow;
+
+/// The place from which the bit at `j` comes, when `n` bits move from `src` to `dst`.
+fn source_index(src: usize, dst: usize, n: usize, j: usize) -> usize
+    requires source { src + n < 2 ^ 63 }
+    requires target { dst + n < 2 ^ 63 }
+    requires within { j < 2 ^ 63 }
+    ensures { result ≡ source_of src dst n j }
+{
+    if dst <= j && j < dst + n {
+        src + j - dst
+    } else {
+        j
+    }
+}
 
 /// An order of the bits in a word: it maps each index to a place.
 ///
@@ -39,6 +55,38 @@ pub trait BitOrder {
             word = word.with_bit(place.into_inner(), true);
         }
         word
+    }
+
+    /// Moves the `n` bits from `src` on to the places from `dst` on, as if they were copied out first: the
+    /// two runs may overlap. No other bit changes, and no more words are written than have a bit of the
+    /// target. The condition: both runs lie in the row.
+    fn move_run<T: BitStore>(row: &mut WordRow<T>, src: usize, dst: usize, n: usize)
+        requires source { src + n ≤ T.BITS * length row.old.words.now }
+        requires target { dst + n ≤ T.BITS * length row.old.words.now }
+        ensures same_words { row.new.words.ghost_name ≡ row.old.words.ghost_name }
+        ensures size { length row.new.words.now ≡ length row.old.words.now }
+        ensures bits { row_of place T.BITS (map T.value row.new.words.now) ≡ moved (row_of place T.BITS (map T.value row.old.words.now)) src dst n }
+        ensures writes { row.new.meter.writes ≤ row.old.meter.writes + touched T.BITS dst n }
+    {
+        if n == 0 {
+            return;
+        }
+        let width = T::BITS as usize;
+        let first = dst / width;
+        let end = (dst + n - 1) / width + 1;
+        let up = dst <= src;
+        for t in 0..end - first {
+            let k = if up { first + t } else { end - 1 - t };
+            let mut word = T::ZERO;
+            for i in 0..T::BITS {
+                let from = source_index(src, dst, n, k * width + i as usize);
+                let read = row.load(from / width);
+                let index = BitIdx::<T>::new_unchecked((from % width) as u8);
+                let bit = read.bit(Self::at(index).into_inner());
+                word = word.with_bit(Self::at(BitIdx::<T>::new_unchecked(i)).into_inner(), bit);
+            }
+            row.store(k, word);
+        }
     }
 
     ghost lawful: { IsLawful place };

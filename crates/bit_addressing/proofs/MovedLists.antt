@@ -1,0 +1,104 @@
+-- Lists in which a run was moved.
+use Rattle.std.proofs.Common.{◌≡◌, ◌≢◌, ℕ, ◌+◌, ◌-◌, ◌*◌, ◌<◌, ◌≤◌, Bool, false, List, [], ◌∷◌, ◌++◌, length, take, drop, set, get_or, slice_range, refl, sym, ◌∙◌, ap, subst, inl, inr, arith}
+use Rattle.std.specs.Prelude.{insert, remove}
+use Rattle.std.proofs.lemmas.List.{ext_get_or, length-take, length-drop, length-set, length_push, get_or-take, get_or-drop, get_or-set_same, get_or-set_other, get_or_append_left}
+use Rattle.std.proofs.lemmas.List.FromFn.{length-map-range_with_len, get_or-map-range_with_len}
+use Rattle.std.proofs.lemmas.List.Edits.{length-insert, get_or-insert_below, get_or-insert_at, get_or-insert_above, length-remove, get_or-remove_below, get_or-remove_above}
+use Rattle.std.proofs.lemmas.Bool.{cases_lt, cases_order}
+use Rattle.std.proofs.lemmas.Bool.Decides.{nat_tests}
+use Rattle.bit_addressing.specs.Row.{source_of, moved, sized, words_for}
+use Rattle.bit_addressing.proofs.Lists.{length-shows, shows_sized, length-sized, room}
+use Rattle.bit_addressing.proofs.Moves.{source_below}
+
+pub length-moved : (xs : List Bool) (s d n : ℕ) → length (moved xs s d n) ≡ length xs
+unfolding moved
+length-moved xs s d n = length-map-range_with_len (λ j. get_or xs (source_of s d n j) false) 0 (length xs)
+
+pub get_or-moved : (xs : List Bool) (s d n j : ℕ) → j < length xs → get_or (moved xs s d n) j false ≡ get_or xs (source_of s d n j) false
+unfolding moved
+get_or-moved xs s d n j h = get_or-map-range_with_len (λ j. get_or xs (source_of s d n j) false) 0 (length xs) j j false h (omega arith)
+
+-- item i of what is shown
+pub get_or-shows : (xs : List Bool) (head len i : ℕ) → i < len → get_or (slice_range xs head (head + len)) i false ≡ get_or xs (head + i) false
+get_or-shows xs head len i h = get_or-take (head + len - head) (drop head xs) i false (omega arith) ∙ get_or-drop head xs i false
+
+source_shift : (head s d n i : ℕ) → source_of (head + s) (head + d) n (head + i) ≡ head + source_of s d n i
+source_shift head s d n i = grind (arith, nat_tests)
+
+-- a move inside what is shown
+pub shows_moved : (xs : List Bool) (head len s d n : ℕ) → s + n ≤ len → d + n ≤ len → head + len ≤ length xs → slice_range (moved xs (head + s) (head + d) n) head (head + len) ≡ moved (slice_range xs head (head + len)) s d n
+shows_moved xs head len s d n from to fits =
+    let all : List Bool = moved xs (head + s) (head + d) n in
+    let size : length all ≡ length xs = length-moved xs (head + s) (head + d) n in
+    let shown : length (slice_range xs head (head + len)) ≡ len = length-shows xs head len fits in
+    let left : length (slice_range all head (head + len)) ≡ len = length-shows all head len (omega arith) in
+    let right : length (moved (slice_range xs head (head + len)) s d n) ≡ len = length-moved (slice_range xs head (head + len)) s d n ∙ shown in
+    ext_get_or false (slice_range all head (head + len)) (moved (slice_range xs head (head + len)) s d n) (left ∙ sym right)
+    (λ i h.
+    let below : i < len = subst (λ m. i < m) left h in
+    get_or-shows all head len i below ∙ get_or-moved xs (head + s) (head + d) n (head + i) (omega arith) ∙ ap (λ k. get_or xs k false) (source_shift head s d n i)
+    ∙ sym (get_or-moved (slice_range xs head (head + len)) s d n i (omega arith) ∙ get_or-shows xs head len (source_of s d n i) (source_below s d n i len from below)))
+
+source_before : (s d n j : ℕ) → j < d → source_of s d n j ≡ j
+source_before s d n j h = grind (arith, nat_tests)
+
+source_inside : (s d n j : ℕ) → d ≤ j → j < d + n → source_of s d n j ≡ (s + j) - d
+source_inside s d n j h k = grind (arith, nat_tests)
+
+-- one item is joined, the rest moves up behind it, and the item is written
+pub inserted : (xs : List Bool) (i : ℕ) (b : Bool) → i ≤ length xs → set (moved (xs ++ b ∷ []) i (i + 1) (length xs - i)) i b ≡ insert xs i b
+inserted xs i b h =
+    let longer : List Bool = xs ++ b ∷ [] in
+    let n : ℕ = length xs - i in
+    let size : length longer ≡ length xs + 1 = length_push xs b in
+    let moved_size : length (moved longer i (i + 1) n) ≡ length longer = length-moved longer i (i + 1) n in
+    let left : length (set (moved longer i (i + 1) n) i b) ≡ length xs + 1 = length-set (moved longer i (i + 1) n) i b ∙ moved_size ∙ size in
+    let right : length (insert xs i b) ≡ length xs + 1 = length-insert xs i b h in
+    ext_get_or false (set (moved longer i (i + 1) n) i b) (insert xs i b) (left ∙ sym right)
+    (λ j k.
+    let below : j < length xs + 1 = subst (λ m. j < m) left k in
+    elim (cases_order j i) [
+      | inl e ↦ rw e (get_or-set_same (moved longer i (i + 1) n) i b false (omega arith) ∙ sym (get_or-insert_at xs i b false h))
+      | inr o ↦ elim o [
+        | inl less ↦
+            let apart : j ≢ i = omega arith in
+            get_or-set_other (moved longer i (i + 1) n) i j b false apart ∙ get_or-moved longer i (i + 1) n j (omega arith) ∙ ap (λ m. get_or longer m false) (source_before i (i + 1) n j (omega arith))
+            ∙ get_or_append_left xs (b ∷ []) false j (omega arith) ∙ sym (get_or-insert_below xs i b false j less h)
+        | inr more ↦
+            let apart : j ≢ i = omega arith in
+            let at : (i + j) - (i + 1) ≡ j - 1 = omega arith in
+            let back : j - 1 + 1 ≡ j = omega arith in
+            get_or-set_other (moved longer i (i + 1) n) i j b false apart ∙ get_or-moved longer i (i + 1) n j (omega arith) ∙ ap (λ m. get_or longer m false) (source_inside i (i + 1) n j (omega arith) (omega arith) ∙ at)
+            ∙ get_or_append_left xs (b ∷ []) false (j - 1) (omega arith) ∙ sym (ap (λ m. get_or (insert xs i b) m false) (sym back) ∙ get_or-insert_above xs i b false (j - 1) (omega arith) h)
+      ]
+    ])
+
+-- the rest moves down over one item, and the list is one shorter
+pub removed : (xs : List Bool) (i : ℕ) → i < length xs → take (length xs - 1) (moved xs (i + 1) i (length xs - 1 - i)) ≡ remove xs i
+removed xs i h =
+    let n : ℕ = length xs - 1 - i in
+    let size : length (moved xs (i + 1) i n) ≡ length xs = length-moved xs (i + 1) i n in
+    let left : length (take (length xs - 1) (moved xs (i + 1) i n)) ≡ length xs - 1 = simp length-take (omega arith) in
+    let right : length (remove xs i) ≡ length xs - 1 = let r = length-remove xs i h in omega arith in
+    ext_get_or false (take (length xs - 1) (moved xs (i + 1) i n)) (remove xs i) (left ∙ sym right)
+    (λ j k.
+    let below : j < length xs - 1 = subst (λ m. j < m) left k in
+    get_or-take (length xs - 1) (moved xs (i + 1) i n) j false below ∙ get_or-moved xs (i + 1) i n j (omega arith) ∙ elim (cases_lt j i) [
+      | inl less ↦ ap (λ m. get_or xs m false) (source_before (i + 1) i n j less) ∙ sym (get_or-remove_below xs i false j less h)
+      | inr more ↦ let at : (i + 1 + j) - i ≡ j + 1 = omega arith in ap (λ m. get_or xs m false) (source_inside (i + 1) i n j more (omega arith) ∙ at) ∙ sym (get_or-remove_above xs i false j more h)
+    ])
+
+-- what is shown moves to the front
+pub aligned_shows : (w : ℕ) (xs : List Bool) (head len : ℕ) → 0 < w → head + len ≤ length xs → slice_range (sized w (moved xs head 0 len) (0 + len)) 0 (0 + len) ≡ slice_range xs head (head + len)
+aligned_shows w xs head len positive fits =
+    let all : List Bool = moved xs head 0 len in
+    let size : length all ≡ length xs = length-moved xs head 0 len in
+    let shown : length (slice_range xs head (head + len)) ≡ len = length-shows xs head len fits in
+    let left : length (slice_range all 0 (0 + len)) ≡ len = length-shows all 0 len (omega arith) in
+    shows_sized w all (0 + len) 0 (0 + len) positive (omega arith) (omega arith) (omega arith)
+    ∙ ext_get_or false (slice_range all 0 (0 + len)) (slice_range xs head (head + len)) (left ∙ sym shown)
+    (λ j h.
+    let below : j < len = subst (λ m. j < m) left h in
+    let at : (head + j) - 0 ≡ head + j = omega arith in
+    get_or-shows all 0 len j below ∙ ap (λ m. get_or all m false) (omega arith) ∙ get_or-moved xs head 0 len j (omega arith) ∙ ap (λ m. get_or xs m false) (source_inside head 0 len j (omega arith) (omega arith) ∙ at)
+    ∙ sym (get_or-shows xs head len j below))

@@ -1,13 +1,13 @@
 -- Lists in which a run was moved.
 use Rattle.std.proofs.Common.{◌≡◌, ◌≢◌, ℕ, ◌+◌, ◌-◌, ◌*◌, ◌<◌, ◌≤◌, Bool, false, List, [], ◌∷◌, ◌++◌, length, take, drop, set, get_or, slice_range, refl, sym, ◌∙◌, ap, subst, inl, inr, arith}
-use Rattle.std.specs.Prelude.{insert, remove}
+use Rattle.std.specs.List.{insert, remove, swap_remove}
 use Rattle.std.proofs.lemmas.List.{ext_get_or, length-take, length-drop, length-set, length_push, get_or-take, get_or-drop, get_or-set_same, get_or-set_other, get_or_append_left}
 use Rattle.std.proofs.lemmas.List.FromFn.{length-map-range_with_len, get_or-map-range_with_len}
 use Rattle.std.proofs.lemmas.List.Edits.{length-insert, get_or-insert_below, get_or-insert_at, get_or-insert_above, length-remove, get_or-remove_below, get_or-remove_above}
 use Rattle.std.proofs.lemmas.Bool.{cases_lt, cases_order}
 use Rattle.std.proofs.lemmas.Bool.Decides.{nat_tests}
 use Rattle.bit_addressing.specs.Row.{source_of, moved, sized, words_for}
-use Rattle.bit_addressing.proofs.Lists.{length-shows, shows_sized, length-sized, room}
+use Rattle.bit_addressing.proofs.Lists.{length-shows, shows_sized, shows_set, shrunk_shows}
 use Rattle.bit_addressing.proofs.Moves.{source_below}
 
 pub length-moved : (xs : List Bool) (s d n : ℕ) → length (moved xs s d n) ≡ length xs
@@ -102,3 +102,39 @@ aligned_shows w xs head len positive fits =
     let at : (head + j) - 0 ≡ head + j = omega arith in
     get_or-shows all 0 len j below ∙ ap (λ m. get_or all m false) (omega arith) ∙ get_or-moved xs head 0 len j (omega arith) ∙ ap (λ m. get_or xs m false) (source_inside head 0 len j (omega arith) (omega arith) ∙ at)
     ∙ sym (get_or-shows xs head len j below))
+
+-- ---- whole calls
+
+pub inserted_shows : (xs list : List Bool) (head len i : ℕ) (b : Bool) → slice_range xs head (head + len) ≡ list ++ b ∷ [] → len ≡ length list + 1 → i ≤ length list → head + len ≤ length xs → slice_range (set (moved xs (head + i) (head + i + 1) (len - 1 - i)) (head + i) b) head (head + len) ≡ insert list i b
+inserted_shows xs list head len i b pushed size h fits =
+    let n : ℕ = len - 1 - i in
+    let next : head + i + 1 ≡ head + (i + 1) = omega arith in
+    let behind : n ≡ length list - i = omega arith in
+    let long : length (moved xs (head + i) (head + i + 1) n) ≡ length xs = length-moved xs (head + i) (head + i + 1) n in
+    shows_set (moved xs (head + i) (head + i + 1) n) head len i b (omega arith) (omega arith)
+    ∙ ap (λ l. set l i b) (ap (λ d. slice_range (moved xs (head + i) d n) head (head + len)) next ∙ shows_moved xs head len i (i + 1) n (omega arith) (omega arith) fits ∙ ap (λ l. moved l i (i + 1) n) pushed ∙ ap (moved (list ++ b ∷ []) i (i + 1)) behind)
+    ∙ inserted list i b h
+
+pub removed_shows : (w : ℕ) (xs : List Bool) (head len i : ℕ) → 0 < w → i < len → head + len ≤ length xs → slice_range (sized w (moved xs (head + i + 1) (head + i) (len - 1 - i)) (head + (len - 1))) head (head + (len - 1)) ≡ remove (slice_range xs head (head + len)) i
+removed_shows w xs head len i positive h fits =
+    let n : ℕ = len - 1 - i in
+    let list : List Bool = slice_range xs head (head + len) in
+    let next : head + i + 1 ≡ head + (i + 1) = omega arith in
+    let size : length list ≡ len = length-shows xs head len fits in
+    let long : length (moved xs (head + i + 1) (head + i) n) ≡ length xs = length-moved xs (head + i + 1) (head + i) n in
+    let less : len - 1 ≡ length list - 1 = omega arith in
+    shrunk_shows w (moved xs (head + i + 1) (head + i) n) head len (len - 1) positive (omega arith) (omega arith)
+    ∙ ap (take (len - 1)) (ap (λ s. slice_range (moved xs s (head + i) n) head (head + len)) next ∙ shows_moved xs head len (i + 1) i n (omega arith) (omega arith) fits)
+    ∙ ap (λ m. take m (moved list (i + 1) i (m - i))) less
+    ∙ removed list i (omega arith)
+
+pub swap_removed_shows : (w : ℕ) (xs : List Bool) (head len i : ℕ) (last : Bool) → 0 < w → i < len → head + len ≤ length xs → last ≡ get_or xs (head + (len - 1)) false → slice_range (sized w (set xs (head + i) last) (head + (len - 1))) head (head + (len - 1)) ≡ swap_remove (slice_range xs head (head + len)) i false
+swap_removed_shows w xs head len i last positive h fits is =
+    let list : List Bool = slice_range xs head (head + len) in
+    let size : length list ≡ len = length-shows xs head len fits in
+    let long : length (set xs (head + i) last) ≡ length xs = length-set xs (head + i) last in
+    let less : len - 1 ≡ length list - 1 = omega arith in
+    let read : last ≡ get_or list (length list - 1) false = is ∙ sym (ap (λ m. get_or list m false) (sym less) ∙ get_or-shows xs head len (len - 1) (omega arith)) in
+    shrunk_shows w (set xs (head + i) last) head len (len - 1) positive (omega arith) (omega arith)
+    ∙ ap (take (len - 1)) (shows_set xs head len i last h fits ∙ ap (set list i) read)
+    ∙ ap (λ m. take m (set list i (get_or list (length list - 1) false))) less

@@ -12,6 +12,7 @@ use Rattle.bit_addressing.specs.Typed.{row}
 use Rattle.bit_addressing.proofs.Lists.{room, shows_filled, length-shows, canonical_row}
 use Rattle.bit_addressing.proofs.Rows.{width_positive}
 use Rattle.bit_addressing.proofs.Typed.{length_row}
+use Rattle.bit_addressing.specs.declared.length.TheConstants.{MAX_BITS}
 use Rattle.bit_containers.specs.Held.{IsVector, bits_in}
 use Rattle.bit_containers.specs.Growth.{IsKept}
 
@@ -43,7 +44,7 @@ canonical_0 W P old new len width v size is =
     record {
       count = length-map new W.value ∙ size ∙ v.count ∙ ap (words_for w) (sym short);
       row = is ∙ canonical_row w (row W P old) len (width_positive w width) (length_row W.value P.place w old ∙ ap (λ n. w * n) v.count)
-        ∙ ap (λ l. sized w l (0 + len)) (sym lists) ∙ ap (sized w (slice_range (row W P new) 0 (0 + len))) (sym short);
+          ∙ ap (λ l. sized w l (0 + len)) (sym lists) ∙ ap (sized w (slice_range (row W P new) 0 (0 + len))) (sym short);
     }
 
 -- a vector with head 0 whose dead bits are cleared has the canonical words of its list
@@ -74,7 +75,7 @@ no_room_for w n words head len wanted positive v enough more h = elim (cases_lt 
 -- the same words at the same head and length are the same vector, but for the capacity
 pub kept : {X Y : Type 0} (W : store.Ghosts X) (P : order.Ghosts Y) (old new : List X) (head len room more : ℕ) → new ≡ old
     → IsKept (record { words = old; row = row W P old; head = head; len = len; list = slice_range (row W P old) head (head + len); capacity = room })
-      (record { words = new; row = row W P new; head = head; len = len; list = slice_range (row W P new) head (head + len); capacity = more })
+    (record { words = new; row = row W P new; head = head; len = len; list = slice_range (row W P new) head (head + len); capacity = more })
 kept W P old new head len room more same = record {
   words = same;
   row = ap (row W P) same;
@@ -82,3 +83,12 @@ kept W P old new head len room more same = record {
   len = refl;
   list = ap (λ ws. slice_range (row W P ws) head (head + len)) same;
 }
+
+-- the words of a vector have at most so many bits
+pub few_words : (w n head len : ℕ) → 0 < w → IsVector w n head len → w * n ≤ MAX_BITS + 2 * w
+few_words w n head len positive v =
+    let r = (room w (head + len) positive).1 in
+    let e : w * n ≡ w * words_for w (head + len) = ap (λ m. w * m) v.count in
+    let low = v.head_below in
+    let small = v.len_small in
+    omega arith

@@ -1,9 +1,10 @@
 //! The vector: what it is, and how it is made and taken apart.
 ghost use Rattle.std.specs.Prelude.{◌≡◌, ◌*◌, ◌≤◌, ◌↔◌, [], IsTrue, length};
 ghost use Rattle.bit_addressing.specs.declared.length.TheConstants.{MAX_BITS};
+ghost use Rattle.bit_addressing.specs.Row.{moved, sized};
 ghost use Rattle.bit_addressing.specs.Typed.{row};
 
-use bit_addressing::{BitOrder, BitStore, Lsb0, MAX_BITS};
+use bit_addressing::{BitOrder, BitStore, Lsb0, MAX_BITS, cut_words, move_bits_in};
 use std::alloc::Global;
 use std::marker::{Model, PhantomData};
 
@@ -92,5 +93,21 @@ impl<T: BitStore, O: BitOrder> BitVec<T, O> {
         ensures { result.items ≡ self.words }
     {
         self.words
+    }
+
+    /// Makes the head 0: the list moves to the beginning of the words, by one counted move, and the words
+    /// are cut to the visible ones. Takes no memory.
+    #[tactic(auto, using(crate::proofs::Vectors::shown_length))]
+    pub fn force_align(&mut self)
+        ensures head { self.new.head ≡ 0 }
+        ensures len { self.new.len ≡ self.old.len }
+        ensures list { self.new.list ≡ self.old.list }
+        ensures row { self.new.row ≡ sized T.BITS (moved self.old.row self.old.head 0 self.old.len) self.old.len }
+        ensures capacity { self.old.capacity ≤ self.new.capacity }
+        ensures size { length self.new.list ≡ self.new.len }
+    {
+        move_bits_in::<T, O>(&mut self.words, self.head, 0, self.len);
+        cut_words::<T, O>(&mut self.words, self.len);
+        self.head = 0;
     }
 }

@@ -1,11 +1,14 @@
 //! Reading and writing one bit, the ends of the vector, and its size.
-ghost use Rattle.std.specs.Prelude.{◌≡◌, ◌+◌, ◌-◌, ◌<◌, ◌≤◌, [], ◌∷◌, ◌++◌, length, min, set, take, OnOk, MatchOption, slice_get, nat_eq};
+ghost use Rattle.std.specs.Prelude.{◌≡◌, ◌+◌, ◌-◌, ◌<◌, ◌≤◌, false, [], ◌∷◌, ◌++◌, length, min, set, take, insert, remove, OnOk, MatchOption, Some, slice_get, nat_eq};
+ghost use Rattle.std.specs.List.{swap_remove};
+ghost use Rattle.bit_addressing.specs.Row.{moved};
 ghost use Rattle.bit_addressing.specs.declared.length.TheConstants.{MAX_BITS};
 ghost use Rattle.bit_containers.specs.Growth.{Grew, Shrank, Stayed, RefusesOnly};
 
 use crate::vec::BitVec;
 use bit_addressing::{
-    BitOrder, BitStore, GrowError, MAX_BITS, cut_words, push_bit, read_bit, write_bit_in,
+    BitOrder, BitStore, GrowError, MAX_BITS, RangeExt, cut_words, move_bits_in, push_bit, read_bit,
+    write_bit_in,
 };
 
 impl<T: BitStore, O: BitOrder> BitVec<T, O> {
@@ -17,6 +20,14 @@ impl<T: BitStore, O: BitOrder> BitVec<T, O> {
         ensures bound { result ≤ MAX_BITS }
     {
         self.len
+    }
+
+    /// The head: the index, in the first word, at which the list begins.
+    pub fn head(&self) -> usize
+        ensures value { result ≡ self.now.head }
+        ensures bound { result < T.BITS }
+    {
+        self.head
     }
 
     /// Whether there is no bit.
@@ -57,6 +68,25 @@ impl<T: BitStore, O: BitOrder> BitVec<T, O> {
         ensures size { length self.new.list ≡ self.new.len }
     {
         write_bit_in::<T, O>(&mut self.words, self.head + i, bit);
+    }
+
+    /// Copies the range's bits to the places from `dest` on, as if they were copied out first. No other bit
+    /// changes, dead bits included. It is one counted move of the words. Takes no memory. The condition:
+    /// the range lies in the length, and its bits have room from `dest` on.
+    #[tactic(auto, using(crate::proofs::Vectors::shown_length))]
+    pub fn copy_within<R: RangeExt>(&mut self, range: R, dest: usize)
+        requires order { R.start_of range ≤ R.end_of range self.old.len }
+        requires within { R.end_of range self.old.len ≤ self.old.len }
+        requires room { dest + (R.end_of range self.old.len - R.start_of range) ≤ self.old.len }
+        ensures list { self.new.list ≡ moved self.old.list (R.start_of range) dest (R.end_of range self.old.len - R.start_of range) }
+        ensures row { self.new.row ≡ moved self.old.row (self.old.head + R.start_of range) (self.old.head + dest) (R.end_of range self.old.len - R.start_of range) }
+        ensures stayed { Stayed self.old self.new }
+        ensures size { length self.new.list ≡ self.new.len }
+    {
+        let len = self.len;
+        let range = range.normalize(len);
+        let (from, to) = (self.head + range.start, self.head + dest);
+        move_bits_in::<T, O>(&mut self.words, from, to, range.end - range.start);
     }
 
     /// Joins a bit at the end. A word of zero is added only where no visible word has room, and no other
@@ -113,5 +143,69 @@ impl<T: BitStore, O: BitOrder> BitVec<T, O> {
             cut_words::<T, O>(&mut self.words, self.head + n);
             self.len = n;
         }
+    }
+
+    /// Puts a bit before the one at `i`, or at the end where `i` is the length; the rest moves up behind it,
+    /// by one counted move. It is refused as `push` is, and a refusal leaves the vector. The condition: `i`
+    /// is at most the length. What becomes of dead bits is open.
+    #[tactic(auto, using(crate::proofs::Vectors::shown_length))]
+    pub fn insert(&mut self, i: usize, bit: bool) -> Result<(), GrowError>
+        requires { i ≤ self.old.len }
+        ensures list { OnOk result (self.new.list ≡ insert self.old.list i bit) }
+        ensures head { self.new.head ≡ self.old.head }
+        ensures len { OnOk result (self.new.len ≡ self.old.len + 1) }
+        ensures refusal { RefusesOnly result (self.old.len + 1) self.old self.new }
+        ensures capacity { self.old.capacity ≤ self.new.capacity }
+        ensures size { length self.new.list ≡ self.new.len }
+    {
+        self.push(bit)?;
+        let at = self.head + i;
+        let behind = self.len - 1 - i;
+        move_bits_in::<T, O>(&mut self.words, at, at + 1, behind);
+        write_bit_in::<T, O>(&mut self.words, at, bit);
+        Ok(())
+    }
+
+    /// Takes the bit at `i`; the rest closes up, by one counted move. Takes no memory. The condition: `i` is
+    /// below the length. What becomes of dead bits is open.
+    #[tactic(auto, using(crate::proofs::Vectors::shown_length))]
+    pub fn remove(&mut self, i: usize) -> bool
+        requires { i < self.old.len }
+        ensures answer { slice_get self.old.list i ≡ Some result }
+        ensures list { self.new.list ≡ remove self.old.list i }
+        ensures head { self.new.head ≡ self.old.head }
+        ensures len { self.new.len + 1 ≡ self.old.len }
+        ensures capacity { self.new.capacity ≡ self.old.capacity }
+        ensures size { length self.new.list ≡ self.new.len }
+    {
+        let at = self.head + i;
+        let less = self.len - 1;
+        let bit = read_bit::<T, O>(self.words.as_slice(), at);
+        move_bits_in::<T, O>(&mut self.words, at + 1, at, less - i);
+        cut_words::<T, O>(&mut self.words, self.head + less);
+        self.len = less;
+        bit
+    }
+
+    /// Takes the bit at `i`, and puts the last one in its place. Nothing moves, and no memory is taken. The
+    /// condition: `i` is below the length. What becomes of dead bits is open.
+    #[tactic(auto, using(crate::proofs::Vectors::shown_length))]
+    pub fn swap_remove(&mut self, i: usize) -> bool
+        requires { i < self.old.len }
+        ensures answer { slice_get self.old.list i ≡ Some result }
+        ensures list { self.new.list ≡ swap_remove self.old.list i false }
+        ensures head { self.new.head ≡ self.old.head }
+        ensures len { self.new.len + 1 ≡ self.old.len }
+        ensures capacity { self.new.capacity ≡ self.old.capacity }
+        ensures size { length self.new.list ≡ self.new.len }
+    {
+        let at = self.head + i;
+        let less = self.len - 1;
+        let bit = read_bit::<T, O>(self.words.as_slice(), at);
+        let last = read_bit::<T, O>(self.words.as_slice(), self.head + less);
+        write_bit_in::<T, O>(&mut self.words, at, last);
+        cut_words::<T, O>(&mut self.words, self.head + less);
+        self.len = less;
+        bit
     }
 }

@@ -12,7 +12,6 @@ use Rattle.std.proofs.Math.Nat.{mul-le-mul_left}
 use Rattle.std.proofs.Common.{mul_comm}
 use Rattle.bit_containers.proofs.vec.BitVec.get.Goals as goal
 
-
 pub returns-then-i-self : goal.returns-then-i-self
 returns-then-i-self g c =
     let i = c.self.inside in

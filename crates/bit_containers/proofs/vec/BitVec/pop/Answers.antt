@@ -18,10 +18,11 @@ returns-then-self-eq0-clause-row g c =
     let w = g.T.BitStore.BITS in
     let none : i.len - 1 ≡ i.len = omega arith in
     rw (← c.self.view_is) (rw none (record {
-      head = refl; len = refl; capacity = refl;
+      head = refl;
+      len = refl;
+      capacity = refl;
       row = sym (sized_same w (row g.T.BitStore g.O.BitOrder i.words.items) (i.head + i.len) (length_row g.T.BitStore.value g.O.BitOrder.place w i.words.items ∙ ap (λ n. w * n) c.self.invariant.count));
     }))
-
 
 pub returns-clause-answer : goal.returns-clause-answer
 returns-clause-answer g c =

@@ -12,7 +12,6 @@ use Rattle.std.proofs.Math.Nat.{mul-le-mul_left}
 use Rattle.std.proofs.Common.{mul_comm}
 use Rattle.bit_containers.proofs.vec.BitVec.push.Goals as goal
 
-
 pub returns-in_default-clause-refusal : goal.returns-in_default-clause-refusal
 returns-in_default-clause-refusal g c =
     let i = c.self.inside in

@@ -12,7 +12,6 @@ use Rattle.std.proofs.Math.Nat.{mul-le-mul_left}
 use Rattle.std.proofs.Common.{mul_comm}
 use Rattle.bit_containers.proofs.vec.BitVec.set.Goals as goal
 
-
 pub returns-clause-list : goal.returns-clause-list
 returns-clause-list g c =
     let i = c.self.inside in

@@ -12,7 +12,6 @@ use Rattle.std.proofs.Math.Nat.{mul-le-mul_left}
 use Rattle.std.proofs.Common.{mul_comm}
 use Rattle.bit_containers.proofs.vec.BitVec.truncate.Goals as goal
 
-
 pub returns-then-n-self-clause-list : goal.returns-then-n-self-clause-list
 returns-then-n-self-clause-list g c =
     let i = c.self.inside in
@@ -25,6 +24,8 @@ returns-else-n-self-clause-row g c =
     let w = g.T.BitStore.BITS in
     let least : min c.args.n i.len ≡ i.len = omega arith in
     rw (← c.self.view_is) (rw least (record {
-      head = refl; len = refl; capacity = refl;
+      head = refl;
+      len = refl;
+      capacity = refl;
       row = sym (sized_same w (row g.T.BitStore g.O.BitOrder i.words.items) (i.head + i.len) (length_row g.T.BitStore.value g.O.BitOrder.place w i.words.items ∙ ap (λ n. w * n) c.self.invariant.count));
     }))

@@ -1,0 +1,28 @@
+use Rattle.std.proofs.Common.{◌≡◌, ℕ, ◌+◌, ◌-◌, ◌*◌, ◌<◌, ◌≤◌, Bool, List, true, false, Some, [], ◌∷◌, ◌++◌, length, take, set, get_or, slice_range, refl, sym, ◌∙◌, ap, subst, arith}
+use Rattle.std.specs.Prelude.{slice_get}
+use Rattle.std.specs.List.{insert, remove, swap_remove}
+use Rattle.bit_addressing.specs.Row.{moved, sized, words_for}
+use Rattle.bit_addressing.specs.Typed.{row}
+use Rattle.bit_addressing.proofs.Rows.{width_positive}
+use Rattle.bit_addressing.proofs.MovedLists.{shows_moved}
+use Rattle.bit_containers.proofs.Vectors.{few_words, shown}
+use Rattle.bit_containers.proofs.vec.BitVec.copy_within.Goals as goal
+
+pub move_bits_in-requires-clause-room : goal.move_bits_in-requires-clause-room
+move_bits_in-requires-clause-room g c = few_words g.T.BitStore.BITS (length c.self.inside.words.items) c.self.inside.head c.self.inside.len (width_positive _ g.met.T.BitStore.width) c.self.invariant
+
+pub returns-clause-list : goal.returns-clause-list
+returns-clause-list g c =
+    let i = c.self.inside in
+    let bits = row g.T.BitStore g.O.BitOrder i.words.items in
+    let fits = shown g.T.BitStore g.O.BitOrder i.words.items i.head i.len g.met.T.BitStore.width c.self.invariant in
+    let from = c.normalize-range.result.start in
+    let upto = c.normalize-range.result.end in
+    let start = c.normalize-range.ensures.start in
+    let len : i.len ≡ c.args.self.now.len = ap (λ v. v.len) c.self.view_is in
+    let end : upto ≡ g.R.RangeExt.end_of c.args.range c.args.self.now.len = c.normalize-range.ensures.end ∙ ap (g.R.RangeExt.end_of c.args.range) len in
+    ap (λ r. slice_range r i.head (i.head + i.len)) c.move_bits_in.ensures.bits
+    ∙ shows_moved bits i.head i.len from c.args.dest (upto - from) (omega arith) (omega arith) fits
+    ∙ ap (λ v. moved v.list from c.args.dest (upto - from)) c.self.view_is
+    ∙ ap (λ s. moved c.args.self.now.list s c.args.dest (upto - s)) start
+    ∙ ap (λ e. moved c.args.self.now.list (g.R.RangeExt.start_of c.args.range) c.args.dest (e - g.R.RangeExt.start_of c.args.range)) end

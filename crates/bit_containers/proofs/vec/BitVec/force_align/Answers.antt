@@ -1,0 +1,29 @@
+use Rattle.std.proofs.Common.{◌≡◌, ℕ, ◌+◌, ◌-◌, ◌*◌, ◌<◌, ◌≤◌, Bool, List, true, false, Some, [], ◌∷◌, ◌++◌, length, take, set, get_or, slice_range, refl, sym, ◌∙◌, ap, subst, arith}
+use Rattle.std.specs.Prelude.{insert, remove, slice_get}
+use Rattle.bit_addressing.specs.Row.{moved, sized, words_for}
+use Rattle.bit_addressing.specs.Typed.{row}
+use Rattle.bit_addressing.proofs.Rows.{width_positive}
+use Rattle.bit_addressing.proofs.Lists.{length-shows}
+use Rattle.bit_addressing.proofs.MovedLists.{aligned_shows}
+use Rattle.bit_containers.proofs.Vectors.{few_words, shown}
+use Rattle.bit_containers.proofs.vec.BitVec.force_align.Goals as goal
+
+pub move_bits_in-requires-clause-room : goal.move_bits_in-requires-clause-room
+move_bits_in-requires-clause-room g c = few_words g.T.BitStore.BITS (length c.self.inside.words.items) c.self.inside.head c.self.inside.len (width_positive _ g.met.T.BitStore.width) c.self.invariant
+
+pub returns-clause-list : goal.returns-clause-list
+returns-clause-list g c =
+    let i = c.self.inside in
+    let w = g.T.BitStore.BITS in
+    let bits = row g.T.BitStore g.O.BitOrder i.words.items in
+    let fits = shown g.T.BitStore g.O.BitOrder i.words.items i.head i.len g.met.T.BitStore.width c.self.invariant in
+    let none : 0 + i.len ≡ i.len = omega arith in
+    ap (λ r. slice_range r 0 (0 + i.len)) (c.cut_words.ensures.bits ∙ ap (λ r. sized w r i.len) c.move_bits_in.ensures.bits ∙ ap (sized w (moved bits i.head 0 i.len)) (sym none))
+    ∙ aligned_shows w bits i.head i.len (width_positive w g.met.T.BitStore.width) fits
+    ∙ ap (λ v. v.list) c.self.view_is
+
+pub returns-clause-size : goal.returns-clause-size
+returns-clause-size g c =
+    let i = c.self.inside in
+    let fits = shown g.T.BitStore g.O.BitOrder i.words.items i.head i.len g.met.T.BitStore.width c.self.invariant in
+    ap length (returns-clause-list g c) ∙ ap (λ v. length v.list) (sym c.self.view_is) ∙ length-shows (row g.T.BitStore g.O.BitOrder i.words.items) i.head i.len fits

@@ -1,0 +1,31 @@
+use Rattle.std.proofs.Common.{◌≡◌, ℕ, ◌+◌, ◌-◌, ◌*◌, ◌<◌, ◌≤◌, Bool, List, true, false, Some, [], ◌∷◌, ◌++◌, length, take, set, get_or, slice_range, refl, sym, ◌∙◌, ap, subst, arith}
+use Rattle.std.specs.Prelude.{slice_get}
+use Rattle.std.specs.List.{insert, remove, swap_remove}
+use Rattle.bit_addressing.specs.Row.{moved, sized, words_for}
+use Rattle.bit_addressing.specs.Typed.{row}
+use Rattle.bit_addressing.proofs.Rows.{width_positive}
+use Rattle.bit_addressing.proofs.Lists.{shows_some}
+use Rattle.bit_addressing.proofs.MovedLists.{removed_shows}
+use Rattle.bit_containers.proofs.Vectors.{few_words, shown}
+use Rattle.bit_containers.proofs.vec.BitVec.remove.Goals as goal
+
+pub move_bits_in-requires-clause-room : goal.move_bits_in-requires-clause-room
+move_bits_in-requires-clause-room g c = few_words g.T.BitStore.BITS (length c.self.inside.words.items) c.self.inside.head c.self.inside.len (width_positive _ g.met.T.BitStore.width) c.self.invariant
+
+pub returns-clause-answer : goal.returns-clause-answer
+returns-clause-answer g c =
+    let i = c.self.inside in
+    let fits = shown g.T.BitStore g.O.BitOrder i.words.items i.head i.len g.met.T.BitStore.width c.self.invariant in
+    let len : i.len ≡ c.args.self.now.len = ap (λ v. v.len) c.self.view_is in
+    rw (← c.self.view_is) (sym (shows_some (row g.T.BitStore g.O.BitOrder i.words.items) i.head i.len c.args.i c.read_bit-bit.result (omega arith) fits (rw (← c.as_slice.ensures.value) c.read_bit-bit.ensures)))
+
+pub returns-clause-list : goal.returns-clause-list
+returns-clause-list g c =
+    let i = c.self.inside in
+    let w = g.T.BitStore.BITS in
+    let bits = row g.T.BitStore g.O.BitOrder i.words.items in
+    let fits = shown g.T.BitStore g.O.BitOrder i.words.items i.head i.len g.met.T.BitStore.width c.self.invariant in
+    let len : i.len ≡ c.args.self.now.len = ap (λ v. v.len) c.self.view_is in
+    ap (λ r. slice_range r i.head (i.head + (i.len - 1))) (c.cut_words.ensures.bits ∙ ap (λ r. sized w r (i.head + (i.len - 1))) c.move_bits_in.ensures.bits)
+    ∙ removed_shows w bits i.head i.len c.args.i (width_positive w g.met.T.BitStore.width) (omega arith) fits
+    ∙ ap (λ v. remove v.list c.args.i) c.self.view_is

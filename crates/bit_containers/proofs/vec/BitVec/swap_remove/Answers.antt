@@ -1,0 +1,29 @@
+use Rattle.std.proofs.Common.{◌≡◌, ℕ, ◌+◌, ◌-◌, ◌≤◌, Bool, List, false, Some, length, set, get_or, slice_range, refl, sym, ◌∙◌, ap, arith}
+use Rattle.std.specs.Prelude.{slice_get}
+use Rattle.std.specs.List.{swap_remove}
+use Rattle.bit_addressing.specs.Row.{sized}
+use Rattle.bit_addressing.specs.Typed.{row}
+use Rattle.bit_addressing.proofs.Rows.{width_positive}
+use Rattle.bit_addressing.proofs.Lists.{shows_some}
+use Rattle.bit_addressing.proofs.MovedLists.{swap_removed_shows}
+use Rattle.bit_containers.proofs.Vectors.{shown}
+use Rattle.bit_containers.proofs.vec.BitVec.swap_remove.Goals as goal
+
+pub returns-clause-answer : goal.returns-clause-answer
+returns-clause-answer g c =
+    let i = c.self.inside in
+    let fits = shown g.T.BitStore g.O.BitOrder i.words.items i.head i.len g.met.T.BitStore.width c.self.invariant in
+    let len : i.len ≡ c.args.self.now.len = ap (λ v. v.len) c.self.view_is in
+    rw (← c.self.view_is) (sym (shows_some (row g.T.BitStore g.O.BitOrder i.words.items) i.head i.len c.args.i c.read_bit-bit.result (omega arith) fits (rw (← c.as_slice.ensures.value) c.read_bit-bit.ensures)))
+
+pub returns-clause-list : goal.returns-clause-list
+returns-clause-list g c =
+    let i = c.self.inside in
+    let w = g.T.BitStore.BITS in
+    let bits = row g.T.BitStore g.O.BitOrder i.words.items in
+    let fits = shown g.T.BitStore g.O.BitOrder i.words.items i.head i.len g.met.T.BitStore.width c.self.invariant in
+    let len : i.len ≡ c.args.self.now.len = ap (λ v. v.len) c.self.view_is in
+    let last = c.read_bit-last.result in
+    ap (λ r. slice_range r i.head (i.head + (i.len - 1))) (c.cut_words.ensures.bits ∙ ap (λ r. sized w r (i.head + (i.len - 1))) c.write_bit_in.ensures.bits)
+    ∙ swap_removed_shows w bits i.head i.len c.args.i last (width_positive w g.met.T.BitStore.width) (omega arith) fits (rw (← c.as_slice-2.ensures.value) c.read_bit-last.ensures)
+    ∙ ap (λ v. swap_remove v.list c.args.i false) c.self.view_is

@@ -1,7 +1,9 @@
 //! A vector of bits, and runs of commands over it.
 #![tactic(auto)]
 
+mod machine;
 mod vec;
 
 pub use bit_addressing::{BitOrder, BitRegister, BitStore, GrowError, Lsb0, MAX_BITS, Msb0};
+pub use machine::{Command, Reply, Stop, run};
 pub use vec::BitVec;

@@ -1,0 +1,37 @@
+-- Runs of commands, one after another.
+use Rattle.std.proofs.Common.{◌≡◌, ℕ, ◌+◌, ◌<◌, ◌≤◌, List, Bool, [], ◌∷◌, ◌++◌, refl, ap, sym, subst, ◌∙◌, length, take, get_or}
+use Rattle.std.proofs.Common.{inl}
+use Rattle.std.proofs.lemmas.Option.{slice_get-get_or}
+use Rattle.bit_addressing.specs.declared.length.GrowError.{GrowError}
+use Rattle.std.proofs.lemmas.List.{take_more}
+use Rattle.bit_addressing.specs.declared.length.TheConstants.{MAX_BITS}
+use Rattle.bit_containers.specs.declared.machine.Command.{Command}
+use Rattle.bit_containers.specs.Machine.{list_after_one, reply_to, list_after, replies_of, AllFit, new_length, IsRefusal, IsStopReason}
+
+-- a run goes on where another ended
+pub list_after-append : (list : List Bool) (xs ys : List Command) → list_after list (xs ++ ys) ≡ list_after (list_after list xs) ys
+list_after-append list [] ys = refl
+list_after-append list (x ∷ xs) ys = list_after-append (list_after_one list x) xs ys
+
+pub replies_of-append : (list : List Bool) (xs ys : List Command) → replies_of list (xs ++ ys) ≡ replies_of list xs ++ replies_of (list_after list xs) ys
+replies_of-append list [] ys = refl
+replies_of-append list (x ∷ xs) ys = ap (λ rs. reply_to list x ∷ rs) (replies_of-append (list_after_one list x) xs ys)
+
+pub AllFit-append : (list : List Bool) (xs ys : List Command) → AllFit list xs → AllFit (list_after list xs) ys → AllFit list (xs ++ ys)
+AllFit-append list [] ys h k = k
+AllFit-append list (x ∷ xs) ys h k = (h.0, AllFit-append (list_after_one list x) xs ys h.1 k)
+
+-- one command more
+module _ (list : List Bool) (cs : List Command) (i : ℕ) (d : Command) (h : i < length cs) where
+  pub list_after-next : list_after list (take (i + 1) cs) ≡ list_after_one (list_after list (take i cs)) (get_or cs i d)
+  list_after-next = ap (λ xs. list_after list xs) (take_more cs i d h) ∙ list_after-append list (take i cs) (get_or cs i d ∷ [])
+
+  pub replies_of-next : replies_of list (take (i + 1) cs) ≡ replies_of list (take i cs) ++ reply_to (list_after list (take i cs)) (get_or cs i d) ∷ []
+  replies_of-next = ap (λ xs. replies_of list xs) (take_more cs i d h) ∙ replies_of-append list (take i cs) (get_or cs i d ∷ [])
+
+  pub AllFit-next : AllFit list (take i cs) → new_length (list_after list (take i cs)) (get_or cs i d) ≤ MAX_BITS → AllFit list (take (i + 1) cs)
+  AllFit-next f n = subst (λ xs. AllFit list xs) (sym (take_more cs i d h)) (AllFit-append list (take i cs) (get_or cs i d ∷ []) f (n, tt))
+
+-- a run stopped before a command that was refused, with the list as it was before it
+pub stopped_at : (old new : List Bool) (cs : List Command) (i : ℕ) (d : Command) (why : GrowError) → i < length cs → new ≡ old → IsRefusal old (get_or cs i d) why → IsStopReason new cs i why
+stopped_at old new cs i d why h same r = inl (get_or cs i d, slice_get-get_or cs i d h, subst (λ list. IsRefusal list (get_or cs i d) why) (sym same) r)

@@ -1,0 +1,84 @@
+-- What commands, and runs of them, do to a list of bits and reply.
+use Rattle.std.specs.Prelude.{◌≡◌, ℕ, ◌+◌, ◌-◌, ◌<◌, ◌≤◌, ◌⊎◌, ◌&&◌, Option, List, Bool, false, [], ◌∷◌, ◌++◌, length, take, slice_set, slice_get, insert, remove, nat_lt, nat_le, if◌then◌else◌, Some, None}
+use Rattle.std.specs.List.{swap_remove}
+use Rattle.bit_addressing.specs.Row.{moved}
+use Rattle.bit_addressing.specs.declared.length.GrowError.{GrowError}
+use Rattle.bit_addressing.specs.declared.length.GrowError.TheVariants.{TooLong, OutOfMemory}
+use Rattle.bit_addressing.specs.declared.length.TheConstants.{MAX_BITS}
+use Rattle.bit_containers.specs.declared.machine.Command.{Command}
+use Rattle.bit_containers.specs.declared.machine.Command.TheVariants.{Push, Pop, Get, Set, Insert, Remove, SwapRemove, Truncate, CopyWithin, Align, Len}
+use Rattle.bit_containers.specs.declared.machine.Reply.{Reply}
+use Rattle.bit_containers.specs.declared.machine.Reply.TheVariants.{Done, Bit, Nothing, Number, OutOfRange}
+
+-- whether `from..upto` is a range of the list, and what stands in it has room from `dest` on
+abbrev pub can_copy : List Bool → ℕ → ℕ → ℕ → Bool
+can_copy list from upto dest = nat_le from upto && (nat_le upto (length list) && nat_le (dest + (upto - from)) (length list))
+
+-- the list after a command; where the command's index or range is out of range, the list itself
+abbrev pub list_after_one : List Bool → Command → List Bool
+list_after_one list (Push b) = list ++ b ∷ []
+list_after_one list Pop = take (length list - 1) list
+list_after_one list (Get i) = list
+list_after_one list (Set i b) = slice_set list i b
+list_after_one list (Insert i b) = if nat_le i (length list) then insert list i b else list
+list_after_one list (Remove i) = if nat_lt i (length list) then remove list i else list
+list_after_one list (SwapRemove i) = if nat_lt i (length list) then swap_remove list i false else list
+list_after_one list (Truncate n) = take n list
+list_after_one list (CopyWithin from upto dest) = if can_copy list from upto dest then moved list from dest (upto - from) else list
+list_after_one list Align = list
+list_after_one list Len = list
+
+-- the reply that tells a bit, or this one where there is no bit
+abbrev pub bit_or : Reply → Option Bool → Reply
+bit_or reply None = reply
+bit_or reply (Some b) = Bit b
+
+-- the reply that a command is done, where its index or range is in range
+abbrev pub done_if : Bool → Reply
+done_if in_range = if in_range then Done else OutOfRange
+
+-- the reply to a command
+abbrev pub reply_to : List Bool → Command → Reply
+reply_to list (Push b) = Done
+reply_to list Pop = bit_or Nothing (slice_get list (length list - 1))
+reply_to list (Get i) = bit_or OutOfRange (slice_get list i)
+reply_to list (Set i b) = done_if (nat_lt i (length list))
+reply_to list (Insert i b) = done_if (nat_le i (length list))
+reply_to list (Remove i) = bit_or OutOfRange (slice_get list i)
+reply_to list (SwapRemove i) = bit_or OutOfRange (slice_get list i)
+reply_to list (Truncate n) = Done
+reply_to list (CopyWithin from upto dest) = done_if (can_copy list from upto dest)
+reply_to list Align = Done
+reply_to list Len = Number (length list)
+
+-- the list after commands
+abbrev pub list_after : List Bool → List Command → List Bool
+list_after list [] = list
+list_after list (command ∷ commands) = list_after (list_after_one list command) commands
+
+-- the replies to commands
+abbrev pub replies_of : List Bool → List Command → List Reply
+replies_of list [] = []
+replies_of list (command ∷ commands) = reply_to list command ∷ replies_of (list_after_one list command) commands
+
+-- the length that a command asks for; where its index is out of range, that of the list
+abbrev pub new_length : List Bool → Command → ℕ
+new_length list (Push b) = length list + 1
+new_length list (Insert i b) = if nat_le i (length list) then length list + 1 else length list
+new_length list command = length (list_after_one list command)
+
+-- no command asks for more bits than a vector holds
+abbrev pub AllFit : List Bool → List Command → Type 0
+AllFit list [] = Unit {0}
+AllFit list (command ∷ commands) = (new_length list command ≤ MAX_BITS) × AllFit (list_after_one list command) commands
+
+-- a command was refused at this list, for this reason: it asks for more bits than a vector holds, or it grows the list
+abbrev pub IsRefusal : List Bool → Command → GrowError → Type 0
+IsRefusal list command TooLong = MAX_BITS < new_length list command
+IsRefusal list command OutOfMemory = (length list < new_length list command) × (new_length list command ≤ MAX_BITS)
+
+-- a run stopped before the command at `done`, with this list: the command was refused, or at the very beginning there was no memory for the replies
+abbrev pub IsStopReason : List Bool → List Command → ℕ → GrowError → Type 0
+IsStopReason list commands done why =
+    ((command : Command) × (slice_get commands done ≡ Some command) × IsRefusal list command why)
+    ⊎ ((why ≡ OutOfMemory) × (done ≡ 0) × (0 < length commands))

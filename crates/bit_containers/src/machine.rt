@@ -1,0 +1,207 @@
+//! Runs of commands.
+ghost use Rattle.std.specs.Prelude.{◌≡◌, ℕ, ◌+◌, ◌-◌, ◌<◌, ◌≤◌, List, [], ◌∷◌, ◌++◌, length, take, OnOk, OnErr, IfOk, IfErr, MatchResult};
+ghost use Rattle.bit_addressing.specs.declared.length.TheConstants.{MAX_BITS};
+ghost use Rattle.bit_containers.specs.Machine.{list_after_one, reply_to, list_after, replies_of, AllFit, IsRefusal, IsStopReason, new_length};
+
+use crate::vec::BitVec;
+use bit_addressing::{BitOrder, BitStore, GrowError};
+
+/// What to do to a list of bits.
+#[derive(Clone, Copy, PartialEq, Eq, Debug)]
+pub enum Command {
+    /// Joins a bit.
+    Push(bool),
+    /// Takes the last bit.
+    Pop,
+    /// Asks for the bit at an index.
+    Get(usize),
+    /// Writes a bit at an index.
+    Set(usize, bool),
+    /// Puts a bit before the item at an index, or at the end.
+    Insert(usize, bool),
+    /// Takes the bit at an index, and closes up.
+    Remove(usize),
+    /// Takes the bit at an index, and puts the last one in its place.
+    SwapRemove(usize),
+    /// Keeps the first items.
+    Truncate(usize),
+    /// Copies the range from the first index to the second to the place from the third on.
+    CopyWithin(usize, usize, usize),
+    /// Moves the bits to the beginning of their words; the list stays.
+    Align,
+    /// Asks for the length.
+    Len,
+}
+
+/// What a command replies.
+#[derive(Clone, Copy, PartialEq, Eq, Debug)]
+pub enum Reply {
+    /// It is done.
+    Done,
+    /// The bit that it asked for or took.
+    Bit(bool),
+    /// There was no bit to take.
+    Nothing,
+    /// The number that it asked for.
+    Number(usize),
+    /// Its index or range is out of range, and the list stayed.
+    OutOfRange,
+}
+
+/// How far a run came, and why it stopped.
+#[derive(Clone, Copy, PartialEq, Eq, Debug)]
+pub struct Stop {
+    /// How many commands were done.
+    pub done: usize,
+    /// Why the next one was not.
+    pub why: GrowError,
+}
+
+/// Writes a bit, where the index is below the length.
+fn set_at<T: BitStore, O: BitOrder>(v: &mut BitVec<T, O>, i: usize, b: bool) -> Reply
+    ensures reply { result ≡ reply_to v.old.list (Command.Set i b) }
+    ensures list { v.new.list ≡ list_after_one v.old.list (Command.Set i b) }
+    ensures len { length v.new.list ≡ length v.old.list }
+{
+    if i < v.len() {
+        v.set(i, b);
+        Reply::Done
+    } else {
+        Reply::OutOfRange
+    }
+}
+
+/// Puts a bit before an item, where the index is at most the length.
+fn insert_at<T: BitStore, O: BitOrder>(
+    v: &mut BitVec<T, O>,
+    i: usize,
+    b: bool,
+) -> Result<Reply, GrowError>
+    ensures reply { IfOk result (λ reply. reply ≡ reply_to v.old.list (Command.Insert i b)) }
+    ensures list { OnOk result (v.new.list ≡ list_after_one v.old.list (Command.Insert i b)) }
+    ensures fits { OnOk result (new_length v.old.list (Command.Insert i b) ≤ MAX_BITS) }
+    ensures unchanged { OnErr result (v.new.list ≡ v.old.list) }
+    ensures why { IfErr result (λ why. IsRefusal v.old.list (Command.Insert i b) why) }
+{
+    if i <= v.len() {
+        v.insert(i, b)?;
+        Ok(Reply::Done)
+    } else {
+        Ok(Reply::OutOfRange)
+    }
+}
+
+/// Takes a bit and closes up, where the index is below the length.
+fn remove_at<T: BitStore, O: BitOrder>(v: &mut BitVec<T, O>, i: usize) -> Reply
+    ensures reply { result ≡ reply_to v.old.list (Command.Remove i) }
+    ensures list { v.new.list ≡ list_after_one v.old.list (Command.Remove i) }
+    ensures len { length v.new.list ≤ length v.old.list }
+{
+    if i < v.len() {
+        Reply::Bit(v.remove(i))
+    } else {
+        Reply::OutOfRange
+    }
+}
+
+/// Takes a bit and puts the last in its place, where the index is below the length.
+fn swap_remove_at<T: BitStore, O: BitOrder>(v: &mut BitVec<T, O>, i: usize) -> Reply
+    ensures reply { result ≡ reply_to v.old.list (Command.SwapRemove i) }
+    ensures list { v.new.list ≡ list_after_one v.old.list (Command.SwapRemove i) }
+    ensures len { length v.new.list ≤ length v.old.list }
+{
+    if i < v.len() {
+        Reply::Bit(v.swap_remove(i))
+    } else {
+        Reply::OutOfRange
+    }
+}
+
+/// Copies a range, where it is one of the list and has room at its destination.
+fn copy_at<T: BitStore, O: BitOrder>(
+    v: &mut BitVec<T, O>,
+    from: usize,
+    upto: usize,
+    dest: usize,
+) -> Reply
+    ensures reply { result ≡ reply_to v.old.list (Command.CopyWithin from upto dest) }
+    ensures list { v.new.list ≡ list_after_one v.old.list (Command.CopyWithin from upto dest) }
+    ensures len { length v.new.list ≡ length v.old.list }
+{
+    let len = v.len();
+    if from <= upto && upto <= len && dest <= len - (upto - from) {
+        v.copy_within(from..upto, dest);
+        Reply::Done
+    } else {
+        Reply::OutOfRange
+    }
+}
+
+/// Does one command.
+fn step<T: BitStore, O: BitOrder>(
+    v: &mut BitVec<T, O>,
+    command: Command,
+) -> Result<Reply, GrowError>
+    ensures reply { IfOk result (λ reply. reply ≡ reply_to v.old.list command) }
+    ensures list { OnOk result (v.new.list ≡ list_after_one v.old.list command) }
+    ensures fits { OnOk result (new_length v.old.list command ≤ MAX_BITS) }
+    ensures unchanged { OnErr result (v.new.list ≡ v.old.list) }
+    ensures why { IfErr result (λ why. IsRefusal v.old.list command why) }
+{
+    let len = v.len();
+    match command {
+        Command::Push(b) => {
+            v.push(b)?;
+            Ok(Reply::Done)
+        }
+        Command::Pop => Ok(v.pop().map_or(Reply::Nothing, Reply::Bit)),
+        Command::Get(i) => Ok(v.get(i).map_or(Reply::OutOfRange, Reply::Bit)),
+        Command::Set(i, b) => Ok(set_at(v, i, b)),
+        Command::Insert(i, b) => insert_at(v, i, b),
+        Command::Remove(i) => Ok(remove_at(v, i)),
+        Command::SwapRemove(i) => Ok(swap_remove_at(v, i)),
+        Command::Truncate(n) => {
+            v.truncate(n);
+            Ok(Reply::Done)
+        }
+        Command::CopyWithin(from, upto, dest) => Ok(copy_at(v, from, upto, dest)),
+        Command::Align => {
+            v.force_align();
+            Ok(Reply::Done)
+        }
+        Command::Len => Ok(Reply::Number(len)),
+    }
+}
+
+/// Does the commands in order, and appends a reply for each.
+///
+/// Memory for all replies is taken first. A command whose index or range is out of range replies
+/// `OutOfRange` and the run goes on; a command that would grow the vector and is refused stops it.
+pub fn run<T: BitStore, O: BitOrder>(
+    v: &mut BitVec<T, O>,
+    commands: &[Command],
+    replies: &mut Vec<Reply>,
+) -> Result<(), Stop>
+    ensures replies { OnOk result (replies.new.items ≡ replies.old.items ++ replies_of v.old.list commands.now) }
+    ensures list { OnOk result (v.new.list ≡ list_after v.old.list commands.now) }
+    ensures fit { OnOk result (AllFit v.old.list commands.now) }
+    ensures stopped_replies { IfErr result (λ stop.
+        replies.new.items ≡ replies.old.items ++ replies_of v.old.list (take stop.done commands.now)) }
+    ensures stopped_list { IfErr result (λ stop. v.new.list ≡ list_after v.old.list (take stop.done commands.now)) }
+    ensures stopped_fit { IfErr result (λ stop. AllFit v.old.list (take stop.done commands.now)) }
+    ensures why { IfErr result (λ stop. IsStopReason v.new.list commands.now stop.done stop.why) }
+{
+    if replies.reserve(commands.len()).is_err() {
+        return Err(Stop {
+            done: 0,
+            why: GrowError::OutOfMemory,
+        });
+    }
+    for (done, command) in commands.iter().enumerate() {
+        match step(v, *command) {
+            Ok(reply) => replies.push_reserved(reply),
+            Err(why) => return Err(Stop { done, why }),
+        }
+    }
+    Ok(())
+}

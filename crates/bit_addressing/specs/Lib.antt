@@ -2,4 +2,5 @@ pub mod Bits
 pub mod Order
 pub mod Row
 pub mod Typed
+pub mod Text
 pub mod Examples

@@ -1,3 +1,4 @@
 pub mod Held
 pub mod Growth
+pub mod Lends
 pub mod Machine

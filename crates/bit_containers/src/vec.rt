@@ -9,6 +9,8 @@ use std::alloc::Global;
 use std::marker::{Model, PhantomData};
 
 mod api;
+mod traits;
+mod views;
 
 /// A vector of truth values, one bit each, in words of type `T`, in the order `O` of the bits in a word.
 ///

@@ -2,6 +2,8 @@
 #![tactic(auto)]
 
 mod machine;
+#[cfg(test)]
+mod tests;
 mod vec;
 
 pub use bit_addressing::{BitOrder, BitRegister, BitStore, GrowError, Lsb0, MAX_BITS, Msb0};

@@ -6,7 +6,7 @@
 //! end in `_in` work on the words of a vector, and keep its capacity.
 ghost use Rattle.std.specs.Prelude.{◌≡◌, ℕ, ◌+◌, ◌-◌, ◌*◌, ◌/◌, ◌%◌, ◌^◌, ◌<◌, ◌≤◌, if◌then◌else◌, Bool, false, not, [], ◌∷◌, map, length, replicate, slice_index_or, slice_range, set, OnOk, OnErr, vec_capacity};
 ghost use Rattle.bit_addressing.specs.Bits.{has_bit};
-ghost use Rattle.bit_addressing.specs.Row.{words_for, put, sized, moved};
+ghost use Rattle.bit_addressing.specs.Row.{words_for, put, sized, filled, moved};
 ghost use Rattle.bit_addressing.specs.declared.length.TheConstants.{MAX_BITS};
 ghost use Rattle.bit_addressing.specs.Typed.{row};
 
@@ -94,6 +94,19 @@ pub fn fill_bits<T: BitStore, O: BitOrder>(words: &mut [T], from: usize, upto: u
         words[k] = full;
     }
     write_part::<T, O>(words, last, 0, end, full);
+}
+
+/// Writes `bit` at every place of the row outside `head..head + len`, and no other bit.
+/// The condition: `head + len` is at most the row's length, which is below 2 to the power 64.
+pub fn fill_outside<T: BitStore, O: BitOrder>(words: &mut [T], head: usize, len: usize, bit: bool)
+    requires within { head + len ≤ T.BITS * length words.old }
+    requires fits { T.BITS * length words.old < 2 ^ 64 }
+    ensures bits { row T.BitStore O.BitOrder words.new ≡ filled (row T.BitStore O.BitOrder words.old) head len bit }
+    ensures size { length words.new ≡ length words.old }
+{
+    let all = T::BITS as usize * words.len();
+    fill_bits::<T, O>(words, 0, head, bit);
+    fill_bits::<T, O>(words, head + len, all, bit);
 }
 
 /// Flips every bit of the row.
@@ -292,6 +305,22 @@ pub fn fill_bits_in<T: BitStore, O: BitOrder>(
     ensures capacity { vec_capacity words.new ≡ vec_capacity words.old }
 {
     fill_bits::<T, O>(words.as_mut_slice(), from, upto, bit);
+}
+
+/// As `fill_outside`, in the words of a vector.
+pub fn fill_outside_in<T: BitStore, O: BitOrder>(
+    words: &mut Vec<T>,
+    head: usize,
+    len: usize,
+    bit: bool,
+)
+    requires within { head + len ≤ T.BITS * length words.old.items }
+    requires fits { T.BITS * length words.old.items < 2 ^ 64 }
+    ensures bits { row T.BitStore O.BitOrder words.new.items ≡ filled (row T.BitStore O.BitOrder words.old.items) head len bit }
+    ensures size { length words.new.items ≡ length words.old.items }
+    ensures capacity { vec_capacity words.new ≡ vec_capacity words.old }
+{
+    fill_outside::<T, O>(words.as_mut_slice(), head, len, bit);
 }
 
 /// As `flip_bits`, in the words of a vector.

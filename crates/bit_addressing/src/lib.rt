@@ -13,9 +13,9 @@ mod tests;
 mod word_row;
 
 pub use bits::{
-    copy_bits, copy_bits_alike, copy_bits_in, cut_words, fill_bits, fill_bits_in, flip_bits,
-    flip_bits_in, move_bits, move_bits_in, push_bit, read_bit, resize_words, write_bit,
-    write_bit_in,
+    copy_bits, copy_bits_alike, copy_bits_in, cut_words, fill_bits, fill_bits_in, fill_outside,
+    fill_outside_in, flip_bits, flip_bits_in, move_bits, move_bits_in, push_bit, read_bit,
+    resize_words, write_bit, write_bit_in,
 };
 pub use index::{BitEnd, BitIdx, BitPos};
 pub use length::{GrowError, MAX_BITS, elts};

@@ -1,6 +1,8 @@
 //! A vector of bits, and runs of commands over it.
 #![tactic(auto)]
 
+#[cfg(test)]
+mod callers;
 mod machine;
 #[cfg(test)]
 mod tests;

@@ -1,5 +1,6 @@
 //! Worked rows, and each public call once.
 use crate::{BitOrder, BitStore, BitVec, Command, GrowError, Lsb0, MAX_BITS, Msb0, Reply, run};
+use bit_slice::BitSlice;
 use std::alloc::Global;
 use std::process::Abort;
 use std::test::Fail;
@@ -108,6 +109,75 @@ fn copying_and_aligning(rt: HostRuntime) -> Result<(), Fail> {
 }
 
 #[test]
+fn copies_of_views(rt: HostRuntime) -> Result<(), Fail> {
+    let words = [0xaf, 0xff];
+    let view = BitSlice::<u8, Lsb0>::from_slice(&words);
+    let v = BitVec::from_bitslice(rt.alloc(), view.get_range(3..11))?;
+    assert_eq!(rt; v.as_raw_slice(), [0xa8, 0x07].as_slice());
+    assert_eq!(rt; v.head(), 3);
+    let copy = v.clone()?;
+    assert_eq!(rt; copy.as_raw_slice(), [0xa8, 0x07].as_slice());
+    assert_eq!(rt; copy.head(), 3);
+    holds(&rt, &copy, b"10101111");
+    let mut v = BitVec::from_bitslice(rt.alloc(), view.get_range(3..13))?;
+    assert_eq!(rt; v.as_raw_slice(), [0xa8, 0x1f].as_slice());
+    v.force_align();
+    assert_eq!(rt; v.as_raw_slice(), [0xf5, 0x1f].as_slice());
+    assert_eq!(rt; v.head(), 0);
+    assert_eq!(rt; v.len(), 10);
+    Ok(())
+}
+
+/// The edits of the row on [0,1,0,0,1], from every head of a byte.
+#[test]
+fn edits_at_each_head(rt: HostRuntime) -> Result<(), Fail> {
+    let words = [0xff, 0xff];
+    let view = BitSlice::<u8, Lsb0>::from_slice(&words);
+    for head in 0..8usize {
+        let mut v = BitVec::from_bitslice(rt.alloc(), view.get_range(head..head + 5))?;
+        assert!(rt; v.len() == 5);
+        v.set(0, false);
+        v.set(2, false);
+        v.set(3, false);
+        assert!(rt; v.len() == 5);
+        assert!(rt; !v.swap_remove(2));
+        assert!(rt; v.len() == 4);
+        v.insert(2, false)?;
+        holds(&rt, &v, b"01010");
+        assert!(rt; v.len() == 5);
+        assert!(rt; v.remove(3));
+        holds(&rt, &v, b"0100");
+        assert!(rt; v.len() == 4 && v.head() == head);
+        v.copy_within(0..2, 2);
+        holds(&rt, &v, b"0101");
+        v.force_align();
+        holds(&rt, &v, b"0101");
+    }
+    Ok(())
+}
+
+#[test]
+fn calls_of_a_view(rt: HostRuntime) -> Result<(), Fail> {
+    let mut v = of::<u16, Msb0>(rt.alloc(), b"0110")?;
+    assert!(rt; v.first() == Some(false) && v.last() == Some(false));
+    assert_eq!(rt; v.count_ones(), 2);
+    let mut ones = 0u8;
+    for bit in v.iter() {
+        ones = ones.saturating_add(bit as u8);
+    }
+    assert_eq!(rt; ones, 2);
+    assert!(rt; v.as_bitslice().len() == 4 && v.as_slice().len() == 4);
+    v.as_mut_bitslice().fill(true);
+    holds(&rt, &v, b"1111");
+    v.as_mut_slice().fill(false);
+    holds(&rt, &v, b"0000");
+    v.fill(true);
+    holds(&rt, &v, b"1111");
+    assert_eq!(rt; v.as_raw_slice(), [0xf000].as_slice());
+    Ok(())
+}
+
+#[test]
 fn raw_words(rt: HostRuntime) -> Result<(), Fail> {
     let mut v = of::<u8, Lsb0>(rt.alloc(), b"0000")?;
     for word in v.as_raw_mut_slice() {
@@ -121,7 +191,10 @@ fn raw_words(rt: HostRuntime) -> Result<(), Fail> {
 fn text(rt: HostRuntime) -> Result<(), Fail> {
     let v = of::<u8, Lsb0>(rt.alloc(), b"11010")?;
     assert_eq!(rt; format!(in rt.alloc(); "{v}")?.as_str(), "[1, 1, 0, 1, 0]");
-    assert_eq!(rt; format!(in rt.alloc(); "{v:>20}")?.as_str(), "[1, 1, 0, 1, 0]");
+    assert_eq!(rt;
+        format!(in rt.alloc(); "{v:>20}")?.as_str(),
+        "[1, 1, 0, 1, 0]"
+    );
     let v = BitVec::<u64, Msb0>::new(rt.alloc());
     assert_eq!(rt; format!(in rt.alloc(); "{v}")?.as_str(), "[]");
     Ok(())

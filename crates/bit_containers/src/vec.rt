@@ -1,11 +1,15 @@
 //! The vector: what it is, and how it is made and taken apart.
-ghost use Rattle.std.specs.Prelude.{◌≡◌, ◌*◌, ◌≤◌, ◌↔◌, [], IsTrue, length};
+ghost use Rattle.std.specs.Prelude.{◌≡◌, ◌*◌, ◌<◌, ◌≤◌, ◌↔◌, false, [], IsTrue, IfOk, OnErr, length};
 ghost use Rattle.bit_addressing.specs.declared.length.TheConstants.{MAX_BITS};
-ghost use Rattle.bit_addressing.specs.Row.{moved, sized};
+ghost use Rattle.bit_addressing.specs.Row.{filled, moved, sized};
 ghost use Rattle.bit_addressing.specs.Typed.{row};
+ghost use Rattle.bit_slice.specs.View.{words_of, head_of, len_of, row_of, list_of};
 
-use bit_addressing::{BitOrder, BitStore, Lsb0, MAX_BITS, cut_words, move_bits_in};
-use std::alloc::Global;
+use bit_addressing::{
+    BitOrder, BitStore, Lsb0, MAX_BITS, cut_words, fill_outside_in, move_bits_in,
+};
+use bit_slice::BitSlice;
+use std::alloc::{AllocError, Global};
 use std::marker::{Model, PhantomData};
 
 mod api;
@@ -88,6 +92,39 @@ impl<T: BitStore, O: BitOrder> BitVec<T, O> {
             len,
             order: PhantomData,
         }
+    }
+
+    /// The bits of a view: its head is kept, its words are copied, and their dead bits are false. Takes
+    /// memory where the view has a word, and is refused only then.
+    pub fn from_bitslice(alloc: Global, view: BitSlice<'_, T, O>) -> Result<Self, AllocError>
+        ensures head { IfOk result (λ v. v.head ≡ head_of view.entry) }
+        ensures len { IfOk result (λ v. v.len ≡ len_of view.entry) }
+        ensures list { IfOk result (λ v. v.list ≡ list_of view.entry) }
+        ensures row { IfOk result (λ v. v.row ≡ filled (row_of view.entry) (head_of view.entry) (len_of view.entry) false) }
+        ensures memory { OnErr result (0 < length (words_of view.entry)) }
+    {
+        let (head, len) = (view.head(), view.len());
+        let mut words = Vec::new(alloc);
+        words.extend_from_slice(view.as_raw_slice())?;
+        fill_outside_in::<T, O>(&mut words, head, len, false);
+        Ok(BitVec {
+            words,
+            head,
+            len,
+            order: PhantomData,
+        })
+    }
+
+    /// A copy: as `from_bitslice` of the vector's view.
+    pub fn clone(&self) -> Result<Self, AllocError>
+        ensures head { IfOk result (λ v. v.head ≡ self.now.head) }
+        ensures len { IfOk result (λ v. v.len ≡ self.now.len) }
+        ensures list { IfOk result (λ v. v.list ≡ self.now.list) }
+        ensures row { IfOk result (λ v. v.row ≡ filled self.now.row self.now.head self.now.len false) }
+        ensures memory { OnErr result (0 < length self.now.words) }
+    {
+        let alloc = *self.words.allocator();
+        Self::from_bitslice(alloc, self.as_bitslice())
     }
 
     /// The visible words, as they are. Takes no memory.

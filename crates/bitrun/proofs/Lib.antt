@@ -1,0 +1,4 @@
+pub mod Fields
+pub mod Going
+pub mod Lines
+pub mod Written

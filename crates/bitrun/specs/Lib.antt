@@ -1,0 +1,5 @@
+pub mod Line
+pub mod Script
+pub mod Progress
+pub mod Served
+pub mod Rows

@@ -1,0 +1,33 @@
+//! Runs command lines over a vector of bits.
+#![tactic(auto)]
+
+mod parsing;
+mod replying;
+mod serving;
+mod session;
+mod source;
+mod starting;
+#[cfg(test)]
+mod tests;
+
+use std::process::ExitCode;
+use std::{env, io};
+
+/// The words after the program's name.
+fn words(rt: &HostRuntime) -> io::Result<Vec<String>> {
+    let mut words = Vec::new(rt.alloc());
+    for word in env::args(rt)?.skip(1) {
+        words.push(word)?;
+    }
+    Ok(words)
+}
+
+fn main(rt: HostRuntime) -> ExitCode {
+    match words(&rt) {
+        Ok(words) => {
+            let status = starting::start(rt.alloc(), words.as_slice(), rt.stdin(), rt.stdout());
+            ExitCode::from(status)
+        }
+        Err(_) => ExitCode::from(1),
+    }
+}

@@ -1,0 +1,71 @@
+-- Runs of a row, item by item: what a view shows and what an iterator has left.
+use Rattle.std.proofs.Common.{◌≡◌, ℕ, suc, ◌+◌, ◌-◌, ◌<◌, ◌≤◌, Bool, true, false, not, List, [], ◌∷◌, ◌++◌, length, take, drop, set, get_or, slice_range, count_by, refl, sym, ◌∙◌, ap, arith, swap, cond}
+use Rattle.std.proofs.lemmas.List.{drop_more, take_all, length-take, length-drop, length-set, get_or-take, get_or-drop}
+use Rattle.std.proofs.lemmas.List.Edits.{between_more, swap_is}
+use Rattle.std.proofs.lemmas.List.Sums.{sum_by-cons}
+use Rattle.bit_addressing.specs.Row.{put}
+use Rattle.bit_addressing.proofs.Lists.{shows_put, shows_set}
+
+-- ---- what an iterator has left
+
+pub length-run : (xs : List Bool) (from upto : ℕ) → from ≤ upto → upto ≤ length xs → length (slice_range xs from upto) ≡ upto - from
+length-run xs from upto h k = simp (length-take, length-drop) (omega arith)
+
+pub run_none : (xs : List Bool) (from upto : ℕ) → upto ≤ from → slice_range xs from upto ≡ []
+run_none xs from upto h = let e : upto - from ≡ 0 = omega arith in ap (λ n. take n (drop from xs)) e
+
+pub run_first : (xs : List Bool) (from upto : ℕ) (b : Bool) → from < upto → upto ≤ length xs → b ≡ get_or xs from false → slice_range xs from upto ≡ b ∷ slice_range xs (from + 1) upto
+run_first xs from upto b h k is =
+    let e : upto - from ≡ suc (upto - (from + 1)) = omega arith in
+    ap (λ n. take n (drop from xs)) e ∙ ap (take (suc (upto - (from + 1)))) (drop_more xs from false (omega arith)) ∙ ap (λ x. x ∷ slice_range xs (from + 1) upto) (sym is)
+
+pub run_last : (xs : List Bool) (from upto : ℕ) (b : Bool) → from < upto → upto ≤ length xs → b ≡ get_or xs (upto - 1) false → slice_range xs from upto ≡ slice_range xs from (upto - 1) ++ b ∷ []
+run_last xs from upto b h k is =
+    let e : upto ≡ upto - 1 + 1 = omega arith in
+    ap (slice_range xs from) e ∙ between_more xs from (upto - 1) false (omega arith) (omega arith) ∙ ap (λ x. slice_range xs from (upto - 1) ++ x ∷ []) (sym is)
+
+-- ---- what a view shows
+
+pub shown_item : (xs : List Bool) (head len i : ℕ) (b : Bool) → i < len → head + len ≤ length xs → b ≡ get_or xs (head + i) false → b ≡ get_or (slice_range xs head (head + len)) i false
+shown_item xs head len i b h k is = is ∙ sym (get_or-take (head + len - head) (drop head xs) i false (omega arith) ∙ get_or-drop head xs i false)
+
+pub shown_all : (xs : List Bool) (len : ℕ) → len ≡ length xs → slice_range xs 0 (0 + len) ≡ xs
+shown_all xs len is = take_all (0 + len - 0) xs (omega arith)
+
+pub shown_filled : (xs ys : List Bool) (head len : ℕ) → len ≡ length ys → head + len ≤ length xs → slice_range (put xs head ys) head (head + len) ≡ ys
+shown_filled xs ys head len is h =
+    ap (λ n. slice_range (put xs head ys) head (head + n)) is ∙ shows_put xs ys head head (omega arith) (omega arith) ∙ ap (λ l. l ++ ys) (run_none xs head head (omega arith))
+
+-- two items change places
+pub shown_swapped : (xs : List Bool) (head len i j : ℕ) → i < len → j < len → head + len ≤ length xs → slice_range (swap xs (head + i) (head + j)) head (head + len) ≡ swap (slice_range xs head (head + len)) i j
+shown_swapped xs head len i j h k room =
+    let list : List Bool = slice_range xs head (head + len) in
+    let size : length list ≡ head + len - head = length-run xs head (head + len) (omega arith) room in
+    let a : get_or list i false ≡ get_or xs (head + i) false = sym (shown_item xs head len i (get_or xs (head + i) false) h room refl) in
+    let b : get_or list j false ≡ get_or xs (head + j) false = sym (shown_item xs head len j (get_or xs (head + j) false) k room refl) in
+    let one : List Bool = set xs (head + i) (get_or xs (head + j) false) in
+    let long : length one ≡ length xs = length-set xs (head + i) (get_or xs (head + j) false) in
+    ap (λ l. slice_range l head (head + len)) (sym (swap_is xs (head + i) (head + j) false (omega arith) (omega arith)))
+    ∙ shows_set one head len j (get_or xs (head + i) false) k (omega arith)
+    ∙ ap (λ l. set l j (get_or xs (head + i) false)) (shows_set xs head len i (get_or xs (head + j) false) h room)
+    ∙ ap (λ x. set (set list i x) j (get_or xs (head + i) false)) (sym b) ∙ ap (λ x. set (set list i (get_or list j false)) j x) (sym a)
+    ∙ swap_is list i j false (omega arith) (omega arith)
+
+-- ---- counts
+
+true_or_false : (xs : List Bool) → count_by (λ b. b) xs + count_by not xs ≡ length xs
+true_or_false [] = refl
+true_or_false (true ∷ xs) =
+    let ones : count_by (λ b. b) (true ∷ xs) ≡ 1 + count_by (λ b. b) xs = sum_by-cons (λ x. cond x 1 0) true xs in
+    let zeros : count_by not (true ∷ xs) ≡ 0 + count_by not xs = sum_by-cons (λ x. cond (not x) 1 0) true xs in
+    let size : length (true ∷ xs) ≡ suc (length xs) = refl in
+    omega (arith, true_or_false xs)
+true_or_false (false ∷ xs) =
+    let ones : count_by (λ b. b) (false ∷ xs) ≡ 0 + count_by (λ b. b) xs = sum_by-cons (λ x. cond x 1 0) false xs in
+    let zeros : count_by not (false ∷ xs) ≡ 1 + count_by not xs = sum_by-cons (λ x. cond (not x) 1 0) false xs in
+    let size : length (false ∷ xs) ≡ suc (length xs) = refl in
+    omega (arith, true_or_false xs)
+
+-- what isn't true is false
+pub count_by-not : (xs : List Bool) (n ones : ℕ) → n ≡ length xs → ones ≡ count_by (λ b. b) xs → n - ones ≡ count_by not xs
+count_by-not xs n ones is counted = omega (arith, true_or_false xs)

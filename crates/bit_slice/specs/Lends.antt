@@ -1,0 +1,27 @@
+-- What becomes of a view whose words were lent on.
+use Rattle.std.specs.Prelude.{ℕ, List, [], length, refl}
+use Rattle.std.specs.List.{refill, length_refill}
+use Rattle.std.specs.Borrow.{follows, Fml, RattleType, MutBor, Array, GName}
+use Rattle.std.proofs.Common.{subst}
+use mir.Syntax.{named}
+use Rattle.bit_addressing.specs.declared.store.BitStore as store
+use Rattle.bit_addressing.specs.declared.order.BitOrder as order
+use Rattle.bit_slice.specs.Fits.{IsView}
+use Rattle.bit_slice.specs.declared.view_mut.BitSliceMut.{BitSliceMut}
+use Rattle.bit_slice.specs.contracts.view_mut.BitSliceMut.{the_row}
+
+module _ {X Y : Type 0} (W : store.Ghosts X) (P : order.Ghosts Y) where
+  -- the view with other words, as many as before
+  abbrev pub with_words : BitSliceMut X Y W P → List X → BitSliceMut X Y W P
+  with_words v ws =
+      let xs = v.words.now in
+      let n = length xs in
+      record v {
+        words = record v.words { now = refill n xs ws };
+        fits = subst (λ (k : ℕ). IsView W.BITS k v.head v.len) (length_refill n xs ws refl) v.fits;
+      }
+
+module _ (T O : RattleType) (W : store.Ghosts T.Denot) (P : order.Ghosts O.Denot) (v : MutBor (BitSliceMut T.Denot O.Denot W P)) where
+  -- the view ends with the last words under a name
+  abbrev pub lends_words : GName → Fml
+  lends_words n = follows (the_row (record { mir = named 1; lft = [] }) T O W P) (Array T 0) v.ghost_name n (with_words W P v.now)

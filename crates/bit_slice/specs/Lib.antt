@@ -1,0 +1,5 @@
+pub mod Fits
+pub mod View
+pub mod ViewMut
+pub mod Iter
+pub mod Lends

@@ -1,0 +1,95 @@
+//! Iterators over the bits of a view.
+ghost use Rattle.std.specs.Prelude.{◌≡◌, ℕ, ◌+◌, ◌*◌, ◌≤◌, length, slice_range, IfSome, Some};
+ghost use Rattle.bit_addressing.specs.declared.length.TheConstants.{MAX_BITS};
+ghost use Rattle.bit_addressing.specs.Typed.{row};
+ghost use Rattle.bit_slice.specs.Fits.{IsRun};
+
+use bit_addressing::{BitOrder, BitStore, read_bit};
+use std::iter::{DoubleEndedIterator, ExactSizeIterator, FusedIterator, Iterator};
+use std::marker::PhantomData;
+
+/// The bits of a view, from both ends, each once.
+///
+/// Its length is known, and after the first None there is no more. It takes no memory.
+#[derive(Drop)]
+pub struct Iter<'a, T: BitStore, O: BitOrder> {
+    words: &'a [T],
+    from: usize,
+    upto: usize,
+    order: PhantomData<O>,
+    ghost fits: { IsRun T.BITS (length words.now) from upto },
+}
+
+impl<'a, T: BitStore, O: BitOrder> Iter<'a, T, O> {
+    ghost use Rattle.bit_slice.specs.Iter.{rest_of};
+
+    // The bits at the places `from..upto` of the row of the words.
+    pub(crate) fn new(words: &'a [T], from: usize, upto: usize) -> Self
+        requires { IsRun T.BITS (length words.now) from upto }
+        ensures { rest_of result ≡ slice_range (row T.BitStore O.BitOrder words.now) from upto }
+    {
+        Iter {
+            words,
+            from,
+            upto,
+            order: PhantomData,
+        }
+    }
+}
+
+impl<'a, T: BitStore, O: BitOrder> Iterator for Iter<'a, T, O> {
+    ghost use Rattle.std.specs.Iterator.{YieldsFirst, UpTo, at_most, item_count};
+    ghost use Rattle.std.specs.Iterator.SizeHint.{IsWithinCount};
+    ghost use Rattle.bit_slice.specs.Iter.{rest_of};
+
+    type Item = bool;
+
+    ghost next_gives = { YieldsFirst rest_of };
+
+    ghost remaining = { item_count rest_of };
+
+    /// The first bit that is left. None exactly where none is.
+    fn next(&mut self) -> Option<bool> {
+        if self.from == self.upto {
+            return None;
+        }
+        let bit = read_bit::<T, O>(self.words, self.from);
+        self.from += 1;
+        Some(bit)
+    }
+
+    /// How many bits are left, twice.
+    fn size_hint(&self) -> (usize, Option<usize>)
+        ensures lower { IsWithinCount result.0 (at_most (length (rest_of self.now))) }
+        ensures upper { IfSome result.1 (UpTo (at_most (length (rest_of self.now)))) }
+        ensures value { result ≡ (length (rest_of self.now), Some (length (rest_of self.now))) }
+    {
+        let count = self.upto - self.from;
+        (count, Some(count))
+    }
+}
+
+impl<'a, T: BitStore, O: BitOrder> DoubleEndedIterator for Iter<'a, T, O> {
+    ghost use Rattle.std.specs.Iterator.{YieldsLast};
+    ghost use Rattle.bit_slice.specs.Iter.{rest_of};
+
+    ghost next_back_gives = { YieldsLast rest_of };
+
+    /// The last bit that is left. None exactly where none is.
+    fn next_back(&mut self) -> Option<bool> {
+        if self.upto == self.from {
+            return None;
+        }
+        self.upto -= 1;
+        Some(read_bit::<T, O>(self.words, self.upto))
+    }
+}
+
+impl<'a, T: BitStore, O: BitOrder> ExactSizeIterator for Iter<'a, T, O> {
+    /// How many bits are left.
+    fn len(&self) -> usize {
+        self.upto - self.from
+    }
+}
+
+impl<'a, T: BitStore, O: BitOrder> FusedIterator for Iter<'a, T, O> {}

@@ -24,6 +24,13 @@ room w b positive =
     let m : w * ((b + (w - 1)) / w) ≡ (b + (w - 1)) / w * w = mul_comm w ((b + (w - 1)) / w) in
     (omega arith, omega arith)
 
+-- words for at most so many bits, behind a head in the first word, have few bits to spare
+pub few_words : (w n head len most : ℕ) → 0 < w → head < w → len ≤ most → n ≡ words_for w (head + len) → w * n ≤ most + 2 * w
+few_words w n head len most positive below few exact =
+    let r = (room w (head + len) positive).1 in
+    let e : w * n ≡ w * words_for w (head + len) = ap (λ m. w * m) exact in
+    omega arith
+
 take-set-comm : (n : ℕ) (xs : List Bool) (i : ℕ) (b : Bool) → take n (set xs i b) ≡ set (take n xs) i b
 take-set-comm zero [] i b = refl
 take-set-comm zero (x ∷ xs) zero b = refl

@@ -9,7 +9,7 @@ use Rattle.bit_addressing.specs.declared.order.BitOrder as order
 use Rattle.std.proofs.lemmas.List.{length-map}
 use Rattle.bit_addressing.specs.Row.{words_for, sized, filled, IsCanonical}
 use Rattle.bit_addressing.specs.Typed.{row}
-use Rattle.bit_addressing.proofs.Lists.{room, shows_filled, length-shows, canonical_row}
+use Rattle.bit_addressing.proofs.Lists.{few_words as few, room, shows_filled, length-shows, canonical_row}
 use Rattle.bit_addressing.proofs.Rows.{width_positive}
 use Rattle.bit_addressing.proofs.Typed.{length_row}
 use Rattle.bit_addressing.specs.declared.length.TheConstants.{MAX_BITS}
@@ -86,9 +86,4 @@ kept W P old new head len room more same = record {
 
 -- the words of a vector have at most so many bits
 pub few_words : (w n head len : ℕ) → 0 < w → IsVector w n head len → w * n ≤ MAX_BITS + 2 * w
-few_words w n head len positive v =
-    let r = (room w (head + len) positive).1 in
-    let e : w * n ≡ w * words_for w (head + len) = ap (λ m. w * m) v.count in
-    let low = v.head_below in
-    let small = v.len_small in
-    omega arith
+few_words w n head len positive v = few w n head len MAX_BITS positive v.head_below v.len_small v.count

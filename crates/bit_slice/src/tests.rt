@@ -1,4 +1,4 @@
-ghost use Rattle.std.specs.Prelude.{◌≡◌, ℕ, ◌+◌, ◌*◌, ◌<◌, ◌≤◌, true, false, length, set, swap, slice_get, Some};
+ghost use Rattle.std.specs.Prelude.{◌≡◌, ℕ, ◌+◌, ◌*◌, ◌-◌, ◌<◌, ◌≤◌, true, false, length, set, swap, slice_get, Some};
 ghost use Rattle.bit_addressing.specs.Order.{xor4_place, xor4_lawful};
 ghost use Rattle.bit_addressing.specs.Typed.{row};
 ghost use Rattle.bit_slice.specs.ViewMut.{head_of, len_of, row_of, list_of, loan_of};
@@ -194,6 +194,21 @@ fn calls(rt: HostRuntime) {
     writes::<usize, Xor4>(&rt, &mut [0; 1]);
 }
 
+// One move in all the words, and the same move through a view whose head is 1.
+fn copied<O: BitOrder>(words: [u8; 2], from: usize, upto: usize, dest: usize) -> ([u8; 2], [u8; 2])
+    requires begin { 1 ≤ from }
+    requires order { from ≤ upto }
+    requires end { upto ≤ 16 }
+    requires place { 1 ≤ dest }
+    requires room { dest + (upto - from) ≤ 16 }
+{
+    let (mut whole, mut part) = (words, words);
+    BitSliceMut::<u8, O>::from_slice_mut(&mut whole).copy_within(from..upto, dest);
+    let mut view = BitSliceMut::<u8, O>::from_parts_mut(&mut part, 1, 15);
+    view.copy_within(from - 1..upto - 1, dest - 1);
+    (whole, part)
+}
+
 // Bits outside a view stay.
 #[test]
 #[tactic(auto, unfolding(bit_addressing::specs::Row::words_for))]
@@ -210,4 +225,27 @@ fn bits_outside(rt: HostRuntime) {
     exchange_in::<u8, Lsb0>(&mut words);
     assert_eq!(rt; words, [0x92, 0x00, 0xe0]);
     assert_eq!(rt; count_two(&[0x1234, 0xffff]), 21);
+}
+
+#[test]
+fn copies_within(rt: HostRuntime) {
+    let words = [0xb1_u8, 0x6d];
+    let after = [0xc1, 0x76];
+    assert_eq!(rt; copied::<Lsb0>(words, 1, 12, 3), (after, after));
+    let after = [0x6d, 0x6b];
+    assert_eq!(rt; copied::<Lsb0>(words, 3, 14, 1), (after, after));
+    let after = [0xb6, 0x8d];
+    assert_eq!(rt; copied::<Xor4>(words, 1, 12, 3), (after, after));
+    let mut word = [0x07_u8];
+    let mut view = BitSliceMut::<u8, Lsb0>::from_slice_mut(&mut word);
+    view.copy_within(3..3, 0);
+    assert_eq!(rt; view.as_raw_slice()[0], 0x07);
+    view.copy_within(0..3, 5);
+    assert_eq!(rt; word[0], 0xe7);
+    let mut bytes = [0x01_u8, 0x80, 0xff];
+    BitSliceMut::<u8, Lsb0>::from_slice_mut(&mut bytes).copy_within(..20, 4);
+    assert_eq!(rt; bytes, [0x11, 0x00, 0xf8]);
+    let mut words = [0x1234_u16, 0xabcd];
+    BitSliceMut::<u16, Lsb0>::from_slice_mut(&mut words).copy_within(8..24, 0);
+    assert_eq!(rt; words, [0xcd12, 0xabcd]);
 }

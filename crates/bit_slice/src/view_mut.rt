@@ -2,14 +2,16 @@
 ghost use Rattle.std.specs.Prelude.{◌≡◌, ℕ, ◌+◌, ◌-◌, ◌*◌, ◌/◌, ◌%◌, ◌<◌, ◌≤◌, ◌↔◌, Bool, false, not, length, count_by, replicate, set, slice_get, slice_index_or, slice_range, swap, IsTrue};
 ghost use Rattle.std.specs.List.{list_any, list_all};
 ghost use Rattle.std.specs.Borrow.{sem};
-ghost use Rattle.bit_addressing.specs.Row.{words_for, put};
+ghost use Rattle.bit_addressing.specs.Row.{words_for, put, moved};
 ghost use Rattle.bit_addressing.specs.Typed.{row};
 ghost use Rattle.bit_addressing.specs.declared.length.TheConstants.{MAX_BITS};
 ghost use Rattle.bit_slice.specs.Fits.{IsView};
 
 use crate::iter::Iter;
 use crate::view::BitSlice;
-use bit_addressing::{BitOrder, BitStore, RangeExt, copy_bits, fill_bits, read_bit, write_bit};
+use bit_addressing::{
+    BitOrder, BitStore, RangeExt, copy_bits, fill_bits, move_bits, read_bit, write_bit,
+};
 use std::marker::PhantomData;
 use std::ops::Index;
 
@@ -248,6 +250,23 @@ impl<'a, T: BitStore, O: BitOrder> BitSliceMut<'a, T, O> {
         ensures len { len_of self.new ≡ len_of self.old }
     {
         fill_bits::<T, O>(self.words, self.head, self.head + self.len, b);
+    }
+
+    /// Copies the bits at a range of indices to the places from `dest` on, as if they were read before
+    /// any is written. The runs may overlap. The condition: the range and the places lie in the view.
+    pub fn copy_within<R: RangeExt>(&mut self, range: R, dest: usize)
+        requires ordered { R.start_of range ≤ R.end_of range (len_of self.old) }
+        requires within { R.end_of range (len_of self.old) ≤ len_of self.old }
+        requires room { dest + (R.end_of range (len_of self.old) - R.start_of range) ≤ len_of self.old }
+        ensures same_words { loan_of self.new ≡ loan_of self.old }
+        ensures row { row_of self.new ≡ moved (row_of self.old) (head_of self.old + R.start_of range) (head_of self.old + dest) (R.end_of range (len_of self.old) - R.start_of range) }
+        ensures list { list_of self.new ≡ moved (list_of self.old) (R.start_of range) dest (R.end_of range (len_of self.old) - R.start_of range) }
+        ensures head { head_of self.new ≡ head_of self.old }
+        ensures len { len_of self.new ≡ len_of self.old }
+    {
+        let range = range.normalize(self.len);
+        let (from, to) = (self.head + range.start, self.head + dest);
+        move_bits::<T, O>(self.words, from, to, range.end - range.start);
     }
 
     /// Writes the bits of another view, of any word type and order, in its order. Each word of it is

@@ -1,0 +1,27 @@
+use Rattle.std.proofs.Common.{◌≡◌, ℕ, ◌+◌, ◌-◌, Bool, List, length, slice_range, sym, ◌∙◌, ap, arith}
+use Rattle.bit_addressing.specs.Row.{moved}
+use Rattle.bit_addressing.specs.Typed.{row}
+use Rattle.bit_addressing.specs.declared.length.TheConstants.{MAX_BITS}
+use Rattle.bit_addressing.proofs.Lists.{few_words}
+use Rattle.bit_addressing.proofs.Rows.{width_positive}
+use Rattle.bit_addressing.proofs.MovedLists.{shows_moved}
+use Rattle.bit_slice.proofs.Parts.{in_row}
+use Rattle.bit_slice.proofs.view_mut.BitSliceMut.copy_within.Goals as goal
+
+pub move_bits-requires-clause-room : goal.move_bits-requires-clause-room
+move_bits-requires-clause-room g c =
+    let v = c.args.self.now in
+    few_words g.T.BitStore.BITS (length v.words.now) v.head v.len MAX_BITS (width_positive _ g.met.T.BitStore.width) v.fits.in_word v.fits.few v.fits.exact
+
+pub returns-clause-list : goal.returns-clause-list
+returns-clause-list g c =
+    let v = c.args.self.now in
+    let bits = row g.T.BitStore g.O.BitOrder v.words.now in
+    let from = c.normalize-range.result.start in
+    let upto = c.normalize-range.result.end in
+    let start = c.normalize-range.ensures.start in
+    let end = c.normalize-range.ensures.end in
+    ap (λ r. slice_range r v.head (v.head + v.len)) c.move_bits.ensures.bits
+    ∙ shows_moved bits v.head v.len from c.args.dest (upto - from) (omega arith) (omega arith) (in_row g.T.BitStore g.O.BitOrder v.words.now (v.head + v.len) v.fits.room)
+    ∙ ap (λ s. moved (slice_range bits v.head (v.head + v.len)) s c.args.dest (upto - s)) start
+    ∙ ap (λ e. moved (slice_range bits v.head (v.head + v.len)) (g.R.RangeExt.start_of c.args.range) c.args.dest (e - g.R.RangeExt.start_of c.args.range)) end

@@ -15,6 +15,7 @@ use types.Logic.{Logic, sem}
 use types.SemTy.{Body, Arr}
 use types.Through.{hands_through}
 use denote.Array.{Array}
+use denote.Builtin.{usize}
 use denote.Param.Laws.{Laws}
 use Rattle.bit_addressing.specs.declared.store.BitStore as store
 use Rattle.bit_addressing.specs.declared.order.BitOrder as order
@@ -69,6 +70,33 @@ module _ {M : Type 1} {𝓤 : Ura M} (𝓛 : Logic 𝓤) (T O : RattleType) (L :
       → ent 𝓤 (sep 𝓤 (sem 𝓛 (part_at S full_share y b (o + 0))) Kept) (sem 𝓛 (part_at (the_row a T O W P) full_share d' b o))
   back y d' e = subst (λ (X : Fml). ent 𝓤 (sep 𝓤 (sem 𝓛 (part_at S full_share y b (o + 0))) Kept) (sem 𝓛 X))
       (sym (part_apart N full_share d' (put_at N.parts 0 y ((struct a T O W P).as_values d)) e b o)) (field_fill N (the_loose a T O W P L L') 0 0 refl (λ w. w) (λ w. refl) M 𝓤 𝓛 ((struct a T O W P).as_values d) y b o)
+
+  -- the number in field k, off bytes from the view's place, is read while the rest is kept
+  module _ (k off : ℕ) where
+    abbrev KeptAt : SProp 𝓤
+    KeptAt = mean 𝓛 (kept_field N (the_loose a T O W P L L') k off M 𝓤 𝓛 ((struct a T O W P).as_values d) b o)
+
+  abbrev pub KeptHead : SProp 𝓤
+  KeptHead = KeptAt 1 16
+
+  abbrev pub KeptLen : SProp 𝓤
+  KeptLen = KeptAt 2 24
+
+  pub head_out : ent 𝓤 (sem 𝓛 (part_at (the_row a T O W P) full_share d b o)) (sep 𝓤 (sem 𝓛 (part_at usize full_share d.head b (o + 16))) KeptHead)
+  head_out = subst (λ (X : Fml). ent 𝓤 (sem 𝓛 X) (sep 𝓤 (sem 𝓛 (part_at usize full_share d.head b (o + 16))) KeptHead))
+      (sym (part_apart N full_share d ((struct a T O W P).as_values d) refl b o)) (field_apart N (the_loose a T O W P L L') 1 16 𝓛 refl refl ((struct a T O W P).as_values d) b o)
+
+  pub head_back : ent 𝓤 (sep 𝓤 (sem 𝓛 (part_at usize full_share d.head b (o + 16))) KeptHead) (sem 𝓛 (part_at (the_row a T O W P) full_share d b o))
+  head_back = subst (λ (X : Fml). ent 𝓤 (sep 𝓤 (sem 𝓛 (part_at usize full_share d.head b (o + 16))) KeptHead) (sem 𝓛 X))
+      (sym (part_apart N full_share d ((struct a T O W P).as_values d) refl b o)) (field_fill N (the_loose a T O W P L L') 1 16 refl (λ w. w) (λ w. refl) M 𝓤 𝓛 ((struct a T O W P).as_values d) d.head b o)
+
+  pub len_out : ent 𝓤 (sem 𝓛 (part_at (the_row a T O W P) full_share d b o)) (sep 𝓤 (sem 𝓛 (part_at usize full_share d.len b (o + 24))) KeptLen)
+  len_out = subst (λ (X : Fml). ent 𝓤 (sem 𝓛 X) (sep 𝓤 (sem 𝓛 (part_at usize full_share d.len b (o + 24))) KeptLen))
+      (sym (part_apart N full_share d ((struct a T O W P).as_values d) refl b o)) (field_apart N (the_loose a T O W P L L') 2 24 𝓛 refl refl ((struct a T O W P).as_values d) b o)
+
+  pub len_back : ent 𝓤 (sep 𝓤 (sem 𝓛 (part_at usize full_share d.len b (o + 24))) KeptLen) (sem 𝓛 (part_at (the_row a T O W P) full_share d b o))
+  len_back = subst (λ (X : Fml). ent 𝓤 (sep 𝓤 (sem 𝓛 (part_at usize full_share d.len b (o + 24))) KeptLen) (sem 𝓛 X))
+      (sym (part_apart N full_share d ((struct a T O W P).as_values d) refl b o)) (field_fill N (the_loose a T O W P L L') 2 24 refl (λ w. w) (λ w. refl) M 𝓤 𝓛 ((struct a T O W P).as_values d) d.len b o)
 
   -- what the loan of the words holds, the place of their reference, and both with the name's value
   abbrev Held : GName → Fml

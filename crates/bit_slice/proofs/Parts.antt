@@ -9,7 +9,7 @@ use Rattle.bit_addressing.specs.declared.order.BitOrder as order
 use Rattle.bit_addressing.specs.Typed.{row}
 use Rattle.bit_addressing.specs.Row.{row_of, words_for}
 use Rattle.bit_addressing.specs.declared.length.TheConstants.{MAX_BITS}
-use Rattle.bit_addressing.proofs.Lists.{room, words_for_all, words_for_le}
+use Rattle.bit_addressing.proofs.Lists.{few_words, room, words_for_all, words_for_le}
 use Rattle.bit_addressing.proofs.Rows.{width_positive, row_append, row_take, length-row_of}
 use Rattle.bit_addressing.proofs.Typed.{length_row}
 use Rattle.bit_slice.specs.Fits.{IsView}
@@ -27,6 +27,10 @@ pub whole : (w words len : ℕ) → IsWidth w → len ≤ MAX_BITS → len ≡ w
 whole w words len width few is =
     let positive = width_positive w width in
     made w words 0 len width positive few (words_for_all w words positive ∙ ap (words_for w) (let e : w * words ≡ 0 + len = omega arith in e))
+
+-- a view's words are few enough to be counted
+pub roomy : (w n head len : ℕ) → IsView w n head len → w * n ≤ MAX_BITS + 2 * w
+roomy w n head len v = let below = v.in_word in few_words w n head len MAX_BITS (omega arith) v.in_word v.few v.exact
 
 mul_add : (w a b : ℕ) → w * a + w * b ≡ w * (a + b)
 mul_add w a b = grind arith

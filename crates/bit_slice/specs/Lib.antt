@@ -3,3 +3,4 @@ pub mod View
 pub mod ViewMut
 pub mod Iter
 pub mod Lends
+pub mod Counted

@@ -1,12 +1,14 @@
 //! Views of bits in borrowed words: `BitSlice` for reading, and `BitSliceMut` for writing.
 #![tactic(auto)]
 
+mod counted;
 mod iter;
 #[cfg(test)]
 mod tests;
 mod view;
 mod view_mut;
 
+pub use counted::CountedMut;
 pub use iter::Iter;
 pub use view::BitSlice;
 pub use view_mut::BitSliceMut;

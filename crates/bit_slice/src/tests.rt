@@ -1,10 +1,12 @@
 ghost use Rattle.std.specs.Prelude.{◌≡◌, ℕ, ◌+◌, ◌*◌, ◌-◌, ◌<◌, ◌≤◌, true, false, length, set, swap, slice_get, Some};
 ghost use Rattle.bit_addressing.specs.Order.{xor4_place, xor4_lawful};
 ghost use Rattle.bit_addressing.specs.Typed.{row};
+ghost use Rattle.bit_addressing.specs.Row.{moved};
+ghost use Rattle.bit_slice.specs.Counted.{head_of as head_counted, len_of as len_counted, loan_of as loan_counted, list_of as list_counted, writes_of};
 ghost use Rattle.bit_slice.specs.ViewMut.{head_of, len_of, row_of, list_of, loan_of};
 ghost use Rattle.bit_addressing.specs.declared.length.TheConstants.{MAX_BITS};
 
-use crate::{BitSlice, BitSliceMut};
+use crate::{BitSlice, BitSliceMut, CountedMut};
 use bit_addressing::{BitIdx, BitOrder, BitPos, BitStore, Lsb0, MAX_BITS, Msb0};
 use std::process::Abort;
 use std::test::Fail;
@@ -194,6 +196,20 @@ fn calls(rt: HostRuntime) {
     writes::<usize, Xor4>(&rt, &mut [0; 1]);
 }
 
+// A counted move of bits 1..12 to 3 writes two words at most.
+#[tactic(auto, unfolding(bit_addressing::specs::Row::touched))]
+fn count_writes(view: &mut CountedMut<'_, u8, Lsb0>)
+    requires head { head_counted view.old ≡ 0 }
+    requires len { len_counted view.old ≡ 16 }
+    ensures same_words { loan_counted view.new ≡ loan_counted view.old }
+    ensures writes { writes_of view.new ≤ writes_of view.old + 2 }
+    ensures list { list_counted view.new ≡ moved (list_counted view.old) 1 3 11 }
+    ensures head { head_counted view.new ≡ head_counted view.old }
+    ensures len { len_counted view.new ≡ len_counted view.old }
+{
+    view.copy_within_counted(1..12, 3);
+}
+
 // One move in all the words, and the same move through a view whose head is 1.
 fn copied<O: BitOrder>(words: [u8; 2], from: usize, upto: usize, dest: usize) -> ([u8; 2], [u8; 2])
     requires begin { 1 ≤ from }
@@ -248,4 +264,28 @@ fn copies_within(rt: HostRuntime) {
     let mut words = [0x1234_u16, 0xabcd];
     BitSliceMut::<u16, Lsb0>::from_slice_mut(&mut words).copy_within(8..24, 0);
     assert_eq!(rt; words, [0xcd12, 0xabcd]);
+}
+
+// What is moved through a meter stands in the view's words.
+#[test]
+#[tactic(auto, unfolding(bit_addressing::specs::Row::words_for))]
+fn counted_move(rt: HostRuntime) {
+    let mut words = [0x05_u8, 0x00, 0xff];
+    let mut view = BitSliceMut::<u8, Lsb0>::from_parts_mut(&mut words, 2, 19);
+    let mut counted = view.counted_mut();
+    assert_eq!(rt; (counted.head(), counted.len()), (2, 19));
+    assert!(rt; !counted.is_empty());
+    counted.copy_within_counted(0..3, 8);
+    counted.copy_within_counted(8..=10, 6);
+    assert_eq!(rt; view.count_ones(), 7);
+    assert_eq!(rt; words, [0x05, 0x01, 0xff]);
+}
+
+#[test]
+#[tactic(auto, unfolding(bit_addressing::specs::Row::words_for))]
+fn counted_rows(rt: HostRuntime) {
+    let mut words = [0xb1_u8, 0x6d];
+    let mut view = BitSliceMut::<u8, Lsb0>::from_parts_mut(&mut words, 0, 16);
+    count_writes(&mut view.counted_mut());
+    assert_eq!(rt; words, [0xc1, 0x76]);
 }

@@ -7,6 +7,7 @@ ghost use Rattle.bit_addressing.specs.Typed.{row};
 ghost use Rattle.bit_addressing.specs.declared.length.TheConstants.{MAX_BITS};
 ghost use Rattle.bit_slice.specs.Fits.{IsView};
 
+use crate::counted::CountedMut;
 use crate::iter::Iter;
 use crate::view::BitSlice;
 use bit_addressing::{
@@ -102,6 +103,21 @@ impl<'a, T: BitStore, O: BitOrder> BitSliceMut<'a, T, O> {
         ensures words { result.now ≡ words_of self.old }
     {
         &mut *self.words
+    }
+
+    /// The view with a meter at 0, for moves whose word reads and writes are counted. What is moved
+    /// through it stands in the view when it ends.
+    pub fn counted_mut(&mut self) -> CountedMut<'_, T, O>
+        ensures* writes_back { sem 𝓛 (lends_words T.row O.row T.BitStore O.BitOrder self.entry result.row.words.ghost_name) }
+        ensures words { result.row.words.now ≡ words_of self.old }
+        ensures head { result.head ≡ head_of self.old }
+        ensures len { result.len ≡ len_of self.old }
+        ensures reads { result.row.meter.reads ≡ 0 }
+        ensures writes { result.row.meter.writes ≡ 0 }
+    {
+        let head = self.head;
+        let len = self.len;
+        CountedMut::of(&mut *self.words, head, len)
     }
 
     /// How many bits the view has.
@@ -254,6 +270,7 @@ impl<'a, T: BitStore, O: BitOrder> BitSliceMut<'a, T, O> {
 
     /// Copies the bits at a range of indices to the places from `dest` on, as if they were read before
     /// any is written. The runs may overlap. The condition: the range and the places lie in the view.
+    #[tactic(auto, using(crate::proofs::Parts::roomy))]
     pub fn copy_within<R: RangeExt>(&mut self, range: R, dest: usize)
         requires ordered { R.start_of range ≤ R.end_of range (len_of self.old) }
         requires within { R.end_of range (len_of self.old) ≤ len_of self.old }

@@ -1,17 +1,9 @@
-use Rattle.std.proofs.Common.{◌≡◌, ℕ, ◌+◌, ◌-◌, Bool, List, length, slice_range, sym, ◌∙◌, ap, arith}
+use Rattle.std.proofs.Common.{◌+◌, ◌-◌, slice_range, ◌∙◌, ap, arith}
 use Rattle.bit_addressing.specs.Row.{moved}
 use Rattle.bit_addressing.specs.Typed.{row}
-use Rattle.bit_addressing.specs.declared.length.TheConstants.{MAX_BITS}
-use Rattle.bit_addressing.proofs.Lists.{few_words}
-use Rattle.bit_addressing.proofs.Rows.{width_positive}
 use Rattle.bit_addressing.proofs.MovedLists.{shows_moved}
 use Rattle.bit_slice.proofs.Parts.{in_row}
 use Rattle.bit_slice.proofs.view_mut.BitSliceMut.copy_within.Goals as goal
-
-pub move_bits-requires-clause-room : goal.move_bits-requires-clause-room
-move_bits-requires-clause-room g c =
-    let v = c.args.self.now in
-    few_words g.T.BitStore.BITS (length v.words.now) v.head v.len MAX_BITS (width_positive _ g.met.T.BitStore.width) v.fits.in_word v.fits.few v.fits.exact
 
 pub returns-clause-list : goal.returns-clause-list
 returns-clause-list g c =

@@ -1,4 +1,5 @@
-//! Views of bits in borrowed words: `BitSlice` for reading, and `BitSliceMut` for writing.
+//! Views of bits in borrowed words: `BitSlice` for reading, `BitSliceMut` for writing, and `CountedMut` for
+//! moves whose reads and writes of words are counted.
 #![tactic(auto)]
 
 mod counted;

@@ -22,15 +22,18 @@ abbrev pub with_bit : (Bool → Command) → Option Bool → Option Line
 with_bit command None = None
 with_bit command (Some b) = Some (Run (command b))
 
+-- the line of a command with a number, where there is one
 abbrev pub with_number : (ℕ → Command) → Option ℕ → Option Line
 with_number command None = None
 with_number command (Some i) = Some (Run (command i))
 
+-- the line of a command with a number and a bit, where there are both
 abbrev pub with_number_and_bit : (ℕ → Bool → Command) → Option ℕ → Option Bool → Option Line
 with_number_and_bit command (Some i) (Some b) = Some (Run (command i b))
 with_number_and_bit command (Some i) None = None
 with_number_and_bit command None b = None
 
+-- the line of a command with three numbers, where there are all
 abbrev pub with_numbers : (ℕ → ℕ → ℕ → Command) → Option ℕ → Option ℕ → Option ℕ → Option Line
 with_numbers command (Some i) (Some j) (Some k) = Some (Run (command i j k))
 with_numbers command (Some i) (Some j) None = None

@@ -16,6 +16,7 @@ pub record Progress : Type 0 where
   pub number : ℕ
   pub out : List ℕ
 
+-- how a progress is written as a value
 abbrev pub progress_code : Coded Progress
 progress_code =
     code_by (List Bool × (List ℕ × (ℕ × List ℕ))) (coded× (coded_list coded_bool) (coded× (coded_list coded_ℕ) (coded× coded_ℕ (coded_list coded_ℕ))))

@@ -62,6 +62,7 @@ drop_empty_last (line ∷ next ∷ more) = line ∷ drop_empty_last (next ∷ mo
 abbrev pub lines_of : List ℕ → List (List ℕ)
 lines_of text = drop_empty_last (slice_split (λ b. b == 10) text)
 
+-- a line and the lines after it, or none where it is no line
 abbrev pub first_and : Option Line → List Line → List Line
 first_and None lines = []
 first_and (Some line) lines = line ∷ lines
@@ -81,6 +82,7 @@ abbrev pub first_text : List (List ℕ) → List ℕ
 first_text [] = []
 first_text (text ∷ texts) = text
 
+-- the texts of the lines after the first
 abbrev pub later_texts : List (List ℕ) → List (List ℕ)
 later_texts [] = []
 later_texts (text ∷ texts) = texts
@@ -116,6 +118,7 @@ ShowsNoWords text = All (λ bytes. line_of bytes ≢ Some ShowWords) (lines_of t
 
 -- ---- what is written
 
+-- a text with a line feed behind it
 abbrev pub with_line_feed : List ℕ → List ℕ
 with_line_feed text = text ++ 10 ∷ []
 

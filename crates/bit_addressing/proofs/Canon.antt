@@ -1,5 +1,5 @@
 -- Words from their row: canonical words of one list are the same words.
-use Rattle.std.proofs.Common.{◌≡◌, ◌↔◌, ℕ, ◌+◌, ◌-◌, ◌*◌, ◌/◌, ◌%◌, ◌^◌, ◌<◌, ◌≤◌, Bool, false, List, length, take, get_or, slice_range, replicate, refl, sym, ◌∙◌, ap, subst, arith}
+use Rattle.std.proofs.Common.{◌≡◌, ◌↔◌, ℕ, ◌+◌, ◌-◌, ◌*◌, ◌/◌, ◌%◌, ◌^◌, ◌<◌, Bool, false, List, length, take, get_or, replicate, refl, sym, ◌∙◌, ap, subst}
 use Rattle.std.proofs.lemmas.List.{ext_get_or, take_at, take_all}
 use Rattle.std.proofs.lemmas.Nat.{div-mul-add, mod-mul-add, mul-add-lt}
 use Rattle.bit_addressing.specs.Bits.{has_bit}
@@ -7,8 +7,8 @@ use Rattle.bit_addressing.proofs.Words.{same_word}
 use Rattle.bit_addressing.specs.Order.{IsPermutation}
 use Rattle.bit_addressing.proofs.Onto.{onto}
 use Rattle.bit_addressing.specs.Row.{row_bit, row_of, words_for, sized, IsCanonical}
-use Rattle.bit_addressing.proofs.Lists.{room, shows_sized, length-sized}
-use Rattle.bit_addressing.proofs.Rows.{length-row_of, get_or-row_of}
+use Rattle.bit_addressing.proofs.Lists.{room}
+use Rattle.bit_addressing.proofs.Rows.{get_or-row_of}
 
 -- each word is a number of w bits
 abbrev pub AreWords : ℕ → List ℕ → Type 0

@@ -1,11 +1,11 @@
 -- Lists of bits: put, sized, filled, and the part of a row that a container shows.
-use Rattle.std.proofs.Common.{true, ◌≡◌, ◌≢◌, ℕ, zero, suc, ◌+◌, ◌-◌, ◌*◌, ◌/◌, ◌%◌, ◌<◌, ◌≤◌, Bool, false, not, List, [], ◌∷◌, ◌++◌, map, length, take, drop, set, replicate, get_or, slice_range, min, refl, sym, ◌∙◌, ap, subst, inl, inr, arith}
-use Rattle.std.proofs.lemmas.List.{places, same_lists, take_all, take_at, drop_at, take-take, drop-drop, take-append-le, drop-append-le, append_assoc, append-nil, set_split, length-take, length-take-le, length-drop, length-append, length-replicate, length-set, length-map, drop-set-lt, drop-set-add, take-map, drop-map, drop_all, replicate_more, take-replicate, drop-replicate, drop-take, take-append-drop}
+use Rattle.std.proofs.Common.{true, ◌≡◌, ◌≢◌, ℕ, zero, suc, ◌+◌, ◌-◌, ◌*◌, ◌/◌, ◌%◌, ◌<◌, ◌≤◌, Bool, false, not, List, [], ◌∷◌, ◌++◌, map, length, take, drop, set, replicate, get_or, slice_range, refl, sym, ◌∙◌, ap, arith}
+use Rattle.std.proofs.lemmas.List.{places, same_lists, take_all, take_at, take-take, drop-append-le, append_assoc, append-nil, set_split, length-take, length-take-le, length-drop, length-append, length-replicate, drop-set-add, take-map, drop-map, take-append-drop}
 use Rattle.std.proofs.lemmas.List.Edits.{fill_from_more, paste_all, between_more}
 use Rattle.std.proofs.Common.{Some, None, slice_get}
 use Rattle.std.proofs.lemmas.Option.{slice_get_read, slice_get_past}
 use Rattle.std.proofs.lemmas.List.{get_or-take, get_or-drop, get_or_default, set-append_right, length_push, drop_more}
-use Rattle.std.proofs.Math.Nat.{div-mul-le_self, mod-lt, div-lt_iff_lt-mul, le_of_mul-le-mul_left}
+use Rattle.std.proofs.Math.Nat.{mod-lt, div-lt_iff_lt-mul, le_of_mul-le-mul_left}
 use Rattle.std.proofs.lemmas.Nat.{div-add-mod', div-mul-add}
 use Rattle.std.proofs.Common.{mul_comm, add-one, add-zero, rules}
 use Rattle.std.proofs.lemmas.Slice.{between_is}

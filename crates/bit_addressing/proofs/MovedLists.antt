@@ -1,12 +1,12 @@
 -- Lists in which a run was moved.
-use Rattle.std.proofs.Common.{◌≡◌, ◌≢◌, ℕ, ◌+◌, ◌-◌, ◌*◌, ◌<◌, ◌≤◌, Bool, false, List, [], ◌∷◌, ◌++◌, length, take, drop, set, get_or, slice_range, refl, sym, ◌∙◌, ap, subst, inl, inr, arith}
+use Rattle.std.proofs.Common.{◌≡◌, ◌≢◌, ℕ, ◌+◌, ◌-◌, ◌<◌, ◌≤◌, Bool, false, List, [], ◌∷◌, ◌++◌, length, take, drop, set, get_or, slice_range, sym, ◌∙◌, ap, subst, inl, inr, arith}
 use Rattle.std.specs.List.{insert, remove, swap_remove}
-use Rattle.std.proofs.lemmas.List.{ext_get_or, length-take, length-drop, length-set, length_push, get_or-take, get_or-drop, get_or-set_same, get_or-set_other, get_or_append_left}
+use Rattle.std.proofs.lemmas.List.{ext_get_or, length-take, length-set, length_push, get_or-take, get_or-drop, get_or-set_same, get_or-set_other, get_or_append_left}
 use Rattle.std.proofs.lemmas.List.FromFn.{length-map-range_with_len, get_or-map-range_with_len}
 use Rattle.std.proofs.lemmas.List.Edits.{length-insert, get_or-insert_below, get_or-insert_at, get_or-insert_above, length-remove, get_or-remove_below, get_or-remove_above}
 use Rattle.std.proofs.lemmas.Bool.{cases_lt, cases_order}
 use Rattle.std.proofs.lemmas.Bool.Decides.{nat_tests}
-use Rattle.bit_addressing.specs.Row.{source_of, moved, sized, words_for}
+use Rattle.bit_addressing.specs.Row.{source_of, moved, sized}
 use Rattle.bit_addressing.proofs.Lists.{length-shows, shows_sized, shows_set, shrunk_shows}
 use Rattle.bit_addressing.proofs.Moves.{source_below}
 

@@ -1,17 +1,17 @@
 -- Rows of words.
-use Rattle.std.proofs.Common.{◌≡◌, ◌≢◌, ℕ, zero, suc, ◌+◌, ◌-◌, ◌*◌, ◌/◌, ◌%◌, ◌<◌, ◌≤◌, Bool, false, not, if◌then◌else◌, eqb, leb, ltb, ◌&&◌, List, [], ◌∷◌, ◌++◌, map, length, take, drop, set, replicate, get_or, slice_range, refl, sym, ◌∙◌, ap, subst, inl, inr, arith}
+use Rattle.std.proofs.Common.{◌≡◌, ◌≢◌, ℕ, ◌+◌, ◌-◌, ◌*◌, ◌/◌, ◌%◌, ◌<◌, ◌≤◌, Bool, false, not, if◌then◌else◌, eqb, leb, ltb, ◌&&◌, List, [], ◌∷◌, ◌++◌, map, length, take, drop, set, replicate, get_or, slice_range, refl, sym, ◌∙◌, ap, subst, inl, inr, arith}
 use Rattle.std.proofs.lemmas.List.{ext_get_or, get_or-set_same, get_or-set_other, length-set, length-append, length-replicate, length-map, length-take, length-take-le, get_or-take, get_or-drop, length-drop, get_or_append_left, get_or-append_right, get_or-replicate, get_or-map, take_all}
-use Rattle.std.proofs.lemmas.List.FromFn.{length-map-range_with_len, get_or-map-range_with_len, take-map-range_with_len}
-use Rattle.std.proofs.lemmas.Nat.{div-add-mod', div-mul-add, mod-mul-add, mul-add-lt}
+use Rattle.std.proofs.lemmas.List.FromFn.{length-map-range_with_len, get_or-map-range_with_len}
+use Rattle.std.proofs.lemmas.Nat.{div-add-mod', div-mul-add, mod-mul-add}
 use Rattle.std.proofs.Math.Nat.{div-lt_iff_lt-mul, mod-lt}
-use Rattle.std.proofs.Common.{mul_comm, eq-eqb, min}
+use Rattle.std.proofs.Common.{mul_comm, eq-eqb}
 use Rattle.std.proofs.lemmas.Bool.{cases_lt, lt-leb, le-leb, lt-ltb, le-ltb}
 use Rattle.std.proofs.lemmas.List.{append-nil}
-use Rattle.std.proofs.lemmas.Bool.Decides.{nat_tests, eqb_tells}
+use Rattle.std.proofs.lemmas.Bool.Decides.{eqb_tells}
+use Rattle.bit_addressing.proofs.Words.{has_none}
 use Rattle.bit_addressing.specs.Bits.{has_bit, IsWidth}
 use Rattle.bit_addressing.specs.Order.{IsPermutation}
 use Rattle.std.proofs.lemmas.List.{get_or-append-add, take_at, take-append-drop}
-use Rattle.std.proofs.lemmas.Nat.Bits.{bit_at-zero}
 use Rattle.std.proofs.Math.Nat.{add-mul-div_left, add-mul-mod_self_left, mul-le-mul_left}
 use Rattle.std.proofs.Common.{add_comm}
 use Rattle.bit_addressing.proofs.Lists.{sized_cut, sized_more, length-put, put_before, put_inside, put_behind}
@@ -27,7 +27,7 @@ width_small w h = grind arith
 pub word_below : (w j n : ℕ) → 0 < w → j < w * n → j / w < n
 word_below w j n positive h = (div-lt_iff_lt-mul positive).1 (let e : w * n ≡ n * w = mul_comm w n in omega arith)
 
-mul_add : (w a b : ℕ) → w * a + w * b ≡ w * (a + b)
+pub mul_add : (w a b : ℕ) → w * a + w * b ≡ w * (a + b)
 mul_add w a b = grind arith
 
 mul_le : (w a b : ℕ) → a ≤ b → w * a ≤ w * b
@@ -47,9 +47,6 @@ behind_word w j k positive h =
     let e : w * (k + 1) ≡ k * w + w = grind arith in
     let f : w * (j / w) ≡ j / w * w = mul_comm w (j / w) in
     omega arith
-
-has_none : (p : ℕ) → has_bit 0 p ≡ false
-has_none p = ap (λ m. eqb m 1) (bit_at-zero p)
 
 module _ (place : ℕ → ℕ → ℕ) (w : ℕ) where
   pub length-row_of : (words : List ℕ) → length (row_of place w words) ≡ w * length words

@@ -1,6 +1,6 @@
 -- A run of a row that is written word by word: a part of the first word, whole words, and a part of the last.
-use Rattle.std.proofs.Common.{◌≡◌, ◌≢◌, ℕ, ◌+◌, ◌-◌, ◌*◌, ◌/◌, ◌%◌, ◌<◌, ◌≤◌, Bool, List, ◌++◌, length, take, drop, replicate, slice_range, refl, sym, ◌∙◌, ap, subst, arith, inl, inr}
-use Rattle.std.proofs.lemmas.List.{length-replicate, length-append, replicate-append-replicate, take-replicate, drop-replicate, length-take, length-drop, places, same_lists}
+use Rattle.std.proofs.Common.{◌≡◌, ◌≢◌, ℕ, ◌+◌, ◌-◌, ◌*◌, ◌/◌, ◌%◌, ◌<◌, ◌≤◌, Bool, List, ◌++◌, length, replicate, slice_range, sym, ◌∙◌, ap, subst, arith, inl, inr}
+use Rattle.std.proofs.lemmas.List.{length-replicate, length-append, replicate-append-replicate, length-take, length-drop, places, same_lists}
 use Rattle.std.proofs.lemmas.Nat.{div-add-mod', div-mul-add, le-div}
 use Rattle.std.proofs.Math.Nat.{mod-lt, mul-le-mul_left, div-mul-le_self}
 use Rattle.std.proofs.Common.{mul_comm, rules}

@@ -1,5 +1,5 @@
 -- Rows of words of a type.
-use Rattle.std.proofs.Common.{zero, suc, ◌∷◌, ◌≡◌, ◌≢◌, ℕ, ◌+◌, ◌-◌, ◌*◌, ◌/◌, ◌%◌, ◌<◌, ◌≤◌, Bool, false, not, if◌then◌else◌, eqb, leb, ltb, ◌&&◌, slice_range, List, [], ◌++◌, map, length, take, set, replicate, get_or, refl, sym, ◌∙◌, ap, subst, arith}
+use Rattle.std.proofs.Common.{zero, suc, ◌∷◌, ◌≡◌, ℕ, ◌+◌, ◌-◌, ◌*◌, ◌/◌, ◌%◌, ◌<◌, ◌≤◌, Bool, false, not, if◌then◌else◌, eqb, leb, ltb, ◌&&◌, slice_range, List, [], ◌++◌, map, length, take, set, replicate, get_or, refl, sym, ◌∙◌, ap, subst, arith}
 use Rattle.std.proofs.Common.{inl, inr}
 use Rattle.std.proofs.lemmas.List.{length-map, map-set, get_or-map, map-append, take-map, length-set, get_or-set_same, get_or-set_other, length-append, set-append_right, get_or-append_right, take_all}
 use Rattle.std.proofs.lemmas.Bool.Decides.{eqb_tells}
@@ -7,7 +7,7 @@ use Rattle.bit_addressing.specs.Bits.{has_bit}
 use Rattle.bit_addressing.specs.Order.{IsPermutation}
 use Rattle.bit_addressing.specs.Row.{row_of, words_for, put, sized}
 use Rattle.bit_addressing.proofs.Lists.{room, put_one, length-sized}
-use Rattle.bit_addressing.proofs.Rows.{resized, word_below, row_set, row_cut, row_flipped, row_blended, row_stored, row_repeated, row_within, get_or-row_of, length-row_of}
+use Rattle.bit_addressing.proofs.Rows.{resized, word_below, row_set, row_cut, row_flipped, row_blended, row_stored, row_within, get_or-row_of, length-row_of}
 
 module _ {X : Type 0} (value : X → ℕ) (place : ℕ → ℕ → ℕ) (w : ℕ) where
   pub length_row : (ws : List X) → length (row_of place w (map value ws)) ≡ w * length ws

@@ -25,7 +25,7 @@ has_not w a p h k =
     let e = bit_at_not w a p h k in let f = bit_at-lt a p in
     grind (arith, nat_tests, e, f)
 
-has_none : (p : ℕ) → has_bit 0 p ≡ false
+pub has_none : (p : ℕ) → has_bit 0 p ≡ false
 has_none p = ap (λ m. eqb m 1) (bit_at-zero p)
 
 pub has_xor : (a b p : ℕ) → has_bit (bit_xor a b) p ≡ (if has_bit a p then not (has_bit b p) else has_bit b p)

@@ -1,5 +1,5 @@
 -- The definitions on small inputs. Words are written in decimal, lists as they stand in memory's order.
-use Rattle.std.specs.Prelude.{◌≡◌, ℕ, ◌-◌, Bool, true, false, List, [], ◌∷◌, ◌++◌, replicate, refl}
+use Rattle.std.specs.Prelude.{◌≡◌, ◌-◌, true, false, [], ◌∷◌, ◌++◌, replicate, refl}
 use Rattle.bit_addressing.specs.Order.{xor4_place, scramble_place}
 use Rattle.bit_addressing.specs.Row.{row_of, words_for, put, sized, filled, moved, touched}
 

@@ -1,5 +1,5 @@
 -- Orders of the bits in a word, and the test by which an order proves its law.
-use Rattle.std.specs.Prelude.{◌≡◌, ℕ, ◌+◌, ◌-◌, ◌*◌, ◌%◌, ◌<◌, Bool, true, false, not, ◌&&◌, ◌||◌, eqb, ltb, zero, suc, refl, bit_xor}
+use Rattle.std.specs.Prelude.{◌≡◌, ℕ, ◌+◌, ◌-◌, ◌*◌, ◌%◌, ◌<◌, Bool, true, not, ◌&&◌, ◌||◌, eqb, ltb, zero, suc, refl, bit_xor}
 use Rattle.std.proofs.Common.{inl, inr, subst, sym, arith}
 use Rattle.std.proofs.lemmas.Bool.Decides.{Decides-below_and, Decides-ltb, nat_tests}
 use Rattle.bit_addressing.specs.Bits.{IsWidth}

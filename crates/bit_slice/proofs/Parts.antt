@@ -10,7 +10,7 @@ use Rattle.bit_addressing.specs.Typed.{row}
 use Rattle.bit_addressing.specs.Row.{row_of, words_for}
 use Rattle.bit_addressing.specs.declared.length.TheConstants.{MAX_BITS}
 use Rattle.bit_addressing.proofs.Lists.{few_words, room, words_for_all, words_for_le}
-use Rattle.bit_addressing.proofs.Rows.{width_positive, row_append, row_take, length-row_of}
+use Rattle.bit_addressing.proofs.Rows.{mul_add, width_positive, row_append, row_take, length-row_of}
 use Rattle.bit_addressing.proofs.Typed.{length_row}
 use Rattle.bit_slice.specs.Fits.{IsView}
 
@@ -31,9 +31,6 @@ whole w words len width few is =
 -- a view's words are few enough to be counted
 pub roomy : (w n head len : ℕ) → IsView w n head len → w * n ≤ MAX_BITS + 2 * w
 roomy w n head len v = let below = v.in_word in few_words w n head len MAX_BITS (omega arith) v.in_word v.few v.exact
-
-mul_add : (w a b : ℕ) → w * a + w * b ≡ w * (a + b)
-mul_add w a b = grind arith
 
 -- the words of a part are there
 pub part_room : (w n at len : ℕ) → 0 < w → at + len ≤ w * n → at / w + words_for w (at % w + len) ≤ n

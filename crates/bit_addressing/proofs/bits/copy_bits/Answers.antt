@@ -1,5 +1,4 @@
-use Rattle.std.proofs.Common.{◌≡◌, ◌≢◌, ℕ, ◌+◌, ◌*◌, ◌/◌, ◌%◌, ◌<◌, slice_range, refl, sym, ◌∙◌, ap, set, get_or, length, subst, arith, false, add-zero, add_assoc}
-use Rattle.bit_addressing.specs.Row.{put}
+use Rattle.std.proofs.Common.{◌≡◌, ℕ, ◌+◌, ◌*◌, ◌/◌, ◌%◌, refl, sym, ◌∙◌, ap, set, get_or, length, arith, false, add-zero, add_assoc}
 use Rattle.bit_addressing.specs.Typed.{row}
 use Rattle.bit_addressing.proofs.Lists.{copy_none, copy_more}
 use Rattle.bit_addressing.proofs.Runs.{same_word_next}

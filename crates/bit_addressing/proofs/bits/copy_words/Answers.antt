@@ -1,8 +1,8 @@
-use Rattle.std.proofs.Common.{◌≡◌, ℕ, ◌+◌, ◌-◌, ◌*◌, ◌/◌, ◌%◌, ◌<◌, ◌≤◌, Bool, List, [], ◌∷◌, length, slice_range, refl, sym, ◌∙◌, ap, subst, arith, rules}
+use Rattle.std.proofs.Common.{◌≡◌, ℕ, ◌+◌, ◌-◌, ◌*◌, ◌/◌, ◌%◌, ◌<◌, [], ◌∷◌, length, slice_range, sym, ◌∙◌, ap, subst, arith, rules}
 use Rattle.std.proofs.lemmas.Nat.{div-add-mod'}
 use Rattle.bit_addressing.specs.Row.{put}
 use Rattle.bit_addressing.specs.Typed.{row}
-use Rattle.bit_addressing.proofs.Runs.{IsRun, run_of, copied_parts, one_word, first_word, next_word, last_word, last_inside, one_more_word, source_word, inside_words, mul_mono}
+use Rattle.bit_addressing.proofs.Runs.{run_of, copied_parts, one_word, first_word, next_word, last_word, last_inside, one_more_word, source_word, inside_words, mul_mono}
 use Rattle.bit_addressing.proofs.Rows.{width_positive, word_below}
 use Rattle.bit_addressing.proofs.Typed.{length_row, row_replaced, row_piece, row_whole}
 use Rattle.bit_addressing.proofs.bits.copy_words.Goals as goal

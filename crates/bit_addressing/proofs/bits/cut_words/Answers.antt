@@ -1,5 +1,4 @@
-use Rattle.std.proofs.Common.{◌≡◌, ◌*◌, ◌∙◌, ap, subst, sym, ◌≤◌, length, arith}
-use Rattle.bit_addressing.specs.Row.{words_for}
+use Rattle.std.proofs.Common.{◌∙◌, ap, subst, sym, ◌≤◌, length}
 use Rattle.std.proofs.lemmas.List.{length-take-le}
 use Rattle.bit_addressing.specs.Typed.{row}
 use Rattle.bit_addressing.proofs.Lists.{words_for_le, room}

@@ -1,5 +1,5 @@
-use Rattle.std.proofs.Common.{◌≡◌, ℕ, ◌+◌, ◌-◌, ◌*◌, ◌/◌, ◌%◌, ◌<◌, ◌≤◌, Bool, List, [], ◌∷◌, replicate, length, map, slice_range, refl, sym, ◌∙◌, ap, subst, arith, rules}
-use Rattle.bit_addressing.specs.Row.{put, row_of}
+use Rattle.std.proofs.Common.{◌≡◌, ◌+◌, ◌-◌, ◌*◌, ◌/◌, ◌%◌, [], ◌∷◌, replicate, length, slice_range, sym, ◌∙◌, ap, arith, rules}
+use Rattle.bit_addressing.specs.Row.{put}
 use Rattle.bit_addressing.specs.Typed.{row}
 use Rattle.bit_addressing.proofs.Lists.{put_none}
 use Rattle.bit_addressing.proofs.Runs.{run_of, repeated_parts, slice_repeated, one_word, first_word, next_word, last_word, last_inside, one_more_word}

@@ -1,4 +1,4 @@
-use Rattle.std.proofs.Common.{◌≡◌, refl, ap, map, arith, length}
+use Rattle.std.proofs.Common.{refl, arith}
 use Rattle.bit_addressing.proofs.Rows.{width_positive}
 use Rattle.bit_addressing.proofs.Typed.{flip_word, flip_all}
 use Rattle.bit_addressing.proofs.bits.flip_bits.Goals as goal

@@ -1,9 +1,9 @@
-use Rattle.std.proofs.Common.{◌≡◌, ◌≢◌, ℕ, ◌+◌, ◌*◌, ◌/◌, ◌%◌, ◌<◌, ◌≤◌, [], ◌∷◌, ◌++◌, vec_len, length, map, set, refl, sym, ◌∙◌, ap, subst, arith}
+use Rattle.std.proofs.Common.{◌≡◌, ◌≢◌, ◌+◌, ◌*◌, ◌/◌, ◌%◌, ◌<◌, ◌≤◌, [], ◌∷◌, vec_len, length, sym, ◌∙◌, ap, arith}
 use Rattle.std.proofs.lemmas.List.{length-set, length-append}
 use Rattle.std.proofs.lemmas.Result.{err_from_is_err_and}
-use Rattle.bit_addressing.specs.Row.{words_for, put, row_of, sized}
+use Rattle.bit_addressing.specs.Row.{words_for, put}
 use Rattle.bit_addressing.specs.Typed.{row}
-use Rattle.bit_addressing.proofs.Lists.{room, put_one, sized_same, length-sized}
+use Rattle.bit_addressing.proofs.Lists.{room, put_one, sized_same}
 use Rattle.bit_addressing.proofs.Runs.{words_for_next, words_for_same}
 use Rattle.bit_addressing.proofs.Rows.{width_positive}
 use Rattle.bit_addressing.proofs.Typed.{row_pushed, row_write, length_row}

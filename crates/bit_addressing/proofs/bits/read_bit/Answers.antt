@@ -1,4 +1,4 @@
-use Rattle.std.proofs.Common.{◌≡◌, ◌/◌, ◌%◌, ◌∙◌, ap, ℕ}
+use Rattle.std.proofs.Common.{◌/◌, ap}
 use Rattle.bit_addressing.proofs.Rows.{width_positive}
 use Rattle.bit_addressing.proofs.Typed.{row_read}
 use Rattle.bit_addressing.proofs.bits.read_bit.Goals as goal

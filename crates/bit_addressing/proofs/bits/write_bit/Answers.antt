@@ -1,4 +1,4 @@
-use Rattle.std.proofs.Common.{◌≡◌, ◌/◌, ◌%◌, ◌∙◌, ap, ℕ}
+use Rattle.std.proofs.Common.{◌/◌, ap}
 use Rattle.bit_addressing.proofs.Rows.{width_positive}
 use Rattle.bit_addressing.proofs.Typed.{row_write}
 use Rattle.bit_addressing.proofs.bits.write_bit.Goals as goal

@@ -1,4 +1,4 @@
-use Rattle.std.proofs.Common.{◌≡◌, ℕ, ◌<◌, ◌&&◌, leb, ltb, arith}
+use Rattle.std.proofs.Common.{arith}
 use Rattle.bit_addressing.proofs.Rows.{width_positive}
 use Rattle.bit_addressing.proofs.Typed.{row_mended}
 use Rattle.bit_addressing.proofs.bits.write_part.Goals as goal

@@ -2,8 +2,17 @@ pub mod Words
 pub mod Onto
 pub mod Lists
 pub mod Runs
+pub mod Windows
 pub mod Rows
 pub mod Typed
 pub mod Canon
 pub mod Moves
 pub mod MovedLists
+pub mod Chunks
+pub mod Counts
+pub mod Differs
+pub mod Combined
+pub mod Reverse
+pub mod Wholes
+pub mod Packs
+pub mod Shifts

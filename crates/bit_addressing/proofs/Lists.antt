@@ -5,7 +5,7 @@ use Rattle.std.proofs.lemmas.List.Edits.{fill_from_more, paste_all, between_more
 use Rattle.std.proofs.Common.{Some, None, slice_get}
 use Rattle.std.proofs.lemmas.Option.{slice_get_read, slice_get_past}
 use Rattle.std.proofs.lemmas.List.{get_or-take, get_or-drop, get_or_default, set-append_right, length_push, drop_more}
-use Rattle.std.proofs.Math.Nat.{mod-lt, div-lt_iff_lt-mul, le_of_mul-le-mul_left}
+use Rattle.std.proofs.Math.Nat.{mod-lt, div-lt_iff_lt-mul, le_of_mul-le-mul_left, mul-le-mul_left}
 use Rattle.std.proofs.lemmas.Nat.{div-add-mod', div-mul-add}
 use Rattle.std.proofs.Common.{mul_comm, add-one, add-zero, rules}
 use Rattle.std.proofs.lemmas.Slice.{between_is}
@@ -193,6 +193,16 @@ canonical_row w xs len positive size =
     let r = (room w (0 + len) positive).0 in
     let short : length (slice_range xs 0 (0 + len)) ≡ 0 + len = length-shows xs 0 len (omega arith) ∙ omega arith in
     rw (short, take_all (w * words_for w (0 + len)) (slice_range xs 0 (0 + len)) (omega arith), size) refl
+
+-- a bit joined to a list and then false
+pub sized_joined : (w : ℕ) (bits : List Bool) (len : ℕ) (b : Bool) → 0 < w → length bits ≡ len → put (sized w (sized w bits len) (0 + len + 1)) (0 + len) (b ∷ []) ≡ sized w (bits ++ b ∷ []) (len + 1)
+unfolding put sized
+sized_joined w bits len b positive size =
+    let r = (room w len positive).0 in
+    let s = (room w (len + 1) positive).0 in
+    let more : w * words_for w len ≤ w * words_for w (len + 1) = mul-le-mul_left w (words_for_mono w len (len + 1) positive (omega arith)) in
+    let next : 0 + len + 1 ≡ len + 1 = omega arith in
+    rw next (same_lists _ _ (search (rules, places)) (λ i d below. grind (arith, places)))
 
 -- ---- whole calls
 

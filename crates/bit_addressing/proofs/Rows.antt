@@ -14,7 +14,7 @@ use Rattle.bit_addressing.specs.Order.{IsPermutation}
 use Rattle.std.proofs.lemmas.List.{get_or-append-add, take_at, take-append-drop}
 use Rattle.std.proofs.Math.Nat.{add-mul-div_left, add-mul-mod_self_left, mul-le-mul_left}
 use Rattle.std.proofs.Common.{add_comm}
-use Rattle.bit_addressing.proofs.Lists.{sized_cut, sized_more, length-put, put_before, put_inside, put_behind}
+use Rattle.bit_addressing.proofs.Lists.{words_for_le, length-sized, sized_cut, sized_more, length-put, put_before, put_inside, put_behind}
 use Rattle.bit_addressing.specs.Row.{row_bit, row_of, words_for, put, sized}
 
 pub width_positive : (w : ℕ) → IsWidth w → 0 < w
@@ -48,10 +48,26 @@ behind_word w j k positive h =
     let f : w * (j / w) ≡ j / w * w = mul_comm w (j / w) in
     omega arith
 
+none_times : (w : ℕ) → w * 0 ≡ 0
+none_times w = grind arith
+
+same_lists_none : (xs : List Bool) → length xs ≡ 0 → xs ≡ []
+same_lists_none [] h = refl
+same_lists_none (x ∷ xs) h = cc
+
+pub sized_none : (w : ℕ) → 0 < w → sized w [] 0 ≡ []
+sized_none w positive =
+    let few = words_for_le w 0 0 positive (omega arith) in
+    let zero_words : words_for w 0 ≡ 0 = omega arith in
+    same_lists_none (sized w [] 0) (length-sized w [] 0 ∙ ap (λ n. w * n) zero_words ∙ none_times w)
+
 module _ (place : ℕ → ℕ → ℕ) (w : ℕ) where
   pub length-row_of : (words : List ℕ) → length (row_of place w words) ≡ w * length words
   unfolding row_of
   length-row_of words = length-map-range_with_len (row_bit place w words) 0 (w * length words)
+
+  pub row_of_none : row_of place w [] ≡ []
+  row_of_none = same_lists_none (row_of place w []) (length-row_of [] ∙ none_times w)
 
   pub get_or-row_of : (words : List ℕ) (j : ℕ) → j < w * length words → get_or (row_of place w words) j false ≡ row_bit place w words j
   unfolding row_of

@@ -150,3 +150,11 @@ mask_down w low high back ones down up out i fits is h all inside past below abo
     | inr l ↦ rw (below (w - 1 - i) (omega arith), le-ltb i high l) refl
   ])
 ]
+
+-- ---- in words of other widths
+
+pub has_low : (x n p : ℕ) → p < n → has_bit (x % 2 ^ n) p ≡ has_bit x p
+has_low x n p h = ap (λ m. eqb m 1) (bit_at_mod x n p h)
+
+pub has_above : (x n p : ℕ) → x < 2 ^ n → n ≤ p → has_bit x p ≡ false
+has_above x n p h k = ap (λ m. eqb m 1) (bit_at_above x n p h k)

@@ -1,7 +1,7 @@
 -- The definitions on small inputs. Words are written in decimal, lists as they stand in memory's order.
 use Rattle.std.specs.Prelude.{◌≡◌, ◌-◌, true, false, [], ◌∷◌, ◌++◌, replicate, refl}
 use Rattle.bit_addressing.specs.Order.{xor4_place, scramble_place}
-use Rattle.bit_addressing.specs.Row.{row_of, words_for, put, sized, filled, moved, touched}
+use Rattle.bit_addressing.specs.Row.{row_of, packed, words_for, put, sized, filled, moved, touched}
 
 -- the word 1c (hexadecimal) from its lowest place, and from its highest
 lowest_first : row_of (λ w i. i) 8 (28 ∷ []) ≡ false ∷ false ∷ true ∷ true ∷ true ∷ false ∷ false ∷ false ∷ []
@@ -25,6 +25,19 @@ scrambled = refl
 word_by_word : row_of (λ w i. i) 8 (1 ∷ 128 ∷ []) ≡ (true ∷ []) ++ (replicate 14 false ++ true ∷ [])
 unfolding row_of
 word_by_word = refl
+
+-- the words of a row
+packed_lowest_first : packed (λ w i. i) 8 (false ∷ false ∷ true ∷ true ∷ true ∷ false ∷ false ∷ false ∷ []) ≡ 28 ∷ []
+unfolding packed
+packed_lowest_first = refl
+
+packed_highest_first : packed (λ w i. w - 1 - i) 8 (replicate 14 false ++ true ∷ true ∷ []) ≡ 0 ∷ 3 ∷ []
+unfolding packed
+packed_highest_first = refl
+
+packed_scrambled : packed scramble_place 8 (true ∷ true ∷ false ∷ false ∷ true ∷ false ∷ false ∷ false ∷ []) ≡ 137 ∷ []
+unfolding packed
+packed_scrambled = refl
 
 no_words : words_for 8 0 ≡ 0
 unfolding words_for

@@ -1,6 +1,7 @@
 -- Rows: the bits of words one after another, and what calls do to them.
-use Rattle.std.specs.Prelude.{◌≡◌, ℕ, ◌+◌, ◌-◌, ◌*◌, ◌/◌, ◌%◌, Bool, false, ◌&&◌, if◌then◌else◌, eqb, leb, ltb, List, ◌++◌, map, take, drop, length, replicate, slice_index_or, slice_range}
+use Rattle.std.specs.Prelude.{◌≡◌, ◌≢◌, ℕ, ◌+◌, ◌-◌, ◌*◌, ◌/◌, ◌%◌, ◌<◌, Bool, false, ◌&&◌, if◌then◌else◌, eqb, leb, ltb, List, ◌++◌, map, take, drop, length, replicate, slice_index_or, slice_range, zero, suc, ◌^◌, bit_or, [], ◌∷◌}
 use Rattle.std.specs.List.{range_with_len}
+use Rattle.std.specs.Simd.Lanes.{mask_l}
 use Rattle.bit_addressing.specs.Bits.{has_bit}
 
 -- bit j of the words in a row, each of w bits
@@ -10,6 +11,28 @@ row_bit place w words j = has_bit (slice_index_or words (j / w) 0) (place w (j %
 -- the bits of the words in a row, in the order of their places
 unfoldable pub row_of : (ℕ → ℕ → ℕ) → ℕ → List ℕ → List Bool
 row_of place w words = map (row_bit place w words) (range_with_len 0 (w * length words))
+
+-- the number whose bit `place i` is the first of these bits, whose bit `place (i + 1)` is the next, and so on; its other bits are 0
+abbrev pub gathered : (ℕ → ℕ) → ℕ → List Bool → ℕ
+gathered place i [] = 0
+gathered place i (b ∷ bits) = bit_or (if b then 2 ^ place i else 0) (gathered place (suc i) bits)
+
+-- n words, each of the next w bits of a list
+abbrev pub packed_words : (ℕ → ℕ) → ℕ → ℕ → List Bool → List ℕ
+packed_words place w zero bits = []
+packed_words place w (suc n) bits = gathered place 0 (take w bits) ∷ packed_words place w n (drop w bits)
+
+-- the words of w bits whose row is this list, where it is a row
+unfoldable pub packed : (ℕ → ℕ → ℕ) → ℕ → List Bool → List ℕ
+packed place w bits = packed_words (place w) w (length bits / w) bits
+
+-- the words of w bits for a list: its bits, and 0 behind them
+abbrev pub list_words : (ℕ → ℕ → ℕ) → ℕ → List Bool → List ℕ
+list_words place w bits = packed_words (place w) w ((length bits + (w - 1)) / w) bits
+
+-- each word is a number of w bits
+abbrev pub AreWords : ℕ → List ℕ → Type 0
+AreWords w words = (k : ℕ) → k < length words → slice_index_or words k 0 < 2 ^ w
 
 -- the least number of words of w bits that have room for b bits
 unfoldable pub words_for : ℕ → ℕ → ℕ
@@ -43,3 +66,13 @@ touched w d n = if eqb n 0 then 0 else ((d + n - 1) / w + 1) - d / w
 pub record IsCanonical (place : ℕ → ℕ → ℕ) (w : ℕ) (words : List ℕ) (bits : List Bool) : Type 0 where
   pub count : length words ≡ words_for w (length bits)
   pub row : row_of place w words ≡ sized w bits (length bits)
+
+-- the number whose bit i is item i of the list, and whose other bits are false
+unfoldable pub number_of : List Bool → ℕ
+number_of bits = mask_l bits
+
+-- k is the first place at which two lists of one length differ
+pub record IsFirstDifference (xs ys : List Bool) (k : ℕ) : Type 0 where
+  pub within : k < length xs
+  pub before : (i : ℕ) → i < k → slice_index_or xs i false ≡ slice_index_or ys i false
+  pub apart : slice_index_or xs k false ≢ slice_index_or ys k false

@@ -2,6 +2,8 @@
 #![tactic(auto)]
 
 mod bits;
+mod by_words;
+mod chunk;
 mod index;
 mod length;
 mod meter;
@@ -13,10 +15,11 @@ mod tests;
 mod word_row;
 
 pub use bits::{
-    copy_bits, copy_bits_alike, copy_bits_in, cut_words, fill_bits, fill_bits_in, fill_outside,
-    fill_outside_in, flip_bits, flip_bits_in, move_bits, move_bits_in, push_bit, read_bit,
-    resize_words, write_bit, write_bit_in,
+    And, BitOperator, Or, Xor, combine_bits, copy_bits, copy_bits_alike, copy_bits_in, cut_words,
+    exact_words, fill_bits, fill_bits_in, fill_outside, fill_outside_in, flip_bits, flip_bits_in,
+    move_bits, move_bits_in, push_bit, read_bit, resize_words, write_bit, write_bit_in,
 };
+pub use chunk::{count_bits, differ_at, read_chunk};
 pub use index::{BitEnd, BitIdx, BitPos};
 pub use length::{GrowError, MAX_BITS, elts};
 pub use meter::Meter;

@@ -1,26 +1,13 @@
 //! Orders of the bits in a word.
-ghost use Rattle.std.specs.Prelude.{◌≡◌, ℕ, ◌+◌, ◌-◌, ◌*◌, ◌^◌, ◌<◌, ◌≤◌, ◌&&◌, leb, length, ltb, map};
+ghost use Rattle.std.specs.Prelude.{◌≡◌, ℕ, ◌+◌, ◌-◌, ◌*◌, ◌^◌, ◌<◌, ◌≤◌, ◌&&◌, [], ◌∷◌, leb, length, ltb, map, slice_range};
 ghost use Rattle.bit_addressing.specs.Bits.{has_bit};
 ghost use Rattle.bit_addressing.specs.Order.{IsLawful, lsb0_lawful, msb0_lawful};
-ghost use Rattle.bit_addressing.specs.Row.{row_of, source_of, moved, touched};
+ghost use Rattle.bit_addressing.specs.Row.{row_bit, row_of, moved, touched};
 
+use crate::by_words::{move_part, move_words};
 use crate::index::{BitEnd, BitIdx, BitPos};
 use crate::store::BitStore;
 use crate::word_row::WordRow;
-
-/// The place from which the bit at `j` comes, when `n` bits move from `src` to `dst`.
-fn source_index(src: usize, dst: usize, n: usize, j: usize) -> usize
-    requires source { src + n < 2 ^ 63 }
-    requires target { dst + n < 2 ^ 63 }
-    requires within { j < 2 ^ 63 }
-    ensures { result ≡ source_of src dst n j }
-{
-    if dst <= j && j < dst + n {
-        src + j - dst
-    } else {
-        j
-    }
-}
 
 /// An order of the bits in a word: it maps each index to a place.
 ///
@@ -57,15 +44,75 @@ pub trait BitOrder {
         word
     }
 
+    /// The word whose place `i` has the bit at index `i`.
+    fn to_lsb0<T: BitStore>(word: T) -> T
+        ensures { (i : ℕ) → i < T.BITS → has_bit (T.value result) i ≡ has_bit (T.value word) (place T.BITS i) }
+    {
+        let mut made = T::ZERO;
+        for i in 0..T::BITS {
+            let bit = word.bit(Self::at(BitIdx::<T>::new_unchecked(i)).into_inner());
+            made = made.with_bit(i, bit);
+        }
+        made
+    }
+
+    /// The word whose index `i` has the bit of place `i`: `to_lsb0` gives `word` back.
+    fn from_lsb0<T: BitStore>(word: T) -> T
+        ensures { (i : ℕ) → i < T.BITS → has_bit (T.value result) (place T.BITS i) ≡ has_bit (T.value word) i }
+    {
+        let mut made = T::ZERO;
+        for i in 0..T::BITS {
+            let bit = word.bit(i);
+            made = made.with_bit(Self::at(BitIdx::<T>::new_unchecked(i)).into_inner(), bit);
+        }
+        made
+    }
+
+    /// The word whose bit at index `i` is bit `at + i` of the two words one after the other.
+    fn window<T: BitStore>(low: T, high: T, at: BitIdx<T>) -> T
+        ensures { (i : ℕ) → i < T.BITS → has_bit (T.value result) (place T.BITS i) ≡ row_bit place T.BITS (T.value low ∷ T.value high ∷ []) (at + i) }
+    {
+        let begin = at.into_inner();
+        if begin == 0 {
+            return low;
+        }
+        let mut word = T::ZERO;
+        for i in 0..T::BITS {
+            let from = begin + i;
+            let bit = if from < T::BITS {
+                low.bit(Self::at(BitIdx::<T>::new_unchecked(from)).into_inner())
+            } else {
+                high.bit(Self::at(BitIdx::<T>::new_unchecked(from - T::BITS)).into_inner())
+            };
+            word = word.with_bit(Self::at(BitIdx::<T>::new_unchecked(i)).into_inner(), bit);
+        }
+        word
+    }
+
+    /// The 64 bits from word `k` on as one word, in the same order.
+    /// The condition: the words hold them.
+    fn pack<T: BitStore>(words: &[T], k: usize) -> u64
+        requires { k * T.BITS + 64 ≤ T.BITS * length words.now }
+        ensures { row_of place 64 (result ∷ []) ≡ slice_range (row_of place T.BITS (map T.value words.now)) (k * T.BITS) (k * T.BITS + 64) }
+    {
+        let mut bits = 0u64;
+        for i in 0..64 / T::BITS {
+            bits |= Self::to_lsb0(words[k + i as usize]).to_u64() << (i * T::BITS);
+        }
+        Self::from_lsb0(bits)
+    }
+
     /// Moves the `n` bits from `src` on to the places from `dst` on, as if they were copied out first: the
     /// two runs may overlap. No other bit changes, and no more words are written than have a bit of the
     /// target. The condition: both runs lie in the row.
-    fn move_run<T: BitStore>(row: &mut WordRow<T>, src: usize, dst: usize, n: usize)
+    #[inline(always)]
+    final fn move_run<T: BitStore>(row: &mut WordRow<T>, src: usize, dst: usize, n: usize)
         requires source { src + n ≤ T.BITS * length row.old.words.now }
         requires target { dst + n ≤ T.BITS * length row.old.words.now }
         ensures same_words { row.new.words.ghost_name ≡ row.old.words.ghost_name }
         ensures size { length row.new.words.now ≡ length row.old.words.now }
         ensures bits { row_of place T.BITS (map T.value row.new.words.now) ≡ moved (row_of place T.BITS (map T.value row.old.words.now)) src dst n }
+        ensures reads { row.new.meter.reads ≤ row.old.meter.reads + 3 * touched T.BITS dst n }
         ensures writes { row.new.meter.writes ≤ row.old.meter.writes + touched T.BITS dst n }
     {
         if n == 0 {
@@ -73,20 +120,25 @@ pub trait BitOrder {
         }
         let width = T::BITS as usize;
         let first = dst / width;
-        let end = (dst + n - 1) / width + 1;
-        let up = dst <= src;
-        for t in 0..end - first {
-            let k = if up { first + t } else { end - 1 - t };
-            let mut word = T::ZERO;
-            for i in 0..T::BITS {
-                let from = source_index(src, dst, n, k * width + i as usize);
-                let read = row.load(from / width);
-                let index = BitIdx::<T>::new_unchecked((from % width) as u8);
-                let bit = read.bit(Self::at(index).into_inner());
-                word = word.with_bit(Self::at(BitIdx::<T>::new_unchecked(i)).into_inner(), bit);
-            }
-            row.store(k, word);
+        let low = dst % width;
+        let last = (dst + n - 1) / width;
+        let high = (dst + n - 1) % width + 1;
+        if first == last {
+            move_part::<T, Self>(row, src, first, low, high);
+            return;
         }
+        let inner = src + (width - low);
+        let behind = src + (n - high);
+        let count = last - first - 1;
+        if dst <= src {
+            move_part::<T, Self>(row, src, first, low, width);
+            move_words::<T, Self>(row, inner, first + 1, count);
+            move_part::<T, Self>(row, behind, last, 0, high);
+            return;
+        }
+        move_part::<T, Self>(row, behind, last, 0, high);
+        move_words::<T, Self>(row, inner, first + 1, count);
+        move_part::<T, Self>(row, src, first, low, width);
     }
 
     ghost lawful: { IsLawful place };
@@ -113,6 +165,22 @@ impl BitOrder for Lsb0 {
         let ones = T::ZERO.not();
         ones.shl(low).and(ones.shr(T::BITS - high))
     }
+
+    fn to_lsb0<T: BitStore>(word: T) -> T {
+        word
+    }
+
+    fn from_lsb0<T: BitStore>(word: T) -> T {
+        word
+    }
+
+    fn window<T: BitStore>(low: T, high: T, at: BitIdx<T>) -> T {
+        let begin = at.into_inner();
+        if begin == 0 {
+            return low;
+        }
+        low.shr(begin).or(high.shl(T::BITS - begin))
+    }
 }
 
 /// The order from the most significant bit: index `i` is place `T::BITS - 1 - i`.
@@ -135,5 +203,29 @@ impl BitOrder for Msb0 {
         }
         let ones = T::ZERO.not();
         ones.shr(low).and(ones.shl(T::BITS - high))
+    }
+
+    fn to_lsb0<T: BitStore>(word: T) -> T {
+        word.reverse()
+    }
+
+    fn from_lsb0<T: BitStore>(word: T) -> T {
+        word.reverse()
+    }
+
+    fn window<T: BitStore>(low: T, high: T, at: BitIdx<T>) -> T {
+        let begin = at.into_inner();
+        if begin == 0 {
+            return low;
+        }
+        low.shl(begin).or(high.shr(T::BITS - begin))
+    }
+
+    fn pack<T: BitStore>(words: &[T], k: usize) -> u64 {
+        let mut bits = 0u64;
+        for i in 0..64 / T::BITS {
+            bits |= words[k + i as usize].to_u64() << (64 - T::BITS - i * T::BITS);
+        }
+        bits
     }
 }

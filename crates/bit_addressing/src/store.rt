@@ -1,7 +1,8 @@
 //! The words that bits lie in.
-ghost use Rattle.std.specs.Prelude.{◌≡◌, ◌≢◌, ℕ, ◌+◌, ◌-◌, ◌<◌, ◌≤◌, Bool, false, not, ◌&&◌, ◌||◌, if◌then◌else◌, eqb, refl};
+ghost use Rattle.std.specs.Prelude.{◌≡◌, ◌≢◌, ℕ, ◌+◌, ◌-◌, ◌<◌, ◌≤◌, Bool, false, not, ◌&&◌, ◌||◌, if◌then◌else◌, eqb, refl, count_ones, map};
 ghost use Rattle.std.proofs.Common.{inl, inr};
 ghost use Rattle.bit_addressing.specs.Bits.{has_bit, IsWidth};
+ghost use Rattle.bit_addressing.specs.Row.{AreWords};
 
 /// A word of bits: `u8`, `u16`, `u32`, `u64` or `usize`, which has 64 bits.
 ///
@@ -15,6 +16,9 @@ ghost use Rattle.bit_addressing.specs.Bits.{has_bit, IsWidth};
 pub trait BitStore: Copy + Drop {
     // The number that a word is.
     ghost value: { Self → ℕ };
+
+    // The word that a number of `BITS` bits is.
+    ghost number: { ℕ → Self };
 
     ghost BITS: { ℕ };
 
@@ -64,13 +68,39 @@ pub trait BitStore: Copy + Drop {
         requires { place < BITS }
         ensures { (p : ℕ) → p < BITS → has_bit (value result) p ≡ (if eqb p place then bit else has_bit (value self) p) };
 
+    /// The bits in the opposite places: place `p` gets the bit of place `BITS - 1 - p`.
+    fn reverse(self) -> Self
+        ensures { (p : ℕ) → p < BITS → has_bit (value result) p ≡ has_bit (value self) (BITS - 1 - p) };
+
+    /// The bits at their places in 64, with the places above clear.
+    fn to_u64(self) -> u64
+        ensures low { (p : ℕ) → p < BITS → has_bit result p ≡ has_bit (value self) p }
+        ensures high { (p : ℕ) → BITS ≤ p → has_bit result p ≡ false };
+
+    /// The word of the lowest `BITS` bits of `n`.
+    fn from_u64(n: u64) -> Self
+        ensures { (p : ℕ) → p < BITS → has_bit (value result) p ≡ has_bit n p };
+
+    /// How many bits are set.
+    fn count_ones(self) -> u32
+        ensures { result ≡ count_ones (value self) };
+
+    /// Does nothing: that these words are numbers of `BITS` bits is known of each type, and a proof over
+    /// any type learns it here.
+    fn are_words(words: &[Self])
+        ensures { AreWords BITS (map value words.now) };
+
     ghost width: { IsWidth BITS };
+
+    ghost number_is: { (word : Self) → number (value word) ≡ word };
 
     ghost zero_is: { value ZERO ≡ 0 };
 }
 
 impl BitStore for u8 {
     ghost value = { λ w. w };
+
+    ghost number = { λ n. n };
 
     ghost BITS = { 8 };
 
@@ -79,6 +109,8 @@ impl BitStore for u8 {
     ghost width = { inl refl };
 
     ghost zero_is = { refl };
+
+    ghost number_is = { λ w. refl };
 
     const BITS: u8 = 8;
 
@@ -118,10 +150,32 @@ impl BitStore for u8 {
     fn with_bit(self, place: u8, bit: bool) -> u8 {
         (self & !(1 << place)) | ((bit as u8) << place)
     }
+
+    fn reverse(self) -> u8 {
+        let pairs = ((self >> 1) & 0x55) | ((self & 0x55) << 1);
+        let fours = ((pairs >> 2) & 0x33) | ((pairs & 0x33) << 2);
+        ((fours >> 4) & 0x0f) | ((fours & 0x0f) << 4)
+    }
+
+    fn to_u64(self) -> u64 {
+        self as u64
+    }
+
+    fn from_u64(n: u64) -> u8 {
+        (n % 256) as u8
+    }
+
+    fn count_ones(self) -> u32 {
+        self.count_ones()
+    }
+
+    fn are_words(words: &[u8]) {}
 }
 
 impl BitStore for u16 {
     ghost value = { λ w. w };
+
+    ghost number = { λ n. n };
 
     ghost BITS = { 16 };
 
@@ -130,6 +184,8 @@ impl BitStore for u16 {
     ghost width = { inr (inl refl) };
 
     ghost zero_is = { refl };
+
+    ghost number_is = { λ w. refl };
 
     const BITS: u8 = 16;
 
@@ -169,10 +225,33 @@ impl BitStore for u16 {
     fn with_bit(self, place: u8, bit: bool) -> u16 {
         (self & !(1 << place)) | ((bit as u16) << place)
     }
+
+    fn reverse(self) -> u16 {
+        let pairs = ((self >> 1) & 0x5555) | ((self & 0x5555) << 1);
+        let fours = ((pairs >> 2) & 0x3333) | ((pairs & 0x3333) << 2);
+        let bytes = ((fours >> 4) & 0x0f0f) | ((fours & 0x0f0f) << 4);
+        ((bytes >> 8) & 0x00ff) | ((bytes & 0x00ff) << 8)
+    }
+
+    fn to_u64(self) -> u64 {
+        self as u64
+    }
+
+    fn from_u64(n: u64) -> u16 {
+        (n % 65536) as u16
+    }
+
+    fn count_ones(self) -> u32 {
+        self.count_ones()
+    }
+
+    fn are_words(words: &[u16]) {}
 }
 
 impl BitStore for u32 {
     ghost value = { λ w. w };
+
+    ghost number = { λ n. n };
 
     ghost BITS = { 32 };
 
@@ -181,6 +260,8 @@ impl BitStore for u32 {
     ghost width = { inr (inr (inl refl)) };
 
     ghost zero_is = { refl };
+
+    ghost number_is = { λ w. refl };
 
     const BITS: u8 = 32;
 
@@ -220,10 +301,34 @@ impl BitStore for u32 {
     fn with_bit(self, place: u8, bit: bool) -> u32 {
         (self & !(1 << place)) | ((bit as u32) << place)
     }
+
+    fn reverse(self) -> u32 {
+        let pairs = ((self >> 1) & 0x55555555) | ((self & 0x55555555) << 1);
+        let fours = ((pairs >> 2) & 0x33333333) | ((pairs & 0x33333333) << 2);
+        let bytes = ((fours >> 4) & 0x0f0f0f0f) | ((fours & 0x0f0f0f0f) << 4);
+        let halves = ((bytes >> 8) & 0x00ff00ff) | ((bytes & 0x00ff00ff) << 8);
+        ((halves >> 16) & 0x0000ffff) | ((halves & 0x0000ffff) << 16)
+    }
+
+    fn to_u64(self) -> u64 {
+        self as u64
+    }
+
+    fn from_u64(n: u64) -> u32 {
+        (n % 4294967296) as u32
+    }
+
+    fn count_ones(self) -> u32 {
+        self.count_ones()
+    }
+
+    fn are_words(words: &[u32]) {}
 }
 
 impl BitStore for u64 {
     ghost value = { λ w. w };
+
+    ghost number = { λ n. n };
 
     ghost BITS = { 64 };
 
@@ -232,6 +337,8 @@ impl BitStore for u64 {
     ghost width = { inr (inr (inr refl)) };
 
     ghost zero_is = { refl };
+
+    ghost number_is = { λ w. refl };
 
     const BITS: u8 = 64;
 
@@ -271,10 +378,35 @@ impl BitStore for u64 {
     fn with_bit(self, place: u8, bit: bool) -> u64 {
         (self & !(1 << place)) | ((bit as u64) << place)
     }
+
+    fn reverse(self) -> u64 {
+        let pairs = ((self >> 1) & 0x5555555555555555) | ((self & 0x5555555555555555) << 1);
+        let fours = ((pairs >> 2) & 0x3333333333333333) | ((pairs & 0x3333333333333333) << 2);
+        let bytes = ((fours >> 4) & 0x0f0f0f0f0f0f0f0f) | ((fours & 0x0f0f0f0f0f0f0f0f) << 4);
+        let halves = ((bytes >> 8) & 0x00ff00ff00ff00ff) | ((bytes & 0x00ff00ff00ff00ff) << 8);
+        let words = ((halves >> 16) & 0x0000ffff0000ffff) | ((halves & 0x0000ffff0000ffff) << 16);
+        ((words >> 32) & 0x00000000ffffffff) | ((words & 0x00000000ffffffff) << 32)
+    }
+
+    fn to_u64(self) -> u64 {
+        self
+    }
+
+    fn from_u64(n: u64) -> u64 {
+        n
+    }
+
+    fn count_ones(self) -> u32 {
+        self.count_ones()
+    }
+
+    fn are_words(words: &[u64]) {}
 }
 
 impl BitStore for usize {
     ghost value = { λ w. w };
+
+    ghost number = { λ n. n };
 
     ghost BITS = { 64 };
 
@@ -283,6 +415,8 @@ impl BitStore for usize {
     ghost width = { inr (inr (inr refl)) };
 
     ghost zero_is = { refl };
+
+    ghost number_is = { λ w. refl };
 
     const BITS: u8 = 64;
 
@@ -322,4 +456,27 @@ impl BitStore for usize {
     fn with_bit(self, place: u8, bit: bool) -> usize {
         (self & !(1 << place)) | ((bit as usize) << place)
     }
+
+    fn reverse(self) -> usize {
+        let pairs = ((self >> 1) & 0x5555555555555555) | ((self & 0x5555555555555555) << 1);
+        let fours = ((pairs >> 2) & 0x3333333333333333) | ((pairs & 0x3333333333333333) << 2);
+        let bytes = ((fours >> 4) & 0x0f0f0f0f0f0f0f0f) | ((fours & 0x0f0f0f0f0f0f0f0f) << 4);
+        let halves = ((bytes >> 8) & 0x00ff00ff00ff00ff) | ((bytes & 0x00ff00ff00ff00ff) << 8);
+        let words = ((halves >> 16) & 0x0000ffff0000ffff) | ((halves & 0x0000ffff0000ffff) << 16);
+        ((words >> 32) & 0x00000000ffffffff) | ((words & 0x00000000ffffffff) << 32)
+    }
+
+    fn to_u64(self) -> u64 {
+        self as u64
+    }
+
+    fn from_u64(n: u64) -> usize {
+        n as usize
+    }
+
+    fn count_ones(self) -> u32 {
+        self.count_ones()
+    }
+
+    fn are_words(words: &[usize]) {}
 }

@@ -3,10 +3,10 @@ ghost use Rattle.std.specs.Prelude.{◌≡◌, ◌+◌, ◌*◌, ◌≤◌, leng
 ghost use Rattle.bit_addressing.specs.Order.{xor4_place, xor4_lawful, scramble_place, scramble_lawful};
 
 use crate::{
-    BitEnd, BitIdx, BitOrder, BitPos, BitStore, Lsb0, Msb0, RangeExt, WordRow, copy_bits,
-    copy_bits_alike, copy_bits_in, cut_words, elts, fill_bits, fill_bits_in, flip_bits,
-    flip_bits_in, move_bits, move_bits_in, push_bit, read_bit, resize_words, write_bit,
-    write_bit_in,
+    And, BitEnd, BitIdx, BitOrder, BitPos, BitStore, Lsb0, Msb0, RangeExt, WordRow, combine_bits,
+    copy_bits, copy_bits_alike, copy_bits_in, count_bits, cut_words, differ_at, elts, fill_bits,
+    fill_bits_in, flip_bits, flip_bits_in, move_bits, move_bits_in, push_bit, read_bit, read_chunk,
+    resize_words, write_bit, write_bit_in,
 };
 use std::process::Abort;
 use std::test::Fail;
@@ -197,49 +197,56 @@ fn words_of_a_vector(rt: HostRuntime) -> Result<(), Fail> {
 // 11 bits over an edge touch two words.
 fn move_up(row: &mut WordRow<u8>)
     requires { length row.old.words.now ≡ 2 }
-    ensures { row.new.meter.writes ≤ row.old.meter.writes + 2 }
+    ensures writes { row.new.meter.writes ≤ row.old.meter.writes + 2 }
+    ensures reads { row.new.meter.reads ≤ row.old.meter.reads + 6 }
 {
     Lsb0::move_run(row, 1, 3, 11);
 }
 
 fn move_down(row: &mut WordRow<u8>)
     requires { length row.old.words.now ≡ 2 }
-    ensures { row.new.meter.writes ≤ row.old.meter.writes + 2 }
+    ensures writes { row.new.meter.writes ≤ row.old.meter.writes + 2 }
+    ensures reads { row.new.meter.reads ≤ row.old.meter.reads + 6 }
 {
     Lsb0::move_run(row, 3, 1, 11);
 }
 
 fn move_in_one_word(row: &mut WordRow<u8>)
     requires { length row.old.words.now ≡ 1 }
-    ensures { row.new.meter.writes ≤ row.old.meter.writes + 1 }
+    ensures writes { row.new.meter.writes ≤ row.old.meter.writes + 1 }
+    ensures reads { row.new.meter.reads ≤ row.old.meter.reads + 3 }
 {
     Lsb0::move_run(row, 0, 5, 3);
 }
 
 fn move_nothing(row: &mut WordRow<u8>)
     requires { length row.old.words.now ≡ 1 }
-    ensures { row.new.meter.writes ≤ row.old.meter.writes }
+    ensures writes { row.new.meter.writes ≤ row.old.meter.writes }
+    ensures reads { row.new.meter.reads ≤ row.old.meter.reads }
 {
     Lsb0::move_run(row, 3, 0, 0);
 }
 
 fn move_over_three_words(row: &mut WordRow<u8>)
     requires { length row.old.words.now ≡ 3 }
-    ensures { row.new.meter.writes ≤ row.old.meter.writes + 3 }
+    ensures writes { row.new.meter.writes ≤ row.old.meter.writes + 3 }
+    ensures reads { row.new.meter.reads ≤ row.old.meter.reads + 9 }
 {
     Lsb0::move_run(row, 0, 4, 20);
 }
 
 fn move_into_a_whole_word(row: &mut WordRow<u16>)
     requires { length row.old.words.now ≡ 2 }
-    ensures { row.new.meter.writes ≤ row.old.meter.writes + 1 }
+    ensures writes { row.new.meter.writes ≤ row.old.meter.writes + 1 }
+    ensures reads { row.new.meter.reads ≤ row.old.meter.reads + 3 }
 {
     Lsb0::move_run(row, 8, 0, 16);
 }
 
 fn move_by_a_users_order(row: &mut WordRow<u8>)
     requires { length row.old.words.now ≡ 2 }
-    ensures { row.new.meter.writes ≤ row.old.meter.writes + 2 }
+    ensures writes { row.new.meter.writes ≤ row.old.meter.writes + 2 }
+    ensures reads { row.new.meter.reads ≤ row.old.meter.reads + 6 }
 {
     Xor4::move_run(row, 1, 3, 11);
 }
@@ -280,4 +287,24 @@ fn moves_of_words(rt: HostRuntime) {
     let word = row.load(0);
     row.store(0, word.not());
     assert_eq!(rt; words, [0xf8]);
+}
+
+#[test]
+fn chunks(rt: HostRuntime) {
+    let words = [0x1234u16, 0xabcd, 0x0ff0];
+    assert_eq!(rt; read_chunk::<u16, Lsb0>(&words, 4, 20), 0xcd123);
+    assert_eq!(rt; read_chunk::<u8, Msb0>(&[0x80u8, 0x01], 0, 16), 0x8001);
+    assert_eq!(rt; read_chunk::<u8, Msb0>(&[0x80u8, 0x01], 7, 0), 0);
+    assert_eq!(rt; count_bits::<u16, Scramble>(&words, 0, 48), 23);
+    assert_eq!(rt; count_bits::<u16, Lsb0>(&words, 3, 20), 7);
+    let same = [0x34u8, 0x12, 0xcd, 0xab, 0xf0, 0x0f];
+    let other = [0x34u8, 0x12, 0xcd, 0xab, 0xf0, 0x0e];
+    assert!(rt; differ_at::<u16, Lsb0, u8, Lsb0>(&words, 0, &same, 0, 48).is_none());
+    assert!(rt; differ_at::<u16, Lsb0, u8, Lsb0>(&words, 0, &other, 0, 48) == Some(40));
+    let mut target = [0xffffu16, 0xffff];
+    combine_bits::<And, u16, Lsb0, u8, Lsb0>(&mut target, 4, &same, 0, 16);
+    assert_eq!(rt; target, [0x234f, 0xfff1]);
+    let mut wide = [0u64, 0];
+    copy_bits::<u64, Msb0, u64, Msb0>(&mut wide, 4, &[0x8000_0000_0000_0001u64, 1], 0, 124);
+    assert_eq!(rt; wide, [0x0800_0000_0000_0000, 0x1000_0000_0000_0000]);
 }

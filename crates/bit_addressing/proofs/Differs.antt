@@ -1,0 +1,98 @@
+-- Where two runs of bits differ, found in the numbers of them.
+use Rattle.std.proofs.Common.{◌≡◌, ◌≢◌, ℕ, ◌+◌, ◌-◌, ◌*◌, ◌^◌, ◌<◌, ◌≤◌, Bool, true, false, not, if◌then◌else◌, eqb, List, length, get_or, drop, take, slice_range, refl, sym, ◌∙◌, ap, inl, inr, arith, bit_xor, w64}
+use Rattle.std.specs.Int.{bit_at, trailing_zeros}
+use Rattle.std.proofs.lemmas.Bool.{cases_lt}
+use Rattle.std.proofs.lemmas.List.{ext_get_or, get_or_past, get_or-take, get_or-drop, length-take, length-drop}
+use Rattle.std.proofs.lemmas.Nat.Bits.{bit_at-trailing_zeros}
+use Rattle.bit_addressing.specs.Bits.{has_bit}
+use Rattle.bit_addressing.specs.Row.{number_of, IsFirstDifference}
+use Rattle.bit_addressing.proofs.Words.{has_xor, has_none}
+use Rattle.bit_addressing.proofs.Chunks.{has_number}
+
+same_if : (a b : Bool) → (if a then not b else b) ≡ false → a ≡ b
+same_if true true h = refl
+same_if true false h = h
+same_if false true h = sym h
+same_if false false h = refl
+
+apart_if : (a b : Bool) → (if a then not b else b) ≡ true → a ≢ b
+apart_if true true h e = cc
+apart_if true false h e = cc
+apart_if false true h e = cc
+apart_if false false h e = cc
+
+true_false : true ≡ false → ⊥
+true_false e = cc
+
+pub get_or-run : (xs : List Bool) (i n q : ℕ) → q < n → get_or (slice_range xs i (i + n)) q false ≡ get_or xs (i + q) false
+get_or-run xs i n q h = get_or-take (i + n - i) (drop i xs) q false (omega arith) ∙ get_or-drop i xs q false
+
+pub length-run : (xs : List Bool) (i n : ℕ) → i + n ≤ length xs → length (slice_range xs i (i + n)) ≡ n
+length-run xs i n h = simp (length-take, length-drop) (omega arith)
+
+-- the first k bits of the two runs are the same
+abbrev pub AreAlike : List Bool → List Bool → ℕ → ℕ → ℕ → Type 0
+AreAlike xs ys i j k = (q : ℕ) → q < k → get_or xs (i + q) false ≡ get_or ys (j + q) false
+
+module _ (xs ys : List Bool) (i j : ℕ) where
+  pub alike_none : (k : ℕ) → k ≡ 0 → AreAlike xs ys i j k
+  alike_none k e q h = absurd (omega arith)
+
+  pub alike_all : (n k : ℕ) → n ≤ k → i + n ≤ length xs → j + n ≤ length ys → AreAlike xs ys i j k → slice_range xs i (i + n) ≡ slice_range ys j (j + n)
+  alike_all n k le h l same =
+      let a = length-run xs i n h in
+      let b = length-run ys j n l in
+      ext_get_or false (slice_range xs i (i + n)) (slice_range ys j (j + n)) (a ∙ sym b)
+      (λ q below. let inside : q < n = omega arith in get_or-run xs i n q inside ∙ same q (omega arith) ∙ sym (get_or-run ys j n q inside))
+
+  module _ (k m x y a b : ℕ) (at_a : a ≡ i + k) (at_b : b ≡ j + k) (is_x : x ≡ number_of (slice_range xs a (a + m))) (is_y : y ≡ number_of (slice_range ys b (b + m))) where
+    xor_bit : (q : ℕ) → q < m → has_bit (bit_xor x y) q ≡ (if get_or xs (i + (k + q)) false then not (get_or ys (j + (k + q)) false) else get_or ys (j + (k + q)) false)
+    xor_bit q h =
+        let p : a + q ≡ i + (k + q) = omega arith in
+        let r : b + q ≡ j + (k + q) = omega arith in
+        has_xor x y q
+        ∙ ap (λ t. if t then not (has_bit y q) else has_bit y q) (ap (λ n. has_bit n q) is_x ∙ has_number (slice_range xs a (a + m)) q ∙ get_or-run xs a m q h ∙ ap (λ n. get_or xs n false) p)
+        ∙ ap (λ t. if get_or xs (i + (k + q)) false then not t else t) (ap (λ n. has_bit n q) is_y ∙ has_number (slice_range ys b (b + m)) q ∙ get_or-run ys b m q h ∙ ap (λ n. get_or ys n false) r)
+
+    xor_above : (q : ℕ) → m ≤ q → a + m ≤ length xs → b + m ≤ length ys → has_bit (bit_xor x y) q ≡ false
+    xor_above q h l o =
+        let u = length-run xs a m l in
+        let v = length-run ys b m o in
+        has_xor x y q
+        ∙ ap (λ t. if t then not (has_bit y q) else has_bit y q) (ap (λ n. has_bit n q) is_x ∙ has_number (slice_range xs a (a + m)) q ∙ get_or_past (slice_range xs a (a + m)) q false (omega arith))
+        ∙ ap (λ n. has_bit n q) is_y ∙ has_number (slice_range ys b (b + m)) q ∙ get_or_past (slice_range ys b (b + m)) q false (omega arith)
+
+    -- the numbers are equal: so many more bits are the same
+    pub alike_more : bit_xor x y ≡ 0 → AreAlike xs ys i j k → AreAlike xs ys i j (k + m)
+    alike_more none same q h = elim (cases_lt q k) [
+      | inl l ↦ same q l
+      | inr l ↦
+          let e : k + (q - k) ≡ q = omega arith in
+          same_if (get_or xs (i + q) false) (get_or ys (j + q) false)
+          (sym (ap (λ n. if get_or xs (i + n) false then not (get_or ys (j + n) false) else get_or ys (j + n) false) e) ∙ sym (xor_bit (q - k) (omega arith)) ∙ ap (λ n. has_bit n (q - k)) none ∙ has_none (q - k))
+    ]
+
+    -- they are not: the lowest bit that they do not share is the first difference
+    pub differ_here : (n : ℕ) → bit_xor x y ≢ 0 → bit_xor x y < 2 ^ 64 → k + m ≤ n → i + n ≤ length xs → j + n ≤ length ys → AreAlike xs ys i j k → IsFirstDifference (slice_range xs i (i + n)) (slice_range ys j (j + n)) (k + trailing_zeros w64 (bit_xor x y))
+    differ_here n some fits most l o same =
+        let z : ℕ = trailing_zeros w64 (bit_xor x y) in
+        let t = bit_at-trailing_zeros w64 (bit_xor x y) (omega arith) fits in
+        let set : has_bit (bit_xor x y) z ≡ true = ap (λ r. eqb r 1) t.1 in
+        let inside : z < m = elim (cases_lt z m) [
+          | inl h ↦ h
+          | inr h ↦ let e = xor_above z h (omega arith) (omega arith) in absurd (true_false (sym set ∙ e))
+        ] in
+        let size = length-run xs i n l in
+        record {
+          within = omega arith;
+          before = λ q h. get_or-run xs i n q (omega arith) ∙ elim (cases_lt q k) [
+            | inl b ↦ same q b
+            | inr b ↦
+                let e : k + (q - k) ≡ q = omega arith in
+                let low : bit_at (bit_xor x y) (q - k) ≡ 0 = t.2 (q - k) (omega arith) in
+                same_if (get_or xs (i + q) false) (get_or ys (j + q) false)
+                (sym (ap (λ r. if get_or xs (i + r) false then not (get_or ys (j + r) false) else get_or ys (j + r) false) e) ∙ sym (xor_bit (q - k) (omega arith)) ∙ ap (λ r. eqb r 1) low)
+          ] ∙ sym (get_or-run ys j n q (omega arith));
+          apart = λ e. apart_if (get_or xs (i + (k + z)) false) (get_or ys (j + (k + z)) false) (sym (xor_bit z inside) ∙ set)
+              (sym (get_or-run xs i n (k + z) (omega arith)) ∙ e ∙ get_or-run ys j n (k + z) (omega arith));
+        }

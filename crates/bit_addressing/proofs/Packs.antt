@@ -1,0 +1,105 @@
+-- Words of 64 bits packed out of narrower ones.
+use Rattle.std.proofs.Common.{◌≡◌, ℕ, ◌+◌, ◌-◌, ◌*◌, ◌/◌, ◌%◌, ◌^◌, ◌<◌, ◌≤◌, Bool, true, false, ◌||◌, List, [], ◌∷◌, map, length, get_or, slice_range, refl, sym, ◌∙◌, ap, subst, inl, inr, arith, bit_or, lit<}
+use Rattle.std.proofs.lemmas.Bool.{cases_lt}
+use Rattle.std.proofs.lemmas.List.{ext_get_or}
+use Rattle.std.proofs.lemmas.Nat.{div-add-mod'}
+use Rattle.bit_addressing.specs.Bits.{has_bit, IsWidth}
+use Rattle.bit_addressing.specs.Row.{row_of}
+use Rattle.bit_addressing.proofs.Chunks.{IsRead}
+use Rattle.bit_addressing.proofs.Differs.{get_or-run, length-run}
+use Rattle.bit_addressing.proofs.Rows.{length-row_of, get_or-row_one}
+use Rattle.bit_addressing.proofs.Runs.{mul_mono, one_more_word}
+use Rattle.bit_addressing.proofs.Wholes.{bit_is}
+use Rattle.bit_addressing.proofs.Words.{has_none, has_or, has_shl_low, has_shl_high}
+
+or_false : (b : Bool) → (b || false) ≡ b
+or_false true = refl
+or_false false = refl
+
+-- the words of 64 bits
+pub pack_fills : (w : ℕ) → IsWidth w → 64 / w * w ≡ 64
+pack_fills w width = elim width [
+  | inl e ↦ rw e refl
+  | inr wider ↦ elim wider [
+    | inl e ↦ rw e refl
+    | inr widest ↦ elim widest [
+      | inl e ↦ rw e refl
+      | inr e ↦ rw e refl
+    ]
+  ]
+]
+
+pub pack_inside : (w i : ℕ) → i < 64 / w → i * w + w ≤ 64
+pack_inside w i h =
+    let split : 64 / w * w + 64 % w ≡ 64 = div-add-mod' 64 w in
+    let next = one_more_word i w in
+    let most = mul_mono (i + 1) (64 / w) w (omega arith) in
+    omega arith
+
+-- nothing is read at first
+pub read_nothing : (ms : List Bool) (at got : ℕ) → got ≡ 0 → IsRead ms at got 0
+read_nothing ms at got none = record { shown = λ i h _. absurd (omega arith); clear = λ i _. has_none i }
+
+-- a word that has in its order the bits of a list from a place on
+pub row_from : (place : ℕ → ℕ → ℕ) (v at : ℕ) (ms : List Bool) → at + 64 ≤ length ms → ((i : ℕ) → i < 64 → has_bit v (place 64 i) ≡ get_or ms (at + i) false) → row_of place 64 (v ∷ []) ≡ slice_range ms at (at + 64)
+row_from place v at ms inside shows =
+    let one : List Bool = row_of place 64 (v ∷ []) in
+    let size : length one ≡ 64 * 1 = length-row_of place 64 (v ∷ []) in
+    let part = length-run ms at 64 inside in
+    ext_get_or false one (slice_range ms at (at + 64)) (size ∙ omega arith) (λ i h.
+    let below : i < 64 = omega arith in
+    get_or-row_one place 64 v i (omega arith) below ∙ shows i below ∙ sym (get_or-run ms at 64 i below))
+
+-- the bits of x from its place 63 down are those of the list from `at` on, `got` of them, and those below are false
+pub record IsPacked (ms : List Bool) (at got x : ℕ) : Type 0 where
+  pub shown : (i : ℕ) → i < got → i < 64 → has_bit x (63 - i) ≡ get_or ms (at + i) false
+  pub clear : (p : ℕ) → p + got < 64 → has_bit x p ≡ false
+
+pub packed_nothing : (ms : List Bool) (at got : ℕ) → got ≡ 0 → IsPacked ms at got 0
+packed_nothing ms at got none = record { shown = λ i h _. absurd (omega arith); clear = λ p _. has_none p }
+
+module _ {X : Type 0} (value : X → ℕ) (w : ℕ) (positive : 0 < w) (ws : List X) where
+  pub packed_next : (at k got x y back : ℕ) (word : X) → IsPacked (row_of (λ w i. w - 1 - i) w (map value ws)) at got x → at + got ≡ k * w → got + w ≤ 64 → back ≡ 64 - w - got → k < length ws → word ≡ get_or ws k word
+      → ((p : ℕ) → p < w → has_bit y p ≡ has_bit (value word) p) → ((p : ℕ) → w ≤ p → has_bit y p ≡ false)
+      → IsPacked (row_of (λ w i. w - 1 - i) w (map value ws)) at (got + w) (bit_or x (y * 2 ^ back % 2 ^ 64))
+  packed_next at k got x y back word so_far reached few is here read low high =
+      let ms : List Bool = row_of (λ w i. w - 1 - i) w (map value ws) in
+      record {
+        shown = λ i h q. has_or x (y * 2 ^ back % 2 ^ 64) (63 - i) ∙ elim (cases_lt i got) [
+          | inl l ↦
+              let none : has_bit (y * 2 ^ back % 2 ^ 64) (63 - i) ≡ false = has_shl_high 64 y back (63 - i) (omega arith) (omega arith) ∙ high (63 - i - back) (omega arith) in
+              rw none (or_false (has_bit x (63 - i)) ∙ so_far.shown i l q)
+          | inr l ↦
+              let next : k * w + (i - got) ≡ at + i = omega arith in
+              let spot : 63 - i - back ≡ w - 1 - (i - got) = omega arith in
+              rw (so_far.clear (63 - i) (omega arith)) (has_shl_high 64 y back (63 - i) (omega arith) (omega arith) ∙ ap (has_bit y) spot ∙ low (w - 1 - (i - got)) (omega arith)
+              ∙ bit_is value (λ w i. w - 1 - i) w positive ws k (i - got) word here (omega arith) read ∙ ap (λ n. get_or ms n false) next)
+        ];
+        clear = λ p h. has_or x (y * 2 ^ back % 2 ^ 64) p ∙ rw (so_far.clear p (omega arith)) (has_shl_low 64 y back p (omega arith) (omega arith));
+      }
+
+-- where the block of 64 bits begins, some blocks behind a word
+pub block_at : (w each first t : ℕ) → each * w ≡ 64 → (first + 1 + t * each) * w ≡ (first + 1) * w + t * 64
+block_at w each first t is =
+    let split : (first + 1 + t * each) * w ≡ (first + 1) * w + t * (each * w) = grind arith in
+    split ∙ ap (λ n. (first + 1) * w + t * n) is
+
+-- it ends before the last word, and its words are numbered below that
+pub record IsBlock (w each first last t : ℕ) : Type 0 where
+  pub words : first + 1 + t * each + each ≤ last
+  pub bits : (first + 1) * w + t * 64 + 64 ≤ last * w
+
+pub block_inside : (w each first last t : ℕ) → each * w ≡ 64 → first < last → t < (last - first - 1) / each → IsBlock w each first last t
+block_inside w each first last t is ordered turn =
+    let split : (last - first - 1) / each * each + (last - first - 1) % each ≡ last - first - 1 = div-add-mod' (last - first - 1) each in
+    let most = mul_mono (t + 1) ((last - first - 1) / each) each (omega arith) in
+    let more = one_more_word t each in
+    let below : first + 1 + (t + 1) * each ≤ last = omega arith in
+    let wide = mul_mono (first + 1 + (t + 1) * each) last w below in
+    let at = block_at w each first (t + 1) is in
+    record { words = omega arith; bits = omega arith }
+
+pub blocks_inside : (each first last : ℕ) → first < last → first + 1 + (last - first - 1) / each * each ≤ last
+blocks_inside each first last ordered =
+    let split : (last - first - 1) / each * each + (last - first - 1) % each ≡ last - first - 1 = div-add-mod' (last - first - 1) each in
+    omega arith

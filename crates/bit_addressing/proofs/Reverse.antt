@@ -1,0 +1,130 @@
+-- A word reversed by steps, each of which makes the bits of pairs of places change places.
+use Rattle.std.proofs.Common.{◌≡◌, ℕ, ◌+◌, ◌-◌, ◌*◌, ◌/◌, ◌%◌, ◌^◌, ◌<◌, ◌≤◌, zero, suc, Bool, true, false, not, ◌&&◌, ◌||◌, if◌then◌else◌, eqb, leb, ltb, List, [], ◌∷◌, refl, sym, ◌∙◌, ap, subst, inl, inr, arith, bit_and, bit_or}
+use Rattle.std.proofs.lemmas.Bool.{cases_lt, ltb-true, leb-true, eqb-true, le-ltb}
+use Rattle.std.proofs.lemmas.Bool.Decides.{Decides-below_and}
+use Rattle.bit_addressing.specs.Bits.{has_bit}
+use Rattle.bit_addressing.specs.Order.{all_below}
+use Rattle.bit_addressing.proofs.Words.{has_and, has_or, has_shr_low, has_shl_low, has_shl_high}
+
+-- how far apart the places of a pair are, and the lower places of the pairs
+pub record Swap : Type 0 where
+  pub apart : ℕ
+  pub lower : ℕ
+
+-- the word whose bits of each pair have changed places
+abbrev pub swapped : ℕ → Swap → ℕ → ℕ
+swapped w s x = bit_or (bit_and (x / 2 ^ s.apart) s.lower) (bit_and x s.lower * 2 ^ s.apart % 2 ^ w)
+
+abbrev pub swapped_by : ℕ → List Swap → ℕ → ℕ
+swapped_by w [] x = x
+swapped_by w (s ∷ steps) x = swapped_by w steps (swapped w s x)
+
+-- where the bit at place p came from
+abbrev partner : Swap → ℕ → ℕ
+partner s p = if has_bit s.lower p then p + s.apart else p - s.apart
+
+abbrev origin : List Swap → ℕ → ℕ
+origin [] p = p
+origin (s ∷ steps) p = partner s (origin steps p)
+
+-- place p and its partner are a pair below w
+abbrev paired : ℕ → Swap → ℕ → Bool
+paired w s p = (ltb p w && ltb s.apart w) && (if has_bit s.lower p then ltb p s.apart || not (has_bit s.lower (p - s.apart)) else leb s.apart p && has_bit s.lower (p - s.apart))
+
+abbrev all_paired : ℕ → List Swap → ℕ → Bool
+all_paired w [] p = true
+all_paired w (s ∷ steps) p = paired w s (origin steps p) && all_paired w steps p
+
+-- the steps together reverse a word of w bits
+abbrev pub reverses : ℕ → List Swap → Bool
+reverses w steps = all_below (λ p. all_paired w steps p && eqb (origin steps p) (w - 1 - p)) w
+
+both_true : (a b : Bool) → (a && b) ≡ true → (a ≡ true) × (b ≡ true)
+both_true true true h = (refl, refl)
+both_true true false h = cc
+both_true false b h = cc
+
+upper : (a c : Bool) → ((a && true) || (c && false)) ≡ a
+upper true true = refl
+upper true false = refl
+upper false true = refl
+upper false false = refl
+
+upper_low : (a : Bool) → ((a && true) || false) ≡ a
+upper_low true = refl
+upper_low false = refl
+
+lower : (a c : Bool) → ((a && false) || (c && true)) ≡ c
+lower true true = refl
+lower true false = refl
+lower false true = refl
+lower false false = refl
+
+not_true : (b : Bool) → not b ≡ true → b ≡ false
+not_true true h = cc
+not_true false h = refl
+
+one_step : (w : ℕ) (s : Swap) (x p : ℕ) (b : Bool) → has_bit s.lower p ≡ b → paired w s p ≡ true → has_bit (swapped w s x) p ≡ has_bit x (partner s p)
+one_step w s x p true e h =
+    let t = both_true (ltb p w && ltb s.apart w) (if has_bit s.lower p then ltb p s.apart || not (has_bit s.lower (p - s.apart)) else leb s.apart p && has_bit s.lower (p - s.apart)) h in
+    let v = both_true (ltb p w) (ltb s.apart w) t.0 in
+    let below : p < w = ltb-true p w v.0 in
+    let near : s.apart < w = ltb-true s.apart w v.1 in
+    let pair : (ltb p s.apart || not (has_bit s.lower (p - s.apart))) ≡ true = subst (λ q. (if q then ltb p s.apart || not (has_bit s.lower (p - s.apart)) else leb s.apart p && has_bit s.lower (p - s.apart)) ≡ true) e t.1 in
+    has_or (bit_and (x / 2 ^ s.apart) s.lower) (bit_and x s.lower * 2 ^ s.apart % 2 ^ w) p
+    ∙ rw (has_and (x / 2 ^ s.apart) s.lower p, has_shr_low x s.apart p, e) (elim (cases_lt p s.apart) [
+      | inl l ↦ rw (has_shl_low w (bit_and x s.lower) s.apart p l near) (upper_low (has_bit x (p + s.apart)))
+      | inr l ↦
+          let no : has_bit s.lower (p - s.apart) ≡ false = not_true (has_bit s.lower (p - s.apart)) (subst (λ q. (q || not (has_bit s.lower (p - s.apart))) ≡ true) (le-ltb p s.apart l) pair) in
+          rw (has_shl_high w (bit_and x s.lower) s.apart p l below, has_and x s.lower (p - s.apart), no) (upper (has_bit x (p + s.apart)) (has_bit x (p - s.apart)))
+    ])
+one_step w s x p false e h =
+    let t = both_true (ltb p w && ltb s.apart w) (if has_bit s.lower p then ltb p s.apart || not (has_bit s.lower (p - s.apart)) else leb s.apart p && has_bit s.lower (p - s.apart)) h in
+    let v = both_true (ltb p w) (ltb s.apart w) t.0 in
+    let below : p < w = ltb-true p w v.0 in
+    let near : s.apart < w = ltb-true s.apart w v.1 in
+    let pair : (leb s.apart p && has_bit s.lower (p - s.apart)) ≡ true = subst (λ q. (if q then ltb p s.apart || not (has_bit s.lower (p - s.apart)) else leb s.apart p && has_bit s.lower (p - s.apart)) ≡ true) e t.1 in
+    let u = both_true (leb s.apart p) (has_bit s.lower (p - s.apart)) pair in
+    let yes = u.1 in
+    let above : s.apart ≤ p = leb-true s.apart p u.0 in
+    has_or (bit_and (x / 2 ^ s.apart) s.lower) (bit_and x s.lower * 2 ^ s.apart % 2 ^ w) p
+    ∙ rw (has_and (x / 2 ^ s.apart) s.lower p, has_shr_low x s.apart p, e, has_shl_high w (bit_and x s.lower) s.apart p above below, has_and x s.lower (p - s.apart), yes) (lower (has_bit x (p + s.apart)) (has_bit x (p - s.apart)))
+
+all_steps : (w : ℕ) (steps : List Swap) (x p : ℕ) → all_paired w steps p ≡ true → has_bit (swapped_by w steps x) p ≡ has_bit x (origin steps p)
+all_steps w [] x p h = refl
+all_steps w (s ∷ steps) x p h =
+    let t = both_true (paired w s (origin steps p)) (all_paired w steps p) h in
+    all_steps w steps (swapped w s x) p t.1 ∙ one_step w s x (origin steps p) (has_bit s.lower (origin steps p)) refl t.0
+
+below_tells : (p : ℕ → Bool) (n : ℕ) → all_below p n ≡ true → (k : ℕ) → k < n → p k ≡ true
+below_tells p n = (Decides-below_and p (λ k. p k ≡ true) (all_below p) (λ k. (λ e. e, λ e. e)) refl (λ _. refl) n).0
+
+-- steps that pass the test reverse each word
+pub reversed_by : (w : ℕ) (steps : List Swap) (x : ℕ) → reverses w steps ≡ true → (p : ℕ) → p < w → has_bit (swapped_by w steps x) p ≡ has_bit x (w - 1 - p)
+reversed_by w steps x tested p h =
+    let t = both_true (all_paired w steps p) (eqb (origin steps p) (w - 1 - p)) (below_tells (λ q. all_paired w steps q && eqb (origin steps q) (w - 1 - q)) w tested p h) in
+    all_steps w steps x p t.0 ∙ ap (has_bit x) (eqb-true (origin steps p) (w - 1 - p) t.1)
+
+abbrev pub steps_8 : List Swap
+steps_8 = record { apart = 1; lower = 0x55 } ∷ record { apart = 2; lower = 0x33 } ∷ record { apart = 4; lower = 0x0f } ∷ []
+
+abbrev pub steps_16 : List Swap
+steps_16 = record { apart = 1; lower = 0x5555 } ∷ record { apart = 2; lower = 0x3333 } ∷ record { apart = 4; lower = 0x0f0f } ∷ record { apart = 8; lower = 0x00ff } ∷ []
+
+abbrev pub steps_32 : List Swap
+steps_32 = record { apart = 1; lower = 0x55555555 } ∷ record { apart = 2; lower = 0x33333333 } ∷ record { apart = 4; lower = 0x0f0f0f0f } ∷ record { apart = 8; lower = 0x00ff00ff } ∷ record { apart = 16; lower = 0x0000ffff } ∷ []
+
+abbrev pub steps_64 : List Swap
+steps_64 = record { apart = 1; lower = 0x5555555555555555 } ∷ record { apart = 2; lower = 0x3333333333333333 } ∷ record { apart = 4; lower = 0x0f0f0f0f0f0f0f0f } ∷ record { apart = 8; lower = 0x00ff00ff00ff00ff } ∷ record { apart = 16; lower = 0x0000ffff0000ffff } ∷ record { apart = 32; lower = 0x00000000ffffffff } ∷ []
+
+pub reverses_8 : (x p : ℕ) → p < 8 → has_bit (swapped_by 8 steps_8 x) p ≡ has_bit x (8 - 1 - p)
+reverses_8 x = reversed_by 8 steps_8 x refl
+
+pub reverses_16 : (x p : ℕ) → p < 16 → has_bit (swapped_by 16 steps_16 x) p ≡ has_bit x (16 - 1 - p)
+reverses_16 x = reversed_by 16 steps_16 x refl
+
+pub reverses_32 : (x p : ℕ) → p < 32 → has_bit (swapped_by 32 steps_32 x) p ≡ has_bit x (32 - 1 - p)
+reverses_32 x = reversed_by 32 steps_32 x refl
+
+pub reverses_64 : (x p : ℕ) → p < 64 → has_bit (swapped_by 64 steps_64 x) p ≡ has_bit x (64 - 1 - p)
+reverses_64 x = reversed_by 64 steps_64 x refl

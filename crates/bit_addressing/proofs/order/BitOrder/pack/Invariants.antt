@@ -1,0 +1,7 @@
+use Rattle.std.proofs.Common.{◌*◌, map}
+use Rattle.bit_addressing.specs.Row.{row_of}
+use Rattle.bit_addressing.proofs.Chunks.{IsRead}
+use Rattle.bit_addressing.proofs.order.BitOrder.pack.Given as goal
+
+abbrev pub invariant-loop-i : goal.invariant-loop-i
+invariant-loop-i g l = IsRead (row_of g.Self.BitOrder.place g.T.BitStore.BITS (map g.T.BitStore.value l.words)) (l.k * g.T.BitStore.BITS) (l.i * g.T.BitStore.BITS) l.bits

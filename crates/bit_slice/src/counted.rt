@@ -82,8 +82,8 @@ impl<'a, T: BitStore, O: BitOrder> CountedMut<'a, T, O> {
     }
 
     /// Copies the bits at a range of indices on to the indices from `dest` on, as if they were copied
-    /// out first: the two runs may overlap. No other bit changes, and no more words are written than
-    /// have a bit of the target. The condition: both runs lie in the view's length.
+    /// out first: the two runs may overlap. No other bit changes, no more words are written than have a
+    /// bit of the target, and at most three times as many are read. The condition: both runs lie in the view's length.
     pub fn copy_within_counted<R: RangeExt>(&mut self, range: R, dest: usize)
         requires ordered { R.start_of range ≤ R.end_of range (len_of self.old) }
         requires within { R.end_of range (len_of self.old) ≤ len_of self.old }
@@ -94,6 +94,7 @@ impl<'a, T: BitStore, O: BitOrder> CountedMut<'a, T, O> {
         ensures head { head_of self.new ≡ head_of self.old }
         ensures len { len_of self.new ≡ len_of self.old }
         ensures writes { writes_of self.new ≤ writes_of self.old + touched T.BITS (head_of self.old + dest) (R.end_of range (len_of self.old) - R.start_of range) }
+        ensures reads { reads_of self.new ≤ reads_of self.old + 3 * touched T.BITS (head_of self.old + dest) (R.end_of range (len_of self.old) - R.start_of range) }
     {
         let run = range.normalize(self.len);
         let count = run.end - run.start;

@@ -10,7 +10,7 @@ ghost use Rattle.bit_slice.specs.Fits.{IsView};
 
 use crate::iter::Iter;
 use bit_addressing::{
-    BitOrder, BitStore, GrowError, MAX_BITS, RangeExt, elts, exact_words, read_bit,
+    BitOrder, BitStore, GrowError, MAX_BITS, RangeExt, count_bits, elts, exact_words, read_bit,
 };
 use std::alloc::AllocError;
 use std::marker::PhantomData;
@@ -201,18 +201,12 @@ impl<'a, T: BitStore, O: BitOrder> BitSlice<'a, T, O> {
         Iter::new(self.words, self.head, self.head + self.len)
     }
 
-    /// How many bits are true.
+    /// How many bits are true, by whole words where it can.
     pub fn count_ones(self) -> usize
         ensures value { result ≡ count_by (λ b. b) (list_of self.entry) }
         ensures few { result ≤ len_of self.entry }
     {
-        let mut count = 0;
-        for k in 0..self.len {
-            if self.bit(k) {
-                count += 1;
-            }
-        }
-        count
+        count_bits::<T, O>(self.words, self.head, self.head + self.len)
     }
 
     /// How many bits are false.

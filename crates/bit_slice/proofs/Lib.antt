@@ -2,3 +2,5 @@ pub mod Lending
 pub mod Shown
 pub mod Parts
 pub mod Iteration
+pub mod Comparing
+pub mod Combining

@@ -4,3 +4,4 @@ pub mod ViewMut
 pub mod Iter
 pub mod Lends
 pub mod Counted
+pub mod Operators

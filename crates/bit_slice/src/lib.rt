@@ -4,6 +4,7 @@
 
 mod counted;
 mod iter;
+mod ops;
 #[cfg(test)]
 mod tests;
 mod view;
@@ -11,5 +12,6 @@ mod view_mut;
 
 pub use counted::CountedMut;
 pub use iter::Iter;
+pub use ops::{and_words, or_words, order_of_bits, xor_words};
 pub use view::BitSlice;
 pub use view_mut::BitSliceMut;

@@ -30,9 +30,9 @@ use std::ops::Index;
 /// ```
 #[derive(Drop)]
 pub struct BitSliceMut<'a, T: BitStore, O: BitOrder> {
-    words: &'a mut [T],
-    head: usize,
-    len: usize,
+    pub(crate) words: &'a mut [T],
+    pub(crate) head: usize,
+    pub(crate) len: usize,
     order: PhantomData<O>,
     ghost fits: { IsView T.BITS (length words.now) head len },
 }

@@ -1,0 +1,48 @@
+-- What is made of two lists of bits: of their items at each place, and their order.
+use Rattle.std.specs.Prelude.{◌≡◌, ◌↔◌, Bool, true, false, ◌&&◌, ◌||◌, not, if◌then◌else◌, List, [], ◌∷◌, ◌++◌}
+use Rattle.std.specs.Ordering.{bool_cmp, ordering_reverse}
+use Rattle.std.specs.declared.cmp.Ordering.{Ordering}
+use Rattle.std.specs.declared.cmp.Ordering.TheVariants.{Less, Equal, Greater}
+use Rattle.std.specs.Cmp.Lexicographic.{slice_cmp}
+
+-- what f makes of each item on the left and of the one at its place on the right, which is false where the right has none
+abbrev pub combined : (Bool → Bool → Bool) → List Bool → List Bool → List Bool
+combined f [] ys = []
+combined f (x ∷ xs) [] = f x false ∷ combined f xs []
+combined f (x ∷ xs) (y ∷ ys) = f x y ∷ combined f xs ys
+
+-- the items that are true on both sides
+abbrev pub and_of : List Bool → List Bool → List Bool
+and_of = combined (λ x y. x && y)
+
+-- the items that are true on one side or on both
+abbrev pub or_of : List Bool → List Bool → List Bool
+or_of = combined (λ x y. x || y)
+
+-- the items that are true on one side alone
+abbrev pub xor_of : List Bool → List Bool → List Bool
+xor_of = combined (λ x y. if x then not y else y)
+
+-- the order of two lists: by the first items that differ, false before true, and where none do a proper prefix comes first
+abbrev pub bits_cmp : List Bool → List Bool → Ordering
+bits_cmp = slice_cmp bool_cmp
+
+-- the order asked from the other side answers the other way round
+abbrev pub SameFromEitherSide : Type 0
+SameFromEitherSide = (xs ys : List Bool) → bits_cmp ys xs ≡ ordering_reverse (bits_cmp xs ys)
+
+-- two lists are `Equal` exactly where they are one
+abbrev pub EqualWhereEqual : Type 0
+EqualWhereEqual = (xs ys : List Bool) → (bits_cmp xs ys ≡ Equal) ↔ (xs ≡ ys)
+
+-- what is below a list that is below another is below that one too
+abbrev pub BelowTheNext : Type 0
+BelowTheNext = (xs ys zs : List Bool) → bits_cmp xs ys ≡ Less → bits_cmp ys zs ≡ Less → bits_cmp xs zs ≡ Less
+
+-- behind what two lists share, the one that goes on with false is below the one that goes on with true
+abbrev pub FalseFirst : Type 0
+FalseFirst = (zs xs ys : List Bool) → bits_cmp (zs ++ (false ∷ xs)) (zs ++ (true ∷ ys)) ≡ Less
+
+-- a list is below each that goes on behind it
+abbrev pub PrefixFirst : Type 0
+PrefixFirst = (xs ys : List Bool) (y : Bool) → bits_cmp xs (xs ++ (y ∷ ys)) ≡ Less

@@ -1,0 +1,171 @@
+//! Two views compared, and one combined into the other, whatever their words, orders and heads.
+ghost use Rattle.std.specs.Prelude.{◌≡◌, ◌+◌, ◌*◌, ◌^◌, ◌<◌, ◌≤◌, ◌↔◌, IsTrue, MatchOption, length, slice_range, take};
+ghost use Rattle.bit_addressing.specs.Row.{put, IsFirstDifference};
+ghost use Rattle.bit_addressing.specs.Typed.{row};
+ghost use Rattle.bit_addressing.specs.declared.length.TheConstants.{MAX_BITS};
+ghost use Rattle.bit_slice.specs.Operators.{bits_cmp, and_of, or_of, xor_of, SameFromEitherSide, EqualWhereEqual, BelowTheNext, FalseFirst, PrefixFirst};
+ghost use Rattle.bit_slice.specs.View.{len_of as len_seen, list_of as list_seen};
+
+use crate::view::BitSlice;
+use crate::view_mut::BitSliceMut;
+use bit_addressing::{And, BitOrder, BitStore, Or, Xor, combine_bits, differ_at, fill_bits};
+use std::cmp::Ordering;
+
+impl<'a, T: BitStore, O: BitOrder> BitSlice<'a, T, O> {
+    /// Whether both views have the same bits, 64 at a time.
+    pub fn eq_bits<U: BitStore, P: BitOrder>(self, other: BitSlice<'_, U, P>) -> bool
+        ensures { IsTrue result ↔ (list_seen self.entry ≡ list_seen other.entry) }
+    {
+        let len = self.len();
+        len == other.len() && first_difference(self, other, len).is_none()
+    }
+
+    /// How the bits of both views are ordered, 64 at a time: the first that differ decide, false before
+    /// true, and where none do the shorter view comes first.
+    pub fn cmp_bits<U: BitStore, P: BitOrder>(self, other: BitSlice<'_, U, P>) -> Ordering
+        ensures { result ≡ bits_cmp (list_seen self.entry) (list_seen other.entry) }
+    {
+        let both = self.len().min(other.len());
+        match first_difference(self, other, both) {
+            None => self.len().cmp(&other.len()),
+            Some(k) => if self.bit(k) {
+                Ordering::Greater
+            } else {
+                Ordering::Less
+            },
+        }
+    }
+}
+
+// The first index below `n` at which two views differ. None exactly where they are equal up to it.
+fn first_difference<T: BitStore, O: BitOrder, U: BitStore, P: BitOrder>(
+    left: BitSlice<'_, T, O>,
+    right: BitSlice<'_, U, P>,
+    n: usize,
+) -> Option<usize>
+    requires left { n ≤ len_seen left }
+    requires right { n ≤ len_seen right }
+    ensures { MatchOption result (take n (list_seen left.entry) ≡ take n (list_seen right.entry)) (λ k. IsFirstDifference (take n (list_seen left.entry)) (take n (list_seen right.entry)) k) }
+{
+    let from = left.head();
+    let begin = right.head();
+    differ_at::<T, O, U, P>(left.as_raw_slice(), from, right.as_raw_slice(), begin, n)
+}
+
+/// Does nothing: the laws of the order of lists of bits. It is the same from either side, and total
+/// with it; two lists are `Equal` exactly where they are one list; false comes before true at the first
+/// items that differ, and a list before each that goes on behind it.
+pub fn order_of_bits()
+    ensures sides { SameFromEitherSide }
+    ensures equal { EqualWhereEqual }
+    ensures next { BelowTheNext }
+    ensures false_first { FalseFirst }
+    ensures prefix_first { PrefixFirst }
+{}
+
+/// Clears each of the `len` bits of the words' row from `head` on that is false in `other`, or that
+/// `other` is too short for. No other bit changes. The condition: the run lies in the words, and has at
+/// most `MAX_BITS` bits.
+pub fn and_words<T: BitStore, O: BitOrder, U: BitStore, P: BitOrder>(
+    words: &mut [T],
+    head: usize,
+    len: usize,
+    other: BitSlice<'_, U, P>,
+)
+    requires within { head + len ≤ T.BITS * length words.old }
+    requires fits { head + len < 2 ^ 64 }
+    ensures bits { row T.BitStore O.BitOrder words.new ≡ put (row T.BitStore O.BitOrder words.old) head (and_of (slice_range (row T.BitStore O.BitOrder words.old) head (head + len)) (list_seen other.entry)) }
+    ensures size { length words.new ≡ length words.old }
+{
+    let both = len.min(other.len());
+    let from = other.head();
+    combine_bits::<And, T, O, U, P>(words, head, other.as_raw_slice(), from, both);
+    fill_bits::<T, O>(words, head + both, head + len, false);
+}
+
+/// Sets each of the `len` bits of the words' row from `head` on that is true in `other`. No other bit
+/// changes. The condition: the run lies in the words.
+pub fn or_words<T: BitStore, O: BitOrder, U: BitStore, P: BitOrder>(
+    words: &mut [T],
+    head: usize,
+    len: usize,
+    other: BitSlice<'_, U, P>,
+)
+    requires within { head + len ≤ T.BITS * length words.old }
+    requires fits { head + len < 2 ^ 64 }
+    ensures bits { row T.BitStore O.BitOrder words.new ≡ put (row T.BitStore O.BitOrder words.old) head (or_of (slice_range (row T.BitStore O.BitOrder words.old) head (head + len)) (list_seen other.entry)) }
+    ensures size { length words.new ≡ length words.old }
+{
+    let both = len.min(other.len());
+    let from = other.head();
+    combine_bits::<Or, T, O, U, P>(words, head, other.as_raw_slice(), from, both);
+}
+
+/// Flips each of the `len` bits of the words' row from `head` on that is true in `other`. No other bit
+/// changes. The condition: the run lies in the words.
+pub fn xor_words<T: BitStore, O: BitOrder, U: BitStore, P: BitOrder>(
+    words: &mut [T],
+    head: usize,
+    len: usize,
+    other: BitSlice<'_, U, P>,
+)
+    requires within { head + len ≤ T.BITS * length words.old }
+    requires fits { head + len < 2 ^ 64 }
+    ensures bits { row T.BitStore O.BitOrder words.new ≡ put (row T.BitStore O.BitOrder words.old) head (xor_of (slice_range (row T.BitStore O.BitOrder words.old) head (head + len)) (list_seen other.entry)) }
+    ensures size { length words.new ≡ length words.old }
+{
+    let both = len.min(other.len());
+    let from = other.head();
+    combine_bits::<Xor, T, O, U, P>(words, head, other.as_raw_slice(), from, both);
+}
+
+impl<'a, T: BitStore, O: BitOrder> BitSliceMut<'a, T, O> {
+    ghost use Rattle.bit_slice.specs.ViewMut.{head_of, len_of, row_of, list_of, loan_of};
+
+    /// As `BitSlice::eq_bits`.
+    pub fn eq_bits<U: BitStore, P: BitOrder>(&self, other: BitSlice<'_, U, P>) -> bool
+        ensures { IsTrue result ↔ (list_of self.now ≡ list_seen other.entry) }
+    {
+        self.as_bitslice().eq_bits(other)
+    }
+
+    /// As `BitSlice::cmp_bits`.
+    pub fn cmp_bits<U: BitStore, P: BitOrder>(&self, other: BitSlice<'_, U, P>) -> Ordering
+        ensures { result ≡ bits_cmp (list_of self.now) (list_seen other.entry) }
+    {
+        self.as_bitslice().cmp_bits(other)
+    }
+
+    /// Clears each bit that is false in `other`, or that `other` is too short for.
+    pub fn and_bits<U: BitStore, P: BitOrder>(&mut self, other: BitSlice<'_, U, P>)
+        ensures same_words { loan_of self.new ≡ loan_of self.old }
+        ensures row { row_of self.new ≡ put (row_of self.old) (head_of self.old) (and_of (list_of self.old) (list_seen other.entry)) }
+        ensures list { list_of self.new ≡ and_of (list_of self.old) (list_seen other.entry) }
+        ensures head { head_of self.new ≡ head_of self.old }
+        ensures len { len_of self.new ≡ len_of self.old }
+    {
+        and_words::<T, O, U, P>(self.words, self.head, self.len, other);
+    }
+
+    /// Sets each bit that is true in `other`.
+    pub fn or_bits<U: BitStore, P: BitOrder>(&mut self, other: BitSlice<'_, U, P>)
+        ensures same_words { loan_of self.new ≡ loan_of self.old }
+        ensures row { row_of self.new ≡ put (row_of self.old) (head_of self.old) (or_of (list_of self.old) (list_seen other.entry)) }
+        ensures list { list_of self.new ≡ or_of (list_of self.old) (list_seen other.entry) }
+        ensures head { head_of self.new ≡ head_of self.old }
+        ensures len { len_of self.new ≡ len_of self.old }
+    {
+        or_words::<T, O, U, P>(self.words, self.head, self.len, other);
+    }
+
+    /// Flips each bit that is true in `other`.
+    pub fn xor_bits<U: BitStore, P: BitOrder>(&mut self, other: BitSlice<'_, U, P>)
+        ensures same_words { loan_of self.new ≡ loan_of self.old }
+        ensures row { row_of self.new ≡ put (row_of self.old) (head_of self.old) (xor_of (list_of self.old) (list_seen other.entry)) }
+        ensures list { list_of self.new ≡ xor_of (list_of self.old) (list_seen other.entry) }
+        ensures head { head_of self.new ≡ head_of self.old }
+        ensures len { len_of self.new ≡ len_of self.old }
+    {
+        xor_words::<T, O, U, P>(self.words, self.head, self.len, other);
+    }
+}

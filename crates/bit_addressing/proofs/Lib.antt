@@ -11,6 +11,7 @@ pub mod MovedLists
 pub mod Chunks
 pub mod Counts
 pub mod Differs
+pub mod Finds
 pub mod Combined
 pub mod Reverse
 pub mod Wholes

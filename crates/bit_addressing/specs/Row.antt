@@ -1,5 +1,5 @@
 -- Rows: the bits of words one after another, and what calls do to them.
-use Rattle.std.specs.Prelude.{◌≡◌, ◌≢◌, ℕ, ◌+◌, ◌-◌, ◌*◌, ◌/◌, ◌%◌, ◌<◌, Bool, false, ◌&&◌, if◌then◌else◌, eqb, leb, ltb, List, ◌++◌, map, take, drop, length, replicate, slice_index_or, slice_range, zero, suc, ◌^◌, bit_or, [], ◌∷◌}
+use Rattle.std.specs.Prelude.{◌≡◌, ◌≢◌, ℕ, ◌+◌, ◌-◌, ◌*◌, ◌/◌, ◌%◌, ◌<◌, Bool, false, not, ◌&&◌, if◌then◌else◌, eqb, leb, ltb, List, ◌++◌, map, take, drop, length, replicate, slice_index_or, slice_range, zero, suc, ◌^◌, bit_or, [], ◌∷◌}
 use Rattle.std.specs.List.{range_with_len}
 use Rattle.std.specs.Simd.Lanes.{mask_l}
 use Rattle.bit_addressing.specs.Bits.{has_bit}
@@ -76,3 +76,9 @@ pub record IsFirstDifference (xs ys : List Bool) (k : ℕ) : Type 0 where
   pub within : k < length xs
   pub before : (i : ℕ) → i < k → slice_index_or xs i false ≡ slice_index_or ys i false
   pub apart : slice_index_or xs k false ≢ slice_index_or ys k false
+
+-- k is the first place of a list with this bit
+pub record IsFirst (bit : Bool) (xs : List Bool) (k : ℕ) : Type 0 where
+  pub within : k < length xs
+  pub here : slice_index_or xs k false ≡ bit
+  pub before : (i : ℕ) → i < k → slice_index_or xs i false ≡ not bit

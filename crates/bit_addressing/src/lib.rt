@@ -2,28 +2,33 @@
 #![tactic(auto)]
 
 mod bits;
-mod by_words;
-mod chunk;
 mod index;
 mod length;
 mod meter;
+mod move_run;
 mod order;
 mod range;
 mod store;
 #[cfg(test)]
 mod tests;
+mod word_read;
 mod word_row;
 
-pub use bits::{
-    And, BitOperator, Or, Xor, combine_bits, copy_bits, copy_bits_alike, copy_bits_in, cut_words,
-    exact_words, fill_bits, fill_bits_in, fill_outside, fill_outside_in, flip_bits, flip_bits_in,
-    move_bits, move_bits_in, push_bit, read_bit, resize_words, write_bit, write_bit_in,
+pub use bits::chunks::read_chunk;
+pub use bits::combined::{And, BitOperator, Or, Xor, combine_bits};
+pub use bits::copies::{copy_bits, copy_bits_alike};
+pub use bits::growth::{cut_words, push_bit, resize_words};
+pub use bits::searches::{count_bits, differ_at, find_bit};
+pub use bits::single::{exact_words, fill_bits, fill_outside, flip_bits, read_bit, write_bit};
+pub use bits::vectors::{
+    copy_bits_in, fill_bits_in, fill_outside_in, flip_bits_in, move_bits_in, write_bit_in,
 };
-pub use chunk::{count_bits, differ_at, read_chunk};
 pub use index::{BitEnd, BitIdx, BitPos};
 pub use length::{GrowError, MAX_BITS, elts};
 pub use meter::Meter;
+pub use move_run::move_bits;
 pub use order::{BitOrder, Lsb0, Msb0};
 pub use range::RangeExt;
 pub use store::{BitStore, BitStore as BitRegister};
+pub use word_read::WordRead;
 pub use word_row::WordRow;

@@ -4,8 +4,8 @@ ghost use Rattle.bit_addressing.specs.Bits.{has_bit};
 ghost use Rattle.bit_addressing.specs.Order.{IsLawful, lsb0_lawful, msb0_lawful};
 ghost use Rattle.bit_addressing.specs.Row.{row_bit, row_of, moved, touched};
 
-use crate::by_words::{move_part, move_words};
 use crate::index::{BitEnd, BitIdx, BitPos};
+use crate::move_run::{move_part, move_words};
 use crate::store::BitStore;
 use crate::word_row::WordRow;
 

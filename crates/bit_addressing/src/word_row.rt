@@ -1,5 +1,5 @@
 //! Words that are lent, and can be reached one at a time alone.
-ghost use Rattle.std.specs.Prelude.{◌≡◌, ◌+◌, ◌*◌, ◌<◌, ◌≤◌, length, map, slice_index, slice_set};
+ghost use Rattle.std.specs.Prelude.{◌≡◌, ◌+◌, ◌*◌, ◌<◌, ◌≤◌, Some, length, map, slice_get, slice_index, slice_set};
 ghost use Rattle.bit_addressing.specs.declared.length.TheConstants.{MAX_BITS};
 
 use crate::meter::Meter;
@@ -42,6 +42,7 @@ impl<'a, T: BitStore> WordRow<'a, T> {
     /// Word `k`, and one read more. The condition: `k` is below the number of words.
     pub fn load(&mut self, k: usize) -> T
         requires { k < length self.old.words.now }
+        ensures word { slice_get self.old.words.now k ≡ Some result }
         ensures value { T.value result ≡ slice_index (map T.value self.old.words.now) k }
         ensures same_words { self.new.words.ghost_name ≡ self.old.words.ghost_name }
         ensures words { self.new.words.now ≡ self.old.words.now }

@@ -1,0 +1,42 @@
+use Rattle.std.proofs.Common.{◌≡◌, ℕ, ◌+◌, ◌*◌, ◌≤◌, [], ◌∷◌, map, get_or, slice_range, length, sym, ◌∙◌, ap, subst, arith}
+use Rattle.std.proofs.lemmas.List.{length-map, get_or-map}
+use Rattle.bit_addressing.specs.Row.{number_of, row_bit}
+use Rattle.bit_addressing.specs.Typed.{row}
+use Rattle.bit_addressing.proofs.Shifts.{pair_bit, word_copied}
+use Rattle.bit_addressing.proofs.Wholes.{word_placed}
+use Rattle.bit_addressing.proofs.Rows.{width_positive, width_small}
+use Rattle.bit_addressing.proofs.Runs.{one_more_word, mul_mono}
+use Rattle.bit_addressing.proofs.Typed.{length_row}
+use Rattle.bit_addressing.proofs.bits.chunks.word_of_window.Goals as goal
+
+pub returns : goal.returns
+returns g c =
+    let w = g.T.BitStore.BITS in
+    let u = g.U.BitStore.BITS in
+    let value = g.U.BitStore.value in
+    let place = g.P.BitOrder.place in
+    let k = c.args.k in
+    let skip = c.args.skip in
+    let source = c.args.source.now in
+    let words = map value source in
+    let zs = row g.U.BitStore g.P.BitOrder source in
+    let low = c.index-source-k.result in
+    let high = c.index-source-k-2.result in
+    let positive = width_positive u g.met.U.BitStore.width in
+    let size : length words ≡ length source = length-map source value in
+    let long : length zs ≡ u * length source = length_row value place u source in
+    let more = one_more_word k u in
+    let next = one_more_word (k + 1) u in
+    let room = mul_mono (k + 1 + 1) (length source) u (omega arith) in
+    let a : ℕ = k * u + skip in
+    let inside : a + u ≤ length zs = omega arith in
+    let fits : a + u ≤ u * length words = rw size (omega arith) in
+    let read_low : value low ≡ get_or words k 0 = ap value c.index-source-k.is ∙ sym (get_or-map value source k low 0 (omega arith)) in
+    let read_high : value high ≡ get_or words (k + 1) 0 = ap value c.index-source-k-2.is ∙ sym (get_or-map value source (k + 1) high 0 c.requires.word) in
+    let bits : c.word_number-bits.result ≡ number_of (slice_range zs a (a + u)) = c.word_number-bits.ensures
+    ∙ ap number_of (word_copied place u words (value c.window.result) a positive fits
+    (λ i h. c.window.ensures i h ∙ ap (λ n. row_bit place u (value low ∷ value high ∷ []) (n + i)) c.new_unchecked-begin.ensures ∙ pair_bit place u words k (value low) (value high) skip i c.requires.within h read_low (λ past. read_high))) in
+    let same = c.requires.width in
+    word_placed g.O.BitOrder.place w (g.T.BitStore.value c.from_lsb0.result) (g.T.BitStore.value c.from_u64.result) c.word_number-bits.result a zs (width_positive w g.met.T.BitStore.width) (width_small w g.met.T.BitStore.width) (omega arith) c.word_number-bits.type_inv
+    (bits ∙ ap (λ n. number_of (slice_range zs a (a + n))) same) c.from_u64.ensures c.from_lsb0.ensures
+    ∙ ap (λ n. slice_range zs a (a + n)) (sym same)

@@ -1,0 +1,67 @@
+use Rattle.std.proofs.Common.{◌≡◌, ℕ, ◌+◌, ◌*◌, ◌/◌, ◌%◌, ◌<◌, bit_xor, length, slice_range, w64, refl, ap, subst, arith}
+use Rattle.std.specs.Int.{trailing_zeros}
+use Rattle.std.proofs.lemmas.Nat.{xor_lt}
+use Rattle.bit_addressing.specs.Row.{IsFirstDifference}
+use Rattle.bit_addressing.specs.Typed.{row}
+use Rattle.bit_addressing.proofs.Differs.{AreAlike, alike_all, alike_more, differ_here, length-run}
+use Rattle.bit_addressing.proofs.Typed.{length_row}
+use Rattle.bit_addressing.proofs.bits.searches.differ_at.Given as given
+use Rattle.bit_addressing.proofs.bits.searches.differ_at.Goals as goal
+
+pub returns-then-apart-ne0 : goal.returns-then-apart-ne0
+returns-then-apart-ne0 g c =
+    let xs = row g.T.BitStore g.O.BitOrder c.args.a.now in
+    let ys = row g.U.BitStore g.P.BitOrder c.args.b.now in
+    let first : length xs ≡ g.T.BitStore.BITS * length c.args.a.now = length_row g.T.BitStore.value g.O.BitOrder.place g.T.BitStore.BITS c.args.a.now in
+    let second : length ys ≡ g.U.BitStore.BITS * length c.args.b.now = length_row g.U.BitStore.value g.P.BitOrder.place g.U.BitStore.BITS c.args.b.now in
+    let k : ℕ = c.loop-t.t * 64 in
+    differ_here xs ys c.args.i c.args.j k 64 c.read_chunk-left.result c.read_chunk-right.result (c.args.i + k) (c.args.j + k) refl refl c.read_chunk-left.ensures c.read_chunk-right.ensures
+    c.args.n c.if-apart-ne0.true (xor_lt 64 c.read_chunk-left.result c.read_chunk-right.result c.read_chunk-left.type_inv c.read_chunk-right.type_inv) (omega arith) (omega arith) (omega arith) c.loop-t.invariant.alike
+
+pub loop-t-preserved : goal.loop-t-preserved
+loop-t-preserved g c =
+    let xs = row g.T.BitStore g.O.BitOrder c.args.a.now in
+    let ys = row g.U.BitStore g.P.BitOrder c.args.b.now in
+    let first : length xs ≡ g.T.BitStore.BITS * length c.args.a.now = length_row g.T.BitStore.value g.O.BitOrder.place g.T.BitStore.BITS c.args.a.now in
+    let second : length ys ≡ g.U.BitStore.BITS * length c.args.b.now = length_row g.U.BitStore.value g.P.BitOrder.place g.U.BitStore.BITS c.args.b.now in
+    let k : ℕ = c.loop-t.t * 64 in
+    let next : k + 64 ≡ (c.loop-t.t + 1) * 64 = omega arith in
+    record {
+      alike = subst (AreAlike xs ys c.args.i c.args.j) next
+          (alike_more xs ys c.args.i c.args.j k 64 c.read_chunk-left.result c.read_chunk-right.result (c.args.i + k) (c.args.j + k) refl refl c.read_chunk-left.ensures c.read_chunk-right.ensures (omega arith) c.loop-t.invariant.alike);
+    }
+
+pub returns-then-apart-eq0 : goal.returns-then-apart-eq0
+returns-then-apart-eq0 g c =
+    let xs = row g.T.BitStore g.O.BitOrder c.args.a.now in
+    let ys = row g.U.BitStore g.P.BitOrder c.args.b.now in
+    let first : length xs ≡ g.T.BitStore.BITS * length c.args.a.now = length_row g.T.BitStore.value g.O.BitOrder.place g.T.BitStore.BITS c.args.a.now in
+    let second : length ys ≡ g.U.BitStore.BITS * length c.args.b.now = length_row g.U.BitStore.value g.P.BitOrder.place g.U.BitStore.BITS c.args.b.now in
+    let k : ℕ = c.args.n / 64 * 64 in
+    let same : c.loop-t.t * 64 ≡ k = omega arith in
+    alike_all xs ys c.args.i c.args.j c.args.n (k + c.args.n % 64) (omega arith) (omega arith) (omega arith)
+    (alike_more xs ys c.args.i c.args.j k (c.args.n % 64) c.read_chunk-left-2.result c.read_chunk-right-2.result (c.args.i + k) (c.args.j + k) refl refl c.read_chunk-left-2.ensures c.read_chunk-right-2.ensures c.if-apart-eq0.true (subst (AreAlike xs ys c.args.i c.args.j) same c.loop-t.invariant.alike))
+
+found : (g : given.Over) (c : goal.Else-apart-eq0 g) → IsFirstDifference (slice_range (row g.T.BitStore g.O.BitOrder c.args.a.now) c.args.i (c.args.i + c.args.n)) (slice_range (row g.U.BitStore g.P.BitOrder c.args.b.now) c.args.j (c.args.j + c.args.n)) (c.args.n / 64 * 64 + trailing_zeros w64 (bit_xor c.read_chunk-left-2.result c.read_chunk-right-2.result))
+found g c =
+    let xs = row g.T.BitStore g.O.BitOrder c.args.a.now in
+    let ys = row g.U.BitStore g.P.BitOrder c.args.b.now in
+    let first : length xs ≡ g.T.BitStore.BITS * length c.args.a.now = length_row g.T.BitStore.value g.O.BitOrder.place g.T.BitStore.BITS c.args.a.now in
+    let second : length ys ≡ g.U.BitStore.BITS * length c.args.b.now = length_row g.U.BitStore.value g.P.BitOrder.place g.U.BitStore.BITS c.args.b.now in
+    let k : ℕ = c.args.n / 64 * 64 in
+    let same : c.loop-t.t * 64 ≡ k = omega arith in
+    differ_here xs ys c.args.i c.args.j k (c.args.n % 64) c.read_chunk-left-2.result c.read_chunk-right-2.result (c.args.i + k) (c.args.j + k) refl refl c.read_chunk-left-2.ensures c.read_chunk-right-2.ensures
+    c.args.n c.if-apart-eq0.false (xor_lt 64 c.read_chunk-left-2.result c.read_chunk-right-2.result c.read_chunk-left-2.type_inv c.read_chunk-right-2.type_inv) (omega arith) (omega arith) (omega arith) (subst (AreAlike xs ys c.args.i c.args.j) same c.loop-t.invariant.alike)
+
+pub overflow_add-result-2 : goal.overflow_add-result-2
+overflow_add-result-2 g c =
+    let xs = row g.T.BitStore g.O.BitOrder c.args.a.now in
+    let ys = row g.U.BitStore g.P.BitOrder c.args.b.now in
+    let first : length xs ≡ g.T.BitStore.BITS * length c.args.a.now = length_row g.T.BitStore.value g.O.BitOrder.place g.T.BitStore.BITS c.args.a.now in
+    let second : length ys ≡ g.U.BitStore.BITS * length c.args.b.now = length_row g.U.BitStore.value g.P.BitOrder.place g.U.BitStore.BITS c.args.b.now in
+    let size = length-run xs c.args.i c.args.n (omega arith) in
+    let inside = (found g c).within in
+    omega arith
+
+pub returns : goal.returns
+returns g c = found g c

@@ -1,0 +1,73 @@
+//! Runs of up to 64 bits as numbers, whatever the words and the order that they lie in.
+//!
+//! Calls between words of two types or orders go through these numbers, 64 bits at a time.
+ghost use Rattle.std.specs.Prelude.{◌≡◌, ◌+◌, ◌*◌, ◌<◌, ◌≤◌, [], ◌∷◌, length, slice_range};
+ghost use Rattle.bit_addressing.specs.Row.{number_of};
+ghost use Rattle.bit_addressing.specs.Typed.{row};
+
+use crate::index::BitIdx;
+use crate::order::BitOrder;
+use crate::store::BitStore;
+
+/// The bits of a word as a number: the bit at index `i` is at place `i`.
+pub(crate) fn word_number<T: BitStore, O: BitOrder>(word: T) -> u64
+    ensures { result ≡ number_of (row T.BitStore O.BitOrder (word ∷ [])) }
+{
+    O::to_lsb0(word).to_u64()
+}
+
+/// The `n` bits of the row from `at` on as a number, the first at place 0: each word is read once.
+/// The condition: `n` is at most 64, and the run lies in the words.
+pub fn read_chunk<T: BitStore, O: BitOrder>(words: &[T], at: usize, n: u8) -> u64
+    requires few { n ≤ 64 }
+    requires within { at + n ≤ T.BITS * length words.now }
+    ensures { result ≡ number_of (slice_range (row T.BitStore O.BitOrder words.now) at (at + n)) }
+{
+    if n == 0 {
+        return 0;
+    }
+    let width = T::BITS as usize;
+    let mut k = at / width;
+    let skip = (at % width) as u8;
+    let mut chunk = word_number::<T, O>(words[k]) >> skip;
+    let mut got = T::BITS - skip;
+    while got < n {
+        k += 1;
+        chunk |= word_number::<T, O>(words[k]) << got;
+        got += T::BITS;
+    }
+    chunk & (u64::MAX >> (64 - n))
+}
+
+/// A word whose indices from `low` on have the `n` bits of the row of `source` from `from` on.
+/// The condition: the indices are in the word, and the run lies in `source`.
+pub(crate) fn word_of_run<T: BitStore, O: BitOrder, U: BitStore, P: BitOrder>(
+    source: &[U],
+    from: usize,
+    n: u8,
+    low: u8,
+) -> T
+    requires begins { low < T.BITS }
+    requires ends { low + n ≤ T.BITS }
+    requires source { from + n ≤ U.BITS * length source.now }
+    ensures { slice_range (row T.BitStore O.BitOrder (result ∷ [])) low (low + n) ≡ slice_range (row U.BitStore P.BitOrder source.now) from (from + n) }
+{
+    O::from_lsb0(T::from_u64(read_chunk::<U, P>(source, from, n) << low))
+}
+
+/// The word of the bits of `source` from index `skip` of word `k` on, in words of one width.
+/// The condition: `skip` is an index of the word, and word `k + 1` is there.
+pub(crate) fn word_of_window<T: BitStore, O: BitOrder, U: BitStore, P: BitOrder>(
+    source: &[U],
+    k: usize,
+    skip: u8,
+) -> T
+    requires width { U.BITS ≡ T.BITS }
+    requires word { k + 1 < length source.now }
+    requires within { skip < U.BITS }
+    ensures { row T.BitStore O.BitOrder (result ∷ []) ≡ slice_range (row U.BitStore P.BitOrder source.now) (k * U.BITS + skip) (k * U.BITS + skip + U.BITS) }
+{
+    let begin = BitIdx::<U>::new_unchecked(skip);
+    let bits = word_number::<U, P>(P::window(source[k], source[k + 1], begin));
+    O::from_lsb0(T::from_u64(bits))
+}

@@ -1,0 +1,112 @@
+//! Runs of bits combined with those of another row, by whole words of the target.
+ghost use Rattle.std.specs.Prelude.{◌≡◌, ℕ, ◌+◌, ◌*◌, ◌^◌, ◌<◌, ◌≤◌, if◌then◌else◌, ◌&&◌, ◌||◌, Bool, not, [], ◌∷◌, length, slice_range};
+ghost use Rattle.std.specs.Simd.Lanes.{zip2};
+ghost use Rattle.bit_addressing.specs.Bits.{has_bit};
+ghost use Rattle.bit_addressing.specs.Row.{put};
+ghost use Rattle.bit_addressing.specs.Typed.{row};
+
+use crate::bits::chunks::word_of_run;
+use crate::bits::single::write_part;
+use crate::order::BitOrder;
+use crate::store::BitStore;
+
+/// What two bits are made into.
+pub trait BitOperator {
+    // The bit made of an old one and a new one.
+    ghost made: { Bool → Bool → Bool };
+
+    /// The bits of `old` and `new` at each place made into one.
+    fn apply<T: BitStore>(old: T, new: T) -> T
+        ensures { (p : ℕ) → p < T.BITS → has_bit (T.value result) p ≡ made (has_bit (T.value old) p) (has_bit (T.value new) p) };
+}
+
+/// A bit that is set in both.
+pub struct And;
+
+impl BitOperator for And {
+    ghost made = { λ a b. a && b };
+
+    fn apply<T: BitStore>(old: T, new: T) -> T {
+        old.and(new)
+    }
+}
+
+/// A bit that is set in one or in both.
+pub struct Or;
+
+impl BitOperator for Or {
+    ghost made = { λ a b. a || b };
+
+    fn apply<T: BitStore>(old: T, new: T) -> T {
+        old.or(new)
+    }
+}
+
+/// A bit that is set in one alone.
+pub struct Xor;
+
+impl BitOperator for Xor {
+    ghost made = { λ a b. if a then not b else b };
+
+    fn apply<T: BitStore>(old: T, new: T) -> T {
+        old.xor(new)
+    }
+}
+
+/// As `write_part`, of what `F` makes of the bits there and of those of `new`.
+fn combine_part<F: BitOperator, T: BitStore, O: BitOrder>(
+    words: &mut [T],
+    k: usize,
+    low: usize,
+    high: usize,
+    new: T,
+)
+    requires word { k < length words.old }
+    requires some { low < high }
+    requires within { high ≤ T.BITS }
+    ensures bits { row T.BitStore O.BitOrder words.new ≡ put (row T.BitStore O.BitOrder words.old) (k * T.BITS + low) (zip2 F.made (slice_range (row T.BitStore O.BitOrder words.old) (k * T.BITS + low) (k * T.BITS + high)) (slice_range (row T.BitStore O.BitOrder (new ∷ [])) low high)) }
+    ensures size { length words.new ≡ length words.old }
+{
+    let word = F::apply(words[k], new);
+    write_part::<T, O>(words, k, low, high, word);
+}
+
+/// Makes each of `n` bits of `words`, from `at` on, into the bit that `F` makes of it and of the bit of
+/// `source` that stands as far behind `from`, and changes no other bit. The condition: both runs lie in
+/// their words.
+pub fn combine_bits<F: BitOperator, T: BitStore, O: BitOrder, U: BitStore, P: BitOrder>(
+    words: &mut [T],
+    at: usize,
+    source: &[U],
+    from: usize,
+    n: usize,
+)
+    requires target { at + n ≤ T.BITS * length words.old }
+    requires source { from + n ≤ U.BITS * length source.now }
+    requires target_fits { at + n < 2 ^ 64 }
+    requires source_fits { from + n < 2 ^ 64 }
+    ensures bits { row T.BitStore O.BitOrder words.new ≡ put (row T.BitStore O.BitOrder words.old) at (zip2 F.made (slice_range (row T.BitStore O.BitOrder words.old) at (at + n)) (slice_range (row U.BitStore P.BitOrder source.now) from (from + n))) }
+    ensures size { length words.new ≡ length words.old }
+{
+    if n == 0 {
+        return;
+    }
+    let width = T::BITS as usize;
+    let first = at / width;
+    let low = at % width;
+    let last = (at + n - 1) / width;
+    let end = (at + n - 1) % width + 1;
+    if first == last {
+        let new = word_of_run::<T, O, U, P>(source, from, n as u8, low as u8);
+        combine_part::<F, T, O>(words, first, low, end, new);
+        return;
+    }
+    let new = word_of_run::<T, O, U, P>(source, from, (width - low) as u8, low as u8);
+    combine_part::<F, T, O>(words, first, low, width, new);
+    for k in first + 1..last {
+        let new = word_of_run::<T, O, U, P>(source, from + (k * width - at), T::BITS, 0);
+        combine_part::<F, T, O>(words, k, 0, width, new);
+    }
+    let new = word_of_run::<T, O, U, P>(source, from + (last * width - at), end as u8, 0);
+    combine_part::<F, T, O>(words, last, 0, end, new);
+}

@@ -1,0 +1,69 @@
+//! Words grown or cut to a number of bits.
+ghost use Rattle.std.specs.Prelude.{◌≡◌, ◌+◌, ◌*◌, ◌^◌, ◌<◌, ◌≤◌, [], ◌∷◌, length, OnOk, OnErr, vec_capacity};
+ghost use Rattle.bit_addressing.specs.Row.{words_for, put, sized};
+ghost use Rattle.bit_addressing.specs.Typed.{row};
+
+use crate::index::BitIdx;
+use crate::length::elts;
+use crate::order::BitOrder;
+use crate::store::BitStore;
+use std::alloc::AllocError;
+
+/// Cuts the words to those for `bits` bits, or fills them up with words of zero. Takes memory.
+/// It is refused only where the capacity, in words, is too small.
+pub fn resize_words<T: BitStore, O: BitOrder>(
+    words: &mut Vec<T>,
+    bits: usize,
+) -> Result<(), AllocError>
+    ensures bits { OnOk result (row T.BitStore O.BitOrder words.new.items ≡ sized T.BITS (row T.BitStore O.BitOrder words.old.items) bits) }
+    ensures size { OnOk result (length words.new.items ≡ words_for T.BITS bits) }
+    ensures room { OnOk result (bits ≤ T.BITS * length words.new.items) }
+    ensures capacity { vec_capacity words.old ≤ vec_capacity words.new }
+    ensures full { OnErr result (vec_capacity words.old < words_for T.BITS bits) }
+    ensures unchanged { OnErr result (words.new.items ≡ words.old.items) }
+{
+    let count = elts::<T>(bits);
+    words.resize(count, T::ZERO)?;
+    Ok(())
+}
+
+/// Cuts the words to those for `bits` bits. The condition: they have room for so many.
+pub fn cut_words<T: BitStore, O: BitOrder>(words: &mut Vec<T>, bits: usize)
+    requires { bits ≤ T.BITS * length words.old.items }
+    ensures bits { row T.BitStore O.BitOrder words.new.items ≡ sized T.BITS (row T.BitStore O.BitOrder words.old.items) bits }
+    ensures size { length words.new.items ≡ words_for T.BITS bits }
+    ensures room { bits ≤ T.BITS * length words.new.items }
+    ensures capacity { vec_capacity words.new ≡ vec_capacity words.old }
+{
+    let count = elts::<T>(bits);
+    words.truncate(count);
+}
+
+/// Joins a bit behind the first `end` bits: a word is added only where no word has room for it, and the
+/// other bits of a word that is added are false. Takes memory where a word is added.
+/// The condition: the words are those for `end` bits. It is refused only where the capacity, in words, is too small.
+pub fn push_bit<T: BitStore, O: BitOrder>(
+    words: &mut Vec<T>,
+    end: usize,
+    bit: bool,
+) -> Result<(), AllocError>
+    requires count { length words.old.items ≡ words_for T.BITS end }
+    requires fits { end + 1 < 2 ^ 64 }
+    ensures bits { OnOk result (row T.BitStore O.BitOrder words.new.items ≡ put (sized T.BITS (row T.BitStore O.BitOrder words.old.items) (end + 1)) end (bit ∷ [])) }
+    ensures size { OnOk result (length words.new.items ≡ words_for T.BITS (end + 1)) }
+    ensures room { OnOk result (end + 1 ≤ T.BITS * length words.new.items) }
+    ensures capacity { vec_capacity words.old ≤ vec_capacity words.new }
+    ensures full { OnErr result (vec_capacity words.old < words_for T.BITS (end + 1)) }
+    ensures unchanged { OnErr result (words.new.items ≡ words.old.items) }
+{
+    let width = T::BITS as usize;
+    let place = O::at(BitIdx::<T>::new_unchecked((end % width) as u8)).into_inner();
+    let k = end / width;
+    if k == words.len() {
+        words.push(T::ZERO.with_bit(place, bit))?;
+    } else {
+        let word = words[k];
+        words[k] = word.with_bit(place, bit);
+    }
+    Ok(())
+}

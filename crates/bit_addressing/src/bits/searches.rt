@@ -1,0 +1,108 @@
+//! Bits counted and compared, by whole words.
+ghost use Rattle.std.specs.Prelude.{◌≡◌, ◌+◌, ◌-◌, ◌*◌, ◌^◌, ◌<◌, ◌≤◌, length, slice_range, MatchOption, not, replicate};
+ghost use Rattle.std.specs.List.{count_by};
+ghost use Rattle.bit_addressing.specs.Row.{IsFirst, IsFirstDifference};
+ghost use Rattle.bit_addressing.specs.Typed.{row};
+
+use crate::bits::chunks::{read_chunk, word_number};
+use crate::order::BitOrder;
+use crate::store::BitStore;
+
+/// How many bits of the row are set at the places `from..upto`.
+/// The condition: `from` is at most `upto`, which is at most the row's length.
+pub fn count_bits<T: BitStore, O: BitOrder>(words: &[T], from: usize, upto: usize) -> usize
+    requires ordered { from ≤ upto }
+    requires within { upto ≤ T.BITS * length words.now }
+    ensures { result ≡ count_by (λ b. b) (slice_range (row T.BitStore O.BitOrder words.now) from upto) }
+{
+    if from == upto {
+        return 0;
+    }
+    let width = T::BITS as usize;
+    let first = from / width;
+    let last = (upto - 1) / width;
+    let end = (upto - 1) % width + 1;
+    if first == last {
+        let chunk = read_chunk::<T, O>(words, from, (upto - from) as u8);
+        return chunk.count_ones() as usize;
+    }
+    let chunk = read_chunk::<T, O>(words, from, (width - from % width) as u8);
+    let mut count = chunk.count_ones() as usize;
+    let each = 64 / width;
+    let blocks = (last - first - 1) / each;
+    for t in 0..blocks {
+        let block = O::pack(words, first + 1 + t * each);
+        count += word_number::<u64, O>(block).count_ones() as usize;
+    }
+    for k in first + 1 + blocks * each..last {
+        count += word_number::<T, O>(words[k]).count_ones() as usize;
+    }
+    let chunk = read_chunk::<T, O>(words, last * width, end as u8);
+    count + chunk.count_ones() as usize
+}
+
+/// The first place at which the `n` bits of the row of `a` from `i` on and the `n` of `b` from `j` on
+/// differ. None exactly where the two runs are equal. The condition: both runs lie in their words.
+pub fn differ_at<T: BitStore, O: BitOrder, U: BitStore, P: BitOrder>(
+    a: &[T],
+    i: usize,
+    b: &[U],
+    j: usize,
+    n: usize,
+) -> Option<usize>
+    requires first { i + n ≤ T.BITS * length a.now }
+    requires second { j + n ≤ U.BITS * length b.now }
+    requires first_fits { i + n < 2 ^ 64 }
+    requires second_fits { j + n < 2 ^ 64 }
+    ensures { MatchOption result (slice_range (row T.BitStore O.BitOrder a.now) i (i + n) ≡ slice_range (row U.BitStore P.BitOrder b.now) j (j + n)) (λ k. IsFirstDifference (slice_range (row T.BitStore O.BitOrder a.now) i (i + n)) (slice_range (row U.BitStore P.BitOrder b.now) j (j + n)) k) }
+{
+    for t in 0..n / 64 {
+        let left = read_chunk::<T, O>(a, i + t * 64, 64);
+        let right = read_chunk::<U, P>(b, j + t * 64, 64);
+        let apart = left ^ right;
+        if apart != 0 {
+            return Some(t * 64 + apart.trailing_zeros() as usize);
+        }
+    }
+    let done = n / 64 * 64;
+    let rest = (n % 64) as u8;
+    let left = read_chunk::<T, O>(a, i + done, rest);
+    let right = read_chunk::<U, P>(b, j + done, rest);
+    let apart = left ^ right;
+    if apart == 0 {
+        return None;
+    }
+    Some(done + apart.trailing_zeros() as usize)
+}
+
+/// The first of the places `from..upto` that has this bit, counted from `from`. None exactly where there
+/// is none. The condition: `from` is at most `upto`, which is at most the row's length.
+pub fn find_bit<T: BitStore, O: BitOrder>(
+    words: &[T],
+    from: usize,
+    upto: usize,
+    bit: bool,
+) -> Option<usize>
+    requires ordered { from ≤ upto }
+    requires within { upto ≤ T.BITS * length words.now }
+    ensures { MatchOption result (slice_range (row T.BitStore O.BitOrder words.now) from upto ≡ replicate (upto - from) (not bit)) (λ k. IsFirst bit (slice_range (row T.BitStore O.BitOrder words.now) from upto) k) }
+{
+    let others = if bit { 0 } else { u64::MAX };
+    let n = upto - from;
+    for t in 0..n / 64 {
+        let apart = read_chunk::<T, O>(words, from + t * 64, 64) ^ others;
+        if apart != 0 {
+            return Some(t * 64 + apart.trailing_zeros() as usize);
+        }
+    }
+    let done = n / 64 * 64;
+    let rest = (n % 64) as u8;
+    if rest == 0 {
+        return None;
+    }
+    let apart = read_chunk::<T, O>(words, from + done, rest) ^ (others >> (64 - rest));
+    if apart == 0 {
+        return None;
+    }
+    Some(done + apart.trailing_zeros() as usize)
+}

@@ -1,0 +1,124 @@
+//! Single bits and runs of one bit: read, written, filled and flipped.
+ghost use Rattle.std.specs.Prelude.{◌≡◌, ℕ, ◌+◌, ◌-◌, ◌*◌, ◌^◌, ◌<◌, ◌≤◌, if◌then◌else◌, false, not, [], ◌∷◌, map, length, replicate, slice_index_or, slice_range, set};
+ghost use Rattle.bit_addressing.specs.Bits.{has_bit};
+ghost use Rattle.bit_addressing.specs.Row.{put, filled};
+ghost use Rattle.bit_addressing.specs.Typed.{row, words_from};
+
+use crate::index::{BitEnd, BitIdx};
+use crate::order::BitOrder;
+use crate::store::BitStore;
+
+/// Does nothing: words are those of their row.
+pub fn exact_words<T: BitStore, O: BitOrder>(words: &[T])
+    ensures { words.now ≡ words_from T.BitStore O.BitOrder (row T.BitStore O.BitOrder words.now) }
+{
+    T::are_words(words);
+}
+
+/// The bit at `at` of the row. The condition: `at` is in the words.
+pub fn read_bit<T: BitStore, O: BitOrder>(words: &[T], at: usize) -> bool
+    requires { at < T.BITS * length words.now }
+    ensures { result ≡ slice_index_or (row T.BitStore O.BitOrder words.now) at false }
+{
+    let width = T::BITS as usize;
+    let place = O::at(BitIdx::<T>::new_unchecked((at % width) as u8)).into_inner();
+    words[at / width].bit(place)
+}
+
+/// Writes `bit` at `at` of the row, and no other bit. The condition: `at` is in the words.
+pub fn write_bit<T: BitStore, O: BitOrder>(words: &mut [T], at: usize, bit: bool)
+    requires { at < T.BITS * length words.old }
+    ensures bits { row T.BitStore O.BitOrder words.new ≡ set (row T.BitStore O.BitOrder words.old) at bit }
+    ensures size { length words.new ≡ length words.old }
+{
+    let width = T::BITS as usize;
+    let place = O::at(BitIdx::<T>::new_unchecked((at % width) as u8)).into_inner();
+    let word = words[at / width];
+    words[at / width] = word.with_bit(place, bit);
+}
+
+/// The word with the bits of `new` where `mask` has one, and those of `old` elsewhere.
+pub(crate) fn blend<T: BitStore>(old: T, new: T, mask: T) -> T
+    ensures { (p : ℕ) → p < T.BITS → has_bit (T.value result) p ≡ (if has_bit (T.value mask) p then has_bit (T.value new) p else has_bit (T.value old) p) }
+{
+    old.and(mask.not()).or(new.and(mask))
+}
+
+/// The word whose bits are all `bit`.
+fn repeated<T: BitStore>(bit: bool) -> T
+    ensures { (p : ℕ) → p < T.BITS → has_bit (T.value result) p ≡ bit }
+{
+    if bit { T::ZERO.not() } else { T::ZERO }
+}
+
+/// Writes the bits of `new` at the indices `low..high` into word `k`.
+pub(crate) fn write_part<T: BitStore, O: BitOrder>(
+    words: &mut [T],
+    k: usize,
+    low: usize,
+    high: usize,
+    new: T,
+)
+    requires word { k < length words.old }
+    requires some { low < high }
+    requires within { high ≤ T.BITS }
+    ensures bits { row T.BitStore O.BitOrder words.new ≡ put (row T.BitStore O.BitOrder words.old) (k * T.BITS + low) (slice_range (row T.BitStore O.BitOrder (new ∷ [])) low high) }
+    ensures size { length words.new ≡ length words.old }
+{
+    let mask = O::mask(
+        BitIdx::<T>::new_unchecked(low as u8),
+        BitEnd::<T>::new_unchecked(high as u8),
+    );
+    let old = words[k];
+    words[k] = blend(old, new, mask);
+}
+
+/// Writes `bit` at the places `from..upto` of the row, by whole words where it can, and no other bit.
+/// The condition: `from` is at most `upto`, which is at most the row's length.
+pub fn fill_bits<T: BitStore, O: BitOrder>(words: &mut [T], from: usize, upto: usize, bit: bool)
+    requires ordered { from ≤ upto }
+    requires within { upto ≤ T.BITS * length words.old }
+    ensures bits { row T.BitStore O.BitOrder words.new ≡ put (row T.BitStore O.BitOrder words.old) from (replicate (upto - from) bit) }
+    ensures size { length words.new ≡ length words.old }
+{
+    if from == upto {
+        return;
+    }
+    let width = T::BITS as usize;
+    let first = from / width;
+    let last = (upto - 1) / width;
+    let end = (upto - 1) % width + 1;
+    let full = repeated::<T>(bit);
+    if first == last {
+        write_part::<T, O>(words, first, from % width, end, full);
+        return;
+    }
+    write_part::<T, O>(words, first, from % width, width, full);
+    for k in first + 1..last {
+        words[k] = full;
+    }
+    write_part::<T, O>(words, last, 0, end, full);
+}
+
+/// Writes `bit` at every place of the row outside `head..head + len`, and no other bit.
+/// The condition: `head + len` is at most the row's length, which is below 2 to the power 64.
+pub fn fill_outside<T: BitStore, O: BitOrder>(words: &mut [T], head: usize, len: usize, bit: bool)
+    requires within { head + len ≤ T.BITS * length words.old }
+    requires fits { T.BITS * length words.old < 2 ^ 64 }
+    ensures bits { row T.BitStore O.BitOrder words.new ≡ filled (row T.BitStore O.BitOrder words.old) head len bit }
+    ensures size { length words.new ≡ length words.old }
+{
+    let all = T::BITS as usize * words.len();
+    fill_bits::<T, O>(words, 0, head, bit);
+    fill_bits::<T, O>(words, head + len, all, bit);
+}
+
+/// Flips every bit of the row.
+pub fn flip_bits<T: BitStore, O: BitOrder>(words: &mut [T])
+    ensures bits { row T.BitStore O.BitOrder words.new ≡ map not (row T.BitStore O.BitOrder words.old) }
+    ensures size { length words.new ≡ length words.old }
+{
+    for word in words {
+        *word = word.not();
+    }
+}

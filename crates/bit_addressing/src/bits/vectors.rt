@@ -1,0 +1,93 @@
+//! The calls on words that lie in a vector, which keeps its capacity.
+ghost use Rattle.std.specs.Prelude.{◌≡◌, ◌+◌, ◌-◌, ◌*◌, ◌^◌, ◌<◌, ◌≤◌, not, map, length, replicate, slice_range, set, vec_capacity};
+ghost use Rattle.bit_addressing.specs.Row.{put, filled, moved};
+ghost use Rattle.bit_addressing.specs.declared.length.TheConstants.{MAX_BITS};
+ghost use Rattle.bit_addressing.specs.Typed.{row};
+
+use crate::bits::copies::copy_bits;
+use crate::bits::single::{fill_bits, fill_outside, flip_bits, write_bit};
+use crate::move_run::move_bits;
+use crate::order::BitOrder;
+use crate::store::BitStore;
+
+/// As `write_bit`, in the words of a vector.
+pub fn write_bit_in<T: BitStore, O: BitOrder>(words: &mut Vec<T>, at: usize, bit: bool)
+    requires { at < T.BITS * length words.old.items }
+    ensures bits { row T.BitStore O.BitOrder words.new.items ≡ set (row T.BitStore O.BitOrder words.old.items) at bit }
+    ensures size { length words.new.items ≡ length words.old.items }
+    ensures capacity { vec_capacity words.new ≡ vec_capacity words.old }
+{
+    write_bit::<T, O>(words.as_mut_slice(), at, bit);
+}
+
+/// As `fill_bits`, in the words of a vector.
+pub fn fill_bits_in<T: BitStore, O: BitOrder>(
+    words: &mut Vec<T>,
+    from: usize,
+    upto: usize,
+    bit: bool,
+)
+    requires ordered { from ≤ upto }
+    requires within { upto ≤ T.BITS * length words.old.items }
+    ensures bits { row T.BitStore O.BitOrder words.new.items ≡ put (row T.BitStore O.BitOrder words.old.items) from (replicate (upto - from) bit) }
+    ensures size { length words.new.items ≡ length words.old.items }
+    ensures capacity { vec_capacity words.new ≡ vec_capacity words.old }
+{
+    fill_bits::<T, O>(words.as_mut_slice(), from, upto, bit);
+}
+
+/// As `fill_outside`, in the words of a vector.
+pub fn fill_outside_in<T: BitStore, O: BitOrder>(
+    words: &mut Vec<T>,
+    head: usize,
+    len: usize,
+    bit: bool,
+)
+    requires within { head + len ≤ T.BITS * length words.old.items }
+    requires fits { T.BITS * length words.old.items < 2 ^ 64 }
+    ensures bits { row T.BitStore O.BitOrder words.new.items ≡ filled (row T.BitStore O.BitOrder words.old.items) head len bit }
+    ensures size { length words.new.items ≡ length words.old.items }
+    ensures capacity { vec_capacity words.new ≡ vec_capacity words.old }
+{
+    fill_outside::<T, O>(words.as_mut_slice(), head, len, bit);
+}
+
+/// As `flip_bits`, in the words of a vector.
+pub fn flip_bits_in<T: BitStore, O: BitOrder>(words: &mut Vec<T>)
+    ensures bits { row T.BitStore O.BitOrder words.new.items ≡ map not (row T.BitStore O.BitOrder words.old.items) }
+    ensures size { length words.new.items ≡ length words.old.items }
+    ensures capacity { vec_capacity words.new ≡ vec_capacity words.old }
+{
+    flip_bits::<T, O>(words.as_mut_slice());
+}
+
+/// As `copy_bits`, into the words of a vector.
+pub fn copy_bits_in<T: BitStore, O: BitOrder, U: BitStore, P: BitOrder>(
+    words: &mut Vec<T>,
+    at: usize,
+    source: &[U],
+    from: usize,
+    n: usize,
+)
+    requires target { at + n ≤ T.BITS * length words.old.items }
+    requires source { from + n ≤ U.BITS * length source.now }
+    requires target_fits { at + n < 2 ^ 64 }
+    requires source_fits { from + n < 2 ^ 64 }
+    ensures bits { row T.BitStore O.BitOrder words.new.items ≡ put (row T.BitStore O.BitOrder words.old.items) at (slice_range (row U.BitStore P.BitOrder source.now) from (from + n)) }
+    ensures size { length words.new.items ≡ length words.old.items }
+    ensures capacity { vec_capacity words.new ≡ vec_capacity words.old }
+{
+    copy_bits::<T, O, U, P>(words.as_mut_slice(), at, source, from, n);
+}
+
+/// As `move_bits`, in the words of a vector.
+pub fn move_bits_in<T: BitStore, O: BitOrder>(words: &mut Vec<T>, src: usize, dst: usize, n: usize)
+    requires room { T.BITS * length words.old.items ≤ MAX_BITS + 2 * T.BITS }
+    requires source { src + n ≤ T.BITS * length words.old.items }
+    requires target { dst + n ≤ T.BITS * length words.old.items }
+    ensures bits { row T.BitStore O.BitOrder words.new.items ≡ moved (row T.BitStore O.BitOrder words.old.items) src dst n }
+    ensures size { length words.new.items ≡ length words.old.items }
+    ensures capacity { vec_capacity words.new ≡ vec_capacity words.old }
+{
+    move_bits::<T, O>(words.as_mut_slice(), src, dst, n);
+}

@@ -1,0 +1,179 @@
+//! Moves of runs of bits in a row, by words: each target word is made of at most two words of the row.
+ghost use Rattle.std.specs.Prelude.{◌≡◌, ℕ, ◌+◌, ◌-◌, ◌*◌, ◌<◌, ◌≤◌, map, length};
+ghost use Rattle.bit_addressing.specs.Bits.{has_bit};
+ghost use Rattle.bit_addressing.specs.Row.{row_bit, row_of, moved};
+ghost use Rattle.bit_addressing.specs.declared.length.TheConstants.{MAX_BITS};
+ghost use Rattle.bit_addressing.specs.Typed.{row};
+
+use crate::bits::single::blend;
+use crate::index::{BitEnd, BitIdx};
+use crate::order::BitOrder;
+use crate::store::BitStore;
+use crate::word_row::WordRow;
+
+/// A word whose bits at the indices `low..high` are those of the row from `from` on. Its other bits are open.
+#[inline(always)]
+fn gather<T: BitStore, O: BitOrder>(row: &mut WordRow<T>, from: usize, low: usize, high: usize) -> T
+    requires some { low < high }
+    requires within { high ≤ T.BITS }
+    requires source { from + (high - low) ≤ T.BITS * length row.old.words.now }
+    ensures bits { (i : ℕ) → low ≤ i → i < high → has_bit (T.value result) (O.place T.BITS i) ≡ row_bit O.place T.BITS (map T.value row.old.words.now) (from + (i - low)) }
+    ensures same_words { row.new.words.ghost_name ≡ row.old.words.ghost_name }
+    ensures words { row.new.words.now ≡ row.old.words.now }
+    ensures reads { row.new.meter.reads ≤ row.old.meter.reads + 2 }
+    ensures writes { row.new.meter.writes ≡ row.old.meter.writes }
+{
+    let width = T::BITS as usize;
+    let k = from / width;
+    let at = from % width;
+    let word = row.load(k);
+    if at < low {
+        return O::window(
+            word,
+            word,
+            BitIdx::<T>::new_unchecked((width + at - low) as u8),
+        );
+    }
+    let begin = BitIdx::<T>::new_unchecked((at - low) as u8);
+    if at - low + high <= width {
+        return O::window(word, word, begin);
+    }
+    let next = row.load(k + 1);
+    O::window(word, next, begin)
+}
+
+/// Moves the bits from `from` on to the indices `low..high` of word `k`, by three reads at most.
+#[inline(always)]
+pub(crate) fn move_part<T: BitStore, O: BitOrder>(
+    row: &mut WordRow<T>,
+    from: usize,
+    k: usize,
+    low: usize,
+    high: usize,
+)
+    requires some { low < high }
+    requires within { high ≤ T.BITS }
+    requires word { k < length row.old.words.now }
+    requires source { from + (high - low) ≤ T.BITS * length row.old.words.now }
+    ensures same_words { row.new.words.ghost_name ≡ row.old.words.ghost_name }
+    ensures size { length row.new.words.now ≡ length row.old.words.now }
+    ensures bits { row_of O.place T.BITS (map T.value row.new.words.now) ≡ moved (row_of O.place T.BITS (map T.value row.old.words.now)) from (k * T.BITS + low) (high - low) }
+    ensures reads { row.new.meter.reads ≤ row.old.meter.reads + 3 }
+    ensures writes { row.new.meter.writes ≡ row.old.meter.writes + 1 }
+{
+    let new = gather::<T, O>(row, from, low, high);
+    let mask = O::mask(
+        BitIdx::<T>::new_unchecked(low as u8),
+        BitEnd::<T>::new_unchecked(high as u8),
+    );
+    let old = row.load(k);
+    row.store(k, blend(old, new, mask));
+}
+
+/// Moves the bits from index `at` of word `begin` on to the `count` whole words from word `first` on, which
+/// lie no higher.
+#[inline(always)]
+fn shift_down<T: BitStore, O: BitOrder>(
+    row: &mut WordRow<T>,
+    begin: usize,
+    at: BitIdx<T>,
+    first: usize,
+    count: usize,
+)
+    requires within { at < T.BITS }
+    requires down { first ≤ begin }
+    requires source { begin + count < length row.old.words.now }
+    ensures same_words { row.new.words.ghost_name ≡ row.old.words.ghost_name }
+    ensures size { length row.new.words.now ≡ length row.old.words.now }
+    ensures bits { row_of O.place T.BITS (map T.value row.new.words.now) ≡ moved (row_of O.place T.BITS (map T.value row.old.words.now)) (begin * T.BITS + at) (first * T.BITS) (count * T.BITS) }
+    ensures reads { row.new.meter.reads ≡ row.old.meter.reads + 2 * count }
+    ensures writes { row.new.meter.writes ≡ row.old.meter.writes + count }
+{
+    for t in 0..count {
+        let low = row.load(begin + t);
+        let high = row.load(begin + t + 1);
+        row.store(first + t, O::window(low, high, at));
+    }
+}
+
+/// As `shift_down`, to words that lie higher: the last one goes first.
+#[inline(always)]
+fn shift_up<T: BitStore, O: BitOrder>(
+    row: &mut WordRow<T>,
+    begin: usize,
+    at: BitIdx<T>,
+    first: usize,
+    count: usize,
+)
+    requires within { at < T.BITS }
+    requires up { begin < first }
+    requires target { first + count ≤ length row.old.words.now }
+    ensures same_words { row.new.words.ghost_name ≡ row.old.words.ghost_name }
+    ensures size { length row.new.words.now ≡ length row.old.words.now }
+    ensures bits { row_of O.place T.BITS (map T.value row.new.words.now) ≡ moved (row_of O.place T.BITS (map T.value row.old.words.now)) (begin * T.BITS + at) (first * T.BITS) (count * T.BITS) }
+    ensures reads { row.new.meter.reads ≡ row.old.meter.reads + 2 * count }
+    ensures writes { row.new.meter.writes ≡ row.old.meter.writes + count }
+{
+    for t in 0..count {
+        let k = count - 1 - t;
+        let low = row.load(begin + k);
+        let high = row.load(begin + k + 1);
+        row.store(first + k, O::window(low, high, at));
+    }
+}
+
+/// Moves the bits from `from` on to the `count` whole words from word `first` on. The condition: the row
+/// has one bit more behind those that are moved.
+#[inline(always)]
+pub(crate) fn move_words<T: BitStore, O: BitOrder>(
+    row: &mut WordRow<T>,
+    from: usize,
+    first: usize,
+    count: usize,
+)
+    requires target { first + count ≤ length row.old.words.now }
+    requires source { from + count * T.BITS < T.BITS * length row.old.words.now }
+    ensures same_words { row.new.words.ghost_name ≡ row.old.words.ghost_name }
+    ensures size { length row.new.words.now ≡ length row.old.words.now }
+    ensures bits { row_of O.place T.BITS (map T.value row.new.words.now) ≡ moved (row_of O.place T.BITS (map T.value row.old.words.now)) from (first * T.BITS) (count * T.BITS) }
+    ensures reads { row.new.meter.reads ≤ row.old.meter.reads + 2 * count }
+    ensures writes { row.new.meter.writes ≡ row.old.meter.writes + count }
+{
+    let width = T::BITS as usize;
+    let begin = from / width;
+    let index = (from % width) as u8;
+    // Each loop is inlined and compiled for its case: whole words, or words that are neighbours.
+    if index == 0 {
+        let none = BitIdx::<T>::new_unchecked(0);
+        if first <= begin {
+            shift_down::<T, O>(row, begin, none, first, count);
+        } else {
+            shift_up::<T, O>(row, begin, none, first, count);
+        }
+        return;
+    }
+    let at = BitIdx::<T>::new_unchecked(index);
+    if first < begin {
+        shift_down::<T, O>(row, begin, at, first, count);
+    } else if first == begin {
+        shift_down::<T, O>(row, first, at, first, count);
+    } else if begin + 1 < first {
+        shift_up::<T, O>(row, begin, at, first, count);
+    } else {
+        shift_up::<T, O>(row, first - 1, at, first, count);
+    }
+}
+
+/// Moves the `n` bits from `src` on to the places from `dst` on, as if they were copied out first, by
+/// one `BitOrder::move_run` over these words. The condition: both runs lie in the words, which have at
+/// most `MAX_BITS + 2 * T::BITS` bits.
+pub fn move_bits<T: BitStore, O: BitOrder>(words: &mut [T], src: usize, dst: usize, n: usize)
+    requires room { T.BITS * length words.old ≤ MAX_BITS + 2 * T.BITS }
+    requires source { src + n ≤ T.BITS * length words.old }
+    requires target { dst + n ≤ T.BITS * length words.old }
+    ensures bits { row T.BitStore O.BitOrder words.new ≡ moved (row T.BitStore O.BitOrder words.old) src dst n }
+    ensures size { length words.new ≡ length words.old }
+{
+    let mut row = WordRow::new(words);
+    O::move_run(&mut row, src, dst, n);
+}

@@ -31,9 +31,9 @@ use denote.Struct.Values.{intos}
 use denote.Through.{renamed}
 use borrow.Struct.Apart.{part_apart}
 use borrow.Struct.Lend.{kept_field, field_apart, field_fill}
-use Rattle.bit_slice.specs.declared.view_mut.BitSliceMut.{BitSliceMut}
-use Rattle.bit_slice.specs.contracts.view_mut.BitSliceMut.{the_row, the_type, struct}
-use Rattle.bit_slice.proofs.view_mut.BitSliceMut.TheLaws.{the_loose}
+use Rattle.bit_slice.specs.declared.slice_mut.BitSliceMut.{BitSliceMut}
+use Rattle.bit_slice.specs.contracts.slice_mut.BitSliceMut.{the_row, the_type, struct}
+use Rattle.bit_slice.proofs.slice_mut.BitSliceMut.TheLaws.{the_loose}
 use Rattle.bit_slice.specs.Lends.{with_words}
 
 -- a whole list written over one of its length

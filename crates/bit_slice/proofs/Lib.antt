@@ -4,3 +4,4 @@ pub mod Parts
 pub mod Iteration
 pub mod Comparing
 pub mod Combining
+pub mod Counting

@@ -54,7 +54,7 @@ module _ (place : ℕ → ℕ → ℕ) (w : ℕ) where
       ∙ ap (drop (w * n)) (sym (row_append place w (take n words) (drop n words) positive) ∙ ap (row_of place w) (take-append-drop n words))
 
 -- a run within a run
-run_in_run : (xs : List Bool) (a b i j : ℕ) → a + j ≤ b → b ≤ length xs → i ≤ j → slice_range (slice_range xs a b) i j ≡ slice_range xs (a + i) (a + j)
+pub run_in_run : (xs : List Bool) (a b i j : ℕ) → a + j ≤ b → b ≤ length xs → i ≤ j → slice_range (slice_range xs a b) i j ≡ slice_range xs (a + i) (a + j)
 run_in_run xs a b i j h k o = same_lists _ _ (search (rules, places)) (λ n d below. grind (arith, places))
 
 module _ {X : Type 0} (value : X → ℕ) (place : ℕ → ℕ → ℕ) (w : ℕ) where

@@ -7,8 +7,8 @@ use mir.Syntax.{named}
 use Rattle.bit_addressing.specs.declared.store.BitStore as store
 use Rattle.bit_addressing.specs.declared.order.BitOrder as order
 use Rattle.bit_slice.specs.Fits.{IsView}
-use Rattle.bit_slice.specs.declared.view_mut.BitSliceMut.{BitSliceMut}
-use Rattle.bit_slice.specs.contracts.view_mut.BitSliceMut.{the_row}
+use Rattle.bit_slice.specs.declared.slice_mut.BitSliceMut.{BitSliceMut}
+use Rattle.bit_slice.specs.contracts.slice_mut.BitSliceMut.{the_row}
 
 module _ {X Y : Type 0} (W : store.Ghosts X) (P : order.Ghosts Y) where
   -- the view with other words, as many as before

@@ -1,7 +1,8 @@
 pub mod Fits
-pub mod View
-pub mod ViewMut
+pub mod BitSlice
+pub mod BitSliceMut
 pub mod Iter
 pub mod Lends
 pub mod Counted
+pub mod CountedMut
 pub mod Operators

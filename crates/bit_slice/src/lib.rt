@@ -1,17 +1,20 @@
-//! Views of bits in borrowed words: `BitSlice` for reading, `BitSliceMut` for writing, and `CountedMut` for
-//! moves whose reads and writes of words are counted.
+//! Views of bits in borrowed words: `BitSlice` for reading and `BitSliceMut` for writing, `Counted` for
+//! comparisons and counts whose reads of words are counted, and `CountedMut` for moves whose reads and
+//! writes are.
 #![tactic(auto)]
 
 mod counted;
+mod counted_mut;
 mod iter;
 mod ops;
+mod slice;
+mod slice_mut;
 #[cfg(test)]
 mod tests;
-mod view;
-mod view_mut;
 
-pub use counted::CountedMut;
+pub use counted::Counted;
+pub use counted_mut::CountedMut;
 pub use iter::Iter;
 pub use ops::{and_words, or_words, order_of_bits, xor_words};
-pub use view::BitSlice;
-pub use view_mut::BitSliceMut;
+pub use slice::BitSlice;
+pub use slice_mut::BitSliceMut;

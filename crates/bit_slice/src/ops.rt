@@ -4,10 +4,10 @@ ghost use Rattle.bit_addressing.specs.Row.{put, IsFirstDifference};
 ghost use Rattle.bit_addressing.specs.Typed.{row};
 ghost use Rattle.bit_addressing.specs.declared.length.TheConstants.{MAX_BITS};
 ghost use Rattle.bit_slice.specs.Operators.{bits_cmp, and_of, or_of, xor_of, SameFromEitherSide, EqualWhereEqual, BelowTheNext, FalseFirst, PrefixFirst};
-ghost use Rattle.bit_slice.specs.View.{len_of as len_seen, list_of as list_seen};
+ghost use Rattle.bit_slice.specs.BitSlice.{len_of as len_seen, list_of as list_seen};
 
-use crate::view::BitSlice;
-use crate::view_mut::BitSliceMut;
+use crate::slice::BitSlice;
+use crate::slice_mut::BitSliceMut;
 use bit_addressing::{And, BitOrder, BitStore, Or, Xor, combine_bits, differ_at, fill_bits};
 use std::cmp::Ordering;
 
@@ -120,7 +120,7 @@ pub fn xor_words<T: BitStore, O: BitOrder, U: BitStore, P: BitOrder>(
 }
 
 impl<'a, T: BitStore, O: BitOrder> BitSliceMut<'a, T, O> {
-    ghost use Rattle.bit_slice.specs.ViewMut.{head_of, len_of, row_of, list_of, loan_of};
+    ghost use Rattle.bit_slice.specs.BitSliceMut.{head_of, len_of, row_of, list_of, loan_of};
 
     /// As `BitSlice::eq_bits`.
     pub fn eq_bits<U: BitStore, P: BitOrder>(&self, other: BitSlice<'_, U, P>) -> bool

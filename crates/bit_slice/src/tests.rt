@@ -2,8 +2,8 @@ ghost use Rattle.std.specs.Prelude.{◌≡◌, ℕ, ◌+◌, ◌*◌, ◌-◌, �
 ghost use Rattle.bit_addressing.specs.Order.{xor4_place, xor4_lawful};
 ghost use Rattle.bit_addressing.specs.Typed.{row};
 ghost use Rattle.bit_addressing.specs.Row.{moved};
-ghost use Rattle.bit_slice.specs.Counted.{head_of as head_counted, len_of as len_counted, loan_of as loan_counted, list_of as list_counted, writes_of};
-ghost use Rattle.bit_slice.specs.ViewMut.{head_of, len_of, row_of, list_of, loan_of};
+ghost use Rattle.bit_slice.specs.CountedMut.{head_of as head_counted, len_of as len_counted, loan_of as loan_counted, list_of as list_counted, writes_of};
+ghost use Rattle.bit_slice.specs.BitSliceMut.{head_of, len_of, row_of, list_of, loan_of};
 ghost use Rattle.bit_addressing.specs.declared.length.TheConstants.{MAX_BITS};
 
 use crate::{BitSlice, BitSliceMut, CountedMut};

@@ -3,7 +3,7 @@ use Rattle.bit_addressing.specs.Typed.{row}
 use Rattle.bit_addressing.proofs.Lists.{shows_fewer}
 use Rattle.bit_slice.proofs.Parts.{in_row}
 use Rattle.bit_slice.proofs.Comparing.{found_in}
-use Rattle.bit_slice.specs.View.{list_of}
+use Rattle.bit_slice.specs.BitSlice.{list_of}
 use Rattle.bit_slice.proofs.ops.first_difference.Goals as goal
 
 pub returns : goal.returns

@@ -5,7 +5,7 @@ use Rattle.bit_addressing.specs.Typed.{row}
 use Rattle.bit_addressing.proofs.Lists.{shows_fewer, length-shows}
 use Rattle.bit_slice.proofs.Parts.{in_row}
 use Rattle.bit_slice.proofs.Combining.{written_front, or_keeps}
-use Rattle.bit_slice.specs.View.{list_of}
+use Rattle.bit_slice.specs.BitSlice.{list_of}
 use Rattle.bit_slice.proofs.ops.or_words.Goals as goal
 
 pub returns-clause-bits : goal.returns-clause-bits

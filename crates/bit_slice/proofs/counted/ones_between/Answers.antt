@@ -1,0 +1,49 @@
+use Rattle.std.proofs.Common.{◌≡◌, ◌+◌, ◌-◌, ◌*◌, ◌<◌, ◌≤◌, length, count_by, slice_range, sym, ◌∙◌, ap, arith}
+use Rattle.bit_addressing.specs.Typed.{row}
+use Rattle.bit_addressing.proofs.Counts.{counted_next}
+use Rattle.bit_addressing.proofs.Rows.{width_positive, width_small}
+use Rattle.bit_slice.proofs.Counting.{IsPiece, begin, piece, begin_last, word_before, next_before}
+use Rattle.bit_slice.proofs.Parts.{in_row}
+use Rattle.bit_slice.proofs.counted.ones_between.Goals as goal
+
+pub begin_of-from-requires : goal.begin_of-from-requires
+begin_of-from-requires g c =
+    let w = g.T.BitStore.BITS in
+    let before = word_before w c.args.end c.loop-k.k (width_positive w g.met.T.BitStore.width) (omega (arith, c.loop-k-test.true, c.elts-k-end.ensures)) in
+    omega (arith, c.requires.fits)
+
+pub begin_of-upto-requires : goal.begin_of-upto-requires
+begin_of-upto-requires g c =
+    let w = g.T.BitStore.BITS in
+    let before = next_before w c.args.end c.loop-k.k (width_positive w g.met.T.BitStore.width) (omega (arith, c.loop-k-test.true, c.elts-k-end.ensures)) in
+    omega (arith, c.requires.fits)
+
+pub loop-k-preserved : goal.loop-k-preserved
+loop-k-preserved g c =
+    let w = g.T.BitStore.BITS in
+    let head = c.args.head in
+    let end = c.args.end in
+    let k = c.loop-k.k in
+    let ws = c.args.words.now.words.now in
+    let zs = row g.T.BitStore g.O.BitOrder ws in
+    let from = c.begin_of-from.result in
+    let upto = c.begin_of-upto.result in
+    let p : IsPiece w head end from upto = rw (c.begin_of-from.ensures, c.begin_of-upto.ensures) (piece w head end k (width_positive w g.met.T.BitStore.width) c.requires.in_word c.requires.ordered (omega (arith, c.loop-k-test.true, c.elts-k-end.ensures))) in
+    let back : from + (upto - from) ≡ upto = let o = p.ordered in omega arith in
+    let before = c.loop-k.invariant.value ∙ ap (λ n. count_by (λ b. b) (slice_range zs head n)) (sym c.begin_of-from.ensures) in
+    let here = c.ones_of_run-count.ensures.value ∙ ap (λ b. count_by (λ b. b) (slice_range (row g.T.BitStore g.O.BitOrder b.now) from (from + (upto - from)))) c.loop-k.invariant.words ∙ ap (λ n. count_by (λ b. b) (slice_range zs from n)) back in
+    let few : upto ≤ w * length ws = let e = p.ends in omega (arith, c.requires.within) in
+    let more = c.ones_of_run-count.ensures.most p.in_one in
+    record {
+      value = counted_next zs head from upto c.loop-k.count c.ones_of_run-count.result p.begins p.ordered (in_row g.T.BitStore g.O.BitOrder ws upto few) before here ∙ ap (λ n. count_by (λ b. b) (slice_range zs head n)) c.begin_of-upto.ensures;
+      words = c.ones_of_run-count.ensures.words ∙ c.loop-k.invariant.words;
+      least = omega (arith, c.loop-k.invariant.least, c.ones_of_run-count.ensures.least);
+      most = omega (arith, c.loop-k.invariant.most);
+    }
+
+pub returns-clause-value : goal.returns-clause-value
+returns-clause-value g c =
+    let w = g.T.BitStore.BITS in
+    let zs = row g.T.BitStore g.O.BitOrder c.args.words.now.words.now in
+    let all = begin_last w c.args.head c.args.end c.loop-k.k (width_positive w g.met.T.BitStore.width) c.requires.ordered (omega (arith, c.loop-k-test.false, c.loop-k.auto.k-end, c.elts-k-end.ensures)) in
+    c.loop-k.invariant.value ∙ ap (λ n. count_by (λ b. b) (slice_range zs c.args.head n)) all

@@ -1,0 +1,11 @@
+use Rattle.std.proofs.Common.{◌+◌, slice_range, ◌∙◌, ap}
+use Rattle.bit_addressing.specs.Typed.{row}
+use Rattle.bit_slice.proofs.Parts.{in_row}
+use Rattle.bit_slice.proofs.Shown.{shown_swapped}
+use Rattle.bit_slice.proofs.slice_mut.BitSliceMut.swap.Goals as goal
+
+pub returns-clause-list : goal.returns-clause-list
+returns-clause-list g c =
+    let v = c.args.self.now in
+    ap (λ r. slice_range r v.head (v.head + v.len)) c.swap_bits.ensures.bits
+    ∙ shown_swapped (row g.T.BitStore g.O.BitOrder v.words.now) v.head v.len c.args.i c.args.j c.requires.first c.requires.second (in_row g.T.BitStore g.O.BitOrder v.words.now (v.head + v.len) v.fits.room)

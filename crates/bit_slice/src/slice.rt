@@ -1,0 +1,280 @@
+//! Views of bits for reading.
+ghost use Rattle.std.specs.Iterator.{YieldsFirst, YieldsLast};
+ghost use Rattle.std.specs.Iterator.Runs.{YieldsInOrder, YieldsInReverse};
+ghost use Rattle.std.specs.Prelude.{◌≡◌, ℕ, ◌+◌, ◌-◌, ◌*◌, ◌/◌, ◌%◌, ◌<◌, ◌≤◌, ◌↔◌, Bool, not, length, count_by, slice_get, slice_index_or, slice_range, false, IsTrue, IsOk, IfOk};
+ghost use Rattle.std.specs.List.{list_any, list_all};
+ghost use Rattle.bit_addressing.specs.Row.{words_for};
+ghost use Rattle.bit_addressing.specs.Typed.{row, words_from};
+ghost use Rattle.bit_addressing.specs.declared.length.TheConstants.{MAX_BITS};
+ghost use Rattle.bit_slice.specs.Fits.{IsView};
+
+use crate::counted::Counted;
+use crate::iter::Iter;
+use bit_addressing::{
+    BitOrder, BitStore, GrowError, MAX_BITS, RangeExt, count_bits, elts, exact_words, read_bit,
+};
+use std::alloc::AllocError;
+use std::marker::PhantomData;
+use std::ops::Index;
+
+/// A run of bits in borrowed words, for reading: it is passed by value, and copied freely.
+///
+/// It has words of type `T`, a head and a length, both in bits. Its list is the run of that length
+/// that begins at the head, in the row of its words by the order `O`. The head is in the first word,
+/// and no word is to spare. No call takes memory.
+///
+/// ```text
+/// let view = BitSlice::<u16, Msb0>::from_slice(&[0x1234]);
+/// view.get_range(4..8).count_ones() == 1
+/// ```
+pub struct BitSlice<'a, T: BitStore, O: BitOrder> {
+    words: &'a [T],
+    head: usize,
+    len: usize,
+    order: PhantomData<O>,
+    ghost fits: { IsView T.BITS (length words.now) head len },
+}
+
+impl<'a, T: BitStore, O: BitOrder> Clone for BitSlice<'a, T, O> {
+    ghost is_clone = { λ a b. a ≡ b };
+
+    ghost is_infallible = { λ _. Unit {0} };
+
+    /// The same view.
+    fn clone(&self) -> Result<Self, AllocError> {
+        Ok(*self)
+    }
+}
+
+impl<'a, T: BitStore, O: BitOrder> Copy for BitSlice<'a, T, O> {}
+
+impl<'a, T: BitStore, O: BitOrder> BitSlice<'a, T, O> {
+    ghost use Rattle.bit_slice.specs.BitSlice.{words_of, head_of, len_of, row_of, list_of};
+    ghost use Rattle.bit_slice.specs.Counted.{words_of as words_counted, head_of as head_counted, len_of as len_counted, list_of as list_counted, reads_of};
+    ghost use Rattle.bit_slice.specs.Iter.{rest_of};
+
+    /// All bits of the words, with the head 0. The condition: they are at most `MAX_BITS` bits.
+    pub fn from_slice(words: &'a [T]) -> Self
+        requires { T.BITS * length words.now ≤ MAX_BITS }
+        ensures words { words_of result ≡ words.now }
+        ensures head { head_of result ≡ 0 }
+        ensures len { len_of result ≡ T.BITS * length words.now }
+        ensures list { list_of result ≡ row T.BitStore O.BitOrder words.now }
+    {
+        let len = words.len() * T::BITS as usize;
+        BitSlice {
+            words,
+            head: 0,
+            len,
+            order: PhantomData,
+        }
+    }
+
+    /// As `from_slice`. It answers `TooLong` exactly where the words have more than `MAX_BITS` bits.
+    pub fn try_from_slice(words: &'a [T]) -> Result<Self, GrowError>
+        ensures too_long { (result ≡ Err GrowError.TooLong) ↔ (MAX_BITS < T.BITS * length words.now) }
+        ensures fits { IsOk result ↔ (T.BITS * length words.now ≤ MAX_BITS) }
+        ensures words { IfOk result (λ v. words_of v ≡ words.now) }
+        ensures head { IfOk result (λ v. head_of v ≡ 0) }
+        ensures len { IfOk result (λ v. len_of v ≡ T.BITS * length words.now) }
+        ensures list { IfOk result (λ v. list_of v ≡ row T.BitStore O.BitOrder words.now) }
+    {
+        if words.len() > MAX_BITS / T::BITS as usize {
+            return Err(GrowError::TooLong);
+        }
+        Ok(BitSlice::from_slice(words))
+    }
+
+    /// The view of `len` bits that begins at the place `head` of the words' row. The condition: the
+    /// head is in the first word, the words are as many as it takes, and the bits at most `MAX_BITS`.
+    pub fn from_parts(words: &'a [T], head: usize, len: usize) -> Self
+        requires in_word { head < T.BITS }
+        requires few { len ≤ MAX_BITS }
+        requires exact { length words.now ≡ words_for T.BITS (head + len) }
+        ensures words { words_of result ≡ words.now }
+        ensures head { head_of result ≡ head }
+        ensures len { len_of result ≡ len }
+        ensures list { list_of result ≡ slice_range (row T.BitStore O.BitOrder words.now) head (head + len) }
+    {
+        BitSlice {
+            words,
+            head,
+            len,
+            order: PhantomData,
+        }
+    }
+
+    /// The words that the view borrows: as many as its head and length take.
+    pub fn as_raw_slice(self) -> &'a [T]
+        ensures words { result.now ≡ words_of self.entry }
+        ensures exact { length result.now ≡ words_for T.BITS (head_of self.entry + len_of self.entry) }
+        ensures from_row { result.now ≡ words_from T.BitStore O.BitOrder (row_of self.entry) }
+    {
+        exact_words::<T, O>(self.words);
+        self.words
+    }
+
+    /// The view with a meter at 0, for comparisons and counts whose word reads are counted.
+    pub fn counted(self) -> Counted<'a, T, O>
+        ensures words { words_counted result ≡ words_of self.entry }
+        ensures head { head_counted result ≡ head_of self.entry }
+        ensures len { len_counted result ≡ len_of self.entry }
+        ensures list { list_counted result ≡ list_of self.entry }
+        ensures reads { reads_of result ≡ 0 }
+    {
+        Counted::of(self.words, self.head, self.len)
+    }
+
+    /// How many bits the view has.
+    pub fn len(self) -> usize
+        ensures value { result ≡ len_of self.entry }
+        ensures list { result ≡ length (list_of self.entry) }
+        ensures few { result ≤ MAX_BITS }
+    {
+        self.len
+    }
+
+    /// Whether the view has no bit.
+    pub fn is_empty(self) -> bool
+        ensures { IsTrue result ↔ (len_of self.entry ≡ 0) }
+    {
+        self.len == 0
+    }
+
+    /// The place of the view's first bit in its first word, below `T::BITS`.
+    pub fn head(self) -> usize
+        ensures value { result ≡ head_of self.entry }
+        ensures in_word { result < T.BITS }
+    {
+        self.head
+    }
+
+    // The bit at index `i`.
+    pub(crate) fn bit(self, i: usize) -> bool
+        requires { i < len_of self }
+        ensures value { result ≡ slice_index_or (list_of self.entry) i false }
+        ensures item { slice_get (list_of self.entry) i ≡ Some result }
+    {
+        read_bit::<T, O>(self.words, self.head + i)
+    }
+
+    /// The bit at index `i`. None exactly where the view is too short.
+    pub fn get(self, i: usize) -> Option<bool>
+        ensures { result ≡ slice_get (list_of self.entry) i }
+    {
+        if i >= self.len {
+            return None;
+        }
+        Some(self.bit(i))
+    }
+
+    /// The part of the view at a range of indices. The condition: the range lies in the view's length.
+    pub fn get_range<R: RangeExt>(self, range: R) -> Self
+        requires ordered { R.start_of range ≤ R.end_of range (len_of self) }
+        requires within { R.end_of range (len_of self) ≤ len_of self }
+        ensures list { list_of result ≡ slice_range (list_of self.entry) (R.start_of range) (R.end_of range (len_of self.entry)) }
+        ensures head { head_of result ≡ (head_of self.entry + R.start_of range) % T.BITS }
+        ensures len { len_of result ≡ R.end_of range (len_of self.entry) - R.start_of range }
+        ensures words { let first = (head_of self.entry + R.start_of range) / T.BITS in words_of result ≡ slice_range (words_of self.entry) first (first + words_for T.BITS (head_of result + len_of result)) }
+    {
+        let part = range.normalize(self.len);
+        let width = T::BITS as usize;
+        let at = self.head + part.start;
+        let head = at % width;
+        let len = part.end - part.start;
+        let first = at / width;
+        let count = elts::<T>(head + len);
+        BitSlice::from_parts(words_at(self.words, first, count), head, len)
+    }
+
+    /// The first bit. None exactly where the view is empty.
+    pub fn first(self) -> Option<bool>
+        ensures { result ≡ slice_get (list_of self.entry) 0 }
+    {
+        self.get(0)
+    }
+
+    /// The last bit. None exactly where the view is empty.
+    pub fn last(self) -> Option<bool>
+        ensures { result ≡ slice_get (list_of self.entry) (len_of self.entry - 1) }
+    {
+        if self.len == 0 {
+            return None;
+        }
+        self.get(self.len - 1)
+    }
+
+    /// The bits of the view, from both ends.
+    pub fn iter(self) -> Iter<'a, T, O>
+        ensures list { rest_of result ≡ list_of self.entry }
+        ensures few { length (rest_of result) ≤ MAX_BITS }
+        ensures runs { YieldsInOrder (YieldsFirst (rest_of {X = T} {Y = O} {W = T.BitStore} {P = O.BitOrder})) rest_of }
+        ensures runs_back { YieldsInReverse (YieldsLast (rest_of {X = T} {Y = O} {W = T.BitStore} {P = O.BitOrder})) rest_of }
+    {
+        Iter::new(self.words, self.head, self.head + self.len)
+    }
+
+    /// How many bits are true, by whole words where it can.
+    pub fn count_ones(self) -> usize
+        ensures value { result ≡ count_by (λ b. b) (list_of self.entry) }
+        ensures few { result ≤ len_of self.entry }
+    {
+        count_bits::<T, O>(self.words, self.head, self.head + self.len)
+    }
+
+    /// How many bits are false.
+    pub fn count_zeros(self) -> usize
+        ensures value { result ≡ count_by not (list_of self.entry) }
+        ensures few { result ≤ len_of self.entry }
+    {
+        self.len - self.count_ones()
+    }
+
+    /// Whether some bit is true. Of an empty view it is false.
+    pub fn any(self) -> bool
+        ensures { result ≡ list_any (λ b. b) (list_of self.entry) }
+    {
+        for i in 0..self.len {
+            if self.bit(i) {
+                return true;
+            }
+        }
+        false
+    }
+
+    /// Whether every bit is true. Of an empty view it is true.
+    pub fn all(self) -> bool
+        ensures { result ≡ list_all (λ b. b) (list_of self.entry) }
+    {
+        for i in 0..self.len {
+            if !self.bit(i) {
+                return false;
+            }
+        }
+        true
+    }
+}
+
+// The `count` words from word `first` on.
+fn words_at<T: BitStore>(words: &[T], first: usize, count: usize) -> &[T]
+    requires { first + count ≤ length words.now }
+    ensures { result.now ≡ slice_range words.now first (first + count) }
+{
+    &words[first..first + count]
+}
+
+impl<'a, T: BitStore, O: BitOrder> Index<usize> for BitSlice<'a, T, O> {
+    ghost use Rattle.std.specs.Prelude.{◌≡◌, ◌<◌, Some, slice_get};
+    ghost use Rattle.bit_slice.specs.BitSlice.{len_of, list_of};
+
+    type Output = bool;
+
+    ghost can_index = { λ v i. i < len_of v };
+
+    ghost index_gives = { λ v i x. Some x ≡ slice_get (list_of v) i };
+
+    /// The bit at index `i`. The condition: the view has so many bits.
+    fn index(&self, i: usize) -> &bool {
+        if self.bit(i) { &true } else { &false }
+    }
+}

@@ -1,0 +1,343 @@
+//! Views of bits for writing.
+ghost use Rattle.std.specs.Iterator.{YieldsFirst, YieldsLast};
+ghost use Rattle.std.specs.Iterator.Runs.{YieldsInOrder, YieldsInReverse};
+ghost use Rattle.std.specs.Prelude.{◌≡◌, ℕ, ◌+◌, ◌-◌, ◌*◌, ◌/◌, ◌%◌, ◌<◌, ◌≤◌, ◌↔◌, Bool, false, not, length, count_by, replicate, set, slice_get, slice_index_or, slice_range, swap, IsTrue};
+ghost use Rattle.std.specs.List.{list_any, list_all};
+ghost use Rattle.std.specs.Borrow.{sem};
+ghost use Rattle.bit_addressing.specs.Row.{words_for, put, moved};
+ghost use Rattle.bit_addressing.specs.Typed.{row, words_from};
+ghost use Rattle.bit_addressing.specs.declared.length.TheConstants.{MAX_BITS};
+ghost use Rattle.bit_slice.specs.Fits.{IsView};
+
+use crate::counted_mut::CountedMut;
+use crate::iter::Iter;
+use crate::slice::BitSlice;
+use bit_addressing::{
+    BitOrder, BitStore, RangeExt, copy_bits, exact_words, fill_bits, move_bits, read_bit, write_bit,
+};
+use std::marker::PhantomData;
+use std::ops::Index;
+
+/// A run of bits in borrowed words, for writing.
+///
+/// It is as a `BitSlice`, and what is written through it lands in the words that it borrows. A call
+/// that writes changes no bit outside the run, and keeps the head and the length. No call takes memory.
+///
+/// ```text
+/// let mut words = [0x1234_u16];
+/// BitSliceMut::<u16, Msb0>::from_slice_mut(&mut words).set(4, true);
+/// words == [0x1a34]
+/// ```
+#[derive(Drop)]
+pub struct BitSliceMut<'a, T: BitStore, O: BitOrder> {
+    pub(crate) words: &'a mut [T],
+    pub(crate) head: usize,
+    pub(crate) len: usize,
+    order: PhantomData<O>,
+    ghost fits: { IsView T.BITS (length words.now) head len },
+}
+
+impl<'a, T: BitStore, O: BitOrder> BitSliceMut<'a, T, O> {
+    ghost use Rattle.bit_slice.specs.BitSlice.{words_of as words_seen, head_of as head_seen, len_of as len_seen, list_of as list_seen};
+    ghost use Rattle.bit_slice.specs.BitSliceMut.{words_of, head_of, len_of, row_of, list_of, loan_of};
+    ghost use Rattle.bit_slice.specs.Iter.{rest_of};
+    ghost use Rattle.bit_slice.specs.Lends.{lends_words};
+
+    /// All bits of the words, with the head 0. The condition: they are at most `MAX_BITS` bits.
+    pub fn from_slice_mut(words: &'a mut [T]) -> Self
+        requires { T.BITS * length words.old ≤ MAX_BITS }
+        ensures same_words { loan_of result ≡ words.entry.ghost_name }
+        ensures words { words_of result ≡ words.old }
+        ensures head { head_of result ≡ 0 }
+        ensures len { len_of result ≡ T.BITS * length words.old }
+        ensures list { list_of result ≡ row T.BitStore O.BitOrder words.old }
+    {
+        let len = words.len() * T::BITS as usize;
+        BitSliceMut {
+            words,
+            head: 0,
+            len,
+            order: PhantomData,
+        }
+    }
+
+    /// The view of `len` bits that begins at the place `head` of the words' row. The condition: the
+    /// head is in the first word, the words are as many as it takes, and the bits at most `MAX_BITS`.
+    pub fn from_parts_mut(words: &'a mut [T], head: usize, len: usize) -> Self
+        requires in_word { head < T.BITS }
+        requires few { len ≤ MAX_BITS }
+        requires exact { length words.old ≡ words_for T.BITS (head + len) }
+        ensures same_words { loan_of result ≡ words.entry.ghost_name }
+        ensures words { words_of result ≡ words.old }
+        ensures head { head_of result ≡ head }
+        ensures len { len_of result ≡ len }
+        ensures list { list_of result ≡ slice_range (row T.BitStore O.BitOrder words.old) head (head + len) }
+    {
+        BitSliceMut {
+            words,
+            head,
+            len,
+            order: PhantomData,
+        }
+    }
+
+    /// The same bits for reading.
+    pub fn as_bitslice(&self) -> BitSlice<'_, T, O>
+        ensures words { words_seen result ≡ words_of self.now }
+        ensures head { head_seen result ≡ head_of self.now }
+        ensures len { len_seen result ≡ len_of self.now }
+        ensures list { list_seen result ≡ list_of self.now }
+    {
+        BitSlice::from_parts(self.words, self.head, self.len)
+    }
+
+    /// The words that the view borrows: as many as its head and length take.
+    pub fn as_raw_slice(&self) -> &[T]
+        ensures words { result.now ≡ words_of self.now }
+        ensures exact { length result.now ≡ words_for T.BITS (head_of self.now + len_of self.now) }
+        ensures from_row { result.now ≡ words_from T.BitStore O.BitOrder (row_of self.now) }
+    {
+        exact_words::<T, O>(self.words);
+        self.words
+    }
+
+    /// The words that the view borrows, for writing: what is written into them stands in the view.
+    pub fn as_raw_mut_slice(&mut self) -> &mut [T]
+        ensures* writes_back { sem 𝓛 (lends_words T.row O.row T.BitStore O.BitOrder self.entry result.ghost_name) }
+        ensures words { result.now ≡ words_of self.old }
+    {
+        &mut *self.words
+    }
+
+    /// The view with a meter at 0, for moves whose word reads and writes are counted. What is moved
+    /// through it stands in the view when it ends.
+    pub fn counted_mut(&mut self) -> CountedMut<'_, T, O>
+        ensures* writes_back { sem 𝓛 (lends_words T.row O.row T.BitStore O.BitOrder self.entry result.row.words.ghost_name) }
+        ensures words { result.row.words.now ≡ words_of self.old }
+        ensures head { result.head ≡ head_of self.old }
+        ensures len { result.len ≡ len_of self.old }
+        ensures reads { result.row.meter.reads ≡ 0 }
+        ensures writes { result.row.meter.writes ≡ 0 }
+    {
+        let head = self.head;
+        let len = self.len;
+        CountedMut::of(&mut *self.words, head, len)
+    }
+
+    /// How many bits the view has.
+    pub fn len(&self) -> usize
+        ensures value { result ≡ len_of self.now }
+        ensures list { result ≡ length (list_of self.now) }
+        ensures few { result ≤ MAX_BITS }
+    {
+        self.as_bitslice().len()
+    }
+
+    /// Whether the view has no bit.
+    pub fn is_empty(&self) -> bool
+        ensures { IsTrue result ↔ (len_of self.now ≡ 0) }
+    {
+        self.len == 0
+    }
+
+    /// The place of the view's first bit in its first word, below `T::BITS`.
+    pub fn head(&self) -> usize
+        ensures value { result ≡ head_of self.now }
+        ensures in_word { result < T.BITS }
+    {
+        self.head
+    }
+
+    /// The bit at index `i`. None exactly where the view is too short.
+    pub fn get(&self, i: usize) -> Option<bool>
+        ensures { result ≡ slice_get (list_of self.now) i }
+    {
+        self.as_bitslice().get(i)
+    }
+
+    /// The part of the view at a range of indices, for reading. The condition: the range lies in the
+    /// view's length.
+    pub fn get_range<R: RangeExt>(&self, range: R) -> BitSlice<'_, T, O>
+        requires ordered { R.start_of range ≤ R.end_of range (len_of self.now) }
+        requires within { R.end_of range (len_of self.now) ≤ len_of self.now }
+        ensures list { list_seen result ≡ slice_range (list_of self.now) (R.start_of range) (R.end_of range (len_of self.now)) }
+        ensures head { head_seen result ≡ (head_of self.now + R.start_of range) % T.BITS }
+        ensures len { len_seen result ≡ R.end_of range (len_of self.now) - R.start_of range }
+        ensures words { let first = (head_of self.now + R.start_of range) / T.BITS in words_seen result ≡ slice_range (words_of self.now) first (first + words_for T.BITS (head_seen result + len_seen result)) }
+    {
+        self.as_bitslice().get_range(range)
+    }
+
+    /// The first bit. None exactly where the view is empty.
+    pub fn first(&self) -> Option<bool>
+        ensures { result ≡ slice_get (list_of self.now) 0 }
+    {
+        self.as_bitslice().first()
+    }
+
+    /// The last bit. None exactly where the view is empty.
+    pub fn last(&self) -> Option<bool>
+        ensures { result ≡ slice_get (list_of self.now) (len_of self.now - 1) }
+    {
+        self.as_bitslice().last()
+    }
+
+    /// The bits of the view, from both ends.
+    pub fn iter(&self) -> Iter<'_, T, O>
+        ensures list { rest_of result ≡ list_of self.now }
+        ensures few { length (rest_of result) ≤ MAX_BITS }
+        ensures runs { YieldsInOrder (YieldsFirst (rest_of {X = T} {Y = O} {W = T.BitStore} {P = O.BitOrder})) rest_of }
+        ensures runs_back { YieldsInReverse (YieldsLast (rest_of {X = T} {Y = O} {W = T.BitStore} {P = O.BitOrder})) rest_of }
+    {
+        self.as_bitslice().iter()
+    }
+
+    /// How many bits are true.
+    pub fn count_ones(&self) -> usize
+        ensures value { result ≡ count_by (λ b. b) (list_of self.now) }
+        ensures few { result ≤ len_of self.now }
+    {
+        self.as_bitslice().count_ones()
+    }
+
+    /// How many bits are false.
+    pub fn count_zeros(&self) -> usize
+        ensures value { result ≡ count_by not (list_of self.now) }
+        ensures few { result ≤ len_of self.now }
+    {
+        self.as_bitslice().count_zeros()
+    }
+
+    /// Whether some bit is true. Of an empty view it is false.
+    pub fn any(&self) -> bool
+        ensures { result ≡ list_any (λ b. b) (list_of self.now) }
+    {
+        self.as_bitslice().any()
+    }
+
+    /// Whether every bit is true. Of an empty view it is true.
+    pub fn all(&self) -> bool
+        ensures { result ≡ list_all (λ b. b) (list_of self.now) }
+    {
+        self.as_bitslice().all()
+    }
+
+    /// Writes `b` at index `i`. The condition: the view has so many bits.
+    pub fn set(&mut self, i: usize, b: bool)
+        requires { i < len_of self.old }
+        ensures same_words { loan_of self.new ≡ loan_of self.old }
+        ensures row { row_of self.new ≡ set (row_of self.old) (head_of self.old + i) b }
+        ensures list { list_of self.new ≡ set (list_of self.old) i b }
+        ensures head { head_of self.new ≡ head_of self.old }
+        ensures len { len_of self.new ≡ len_of self.old }
+    {
+        write_bit::<T, O>(self.words, self.head + i, b);
+    }
+
+    /// Writes `b` at index `i`, and answers the bit that was there. The condition: the view has so
+    /// many bits.
+    pub fn replace(&mut self, i: usize, b: bool) -> bool
+        requires { i < len_of self.old }
+        ensures old { slice_get (list_of self.old) i ≡ Some result }
+        ensures same_words { loan_of self.new ≡ loan_of self.old }
+        ensures row { row_of self.new ≡ set (row_of self.old) (head_of self.old + i) b }
+        ensures list { list_of self.new ≡ set (list_of self.old) i b }
+        ensures head { head_of self.new ≡ head_of self.old }
+        ensures len { len_of self.new ≡ len_of self.old }
+    {
+        let old = self.as_bitslice().bit(i);
+        self.set(i, b);
+        old
+    }
+
+    /// Has the bits at indices `i` and `j` change places. The condition: the view has both.
+    pub fn swap(&mut self, i: usize, j: usize)
+        requires first { i < len_of self.old }
+        requires second { j < len_of self.old }
+        ensures same_words { loan_of self.new ≡ loan_of self.old }
+        ensures row { row_of self.new ≡ swap (row_of self.old) (head_of self.old + i) (head_of self.old + j) }
+        ensures list { list_of self.new ≡ swap (list_of self.old) i j }
+        ensures head { head_of self.new ≡ head_of self.old }
+        ensures len { len_of self.new ≡ len_of self.old }
+    {
+        swap_bits::<T, O>(self.words, self.head + i, self.head + j);
+    }
+
+    /// Writes `b` at every index, by whole words where it can.
+    pub fn fill(&mut self, b: bool)
+        ensures same_words { loan_of self.new ≡ loan_of self.old }
+        ensures row { row_of self.new ≡ put (row_of self.old) (head_of self.old) (replicate (len_of self.old) b) }
+        ensures list { list_of self.new ≡ replicate (len_of self.old) b }
+        ensures whole { head_of self.old ≡ 0 → len_of self.old ≡ T.BITS * length (words_of self.old) → row_of self.new ≡ replicate (len_of self.old) b }
+        ensures head { head_of self.new ≡ head_of self.old }
+        ensures len { len_of self.new ≡ len_of self.old }
+    {
+        fill_bits::<T, O>(self.words, self.head, self.head + self.len, b);
+    }
+
+    /// Copies the bits at a range of indices to the places from `dest` on, as if they were read before
+    /// any is written. The runs may overlap. The condition: the range and the places lie in the view.
+    #[tactic(auto, using(crate::proofs::Parts::roomy))]
+    pub fn copy_within<R: RangeExt>(&mut self, range: R, dest: usize)
+        requires ordered { R.start_of range ≤ R.end_of range (len_of self.old) }
+        requires within { R.end_of range (len_of self.old) ≤ len_of self.old }
+        requires room { dest + (R.end_of range (len_of self.old) - R.start_of range) ≤ len_of self.old }
+        ensures same_words { loan_of self.new ≡ loan_of self.old }
+        ensures row { row_of self.new ≡ moved (row_of self.old) (head_of self.old + R.start_of range) (head_of self.old + dest) (R.end_of range (len_of self.old) - R.start_of range) }
+        ensures list { list_of self.new ≡ moved (list_of self.old) (R.start_of range) dest (R.end_of range (len_of self.old) - R.start_of range) }
+        ensures head { head_of self.new ≡ head_of self.old }
+        ensures len { len_of self.new ≡ len_of self.old }
+    {
+        let range = range.normalize(self.len);
+        let (from, to) = (self.head + range.start, self.head + dest);
+        move_bits::<T, O>(self.words, from, to, range.end - range.start);
+    }
+
+    /// Writes the bits of another view, of any word type and order, in its order. Each word of it is
+    /// read once. The condition: equal lengths.
+    pub fn clone_from_bitslice<U: BitStore, P: BitOrder>(&mut self, source: BitSlice<'_, U, P>)
+        requires { len_seen source ≡ len_of self.old }
+        ensures same_words { loan_of self.new ≡ loan_of self.old }
+        ensures row { row_of self.new ≡ put (row_of self.old) (head_of self.old) (list_seen source.entry) }
+        ensures list { list_of self.new ≡ list_seen source.entry }
+        ensures whole { head_of self.old ≡ 0 → len_of self.old ≡ T.BITS * length (words_of self.old) → row_of self.new ≡ list_seen source.entry }
+        ensures head { head_of self.new ≡ head_of self.old }
+        ensures len { len_of self.new ≡ len_of self.old }
+    {
+        let from = source.head();
+        copy_bits::<T, O, U, P>(self.words, self.head, source.as_raw_slice(), from, self.len);
+    }
+}
+
+/// Has the bits at two places of the words' row change places. The condition: both are in the words.
+fn swap_bits<T: BitStore, O: BitOrder>(words: &mut [T], i: usize, j: usize)
+    requires first { i < T.BITS * length words.old }
+    requires second { j < T.BITS * length words.old }
+    ensures bits { row T.BitStore O.BitOrder words.new ≡ swap (row T.BitStore O.BitOrder words.old) i j }
+    ensures size { length words.new ≡ length words.old }
+{
+    let first = read_bit::<T, O>(words, i);
+    let second = read_bit::<T, O>(words, j);
+    write_bit::<T, O>(words, i, second);
+    write_bit::<T, O>(words, j, first);
+}
+
+impl<'a, T: BitStore, O: BitOrder> Index<usize> for BitSliceMut<'a, T, O> {
+    ghost use Rattle.std.specs.Prelude.{◌≡◌, ◌<◌, Some, slice_get};
+    ghost use Rattle.bit_slice.specs.BitSliceMut.{len_of, list_of};
+
+    type Output = bool;
+
+    ghost can_index = { λ v i. i < len_of v };
+
+    ghost index_gives = { λ v i x. Some x ≡ slice_get (list_of v) i };
+
+    /// The bit at index `i`. The condition: the view has so many bits.
+    fn index(&self, i: usize) -> &bool {
+        if self.as_bitslice().bit(i) {
+            &true
+        } else {
+            &false
+        }
+    }
+}

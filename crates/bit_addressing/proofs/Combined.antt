@@ -1,13 +1,14 @@
 -- Two runs of bits made into one.
 use Rattle.std.proofs.Common.{◌≡◌, ℕ, ◌+◌, ◌-◌, ◌*◌, ◌<◌, ◌≤◌, suc, Bool, false, List, [], ◌∷◌, ◌++◌, map, length, get_or, drop, take, slice_range, refl, sym, ◌∙◌, ap, arith, rules}
 use Rattle.std.specs.Simd.Lanes.{zip2}
-use Rattle.std.proofs.lemmas.List.{ext_get_or, get_or-take, get_or-drop, length-take, length-drop, places, same_lists}
+use Rattle.std.proofs.lemmas.List.{ext_get_or, get_or-take, get_or-drop, length-take, length-drop, take_all, places, same_lists}
 use Rattle.std.proofs.lemmas.Simd.{get_or-zip2, length-zip2}
 use Rattle.bit_addressing.specs.Bits.{has_bit}
 use Rattle.bit_addressing.specs.Order.{IsPermutation}
 use Rattle.bit_addressing.specs.Row.{row_of, put}
-use Rattle.bit_addressing.proofs.Lists.{put_none}
-use Rattle.bit_addressing.proofs.Runs.{ArePartsOf, slices_joined}
+use Rattle.bit_addressing.proofs.Lists.{put_none, put_joined}
+use Rattle.bit_addressing.proofs.Runs.{ArePartsOf, one_more_word, slices_joined}
+use Rattle.bit_addressing.proofs.Wholes.{split_sum}
 use Rattle.bit_addressing.proofs.Rows.{length-row_of, get_or-row_one}
 use Rattle.bit_addressing.proofs.Differs.{length-run, get_or-run}
 
@@ -70,3 +71,50 @@ pub combined_none : (f : Bool → Bool → Bool) (xs zs : List Bool) (at from n 
 combined_none f xs zs at from n none =
     let a : at + n - at ≡ 0 = omega arith in
     rw a (sym (put_none xs at))
+
+-- all of a word that was made of two
+pub word_combined : (f : Bool → Bool → Bool) (place : ℕ → ℕ → ℕ) (w old new v : ℕ) → 0 < w → IsPermutation w (place w) → ((p : ℕ) → p < w → has_bit v p ≡ f (has_bit old p) (has_bit new p)) → row_of place w (v ∷ []) ≡ zip2 f (row_of place w (old ∷ [])) (row_of place w (new ∷ []))
+word_combined f place w old new v positive lawful made =
+    let all : (x : ℕ) → slice_range (row_of place w (x ∷ [])) 0 w ≡ row_of place w (x ∷ []) = λ x. (let size : length (row_of place w (x ∷ [])) ≡ w * 1 = length-row_of place w (x ∷ []) in take_all (w - 0) (row_of place w (x ∷ [])) (omega arith)) in
+    sym (all v) ∙ run_combined f place w old new v 0 w positive lawful (omega arith) made ∙ ap (λ l. zip2 f l (slice_range (row_of place w (new ∷ [])) 0 w)) (all old) ∙ ap (zip2 f (row_of place w (old ∷ []))) (all new)
+
+pub combined_whole_none : (f : Bool → Bool → Bool) (xs zs : List Bool) (w from first : ℕ) → xs ≡ put xs (first * w) (zip2 f (slice_range xs (first * w) (first * w)) (slice_range zs from (from + (first - first) * w)))
+combined_whole_none f xs zs w from first =
+    let none : first * w - first * w ≡ 0 = omega arith in
+    rw none (sym (put_none xs (first * w)))
+
+-- one whole word more is made of two
+pub combined_more : (f : Bool → Bool → Bool) (xs cur zs one : List Bool) (w first k from a upto : ℕ) → first ≤ k → (k + 1) * w ≤ length xs → a ≡ from + (k - first) * w → upto ≡ from + (k + 1 - first) * w → upto ≤ length zs
+    → cur ≡ put xs (first * w) (zip2 f (slice_range xs (first * w) (k * w)) (slice_range zs from (from + (k - first) * w)))
+    → one ≡ zip2 f (slice_range cur (k * w) (k * w + w)) (slice_range zs a (a + w))
+    → put cur (k * w) one ≡ put xs (first * w) (zip2 f (slice_range xs (first * w) ((k + 1) * w)) (slice_range zs from upto))
+combined_more f xs cur zs one w first k from a upto ordered inside ea eu long so_far is =
+    let more = one_more_word k w in
+    let middle : k * w ≡ first * w + (k - first) * w = split_sum w first k ordered in
+    let next : k + 1 - first ≡ (k - first) + 1 = omega arith in
+    let step : (k + 1 - first) * w ≡ (k - first) * w + w = ap (λ n. n * w) next ∙ one_more_word (k - first) w in
+    let left : length (slice_range xs (first * w) (k * w)) ≡ (k - first) * w = length-between xs (first * w) (k * w) (omega arith) ∙ omega arith in
+    let right : length (slice_range zs from (from + (k - first) * w)) ≡ (k - first) * w = length-run zs from ((k - first) * w) (omega arith) in
+    let done : length (zip2 f (slice_range xs (first * w) (k * w)) (slice_range zs from (from + (k - first) * w))) ≡ (k - first) * w = length-zip2 f (slice_range xs (first * w) (k * w)) (slice_range zs from (from + (k - first) * w)) (left ∙ sym right) ∙ left in
+    let here : slice_range cur (k * w) (k * w + w) ≡ slice_range xs (k * w) ((k + 1) * w) =
+    ap (slice_range cur (k * w)) (sym more) ∙ ap (λ l. slice_range l (k * w) ((k + 1) * w)) so_far
+    ∙ put_later xs (zip2 f (slice_range xs (first * w) (k * w)) (slice_range zs from (from + (k - first) * w))) (first * w) (k * w) ((k + 1) * w) (omega arith) (omega arith) (omega arith) (omega arith) in
+    let end : a + w ≡ upto = omega arith in
+    let there : slice_range zs a (a + w) ≡ slice_range zs (from + (k - first) * w) upto = ap (λ n. slice_range zs n (a + w)) ea ∙ ap (slice_range zs (from + (k - first) * w)) end in
+    let piece : one ≡ zip2 f (slice_range xs (k * w) ((k + 1) * w)) (slice_range zs (from + (k - first) * w) upto) = is ∙ ap (λ l. zip2 f l (slice_range zs a (a + w))) here ∙ ap (zip2 f (slice_range xs (k * w) ((k + 1) * w))) there in
+    let more_left : length (slice_range xs (k * w) ((k + 1) * w)) ≡ w = length-between xs (k * w) ((k + 1) * w) inside ∙ omega arith in
+    let more_right : length (slice_range zs (from + (k - first) * w) upto) ≡ w = length-between zs (from + (k - first) * w) upto long ∙ omega arith in
+    let added : length (zip2 f (slice_range xs (k * w) ((k + 1) * w)) (slice_range zs (from + (k - first) * w) upto)) ≡ w = length-zip2 f (slice_range xs (k * w) ((k + 1) * w)) (slice_range zs (from + (k - first) * w) upto) (more_left ∙ sym more_right) ∙ more_left in
+    ap (λ l. put l (k * w) one) so_far
+    ∙ ap (put (put xs (first * w) (zip2 f (slice_range xs (first * w) (k * w)) (slice_range zs from (from + (k - first) * w)))) (k * w)) piece
+    ∙ put_joined xs (zip2 f (slice_range xs (first * w) (k * w)) (slice_range zs from (from + (k - first) * w))) (zip2 f (slice_range xs (k * w) ((k + 1) * w)) (slice_range zs (from + (k - first) * w) upto)) (first * w) (k * w) (omega arith) (omega arith)
+    ∙ ap (put xs (first * w)) (sym (zip2-append f (slice_range xs (first * w) (k * w)) (slice_range xs (k * w) ((k + 1) * w)) (slice_range zs from (from + (k - first) * w)) (slice_range zs (from + (k - first) * w) upto) (left ∙ sym right))
+    ∙ ap (λ l. zip2 f l (slice_range zs from (from + (k - first) * w) ++ slice_range zs (from + (k - first) * w) upto)) (slices_joined xs (first * w) (k * w) ((k + 1) * w) (omega arith) (omega arith) inside)
+    ∙ ap (zip2 f (slice_range xs (first * w) ((k + 1) * w))) (slices_joined zs from (from + (k - first) * w) upto (omega arith) (omega arith) long))
+
+-- the second bits alone
+pub second_bits : (xs ys : List Bool) → length xs ≡ length ys → zip2 (λ a b. b) xs ys ≡ ys
+second_bits [] [] h = refl
+second_bits [] (y ∷ ys) h = cc
+second_bits (x ∷ xs) [] h = cc
+second_bits (x ∷ xs) (y ∷ ys) h = ap (λ l. y ∷ l) (second_bits xs ys (omega arith))

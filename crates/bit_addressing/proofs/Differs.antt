@@ -45,6 +45,16 @@ module _ (xs ys : List Bool) (i j : ℕ) where
       ext_get_or false (slice_range xs i (i + n)) (slice_range ys j (j + n)) (a ∙ sym b)
       (λ q below. let inside : q < n = omega arith in get_or-run xs i n q inside ∙ same q (omega arith) ∙ sym (get_or-run ys j n q inside))
 
+  -- the runs that follow are equal: so many more bits are the same
+  pub alike_run : (k m a b : ℕ) → a ≡ i + k → b ≡ j + k → slice_range xs a (a + m) ≡ slice_range ys b (b + m) → AreAlike xs ys i j k → AreAlike xs ys i j (k + m)
+  alike_run k m a b at_a at_b equal same q h = elim (cases_lt q k) [
+    | inl l ↦ same q l
+    | inr l ↦
+        let p : a + (q - k) ≡ i + q = omega arith in
+        let r : b + (q - k) ≡ j + q = omega arith in
+        ap (λ n. get_or xs n false) (sym p) ∙ sym (get_or-run xs a m (q - k) (omega arith)) ∙ ap (λ l. get_or l (q - k) false) equal ∙ get_or-run ys b m (q - k) (omega arith) ∙ ap (λ n. get_or ys n false) r
+  ]
+
   module _ (k m x y a b : ℕ) (at_a : a ≡ i + k) (at_b : b ≡ j + k) (is_x : x ≡ number_of (slice_range xs a (a + m))) (is_y : y ≡ number_of (slice_range ys b (b + m))) where
     xor_bit : (q : ℕ) → q < m → has_bit (bit_xor x y) q ≡ (if get_or xs (i + (k + q)) false then not (get_or ys (j + (k + q)) false) else get_or ys (j + (k + q)) false)
     xor_bit q h =

@@ -12,8 +12,9 @@ pub mod Chunks
 pub mod Counts
 pub mod Differs
 pub mod Finds
-pub mod Combined
 pub mod Reverse
 pub mod Wholes
+pub mod Combined
 pub mod Packs
+pub mod Blocks
 pub mod Shifts

@@ -1,8 +1,8 @@
 //! Runs of up to 64 bits as numbers, whatever the words and the order that they lie in.
 //!
 //! Calls between words of two types or orders go through these numbers, 64 bits at a time.
-ghost use Rattle.std.specs.Prelude.{◌≡◌, ◌+◌, ◌*◌, ◌<◌, ◌≤◌, [], ◌∷◌, length, slice_range};
-ghost use Rattle.bit_addressing.specs.Row.{number_of};
+ghost use Rattle.std.specs.Prelude.{◌≡◌, ◌+◌, ◌*◌, ◌^◌, ◌<◌, ◌≤◌, [], ◌∷◌, length, slice_range};
+ghost use Rattle.bit_addressing.specs.Row.{number_of, row_of};
 ghost use Rattle.bit_addressing.specs.Typed.{row};
 
 use crate::index::BitIdx;
@@ -57,7 +57,8 @@ pub(crate) fn word_of_run<T: BitStore, O: BitOrder, U: BitStore, P: BitOrder>(
 
 /// The word of the bits of `source` from index `skip` of word `k` on, in words of one width.
 /// The condition: `skip` is an index of the word, and word `k + 1` is there.
-pub(crate) fn word_of_window<T: BitStore, O: BitOrder, U: BitStore, P: BitOrder>(
+#[inline(always)]
+fn word_of_window<T: BitStore, O: BitOrder, U: BitStore, P: BitOrder>(
     source: &[U],
     k: usize,
     skip: u8,
@@ -70,4 +71,50 @@ pub(crate) fn word_of_window<T: BitStore, O: BitOrder, U: BitStore, P: BitOrder>
     let begin = BitIdx::<U>::new_unchecked(skip);
     let bits = word_number::<U, P>(P::window(source[k], source[k + 1], begin));
     O::from_lsb0(T::from_u64(bits))
+}
+
+/// The 64 bits of `source` from index `skip` of word `k` on, in the order `O`.
+/// The condition: `skip` is an index of the word, and the row has 128 bits from word `k` on.
+#[inline(always)]
+pub(crate) fn block_at<O: BitOrder, U: BitStore, P: BitOrder>(
+    source: &[U],
+    k: usize,
+    skip: u8,
+) -> u64
+    requires within { skip < U.BITS }
+    requires words { k * U.BITS + 128 ≤ U.BITS * length source.now }
+    ensures { row_of O.place 64 (result ∷ []) ≡ slice_range (row U.BitStore P.BitOrder source.now) (k * U.BITS + skip) (k * U.BITS + skip + 64) }
+{
+    let low = P::pack(source, k);
+    let high = P::pack(source, k + (64 / U::BITS) as usize);
+    let word = P::window(low, high, BitIdx::<u64>::new_unchecked(skip));
+    O::from_lsb0(P::to_lsb0(word))
+}
+
+/// The word of the bits of `source` that begin `t` words of type `T` behind index `skip` of word `begin`.
+/// The condition: `skip` is an index of the word, and the row has one bit more.
+#[inline(always)]
+pub(crate) fn word_behind<T: BitStore, O: BitOrder, U: BitStore, P: BitOrder>(
+    source: &[U],
+    begin: usize,
+    skip: u8,
+    t: usize,
+) -> T
+    requires within { skip < U.BITS }
+    requires source { begin * U.BITS + skip + t * T.BITS + T.BITS < U.BITS * length source.now }
+    requires fits { begin * U.BITS + skip + t * T.BITS + T.BITS < 2 ^ 64 }
+    ensures { row T.BitStore O.BitOrder (result ∷ []) ≡ slice_range (row U.BitStore P.BitOrder source.now) (begin * U.BITS + skip + t * T.BITS) (begin * U.BITS + skip + t * T.BITS + T.BITS) }
+{
+    if U::BITS == T::BITS {
+        return word_of_window::<T, O, U, P>(source, begin + t, skip);
+    }
+    if T::BITS == 64 {
+        let each = (64 / U::BITS) as usize;
+        let k = begin + t * each;
+        if k + 2 * each <= source.len() {
+            return T::from_u64(block_at::<O, U, P>(source, k, skip));
+        }
+    }
+    let at = begin * U::BITS as usize + skip as usize + t * T::BITS as usize;
+    word_of_run::<T, O, U, P>(source, at, T::BITS, 0)
 }

@@ -1,11 +1,11 @@
 //! Runs of bits combined with those of another row, by whole words of the target.
-ghost use Rattle.std.specs.Prelude.{◌≡◌, ℕ, ◌+◌, ◌*◌, ◌^◌, ◌<◌, ◌≤◌, if◌then◌else◌, ◌&&◌, ◌||◌, Bool, not, [], ◌∷◌, length, slice_range};
+ghost use Rattle.std.specs.Prelude.{◌≡◌, ℕ, ◌+◌, ◌-◌, ◌*◌, ◌^◌, ◌<◌, ◌≤◌, if◌then◌else◌, ◌&&◌, ◌||◌, Bool, not, [], ◌∷◌, length, slice_range};
 ghost use Rattle.std.specs.Simd.Lanes.{zip2};
 ghost use Rattle.bit_addressing.specs.Bits.{has_bit};
 ghost use Rattle.bit_addressing.specs.Row.{put};
 ghost use Rattle.bit_addressing.specs.Typed.{row};
 
-use crate::bits::chunks::word_of_run;
+use crate::bits::chunks::{word_behind, word_of_run};
 use crate::bits::single::write_part;
 use crate::order::BitOrder;
 use crate::store::BitStore;
@@ -53,6 +53,17 @@ impl BitOperator for Xor {
     }
 }
 
+/// The second bit, whatever the first is: a copy.
+pub(crate) struct Second;
+
+impl BitOperator for Second {
+    ghost made = { λ a b. b };
+
+    fn apply<T: BitStore>(_old: T, new: T) -> T {
+        new
+    }
+}
+
 /// As `write_part`, of what `F` makes of the bits there and of those of `new`.
 fn combine_part<F: BitOperator, T: BitStore, O: BitOrder>(
     words: &mut [T],
@@ -69,6 +80,32 @@ fn combine_part<F: BitOperator, T: BitStore, O: BitOrder>(
 {
     let word = F::apply(words[k], new);
     write_part::<T, O>(words, k, low, high, word);
+}
+
+/// Makes each bit of the words `first..last` into the bit that `F` makes of it and of the bit of `source`
+/// that stands as far behind `from`. The condition: the words are there, and the run lies in `source`,
+/// which has one bit more.
+fn combine_whole<F: BitOperator, T: BitStore, O: BitOrder, U: BitStore, P: BitOrder>(
+    words: &mut [T],
+    first: usize,
+    last: usize,
+    source: &[U],
+    from: usize,
+)
+    requires ordered { first ≤ last }
+    requires target { last ≤ length words.old }
+    requires source { from + (last - first) * T.BITS < U.BITS * length source.now }
+    requires source_fits { from + (last - first) * T.BITS < 2 ^ 64 }
+    ensures bits { row T.BitStore O.BitOrder words.new ≡ put (row T.BitStore O.BitOrder words.old) (first * T.BITS) (zip2 F.made (slice_range (row T.BitStore O.BitOrder words.old) (first * T.BITS) (last * T.BITS)) (slice_range (row U.BitStore P.BitOrder source.now) from (from + (last - first) * T.BITS))) }
+    ensures size { length words.new ≡ length words.old }
+{
+    let width = U::BITS as usize;
+    let begin = from / width;
+    let skip = (from % width) as u8;
+    for k in first..last {
+        let new = word_behind::<T, O, U, P>(source, begin, skip, k - first);
+        words[k] = F::apply(words[k], new);
+    }
 }
 
 /// Makes each of `n` bits of `words`, from `at` on, into the bit that `F` makes of it and of the bit of
@@ -103,10 +140,7 @@ pub fn combine_bits<F: BitOperator, T: BitStore, O: BitOrder, U: BitStore, P: Bi
     }
     let new = word_of_run::<T, O, U, P>(source, from, (width - low) as u8, low as u8);
     combine_part::<F, T, O>(words, first, low, width, new);
-    for k in first + 1..last {
-        let new = word_of_run::<T, O, U, P>(source, from + (k * width - at), T::BITS, 0);
-        combine_part::<F, T, O>(words, k, 0, width, new);
-    }
+    combine_whole::<F, T, O, U, P>(words, first + 1, last, source, from + (width - low));
     let new = word_of_run::<T, O, U, P>(source, from + (last * width - at), end as u8, 0);
     combine_part::<F, T, O>(words, last, 0, end, new);
 }

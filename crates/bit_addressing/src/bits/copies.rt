@@ -3,7 +3,7 @@ ghost use Rattle.std.specs.Prelude.{◌≡◌, ◌+◌, ◌-◌, ◌*◌, ◌^�
 ghost use Rattle.bit_addressing.specs.Row.{put};
 ghost use Rattle.bit_addressing.specs.Typed.{row};
 
-use crate::bits::chunks::{word_of_run, word_of_window};
+use crate::bits::combined::{Second, combine_bits};
 use crate::bits::single::write_part;
 use crate::index::BitIdx;
 use crate::order::BitOrder;
@@ -133,36 +133,6 @@ pub fn copy_bits_alike<T: BitStore, O: BitOrder>(
     write_part::<T, O>(words, last, 0, end, tail);
 }
 
-/// Copies the bits of `source` from `from` on to the words `first..last`: all of their bits.
-fn copy_whole<T: BitStore, O: BitOrder, U: BitStore, P: BitOrder>(
-    words: &mut [T],
-    first: usize,
-    last: usize,
-    source: &[U],
-    from: usize,
-)
-    requires ordered { first ≤ last }
-    requires target { last ≤ length words.old }
-    requires source { from + (last - first) * T.BITS < U.BITS * length source.now }
-    requires source_fits { from + (last - first) * T.BITS < 2 ^ 64 }
-    ensures bits { row T.BitStore O.BitOrder words.new ≡ put (row T.BitStore O.BitOrder words.old) (first * T.BITS) (slice_range (row U.BitStore P.BitOrder source.now) from (from + (last - first) * T.BITS)) }
-    ensures size { length words.new ≡ length words.old }
-{
-    let width = T::BITS as usize;
-    if U::BITS == T::BITS {
-        let begin = from / width;
-        let skip = (from % width) as u8;
-        for k in first..last {
-            words[k] = word_of_window::<T, O, U, P>(source, begin + (k - first), skip);
-        }
-    } else {
-        for j in first..last {
-            let at = from + (j - first) * width;
-            words[j] = word_of_run::<T, O, U, P>(source, at, T::BITS, 0);
-        }
-    }
-}
-
 /// Copies `n` bits of the row of `source`, from `from` on, to the places from `at` on, and changes no
 /// other bit. The words may be of any type and the bits in any order; it goes by whole words of the target.
 /// The condition: both runs lie in their words.
@@ -180,22 +150,5 @@ pub fn copy_bits<T: BitStore, O: BitOrder, U: BitStore, P: BitOrder>(
     ensures bits { row T.BitStore O.BitOrder words.new ≡ put (row T.BitStore O.BitOrder words.old) at (slice_range (row U.BitStore P.BitOrder source.now) from (from + n)) }
     ensures size { length words.new ≡ length words.old }
 {
-    if n == 0 {
-        return;
-    }
-    let width = T::BITS as usize;
-    let first = at / width;
-    let low = at % width;
-    let last = (at + n - 1) / width;
-    let end = (at + n - 1) % width + 1;
-    if first == last {
-        let word = word_of_run::<T, O, U, P>(source, from, n as u8, low as u8);
-        write_part::<T, O>(words, first, low, end, word);
-        return;
-    }
-    let word = word_of_run::<T, O, U, P>(source, from, (width - low) as u8, low as u8);
-    write_part::<T, O>(words, first, low, width, word);
-    copy_whole::<T, O, U, P>(words, first + 1, last, source, from + (width - low));
-    let word = word_of_run::<T, O, U, P>(source, from + (last * width - at), end as u8, 0);
-    write_part::<T, O>(words, last, 0, end, word);
+    combine_bits::<Second, T, O, U, P>(words, at, source, from, n);
 }

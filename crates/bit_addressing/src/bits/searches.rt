@@ -1,10 +1,10 @@
 //! Bits counted and compared, by whole words.
-ghost use Rattle.std.specs.Prelude.{◌≡◌, ◌+◌, ◌-◌, ◌*◌, ◌^◌, ◌<◌, ◌≤◌, length, slice_range, MatchOption, not, replicate};
+ghost use Rattle.std.specs.Prelude.{◌≡◌, ℕ, ◌+◌, ◌-◌, ◌*◌, ◌/◌, ◌^◌, ◌<◌, ◌≤◌, length, slice_range, MatchOption, not, replicate};
 ghost use Rattle.std.specs.List.{count_by};
 ghost use Rattle.bit_addressing.specs.Row.{IsFirst, IsFirstDifference};
 ghost use Rattle.bit_addressing.specs.Typed.{row};
 
-use crate::bits::chunks::{read_chunk, word_number};
+use crate::bits::chunks::{block_at, read_chunk, word_number};
 use crate::order::BitOrder;
 use crate::store::BitStore;
 
@@ -41,6 +41,14 @@ pub fn count_bits<T: BitStore, O: BitOrder>(words: &[T], from: usize, upto: usiz
     count + chunk.count_ones() as usize
 }
 
+/// How many blocks of 64 bits from word `k` on have another block behind them, in so many words.
+fn blocks_behind<T: BitStore>(words: usize, k: usize) -> usize
+    ensures { (t : ℕ) → t < result → (k + t * (64 / T.BITS)) * T.BITS + 128 ≤ T.BITS * words }
+{
+    let each = (64 / T::BITS) as usize;
+    (words.saturating_sub(k) / each).saturating_sub(1)
+}
+
 /// The first place at which the `n` bits of the row of `a` from `i` on and the `n` of `b` from `j` on
 /// differ. None exactly where the two runs are equal. The condition: both runs lie in their words.
 pub fn differ_at<T: BitStore, O: BitOrder, U: BitStore, P: BitOrder>(
@@ -56,7 +64,23 @@ pub fn differ_at<T: BitStore, O: BitOrder, U: BitStore, P: BitOrder>(
     requires second_fits { j + n < 2 ^ 64 }
     ensures { MatchOption result (slice_range (row T.BitStore O.BitOrder a.now) i (i + n) ≡ slice_range (row U.BitStore P.BitOrder b.now) j (j + n)) (λ k. IsFirstDifference (slice_range (row T.BitStore O.BitOrder a.now) i (i + n)) (slice_range (row U.BitStore P.BitOrder b.now) j (j + n)) k) }
 {
-    for t in 0..n / 64 {
+    let (width, other) = (T::BITS as usize, U::BITS as usize);
+    let (each, others) = ((64 / T::BITS) as usize, (64 / U::BITS) as usize);
+    let (k, skip) = (i / width, (i % width) as u8);
+    let (l, over) = (j / other, (j % other) as u8);
+    let room = blocks_behind::<T>(a.len(), k).min(blocks_behind::<U>(b.len(), l));
+    let blocks = room.min(n / 64);
+    for t in 0..blocks {
+        let left = block_at::<O, T, O>(a, k + t * each, skip);
+        let right = block_at::<O, U, P>(b, l + t * others, over);
+        if left != right {
+            let apart = word_number::<u64, O>(left) ^ word_number::<u64, O>(right);
+            if apart != 0 {
+                return Some(t * 64 + apart.trailing_zeros() as usize);
+            }
+        }
+    }
+    for t in blocks..n / 64 {
         let left = read_chunk::<T, O>(a, i + t * 64, 64);
         let right = read_chunk::<U, P>(b, j + t * 64, 64);
         let apart = left ^ right;

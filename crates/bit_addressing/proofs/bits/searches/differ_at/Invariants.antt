@@ -5,3 +5,6 @@ use Rattle.bit_addressing.proofs.bits.searches.differ_at.Given as goal
 
 abbrev pub invariant-loop-t : goal.invariant-loop-t
 invariant-loop-t g l = record { alike : AreAlike (row g.T.BitStore g.O.BitOrder l.a) (row g.U.BitStore g.P.BitOrder l.b) l.i l.j (l.t * 64) }
+
+abbrev pub invariant-loop-t-2 : goal.invariant-loop-t-2
+invariant-loop-t-2 g l = record { alike : AreAlike (row g.T.BitStore g.O.BitOrder l.a) (row g.U.BitStore g.P.BitOrder l.b) l.i l.j (l.t * 64) }

@@ -1,0 +1,63 @@
+-- Blocks of 64 bits out of two that follow each other.
+use Rattle.std.proofs.Common.{◌≡◌, ℕ, ◌+◌, ◌-◌, ◌*◌, ◌/◌, ◌%◌, ◌<◌, ◌≤◌, Bool, false, List, [], ◌∷◌, length, get_or, slice_range, refl, sym, ◌∙◌, ap, subst, inl, inr, arith, mul_comm}
+use Rattle.std.proofs.lemmas.Bool.{cases_lt}
+use Rattle.std.proofs.lemmas.List.{ext_get_or}
+use Rattle.std.proofs.lemmas.Nat.{div-add-mod'}
+use Rattle.bit_addressing.specs.Bits.{has_bit}
+use Rattle.bit_addressing.specs.Row.{row_bit, row_of}
+use Rattle.bit_addressing.proofs.Differs.{get_or-run, length-run}
+use Rattle.bit_addressing.proofs.Packs.{row_from}
+use Rattle.bit_addressing.proofs.Runs.{mul_mono, one_more_word}
+use Rattle.bit_addressing.proofs.Wholes.{right_sum}
+use Rattle.bit_addressing.proofs.Rows.{length-row_of, get_or-row_one}
+use Rattle.bit_addressing.proofs.Windows.{first_of_two, second_of_two}
+
+-- a bit of a block that stands in a list from place a on
+block_bit : (place : ℕ → ℕ → ℕ) (v a i : ℕ) (zs : List Bool) → i < 64 → row_of place 64 (v ∷ []) ≡ slice_range zs a (a + 64) → has_bit v (place 64 i) ≡ get_or zs (a + i) false
+block_bit place v a i zs h is = sym (get_or-row_one place 64 v i (omega arith) h) ∙ ap (λ l. get_or l i false) is ∙ get_or-run zs a 64 i h
+
+-- a window over two blocks, put into another order
+pub block_is : (place other : ℕ → ℕ → ℕ) (low high word mid out a b skip : ℕ) (zs : List Bool) → skip < 64 → b ≡ a + 64 → a + 128 ≤ length zs
+    → row_of place 64 (low ∷ []) ≡ slice_range zs a (a + 64) → row_of place 64 (high ∷ []) ≡ slice_range zs b (b + 64)
+    → ((i : ℕ) → i < 64 → has_bit word (place 64 i) ≡ row_bit place 64 (low ∷ high ∷ []) (skip + i)) → ((i : ℕ) → i < 64 → has_bit mid i ≡ has_bit word (place 64 i)) → ((i : ℕ) → i < 64 → has_bit out (other 64 i) ≡ has_bit mid i)
+    → row_of other 64 (out ∷ []) ≡ slice_range zs (a + skip) (a + skip + 64)
+block_is place other low high word mid out a b skip zs within next inside is_low is_high window plain ordered =
+    row_from other out (a + skip) zs (omega arith)
+    (λ i h. ordered i h ∙ plain i h ∙ window i h ∙ elim (cases_lt (skip + i) 64) [
+      | inl l ↦ let at : a + (skip + i) ≡ a + skip + i = omega arith in first_of_two place 64 low high (skip + i) l ∙ block_bit place low a (skip + i) zs l is_low ∙ ap (λ n. get_or zs n false) at
+      | inr l ↦
+          let at : b + (skip + i - 64) ≡ a + skip + i = omega arith in
+          second_of_two place 64 low high (skip + i) l (omega arith) ∙ block_bit place high b (skip + i - 64) zs (omega arith) is_high ∙ ap (λ n. get_or zs n false) at
+    ])
+
+-- the same bits in a word as in a block
+pub block_as_word : (place : ℕ → ℕ → ℕ) (w v block : ℕ) → w ≡ 64 → ((p : ℕ) → p < w → has_bit v p ≡ has_bit block p) → ((i : ℕ) → i < w → place w i < w) → row_of place w (v ∷ []) ≡ row_of place 64 (block ∷ [])
+block_as_word place w v block is same inside =
+    let one : length (row_of place w (v ∷ [])) ≡ w * 1 = length-row_of place w (v ∷ []) in
+    let two : length (row_of place 64 (block ∷ [])) ≡ 64 * 1 = length-row_of place 64 (block ∷ []) in
+    ext_get_or false (row_of place w (v ∷ [])) (row_of place 64 (block ∷ [])) (omega arith) (λ i h.
+    let below : i < w = omega arith in
+    get_or-row_one place w v i (omega arith) below ∙ same (place w i) (inside i below) ∙ ap (λ n. has_bit block (place n i)) is ∙ sym (get_or-row_one place 64 block i (omega arith) (omega arith)))
+
+-- where a block stands, some blocks behind a place
+pub block_from : (w each at t : ℕ) → each * w ≡ 64 → (at / w + t * each) * w + at % w ≡ at + t * 64
+block_from w each at t fills =
+    let split : at / w * w + at % w ≡ at = div-add-mod' at w in
+    let sum : (at / w + t * each) * w ≡ at / w * w + (t * each) * w = right_sum (at / w) (t * each) w in
+    let inner : (t * each) * w ≡ t * (each * w) = grind arith in
+    let whole : t * (each * w) ≡ t * 64 = ap (λ n. t * n) fills in
+    omega arith
+
+-- a block that is numbered below those with another behind them
+pub block_room : (w each words k t : ℕ) → each * w ≡ 64 → t < (words - k) / each - 1 → (k + t * each) * w + 128 ≤ w * words
+block_room w each words k t fills below =
+    let split : (words - k) / each * each + (words - k) % each ≡ words - k = div-add-mod' (words - k) each in
+    let most = mul_mono (t + 1 + 1) ((words - k) / each) each (omega arith) in
+    let one = one_more_word t each in
+    let two = one_more_word (t + 1) each in
+    let inside : k + t * each + each + each ≤ words = omega arith in
+    let wide = mul_mono (k + t * each + each + each) words w inside in
+    let more = right_sum (k + t * each + each) each w in
+    let less = right_sum (k + t * each) each w in
+    let turned : w * words ≡ words * w = mul_comm w words in
+    omega arith

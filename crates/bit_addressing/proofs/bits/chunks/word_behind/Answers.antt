@@ -1,0 +1,45 @@
+use Rattle.std.proofs.Common.{◌≡◌, ℕ, ◌+◌, ◌*◌, ◌/◌, ◌<◌, ◌≤◌, [], ◌∷◌, length, slice_range, refl, sym, ◌∙◌, ap, subst, arith}
+use Rattle.bit_addressing.specs.Row.{row_of}
+use Rattle.bit_addressing.specs.Typed.{row}
+use Rattle.bit_addressing.proofs.Blocks.{block_as_word}
+use Rattle.bit_addressing.proofs.Chunks.{whole_is}
+use Rattle.bit_addressing.proofs.Packs.{pack_fills}
+use Rattle.bit_addressing.proofs.Wholes.{right_sum}
+use Rattle.bit_addressing.proofs.bits.chunks.word_behind.Goals as goal
+
+-- where a block begins, some blocks behind a word
+behind : (begin t each u skip w : ℕ) → each * u ≡ 64 → w ≡ 64 → (begin + t * each) * u + skip ≡ begin * u + skip + t * w
+behind begin t each u skip w fills wide =
+    let split : (t * each) * u ≡ t * (each * u) = grind arith in
+    let sum : (begin + t * each) * u ≡ begin * u + (t * each) * u = right_sum begin (t * each) u in
+    let whole : t * (each * u) ≡ t * w = ap (λ n. t * n) (fills ∙ sym wide) in
+    omega arith
+
+pub returns-then-k-each : goal.returns-then-k-each
+returns-then-k-each g c =
+    let w = g.T.BitStore.BITS in
+    let u = g.U.BitStore.BITS in
+    let place = g.O.BitOrder.place in
+    let begin = c.args.begin in
+    let skip = c.args.skip in
+    let t = c.args.t in
+    let zs = row g.U.BitStore g.P.BitOrder c.args.source.now in
+    let wide : w ≡ 64 = sym c.BITS-3.ensures ∙ c.if-BITS-eq64.true in
+    let each : 64 / c.BITS-then-BITS-eq64.result ≡ 64 / u = ap (λ n. 64 / n) c.BITS-then-BITS-eq64.ensures in
+    let from : (begin + t * (64 / c.BITS-then-BITS-eq64.result)) * u + skip ≡ begin * u + skip + t * w = ap (λ n. (begin + t * n) * u + skip) each ∙ behind begin t (64 / u) u skip w (pack_fills u g.met.U.BitStore.width) wide in
+    block_as_word place w (g.T.BitStore.value c.from_u64.result) c.block_at.result wide c.from_u64.ensures (g.met.O.BitOrder.lawful w g.met.T.BitStore.width).in_range
+    ∙ c.block_at.ensures
+    ∙ ap (λ n. slice_range zs n (n + 64)) from
+    ∙ ap (λ n. slice_range zs (begin * u + skip + t * w) (begin * u + skip + t * w + n)) (sym wide)
+
+pub returns : goal.returns
+returns g c =
+    let w = g.T.BitStore.BITS in
+    let u = g.U.BitStore.BITS in
+    let begin = c.args.begin in
+    let skip = c.args.skip in
+    let t = c.args.t in
+    let zs = row g.U.BitStore g.P.BitOrder c.args.source.now in
+    let at : ℕ = begin * c.BITS-4.result + skip + t * c.BITS-5.result in
+    let from : begin * u + skip + t * w ≡ at = ap (λ n. begin * n + skip + t * w) (sym c.BITS-4.ensures) ∙ ap (λ n. begin * c.BITS-4.result + skip + t * n) (sym c.BITS-5.ensures) in
+    whole_is g.O.BitOrder.place w (g.T.BitStore.value c.word_of_run.result) zs c.BITS-6.result at (begin * u + skip + t * w) (begin * u + skip + t * w + w) c.BITS-6.ensures from (ap (λ n. n + w) from) c.word_of_run.ensures

@@ -5,3 +5,4 @@ pub mod Iteration
 pub mod Comparing
 pub mod Combining
 pub mod Counting
+pub mod Finding

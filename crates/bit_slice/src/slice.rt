@@ -1,7 +1,7 @@
 //! Views of bits for reading.
 ghost use Rattle.std.specs.Iterator.{YieldsFirst, YieldsLast};
 ghost use Rattle.std.specs.Iterator.Runs.{YieldsInOrder, YieldsInReverse};
-ghost use Rattle.std.specs.Prelude.{◌≡◌, ℕ, ◌+◌, ◌-◌, ◌*◌, ◌/◌, ◌%◌, ◌<◌, ◌≤◌, ◌↔◌, Bool, not, length, count_by, slice_get, slice_index_or, slice_range, false, IsTrue, IsOk, IfOk};
+ghost use Rattle.std.specs.Prelude.{◌≡◌, ℕ, ◌+◌, ◌-◌, ◌*◌, ◌/◌, ◌%◌, ◌<◌, ◌≤◌, ◌↔◌, Bool, not, length, count_by, slice_get, slice_index_or, slice_range, true, false, EachIndex, SomeIndex, IsTrue, IsOk, IfOk};
 ghost use Rattle.std.specs.List.{list_any, list_all};
 ghost use Rattle.bit_addressing.specs.Row.{words_for};
 ghost use Rattle.bit_addressing.specs.Typed.{row, words_from};
@@ -11,7 +11,8 @@ ghost use Rattle.bit_slice.specs.Fits.{IsView};
 use crate::counted::Counted;
 use crate::iter::Iter;
 use bit_addressing::{
-    BitOrder, BitStore, GrowError, MAX_BITS, RangeExt, count_bits, elts, exact_words, read_bit,
+    BitOrder, BitStore, GrowError, MAX_BITS, RangeExt, count_bits, elts, exact_words, find_bit,
+    read_bit,
 };
 use std::alloc::AllocError;
 use std::marker::PhantomData;
@@ -230,28 +231,20 @@ impl<'a, T: BitStore, O: BitOrder> BitSlice<'a, T, O> {
         self.len - self.count_ones()
     }
 
-    /// Whether some bit is true. Of an empty view it is false.
+    /// Whether some bit is true, 64 at a time. Of an empty view it is false.
     pub fn any(self) -> bool
-        ensures { result ≡ list_any (λ b. b) (list_of self.entry) }
+        ensures value { result ≡ list_any (λ b. b) (list_of self.entry) }
+        ensures index { IsTrue result ↔ SomeIndex (list_of self.entry) (λ i. slice_get (list_of self.entry) i ≡ Some true) }
     {
-        for i in 0..self.len {
-            if self.bit(i) {
-                return true;
-            }
-        }
-        false
+        find_bit::<T, O>(self.words, self.head, self.head + self.len, true).is_some()
     }
 
-    /// Whether every bit is true. Of an empty view it is true.
+    /// Whether every bit is true, 64 at a time. Of an empty view it is true.
     pub fn all(self) -> bool
-        ensures { result ≡ list_all (λ b. b) (list_of self.entry) }
+        ensures value { result ≡ list_all (λ b. b) (list_of self.entry) }
+        ensures index { IsTrue result ↔ EachIndex (list_of self.entry) (λ i. slice_get (list_of self.entry) i ≡ Some true) }
     {
-        for i in 0..self.len {
-            if !self.bit(i) {
-                return false;
-            }
-        }
-        true
+        find_bit::<T, O>(self.words, self.head, self.head + self.len, false).is_none()
     }
 }
 

@@ -1,7 +1,7 @@
 //! Views of bits for writing.
 ghost use Rattle.std.specs.Iterator.{YieldsFirst, YieldsLast};
 ghost use Rattle.std.specs.Iterator.Runs.{YieldsInOrder, YieldsInReverse};
-ghost use Rattle.std.specs.Prelude.{◌≡◌, ℕ, ◌+◌, ◌-◌, ◌*◌, ◌/◌, ◌%◌, ◌<◌, ◌≤◌, ◌↔◌, Bool, false, not, length, count_by, replicate, set, slice_get, slice_index_or, slice_range, swap, IsTrue};
+ghost use Rattle.std.specs.Prelude.{◌≡◌, ℕ, ◌+◌, ◌-◌, ◌*◌, ◌/◌, ◌%◌, ◌<◌, ◌≤◌, ◌↔◌, Bool, true, false, EachIndex, SomeIndex, not, length, count_by, replicate, set, slice_get, slice_index_or, slice_range, swap, IsTrue};
 ghost use Rattle.std.specs.List.{list_any, list_all};
 ghost use Rattle.std.specs.Borrow.{sem};
 ghost use Rattle.bit_addressing.specs.Row.{words_for, put, moved};
@@ -210,14 +210,16 @@ impl<'a, T: BitStore, O: BitOrder> BitSliceMut<'a, T, O> {
 
     /// Whether some bit is true. Of an empty view it is false.
     pub fn any(&self) -> bool
-        ensures { result ≡ list_any (λ b. b) (list_of self.now) }
+        ensures value { result ≡ list_any (λ b. b) (list_of self.now) }
+        ensures index { IsTrue result ↔ SomeIndex (list_of self.now) (λ i. slice_get (list_of self.now) i ≡ Some true) }
     {
         self.as_bitslice().any()
     }
 
     /// Whether every bit is true. Of an empty view it is true.
     pub fn all(&self) -> bool
-        ensures { result ≡ list_all (λ b. b) (list_of self.now) }
+        ensures value { result ≡ list_all (λ b. b) (list_of self.now) }
+        ensures index { IsTrue result ↔ EachIndex (list_of self.now) (λ i. slice_get (list_of self.now) i ≡ Some true) }
     {
         self.as_bitslice().all()
     }

@@ -1,0 +1,13 @@
+use Rattle.std.proofs.Common.{◌≡◌, ◌↔◌, ◌+◌, ◌-◌, Bool, true, IsTrue, Some, slice_get, sym, ◌∙◌, subst}
+use Rattle.std.specs.Prelude.{SomeIndex}
+use Rattle.bit_slice.proofs.Finding.{any_is, any_by_index}
+use Rattle.bit_slice.specs.BitSlice.{list_of}
+use Rattle.bit_slice.proofs.slice.BitSlice.any.Goals as goal
+
+pub returns-clause-value : goal.returns-clause-value
+returns-clause-value g c = c.is_some.ensures ∙ any_is (list_of c.args.self) (c.args.self.head + c.args.self.len - c.args.self.head) c.find_bit.result c.find_bit.ensures
+
+pub returns-clause-index : goal.returns-clause-index
+returns-clause-index g c =
+    subst (λ (b : Bool). IsTrue b ↔ SomeIndex (list_of c.args.self) (λ i. slice_get (list_of c.args.self) i ≡ Some true)) (sym c.is_some.ensures)
+    (any_by_index (list_of c.args.self) (c.args.self.head + c.args.self.len - c.args.self.head) c.find_bit.result c.find_bit.ensures)

@@ -43,3 +43,7 @@ module _ (xs : List Bool) (n : ℕ) where
   pub all_by_index : (r : Option ℕ) → MatchOption r (xs ≡ replicate n true) (λ k. IsFirst false xs k) → IsTrue (not (is_some r)) ↔ EachIndex xs (λ i. slice_get xs i ≡ Some true)
   all_by_index None none = told_true _ (repeated true none)
   all_by_index (Some k) first = told_false _ (λ each. true≢false (sym (get_or_from_slice_get xs k true false (each k first.within)) ∙ first.here))
+
+pub other_way : (a b : Bool) → a ≡ not b → b ≡ not a
+other_way a true e = sym (ap not e)
+other_way a false e = sym (ap not e)

@@ -1,13 +1,13 @@
 use Rattle.std.proofs.Common.{◌≡◌, ◌↔◌, ◌+◌, ◌-◌, Bool, true, IsTrue, Some, slice_get, sym, ◌∙◌, subst}
 use Rattle.std.specs.Prelude.{EachIndex}
-use Rattle.bit_slice.proofs.Finding.{all_is, all_by_index}
+use Rattle.bit_slice.proofs.Finding.{all_is, all_by_index, other_way}
 use Rattle.bit_slice.specs.BitSlice.{list_of}
 use Rattle.bit_slice.proofs.slice.BitSlice.all.Goals as goal
 
 pub returns-clause-value : goal.returns-clause-value
-returns-clause-value g c = c.is_none.ensures ∙ all_is (list_of c.args.self) (c.args.self.head + c.args.self.len - c.args.self.head) c.find_bit.result c.find_bit.ensures
+returns-clause-value g c = other_way _ _ c.is_none.ensures ∙ all_is (list_of c.args.self) (c.args.self.head + c.args.self.len - c.args.self.head) c.find_bit.result c.find_bit.ensures
 
 pub returns-clause-index : goal.returns-clause-index
 returns-clause-index g c =
-    subst (λ (b : Bool). IsTrue b ↔ EachIndex (list_of c.args.self) (λ i. slice_get (list_of c.args.self) i ≡ Some true)) (sym c.is_none.ensures)
+    subst (λ (b : Bool). IsTrue b ↔ EachIndex (list_of c.args.self) (λ i. slice_get (list_of c.args.self) i ≡ Some true)) (sym (other_way _ _ c.is_none.ensures))
     (all_by_index (list_of c.args.self) (c.args.self.head + c.args.self.len - c.args.self.head) c.find_bit.result c.find_bit.ensures)

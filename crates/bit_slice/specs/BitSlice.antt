@@ -9,7 +9,7 @@ use Rattle.bit_slice.specs.declared.slice.BitSlice.{BitSlice}
 abbrev pub words_of : {X Y : Type 0} {W : store.Ghosts X} {P : order.Ghosts Y} → BitSlice X Y W P → List X
 words_of v = v.words.now
 
--- the place of its first bit in the row of its words
+-- the index of its first bit in its first word
 abbrev pub head_of : {X Y : Type 0} {W : store.Ghosts X} {P : order.Ghosts Y} → BitSlice X Y W P → ℕ
 head_of v = v.head
 

@@ -10,7 +10,7 @@ use Rattle.bit_slice.specs.declared.counted_mut.CountedMut.{CountedMut}
 abbrev pub words_of : {X Y : Type 0} {W : store.Ghosts X} {P : order.Ghosts Y} → CountedMut X Y W P → List X
 words_of v = v.row.words.now
 
--- the place of its first bit in the row of its words
+-- the index of its first bit in its first word
 abbrev pub head_of : {X Y : Type 0} {W : store.Ghosts X} {P : order.Ghosts Y} → CountedMut X Y W P → ℕ
 head_of v = v.head
 

@@ -73,7 +73,7 @@ impl<'a, T: BitStore, O: BitOrder> CountedMut<'a, T, O> {
         self.len == 0
     }
 
-    /// The place of the view's first bit in its first word, below `T::BITS`.
+    /// The index of the view's first bit in its first word, below `T::BITS`.
     pub fn head(&self) -> usize
         ensures value { result ≡ head_of self.now }
         ensures in_word { result < T.BITS }

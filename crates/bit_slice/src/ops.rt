@@ -120,7 +120,7 @@ pub fn xor_words<T: BitStore, O: BitOrder, U: BitStore, P: BitOrder>(
 }
 
 impl<'a, T: BitStore, O: BitOrder> BitSliceMut<'a, T, O> {
-    ghost use Rattle.bit_slice.specs.BitSliceMut.{head_of, len_of, row_of, list_of, loan_of};
+    ghost use Rattle.bit_slice.specs.BitSliceMut.{head_of, len_of, row_of, list_of, Stays};
 
     /// As `BitSlice::eq_bits`.
     pub fn eq_bits<U: BitStore, P: BitOrder>(&self, other: BitSlice<'_, U, P>) -> bool
@@ -138,33 +138,27 @@ impl<'a, T: BitStore, O: BitOrder> BitSliceMut<'a, T, O> {
 
     /// Clears each bit that is false in `other`, or that `other` is too short for.
     pub fn and_bits<U: BitStore, P: BitOrder>(&mut self, other: BitSlice<'_, U, P>)
-        ensures same_words { loan_of self.new ≡ loan_of self.old }
         ensures row { row_of self.new ≡ put (row_of self.old) (head_of self.old) (and_of (list_of self.old) (list_seen other.entry)) }
         ensures list { list_of self.new ≡ and_of (list_of self.old) (list_seen other.entry) }
-        ensures head { head_of self.new ≡ head_of self.old }
-        ensures len { len_of self.new ≡ len_of self.old }
+        ensures stays { Stays self.old self.new }
     {
         and_words::<T, O, U, P>(self.words, self.head, self.len, other);
     }
 
     /// Sets each bit that is true in `other`.
     pub fn or_bits<U: BitStore, P: BitOrder>(&mut self, other: BitSlice<'_, U, P>)
-        ensures same_words { loan_of self.new ≡ loan_of self.old }
         ensures row { row_of self.new ≡ put (row_of self.old) (head_of self.old) (or_of (list_of self.old) (list_seen other.entry)) }
         ensures list { list_of self.new ≡ or_of (list_of self.old) (list_seen other.entry) }
-        ensures head { head_of self.new ≡ head_of self.old }
-        ensures len { len_of self.new ≡ len_of self.old }
+        ensures stays { Stays self.old self.new }
     {
         or_words::<T, O, U, P>(self.words, self.head, self.len, other);
     }
 
     /// Flips each bit that is true in `other`.
     pub fn xor_bits<U: BitStore, P: BitOrder>(&mut self, other: BitSlice<'_, U, P>)
-        ensures same_words { loan_of self.new ≡ loan_of self.old }
         ensures row { row_of self.new ≡ put (row_of self.old) (head_of self.old) (xor_of (list_of self.old) (list_seen other.entry)) }
         ensures list { list_of self.new ≡ xor_of (list_of self.old) (list_seen other.entry) }
-        ensures head { head_of self.new ≡ head_of self.old }
-        ensures len { len_of self.new ≡ len_of self.old }
+        ensures stays { Stays self.old self.new }
     {
         xor_words::<T, O, U, P>(self.words, self.head, self.len, other);
     }

@@ -142,7 +142,7 @@ impl<'a, T: BitStore, O: BitOrder> BitSlice<'a, T, O> {
         self.len == 0
     }
 
-    /// The place of the view's first bit in its first word, below `T::BITS`.
+    /// The index of the view's first bit in its first word, below `T::BITS`.
     pub fn head(self) -> usize
         ensures value { result ≡ head_of self.entry }
         ensures in_word { result < T.BITS }
@@ -266,7 +266,7 @@ impl<'a, T: BitStore, O: BitOrder> Index<usize> for BitSlice<'a, T, O> {
 
     ghost index_gives = { λ v i x. Some x ≡ slice_get (list_of v) i };
 
-    /// The bit at index `i`. The condition: the view has so many bits.
+    /// The bit at index `i`. The condition: `i` is below the length.
     fn index(&self, i: usize) -> &bool {
         if self.bit(i) { &true } else { &false }
     }

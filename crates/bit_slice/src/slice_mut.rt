@@ -39,7 +39,7 @@ pub struct BitSliceMut<'a, T: BitStore, O: BitOrder> {
 
 impl<'a, T: BitStore, O: BitOrder> BitSliceMut<'a, T, O> {
     ghost use Rattle.bit_slice.specs.BitSlice.{words_of as words_seen, head_of as head_seen, len_of as len_seen, list_of as list_seen};
-    ghost use Rattle.bit_slice.specs.BitSliceMut.{words_of, head_of, len_of, row_of, list_of, loan_of};
+    ghost use Rattle.bit_slice.specs.BitSliceMut.{words_of, head_of, len_of, row_of, list_of, loan_of, Stays};
     ghost use Rattle.bit_slice.specs.Iter.{rest_of};
     ghost use Rattle.bit_slice.specs.Lends.{lends_words};
 
@@ -140,7 +140,7 @@ impl<'a, T: BitStore, O: BitOrder> BitSliceMut<'a, T, O> {
         self.len == 0
     }
 
-    /// The place of the view's first bit in its first word, below `T::BITS`.
+    /// The index of the view's first bit in its first word, below `T::BITS`.
     pub fn head(&self) -> usize
         ensures value { result ≡ head_of self.now }
         ensures in_word { result < T.BITS }
@@ -224,55 +224,47 @@ impl<'a, T: BitStore, O: BitOrder> BitSliceMut<'a, T, O> {
         self.as_bitslice().all()
     }
 
-    /// Writes `b` at index `i`. The condition: the view has so many bits.
+    /// Writes `b` at index `i`. The condition: `i` is below the length.
     pub fn set(&mut self, i: usize, b: bool)
         requires { i < len_of self.old }
-        ensures same_words { loan_of self.new ≡ loan_of self.old }
         ensures row { row_of self.new ≡ set (row_of self.old) (head_of self.old + i) b }
         ensures list { list_of self.new ≡ set (list_of self.old) i b }
-        ensures head { head_of self.new ≡ head_of self.old }
-        ensures len { len_of self.new ≡ len_of self.old }
+        ensures stays { Stays self.old self.new }
     {
         write_bit::<T, O>(self.words, self.head + i, b);
     }
 
-    /// Writes `b` at index `i`, and answers the bit that was there. The condition: the view has so
-    /// many bits.
+    /// Writes `b` at index `i`, and answers the bit that was there. The condition: `i` is below
+    /// the length.
     pub fn replace(&mut self, i: usize, b: bool) -> bool
         requires { i < len_of self.old }
         ensures old { slice_get (list_of self.old) i ≡ Some result }
-        ensures same_words { loan_of self.new ≡ loan_of self.old }
         ensures row { row_of self.new ≡ set (row_of self.old) (head_of self.old + i) b }
         ensures list { list_of self.new ≡ set (list_of self.old) i b }
-        ensures head { head_of self.new ≡ head_of self.old }
-        ensures len { len_of self.new ≡ len_of self.old }
+        ensures stays { Stays self.old self.new }
     {
         let old = self.as_bitslice().bit(i);
         self.set(i, b);
         old
     }
 
-    /// Has the bits at indices `i` and `j` change places. The condition: the view has both.
+    /// Has the bits at indices `i` and `j` change places. The condition: both are below the length.
     pub fn swap(&mut self, i: usize, j: usize)
         requires first { i < len_of self.old }
         requires second { j < len_of self.old }
-        ensures same_words { loan_of self.new ≡ loan_of self.old }
         ensures row { row_of self.new ≡ swap (row_of self.old) (head_of self.old + i) (head_of self.old + j) }
         ensures list { list_of self.new ≡ swap (list_of self.old) i j }
-        ensures head { head_of self.new ≡ head_of self.old }
-        ensures len { len_of self.new ≡ len_of self.old }
+        ensures stays { Stays self.old self.new }
     {
         swap_bits::<T, O>(self.words, self.head + i, self.head + j);
     }
 
     /// Writes `b` at every index, by whole words where it can.
     pub fn fill(&mut self, b: bool)
-        ensures same_words { loan_of self.new ≡ loan_of self.old }
         ensures row { row_of self.new ≡ put (row_of self.old) (head_of self.old) (replicate (len_of self.old) b) }
         ensures list { list_of self.new ≡ replicate (len_of self.old) b }
         ensures whole { head_of self.old ≡ 0 → len_of self.old ≡ T.BITS * length (words_of self.old) → row_of self.new ≡ replicate (len_of self.old) b }
-        ensures head { head_of self.new ≡ head_of self.old }
-        ensures len { len_of self.new ≡ len_of self.old }
+        ensures stays { Stays self.old self.new }
     {
         fill_bits::<T, O>(self.words, self.head, self.head + self.len, b);
     }
@@ -284,11 +276,9 @@ impl<'a, T: BitStore, O: BitOrder> BitSliceMut<'a, T, O> {
         requires ordered { R.start_of range ≤ R.end_of range (len_of self.old) }
         requires within { R.end_of range (len_of self.old) ≤ len_of self.old }
         requires room { dest + (R.end_of range (len_of self.old) - R.start_of range) ≤ len_of self.old }
-        ensures same_words { loan_of self.new ≡ loan_of self.old }
         ensures row { row_of self.new ≡ moved (row_of self.old) (head_of self.old + R.start_of range) (head_of self.old + dest) (R.end_of range (len_of self.old) - R.start_of range) }
         ensures list { list_of self.new ≡ moved (list_of self.old) (R.start_of range) dest (R.end_of range (len_of self.old) - R.start_of range) }
-        ensures head { head_of self.new ≡ head_of self.old }
-        ensures len { len_of self.new ≡ len_of self.old }
+        ensures stays { Stays self.old self.new }
     {
         let range = range.normalize(self.len);
         let (from, to) = (self.head + range.start, self.head + dest);
@@ -299,12 +289,10 @@ impl<'a, T: BitStore, O: BitOrder> BitSliceMut<'a, T, O> {
     /// read once. The condition: equal lengths.
     pub fn clone_from_bitslice<U: BitStore, P: BitOrder>(&mut self, source: BitSlice<'_, U, P>)
         requires { len_seen source ≡ len_of self.old }
-        ensures same_words { loan_of self.new ≡ loan_of self.old }
         ensures row { row_of self.new ≡ put (row_of self.old) (head_of self.old) (list_seen source.entry) }
         ensures list { list_of self.new ≡ list_seen source.entry }
         ensures whole { head_of self.old ≡ 0 → len_of self.old ≡ T.BITS * length (words_of self.old) → row_of self.new ≡ list_seen source.entry }
-        ensures head { head_of self.new ≡ head_of self.old }
-        ensures len { len_of self.new ≡ len_of self.old }
+        ensures stays { Stays self.old self.new }
     {
         let from = source.head();
         copy_bits::<T, O, U, P>(self.words, self.head, source.as_raw_slice(), from, self.len);
@@ -334,7 +322,7 @@ impl<'a, T: BitStore, O: BitOrder> Index<usize> for BitSliceMut<'a, T, O> {
 
     ghost index_gives = { λ v i x. Some x ≡ slice_get (list_of v) i };
 
-    /// The bit at index `i`. The condition: the view has so many bits.
+    /// The bit at index `i`. The condition: `i` is below the length.
     fn index(&self, i: usize) -> &bool {
         if self.as_bitslice().bit(i) {
             &true

@@ -1,13 +1,16 @@
-ghost use Rattle.std.specs.Prelude.{◌≡◌, ℕ, ◌+◌, ◌*◌, ◌-◌, ◌<◌, ◌≤◌, true, false, length, set, swap, slice_get, Some};
+ghost use Rattle.std.specs.Prelude.{◌≡◌, ◌↔◌, IsTrue, count_by, ℕ, ◌+◌, ◌*◌, ◌-◌, ◌<◌, ◌≤◌, true, false, length, set, swap, slice_get, Some};
 ghost use Rattle.bit_addressing.specs.Order.{xor4_place, xor4_lawful};
 ghost use Rattle.bit_addressing.specs.Typed.{row};
-ghost use Rattle.bit_addressing.specs.Row.{moved};
-ghost use Rattle.bit_slice.specs.CountedMut.{head_of as head_counted, len_of as len_counted, loan_of as loan_counted, list_of as list_counted, writes_of};
+ghost use Rattle.bit_addressing.specs.Row.{moved, words_for};
+ghost use Rattle.bit_slice.specs.CountedMut.{head_of as head_counted, len_of as len_counted, loan_of as loan_counted, list_of as list_counted, reads_of as reads_counted, writes_of};
+ghost use Rattle.bit_slice.specs.Counted.{head_of as head_read, len_of as len_read, list_of as list_read, reads_of, WasRead};
+ghost use Rattle.bit_slice.specs.BitSlice.{len_of as len_seen};
 ghost use Rattle.bit_slice.specs.BitSliceMut.{head_of, len_of, row_of, list_of, loan_of};
 ghost use Rattle.bit_addressing.specs.declared.length.TheConstants.{MAX_BITS};
 
-use crate::{BitSlice, BitSliceMut, CountedMut};
+use crate::{BitSlice, BitSliceMut, Counted, CountedMut};
 use bit_addressing::{BitIdx, BitOrder, BitPos, BitStore, Lsb0, MAX_BITS, Msb0};
+use std::cmp::Ordering;
 use std::process::Abort;
 use std::test::Fail;
 
@@ -196,13 +199,14 @@ fn calls(rt: HostRuntime) {
     writes::<usize, Xor4>(&rt, &mut [0; 1]);
 }
 
-// A counted move of bits 1..12 to 3 writes two words at most.
+// A counted move of bits 1..12 to 3 writes two words at most, and reads six at most.
 #[tactic(auto, unfolding(bit_addressing::specs::Row::touched))]
 fn count_writes(view: &mut CountedMut<'_, u8, Lsb0>)
     requires head { head_counted view.old ≡ 0 }
     requires len { len_counted view.old ≡ 16 }
     ensures same_words { loan_counted view.new ≡ loan_counted view.old }
     ensures writes { writes_of view.new ≤ writes_of view.old + 2 }
+    ensures reads { reads_counted view.new ≤ reads_counted view.old + 6 }
     ensures list { list_counted view.new ≡ moved (list_counted view.old) 1 3 11 }
     ensures head { head_counted view.new ≡ head_counted view.old }
     ensures len { len_counted view.new ≡ len_counted view.old }
@@ -288,4 +292,216 @@ fn counted_rows(rt: HostRuntime) {
     let mut view = BitSliceMut::<u8, Lsb0>::from_parts_mut(&mut words, 0, 16);
     count_writes(&mut view.counted_mut());
     assert_eq!(rt; words, [0xc1, 0x76]);
+}
+
+// Eight bits from head 3 on lie in two words on either side.
+#[tactic(auto, unfolding(bit_addressing::specs::Row::words_for))]
+fn compare_in_four(left: &mut Counted<'_, u8, Lsb0>, right: &mut Counted<'_, u8, Lsb0>) -> bool
+    requires left_head { head_read left.old ≡ 3 }
+    requires left_len { len_read left.old ≡ 8 }
+    requires right_head { head_read right.old ≡ 3 }
+    requires right_len { len_read right.old ≡ 8 }
+    ensures value { IsTrue result ↔ (list_read left.old ≡ list_read right.old) }
+    ensures left { WasRead left.old left.new }
+    ensures reads { reads_of left.new + reads_of right.new ≤ reads_of left.old + reads_of right.old + 4 }
+{
+    left.eq_counted(right)
+}
+
+#[tactic(auto, unfolding(bit_addressing::specs::Row::words_for))]
+fn count_in_two(view: &mut Counted<'_, u8, Lsb0>) -> usize
+    requires head { head_read view.old ≡ 3 }
+    requires len { len_read view.old ≤ 8 }
+    ensures value { result ≡ count_by (λ b. b) (list_read view.old) }
+    ensures reads { reads_of view.new ≤ reads_of view.old + 2 }
+    ensures none { len_read view.old ≡ 0 → reads_of view.new ≤ reads_of view.old + 1 }
+{
+    view.count_ones_counted()
+}
+
+#[test]
+fn counted_reads(rt: HostRuntime) {
+    let (first, second, third) = ([0xa8_u8, 0x07], [0xaf_u8, 0xff], [0xa8_u8, 0x03]);
+    let first = BitSlice::<u8, Lsb0>::from_slice(&first).get_range(3..11);
+    let second = BitSlice::<u8, Lsb0>::from_slice(&second).get_range(3..11);
+    let third = BitSlice::<u8, Lsb0>::from_slice(&third).get_range(3..11);
+    let mut counted = first.counted();
+    assert_eq!(rt; (counted.head(), counted.len()), (3, 8));
+    assert!(rt; !counted.is_empty());
+    assert!(rt; compare_in_four(&mut counted, &mut second.counted()));
+    assert!(rt; !compare_in_four(&mut counted, &mut third.counted()));
+    assert_eq!(rt; count_in_two(&mut counted), 6);
+    let byte = [0xff_u8];
+    let none = BitSlice::<u8, Lsb0>::from_slice(&byte).get_range(3..3);
+    assert_eq!(rt; count_in_two(&mut none.counted()), 0);
+    let aligned = [0xf5_u8];
+    let aligned = BitSlice::<u8, Lsb0>::from_slice(&aligned);
+    assert!(rt; counted.eq_counted(&mut aligned.counted()));
+    assert!(rt; aligned.counted().eq_counted(&mut counted));
+    assert!(rt; !counted.eq_counted(&mut none.counted()));
+    assert!(rt; first.eq_bits(aligned) && !first.eq_bits(third));
+}
+
+// The first bits of a byte, by `Lsb0`.
+fn first_bits(byte: &[u8; 1], n: usize) -> BitSlice<'_, u8, Lsb0>
+    requires { n ≤ 8 }
+    ensures { len_seen result ≡ n }
+{
+    BitSlice::<u8, Lsb0>::from_slice(byte).get_range(..n)
+}
+
+#[test]
+fn order_of_lists(rt: HostRuntime) {
+    let (zero, two, one) = ([0_u8], [2_u8], [0x8000_u16]);
+    let none = first_bits(&zero, 1);
+    let nones = first_bits(&zero, 2);
+    assert!(rt; !none.eq_bits(nones));
+    assert_eq!(rt;
+        (none.cmp_bits(nones), nones.cmp_bits(none)),
+        (Ordering::Less, Ordering::Greater)
+    );
+    let left = first_bits(&two, 2);
+    let right = BitSlice::<u16, Msb0>::from_slice(&one).get_range(..1);
+    assert_eq!(rt;
+        (left.cmp_bits(right), right.cmp_bits(left)),
+        (Ordering::Less, Ordering::Greater)
+    );
+    assert_eq!(rt; left.cmp_bits(left), Ordering::Equal);
+}
+
+// What becomes of the first bits of a byte under each operator, as a byte.
+fn made(left: u8, n: usize, right: BitSlice<'_, u8, Lsb0>) -> (u8, u8, u8)
+    requires few { n ≤ 8 }
+    requires one { words_for 8 (0 + n) ≡ 1 }
+{
+    let (mut and, mut or, mut xor) = ([left], [left], [left]);
+    BitSliceMut::<u8, Lsb0>::from_parts_mut(&mut and, 0, n).and_bits(right);
+    BitSliceMut::<u8, Lsb0>::from_parts_mut(&mut or, 0, n).or_bits(right);
+    BitSliceMut::<u8, Lsb0>::from_parts_mut(&mut xor, 0, n).xor_bits(right);
+    (and[0], or[0], xor[0])
+}
+
+// The other bits of the byte stay.
+#[test]
+#[tactic(auto, unfolding(bit_addressing::specs::Row::words_for))]
+fn operators(rt: HostRuntime) {
+    assert_eq!(rt; made(0x5c, 4, first_bits(&[0x02], 2)), (0x50, 0x5e, 0x5e));
+    assert_eq!(rt; made(0xa2, 2, first_bits(&[0x0f], 4)), (0xa2, 0xa3, 0xa1));
+}
+
+// Two views of the same bits in words of two kinds, at heads 3 and 5.
+fn compared<T: BitStore, O: BitOrder, U: BitStore, P: BitOrder>(
+    rt: &impl Abort,
+    left: &mut [T],
+    right: &mut [U],
+)
+    requires left { 24 ≤ T.BITS * length left.old }
+    requires right { 24 ≤ U.BITS * length right.old }
+    requires left_fits { T.BITS * length left.old ≤ MAX_BITS }
+    requires right_fits { U.BITS * length right.old ≤ MAX_BITS }
+{
+    let mut left = BitSliceMut::<T, O>::from_slice_mut(left);
+    let mut right = BitSliceMut::<U, P>::from_slice_mut(right);
+    left.fill(false);
+    right.fill(false);
+    left.set(3, true);
+    left.set(19, true);
+    right.set(5, true);
+    right.set(21, true);
+    let part = left.get_range(3..20);
+    assert!(rt; part.eq_bits(right.get_range(5..22)));
+    assert_eq!(rt; part.cmp_bits(right.get_range(5..22)), Ordering::Equal);
+    assert!(rt; !part.eq_bits(right.get_range(5..21)));
+    assert_eq!(rt; part.cmp_bits(right.get_range(5..21)), Ordering::Greater);
+    assert_eq!(rt; part.cmp_bits(right.get_range(5..23)), Ordering::Less);
+    assert_eq!(rt; part.cmp_bits(right.get_range(4..22)), Ordering::Greater);
+    assert!(rt; !left.eq_bits(right.as_bitslice()));
+    assert_eq!(rt; right.cmp_bits(left.as_bitslice()), Ordering::Less);
+    left.xor_bits(right.get_range(2..));
+    assert!(rt; !left.any());
+    left.or_bits(right.get_range(2..));
+    assert_eq!(rt; left.count_ones(), 2);
+    left.and_bits(right.get_range(2..19));
+    assert!(rt; left[3] && left.count_ones() == 1);
+}
+
+// Views of one kind of word with each kind.
+fn compared_with_each<T: BitStore, O: BitOrder>(rt: &impl Abort, words: &mut [T])
+    requires some { 24 ≤ T.BITS * length words.old }
+    requires fits { T.BITS * length words.old ≤ MAX_BITS }
+{
+    compared::<T, O, u8, Lsb0>(rt, words, &mut [0; 3]);
+    compared::<T, O, u8, Msb0>(rt, words, &mut [0; 3]);
+    compared::<T, O, u16, Lsb0>(rt, words, &mut [0; 2]);
+    compared::<T, O, u16, Msb0>(rt, words, &mut [0; 2]);
+    compared::<T, O, u32, Lsb0>(rt, words, &mut [0; 1]);
+    compared::<T, O, u32, Msb0>(rt, words, &mut [0; 1]);
+    compared::<T, O, u64, Lsb0>(rt, words, &mut [0; 1]);
+    compared::<T, O, u64, Msb0>(rt, words, &mut [0; 1]);
+    compared::<T, O, usize, Lsb0>(rt, words, &mut [0; 1]);
+    compared::<T, O, usize, Msb0>(rt, words, &mut [0; 1]);
+}
+
+#[test]
+fn each_pair_of_words(rt: HostRuntime) {
+    compared_with_each::<u8, Lsb0>(&rt, &mut [0; 3]);
+    compared_with_each::<u8, Msb0>(&rt, &mut [0; 3]);
+    compared_with_each::<u16, Lsb0>(&rt, &mut [0; 2]);
+    compared_with_each::<u16, Msb0>(&rt, &mut [0; 2]);
+    compared_with_each::<u32, Lsb0>(&rt, &mut [0; 1]);
+    compared_with_each::<u32, Msb0>(&rt, &mut [0; 1]);
+    compared_with_each::<u64, Lsb0>(&rt, &mut [0; 1]);
+    compared_with_each::<u64, Msb0>(&rt, &mut [0; 1]);
+    compared_with_each::<usize, Lsb0>(&rt, &mut [0; 1]);
+    compared_with_each::<usize, Msb0>(&rt, &mut [0; 1]);
+    compared_with_each::<u8, Xor4>(&rt, &mut [0; 3]);
+}
+
+// 17 bits from each head of a byte, against a plain loop over the bits.
+fn from_head<O: BitOrder>(rt: &impl Abort, head: usize, other: BitSlice<'_, u16, Msb0>)
+    requires head { head < 8 }
+    requires words { words_for 8 (head + 17) ≡ 3 }
+{
+    let old = [0x5a_u8, 0xc3, 0x96];
+    let (mut and, mut or, mut xor) = (old, old, old);
+    BitSliceMut::<u8, O>::from_parts_mut(&mut and, head, 17).and_bits(other);
+    BitSliceMut::<u8, O>::from_parts_mut(&mut or, head, 17).or_bits(other);
+    BitSliceMut::<u8, O>::from_parts_mut(&mut xor, head, 17).xor_bits(other);
+    let before = BitSlice::<u8, O>::from_slice(&old);
+    for i in 0..24_usize {
+        let was = before.get(i) == Some(true);
+        let there = head <= i && i < head + 17;
+        let right = there && other.get(i - head) == Some(true);
+        let and = BitSlice::<u8, O>::from_slice(&and).get(i);
+        let or = BitSlice::<u8, O>::from_slice(&or).get(i);
+        let xor = BitSlice::<u8, O>::from_slice(&xor).get(i);
+        assert_eq!(rt; and, Some(was && (right || !there)));
+        assert_eq!(rt; or, Some(was || right));
+        assert_eq!(rt; xor, Some(was != right));
+    }
+    let run = BitSlice::<u8, O>::from_parts(&old, head, 17);
+    assert_eq!(rt; run.counted().count_ones_counted(), run.count_ones());
+    assert!(rt;
+        run.counted()
+            .eq_counted(&mut before.get_range(head..head + 17).counted())
+    );
+    assert!(rt;
+        !run.counted()
+            .eq_counted(&mut before.get_range(7 - head..24 - head).counted())
+    );
+}
+
+#[test]
+#[tactic(auto, unfolding(bit_addressing::specs::Row::words_for))]
+fn each_head_of_a_byte(rt: HostRuntime) {
+    let words = [0x3c96_u16];
+    let other = BitSlice::<u16, Msb0>::from_slice(&words).get_range(1..12);
+    from_head::<Lsb0>(&rt, 0, other);
+    from_head::<Msb0>(&rt, 1, other);
+    from_head::<Lsb0>(&rt, 2, other);
+    from_head::<Msb0>(&rt, 3, other);
+    from_head::<Lsb0>(&rt, 4, other);
+    from_head::<Msb0>(&rt, 5, other);
+    from_head::<Lsb0>(&rt, 6, other);
+    from_head::<Xor4>(&rt, 7, other);
 }

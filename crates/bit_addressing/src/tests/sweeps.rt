@@ -1,4 +1,6 @@
 //! Each bulk call at every head of a byte and every length up to 17 bits, beside a plain loop over lists.
+ghost use Rattle.std.specs.Prelude.{◌+◌, ◌<◌};
+
 use crate::tests::orders::Xor4;
 use crate::{
     And, BitIdx, BitOrder, BitStore, Lsb0, Msb0, Or, Xor, combine_bits, copy_bits, copy_bits_alike,

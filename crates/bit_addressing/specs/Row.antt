@@ -82,3 +82,7 @@ pub record IsFirst (bit : Bool) (xs : List Bool) (k : ℕ) : Type 0 where
   pub within : k < length xs
   pub here : slice_index_or xs k false ≡ bit
   pub before : (i : ℕ) → i < k → slice_index_or xs i false ≡ not bit
+
+-- the n lowest bits of a number, that of place 0 first
+unfoldable pub number_bits : ℕ → ℕ → List Bool
+number_bits x n = map (has_bit x) (range_with_len 0 n)

@@ -14,7 +14,7 @@ mod tests;
 mod word_read;
 mod word_row;
 
-pub use bits::chunks::read_chunk;
+pub use bits::chunks::{read_chunk, write_chunk};
 pub use bits::combined::{And, BitOperator, Or, Xor, combine_bits};
 pub use bits::copies::{copy_bits, copy_bits_alike};
 pub use bits::growth::{cut_words, push_bit, resize_words};

@@ -1,23 +1,28 @@
 //! Moves of runs of bits in a row, by words: each target word is made of at most two words of the row.
-ghost use Rattle.std.specs.Prelude.{◌≡◌, ℕ, ◌+◌, ◌-◌, ◌*◌, ◌<◌, ◌≤◌, map, length};
+ghost use Rattle.std.specs.Prelude.{◌≡◌, ℕ, ◌+◌, ◌-◌, ◌*◌, ◌<◌, ◌≤◌, [], ◌∷◌, map, length};
 ghost use Rattle.bit_addressing.specs.Bits.{has_bit};
 ghost use Rattle.bit_addressing.specs.Row.{row_bit, row_of, moved};
 ghost use Rattle.bit_addressing.specs.declared.length.TheConstants.{MAX_BITS};
 ghost use Rattle.bit_addressing.specs.Typed.{row};
 
-use crate::bits::single::blend;
 use crate::index::{BitEnd, BitIdx};
 use crate::order::BitOrder;
 use crate::store::BitStore;
 use crate::word_row::WordRow;
 
-/// A word whose bits at the indices `low..high` are those of the row from `from` on. Its other bits are open.
+/// Two words and an index: bit `index + i` of the two, for the indices `i` of `low..high`, is that of the
+/// row at `from + (i - low)`.
 #[inline(always)]
-fn gather<T: BitStore, O: BitOrder>(row: &mut WordRow<T>, from: usize, low: usize, high: usize) -> T
+fn gather<T: BitStore, O: BitOrder>(
+    row: &mut WordRow<T>,
+    from: usize,
+    low: usize,
+    high: usize,
+) -> (T, T, BitIdx<T>)
     requires some { low < high }
     requires within { high ≤ T.BITS }
     requires source { from + (high - low) ≤ T.BITS * length row.old.words.now }
-    ensures bits { (i : ℕ) → low ≤ i → i < high → has_bit (T.value result) (O.place T.BITS i) ≡ row_bit O.place T.BITS (map T.value row.old.words.now) (from + (i - low)) }
+    ensures bits { (i : ℕ) → low ≤ i → i < high → row_bit O.place T.BITS (T.value result.0 ∷ T.value result.1 ∷ []) (result.2 + i) ≡ row_bit O.place T.BITS (map T.value row.old.words.now) (from + (i - low)) }
     ensures same_words { row.new.words.ghost_name ≡ row.old.words.ghost_name }
     ensures words { row.new.words.now ≡ row.old.words.now }
     ensures reads { row.new.meter.reads ≤ row.old.meter.reads + 2 }
@@ -28,18 +33,14 @@ fn gather<T: BitStore, O: BitOrder>(row: &mut WordRow<T>, from: usize, low: usiz
     let at = from % width;
     let word = row.load(k);
     if at < low {
-        return O::window(
-            word,
-            word,
-            BitIdx::<T>::new_unchecked((width + at - low) as u8),
-        );
+        let begin = BitIdx::<T>::new_unchecked((width + at - low) as u8);
+        return (word, word, begin);
     }
     let begin = BitIdx::<T>::new_unchecked((at - low) as u8);
     if at - low + high <= width {
-        return O::window(word, word, begin);
+        return (word, word, begin);
     }
-    let next = row.load(k + 1);
-    O::window(word, next, begin)
+    (word, row.load(k + 1), begin)
 }
 
 /// Moves the bits from `from` on to the indices `low..high` of word `k`, by three reads at most.
@@ -61,13 +62,11 @@ pub(crate) fn move_part<T: BitStore, O: BitOrder>(
     ensures reads { row.new.meter.reads ≤ row.old.meter.reads + 3 }
     ensures writes { row.new.meter.writes ≡ row.old.meter.writes + 1 }
 {
-    let new = gather::<T, O>(row, from, low, high);
-    let mask = O::mask(
-        BitIdx::<T>::new_unchecked(low as u8),
-        BitEnd::<T>::new_unchecked(high as u8),
-    );
+    let (word, next, begin) = gather::<T, O>(row, from, low, high);
     let old = row.load(k);
-    row.store(k, blend(old, new, mask));
+    let start = BitIdx::<T>::new_unchecked(low as u8);
+    let end = BitEnd::<T>::new_unchecked(high as u8);
+    row.store(k, O::with_run(old, word, next, begin, start, end));
 }
 
 /// Moves the bits from index `at` of word `begin` on to the `count` whole words from word `first` on, which

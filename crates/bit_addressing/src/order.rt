@@ -1,9 +1,10 @@
 //! Orders of the bits in a word.
-ghost use Rattle.std.specs.Prelude.{◌≡◌, ℕ, ◌+◌, ◌-◌, ◌*◌, ◌^◌, ◌<◌, ◌≤◌, ◌&&◌, [], ◌∷◌, leb, length, ltb, map, slice_range};
+ghost use Rattle.std.specs.Prelude.{◌≡◌, ℕ, ◌+◌, ◌-◌, ◌*◌, ◌^◌, ◌<◌, ◌≤◌, ◌&&◌, if◌then◌else◌, [], ◌∷◌, leb, length, ltb, map, slice_range};
 ghost use Rattle.bit_addressing.specs.Bits.{has_bit};
 ghost use Rattle.bit_addressing.specs.Order.{IsLawful, lsb0_lawful, msb0_lawful};
 ghost use Rattle.bit_addressing.specs.Row.{row_bit, row_of, moved, touched};
 
+use crate::bits::single::blend;
 use crate::index::{BitEnd, BitIdx, BitPos};
 use crate::move_run::{move_part, move_words};
 use crate::store::BitStore;
@@ -72,17 +73,35 @@ pub trait BitOrder {
     fn window<T: BitStore>(low: T, high: T, at: BitIdx<T>) -> T
         ensures { (i : ℕ) → i < T.BITS → has_bit (T.value result) (place T.BITS i) ≡ row_bit place T.BITS (T.value low ∷ T.value high ∷ []) (at + i) }
     {
-        let begin = at.into_inner();
-        if begin == 0 {
+        if at.into_inner() == 0 {
             return low;
         }
-        let mut word = T::ZERO;
-        for i in 0..T::BITS {
-            let from = begin + i;
-            let bit = if from < T::BITS {
-                low.bit(Self::at(BitIdx::<T>::new_unchecked(from)).into_inner())
+        let from = BitIdx::<T>::new_unchecked(0);
+        let upto = BitEnd::<T>::new_unchecked(T::BITS);
+        Self::with_run(T::ZERO, low, high, at, from, upto)
+    }
+
+    /// `old` with its bits at the indices `from..upto` replaced: that at index `i` is bit `at + i` of the
+    /// two words one after the other. The condition: `from` is at most `upto`.
+    fn with_run<T: BitStore>(
+        old: T,
+        low: T,
+        high: T,
+        at: BitIdx<T>,
+        from: BitIdx<T>,
+        upto: BitEnd<T>,
+    ) -> T
+        requires { from ≤ upto }
+        ensures { (i : ℕ) → i < T.BITS → has_bit (T.value result) (place T.BITS i) ≡ (if leb from i && ltb i upto then row_bit place T.BITS (T.value low ∷ T.value high ∷ []) (at + i) else has_bit (T.value old) (place T.BITS i)) }
+    {
+        let begin = at.into_inner();
+        let mut word = old;
+        for i in from.into_inner()..upto.into_inner() {
+            let j = begin + i;
+            let bit = if j < T::BITS {
+                low.bit(Self::at(BitIdx::<T>::new_unchecked(j)).into_inner())
             } else {
-                high.bit(Self::at(BitIdx::<T>::new_unchecked(from - T::BITS)).into_inner())
+                high.bit(Self::at(BitIdx::<T>::new_unchecked(j - T::BITS)).into_inner())
             };
             word = word.with_bit(Self::at(BitIdx::<T>::new_unchecked(i)).into_inner(), bit);
         }
@@ -181,6 +200,17 @@ impl BitOrder for Lsb0 {
         }
         low.shr(begin).or(high.shl(T::BITS - begin))
     }
+
+    fn with_run<T: BitStore>(
+        old: T,
+        low: T,
+        high: T,
+        at: BitIdx<T>,
+        from: BitIdx<T>,
+        upto: BitEnd<T>,
+    ) -> T {
+        blend(old, Lsb0::window(low, high, at), Lsb0::mask(from, upto))
+    }
 }
 
 /// The order from the most significant bit: index `i` is place `T::BITS - 1 - i`.
@@ -219,6 +249,17 @@ impl BitOrder for Msb0 {
             return low;
         }
         low.shl(begin).or(high.shr(T::BITS - begin))
+    }
+
+    fn with_run<T: BitStore>(
+        old: T,
+        low: T,
+        high: T,
+        at: BitIdx<T>,
+        from: BitIdx<T>,
+        upto: BitEnd<T>,
+    ) -> T {
+        blend(old, Msb0::window(low, high, at), Msb0::mask(from, upto))
     }
 
     fn pack<T: BitStore>(words: &[T], k: usize) -> u64 {

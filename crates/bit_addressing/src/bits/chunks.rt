@@ -2,11 +2,12 @@
 //!
 //! Calls between words of two types or orders go through these numbers, 64 bits at a time.
 ghost use Rattle.std.specs.Prelude.{◌≡◌, ◌+◌, ◌*◌, ◌^◌, ◌<◌, ◌≤◌, [], ◌∷◌, length, slice_range};
-ghost use Rattle.bit_addressing.specs.Row.{number_of, row_of};
+ghost use Rattle.bit_addressing.specs.Row.{number_bits, number_of, put, row_of};
 ghost use Rattle.bit_addressing.specs.Typed.{row};
 
+use crate::bits::copies::copy_bits;
 use crate::index::BitIdx;
-use crate::order::BitOrder;
+use crate::order::{BitOrder, Lsb0};
 use crate::store::BitStore;
 
 /// The bits of a word as a number: the bit at index `i` is at place `i`.
@@ -37,6 +38,18 @@ pub fn read_chunk<T: BitStore, O: BitOrder>(words: &[T], at: usize, n: u8) -> u6
         got += T::BITS;
     }
     chunk & (u64::MAX >> (64 - n))
+}
+
+/// Writes the `n` lowest bits of a number at the places from `at` on, that of place 0 first, and no other
+/// bit: what `read_chunk` reads. The condition: `n` is at most 64, and the run lies in the words.
+pub fn write_chunk<T: BitStore, O: BitOrder>(words: &mut [T], at: usize, n: u8, chunk: u64)
+    requires few { n ≤ 64 }
+    requires within { at + n ≤ T.BITS * length words.old }
+    requires fits { at + n < 2 ^ 64 }
+    ensures bits { row T.BitStore O.BitOrder words.new ≡ put (row T.BitStore O.BitOrder words.old) at (number_bits chunk n) }
+    ensures size { length words.new ≡ length words.old }
+{
+    copy_bits::<T, O, u64, Lsb0>(words, at, &[chunk], 0, n as usize);
 }
 
 /// A word whose indices from `low` on have the `n` bits of the row of `source` from `from` on.

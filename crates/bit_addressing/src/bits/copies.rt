@@ -1,39 +1,61 @@
 //! Runs of bits copied from one row into another, by whole words of the target.
-ghost use Rattle.std.specs.Prelude.{◌≡◌, ◌+◌, ◌-◌, ◌*◌, ◌^◌, ◌<◌, ◌≤◌, [], ◌∷◌, length, slice_range};
-ghost use Rattle.bit_addressing.specs.Row.{put};
+ghost use Rattle.std.specs.Prelude.{◌≡◌, ℕ, ◌+◌, ◌-◌, ◌*◌, ◌^◌, ◌<◌, ◌≤◌, [], ◌∷◌, map, length, slice_range};
+ghost use Rattle.bit_addressing.specs.Row.{put, row_bit};
 ghost use Rattle.bit_addressing.specs.Typed.{row};
 
 use crate::bits::combined::{Second, combine_bits};
-use crate::bits::single::write_part;
-use crate::index::BitIdx;
+use crate::index::{BitEnd, BitIdx};
 use crate::order::BitOrder;
 use crate::store::BitStore;
 
-/// A word whose bits at the indices `low..high` are those of the row of `source` from `from` on. Its
-/// other bits are open.
-fn gathered<T: BitStore, O: BitOrder>(source: &[T], from: usize, low: usize, high: usize) -> T
+/// Two words and an index: bit `index + i` of the two, for the indices `i` of `low..high`, is that of the
+/// row of `source` at `from + (i - low)`.
+fn gathered<T: BitStore, O: BitOrder>(
+    source: &[T],
+    from: usize,
+    low: usize,
+    high: usize,
+) -> (T, T, BitIdx<T>)
     requires some { low < high }
     requires within { high ≤ T.BITS }
     requires inside { from + (high - low) ≤ T.BITS * length source.now }
-    ensures { slice_range (row T.BitStore O.BitOrder (result ∷ [])) low high ≡ slice_range (row T.BitStore O.BitOrder source.now) from (from + (high - low)) }
+    ensures { (i : ℕ) → low ≤ i → i < high → row_bit O.place T.BITS (T.value result.0 ∷ T.value result.1 ∷ []) (result.2 + i) ≡ row_bit O.place T.BITS (map T.value source.now) (from + (i - low)) }
 {
     let width = T::BITS as usize;
     let k = from / width;
     let at = from % width;
     let word = source[k];
     if at < low {
-        return O::window(
-            word,
-            word,
-            BitIdx::<T>::new_unchecked((width + at - low) as u8),
-        );
+        let begin = BitIdx::<T>::new_unchecked((width + at - low) as u8);
+        return (word, word, begin);
     }
     let begin = BitIdx::<T>::new_unchecked((at - low) as u8);
     if at - low + high <= width {
-        return O::window(word, word, begin);
+        return (word, word, begin);
     }
-    let next = source[k + 1];
-    O::window(word, next, begin)
+    (word, source[k + 1], begin)
+}
+
+/// Copies the bits of `source` from `from` on to the indices `low..high` of word `k`.
+fn copy_part<T: BitStore, O: BitOrder>(
+    words: &mut [T],
+    k: usize,
+    low: usize,
+    high: usize,
+    source: &[T],
+    from: usize,
+)
+    requires some { low < high }
+    requires within { high ≤ T.BITS }
+    requires word { k < length words.old }
+    requires inside { from + (high - low) ≤ T.BITS * length source.now }
+    ensures bits { row T.BitStore O.BitOrder words.new ≡ put (row T.BitStore O.BitOrder words.old) (k * T.BITS + low) (slice_range (row T.BitStore O.BitOrder source.now) from (from + (high - low))) }
+    ensures size { length words.new ≡ length words.old }
+{
+    let (word, next, begin) = gathered::<T, O>(source, from, low, high);
+    let start = BitIdx::<T>::new_unchecked(low as u8);
+    let end = BitEnd::<T>::new_unchecked(high as u8);
+    words[k] = O::with_run(words[k], word, next, begin, start, end);
 }
 
 /// Copies `count` whole words, from index `at` of word `begin` of `source` on, to word `first`.
@@ -113,12 +135,10 @@ pub fn copy_bits_alike<T: BitStore, O: BitOrder>(
     let last = (at + n - 1) / width;
     let end = (at + n - 1) % width + 1;
     if first == last {
-        let word = gathered::<T, O>(source, from, low, end);
-        write_part::<T, O>(words, first, low, end, word);
+        copy_part::<T, O>(words, first, low, end, source, from);
         return;
     }
-    let head = gathered::<T, O>(source, from, low, width);
-    write_part::<T, O>(words, first, low, width, head);
+    copy_part::<T, O>(words, first, low, width, source, from);
     let inner = from + (width - low);
     let index = BitIdx::<T>::new_unchecked((inner % width) as u8);
     copy_words::<T, O>(
@@ -129,8 +149,7 @@ pub fn copy_bits_alike<T: BitStore, O: BitOrder>(
         index,
         last - first - 1,
     );
-    let tail = gathered::<T, O>(source, from + (n - end), 0, end);
-    write_part::<T, O>(words, last, 0, end, tail);
+    copy_part::<T, O>(words, last, 0, end, source, from + (n - end));
 }
 
 /// Copies `n` bits of the row of `source`, from `from` on, to the places from `at` on, and changes no

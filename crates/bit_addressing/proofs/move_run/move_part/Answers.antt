@@ -1,4 +1,4 @@
-use Rattle.std.proofs.Common.{◌≡◌, ◌+◌, ◌-◌, ◌*◌, ◌≤◌, if◌then◌else◌, ◌&&◌, leb, ltb, map, length, get_or, sym, ◌∙◌, ap, subst, arith}
+use Rattle.std.proofs.Common.{◌≡◌, ◌+◌, ◌-◌, ◌*◌, ◌≤◌, if◌then◌else◌, ◌&&◌, leb, ltb, [], ◌∷◌, map, length, get_or, sym, ◌∙◌, ap, subst, arith}
 use Rattle.std.proofs.lemmas.List.{map-set, length-map}
 use Rattle.bit_addressing.specs.Bits.{has_bit}
 use Rattle.bit_addressing.specs.Row.{row_bit}
@@ -16,15 +16,14 @@ returns-clause-bits g c =
     let k = c.args.k in
     let ws = c.args.row.now.words.now in
     let words = map value ws in
-    let new = value c.gather-new.result in
-    let lawful = g.met.O.BitOrder.lawful w g.met.T.BitStore.width in
+    let made = c.gather-word.result in
+    let new = value c.with_run.result in
     let long : length words ≡ length ws = length-map ws value in
-    let read : value c.load-old.result ≡ get_or words k 0 = c.load-old.ensures.value ∙ ap (λ l. get_or (map value l) k 0) c.gather-new.ensures.words in
+    let read : value c.load-old.result ≡ get_or words k 0 = c.load-old.ensures.value ∙ ap (λ l. get_or (map value l) k 0) c.gather-word.ensures.words in
     let fits : c.args.from + (high - low) ≤ w * length words = subst (λ n. c.args.from + (high - low) ≤ w * n) (sym long) c.requires.source in
-    let masked = rw (c.new_unchecked.ensures, c.new_unchecked-2.ensures) at c.mask-mask.ensures in
-    rw (c.store.ensures.words, c.load-old.ensures.words, c.gather-new.ensures.words, map-set value ws k c.blend.result)
-    (part_moved place w words k (value c.blend.result) c.args.from low high (high - low) (width_positive w g.met.T.BitStore.width) (omega arith) (omega arith) c.requires.within fits
-    (λ i h. c.blend.ensures (place w i) (lawful.in_range i h)
-    ∙ ap (λ t. if t then has_bit new (place w i) else has_bit (value c.load-old.result) (place w i)) (masked i h)
-    ∙ blended low high i (has_bit new (place w i)) (row_bit place w words (c.args.from + (i - low))) (has_bit (value c.load-old.result) (place w i)) (λ above below. c.gather-new.ensures.bits i above below)
+    let replaced = rw (c.new_unchecked-start.ensures, c.new_unchecked-end.ensures) at c.with_run.ensures in
+    rw (c.store.ensures.words, c.load-old.ensures.words, c.gather-word.ensures.words, map-set value ws k c.with_run.result)
+    (part_moved place w words k new c.args.from low high (high - low) (width_positive w g.met.T.BitStore.width) (omega arith) (omega arith) c.requires.within fits
+    (λ i h. replaced i h
+    ∙ blended low high i (row_bit place w (value made.0 ∷ value made.1 ∷ []) (made.2 + i)) (row_bit place w words (c.args.from + (i - low))) (has_bit (value c.load-old.result) (place w i)) (λ above below. c.gather-word.ensures.bits i above below)
     ∙ ap (λ n. if leb low i && ltb i high then row_bit place w words (c.args.from + (i - low)) else has_bit n (place w i)) read))

@@ -1,23 +1,14 @@
-use Rattle.std.proofs.Common.{◌≡◌, ◌+◌, ◌-◌, [], ◌∷◌, sym, ◌∙◌, arith}
+use Rattle.std.proofs.Common.{◌≡◌, ◌+◌, if◌then◌else◌, ◌&&◌, leb, ltb, [], ◌∷◌, true, refl, ◌∙◌, arith}
+use Rattle.std.proofs.lemmas.Bool.{le-leb, lt-ltb}
 use Rattle.bit_addressing.specs.Bits.{has_bit}
 use Rattle.bit_addressing.specs.Row.{row_bit}
-use Rattle.bit_addressing.proofs.Moves.{collect_step}
-use Rattle.bit_addressing.proofs.Windows.{first_of_two, second_of_two}
+use Rattle.bit_addressing.proofs.Windows.{first_of_two}
 use Rattle.bit_addressing.proofs.order.BitOrder.window.Goals as goal
-use Rattle.bit_addressing.proofs.order.BitOrder.window.Goals.{then-from-BITS, else-from-BITS}
 
-pub loop-i-preserved : goal.loop-i-preserved
-loop-i-preserved g c =
+pub returns : goal.returns
+returns g c =
     let w = g.T.BitStore.BITS in
     let value = g.T.BitStore.value in
     let place = g.Self.BitOrder.place in
-    let at = c.args.at in
-    let i = c.loop-i.i in
-    let bit : c.if-from-BITS.bit ≡ row_bit place w (value c.args.low ∷ value c.args.high ∷ []) (at + i) =
-    elim c.if-from-BITS.branch [
-      | then-from-BITS v ↦ let here : c.if-from-BITS.bit ≡ has_bit (value c.args.low) (place w (at + i)) = cc in here ∙ sym (first_of_two place w (value c.args.low) (value c.args.high) (at + i) (omega arith))
-      | else-from-BITS v ↦ let here : c.if-from-BITS.bit ≡ has_bit (value c.args.high) (place w (at + i - w)) = cc in here ∙ sym (second_of_two place w (value c.args.low) (value c.args.high) (at + i) (omega arith) (omega arith))
-    ] in
-    collect_step (place w) w i (value c.loop-i.word) (value c.with_bit-word.result) c.into_inner-in-loop-i.result c.if-from-BITS.bit
-    (λ j. row_bit place w (value c.args.low ∷ value c.args.high ∷ []) (at + j))
-    (g.met.Self.BitOrder.lawful w g.met.T.BitStore.width) (omega arith) (cc) c.with_bit-word.ensures bit c.loop-i.invariant
+    let run = rw (c.new_unchecked-from.ensures, c.new_unchecked-upto.ensures, c.BITS.ensures) at c.with_run.ensures in
+    λ i h. run i h ∙ rw (le-leb 0 i (omega arith), lt-ltb i w h) refl

@@ -1,0 +1,85 @@
+//! Rows of words: single bits, runs, copies, chunks, counts and comparisons.
+use crate::tests::orders::{Scramble, Xor4};
+use crate::{
+    And, Lsb0, Msb0, combine_bits, copy_bits, copy_bits_alike, copy_bits_in, count_bits, cut_words,
+    differ_at, fill_bits, fill_bits_in, find_bit, flip_bits, flip_bits_in, move_bits_in, push_bit,
+    read_bit, read_chunk, resize_words, write_bit, write_bit_in, write_chunk,
+};
+use std::test::Fail;
+
+#[test]
+fn bits_of_words(rt: HostRuntime) {
+    let mut words = [0x1234u16, 0xabcd];
+    assert!(rt; read_bit::<u16, Msb0>(&words, 3) && !read_bit::<u16, Lsb0>(&words, 3));
+    write_bit::<u16, Msb0>(&mut words, 4, true);
+    assert_eq!(rt; words, [0x1a34, 0xabcd]);
+    fill_bits::<u16, Msb0>(&mut words, 12, 20, true);
+    assert_eq!(rt; words, [0x1a3f, 0xfbcd]);
+    flip_bits::<u16, Lsb0>(&mut words);
+    assert_eq!(rt; words, [0xe5c0, 0x0432]);
+    let mut long = [0u8; 4];
+    fill_bits::<u8, Lsb0>(&mut long, 3, 29, true);
+    assert_eq!(rt; long, [0xf8, 0xff, 0xff, 0x1f]);
+    fill_bits::<u8, Xor4>(&mut long, 8, 16, false);
+    assert_eq!(rt; long, [0xf8, 0x00, 0xff, 0x1f]);
+    let mut one = [0u16];
+    copy_bits::<u16, Msb0, u8, Lsb0>(&mut one, 0, &[0xff, 0x00], 0, 16);
+    assert_eq!(rt; one, [0xff00]);
+    let mut target = [0u8; 3];
+    copy_bits_alike::<u8, Lsb0>(&mut target, 3, &[0xff, 0x5a, 0xff], 3, 15);
+    assert_eq!(rt; target, [0xf8, 0x5a, 0x03]);
+    copy_bits_alike::<u8, Lsb0>(&mut target, 0, &[0x70, 0x00], 4, 4);
+    assert_eq!(rt; target, [0xf7, 0x5a, 0x03]);
+}
+
+#[test]
+fn words_of_a_vector(rt: HostRuntime) -> Result<(), Fail> {
+    let mut words = vec![in rt.alloc(); 0xffu8]?;
+    resize_words::<u8, Lsb0>(&mut words, 9)?;
+    assert_eq!(rt; words.as_slice(), [0xff, 0x00].as_slice());
+    assert!(rt; words.len() == 2);
+    write_bit_in::<u8, Lsb0>(&mut words, 0, false);
+    fill_bits_in::<u8, Lsb0>(&mut words, 6, 10, true);
+    assert_eq!(rt; words.as_slice(), [0xfe, 0x03].as_slice());
+    assert!(rt; words.len() == 2);
+    flip_bits_in::<u8, Lsb0>(&mut words);
+    copy_bits_in::<u8, Lsb0, u16, Msb0>(&mut words, 4, &[0xf000], 0, 4);
+    assert_eq!(rt; words.as_slice(), [0xf1, 0xfc].as_slice());
+    assert!(rt; words.len() == 2);
+    move_bits_in::<u8, Lsb0>(&mut words, 4, 0, 8);
+    assert_eq!(rt; words.as_slice(), [0xcf, 0xfc].as_slice());
+    assert!(rt; words.len() == 2);
+    cut_words::<u8, Lsb0>(&mut words, 8);
+    assert_eq!(rt; words.as_slice(), [0xcf].as_slice());
+    assert!(rt; words.len() == 1);
+    push_bit::<u8, Lsb0>(&mut words, 8, true)?;
+    assert_eq!(rt; words.as_slice(), [0xcf, 0x01].as_slice());
+    Ok(())
+}
+
+#[test]
+fn chunks(rt: HostRuntime) {
+    let words = [0x1234u16, 0xabcd, 0x0ff0];
+    assert_eq!(rt; read_chunk::<u16, Lsb0>(&words, 4, 20), 0xcd123);
+    assert_eq!(rt; read_chunk::<u8, Msb0>(&[0x80u8, 0x01], 0, 16), 0x8001);
+    assert_eq!(rt; read_chunk::<u8, Msb0>(&[0x80u8, 0x01], 7, 0), 0);
+    assert_eq!(rt; count_bits::<u16, Scramble>(&words, 0, 48), 23);
+    assert_eq!(rt; count_bits::<u16, Lsb0>(&words, 3, 20), 7);
+    let same = [0x34u8, 0x12, 0xcd, 0xab, 0xf0, 0x0f];
+    let other = [0x34u8, 0x12, 0xcd, 0xab, 0xf0, 0x0e];
+    assert!(rt; differ_at::<u16, Lsb0, u8, Lsb0>(&words, 0, &same, 0, 48).is_none());
+    assert!(rt; differ_at::<u16, Lsb0, u8, Lsb0>(&words, 0, &other, 0, 48) == Some(40));
+    let mut target = [0xffffu16, 0xffff];
+    combine_bits::<And, u16, Lsb0, u8, Lsb0>(&mut target, 4, &same, 0, 16);
+    assert_eq!(rt; target, [0x234f, 0xfff1]);
+    let mut wide = [0u64, 0];
+    copy_bits::<u64, Msb0, u64, Msb0>(&mut wide, 4, &[0x8000_0000_0000_0001u64, 1], 0, 124);
+    assert_eq!(rt; wide, [0x0800_0000_0000_0000, 0x1000_0000_0000_0000]);
+    assert!(rt; find_bit::<u16, Lsb0>(&words, 0, 48, true) == Some(2));
+    assert!(rt; find_bit::<u16, Msb0>(&words, 36, 48, false) == Some(8));
+    assert!(rt; find_bit::<u16, Lsb0>(&words, 44, 48, true).is_none());
+    let mut bytes = [0u8; 3];
+    write_chunk::<u8, Msb0>(&mut bytes, 6, 12, 0xfd);
+    assert_eq!(rt; bytes, [0x02, 0xfc, 0x00]);
+    assert_eq!(rt; read_chunk::<u8, Msb0>(&bytes, 6, 12), 0xfd);
+}

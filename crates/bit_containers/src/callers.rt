@@ -24,7 +24,7 @@ pub fn push_then_pop<T: BitStore, O: BitOrder>(
 }
 
 pub fn set_then_get(v: &mut BitVec<u8, Msb0>, i: usize) -> Option<bool>
-    requires { i < v.old.len }
+    requires { i < length v.old.list }
     ensures value { result ≡ Some true }
     ensures list { v.new.list ≡ set v.old.list i true }
 {

@@ -1,3 +1,4 @@
 pub mod Lending
 pub mod Shown
 pub mod Parts
+pub mod Iteration

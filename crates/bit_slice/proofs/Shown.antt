@@ -4,7 +4,7 @@ use Rattle.std.proofs.lemmas.List.{drop_more, take_all, length-take, length-drop
 use Rattle.std.proofs.lemmas.List.Edits.{between_more, swap_is}
 use Rattle.std.proofs.lemmas.List.Sums.{sum_by-cons}
 use Rattle.bit_addressing.specs.Row.{put}
-use Rattle.bit_addressing.proofs.Lists.{shows_put, shows_set}
+use Rattle.bit_addressing.proofs.Lists.{shows_put, shows_set, length-put}
 
 -- ---- what an iterator has left
 
@@ -69,3 +69,9 @@ true_or_false (false ∷ xs) =
 -- what isn't true is false
 pub count_by-not : (xs : List Bool) (n ones : ℕ) → n ≡ length xs → ones ≡ count_by (λ b. b) xs → n - ones ≡ count_by not xs
 count_by-not xs n ones is counted = omega (arith, true_or_false xs)
+
+-- what is put over the whole of a list
+pub put_all : (xs ys : List Bool) (d : ℕ) → d ≡ 0 → length ys ≡ length xs → put xs d ys ≡ ys
+put_all xs ys d z e =
+    let in_all : 0 + length ys ≤ length xs = omega (arith, e) in
+    ap (λ k. put xs k ys) z ∙ sym (shown_all (put xs 0 ys) (length ys) (e ∙ sym (length-put xs ys 0 in_all))) ∙ shown_filled xs ys 0 (length ys) refl in_all

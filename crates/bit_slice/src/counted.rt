@@ -1,6 +1,6 @@
 //! A view whose moves are counted.
 ghost use Rattle.std.specs.Prelude.{◌≡◌, ℕ, ◌+◌, ◌-◌, ◌*◌, ◌<◌, ◌≤◌, ◌↔◌, IsTrue, length};
-ghost use Rattle.bit_addressing.specs.Row.{moved, touched};
+ghost use Rattle.bit_addressing.specs.Row.{moved, touched, words_for};
 ghost use Rattle.bit_addressing.specs.declared.length.TheConstants.{MAX_BITS};
 ghost use Rattle.bit_slice.specs.Fits.{IsView};
 
@@ -41,6 +41,21 @@ impl<'a, T: BitStore, O: BitOrder> CountedMut<'a, T, O> {
             len,
             order: PhantomData,
         }
+    }
+
+    /// As `BitSliceMut::from_parts_mut`, with the meter at 0.
+    pub fn from_parts_mut(words: &'a mut [T], head: usize, len: usize) -> Self
+        requires in_word { head < T.BITS }
+        requires few { len ≤ MAX_BITS }
+        requires exact { length words.old ≡ words_for T.BITS (head + len) }
+        ensures same_words { loan_of result ≡ words.entry.ghost_name }
+        ensures words { words_of result ≡ words.old }
+        ensures head { head_of result ≡ head }
+        ensures len { len_of result ≡ len }
+        ensures reads { reads_of result ≡ 0 }
+        ensures writes { writes_of result ≡ 0 }
+    {
+        CountedMut::of(words, head, len)
     }
 
     /// How many bits the view has.

@@ -1,13 +1,15 @@
 //! Views of bits for reading.
+ghost use Rattle.std.specs.Iterator.{YieldsFirst, YieldsLast};
+ghost use Rattle.std.specs.Iterator.Runs.{YieldsInOrder, YieldsInReverse};
 ghost use Rattle.std.specs.Prelude.{◌≡◌, ℕ, ◌+◌, ◌-◌, ◌*◌, ◌/◌, ◌%◌, ◌<◌, ◌≤◌, ◌↔◌, Bool, not, length, count_by, slice_get, slice_index_or, slice_range, false, IsTrue, IsOk, IfOk};
 ghost use Rattle.std.specs.List.{list_any, list_all};
 ghost use Rattle.bit_addressing.specs.Row.{words_for};
-ghost use Rattle.bit_addressing.specs.Typed.{row};
+ghost use Rattle.bit_addressing.specs.Typed.{row, words_from};
 ghost use Rattle.bit_addressing.specs.declared.length.TheConstants.{MAX_BITS};
 ghost use Rattle.bit_slice.specs.Fits.{IsView};
 
 use crate::iter::Iter;
-use bit_addressing::{BitOrder, BitStore, GrowError, MAX_BITS, RangeExt, elts, read_bit};
+use bit_addressing::{BitOrder, BitStore, GrowError, MAX_BITS, RangeExt, elts, exact_words, read_bit};
 use std::alloc::AllocError;
 use std::marker::PhantomData;
 use std::ops::Index;
@@ -32,6 +34,8 @@ pub struct BitSlice<'a, T: BitStore, O: BitOrder> {
 
 impl<'a, T: BitStore, O: BitOrder> Clone for BitSlice<'a, T, O> {
     ghost is_clone = { λ a b. a ≡ b };
+
+    ghost is_infallible = { λ _. Unit {0} };
 
     /// The same view.
     fn clone(&self) -> Result<Self, AllocError> {
@@ -100,7 +104,9 @@ impl<'a, T: BitStore, O: BitOrder> BitSlice<'a, T, O> {
     pub fn as_raw_slice(self) -> &'a [T]
         ensures words { result.now ≡ words_of self.entry }
         ensures exact { length result.now ≡ words_for T.BITS (head_of self.entry + len_of self.entry) }
+        ensures from_row { result.now ≡ words_from T.BitStore O.BitOrder (row_of self.entry) }
     {
+        exact_words::<T, O>(self.words);
         self.words
     }
 
@@ -187,6 +193,8 @@ impl<'a, T: BitStore, O: BitOrder> BitSlice<'a, T, O> {
     pub fn iter(self) -> Iter<'a, T, O>
         ensures list { rest_of result ≡ list_of self.entry }
         ensures few { length (rest_of result) ≤ MAX_BITS }
+        ensures runs { YieldsInOrder (YieldsFirst (rest_of {X = T} {Y = O} {W = T.BitStore} {P = O.BitOrder})) rest_of }
+        ensures runs_back { YieldsInReverse (YieldsLast (rest_of {X = T} {Y = O} {W = T.BitStore} {P = O.BitOrder})) rest_of }
     {
         Iter::new(self.words, self.head, self.head + self.len)
     }

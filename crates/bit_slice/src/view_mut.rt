@@ -1,9 +1,11 @@
 //! Views of bits for writing.
+ghost use Rattle.std.specs.Iterator.{YieldsFirst, YieldsLast};
+ghost use Rattle.std.specs.Iterator.Runs.{YieldsInOrder, YieldsInReverse};
 ghost use Rattle.std.specs.Prelude.{◌≡◌, ℕ, ◌+◌, ◌-◌, ◌*◌, ◌/◌, ◌%◌, ◌<◌, ◌≤◌, ◌↔◌, Bool, false, not, length, count_by, replicate, set, slice_get, slice_index_or, slice_range, swap, IsTrue};
 ghost use Rattle.std.specs.List.{list_any, list_all};
 ghost use Rattle.std.specs.Borrow.{sem};
 ghost use Rattle.bit_addressing.specs.Row.{words_for, put, moved};
-ghost use Rattle.bit_addressing.specs.Typed.{row};
+ghost use Rattle.bit_addressing.specs.Typed.{row, words_from};
 ghost use Rattle.bit_addressing.specs.declared.length.TheConstants.{MAX_BITS};
 ghost use Rattle.bit_slice.specs.Fits.{IsView};
 
@@ -11,7 +13,7 @@ use crate::counted::CountedMut;
 use crate::iter::Iter;
 use crate::view::BitSlice;
 use bit_addressing::{
-    BitOrder, BitStore, RangeExt, copy_bits, fill_bits, move_bits, read_bit, write_bit,
+    BitOrder, BitStore, RangeExt, copy_bits, exact_words, fill_bits, move_bits, read_bit, write_bit,
 };
 use std::marker::PhantomData;
 use std::ops::Index;
@@ -93,7 +95,9 @@ impl<'a, T: BitStore, O: BitOrder> BitSliceMut<'a, T, O> {
     pub fn as_raw_slice(&self) -> &[T]
         ensures words { result.now ≡ words_of self.now }
         ensures exact { length result.now ≡ words_for T.BITS (head_of self.now + len_of self.now) }
+        ensures from_row { result.now ≡ words_from T.BitStore O.BitOrder (row_of self.now) }
     {
+        exact_words::<T, O>(self.words);
         self.words
     }
 
@@ -182,6 +186,8 @@ impl<'a, T: BitStore, O: BitOrder> BitSliceMut<'a, T, O> {
     pub fn iter(&self) -> Iter<'_, T, O>
         ensures list { rest_of result ≡ list_of self.now }
         ensures few { length (rest_of result) ≤ MAX_BITS }
+        ensures runs { YieldsInOrder (YieldsFirst (rest_of {X = T} {Y = O} {W = T.BitStore} {P = O.BitOrder})) rest_of }
+        ensures runs_back { YieldsInReverse (YieldsLast (rest_of {X = T} {Y = O} {W = T.BitStore} {P = O.BitOrder})) rest_of }
     {
         self.as_bitslice().iter()
     }
@@ -262,6 +268,7 @@ impl<'a, T: BitStore, O: BitOrder> BitSliceMut<'a, T, O> {
         ensures same_words { loan_of self.new ≡ loan_of self.old }
         ensures row { row_of self.new ≡ put (row_of self.old) (head_of self.old) (replicate (len_of self.old) b) }
         ensures list { list_of self.new ≡ replicate (len_of self.old) b }
+        ensures whole { head_of self.old ≡ 0 → len_of self.old ≡ T.BITS * length (words_of self.old) → row_of self.new ≡ replicate (len_of self.old) b }
         ensures head { head_of self.new ≡ head_of self.old }
         ensures len { len_of self.new ≡ len_of self.old }
     {
@@ -293,6 +300,7 @@ impl<'a, T: BitStore, O: BitOrder> BitSliceMut<'a, T, O> {
         ensures same_words { loan_of self.new ≡ loan_of self.old }
         ensures row { row_of self.new ≡ put (row_of self.old) (head_of self.old) (list_seen source.entry) }
         ensures list { list_of self.new ≡ list_seen source.entry }
+        ensures whole { head_of self.old ≡ 0 → len_of self.old ≡ T.BITS * length (words_of self.old) → row_of self.new ≡ list_seen source.entry }
         ensures head { head_of self.new ≡ head_of self.old }
         ensures len { len_of self.new ≡ len_of self.old }
     {

@@ -4,6 +4,7 @@ ghost use Rattle.bit_addressing.specs.Text.{list_text};
 
 use crate::vec::BitVec;
 use bit_addressing::{BitOrder, BitStore};
+use std::alloc::AllocError;
 use std::fmt;
 
 /// `[`, the digits of the list joined by `, `, and `]`. Flags and widths have no effect.
@@ -26,5 +27,17 @@ impl<T: BitStore, O: BitOrder> fmt::Display for BitVec<T, O> {
             separator = ", ";
         }
         f.write_str("]")
+    }
+}
+
+impl<T: BitStore, O: BitOrder> Clone for BitVec<T, O> {
+    ghost use Rattle.std.specs.Prelude.{◌≡◌};
+
+    ghost is_clone = { λ v w. (w.list ≡ v.list) × (w.head ≡ v.head) };
+
+    /// As the inherent `clone`.
+    fn clone(&self) -> Result<Self, AllocError> {
+        let alloc = *self.words.allocator();
+        Self::from_bitslice(alloc, self.as_bitslice())
     }
 }

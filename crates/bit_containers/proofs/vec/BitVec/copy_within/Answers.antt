@@ -19,8 +19,8 @@ returns-clause-list g c =
     let from = c.normalize-range.result.start in
     let upto = c.normalize-range.result.end in
     let start = c.normalize-range.ensures.start in
-    let len : i.len ≡ c.args.self.now.len = ap (λ v. v.len) c.self.view_is in
-    let end : upto ≡ g.R.RangeExt.end_of c.args.range c.args.self.now.len = c.normalize-range.ensures.end ∙ ap (g.R.RangeExt.end_of c.args.range) len in
+    let len : i.len ≡ length c.args.self.now.list = sym c.self.invariant.shows ∙ ap (λ v. length v.list) c.self.view_is in
+    let end : upto ≡ g.R.RangeExt.end_of c.args.range (length c.args.self.now.list) = c.normalize-range.ensures.end ∙ ap (g.R.RangeExt.end_of c.args.range) len in
     ap (λ r. slice_range r i.head (i.head + i.len)) c.move_bits_in.ensures.bits
     ∙ shows_moved bits i.head i.len from c.args.dest (upto - from) (omega arith) (omega arith) fits
     ∙ ap (λ v. moved v.list from c.args.dest (upto - from)) c.self.view_is

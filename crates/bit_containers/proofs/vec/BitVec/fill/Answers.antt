@@ -1,4 +1,4 @@
-use Rattle.std.proofs.Common.{◌≡◌, ◌+◌, ◌-◌, replicate, slice_range, sym, ◌∙◌, ap, arith}
+use Rattle.std.proofs.Common.{◌≡◌, ◌+◌, ◌-◌, length, replicate, slice_range, sym, ◌∙◌, ap, arith}
 use Rattle.std.proofs.lemmas.List.{length-replicate}
 use Rattle.bit_addressing.specs.Row.{put}
 use Rattle.bit_addressing.specs.Typed.{row}
@@ -14,4 +14,4 @@ returns-clause-list g c =
     let size : i.head + i.len - i.head ≡ i.len = omega arith in
     ap (λ r. slice_range r i.head (i.head + i.len)) (c.fill_bits_in.ensures.bits ∙ ap (λ n. put bits i.head (replicate n c.args.bit)) size)
     ∙ shown_filled bits (replicate i.len c.args.bit) i.head i.len (sym (length-replicate i.len c.args.bit)) fits
-    ∙ ap (λ v. replicate v.len c.args.bit) c.self.view_is
+    ∙ ap (λ n. replicate n c.args.bit) (sym c.self.invariant.shows ∙ ap (λ v. length v.list) c.self.view_is)

@@ -6,7 +6,7 @@ use Rattle.std.proofs.lemmas.List.{append-nil, take_all, length-map}
 use Rattle.std.proofs.Common.{vec_capacity, ℕ, List, Bool}
 use Rattle.bit_addressing.proofs.Rows.{width_positive, width_small}
 use Rattle.bit_addressing.proofs.Typed.{length_row}
-use Rattle.bit_containers.proofs.Vectors.{in_words, shown, no_room, canonical}
+use Rattle.bit_containers.proofs.Vectors.{in_words, shown, shown_length, no_room, canonical}
 use Rattle.bit_addressing.specs.declared.length.TheConstants.{MAX_BITS}
 use Rattle.std.proofs.Math.Nat.{mul-le-mul_left}
 use Rattle.std.proofs.Common.{mul_comm}
@@ -17,7 +17,7 @@ invariant_of-result g c =
     let w = g.T.BitStore.BITS in
     let positive = width_positive w g.met.T.BitStore.width in
     let is : c.BITS.result * c.len.result ≡ w * length c.args.words.items = cc in
-    rw is (record { head_below = positive; len_small = c.requires; count = words_for_all w (length c.args.words.items) positive ∙ ap (words_for w) (omega arith); fits = omega arith })
+    rw is (record { head_below = positive; len_small = c.requires; count = words_for_all w (length c.args.words.items) positive ∙ ap (words_for w) (omega arith); fits = omega arith; shows = shown_length g.T.BitStore g.O.BitOrder c.args.words.items 0 (w * length c.args.words.items) (omega arith) })
 
 pub returns-clause-list : goal.returns-clause-list
 returns-clause-list g c =

@@ -5,7 +5,6 @@ use Rattle.bit_addressing.specs.Row.{moved, sized, words_for}
 use Rattle.bit_addressing.specs.Typed.{row}
 use Rattle.bit_addressing.proofs.Rows.{width_positive}
 use Rattle.std.proofs.lemmas.List.{length_push}
-use Rattle.bit_addressing.proofs.Lists.{length-shows}
 use Rattle.bit_addressing.proofs.MovedLists.{inserted_shows}
 use Rattle.bit_containers.proofs.Vectors.{few_words, shown}
 use Rattle.bit_containers.proofs.vec.BitVec.insert.Goals as goal
@@ -19,10 +18,6 @@ returns-clause-list g c =
     let bits = row g.T.BitStore g.O.BitOrder i.words.items in
     let fits = shown g.T.BitStore g.O.BitOrder i.words.items i.head i.len g.met.T.BitStore.width c.self.invariant in
     let pushed : slice_range bits i.head (i.head + i.len) ≡ c.args.self.now.list ++ c.args.bit ∷ [] = ap (λ v. v.list) c.self.view_is ∙ c.in_ok-push.ensures.list in
-    let size : i.len ≡ length c.args.self.now.list + 1 = sym (length-shows bits i.head i.len fits) ∙ ap length pushed ∙ length_push c.args.self.now.list c.args.bit in
-    let before : c.args.i ≤ length c.args.self.now.list =
-    let grew = c.in_ok-push.ensures.row.len in
-    let now = ap (λ v. v.len) c.self.view_is in
-    omega arith in
+    let size : i.len ≡ length c.args.self.now.list + 1 = sym c.self.invariant.shows ∙ ap length pushed ∙ length_push c.args.self.now.list c.args.bit in
     ap (λ r. slice_range r i.head (i.head + i.len)) (c.write_bit_in.ensures.bits ∙ ap (λ r. set r (i.head + c.args.i) c.args.bit) c.move_bits_in.ensures.bits)
-    ∙ inserted_shows bits c.args.self.now.list i.head i.len c.args.i c.args.bit pushed size before fits
+    ∙ inserted_shows bits c.args.self.now.list i.head i.len c.args.i c.args.bit pushed size c.requires fits

@@ -17,12 +17,12 @@ returns-then-self-eq0-clause-row g c =
     let i = c.self.inside in
     let w = g.T.BitStore.BITS in
     let none : i.len - 1 ≡ i.len = omega arith in
-    rw (← c.self.view_is) (rw none (record {
+    rw (← c.self.view_is, c.self.invariant.shows, none) (record {
       head = refl;
-      len = refl;
+      len = c.self.invariant.shows;
       capacity = refl;
       row = sym (sized_same w (row g.T.BitStore g.O.BitOrder i.words.items) (i.head + i.len) (length_row g.T.BitStore.value g.O.BitOrder.place w i.words.items ∙ ap (λ n. w * n) c.self.invariant.count));
-    }))
+    })
 
 pub returns-clause-answer : goal.returns-clause-answer
 returns-clause-answer g c =
@@ -38,10 +38,10 @@ returns-clause-list g c =
     let i = c.self.inside in
     let w = g.T.BitStore.BITS in
     let fits = shown g.T.BitStore g.O.BitOrder i.words.items i.head i.len g.met.T.BitStore.width c.self.invariant in
-    rw (← c.self.view_is) (ap (λ r. slice_range r i.head (i.head + (i.len - 1))) c.cut_words.ensures.bits ∙ shrunk_shows w (row g.T.BitStore g.O.BitOrder i.words.items) i.head i.len (i.len - 1) (width_positive w g.met.T.BitStore.width) (omega arith) fits)
+    rw (← c.self.view_is, c.self.invariant.shows) (ap (λ r. slice_range r i.head (i.head + (i.len - 1))) c.cut_words.ensures.bits ∙ shrunk_shows w (row g.T.BitStore g.O.BitOrder i.words.items) i.head i.len (i.len - 1) (width_positive w g.met.T.BitStore.width) (omega arith) fits)
 
 pub returns-clause-value : goal.returns-clause-value
 returns-clause-value g c =
     let i = c.self.inside in
     let fits = shown g.T.BitStore g.O.BitOrder i.words.items i.head i.len g.met.T.BitStore.width c.self.invariant in
-    rw (← c.self.view_is) (shows_some (row g.T.BitStore g.O.BitOrder i.words.items) i.head i.len (i.len - 1) c.read_bit-bit.result (omega arith) fits (rw (← c.as_slice.ensures.value) c.read_bit-bit.ensures))
+    rw (← c.self.view_is, c.self.invariant.shows) (shows_some (row g.T.BitStore g.O.BitOrder i.words.items) i.head i.len (i.len - 1) c.read_bit-bit.result (omega arith) fits (rw (← c.as_slice.ensures.value) c.read_bit-bit.ensures))

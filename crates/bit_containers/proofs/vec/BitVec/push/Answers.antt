@@ -7,6 +7,7 @@ use Rattle.std.proofs.Common.{vec_capacity, ℕ, List, Bool}
 use Rattle.bit_addressing.proofs.Rows.{width_positive, width_small}
 use Rattle.bit_addressing.proofs.Typed.{length_row}
 use Rattle.bit_containers.proofs.Vectors.{kept, shown, no_room}
+use Rattle.bit_containers.proofs.Clean.{clean_joined}
 use Rattle.bit_addressing.specs.declared.length.TheConstants.{MAX_BITS}
 use Rattle.std.proofs.Math.Nat.{mul-le-mul_left}
 use Rattle.std.proofs.Common.{mul_comm}
@@ -16,7 +17,7 @@ pub returns-in_default-clause-refusal : goal.returns-in_default-clause-refusal
 returns-in_default-clause-refusal g c =
     let i = c.self.inside in
     let same = c.in_default.ensures.unchanged in
-    rw (← c.self.view_is) (record {
+    rw (← c.self.view_is, c.self.invariant.shows) (record {
       too_long = ((λ e. cc), (λ h. absurd (omega (arith, c.self.invariant.len_small, c.if-self-eq-MAX_BITS.false))));
       memory = λ _. no_room g.T.BitStore.BITS (vec_capacity i.words) i.head (i.len + 1) (width_positive _ g.met.T.BitStore.width) (omega arith) (subst (λ b. vec_capacity i.words < words_for g.T.BitStore.BITS b) (omega arith) c.in_default.ensures.full);
       unchanged = kept g.T.BitStore g.O.BitOrder i.words.items c.push_bit.new.words.items i.head i.len _ _ same;
@@ -31,3 +32,12 @@ returns-clause-list g c =
     ap (λ r. slice_range r i.head (i.head + (i.len + 1))) c.in-Ok.ensures.bits
     ∙ grown_shows w bits (c.args.bit ∷ []) i.head i.len 1 (width_positive w g.met.T.BitStore.width) fits refl
     ∙ ap (λ v. v.list ++ c.args.bit ∷ []) c.self.view_is
+
+pub returns-clause-clean : goal.returns-clause-clean
+returns-clause-clean g c =
+    let i = c.self.inside in
+    let w = g.T.BitStore.BITS in
+    let len : i.len ≡ length c.args.self.now.list = sym c.self.invariant.shows ∙ ap (λ v. length v.list) c.self.view_is in
+    clean_joined w c.args.self.now _ c.args.bit (width_positive w g.met.T.BitStore.width) (ap (λ v. v.head) c.self.view_is) (returns-clause-list g c)
+    (c.in-Ok.ensures.bits ∙ ap (λ v. put (sized w v.row (v.head + i.len + 1)) (v.head + i.len) (c.args.bit ∷ [])) c.self.view_is
+    ∙ ap (λ n. put (sized w c.args.self.now.row (c.args.self.now.head + n + 1)) (c.args.self.now.head + n) (c.args.bit ∷ [])) len)

@@ -23,9 +23,9 @@ returns-else-n-self-clause-row g c =
     let i = c.self.inside in
     let w = g.T.BitStore.BITS in
     let least : min c.args.n i.len ≡ i.len = omega arith in
-    rw (← c.self.view_is) (rw least (record {
+    rw (← c.self.view_is, c.self.invariant.shows, least) (record {
       head = refl;
-      len = refl;
+      len = c.self.invariant.shows;
       capacity = refl;
       row = sym (sized_same w (row g.T.BitStore g.O.BitOrder i.words.items) (i.head + i.len) (length_row g.T.BitStore.value g.O.BitOrder.place w i.words.items ∙ ap (λ n. w * n) c.self.invariant.count));
-    }))
+    })

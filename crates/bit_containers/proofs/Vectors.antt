@@ -13,8 +13,8 @@ use Rattle.bit_addressing.proofs.Lists.{few_words as few, room, shows_filled, le
 use Rattle.bit_addressing.proofs.Rows.{width_positive}
 use Rattle.bit_addressing.proofs.Typed.{length_row}
 use Rattle.bit_addressing.specs.declared.length.TheConstants.{MAX_BITS}
-use Rattle.bit_containers.specs.Held.{IsVector, bits_in}
-use Rattle.bit_containers.specs.Growth.{IsKept}
+use Rattle.bit_containers.specs.BitVec.{IsVector, bits_in}
+use Rattle.bit_containers.specs.BitVec.{IsKept}
 
 mul_one_more : (w n : ℕ) → w * (n + 1) ≡ w * n + w
 mul_one_more w n = grind arith

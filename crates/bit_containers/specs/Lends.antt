@@ -5,7 +5,7 @@ use Rattle.std.specs.List.{refill}
 use Rattle.bit_addressing.specs.declared.store.BitStore as store
 use Rattle.bit_addressing.specs.declared.order.BitOrder as order
 use Rattle.bit_addressing.specs.Typed.{row}
-use Rattle.bit_containers.specs.Held.{Held}
+use Rattle.bit_containers.specs.BitVec.{Held}
 use Rattle.bit_containers.specs.contracts.vec.BitVec.{the_row}
 
 -- the vector with other visible words, as many; its list is that part of their row, and `refill` shows that it is as long as before

@@ -1,4 +1,3 @@
-pub mod Held
-pub mod Growth
+pub mod BitVec
 pub mod Lends
 pub mod Machine

@@ -3,8 +3,7 @@ ghost use Rattle.std.specs.Prelude.{◌≡◌, ◌+◌, ◌*◌, ◌<◌, ◌≤
 ghost use Rattle.bit_addressing.specs.declared.length.TheConstants.{MAX_BITS};
 ghost use Rattle.bit_addressing.specs.Row.{filled, moved, sized, words_for};
 ghost use Rattle.bit_addressing.specs.Typed.{row, words_from, words_for_list};
-ghost use Rattle.bit_containers.specs.Growth.{Stayed, IsClean};
-ghost use Rattle.bit_containers.specs.Held.{bits_in};
+ghost use Rattle.bit_containers.specs.BitVec.{Stayed, IsClean, bits_in};
 ghost use Rattle.bit_slice.specs.View.{words_of, head_of, len_of, row_of, list_of};
 
 use bit_addressing::{
@@ -15,6 +14,10 @@ use std::alloc::{AllocError, Global};
 use std::marker::{Model, PhantomData};
 
 mod api;
+mod capacity;
+mod iter;
+mod ops;
+mod slice;
 mod traits;
 mod views;
 
@@ -44,7 +47,7 @@ pub struct BitVec<T: BitStore = usize, O: BitOrder = Lsb0> {
 impl<T: BitStore, O: BitOrder> Model for BitVec<T, O> {
     ghost use Rattle.std.specs.Prelude.{◌+◌, length, slice_range, vec_capacity};
     ghost use Rattle.bit_addressing.specs.Typed.{row};
-    ghost use Rattle.bit_containers.specs.Held.{Held, IsVector, held_code, bits_in};
+    ghost use Rattle.bit_containers.specs.BitVec.{Held, IsVector, held_code, bits_in};
 
     ghost Value = { Held T };
 
@@ -87,6 +90,7 @@ impl<T: BitStore, O: BitOrder> BitVec<T, O> {
         ensures head { result.head ≡ 0 }
         ensures row { result.row ≡ row T.BitStore O.BitOrder words.items }
         ensures list { result.list ≡ row T.BitStore O.BitOrder words.items }
+        ensures clean { IsClean T.BITS result }
         ensures capacity { result.capacity ≡ bits_in T.BITS (vec_capacity words) 0 }
     {
         let len = T::BITS as usize * words.len();
@@ -105,6 +109,7 @@ impl<T: BitStore, O: BitOrder> BitVec<T, O> {
         ensures head { IfOk result (λ v. v.head ≡ head_of view.entry) }
         ensures list { IfOk result (λ v. v.list ≡ list_of view.entry) }
         ensures row { IfOk result (λ v. v.row ≡ filled (row_of view.entry) (head_of view.entry) (len_of view.entry) false) }
+        ensures clean { IfOk result (λ v. head_of view.entry ≡ 0 → IsClean T.BITS v) }
         ensures memory { OnErr result (0 < length (words_of view.entry)) }
     {
         let (head, len) = (view.head(), view.len());
@@ -117,17 +122,6 @@ impl<T: BitStore, O: BitOrder> BitVec<T, O> {
             len,
             order: PhantomData,
         })
-    }
-
-    /// A copy: as `from_bitslice` of the vector's view.
-    pub fn clone(&self) -> Result<Self, AllocError>
-        ensures head { IfOk result (λ v. v.head ≡ self.now.head) }
-        ensures list { IfOk result (λ v. v.list ≡ self.now.list) }
-        ensures row { IfOk result (λ v. v.row ≡ filled self.now.row self.now.head (length self.now.list) false) }
-        ensures memory { OnErr result (0 < length self.now.words) }
-    {
-        let alloc = *self.words.allocator();
-        Self::from_bitslice(alloc, self.as_bitslice())
     }
 
     /// The visible words, as they are. Takes no memory.
@@ -151,6 +145,7 @@ impl<T: BitStore, O: BitOrder> BitVec<T, O> {
         ensures head { self.new.head ≡ 0 }
         ensures list { self.new.list ≡ self.old.list }
         ensures row { self.new.row ≡ sized T.BITS (moved self.old.row self.old.head 0 (length self.old.list)) (length self.old.list) }
+        ensures clean { IsClean T.BITS self.old → IsClean T.BITS self.new }
         ensures capacity { self.new.capacity ≡ self.old.capacity + self.old.head }
     {
         move_bits_in::<T, O>(&mut self.words, self.head, 0, self.len);

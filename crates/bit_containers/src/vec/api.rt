@@ -1,9 +1,8 @@
-//! Reading and writing one bit, the ends of the vector, and its size.
-ghost use Rattle.std.specs.Prelude.{◌≡◌, ◌+◌, ◌-◌, ◌<◌, ◌≤◌, false, [], ◌∷◌, ◌++◌, length, min, set, take, insert, remove, OnOk, MatchOption, Some, slice_get, IsTrue, IsSome, ◌↔◌};
+//! The size of the vector, its ends, and bits put in and taken out.
+ghost use Rattle.std.specs.Prelude.{◌≡◌, ◌≢◌, ◌+◌, ◌-◌, ◌<◌, ◌≤◌, false, true, [], ◌∷◌, ◌++◌, length, min, set, take, insert, remove, OnOk, MatchOption, Some, slice_get, IsTrue, IsSome, ◌↔◌};
 ghost use Rattle.std.specs.List.{swap_remove};
-ghost use Rattle.bit_addressing.specs.Row.{moved};
 ghost use Rattle.bit_addressing.specs.declared.length.TheConstants.{MAX_BITS};
-ghost use Rattle.bit_containers.specs.Growth.{Grew, Shrank, Stayed, IsClean, RefusesOnly};
+ghost use Rattle.bit_containers.specs.BitVec.{Grew, Shrank, Stayed, IsClean, RefusesOnly};
 
 use crate::vec::BitVec;
 use bit_addressing::{
@@ -33,57 +32,6 @@ impl<T: BitStore, O: BitOrder> BitVec<T, O> {
         ensures { IsTrue result ↔ (length self.now.list ≡ 0) }
     {
         self.len == 0
-    }
-
-    /// How many bits the vector has room for without new memory: the bits of the words that fit, less
-    /// the head; `usize::MAX` less the head where those bits pass `usize::MAX`.
-    pub fn capacity(&self) -> usize
-        ensures value { result ≡ self.now.capacity }
-        ensures enough { length self.now.list ≤ result }
-    {
-        let all = self.words.capacity().saturating_mul(T::BITS as usize);
-        all - self.head
-    }
-
-    /// The bit at `i`. None exactly where `i` is the length or more.
-    pub fn get(&self, i: usize) -> Option<bool>
-        ensures { result ≡ slice_get self.now.list i }
-    {
-        if i < self.len {
-            Some(read_bit::<T, O>(self.words.as_slice(), self.head + i))
-        } else {
-            None
-        }
-    }
-
-    /// Writes the bit at `i`, and no other bit. Takes no memory. The condition: `i` is below the length.
-    #[tactic(auto, using(crate::proofs::Vectors::shown_length))]
-    pub fn set(&mut self, i: usize, bit: bool)
-        requires { i < length self.old.list }
-        ensures list { self.new.list ≡ set self.old.list i bit }
-        ensures row { self.new.row ≡ set self.old.row (self.old.head + i) bit }
-        ensures clean { IsClean T.BITS self.old → IsClean T.BITS self.new }
-        ensures stayed { Stayed self.old self.new }
-    {
-        write_bit_in::<T, O>(&mut self.words, self.head + i, bit);
-    }
-
-    /// Copies the range's bits to the places from `dest` on, as if they were copied out first. No other bit
-    /// changes, dead bits included. It is one counted move of the words. Takes no memory. The condition:
-    /// the range lies in the length, and its bits have room from `dest` on.
-    #[tactic(auto, using(crate::proofs::Vectors::shown_length))]
-    pub fn copy_within<R: RangeExt>(&mut self, range: R, dest: usize)
-        requires order { R.start_of range ≤ R.end_of range (length self.old.list) }
-        requires within { R.end_of range (length self.old.list) ≤ length self.old.list }
-        requires room { dest + (R.end_of range (length self.old.list) - R.start_of range) ≤ length self.old.list }
-        ensures list { self.new.list ≡ moved self.old.list (R.start_of range) dest (R.end_of range (length self.old.list) - R.start_of range) }
-        ensures row { self.new.row ≡ moved self.old.row (self.old.head + R.start_of range) (self.old.head + dest) (R.end_of range (length self.old.list) - R.start_of range) }
-        ensures stayed { Stayed self.old self.new }
-    {
-        let len = self.len;
-        let range = range.normalize(len);
-        let (from, to) = (self.head + range.start, self.head + dest);
-        move_bits_in::<T, O>(&mut self.words, from, to, range.end - range.start);
     }
 
     /// Joins a bit at the end. A word of zero is added only where no visible word has room, and no other
@@ -119,6 +67,7 @@ impl<T: BitStore, O: BitOrder> BitVec<T, O> {
         ensures list { self.new.list ≡ take (length self.old.list - 1) self.old.list }
         ensures bound { length self.old.list ≤ MAX_BITS }
         ensures room { length self.old.list ≤ self.new.capacity }
+        ensures clean { result ≢ Some true → IsClean T.BITS self.old → IsClean T.BITS self.new }
         ensures row { Shrank T.BITS self.old self.new (length self.old.list - 1) }
         ensures variant { IsSome result ↔ (0 < length self.old.list) }
     {
@@ -152,7 +101,9 @@ impl<T: BitStore, O: BitOrder> BitVec<T, O> {
     pub fn insert(&mut self, i: usize, bit: bool) -> Result<(), GrowError>
         requires { i ≤ length self.old.list }
         ensures list { OnOk result (self.new.list ≡ insert self.old.list i bit) }
+        ensures len { OnOk result (length self.new.list ≡ length self.old.list + 1) }
         ensures head { self.new.head ≡ self.old.head }
+        ensures clean { OnOk result (IsClean T.BITS self.old → IsClean T.BITS self.new) }
         ensures refusal { RefusesOnly result (length self.old.list + 1) self.old self.new }
         ensures capacity { self.old.capacity ≤ self.new.capacity }
     {

@@ -7,6 +7,21 @@ use bit_addressing::{BitOrder, BitStore};
 use std::alloc::AllocError;
 use std::fmt;
 
+impl<T: BitStore, O: BitOrder> Clone for BitVec<T, O> {
+    ghost use Rattle.std.specs.Prelude.{◌≡◌, []};
+    ghost use Rattle.bit_containers.specs.BitVec.{IsCopy};
+
+    ghost is_clone = { IsCopy T.BITS };
+
+    ghost is_infallible = { λ v. v.words ≡ [] };
+
+    /// A copy: as `from_bitslice` of the vector's view. Takes memory where there is a word.
+    fn clone(&self) -> Result<Self, AllocError> {
+        let alloc = *self.words.allocator();
+        Self::from_bitslice(alloc, self.as_bitslice())
+    }
+}
+
 /// `[`, the digits of the list joined by `, `, and `]`. Flags and widths have no effect.
 ///
 /// ```text
@@ -27,17 +42,5 @@ impl<T: BitStore, O: BitOrder> fmt::Display for BitVec<T, O> {
             separator = ", ";
         }
         f.write_str("]")
-    }
-}
-
-impl<T: BitStore, O: BitOrder> Clone for BitVec<T, O> {
-    ghost use Rattle.std.specs.Prelude.{◌≡◌};
-
-    ghost is_clone = { λ v w. (w.list ≡ v.list) × (w.head ≡ v.head) };
-
-    /// As the inherent `clone`.
-    fn clone(&self) -> Result<Self, AllocError> {
-        let alloc = *self.words.allocator();
-        Self::from_bitslice(alloc, self.as_bitslice())
     }
 }

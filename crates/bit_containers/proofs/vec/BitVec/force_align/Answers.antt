@@ -5,6 +5,7 @@ use Rattle.bit_addressing.specs.Typed.{row}
 use Rattle.bit_addressing.proofs.Rows.{width_positive}
 use Rattle.bit_addressing.proofs.MovedLists.{aligned_shows}
 use Rattle.bit_containers.proofs.Vectors.{few_words, shown, shown_length}
+use Rattle.bit_containers.proofs.Clean.{clean_aligned}
 use Rattle.bit_containers.proofs.vec.BitVec.force_align.Goals as goal
 
 pub move_bits_in-requires-clause-room : goal.move_bits_in-requires-clause-room
@@ -33,3 +34,12 @@ invariant_of-self g c =
       fits = fits;
       shows = shown_length g.T.BitStore g.O.BitOrder ws 0 i.len fits;
     }
+
+pub returns-clause-clean : goal.returns-clause-clean
+returns-clause-clean g c =
+    let i = c.self.inside in
+    let now = c.args.self.now in
+    let w = g.T.BitStore.BITS in
+    let len : i.len ≡ length now.list = sym c.self.invariant.shows ∙ ap (λ v. length v.list) c.self.view_is in
+    clean_aligned w now _ refl (returns-clause-list g c)
+    (c.cut_words.ensures.bits ∙ ap (λ r. sized w r i.len) c.move_bits_in.ensures.bits ∙ ap (λ v. sized w (moved v.row v.head 0 i.len) i.len) c.self.view_is ∙ ap (λ n. sized w (moved now.row now.head 0 n) n) len)

@@ -10,6 +10,7 @@ use Rattle.bit_containers.proofs.Vectors.{in_words, shown, shown_length, no_room
 use Rattle.bit_addressing.specs.declared.length.TheConstants.{MAX_BITS}
 use Rattle.std.proofs.Math.Nat.{mul-le-mul_left}
 use Rattle.std.proofs.Common.{mul_comm}
+use Rattle.bit_containers.proofs.Clean.{clean_all}
 use Rattle.bit_containers.proofs.vec.BitVec.from_vec.Goals as goal
 
 pub invariant_of-result : goal.invariant_of-result
@@ -25,3 +26,11 @@ returns-clause-list g c =
     let is : c.BITS.result * c.len.result ≡ g.T.BitStore.BITS * length c.args.words.items = cc in
     let size : length bits ≡ g.T.BitStore.BITS * length c.args.words.items = length_row g.T.BitStore.value g.O.BitOrder.place g.T.BitStore.BITS c.args.words.items in
     take_all (0 + c.BITS.result * c.len.result - 0) bits (omega arith)
+
+pub returns-clause-clean : goal.returns-clause-clean
+returns-clause-clean g c =
+    let w = g.T.BitStore.BITS in
+    record {
+      head = refl;
+      row = clean_all w (length c.args.words.items) (row g.T.BitStore g.O.BitOrder c.args.words.items) _ (width_positive w g.met.T.BitStore.width) (length_row g.T.BitStore.value g.O.BitOrder.place w c.args.words.items) (returns-clause-list g c);
+    }

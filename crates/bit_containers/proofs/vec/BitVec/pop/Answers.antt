@@ -10,6 +10,7 @@ use Rattle.bit_containers.proofs.Vectors.{in_words, shown, no_room, canonical}
 use Rattle.bit_addressing.specs.declared.length.TheConstants.{MAX_BITS}
 use Rattle.std.proofs.Math.Nat.{mul-le-mul_left}
 use Rattle.std.proofs.Common.{mul_comm}
+use Rattle.bit_containers.proofs.Clean.{clean_popped}
 use Rattle.bit_containers.proofs.vec.BitVec.pop.Goals as goal
 
 pub returns-then-self-eq0-clause-row : goal.returns-then-self-eq0-clause-row
@@ -45,3 +46,12 @@ returns-clause-value g c =
     let i = c.self.inside in
     let fits = shown g.T.BitStore g.O.BitOrder i.words.items i.head i.len g.met.T.BitStore.width c.self.invariant in
     rw (← c.self.view_is, c.self.invariant.shows) (shows_some (row g.T.BitStore g.O.BitOrder i.words.items) i.head i.len (i.len - 1) c.read_bit-bit.result (omega arith) fits (rw (← c.as_slice.ensures.value) c.read_bit-bit.ensures))
+
+pub returns-clause-clean : goal.returns-clause-clean
+returns-clause-clean g c other =
+    let i = c.self.inside in
+    let now = c.args.self.now in
+    let w = g.T.BitStore.BITS in
+    let len : i.len ≡ length now.list = sym c.self.invariant.shows ∙ ap (λ v. length v.list) c.self.view_is in
+    clean_popped w now _ c.read_bit-bit.result (width_positive w g.met.T.BitStore.width) other (ap (λ v. v.head) c.self.view_is) (returns-clause-answer g c)
+    (c.cut_words.ensures.bits ∙ ap (λ v. sized w v.row (v.head + (i.len - 1))) c.self.view_is ∙ ap (λ n. sized w now.row (now.head + (n - 1))) len)

@@ -1,10 +1,37 @@
--- What growing and shrinking calls do to a vector.
-use Rattle.std.specs.Prelude.{◌≡◌, ℕ, ◌+◌, ◌<◌, ◌↔◌, Bool, List, length, Result, Err, OnErr}
-use Rattle.bit_addressing.specs.Row.{put, sized}
+-- What a contract sees of a vector, and what calls do to it.
+use Rattle.std.specs.Prelude.{◌≡◌, ℕ, ◌+◌, ◌-◌, ◌*◌, ◌^◌, ◌<◌, ◌≤◌, ◌↔◌, Bool, false, List, length, min, refl, Result, Err, OnErr}
+use Rattle.std.specs.Coded.{Coded, code_by, coded×, coded_list, coded_ℕ, coded_bool}
+use Rattle.bit_addressing.specs.Row.{words_for, put, sized, filled}
 use Rattle.bit_addressing.specs.declared.length.TheConstants.{MAX_BITS}
 use Rattle.bit_addressing.specs.declared.length.GrowError.{GrowError}
 use Rattle.bit_addressing.specs.declared.length.GrowError.TheVariants.{TooLong, OutOfMemory}
-use Rattle.bit_containers.specs.Held.{Held}
+
+-- its visible words; their row; where the list begins in the row; the list; how many bits fit without new memory
+pub record Held (X : Type 0) : Type 0 where
+  pub words : List X
+  pub row : List Bool
+  pub head : ℕ
+  pub list : List Bool
+  pub capacity : ℕ
+
+-- such a value is stored as its parts
+abbrev pub held_code : {X : Type 0} → Coded X → Coded (Held X)
+held_code {X} c =
+    code_by (List X × (List Bool × (ℕ × (List Bool × ℕ)))) (coded× (coded_list c) (coded× (coded_list coded_bool) (coded× coded_ℕ (coded× (coded_list coded_bool) coded_ℕ)))) (λ v. (v.words, (v.row, (v.head, (v.list, v.capacity))))) (λ p. record { words = p.0; row = p.1.0; head = p.1.1.0; list = p.1.1.1.0; capacity = p.1.1.1.1 }) (λ _. refl)
+
+-- how many bits fit into so many words of w bits behind the head; where their number passes the largest usize, that less the head
+abbrev pub bits_in : ℕ → ℕ → ℕ → ℕ
+bits_in w words head = min (w * words) (2 ^ 64 - 1) - head
+
+-- what always holds of a vector of n words of w bits, whose list has so many bits; `fits` follows from `count`
+pub record IsVector (w n head len size : ℕ) : Type 0 where
+  pub head_below : head < w
+  pub len_small : len ≤ MAX_BITS
+  pub count : n ≡ words_for w (head + len)
+  pub fits : head + len ≤ w * n
+  pub shows : size ≡ len
+
+-- ---- what calls do
 
 -- Bits were joined at the end. Words that were added are of zero, and no other dead bit changed.
 pub record Grew {X : Type 0} (w : ℕ) (old new : Held X) (bits : List Bool) : Type 0 where
@@ -43,3 +70,10 @@ pub record RefusesOnly {X A : Type 0} (result : Result A GrowError) (wanted : �
 pub record IsClean {X : Type 0} (w : ℕ) (v : Held X) : Type 0 where
   pub head : v.head ≡ 0
   pub row : v.row ≡ sized w v.list (length v.list)
+
+-- A copy: the same list at the same head, and each dead bit is false.
+pub record IsCopy {X : Type 0} (w : ℕ) (old new : Held X) : Type 0 where
+  pub head : new.head ≡ old.head
+  pub list : new.list ≡ old.list
+  pub row : new.row ≡ filled old.row old.head (length old.list) false
+  pub clean : old.head ≡ 0 → IsClean w new

@@ -1,3 +1,4 @@
 pub mod BitVec
+pub mod Examples
 pub mod Lends
 pub mod Machine

@@ -1,5 +1,5 @@
 -- Which calls leave a clean vector clean: its head is 0, and its row is the list and then false.
-use Rattle.std.proofs.Common.{true, false, Some, [], ◌∷◌, ◌++◌, map, leb, ltb, ◌&&◌, if◌then◌else◌, get_or, insert, subst, ◌≢◌, take, drop, set, replicate, slice_range, ◌≡◌, ℕ, ◌+◌, ◌-◌, ◌*◌, ◌<◌, ◌≤◌, List, Bool, length, sym, ◌∙◌, ap, refl, arith, rules}
+use Rattle.std.proofs.Common.{true, false, Some, [], ◌∷◌, ◌++◌, map, leb, ltb, ◌&&◌, if◌then◌else◌, get_or, insert, subst, ◌≢◌, set, slice_range, ◌≡◌, ℕ, ◌+◌, ◌-◌, ◌*◌, ◌<◌, ◌≤◌, List, Bool, length, sym, ◌∙◌, ap, refl, arith, rules}
 use Rattle.std.proofs.lemmas.List.{length-append, same_lists, places, ext_get_or}
 use Rattle.bit_addressing.specs.Bits.{IsWidth}
 use Rattle.bit_addressing.specs.declared.store.BitStore as store

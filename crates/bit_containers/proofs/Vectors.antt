@@ -1,5 +1,5 @@
 -- What holds of each vector.
-use Rattle.std.proofs.Common.{false, map, slice_range, ◌≡◌, ℕ, ◌+◌, ◌-◌, ◌*◌, ◌^◌, ◌<◌, ◌≤◌, List, Bool, length, min, sym, ◌∙◌, ap, subst, refl, arith}
+use Rattle.std.proofs.Common.{false, map, slice_range, ◌≡◌, ℕ, ◌+◌, ◌*◌, ◌<◌, ◌≤◌, List, Bool, length, sym, ◌∙◌, ap, subst, refl, arith}
 use Rattle.std.proofs.Common.{inl, inr}
 use Rattle.std.proofs.lemmas.Bool.{cases_lt}
 use Rattle.std.proofs.Math.Nat.{mul-le-mul_left}

@@ -1,5 +1,5 @@
 -- The definitions on small inputs.
-use Rattle.std.specs.Prelude.{◌≡◌, ℕ, ◌+◌, ◌-◌, ◌^◌, ◌<◌, Bool, true, false, [], ◌∷◌, List, length, take, refl, Option, Some, None, slice_get}
+use Rattle.std.specs.Prelude.{◌≡◌, ℕ, ◌-◌, ◌^◌, Bool, true, false, [], ◌∷◌, List, length, take, refl, Option, Some, None, slice_get}
 use Rattle.std.proofs.Common.{get_or, inl, inr, ap, sym, arith}
 use Rattle.std.proofs.lemmas.Bool.{true≢false}
 use Rattle.bit_addressing.specs.declared.length.TheConstants.{MAX_BITS}

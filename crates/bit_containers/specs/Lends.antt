@@ -1,5 +1,5 @@
 -- Where writes through lent words land.
-use Rattle.std.specs.Prelude.{ℕ, ◌+◌, List, length, slice_range}
+use Rattle.std.specs.Prelude.{◌+◌, List, length, slice_range}
 use Rattle.std.specs.Borrow.{Lends, follows, Fml, RattleType, MutBor, Array, GName}
 use Rattle.std.specs.List.{refill}
 use Rattle.bit_addressing.specs.declared.store.BitStore as store

@@ -1,9 +1,10 @@
 //! Callers that want the list.
-ghost use Rattle.std.specs.Prelude.{◌≡◌, ◌+◌, ◌-◌, ◌<◌, ◌≤◌, ◌↔◌, Some, None, Ok, Err, true, false, not, [], ◌∷◌, ◌++◌, length, set, insert, swap, count_by, slice_get, slice_range, OnOk, OnErr, IfOk};
+ghost use Rattle.std.specs.Prelude.{◌≡◌, ◌+◌, ◌-◌, ◌*◌, ◌<◌, ◌≤◌, ◌↔◌, Some, None, Ok, Err, true, false, not, [], ◌∷◌, ◌++◌, length, set, insert, swap, count_by, slice_get, slice_range, OnOk, OnErr, IfOk};
 ghost use Rattle.bit_addressing.specs.declared.length.TheConstants.{MAX_BITS};
 ghost use Rattle.bit_slice.specs.View.{list_of};
 
 use crate::{BitOrder, BitStore, BitVec, GrowError, Lsb0, Msb0};
+use bit_addressing::write_bit;
 use std::alloc::{AllocError, Global};
 
 pub fn push_two<T: BitStore, O: BitOrder>(v: &mut BitVec<T, O>, bit: bool) -> Result<(), GrowError>
@@ -146,6 +147,13 @@ pub fn words_written(v: &mut BitVec<u8, Lsb0>)
     ensures { v.new.list ≡ true ∷ false ∷ true ∷ false ∷ [] }
 {
     v.as_raw_mut_slice()[0] = 0xf5;
+}
+
+pub fn written_by_a_function<T: BitStore, O: BitOrder>(v: &mut BitVec<T, O>, at: usize)
+    requires { at < T.BITS * length v.old.words }
+    ensures { v.new.row ≡ set v.old.row at true }
+{
+    write_bit::<T, O>(v.as_raw_mut_slice(), at, true);
 }
 
 pub fn exchanged<T: BitStore, O: BitOrder>(v: &mut BitVec<T, O>, i: usize, bit: bool) -> bool

@@ -43,7 +43,7 @@ impl<T: BitStore, O: BitOrder> BitVec<T, O> {
         ensures row { OnOk result (Grew T.BITS self.old self.new (bit ∷ [])) }
         ensures clean { OnOk result (IsClean T.BITS self.old → IsClean T.BITS self.new) }
         ensures refusal { RefusesOnly result (length self.old.list + 1) self.old self.new }
-        ensures few { length self.old.list ≤ MAX_BITS }
+        ensures bound { length self.old.list ≤ MAX_BITS }
         ensures capacity { self.old.capacity ≤ self.new.capacity }
     {
         if self.len == MAX_BITS {

@@ -1,6 +1,5 @@
-use Rattle.std.proofs.Common.{◌≡◌, ℕ, ◌+◌, ◌-◌, ◌*◌, ◌<◌, ◌≤◌, Bool, List, true, false, Some, [], ◌∷◌, ◌++◌, length, take, set, get_or, slice_range, rules, refl, sym, ◌∙◌, ap, subst, arith}
-use Rattle.std.specs.Prelude.{insert, remove, slice_get}
-use Rattle.bit_addressing.specs.Row.{moved, sized, words_for}
+use Rattle.std.proofs.Common.{◌≡◌, ◌+◌, ◌*◌, ◌≤◌, length, slice_range, rules, refl, sym, ◌∙◌, ap, arith}
+use Rattle.bit_addressing.specs.Row.{moved, sized}
 use Rattle.bit_addressing.specs.Typed.{row}
 use Rattle.bit_addressing.proofs.Rows.{width_positive}
 use Rattle.bit_addressing.proofs.MovedLists.{aligned_shows}

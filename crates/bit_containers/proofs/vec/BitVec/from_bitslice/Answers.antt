@@ -1,5 +1,5 @@
-use Rattle.std.proofs.Common.{◌≡◌, ◌+◌, ◌*◌, ◌<◌, ◌≤◌, ◌++◌, false, length, slice_range, sym, ◌∙◌, ap, arith}
-use Rattle.bit_addressing.specs.Row.{words_for, filled}
+use Rattle.std.proofs.Common.{◌≡◌, ◌+◌, ◌*◌, ◌≤◌, ◌++◌, false, length, ◌∙◌, ap, arith}
+use Rattle.bit_addressing.specs.Row.{words_for}
 use Rattle.bit_addressing.specs.Typed.{row}
 use Rattle.bit_addressing.proofs.Lists.{room, shows_filled}
 use Rattle.bit_addressing.proofs.Rows.{width_positive, width_small}

@@ -1,9 +1,8 @@
-use Rattle.std.proofs.Common.{◌≡◌, ◌+◌, ◌*◌, ◌<◌, ◌≤◌, false, length, map, slice_range, sym, ◌∙◌, ap, arith}
-use Rattle.bit_addressing.specs.Row.{sized}
+use Rattle.std.proofs.Common.{◌+◌, length, slice_range, ◌∙◌, ap, arith}
 use Rattle.bit_addressing.specs.Typed.{row}
 use Rattle.bit_addressing.proofs.Lists.{shows_filled}
 use Rattle.bit_addressing.proofs.Rows.{width_positive, width_small}
-use Rattle.bit_containers.proofs.Vectors.{shown, shown_length, canonical, few_words}
+use Rattle.bit_containers.proofs.Vectors.{shown, canonical, few_words}
 use Rattle.bit_containers.proofs.vec.BitVec.set_uninitialized.Goals as goal
 
 pub fill_outside_in-requires-clause-fits : goal.fill_outside_in-requires-clause-fits

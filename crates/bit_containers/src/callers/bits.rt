@@ -1,7 +1,6 @@
 //! Callers that want the list.
-ghost use Rattle.std.specs.Prelude.{◌≡◌, ◌+◌, ◌-◌, ◌*◌, ◌<◌, ◌≤◌, ◌↔◌, Some, None, Ok, Err, true, false, not, [], ◌∷◌, ◌++◌, length, set, insert, swap, count_by, slice_get, slice_range, OnOk, OnErr, IfOk};
+ghost use Rattle.std.specs.Prelude.{◌≡◌, ◌+◌, ◌-◌, ◌*◌, ◌<◌, ◌≤◌, ◌↔◌, Some, Ok, Err, true, false, [], ◌∷◌, ◌++◌, length, set, insert, swap, slice_get, slice_range, OnOk, OnErr, IfOk};
 ghost use Rattle.bit_addressing.specs.declared.length.TheConstants.{MAX_BITS};
-ghost use Rattle.bit_slice.specs.View.{list_of};
 
 use crate::{BitOrder, BitStore, BitVec, GrowError, Lsb0, Msb0};
 use bit_addressing::write_bit;

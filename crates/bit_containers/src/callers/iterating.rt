@@ -1,5 +1,5 @@
 //! Callers that go over the bits.
-ghost use Rattle.std.specs.Prelude.{◌≡◌, ◌≤◌, length, map, not, slice_get, count_by, reverse, IfOk};
+ghost use Rattle.std.specs.Prelude.{◌≡◌, length, map, not, slice_get, count_by, reverse, IfOk};
 
 use crate::{BitOrder, BitStore, BitVec};
 use std::alloc::{AllocError, Global};

@@ -6,12 +6,19 @@ use Rattle.bit_addressing.specs.declared.length.GrowError.{GrowError}
 use Rattle.std.proofs.lemmas.List.{take_more}
 use Rattle.bit_addressing.specs.declared.length.TheConstants.{MAX_BITS}
 use Rattle.bit_containers.specs.declared.machine.Command.{Command}
-use Rattle.bit_containers.specs.Machine.{list_after_one, reply_to, list_after, replies_of, AllFit, new_length, IsRefusal, IsStopReason}
+use Rattle.bit_containers.specs.Machine.{list_after_one, reply_to, list_after, replies_of, head_after_one, head_after, AllFit, new_length, IsRefusal, IsStopReason}
 
 -- a run goes on where another ended
 pub list_after-append : (list : List Bool) (xs ys : List Command) → list_after list (xs ++ ys) ≡ list_after (list_after list xs) ys
 list_after-append list [] ys = refl
 list_after-append list (x ∷ xs) ys = list_after-append (list_after_one list x) xs ys
+
+pub head_after-append : (head : ℕ) (xs ys : List Command) → head_after head (xs ++ ys) ≡ head_after (head_after head xs) ys
+head_after-append head [] ys = refl
+head_after-append head (x ∷ xs) ys = head_after-append (head_after_one head x) xs ys
+
+pub head_after-next : (head : ℕ) (cs : List Command) (i : ℕ) (d : Command) → i < length cs → head_after head (take (i + 1) cs) ≡ head_after_one (head_after head (take i cs)) (get_or cs i d)
+head_after-next head cs i d h = ap (λ xs. head_after head xs) (take_more cs i d h) ∙ head_after-append head (take i cs) (get_or cs i d ∷ [])
 
 pub replies_of-append : (list : List Bool) (xs ys : List Command) → replies_of list (xs ++ ys) ≡ replies_of list xs ++ replies_of (list_after list xs) ys
 replies_of-append list [] ys = refl

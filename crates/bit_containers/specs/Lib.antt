@@ -1,4 +1,4 @@
-pub mod Held
-pub mod Growth
+pub mod BitVec
+pub mod Examples
 pub mod Lends
 pub mod Machine

@@ -56,6 +56,25 @@ abbrev pub list_after : List Bool → List Command → List Bool
 list_after list [] = list
 list_after list (command ∷ commands) = list_after (list_after_one list command) commands
 
+-- the head after a command
+abbrev pub head_after_one : ℕ → Command → ℕ
+head_after_one head (Push b) = head
+head_after_one head Pop = head
+head_after_one head (Get i) = head
+head_after_one head (Set i b) = head
+head_after_one head (Insert i b) = head
+head_after_one head (Remove i) = head
+head_after_one head (SwapRemove i) = head
+head_after_one head (Truncate n) = head
+head_after_one head (CopyWithin from upto dest) = head
+head_after_one head Align = 0
+head_after_one head Len = head
+
+-- the head after commands
+abbrev pub head_after : ℕ → List Command → ℕ
+head_after head [] = head
+head_after head (command ∷ commands) = head_after (head_after_one head command) commands
+
 -- the replies to commands
 abbrev pub replies_of : List Bool → List Command → List Reply
 replies_of list [] = []

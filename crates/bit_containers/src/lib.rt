@@ -8,6 +8,10 @@ mod machine;
 mod tests;
 mod vec;
 
-pub use bit_addressing::{BitOrder, BitRegister, BitStore, GrowError, Lsb0, MAX_BITS, Msb0};
+pub use bit_addressing::{
+    BitEnd, BitIdx, BitOrder, BitPos, BitRegister, BitStore, GrowError, Lsb0, MAX_BITS, Msb0,
+    RangeExt, elts,
+};
+pub use bit_slice::{BitSlice, BitSliceMut, CountedMut, Iter};
 pub use machine::{Command, Reply, Stop, run};
 pub use vec::BitVec;

@@ -1,7 +1,7 @@
 //! Runs of commands.
-ghost use Rattle.std.specs.Prelude.{◌≡◌, ℕ, ◌+◌, ◌-◌, ◌<◌, ◌≤◌, List, [], ◌∷◌, ◌++◌, length, take, OnOk, OnErr, IfOk, IfErr, MatchResult};
+ghost use Rattle.std.specs.Prelude.{◌⊎◌, Err, ◌≡◌, ◌+◌, ◌-◌, ◌<◌, ◌≤◌, ◌++◌, length, take, OnOk, OnErr, IfOk, IfErr};
 ghost use Rattle.bit_addressing.specs.declared.length.TheConstants.{MAX_BITS};
-ghost use Rattle.bit_containers.specs.Machine.{list_after_one, reply_to, list_after, replies_of, AllFit, IsRefusal, IsStopReason, new_length};
+ghost use Rattle.bit_containers.specs.Machine.{list_after_one, reply_to, list_after, replies_of, head_after_one, head_after, AllFit, IsRefusal, IsStopReason, new_length};
 
 use crate::vec::BitVec;
 use bit_addressing::{BitOrder, BitStore, GrowError};
@@ -60,6 +60,8 @@ pub struct Stop {
 /// Writes a bit, where the index is below the length.
 fn set_at<T: BitStore, O: BitOrder>(v: &mut BitVec<T, O>, i: usize, b: bool) -> Reply
     ensures reply { result ≡ reply_to v.old.list (Command.Set i b) }
+    ensures head { v.new.head ≡ v.old.head }
+    ensures capacity { v.old.capacity ≤ v.new.capacity }
     ensures list { v.new.list ≡ list_after_one v.old.list (Command.Set i b) }
     ensures len { length v.new.list ≡ length v.old.list }
 {
@@ -78,6 +80,9 @@ fn insert_at<T: BitStore, O: BitOrder>(
     b: bool,
 ) -> Result<Reply, GrowError>
     ensures reply { IfOk result (λ reply. reply ≡ reply_to v.old.list (Command.Insert i b)) }
+    ensures head { v.new.head ≡ v.old.head }
+    ensures capacity { v.old.capacity ≤ v.new.capacity }
+    ensures memory { result ≡ Err GrowError.OutOfMemory → v.old.capacity < length v.old.list + 1 }
     ensures list { OnOk result (v.new.list ≡ list_after_one v.old.list (Command.Insert i b)) }
     ensures fits { OnOk result (new_length v.old.list (Command.Insert i b) ≤ MAX_BITS) }
     ensures unchanged { OnErr result (v.new.list ≡ v.old.list) }
@@ -94,6 +99,8 @@ fn insert_at<T: BitStore, O: BitOrder>(
 /// Takes a bit and closes up, where the index is below the length.
 fn remove_at<T: BitStore, O: BitOrder>(v: &mut BitVec<T, O>, i: usize) -> Reply
     ensures reply { result ≡ reply_to v.old.list (Command.Remove i) }
+    ensures head { v.new.head ≡ v.old.head }
+    ensures capacity { v.old.capacity ≤ v.new.capacity }
     ensures list { v.new.list ≡ list_after_one v.old.list (Command.Remove i) }
     ensures len { length v.new.list ≤ length v.old.list }
 {
@@ -107,6 +114,8 @@ fn remove_at<T: BitStore, O: BitOrder>(v: &mut BitVec<T, O>, i: usize) -> Reply
 /// Takes a bit and puts the last in its place, where the index is below the length.
 fn swap_remove_at<T: BitStore, O: BitOrder>(v: &mut BitVec<T, O>, i: usize) -> Reply
     ensures reply { result ≡ reply_to v.old.list (Command.SwapRemove i) }
+    ensures head { v.new.head ≡ v.old.head }
+    ensures capacity { v.old.capacity ≤ v.new.capacity }
     ensures list { v.new.list ≡ list_after_one v.old.list (Command.SwapRemove i) }
     ensures len { length v.new.list ≤ length v.old.list }
 {
@@ -125,6 +134,8 @@ fn copy_at<T: BitStore, O: BitOrder>(
     dest: usize,
 ) -> Reply
     ensures reply { result ≡ reply_to v.old.list (Command.CopyWithin from upto dest) }
+    ensures head { v.new.head ≡ v.old.head }
+    ensures capacity { v.old.capacity ≤ v.new.capacity }
     ensures list { v.new.list ≡ list_after_one v.old.list (Command.CopyWithin from upto dest) }
     ensures len { length v.new.list ≡ length v.old.list }
 {
@@ -143,6 +154,10 @@ fn step<T: BitStore, O: BitOrder>(
     command: Command,
 ) -> Result<Reply, GrowError>
     ensures reply { IfOk result (λ reply. reply ≡ reply_to v.old.list command) }
+    ensures head { OnOk result (v.new.head ≡ head_after_one v.old.head command) }
+    ensures head_kept { OnErr result (v.new.head ≡ v.old.head) }
+    ensures capacity { v.old.capacity ≤ v.new.capacity }
+    ensures memory { result ≡ Err GrowError.OutOfMemory → v.old.capacity < length v.old.list + 1 }
     ensures list { OnOk result (v.new.list ≡ list_after_one v.old.list command) }
     ensures fits { OnOk result (new_length v.old.list command ≤ MAX_BITS) }
     ensures unchanged { OnErr result (v.new.list ≡ v.old.list) }
@@ -183,6 +198,10 @@ pub fn run<T: BitStore, O: BitOrder>(
     replies: &mut Vec<Reply>,
 ) -> Result<(), Stop>
     ensures replies { OnOk result (replies.new.items ≡ replies.old.items ++ replies_of v.old.list commands.now) }
+    ensures head { OnOk result (v.new.head ≡ head_after v.old.head commands.now) }
+    ensures stopped_head { IfErr result (λ stop. v.new.head ≡ head_after v.old.head (take stop.done commands.now)) }
+    ensures capacity { v.old.capacity ≤ v.new.capacity }
+    ensures memory { IfErr result (λ stop. stop.why ≡ GrowError.OutOfMemory → (stop.done ≡ 0) ⊎ (v.old.capacity < length v.new.list + 1)) }
     ensures list { OnOk result (v.new.list ≡ list_after v.old.list commands.now) }
     ensures fit { OnOk result (AllFit v.old.list commands.now) }
     ensures stopped_replies { IfErr result (λ stop.

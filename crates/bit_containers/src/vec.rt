@@ -1,18 +1,23 @@
 //! The vector: what it is, and how it is made and taken apart.
-ghost use Rattle.std.specs.Prelude.{◌≡◌, ◌*◌, ◌<◌, ◌≤◌, ◌↔◌, false, [], IsTrue, IfOk, OnErr, length};
+ghost use Rattle.std.specs.Prelude.{◌≡◌, ◌+◌, ◌*◌, ◌<◌, ◌≤◌, ◌↔◌, false, [], IsTrue, IfOk, OnErr, length, slice_range, vec_capacity};
 ghost use Rattle.bit_addressing.specs.declared.length.TheConstants.{MAX_BITS};
-ghost use Rattle.bit_addressing.specs.Row.{filled, moved, sized};
-ghost use Rattle.bit_addressing.specs.Typed.{row};
-ghost use Rattle.bit_slice.specs.View.{words_of, head_of, len_of, row_of, list_of};
+ghost use Rattle.bit_addressing.specs.Row.{filled, moved, sized, words_for};
+ghost use Rattle.bit_addressing.specs.Typed.{row, words_from, words_for_list};
+ghost use Rattle.bit_containers.specs.BitVec.{Stayed, IsClean, bits_in};
+ghost use Rattle.bit_slice.specs.BitSlice.{words_of, head_of, len_of, row_of, list_of};
 
 use bit_addressing::{
-    BitOrder, BitStore, Lsb0, MAX_BITS, cut_words, fill_outside_in, move_bits_in,
+    BitOrder, BitStore, Lsb0, MAX_BITS, cut_words, exact_words, fill_outside_in, move_bits_in,
 };
 use bit_slice::BitSlice;
 use std::alloc::{AllocError, Global};
 use std::marker::{Model, PhantomData};
 
 mod api;
+mod capacity;
+mod iter;
+mod ops;
+mod slice;
 mod traits;
 mod views;
 
@@ -23,7 +28,7 @@ mod views;
 /// The other bits of those words are dead.
 ///
 /// In contracts a vector `v` is its visible words `v.words`, their bits in a row `v.row`, the head
-/// `v.head`, the length in bits `v.len`, the list `v.list` and the capacity in bits `v.capacity`.
+/// `v.head`, the list `v.list` and the capacity in bits `v.capacity`.
 ///
 /// ```text
 /// let mut v = BitVec::<u8, Msb0>::new(alloc);
@@ -42,24 +47,26 @@ pub struct BitVec<T: BitStore = usize, O: BitOrder = Lsb0> {
 impl<T: BitStore, O: BitOrder> Model for BitVec<T, O> {
     ghost use Rattle.std.specs.Prelude.{◌+◌, length, slice_range, vec_capacity};
     ghost use Rattle.bit_addressing.specs.Typed.{row};
-    ghost use Rattle.bit_containers.specs.Held.{Held, IsVector, held_code, bits_in};
+    ghost use Rattle.bit_containers.specs.BitVec.{Held, IsVector, held_code, bits_in};
 
     ghost Value = { Held T };
 
     ghost coded = { held_code T.code };
 
-    ghost view = { λ v. record { words = v.words.items; row = row T.BitStore O.BitOrder v.words.items; head = v.head; len = v.len; list = slice_range (row T.BitStore O.BitOrder v.words.items) v.head (v.head + v.len); capacity = bits_in T.BITS (vec_capacity v.words) v.head } };
+    ghost view = { λ v. record { words = v.words.items; row = row T.BitStore O.BitOrder v.words.items; head = v.head; list = slice_range (row T.BitStore O.BitOrder v.words.items) v.head (v.head + v.len); capacity = bits_in T.BITS (vec_capacity v.words) v.head } };
 
-    ghost invariant = { λ v. IsVector T.BITS (length v.words.items) v.head v.len };
+    ghost invariant = { λ v. IsVector T.BITS (length v.words.items) v.head v.len (length (slice_range (row T.BitStore O.BitOrder v.words.items) v.head (v.head + v.len))) };
 }
 
 impl<T: BitStore, O: BitOrder> BitVec<T, O> {
     /// The empty vector: head 0, and no word. Takes no memory.
     pub fn new(alloc: Global) -> Self
         ensures words { result.words ≡ [] }
+        ensures row { result.row ≡ [] }
         ensures head { result.head ≡ 0 }
-        ensures len { result.len ≡ 0 }
         ensures list { result.list ≡ [] }
+        ensures clean { IsClean T.BITS result }
+        ensures capacity { result.capacity ≡ 0 }
     {
         BitVec {
             words: Vec::new(alloc),
@@ -81,9 +88,10 @@ impl<T: BitStore, O: BitOrder> BitVec<T, O> {
         requires { T.BITS * length words.items ≤ MAX_BITS }
         ensures words { result.words ≡ words.items }
         ensures head { result.head ≡ 0 }
-        ensures len { result.len ≡ T.BITS * length words.items }
         ensures row { result.row ≡ row T.BitStore O.BitOrder words.items }
         ensures list { result.list ≡ row T.BitStore O.BitOrder words.items }
+        ensures clean { IsClean T.BITS result }
+        ensures capacity { result.capacity ≡ bits_in T.BITS (vec_capacity words) 0 }
     {
         let len = T::BITS as usize * words.len();
         BitVec {
@@ -96,11 +104,12 @@ impl<T: BitStore, O: BitOrder> BitVec<T, O> {
 
     /// The bits of a view: its head is kept, its words are copied, and their dead bits are false. Takes
     /// memory where the view has a word, and is refused only then.
+    #[tactic(auto, using(crate::proofs::Vectors::shown_length))]
     pub fn from_bitslice(alloc: Global, view: BitSlice<'_, T, O>) -> Result<Self, AllocError>
         ensures head { IfOk result (λ v. v.head ≡ head_of view.entry) }
-        ensures len { IfOk result (λ v. v.len ≡ len_of view.entry) }
         ensures list { IfOk result (λ v. v.list ≡ list_of view.entry) }
         ensures row { IfOk result (λ v. v.row ≡ filled (row_of view.entry) (head_of view.entry) (len_of view.entry) false) }
+        ensures clean { IfOk result (λ v. head_of view.entry ≡ 0 → IsClean T.BITS v) }
         ensures memory { OnErr result (0 < length (words_of view.entry)) }
     {
         let (head, len) = (view.head(), view.len());
@@ -115,22 +124,17 @@ impl<T: BitStore, O: BitOrder> BitVec<T, O> {
         })
     }
 
-    /// A copy: as `from_bitslice` of the vector's view.
-    pub fn clone(&self) -> Result<Self, AllocError>
-        ensures head { IfOk result (λ v. v.head ≡ self.now.head) }
-        ensures len { IfOk result (λ v. v.len ≡ self.now.len) }
-        ensures list { IfOk result (λ v. v.list ≡ self.now.list) }
-        ensures row { IfOk result (λ v. v.row ≡ filled self.now.row self.now.head self.now.len false) }
-        ensures memory { OnErr result (0 < length self.now.words) }
-    {
-        let alloc = *self.words.allocator();
-        Self::from_bitslice(alloc, self.as_bitslice())
-    }
-
     /// The visible words, as they are. Takes no memory.
     pub fn into_vec(self) -> Vec<T>
-        ensures { result.items ≡ self.words }
+        ensures words { result.items ≡ self.words }
+        ensures row { row T.BitStore O.BitOrder result.items ≡ self.row }
+        ensures from_row { result.items ≡ words_from T.BitStore O.BitOrder self.row }
+        ensures clean { IsClean T.BITS self → result.items ≡ words_for_list T.BitStore O.BitOrder self.list }
+        ensures exact { length result.items ≡ words_for T.BITS (self.head + length self.list) }
+        ensures shows { slice_range (row T.BitStore O.BitOrder result.items) self.head (self.head + length self.list) ≡ self.list }
+        ensures capacity { bits_in T.BITS (vec_capacity result) self.head ≡ self.capacity }
     {
+        exact_words::<T, O>(self.words.as_slice());
         self.words
     }
 
@@ -139,14 +143,25 @@ impl<T: BitStore, O: BitOrder> BitVec<T, O> {
     #[tactic(auto, using(crate::proofs::Vectors::shown_length))]
     pub fn force_align(&mut self)
         ensures head { self.new.head ≡ 0 }
-        ensures len { self.new.len ≡ self.old.len }
         ensures list { self.new.list ≡ self.old.list }
-        ensures row { self.new.row ≡ sized T.BITS (moved self.old.row self.old.head 0 self.old.len) self.old.len }
-        ensures capacity { self.old.capacity ≤ self.new.capacity }
-        ensures size { length self.new.list ≡ self.new.len }
+        ensures row { self.new.row ≡ sized T.BITS (moved self.old.row self.old.head 0 (length self.old.list)) (length self.old.list) }
+        ensures clean { IsClean T.BITS self.old → IsClean T.BITS self.new }
+        ensures capacity { self.new.capacity ≡ self.old.capacity + self.old.head }
     {
         move_bits_in::<T, O>(&mut self.words, self.head, 0, self.len);
         cut_words::<T, O>(&mut self.words, self.len);
         self.head = 0;
+    }
+
+    /// Makes every dead bit `bit`, and changes no bit of the list. Takes no memory. Where the head is 0 and
+    /// `bit` is false, the words are canonical: those of the list and then false.
+    #[tactic(auto, using(crate::proofs::Vectors::shown_length))]
+    pub fn set_uninitialized(&mut self, bit: bool)
+        ensures list { self.new.list ≡ self.old.list }
+        ensures row { self.new.row ≡ filled self.old.row self.old.head (length self.old.list) bit }
+        ensures clean { self.old.head ≡ 0 → bit ≡ false → IsClean T.BITS self.new }
+        ensures stayed { Stayed self.old self.new }
+    {
+        fill_outside_in::<T, O>(&mut self.words, self.head, self.len, bit);
     }
 }

@@ -2,4 +2,4 @@ pub mod Line
 pub mod Script
 pub mod Progress
 pub mod Served
-pub mod Rows
+pub mod Examples

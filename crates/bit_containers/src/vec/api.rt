@@ -1,22 +1,19 @@
-//! Reading and writing one bit, the ends of the vector, and its size.
-ghost use Rattle.std.specs.Prelude.{◌≡◌, ◌+◌, ◌-◌, ◌<◌, ◌≤◌, false, [], ◌∷◌, ◌++◌, length, min, set, take, insert, remove, OnOk, MatchOption, Some, slice_get, nat_eq};
+//! The size of the vector, its ends, and bits put in and taken out.
+ghost use Rattle.std.specs.Prelude.{◌≡◌, ◌≢◌, ◌+◌, ◌-◌, ◌<◌, ◌≤◌, false, true, [], ◌∷◌, ◌++◌, length, min, take, insert, remove, OnOk, MatchOption, Some, slice_get, IsTrue, IsSome, ◌↔◌};
 ghost use Rattle.std.specs.List.{swap_remove};
-ghost use Rattle.bit_addressing.specs.Row.{moved};
 ghost use Rattle.bit_addressing.specs.declared.length.TheConstants.{MAX_BITS};
-ghost use Rattle.bit_containers.specs.Growth.{Grew, Shrank, Stayed, RefusesOnly};
+ghost use Rattle.bit_containers.specs.BitVec.{Grew, Shrank, IsClean, RefusesOnly};
 
 use crate::vec::BitVec;
 use bit_addressing::{
-    BitOrder, BitStore, GrowError, MAX_BITS, RangeExt, cut_words, move_bits_in, push_bit, read_bit,
+    BitOrder, BitStore, GrowError, MAX_BITS, cut_words, move_bits_in, push_bit, read_bit,
     write_bit_in,
 };
 
 impl<T: BitStore, O: BitOrder> BitVec<T, O> {
     /// The length, in bits.
-    #[tactic(auto, using(crate::proofs::Vectors::shown_length))]
     pub fn len(&self) -> usize
-        ensures value { result ≡ self.now.len }
-        ensures of_list { result ≡ length self.now.list }
+        ensures value { result ≡ length self.now.list }
         ensures bound { result ≤ MAX_BITS }
     {
         self.len
@@ -32,61 +29,9 @@ impl<T: BitStore, O: BitOrder> BitVec<T, O> {
 
     /// Whether there is no bit.
     pub fn is_empty(&self) -> bool
-        ensures { result ≡ nat_eq self.now.len 0 }
+        ensures { IsTrue result ↔ (length self.now.list ≡ 0) }
     {
         self.len == 0
-    }
-
-    /// How many bits the vector has room for without new memory: the bits of the words that fit, less
-    /// the head; `usize::MAX` less the head where those bits pass `usize::MAX`.
-    pub fn capacity(&self) -> usize
-        ensures value { result ≡ self.now.capacity }
-        ensures enough { self.now.len ≤ result }
-    {
-        let all = self.words.capacity().saturating_mul(T::BITS as usize);
-        all - self.head
-    }
-
-    /// The bit at `i`. None exactly where `i` is the length or more.
-    pub fn get(&self, i: usize) -> Option<bool>
-        ensures { result ≡ slice_get self.now.list i }
-    {
-        if i < self.len {
-            Some(read_bit::<T, O>(self.words.as_slice(), self.head + i))
-        } else {
-            None
-        }
-    }
-
-    /// Writes the bit at `i`, and no other bit. Takes no memory. The condition: `i` is below the length.
-    #[tactic(auto, using(crate::proofs::Vectors::shown_length))]
-    pub fn set(&mut self, i: usize, bit: bool)
-        requires { i < self.old.len }
-        ensures list { self.new.list ≡ set self.old.list i bit }
-        ensures row { self.new.row ≡ set self.old.row (self.old.head + i) bit }
-        ensures stayed { Stayed self.old self.new }
-        ensures size { length self.new.list ≡ self.new.len }
-    {
-        write_bit_in::<T, O>(&mut self.words, self.head + i, bit);
-    }
-
-    /// Copies the range's bits to the places from `dest` on, as if they were copied out first. No other bit
-    /// changes, dead bits included. It is one counted move of the words. Takes no memory. The condition:
-    /// the range lies in the length, and its bits have room from `dest` on.
-    #[tactic(auto, using(crate::proofs::Vectors::shown_length))]
-    pub fn copy_within<R: RangeExt>(&mut self, range: R, dest: usize)
-        requires order { R.start_of range ≤ R.end_of range self.old.len }
-        requires within { R.end_of range self.old.len ≤ self.old.len }
-        requires room { dest + (R.end_of range self.old.len - R.start_of range) ≤ self.old.len }
-        ensures list { self.new.list ≡ moved self.old.list (R.start_of range) dest (R.end_of range self.old.len - R.start_of range) }
-        ensures row { self.new.row ≡ moved self.old.row (self.old.head + R.start_of range) (self.old.head + dest) (R.end_of range self.old.len - R.start_of range) }
-        ensures stayed { Stayed self.old self.new }
-        ensures size { length self.new.list ≡ self.new.len }
-    {
-        let len = self.len;
-        let range = range.normalize(len);
-        let (from, to) = (self.head + range.start, self.head + dest);
-        move_bits_in::<T, O>(&mut self.words, from, to, range.end - range.start);
     }
 
     /// Joins a bit at the end. A word of zero is added only where no visible word has room, and no other
@@ -96,9 +41,10 @@ impl<T: BitStore, O: BitOrder> BitVec<T, O> {
     pub fn push(&mut self, bit: bool) -> Result<(), GrowError>
         ensures list { OnOk result (self.new.list ≡ self.old.list ++ bit ∷ []) }
         ensures row { OnOk result (Grew T.BITS self.old self.new (bit ∷ [])) }
-        ensures refusal { RefusesOnly result (self.old.len + 1) self.old self.new }
+        ensures clean { OnOk result (IsClean T.BITS self.old → IsClean T.BITS self.new) }
+        ensures refusal { RefusesOnly result (length self.old.list + 1) self.old self.new }
+        ensures bound { length self.old.list ≤ MAX_BITS }
         ensures capacity { self.old.capacity ≤ self.new.capacity }
-        ensures size { length self.new.list ≡ self.new.len }
     {
         if self.len == MAX_BITS {
             return Err(GrowError::TooLong);
@@ -112,14 +58,18 @@ impl<T: BitStore, O: BitOrder> BitVec<T, O> {
     }
 
     /// Takes the last bit. None exactly where the vector is empty. A word that is left with no bit of the
-    /// vector is dropped, and nothing is written. Takes no memory.
+    /// vector is dropped, and nothing is written. Takes no memory. The bit can be put back: as many bits as
+    /// before fit, with no new memory.
     #[tactic(auto, using(crate::proofs::Vectors::shown_length))]
     pub fn pop(&mut self) -> Option<bool>
-        ensures answer { MatchOption result (self.old.len ≡ 0) (λ bit. self.old.list ≡ self.new.list ++ bit ∷ []) }
-        ensures value { result ≡ slice_get self.old.list (self.old.len - 1) }
-        ensures list { self.new.list ≡ take (self.old.len - 1) self.old.list }
-        ensures row { Shrank T.BITS self.old self.new (self.old.len - 1) }
-        ensures size { length self.new.list ≡ self.new.len }
+        ensures answer { MatchOption result (length self.old.list ≡ 0) (λ bit. self.old.list ≡ self.new.list ++ bit ∷ []) }
+        ensures value { result ≡ slice_get self.old.list (length self.old.list - 1) }
+        ensures list { self.new.list ≡ take (length self.old.list - 1) self.old.list }
+        ensures bound { length self.old.list ≤ MAX_BITS }
+        ensures room { length self.old.list ≤ self.new.capacity }
+        ensures clean { result ≢ Some true → IsClean T.BITS self.old → IsClean T.BITS self.new }
+        ensures row { Shrank T.BITS self.old self.new (length self.old.list - 1) }
+        ensures variant { IsSome result ↔ (0 < length self.old.list) }
     {
         if self.len == 0 {
             return None;
@@ -136,8 +86,7 @@ impl<T: BitStore, O: BitOrder> BitVec<T, O> {
     #[tactic(auto, using(crate::proofs::Vectors::shown_length))]
     pub fn truncate(&mut self, n: usize)
         ensures list { self.new.list ≡ take n self.old.list }
-        ensures row { Shrank T.BITS self.old self.new (min n self.old.len) }
-        ensures size { length self.new.list ≡ self.new.len }
+        ensures row { Shrank T.BITS self.old self.new (min n (length self.old.list)) }
     {
         if n < self.len {
             cut_words::<T, O>(&mut self.words, self.head + n);
@@ -150,13 +99,13 @@ impl<T: BitStore, O: BitOrder> BitVec<T, O> {
     /// is at most the length. What becomes of dead bits is open.
     #[tactic(auto, using(crate::proofs::Vectors::shown_length))]
     pub fn insert(&mut self, i: usize, bit: bool) -> Result<(), GrowError>
-        requires { i ≤ self.old.len }
+        requires { i ≤ length self.old.list }
         ensures list { OnOk result (self.new.list ≡ insert self.old.list i bit) }
+        ensures len { OnOk result (length self.new.list ≡ length self.old.list + 1) }
         ensures head { self.new.head ≡ self.old.head }
-        ensures len { OnOk result (self.new.len ≡ self.old.len + 1) }
-        ensures refusal { RefusesOnly result (self.old.len + 1) self.old self.new }
+        ensures clean { OnOk result (IsClean T.BITS self.old → IsClean T.BITS self.new) }
+        ensures refusal { RefusesOnly result (length self.old.list + 1) self.old self.new }
         ensures capacity { self.old.capacity ≤ self.new.capacity }
-        ensures size { length self.new.list ≡ self.new.len }
     {
         self.push(bit)?;
         let at = self.head + i;
@@ -170,13 +119,12 @@ impl<T: BitStore, O: BitOrder> BitVec<T, O> {
     /// below the length. What becomes of dead bits is open.
     #[tactic(auto, using(crate::proofs::Vectors::shown_length))]
     pub fn remove(&mut self, i: usize) -> bool
-        requires { i < self.old.len }
+        requires { i < length self.old.list }
         ensures answer { slice_get self.old.list i ≡ Some result }
         ensures list { self.new.list ≡ remove self.old.list i }
         ensures head { self.new.head ≡ self.old.head }
-        ensures len { self.new.len + 1 ≡ self.old.len }
+        ensures len { length self.new.list + 1 ≡ length self.old.list }
         ensures capacity { self.new.capacity ≡ self.old.capacity }
-        ensures size { length self.new.list ≡ self.new.len }
     {
         let at = self.head + i;
         let less = self.len - 1;
@@ -191,13 +139,12 @@ impl<T: BitStore, O: BitOrder> BitVec<T, O> {
     /// condition: `i` is below the length. What becomes of dead bits is open.
     #[tactic(auto, using(crate::proofs::Vectors::shown_length))]
     pub fn swap_remove(&mut self, i: usize) -> bool
-        requires { i < self.old.len }
+        requires { i < length self.old.list }
         ensures answer { slice_get self.old.list i ≡ Some result }
         ensures list { self.new.list ≡ swap_remove self.old.list i false }
         ensures head { self.new.head ≡ self.old.head }
-        ensures len { self.new.len + 1 ≡ self.old.len }
+        ensures len { length self.new.list + 1 ≡ length self.old.list }
         ensures capacity { self.new.capacity ≡ self.old.capacity }
-        ensures size { length self.new.list ≡ self.new.len }
     {
         let at = self.head + i;
         let less = self.len - 1;

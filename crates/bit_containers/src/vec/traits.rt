@@ -4,7 +4,23 @@ ghost use Rattle.bit_addressing.specs.Text.{list_text};
 
 use crate::vec::BitVec;
 use bit_addressing::{BitOrder, BitStore};
+use std::alloc::AllocError;
 use std::fmt;
+
+impl<T: BitStore, O: BitOrder> Clone for BitVec<T, O> {
+    ghost use Rattle.std.specs.Prelude.{◌≡◌, []};
+    ghost use Rattle.bit_containers.specs.BitVec.{IsCopy};
+
+    ghost is_clone = { IsCopy T.BITS };
+
+    ghost is_infallible = { λ v. v.words ≡ [] };
+
+    /// A copy: as `from_bitslice` of the vector's view. Takes memory where there is a word.
+    fn clone(&self) -> Result<Self, AllocError> {
+        let alloc = *self.words.allocator();
+        Self::from_bitslice(alloc, self.as_bitslice())
+    }
+}
 
 /// `[`, the digits of the list joined by `, `, and `]`. Flags and widths have no effect.
 ///

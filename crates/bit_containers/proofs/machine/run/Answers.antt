@@ -1,15 +1,18 @@
 use Rattle.std.proofs.Common.{rules, append_assoc, false}
 use Rattle.bit_containers.specs.declared.machine.Command.TheVariants.{Push}
-use Rattle.bit_containers.proofs.Runs.{list_after-next, replies_of-next, AllFit-next, stopped_at}
+use Rattle.bit_containers.proofs.Runs.{list_after-next, head_after-next, replies_of-next, AllFit-next, stopped_at}
 use Rattle.bit_containers.proofs.machine.run.Goals as goal
 
 pub loop-done-preserved : goal.loop-done-preserved
 loop-done-preserved g c =
     let lists = list_after-next c.args.v.now.list c.args.commands.now c.loop-done.done (Push false) c.loop-done-test.true in
+    let heads = head_after-next c.args.v.now.head c.args.commands.now c.loop-done.done (Push false) c.loop-done-test.true in
     let replies = replies_of-next c.args.v.now.list c.args.commands.now c.loop-done.done (Push false) c.loop-done-test.true in
     let fits = AllFit-next c.args.v.now.list c.args.commands.now c.loop-done.done (Push false) c.loop-done-test.true c.loop-done.invariant.fit in
     record {
       replies = rw (replies, ← append_assoc, ← c.loop-done.invariant.replies, ← c.loop-done.invariant.list, ← c.in-Ok.ensures.reply) c.push_reserved.ensures.items;
+      head = rw (heads, ← c.loop-done.invariant.head) c.in-Ok.ensures.head;
+      capacity = search rules;
       list = rw (lists, ← c.loop-done.invariant.list) c.in-Ok.ensures.list;
       fit = fits (rw (← c.loop-done.invariant.list) c.in-Ok.ensures.fits);
       room = search rules;

@@ -1,11 +1,10 @@
-use Rattle.std.proofs.Common.{◌≡◌, ℕ, ◌+◌, ◌-◌, ◌*◌, ◌<◌, ◌≤◌, Bool, List, true, false, Some, [], ◌∷◌, ◌++◌, length, take, set, get_or, slice_range, refl, sym, ◌∙◌, ap, subst, arith}
-use Rattle.std.specs.Prelude.{insert, remove, slice_get}
-use Rattle.bit_addressing.specs.Row.{moved, sized, words_for}
+use Rattle.std.proofs.Common.{◌≡◌, ◌+◌, ◌*◌, ◌≤◌, length, slice_range, rules, refl, sym, ◌∙◌, ap, arith}
+use Rattle.bit_addressing.specs.Row.{moved, sized}
 use Rattle.bit_addressing.specs.Typed.{row}
 use Rattle.bit_addressing.proofs.Rows.{width_positive}
-use Rattle.bit_addressing.proofs.Lists.{length-shows}
 use Rattle.bit_addressing.proofs.MovedLists.{aligned_shows}
-use Rattle.bit_containers.proofs.Vectors.{few_words, shown}
+use Rattle.bit_containers.proofs.Vectors.{few_words, shown, shown_length}
+use Rattle.bit_containers.proofs.Clean.{clean_aligned}
 use Rattle.bit_containers.proofs.vec.BitVec.force_align.Goals as goal
 
 pub move_bits_in-requires-clause-room : goal.move_bits_in-requires-clause-room
@@ -22,8 +21,24 @@ returns-clause-list g c =
     ∙ aligned_shows w bits i.head i.len (width_positive w g.met.T.BitStore.width) fits
     ∙ ap (λ v. v.list) c.self.view_is
 
-pub returns-clause-size : goal.returns-clause-size
-returns-clause-size g c =
+pub invariant_of-self : goal.invariant_of-self
+invariant_of-self g c =
     let i = c.self.inside in
-    let fits = shown g.T.BitStore g.O.BitOrder i.words.items i.head i.len g.met.T.BitStore.width c.self.invariant in
-    ap length (returns-clause-list g c) ∙ ap (λ v. length v.list) (sym c.self.view_is) ∙ length-shows (row g.T.BitStore g.O.BitOrder i.words.items) i.head i.len fits
+    let ws = c.cut_words.new.words.items in
+    let fits : 0 + i.len ≤ g.T.BitStore.BITS * length ws = search rules in
+    record {
+      head_below = width_positive _ g.met.T.BitStore.width;
+      len_small = c.self.invariant.len_small;
+      count = search rules;
+      fits = fits;
+      shows = shown_length g.T.BitStore g.O.BitOrder ws 0 i.len fits;
+    }
+
+pub returns-clause-clean : goal.returns-clause-clean
+returns-clause-clean g c =
+    let i = c.self.inside in
+    let now = c.args.self.now in
+    let w = g.T.BitStore.BITS in
+    let len : i.len ≡ length now.list = sym c.self.invariant.shows ∙ ap (λ v. length v.list) c.self.view_is in
+    clean_aligned w now _ refl (returns-clause-list g c)
+    (c.cut_words.ensures.bits ∙ ap (λ r. sized w r i.len) c.move_bits_in.ensures.bits ∙ ap (λ v. sized w (moved v.row v.head 0 i.len) i.len) c.self.view_is ∙ ap (λ n. sized w (moved now.row now.head 0 n) n) len)

@@ -1,15 +1,7 @@
-use Rattle.std.proofs.Common.{◌≡◌, ◌+◌, ◌-◌, ◌*◌, ◌<◌, ◌≤◌, ◌≢◌, [], ◌∷◌, ◌++◌, true, false, not, min, map, take, set, replicate, length, slice_range, get_or, refl, sym, ◌∙◌, ap, subst, arith, Ok, Err, OnErr}
-use Rattle.bit_addressing.specs.Row.{words_for, put, sized, filled}
+use Rattle.std.proofs.Common.{arith}
 use Rattle.bit_addressing.specs.Typed.{row}
-use Rattle.bit_addressing.proofs.Lists.{room, words_for_le, words_for_mono, words_for_all, put_one, put_both, length-sized, length-put, length-shows, shows_some, shows_none, shows_set, shows_map, shows_filled, grown_shows, shrunk_shows, shows_fewer, shows_sized, sized_same, canonical_row, resized_shows, popped_shows, put_ends}
-use Rattle.std.proofs.lemmas.List.{append-nil, take_all, length-map}
-use Rattle.std.proofs.Common.{vec_capacity, ℕ, List, Bool}
-use Rattle.bit_addressing.proofs.Rows.{width_positive, width_small}
-use Rattle.bit_addressing.proofs.Typed.{length_row}
-use Rattle.bit_containers.proofs.Vectors.{in_words, shown, no_room, canonical}
-use Rattle.bit_addressing.specs.declared.length.TheConstants.{MAX_BITS}
-use Rattle.std.proofs.Math.Nat.{mul-le-mul_left}
-use Rattle.std.proofs.Common.{mul_comm}
+use Rattle.bit_addressing.proofs.Lists.{shows_some, shows_none}
+use Rattle.bit_containers.proofs.Vectors.{shown}
 use Rattle.bit_containers.proofs.vec.BitVec.get.Goals as goal
 
 pub returns-then-i-self : goal.returns-then-i-self

@@ -1,15 +1,11 @@
-use Rattle.std.proofs.Common.{◌≡◌, ◌+◌, ◌-◌, ◌*◌, ◌<◌, ◌≤◌, ◌≢◌, [], ◌∷◌, ◌++◌, true, false, not, min, map, take, set, replicate, length, slice_range, get_or, refl, sym, ◌∙◌, ap, subst, arith, Ok, Err, OnErr}
-use Rattle.bit_addressing.specs.Row.{words_for, put, sized, filled}
+use Rattle.std.proofs.Common.{◌≡◌, ◌+◌, ◌-◌, ◌*◌, [], ◌∷◌, ◌++◌, length, slice_range, refl, sym, ◌∙◌, ap, arith}
+use Rattle.bit_addressing.specs.Row.{sized}
 use Rattle.bit_addressing.specs.Typed.{row}
-use Rattle.bit_addressing.proofs.Lists.{room, words_for_le, words_for_mono, words_for_all, put_one, put_both, length-sized, length-put, length-shows, shows_some, shows_none, shows_set, shows_map, shows_filled, grown_shows, shrunk_shows, shows_fewer, shows_sized, sized_same, canonical_row, resized_shows, popped_shows, put_ends}
-use Rattle.std.proofs.lemmas.List.{append-nil, take_all, length-map}
-use Rattle.std.proofs.Common.{vec_capacity, ℕ, List, Bool}
-use Rattle.bit_addressing.proofs.Rows.{width_positive, width_small}
+use Rattle.bit_addressing.proofs.Lists.{shows_some, shrunk_shows, sized_same, popped_shows}
+use Rattle.bit_addressing.proofs.Rows.{width_positive}
 use Rattle.bit_addressing.proofs.Typed.{length_row}
-use Rattle.bit_containers.proofs.Vectors.{in_words, shown, no_room, canonical}
-use Rattle.bit_addressing.specs.declared.length.TheConstants.{MAX_BITS}
-use Rattle.std.proofs.Math.Nat.{mul-le-mul_left}
-use Rattle.std.proofs.Common.{mul_comm}
+use Rattle.bit_containers.proofs.Vectors.{shown}
+use Rattle.bit_containers.proofs.Clean.{clean_popped}
 use Rattle.bit_containers.proofs.vec.BitVec.pop.Goals as goal
 
 pub returns-then-self-eq0-clause-row : goal.returns-then-self-eq0-clause-row
@@ -17,12 +13,12 @@ returns-then-self-eq0-clause-row g c =
     let i = c.self.inside in
     let w = g.T.BitStore.BITS in
     let none : i.len - 1 ≡ i.len = omega arith in
-    rw (← c.self.view_is) (rw none (record {
+    rw (← c.self.view_is, c.self.invariant.shows, none) (record {
       head = refl;
-      len = refl;
+      len = c.self.invariant.shows;
       capacity = refl;
       row = sym (sized_same w (row g.T.BitStore g.O.BitOrder i.words.items) (i.head + i.len) (length_row g.T.BitStore.value g.O.BitOrder.place w i.words.items ∙ ap (λ n. w * n) c.self.invariant.count));
-    }))
+    })
 
 pub returns-clause-answer : goal.returns-clause-answer
 returns-clause-answer g c =
@@ -38,10 +34,19 @@ returns-clause-list g c =
     let i = c.self.inside in
     let w = g.T.BitStore.BITS in
     let fits = shown g.T.BitStore g.O.BitOrder i.words.items i.head i.len g.met.T.BitStore.width c.self.invariant in
-    rw (← c.self.view_is) (ap (λ r. slice_range r i.head (i.head + (i.len - 1))) c.cut_words.ensures.bits ∙ shrunk_shows w (row g.T.BitStore g.O.BitOrder i.words.items) i.head i.len (i.len - 1) (width_positive w g.met.T.BitStore.width) (omega arith) fits)
+    rw (← c.self.view_is, c.self.invariant.shows) (ap (λ r. slice_range r i.head (i.head + (i.len - 1))) c.cut_words.ensures.bits ∙ shrunk_shows w (row g.T.BitStore g.O.BitOrder i.words.items) i.head i.len (i.len - 1) (width_positive w g.met.T.BitStore.width) (omega arith) fits)
 
 pub returns-clause-value : goal.returns-clause-value
 returns-clause-value g c =
     let i = c.self.inside in
     let fits = shown g.T.BitStore g.O.BitOrder i.words.items i.head i.len g.met.T.BitStore.width c.self.invariant in
-    rw (← c.self.view_is) (shows_some (row g.T.BitStore g.O.BitOrder i.words.items) i.head i.len (i.len - 1) c.read_bit-bit.result (omega arith) fits (rw (← c.as_slice.ensures.value) c.read_bit-bit.ensures))
+    rw (← c.self.view_is, c.self.invariant.shows) (shows_some (row g.T.BitStore g.O.BitOrder i.words.items) i.head i.len (i.len - 1) c.read_bit-bit.result (omega arith) fits (rw (← c.as_slice.ensures.value) c.read_bit-bit.ensures))
+
+pub returns-clause-clean : goal.returns-clause-clean
+returns-clause-clean g c other =
+    let i = c.self.inside in
+    let now = c.args.self.now in
+    let w = g.T.BitStore.BITS in
+    let len : i.len ≡ length now.list = sym c.self.invariant.shows ∙ ap (λ v. length v.list) c.self.view_is in
+    clean_popped w now _ c.read_bit-bit.result (width_positive w g.met.T.BitStore.width) other (ap (λ v. v.head) c.self.view_is) (returns-clause-answer g c)
+    (c.cut_words.ensures.bits ∙ ap (λ v. sized w v.row (v.head + (i.len - 1))) c.self.view_is ∙ ap (λ n. sized w now.row (now.head + (n - 1))) len)

@@ -1,22 +1,18 @@
-use Rattle.std.proofs.Common.{◌≡◌, ◌+◌, ◌-◌, ◌*◌, ◌<◌, ◌≤◌, ◌≢◌, [], ◌∷◌, ◌++◌, true, false, not, min, map, take, set, replicate, length, slice_range, get_or, refl, sym, ◌∙◌, ap, subst, arith, Ok, Err, OnErr}
-use Rattle.bit_addressing.specs.Row.{words_for, put, sized, filled}
+use Rattle.std.proofs.Common.{◌≡◌, ◌+◌, ◌<◌, [], ◌∷◌, ◌++◌, length, slice_range, refl, sym, ◌∙◌, ap, subst, arith}
+use Rattle.bit_addressing.specs.Row.{words_for, put, sized}
 use Rattle.bit_addressing.specs.Typed.{row}
-use Rattle.bit_addressing.proofs.Lists.{room, words_for_le, words_for_mono, words_for_all, put_one, put_both, length-sized, length-put, length-shows, shows_some, shows_none, shows_set, shows_map, shows_filled, grown_shows, shrunk_shows, shows_fewer, shows_sized, sized_same, canonical_row, resized_shows, popped_shows, put_ends}
-use Rattle.std.proofs.lemmas.List.{append-nil, take_all, length-map}
-use Rattle.std.proofs.Common.{vec_capacity, ℕ, List, Bool}
-use Rattle.bit_addressing.proofs.Rows.{width_positive, width_small}
-use Rattle.bit_addressing.proofs.Typed.{length_row}
+use Rattle.bit_addressing.proofs.Lists.{grown_shows}
+use Rattle.std.proofs.Common.{vec_capacity}
+use Rattle.bit_addressing.proofs.Rows.{width_positive}
 use Rattle.bit_containers.proofs.Vectors.{kept, shown, no_room}
-use Rattle.bit_addressing.specs.declared.length.TheConstants.{MAX_BITS}
-use Rattle.std.proofs.Math.Nat.{mul-le-mul_left}
-use Rattle.std.proofs.Common.{mul_comm}
+use Rattle.bit_containers.proofs.Clean.{clean_joined}
 use Rattle.bit_containers.proofs.vec.BitVec.push.Goals as goal
 
 pub returns-in_default-clause-refusal : goal.returns-in_default-clause-refusal
 returns-in_default-clause-refusal g c =
     let i = c.self.inside in
     let same = c.in_default.ensures.unchanged in
-    rw (← c.self.view_is) (record {
+    rw (← c.self.view_is, c.self.invariant.shows) (record {
       too_long = ((λ e. cc), (λ h. absurd (omega (arith, c.self.invariant.len_small, c.if-self-eq-MAX_BITS.false))));
       memory = λ _. no_room g.T.BitStore.BITS (vec_capacity i.words) i.head (i.len + 1) (width_positive _ g.met.T.BitStore.width) (omega arith) (subst (λ b. vec_capacity i.words < words_for g.T.BitStore.BITS b) (omega arith) c.in_default.ensures.full);
       unchanged = kept g.T.BitStore g.O.BitOrder i.words.items c.push_bit.new.words.items i.head i.len _ _ same;
@@ -31,3 +27,12 @@ returns-clause-list g c =
     ap (λ r. slice_range r i.head (i.head + (i.len + 1))) c.in-Ok.ensures.bits
     ∙ grown_shows w bits (c.args.bit ∷ []) i.head i.len 1 (width_positive w g.met.T.BitStore.width) fits refl
     ∙ ap (λ v. v.list ++ c.args.bit ∷ []) c.self.view_is
+
+pub returns-clause-clean : goal.returns-clause-clean
+returns-clause-clean g c =
+    let i = c.self.inside in
+    let w = g.T.BitStore.BITS in
+    let len : i.len ≡ length c.args.self.now.list = sym c.self.invariant.shows ∙ ap (λ v. length v.list) c.self.view_is in
+    clean_joined w c.args.self.now _ c.args.bit (width_positive w g.met.T.BitStore.width) (ap (λ v. v.head) c.self.view_is) (returns-clause-list g c)
+    (c.in-Ok.ensures.bits ∙ ap (λ v. put (sized w v.row (v.head + i.len + 1)) (v.head + i.len) (c.args.bit ∷ [])) c.self.view_is
+    ∙ ap (λ n. put (sized w c.args.self.now.row (c.args.self.now.head + n + 1)) (c.args.self.now.head + n) (c.args.bit ∷ [])) len)

@@ -1,7 +1,6 @@
-use Rattle.std.proofs.Common.{◌≡◌, ℕ, ◌+◌, ◌-◌, ◌*◌, ◌<◌, ◌≤◌, Bool, List, true, false, Some, [], ◌∷◌, ◌++◌, length, take, set, get_or, slice_range, refl, sym, ◌∙◌, ap, subst, arith}
-use Rattle.std.specs.Prelude.{slice_get}
-use Rattle.std.specs.List.{insert, remove, swap_remove}
-use Rattle.bit_addressing.specs.Row.{moved, sized, words_for}
+use Rattle.std.proofs.Common.{◌≡◌, ◌+◌, ◌-◌, length, slice_range, sym, ◌∙◌, ap, arith}
+use Rattle.std.specs.List.{remove}
+use Rattle.bit_addressing.specs.Row.{sized}
 use Rattle.bit_addressing.specs.Typed.{row}
 use Rattle.bit_addressing.proofs.Rows.{width_positive}
 use Rattle.bit_addressing.proofs.Lists.{shows_some}
@@ -16,7 +15,7 @@ pub returns-clause-answer : goal.returns-clause-answer
 returns-clause-answer g c =
     let i = c.self.inside in
     let fits = shown g.T.BitStore g.O.BitOrder i.words.items i.head i.len g.met.T.BitStore.width c.self.invariant in
-    let len : i.len ≡ c.args.self.now.len = ap (λ v. v.len) c.self.view_is in
+    let len : i.len ≡ length c.args.self.now.list = sym c.self.invariant.shows ∙ ap (λ v. length v.list) c.self.view_is in
     rw (← c.self.view_is) (sym (shows_some (row g.T.BitStore g.O.BitOrder i.words.items) i.head i.len c.args.i c.read_bit-bit.result (omega arith) fits (rw (← c.as_slice.ensures.value) c.read_bit-bit.ensures)))
 
 pub returns-clause-list : goal.returns-clause-list
@@ -25,7 +24,7 @@ returns-clause-list g c =
     let w = g.T.BitStore.BITS in
     let bits = row g.T.BitStore g.O.BitOrder i.words.items in
     let fits = shown g.T.BitStore g.O.BitOrder i.words.items i.head i.len g.met.T.BitStore.width c.self.invariant in
-    let len : i.len ≡ c.args.self.now.len = ap (λ v. v.len) c.self.view_is in
+    let len : i.len ≡ length c.args.self.now.list = sym c.self.invariant.shows ∙ ap (λ v. length v.list) c.self.view_is in
     ap (λ r. slice_range r i.head (i.head + (i.len - 1))) (c.cut_words.ensures.bits ∙ ap (λ r. sized w r (i.head + (i.len - 1))) c.move_bits_in.ensures.bits)
     ∙ removed_shows w bits i.head i.len c.args.i (width_positive w g.met.T.BitStore.width) (omega arith) fits
     ∙ ap (λ v. remove v.list c.args.i) c.self.view_is

@@ -1,5 +1,4 @@
-use Rattle.std.proofs.Common.{◌≡◌, ℕ, ◌+◌, ◌-◌, ◌≤◌, Bool, List, false, Some, length, set, get_or, slice_range, refl, sym, ◌∙◌, ap, arith}
-use Rattle.std.specs.Prelude.{slice_get}
+use Rattle.std.proofs.Common.{◌≡◌, ◌+◌, ◌-◌, false, length, slice_range, sym, ◌∙◌, ap, arith}
 use Rattle.std.specs.List.{swap_remove}
 use Rattle.bit_addressing.specs.Row.{sized}
 use Rattle.bit_addressing.specs.Typed.{row}
@@ -13,7 +12,7 @@ pub returns-clause-answer : goal.returns-clause-answer
 returns-clause-answer g c =
     let i = c.self.inside in
     let fits = shown g.T.BitStore g.O.BitOrder i.words.items i.head i.len g.met.T.BitStore.width c.self.invariant in
-    let len : i.len ≡ c.args.self.now.len = ap (λ v. v.len) c.self.view_is in
+    let len : i.len ≡ length c.args.self.now.list = sym c.self.invariant.shows ∙ ap (λ v. length v.list) c.self.view_is in
     rw (← c.self.view_is) (sym (shows_some (row g.T.BitStore g.O.BitOrder i.words.items) i.head i.len c.args.i c.read_bit-bit.result (omega arith) fits (rw (← c.as_slice.ensures.value) c.read_bit-bit.ensures)))
 
 pub returns-clause-list : goal.returns-clause-list
@@ -22,7 +21,7 @@ returns-clause-list g c =
     let w = g.T.BitStore.BITS in
     let bits = row g.T.BitStore g.O.BitOrder i.words.items in
     let fits = shown g.T.BitStore g.O.BitOrder i.words.items i.head i.len g.met.T.BitStore.width c.self.invariant in
-    let len : i.len ≡ c.args.self.now.len = ap (λ v. v.len) c.self.view_is in
+    let len : i.len ≡ length c.args.self.now.list = sym c.self.invariant.shows ∙ ap (λ v. length v.list) c.self.view_is in
     let last = c.read_bit-last.result in
     ap (λ r. slice_range r i.head (i.head + (i.len - 1))) (c.cut_words.ensures.bits ∙ ap (λ r. sized w r (i.head + (i.len - 1))) c.write_bit_in.ensures.bits)
     ∙ swap_removed_shows w bits i.head i.len c.args.i last (width_positive w g.met.T.BitStore.width) (omega arith) fits (rw (← c.as_slice-2.ensures.value) c.read_bit-last.ensures)

@@ -1,15 +1,9 @@
-use Rattle.std.proofs.Common.{◌≡◌, ◌+◌, ◌-◌, ◌*◌, ◌<◌, ◌≤◌, ◌≢◌, [], ◌∷◌, ◌++◌, true, false, not, min, map, take, set, replicate, length, slice_range, get_or, refl, sym, ◌∙◌, ap, subst, arith, Ok, Err, OnErr}
-use Rattle.bit_addressing.specs.Row.{words_for, put, sized, filled}
+use Rattle.std.proofs.Common.{◌≡◌, ◌+◌, ◌*◌, min, slice_range, refl, sym, ◌∙◌, ap, arith}
 use Rattle.bit_addressing.specs.Typed.{row}
-use Rattle.bit_addressing.proofs.Lists.{room, words_for_le, words_for_mono, words_for_all, put_one, put_both, length-sized, length-put, length-shows, shows_some, shows_none, shows_set, shows_map, shows_filled, grown_shows, shrunk_shows, shows_fewer, shows_sized, sized_same, canonical_row, resized_shows, popped_shows, put_ends}
-use Rattle.std.proofs.lemmas.List.{append-nil, take_all, length-map}
-use Rattle.std.proofs.Common.{vec_capacity, ℕ, List, Bool}
-use Rattle.bit_addressing.proofs.Rows.{width_positive, width_small}
+use Rattle.bit_addressing.proofs.Lists.{shrunk_shows, sized_same}
+use Rattle.bit_addressing.proofs.Rows.{width_positive}
 use Rattle.bit_addressing.proofs.Typed.{length_row}
-use Rattle.bit_containers.proofs.Vectors.{in_words, shown, no_room, canonical}
-use Rattle.bit_addressing.specs.declared.length.TheConstants.{MAX_BITS}
-use Rattle.std.proofs.Math.Nat.{mul-le-mul_left}
-use Rattle.std.proofs.Common.{mul_comm}
+use Rattle.bit_containers.proofs.Vectors.{shown}
 use Rattle.bit_containers.proofs.vec.BitVec.truncate.Goals as goal
 
 pub returns-then-n-self-clause-list : goal.returns-then-n-self-clause-list
@@ -23,9 +17,9 @@ returns-else-n-self-clause-row g c =
     let i = c.self.inside in
     let w = g.T.BitStore.BITS in
     let least : min c.args.n i.len ≡ i.len = omega arith in
-    rw (← c.self.view_is) (rw least (record {
+    rw (← c.self.view_is, c.self.invariant.shows, least) (record {
       head = refl;
-      len = refl;
+      len = c.self.invariant.shows;
       capacity = refl;
       row = sym (sized_same w (row g.T.BitStore g.O.BitOrder i.words.items) (i.head + i.len) (length_row g.T.BitStore.value g.O.BitOrder.place w i.words.items ∙ ap (λ n. w * n) c.self.invariant.count));
-    }))
+    })

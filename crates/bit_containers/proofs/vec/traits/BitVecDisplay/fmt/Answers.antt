@@ -1,4 +1,4 @@
-use Rattle.std.proofs.Common.{◌≡◌, ◌+◌, ◌<◌, ◌++◌, [], ◌∷◌, false, length, take, get_or, refl, ap, sym, ◌∙◌, arith, rules}
+use Rattle.std.proofs.Common.{◌≡◌, ◌+◌, ◌<◌, ◌++◌, [], ◌∷◌, false, length, take, get_or, refl, ap, ◌∙◌, arith, rules}
 use Rattle.std.proofs.Output.{has_written_styled_append, has_written_styled_of_eq}
 use Rattle.std.proofs.lemmas.List.{take_all}
 use Rattle.std.specs.Option.{unwrap_or}
@@ -13,7 +13,7 @@ loop-i-preserved g c =
     let list = c.args.self.now.list in
     let i = c.loop-i.i in
     let bit = c.unwrap_or-bit.result in
-    let below : i < length list = omega (arith, c.len-i-end.ensures.of_list, c.loop-i-test.true) in
+    let below : i < length list = omega (arith, c.len-i-end.ensures.value, c.loop-i-test.true) in
     let read : bit ≡ get_or list i false = c.unwrap_or-bit.ensures ∙ ap (λ o. unwrap_or o false) c.get.ensures ∙ unwrap_or-slice_get list i false in
     let digit : c.if-bit.write_str.now ≡ digit_of bit ∷ [] = elim c.if-bit.branch [ then-bit w ↦ search rules | else-bit w ↦ search rules ] in
     record {
@@ -32,5 +32,5 @@ returns-clause-styled g c = λ flush ok.
     let start = c.in_ok-write_str.ensures.styled flush refl in
     let middle = c.loop-i.invariant.text start.flush in
     let end = c.write_str-2.ensures.styled middle.flush ok in
-    let whole = take_all c.loop-i.i list (omega (arith, c.len-i-end.ensures.of_list, c.loop-i-test.false)) in
+    let whole = take_all c.loop-i.i list (omega (arith, c.len-i-end.ensures.value, c.loop-i-test.false)) in
     has_written_styled_of_eq _ _ _ _ _ (ap (λ t. 91 ∷ joined t ++ 93 ∷ []) whole) (has_written_styled_append _ _ _ _ _ _ (has_written_styled_append _ _ _ _ _ _ start middle) end)

@@ -3,9 +3,9 @@ use Rattle.std.specs.Prelude.{◌≡◌, [], ◌∷◌, ◌++◌, true, codes, r
 use Rattle.std.specs.Fmt.{digits}
 use Rattle.bit_containers.specs.declared.machine.Command.TheVariants.{Get, Insert}
 use Rattle.bitrun.specs.declared.parsing.Line.TheVariants.{Run}
-use Rattle.bitrun.specs.declared.replying.Ending.TheVariants.{Finished}
+use Rattle.bitrun.specs.declared.replying.Ending.TheVariants.{Finished, BadCommand, TooLong, NoMemory, ReadFailed}
 use Rattle.bitrun.specs.Line.{line_of}
-use Rattle.bitrun.specs.Script.{transcript, script_replies, script_ending}
+use Rattle.bitrun.specs.Script.{transcript, script_replies, script_ending, ending_at, ending_text, ending_status}
 
 first_run : transcript (codes "push 0" ++ 10 ∷ codes "push 1" ++ 10 ∷ codes "get 5" ++ 10 ∷ codes "pop" ++ 10 ∷ [])
     ≡ codes "ok" ++ 10 ∷ codes "ok" ++ 10 ∷ codes "range" ++ 10 ∷ codes "1" ++ 10 ∷ []
@@ -60,3 +60,40 @@ two_spaces = refl
 
 space_before : line_of (codes " pop") ≡ None
 space_before = refl
+
+-- what each ending tells
+text_of_the_end : ending_text Finished ≡ []
+text_of_the_end = refl
+
+text_of_a_bad_command : ending_text (BadCommand 12) ≡ codes "line 12: bad command" ++ 10 ∷ []
+unfolding digits
+text_of_a_bad_command = refl
+
+text_of_too_long : ending_text TooLong ≡ codes "too long" ++ 10 ∷ []
+text_of_too_long = refl
+
+text_of_no_memory : ending_text NoMemory ≡ codes "no memory" ++ 10 ∷ []
+text_of_no_memory = refl
+
+text_of_a_failed_read : ending_text ReadFailed ≡ codes "read failed" ++ 10 ∷ []
+text_of_a_failed_read = refl
+
+-- the statuses
+done : ending_status Finished ≡ 0
+done = refl
+
+bad_command : ending_status (BadCommand 12) ≡ 2
+bad_command = refl
+
+failed : (ending_status TooLong ≡ 1) × (ending_status NoMemory ≡ 1) × (ending_status ReadFailed ≡ 1)
+failed = (refl, refl, refl)
+
+-- five lines from line 1 on: all are lines and fit; the fourth is no line; the third asks for too many bits
+all_fit : ending_at 1 5 5 5 ≡ Finished
+all_fit = refl
+
+fourth_is_none : ending_at 1 5 3 3 ≡ BadCommand 4
+fourth_is_none = refl
+
+third_is_too_long : ending_at 1 5 3 2 ≡ TooLong
+third_is_too_long = refl

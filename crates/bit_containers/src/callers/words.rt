@@ -1,0 +1,101 @@
+//! Callers that want exact words. Where words are computed from other words, one hint opens what computes.
+ghost use Rattle.std.specs.Prelude.{◌≡◌, true, false, [], ◌∷◌, if◌then◌else◌, IfOk};
+ghost use Rattle.bit_addressing.specs.Typed.{row};
+
+use crate::{BitOrder, BitStore, BitVec, GrowError, Lsb0, Msb0};
+use std::alloc::{AllocError, Global};
+
+pub fn permission_byte(alloc: Global, write: bool) -> Result<Vec<u8>, GrowError>
+    ensures { IfOk result (λ words. words.items ≡ (if write then 224 else 160) ∷ []) }
+{
+    let mut v = BitVec::<u8, Msb0>::new(alloc);
+    v.push(true)?;
+    v.push(write)?;
+    v.push(true)?;
+    Ok(v.into_vec())
+}
+
+pub fn in_a_wide_word(alloc: Global) -> Result<Vec<u64>, GrowError>
+    ensures { IfOk result (λ words. words.items ≡ 5 ∷ []) }
+{
+    let mut v = BitVec::<u64, Lsb0>::new(alloc);
+    v.push(true)?;
+    v.push(false)?;
+    v.push(true)?;
+    Ok(v.into_vec())
+}
+
+pub fn five_pushes(alloc: Global, bit: bool) -> Result<Vec<u64>, GrowError>
+    ensures { IfOk result (λ words. words.items ≡ (if bit then 21 else 20) ∷ []) }
+{
+    let mut v = BitVec::<u64, Lsb0>::new(alloc);
+    v.push(bit)?;
+    v.push(false)?;
+    v.push(true)?;
+    v.push(false)?;
+    v.push(true)?;
+    Ok(v.into_vec())
+}
+
+pub fn pushed_and_set(alloc: Global) -> Result<Vec<u8>, GrowError>
+    ensures { IfOk result (λ words. words.items ≡ 0xc0 ∷ []) }
+{
+    let mut v = BitVec::<u8, Msb0>::new(alloc);
+    v.push(true)?;
+    v.push(false)?;
+    v.set(1, true);
+    Ok(v.into_vec())
+}
+
+#[tactic(auto, unfolding(crate::proofs::OnLiterals::words_on_literals))]
+pub fn popped_and_set(words: Vec<u8>) -> Vec<u8>
+    requires { words.items ≡ 0xdc ∷ [] }
+    ensures { result.items ≡ 221 ∷ [] }
+{
+    let mut v = BitVec::<u8, Lsb0>::from_vec(words);
+    v.pop();
+    v.set(0, true);
+    v.into_vec()
+}
+
+#[tactic(auto, unfolding(crate::proofs::OnLiterals::clean_on_literals))]
+pub fn cut_and_cleared(words: Vec<u8>) -> Vec<u8>
+    requires { words.items ≡ 0xdc ∷ [] }
+    ensures { result.items ≡ 0x1c ∷ [] }
+{
+    let mut v = BitVec::<u8, Lsb0>::from_vec(words);
+    v.truncate(5);
+    v.force_align();
+    v.set_uninitialized(false);
+    v.into_vec()
+}
+
+/// Equal lists, equal words: for every word type and order.
+pub fn canonical<T: BitStore, O: BitOrder>(a: BitVec<T, O>, b: BitVec<T, O>) -> (Vec<T>, Vec<T>)
+    requires { a.list ≡ b.list }
+    ensures { result.0.items ≡ result.1.items }
+{
+    let (mut a, mut b) = (a, b);
+    a.force_align();
+    a.set_uninitialized(false);
+    b.force_align();
+    b.set_uninitialized(false);
+    (a.into_vec(), b.into_vec())
+}
+
+/// A copy of a vector whose list begins its first word has the words for that list.
+pub fn copied(v: &BitVec<u8, Lsb0>) -> Result<Vec<u8>, AllocError>
+    requires head { v.now.head ≡ 0 }
+    requires list { v.now.list ≡ true ∷ false ∷ true ∷ [] }
+    ensures { IfOk result (λ words. words.items ≡ 5 ∷ []) }
+{
+    let copy = v.clone()?;
+    Ok(copy.into_vec())
+}
+
+/// The row of a vector is that of its words.
+pub fn shown_row<T: BitStore, O: BitOrder>(v: BitVec<T, O>) -> Vec<T>
+    ensures { row T.BitStore O.BitOrder result.items ≡ v.row }
+{
+    v.into_vec()
+}

@@ -1,0 +1,45 @@
+//! Runs of commands.
+use crate::{BitVec, Command, GrowError, Msb0, Reply, run};
+use std::test::Fail;
+
+#[test]
+fn runs_of_commands(rt: HostRuntime) -> Result<(), Fail> {
+    let mut v = BitVec::<u8, Msb0>::new(rt.alloc());
+    let mut replies = Vec::new(rt.alloc());
+    let commands = [
+        Command::Push(false),
+        Command::Push(true),
+        Command::Get(5),
+        Command::Insert(0, true),
+        Command::CopyWithin(0, 2, 1),
+        Command::Remove(0),
+        Command::SwapRemove(2),
+        Command::Align,
+        Command::Set(0, false),
+        Command::Len,
+        Command::Pop,
+        Command::Truncate(0),
+        Command::Pop,
+    ];
+    assert!(rt; run(&mut v, &commands, &mut replies).is_ok());
+    let want = [
+        Reply::Done,
+        Reply::Done,
+        Reply::OutOfRange,
+        Reply::Done,
+        Reply::Done,
+        Reply::Bit(true),
+        Reply::OutOfRange,
+        Reply::Done,
+        Reply::Done,
+        Reply::Number(2),
+        Reply::Bit(false),
+        Reply::Done,
+        Reply::Nothing,
+    ];
+    assert_eq!(rt; replies.as_slice(), want.as_slice());
+    assert!(rt; v.is_empty());
+    assert!(rt; run(&mut v, &[], &mut replies).is_ok());
+    assert_ne!(rt; GrowError::TooLong, GrowError::OutOfMemory);
+    Ok(())
+}

@@ -1,0 +1,36 @@
+//! Copies of views and of vectors.
+use crate::tests::{holds, of};
+use crate::{BitSlice, BitVec, Lsb0, Msb0};
+use std::test::Fail;
+
+#[test]
+fn copies_of_views(rt: HostRuntime) -> Result<(), Fail> {
+    let words = [0xaf, 0xff];
+    let view = BitSlice::<u8, Lsb0>::from_slice(&words);
+    let v = BitVec::from_bitslice(rt.alloc(), view.get_range(3..11))?;
+    assert_eq!(rt; v.as_raw_slice(), [0xa8, 0x07].as_slice());
+    assert_eq!(rt; v.head(), 3);
+    let copy = v.clone()?;
+    assert_eq!(rt; copy.as_raw_slice(), [0xa8, 0x07].as_slice());
+    assert_eq!(rt; copy.head(), 3);
+    holds(&rt, &copy, b"10101111");
+    let mut v = BitVec::from_bitslice(rt.alloc(), view.get_range(3..13))?;
+    assert_eq!(rt; v.as_raw_slice(), [0xa8, 0x1f].as_slice());
+    v.force_align();
+    assert_eq!(rt; v.as_raw_slice(), [0xf5, 0x1f].as_slice());
+    assert_eq!(rt; v.head(), 0);
+    assert_eq!(rt; v.len(), 10);
+    Ok(())
+}
+
+#[test]
+fn over_another(rt: HostRuntime) -> Result<(), Fail> {
+    let source = of::<u64, Msb0>(rt.alloc(), b"10110")?;
+    let mut v = of::<u8, Lsb0>(rt.alloc(), b"00000")?;
+    assert!(rt; v.len() == 5 && source.len() == 5);
+    v.clone_from_bitslice(source.as_bitslice());
+    holds(&rt, &v, b"10110");
+    v.clone_from(&BitVec::<u8, Lsb0>::new(rt.alloc()))?;
+    holds(&rt, &v, b"");
+    Ok(())
+}

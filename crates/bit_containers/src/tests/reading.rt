@@ -1,0 +1,44 @@
+//! The calls that a vector has of a view.
+use crate::tests::{holds, of};
+use crate::{Lsb0, Msb0};
+use std::test::Fail;
+
+#[test]
+fn calls_of_a_view(rt: HostRuntime) -> Result<(), Fail> {
+    let mut v = of::<u16, Msb0>(rt.alloc(), b"0110")?;
+    assert!(rt; v.first() == Some(false) && v.last() == Some(false));
+    assert_eq!(rt; v.count_ones(), 2);
+    let mut ones = 0u8;
+    for bit in v.iter() {
+        ones = ones.saturating_add(bit as u8);
+    }
+    assert_eq!(rt; ones, 2);
+    assert!(rt; v.as_bitslice().len() == 4 && v.as_slice().len() == 4);
+    v.as_mut_bitslice().fill(true);
+    holds(&rt, &v, b"1111");
+    v.as_mut_slice().fill(false);
+    holds(&rt, &v, b"0000");
+    v.fill(true);
+    holds(&rt, &v, b"1111");
+    assert_eq!(rt; v.as_raw_slice(), [0xf000].as_slice());
+    Ok(())
+}
+
+#[test]
+fn parts_and_sums(rt: HostRuntime) -> Result<(), Fail> {
+    let mut v = of::<u8, Lsb0>(rt.alloc(), b"0110100101")?;
+    assert!(rt; v.len() == 10);
+    assert_eq!(rt; v.get_range(2..9).count_ones(), 3);
+    assert_eq!(rt; v.count_zeros(), 5);
+    assert!(rt; v.any() && !v.all());
+    assert!(rt; v[9] && !v[8]);
+    assert!(rt; v.replace(9, false));
+    v.swap(0, 1);
+    holds(&rt, &v, b"1010100100");
+    let mut ones = 0u8;
+    for bit in &v {
+        ones = ones.saturating_add(bit as u8);
+    }
+    assert_eq!(rt; ones, 4);
+    Ok(())
+}

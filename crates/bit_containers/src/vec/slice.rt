@@ -1,0 +1,159 @@
+//! The calls of a view that the vector has itself.
+ghost use Rattle.std.specs.Prelude.{◌≡◌, ◌+◌, ◌-◌, ◌<◌, ◌≤◌, length, not, replicate, count_by, slice_get, slice_range, set, swap};
+ghost use Rattle.std.specs.List.{list_any, list_all};
+ghost use Rattle.bit_addressing.specs.Row.{moved, put};
+ghost use Rattle.bit_containers.specs.BitVec.{Stayed, IsClean};
+ghost use Rattle.bit_slice.specs.BitSlice.{len_of, list_of};
+
+use crate::vec::BitVec;
+use bit_addressing::{
+    BitOrder, BitStore, RangeExt, copy_bits_in, fill_bits_in, move_bits_in, read_bit, write_bit_in,
+};
+use bit_slice::BitSlice;
+
+impl<T: BitStore, O: BitOrder> BitVec<T, O> {
+    /// The bit at `i`. None exactly where `i` is the length or more.
+    pub fn get(&self, i: usize) -> Option<bool>
+        ensures { result ≡ slice_get self.now.list i }
+    {
+        if i < self.len {
+            Some(read_bit::<T, O>(self.words.as_slice(), self.head + i))
+        } else {
+            None
+        }
+    }
+
+    /// The first bit. None exactly where the vector is empty.
+    pub fn first(&self) -> Option<bool>
+        ensures { result ≡ slice_get self.now.list 0 }
+    {
+        self.get(0)
+    }
+
+    /// The last bit. None exactly where the vector is empty.
+    pub fn last(&self) -> Option<bool>
+        ensures { result ≡ slice_get self.now.list (length self.now.list - 1) }
+    {
+        self.as_bitslice().last()
+    }
+
+    /// How many bits are true.
+    pub fn count_ones(&self) -> usize
+        ensures value { result ≡ count_by (λ bit. bit) self.now.list }
+        ensures few { result ≤ length self.now.list }
+    {
+        self.as_bitslice().count_ones()
+    }
+
+    /// How many bits are false.
+    pub fn count_zeros(&self) -> usize
+        ensures value { result ≡ count_by not self.now.list }
+        ensures few { result ≤ length self.now.list }
+    {
+        self.as_bitslice().count_zeros()
+    }
+
+    /// Whether some bit is true. Of an empty vector it is false.
+    pub fn any(&self) -> bool
+        ensures { result ≡ list_any (λ bit. bit) self.now.list }
+    {
+        self.as_bitslice().any()
+    }
+
+    /// Whether every bit is true. Of an empty vector it is true.
+    pub fn all(&self) -> bool
+        ensures { result ≡ list_all (λ bit. bit) self.now.list }
+    {
+        self.as_bitslice().all()
+    }
+
+    /// Writes the bit at `i`, and no other bit. Takes no memory. The condition: `i` is below the length.
+    #[tactic(auto, using(crate::proofs::Vectors::shown_length))]
+    pub fn set(&mut self, i: usize, bit: bool)
+        requires { i < length self.old.list }
+        ensures list { self.new.list ≡ set self.old.list i bit }
+        ensures row { self.new.row ≡ set self.old.row (self.old.head + i) bit }
+        ensures clean { IsClean T.BITS self.old → IsClean T.BITS self.new }
+        ensures stayed { Stayed self.old self.new }
+    {
+        write_bit_in::<T, O>(&mut self.words, self.head + i, bit);
+    }
+
+    /// Writes the bit at `i`, and answers the one that was there. Takes no memory. The condition: `i` is below
+    /// the length.
+    pub fn replace(&mut self, i: usize, bit: bool) -> bool
+        requires { i < length self.old.list }
+        ensures old { slice_get self.old.list i ≡ Some result }
+        ensures list { self.new.list ≡ set self.old.list i bit }
+        ensures row { self.new.row ≡ set self.old.row (self.old.head + i) bit }
+        ensures stayed { Stayed self.old self.new }
+        ensures clean { IsClean T.BITS self.old → IsClean T.BITS self.new }
+    {
+        let old = self.get(i).unwrap_or(false);
+        self.set(i, bit);
+        old
+    }
+
+    /// Has the bits at `i` and `j` change places. Takes no memory. The condition: both are below the length.
+    #[tactic(auto, using(crate::proofs::Vectors::shown_length))]
+    pub fn swap(&mut self, i: usize, j: usize)
+        requires first { i < length self.old.list }
+        requires second { j < length self.old.list }
+        ensures list { self.new.list ≡ swap self.old.list i j }
+        ensures row { self.new.row ≡ swap self.old.row (self.old.head + i) (self.old.head + j) }
+        ensures clean { IsClean T.BITS self.old → IsClean T.BITS self.new }
+        ensures stayed { Stayed self.old self.new }
+    {
+        let first = read_bit::<T, O>(self.words.as_slice(), self.head + i);
+        let second = read_bit::<T, O>(self.words.as_slice(), self.head + j);
+        self.set(i, second);
+        self.set(j, first);
+    }
+
+    /// Makes every bit of the list `bit`, and changes no dead bit. Takes no memory.
+    #[tactic(auto, using(crate::proofs::Vectors::shown_length))]
+    pub fn fill(&mut self, bit: bool)
+        ensures list { self.new.list ≡ replicate (length self.old.list) bit }
+        ensures row { self.new.row ≡ put self.old.row self.old.head (replicate (length self.old.list) bit) }
+        ensures clean { IsClean T.BITS self.old → IsClean T.BITS self.new }
+        ensures stayed { Stayed self.old self.new }
+    {
+        let (head, len) = (self.head, self.len);
+        fill_bits_in::<T, O>(&mut self.words, head, head + len, bit);
+    }
+
+    /// Copies the range's bits to the places from `dest` on, as if they were copied out first. No other bit
+    /// changes, dead bits included. It is one counted move of the words. Takes no memory. The condition:
+    /// the range lies in the length, and its bits have room from `dest` on.
+    #[tactic(auto, using(crate::proofs::Vectors::shown_length))]
+    pub fn copy_within<R: RangeExt>(&mut self, range: R, dest: usize)
+        requires order { R.start_of range ≤ R.end_of range (length self.old.list) }
+        requires within { R.end_of range (length self.old.list) ≤ length self.old.list }
+        requires room { dest + (R.end_of range (length self.old.list) - R.start_of range) ≤ length self.old.list }
+        ensures list { self.new.list ≡ moved self.old.list (R.start_of range) dest (R.end_of range (length self.old.list) - R.start_of range) }
+        ensures row { self.new.row ≡ moved self.old.row (self.old.head + R.start_of range) (self.old.head + dest) (R.end_of range (length self.old.list) - R.start_of range) }
+        ensures landed { let n = R.end_of range (length self.old.list) - R.start_of range in slice_range self.new.list dest (dest + n) ≡ slice_range self.old.list (R.start_of range) (R.start_of range + n) }
+        ensures clean { IsClean T.BITS self.old → IsClean T.BITS self.new }
+        ensures stayed { Stayed self.old self.new }
+    {
+        let len = self.len;
+        let range = range.normalize(len);
+        let (from, to) = (self.head + range.start, self.head + dest);
+        move_bits_in::<T, O>(&mut self.words, from, to, range.end - range.start);
+    }
+
+    /// Writes the bits of a view, of any word type and order, over those of the list. No dead bit changes.
+    /// Takes no memory. The condition: the view has as many bits as the vector.
+    #[tactic(auto, using(crate::proofs::Vectors::shown_length))]
+    pub fn clone_from_bitslice<U: BitStore, P: BitOrder>(&mut self, source: BitSlice<'_, U, P>)
+        requires { len_of source ≡ length self.old.list }
+        ensures list { self.new.list ≡ list_of source.entry }
+        ensures row { self.new.row ≡ put self.old.row self.old.head (list_of source.entry) }
+        ensures clean { IsClean T.BITS self.old → IsClean T.BITS self.new }
+        ensures stayed { Stayed self.old self.new }
+    {
+        let (head, len) = (self.head, self.len);
+        let from = source.head();
+        copy_bits_in::<T, O, U, P>(&mut self.words, head, source.as_raw_slice(), from, len);
+    }
+}

@@ -1,0 +1,227 @@
+//! Readers and writers that fail, are interrupted, or are full.
+use crate::starting::start;
+use crate::tests::{FIRST_RUN, words_of};
+use std::io;
+use std::io::{Read, Write};
+use std::test::Fail;
+
+/// A reader that gives so many bytes at each read, and fails when no read is left.
+#[derive(Drop)]
+struct Stuttering<'a> {
+    bytes: &'a [u8],
+    step: usize,
+    reads: usize,
+}
+
+impl Read for Stuttering<'_> {
+    fn read(&mut self, buffer: &mut [u8]) -> io::Result<usize> {
+        if self.reads == 0 {
+            return Err(io::Error::from(io::ErrorKind::Other));
+        }
+        self.reads -= 1;
+        let count = self.step.min(buffer.len());
+        self.bytes.read(&mut buffer[..count])
+    }
+}
+
+/// A writer that keeps what it takes, and fails when no write is left.
+#[derive(Drop)]
+struct Filling<'a> {
+    kept: &'a mut Vec<u8>,
+    writes: usize,
+}
+
+impl Write for Filling<'_> {
+    fn write(&mut self, bytes: &[u8]) -> io::Result<usize> {
+        if self.writes == 0 {
+            return Err(io::Error::from(io::ErrorKind::Other));
+        }
+        self.writes -= 1;
+        self.kept.write(bytes)
+    }
+
+    fn flush(&mut self) -> io::Result<()> {
+        Ok(())
+    }
+}
+
+const REPLIES: &[u8] = b"ok\nok\nrange\n1\n";
+
+/// What is replied to the first lines of the first run that end within so many bytes.
+fn replies_within(bytes: usize) -> &'static [u8] {
+    match bytes {
+        0..7 => b"",
+        7..14 => b"ok\n",
+        14..20 => b"ok\nok\n",
+        20..24 => b"ok\nok\nrange\n",
+        _ => REPLIES,
+    }
+}
+
+#[test]
+fn failing_reads(rt: HostRuntime) -> Result<(), Fail> {
+    let alloc = rt.alloc();
+    let words = words_of(alloc, "u8 msb0")?;
+    for reads in 0..30usize {
+        let input = Stuttering {
+            bytes: FIRST_RUN,
+            step: 1,
+            reads,
+        };
+        let mut output = Vec::new(alloc);
+        let status = start(alloc, words.as_slice(), input, &mut output);
+        let mut want = Vec::from_slice(alloc, replies_within(reads))?;
+        if reads <= FIRST_RUN.len() {
+            want.extend_from_slice(b"read failed\n")?;
+        }
+        assert_eq!(rt; output.as_slice(), want.as_slice(), "after {reads} reads");
+        assert_eq!(rt; status == 1, reads <= FIRST_RUN.len());
+    }
+    Ok(())
+}
+
+#[test]
+fn failing_writes(rt: HostRuntime) -> Result<(), Fail> {
+    let alloc = rt.alloc();
+    let words = words_of(alloc, "u8 msb0")?;
+    for writes in 0..8usize {
+        let input = Stuttering {
+            bytes: FIRST_RUN,
+            step: 1,
+            reads: 100,
+        };
+        let mut kept = Vec::new(alloc);
+        let output = Filling {
+            kept: &mut kept,
+            writes,
+        };
+        let status = start(alloc, words.as_slice(), input, output);
+        let want = match writes {
+            0 => b"".as_slice(),
+            1 => b"ok\n".as_slice(),
+            2 => b"ok\nok\n".as_slice(),
+            3 => b"ok\nok\nrange\n".as_slice(),
+            _ => REPLIES,
+        };
+        assert_eq!(rt; kept.as_slice(), want, "after {writes} writes");
+        assert_eq!(rt; status, if writes < 4 { 1 } else { 0 });
+    }
+    Ok(())
+}
+
+#[test]
+fn long_line(rt: HostRuntime) -> Result<(), Fail> {
+    // The 101st byte is read, and then the reader fails.
+    let alloc = rt.alloc();
+    let words = words_of(alloc, "u8 lsb0")?;
+    for (reads, want) in [
+        (100, b"read failed\n".as_slice()),
+        (101, b"line 1: bad command\n".as_slice()),
+    ] {
+        let input = Stuttering {
+            bytes: &[b'7'; 200],
+            step: 1,
+            reads,
+        };
+        let mut output = Vec::new(alloc);
+        let status = start(alloc, words.as_slice(), input, &mut output);
+        assert_eq!(rt; output.as_slice(), want);
+        assert_eq!(rt; status, if reads == 100 { 1 } else { 2 });
+    }
+    Ok(())
+}
+
+/// A reader whose every other read is interrupted.
+#[derive(Drop)]
+struct Interrupted<'a> {
+    bytes: &'a [u8],
+    again: bool,
+}
+
+impl Read for Interrupted<'_> {
+    fn read(&mut self, buffer: &mut [u8]) -> io::Result<usize> {
+        self.again = !self.again;
+        if self.again {
+            return Err(io::Error::from(io::ErrorKind::Interrupted));
+        }
+        let count = buffer.len().min(3);
+        self.bytes.read(&mut buffer[..count])
+    }
+}
+
+#[test]
+fn interrupted_reads(rt: HostRuntime) -> Result<(), Fail> {
+    let alloc = rt.alloc();
+    let words = words_of(alloc, "u8 msb0")?;
+    let input = Interrupted {
+        bytes: FIRST_RUN,
+        again: false,
+    };
+    let mut output = Vec::new(alloc);
+    let status = start(alloc, words.as_slice(), input, &mut output);
+    assert_eq!(rt; output.as_slice(), REPLIES);
+    assert_eq!(rt; status, 0);
+    Ok(())
+}
+
+/// A writer that counts its flushes, and how many bytes wait for one.
+#[derive(Drop)]
+struct Flushing<'a> {
+    kept: &'a mut Vec<u8>,
+    waiting: &'a mut usize,
+    flushes: &'a mut usize,
+}
+
+impl Write for Flushing<'_> {
+    fn write(&mut self, bytes: &[u8]) -> io::Result<usize> {
+        *self.waiting = self.waiting.saturating_add(bytes.len());
+        self.kept.write(bytes)
+    }
+
+    fn flush(&mut self) -> io::Result<()> {
+        if *self.waiting > 0 {
+            *self.flushes = self.flushes.saturating_add(1);
+        }
+        *self.waiting = 0;
+        Ok(())
+    }
+}
+
+/// Each reply is flushed before the next line is read, and nothing waits at the end.
+#[test]
+fn flushed_writes(rt: HostRuntime) -> Result<(), Fail> {
+    let alloc = rt.alloc();
+    let words = words_of(alloc, "u8 msb0")?;
+    let input = Stuttering {
+        bytes: FIRST_RUN,
+        step: 1,
+        reads: 100,
+    };
+    let mut kept = Vec::new(alloc);
+    let mut waiting = 0;
+    let mut flushes = 0;
+    let output = Flushing {
+        kept: &mut kept,
+        waiting: &mut waiting,
+        flushes: &mut flushes,
+    };
+    let status = start(alloc, words.as_slice(), input, output);
+    assert_eq!(rt; kept.as_slice(), REPLIES);
+    assert!(rt; status == 0 && waiting == 0);
+    assert_eq!(rt; flushes, 4);
+    Ok(())
+}
+
+#[test]
+fn usage_to_a_full_writer(rt: HostRuntime) -> Result<(), Fail> {
+    let alloc = rt.alloc();
+    let words = words_of(alloc, "u8")?;
+    let mut kept = Vec::new(alloc);
+    let output = Filling {
+        kept: &mut kept,
+        writes: 0,
+    };
+    assert_eq!(rt; start(alloc, words.as_slice(), FIRST_RUN, output), 1);
+    assert!(rt; kept.is_empty());
+    Ok(())
+}

@@ -1,0 +1,80 @@
+//! Scripts to their end.
+use crate::serving::serve_lines;
+use crate::source::{Sink, Source};
+use crate::tests::{FIRST_RUN, check};
+use bit_containers::Msb0;
+use std::alloc::Global;
+use std::io;
+use std::test::Fail;
+
+#[test]
+fn whole_runs(rt: HostRuntime) -> Result<(), Fail> {
+    let alloc = rt.alloc();
+    let calls = [
+        "u8 lsb0",
+        "u8 msb0",
+        "u16 lsb0",
+        "u16 msb0",
+        "u32 lsb0",
+        "u32 msb0",
+        "u64 lsb0",
+        "u64 msb0",
+        "usize lsb0",
+        "usize msb0",
+    ];
+    for call in calls {
+        check(&rt, alloc, call, FIRST_RUN, (b"ok\nok\nrange\n1\n", 0))?;
+    }
+    check(
+        &rt,
+        alloc,
+        "u8 lsb0",
+        b"push 1\npush 0\nset 1 1\nset 2 1\ntruncate 1\nlen\nget 0\npop\npop\n",
+        (b"ok\nok\nok\nrange\nok\n1\n1\n1\nnone\n", 0),
+    )?;
+    check(
+        &rt,
+        alloc,
+        "u8 msb0",
+        b"push 0\npush 1\nraw\nget 5\npop\nlist\n",
+        (b"ok\nok\n40\nrange\n1\n[0]\n", 0),
+    )?;
+    check(
+        &rt,
+        alloc,
+        "u8 lsb0",
+        b"push 1\npush 0\ninsert 1 1\ncopy 0 2 1\ncopy 0 3 1\nremove 0\nswapremove 2\nlist\n",
+        (b"ok\nok\nok\nok\nrange\n1\nrange\n[1, 1]\n", 0),
+    )
+}
+
+#[test]
+fn shown_words(rt: HostRuntime) -> Result<(), Fail> {
+    let alloc = rt.alloc();
+    let mut input = Vec::from_slice(alloc, b"raw\nlist\n")?;
+    let mut want = Vec::from_slice(alloc, b"\n[]\n")?;
+    for _ in 0..20 {
+        input.extend_from_slice(b"push 1\n")?;
+        want.extend_from_slice(b"ok\n")?;
+    }
+    input.extend_from_slice(b"raw\ntruncate 0\nraw\nlist\nalign\npush 2")?;
+    want.extend_from_slice(b"ffff 000f\nok\n\n[]\nok\nline 28: bad command\n")?;
+    check(
+        &rt,
+        alloc,
+        "u16 lsb0",
+        input.as_slice(),
+        (want.as_slice(), 2),
+    )
+}
+
+/// Runs a script from any source to any sink.
+fn runs<S: Source, K: Sink>(alloc: Global, input: &mut S, output: &mut K) -> bool {
+    serve_lines::<u64, Msb0, S, K>(alloc, input, output).is_ok()
+}
+
+#[test]
+fn sure_ends(rt: HostRuntime) {
+    let mut input = FIRST_RUN;
+    assert!(rt; runs(rt.alloc(), &mut input, &mut io::sink()));
+}

@@ -17,7 +17,7 @@ pub returns-clause-list : goal.returns-clause-list
 returns-clause-list g c =
     let i = c.self.inside in
     ap (λ r. slice_range r i.head (i.head + i.len)) c.fill_outside_in.ensures.bits
-    ∙ shows_filled (row g.T.BitStore g.O.BitOrder i.words.items) i.head i.len c.args.bit (shown g.T.BitStore g.O.BitOrder i.words.items i.head i.len g.met.T.BitStore.width c.self.invariant)
+    ∙ shows_filled (row g.T.BitStore g.O.BitOrder i.words.items) i.head i.len _ (shown g.T.BitStore g.O.BitOrder i.words.items i.head i.len g.met.T.BitStore.width c.self.invariant)
     ∙ ap (λ v. v.list) c.self.view_is
 
 pub returns-clause-clean : goal.returns-clause-clean

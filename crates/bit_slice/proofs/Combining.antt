@@ -1,7 +1,7 @@
 -- Two lists made into one, and what is left of a row.
-use Rattle.std.proofs.Common.{◌≡◌, ℕ, zero, suc, ◌+◌, ◌-◌, ◌<◌, ◌≤◌, Bool, true, false, not, ◌&&◌, ◌||◌, cond, List, [], ◌∷◌, ◌++◌, map, length, replicate, take, drop, slice_range, refl, sym, ◌∙◌, ap, arith, rules}
+use Rattle.std.proofs.Common.{◌≡◌, ℕ, zero, suc, ◌+◌, ◌-◌, ◌≤◌, Bool, true, false, not, ◌&&◌, ◌||◌, cond, List, [], ◌∷◌, ◌++◌, map, length, replicate, take, drop, slice_range, refl, sym, ◌∙◌, ap, arith, rules}
 use Rattle.std.specs.Prelude.{min}
-use Rattle.std.proofs.lemmas.List.{length-take, length-drop, length-take-le, length-replicate, places, same_lists}
+use Rattle.std.proofs.lemmas.List.{length-drop, length-take-le, length-replicate, places, same_lists}
 use Rattle.std.specs.Simd.Lanes.{zip2}
 use Rattle.std.proofs.lemmas.Simd.{length-zip2}
 use Rattle.bit_addressing.specs.Row.{put}

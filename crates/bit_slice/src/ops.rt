@@ -120,7 +120,7 @@ pub fn xor_words<T: BitStore, O: BitOrder, U: BitStore, P: BitOrder>(
 }
 
 impl<'a, T: BitStore, O: BitOrder> BitSliceMut<'a, T, O> {
-    ghost use Rattle.bit_slice.specs.BitSliceMut.{head_of, len_of, row_of, list_of, Stays};
+    ghost use Rattle.bit_slice.specs.BitSliceMut.{words_of, head_of, len_of, row_of, list_of, Stays};
 
     /// As `BitSlice::eq_bits`.
     pub fn eq_bits<U: BitStore, P: BitOrder>(&self, other: BitSlice<'_, U, P>) -> bool
@@ -140,6 +140,7 @@ impl<'a, T: BitStore, O: BitOrder> BitSliceMut<'a, T, O> {
     pub fn and_bits<U: BitStore, P: BitOrder>(&mut self, other: BitSlice<'_, U, P>)
         ensures row { row_of self.new ≡ put (row_of self.old) (head_of self.old) (and_of (list_of self.old) (list_seen other.entry)) }
         ensures list { list_of self.new ≡ and_of (list_of self.old) (list_seen other.entry) }
+        ensures whole { head_of self.old ≡ 0 → len_of self.old ≡ T.BITS * length (words_of self.old) → row_of self.new ≡ and_of (list_of self.old) (list_seen other.entry) }
         ensures stays { Stays self.old self.new }
     {
         and_words::<T, O, U, P>(self.words, self.head, self.len, other);
@@ -149,6 +150,7 @@ impl<'a, T: BitStore, O: BitOrder> BitSliceMut<'a, T, O> {
     pub fn or_bits<U: BitStore, P: BitOrder>(&mut self, other: BitSlice<'_, U, P>)
         ensures row { row_of self.new ≡ put (row_of self.old) (head_of self.old) (or_of (list_of self.old) (list_seen other.entry)) }
         ensures list { list_of self.new ≡ or_of (list_of self.old) (list_seen other.entry) }
+        ensures whole { head_of self.old ≡ 0 → len_of self.old ≡ T.BITS * length (words_of self.old) → row_of self.new ≡ or_of (list_of self.old) (list_seen other.entry) }
         ensures stays { Stays self.old self.new }
     {
         or_words::<T, O, U, P>(self.words, self.head, self.len, other);
@@ -158,6 +160,7 @@ impl<'a, T: BitStore, O: BitOrder> BitSliceMut<'a, T, O> {
     pub fn xor_bits<U: BitStore, P: BitOrder>(&mut self, other: BitSlice<'_, U, P>)
         ensures row { row_of self.new ≡ put (row_of self.old) (head_of self.old) (xor_of (list_of self.old) (list_seen other.entry)) }
         ensures list { list_of self.new ≡ xor_of (list_of self.old) (list_seen other.entry) }
+        ensures whole { head_of self.old ≡ 0 → len_of self.old ≡ T.BITS * length (words_of self.old) → row_of self.new ≡ xor_of (list_of self.old) (list_seen other.entry) }
         ensures stays { Stays self.old self.new }
     {
         xor_words::<T, O, U, P>(self.words, self.head, self.len, other);

@@ -1,8 +1,8 @@
-use Rattle.std.proofs.Common.{◌≡◌, ◌+◌, ◌-◌, ◌*◌, ◌<◌, ◌≤◌, length, count_by, slice_range, sym, ◌∙◌, ap, arith}
+use Rattle.std.proofs.Common.{◌≡◌, ◌+◌, ◌-◌, ◌*◌, ◌≤◌, length, count_by, slice_range, sym, ◌∙◌, ap, arith}
 use Rattle.bit_addressing.specs.Typed.{row}
 use Rattle.bit_addressing.proofs.Counts.{counted_next}
-use Rattle.bit_addressing.proofs.Rows.{width_positive, width_small}
-use Rattle.bit_slice.proofs.Counting.{IsPiece, begin, piece, begin_last, word_before, next_before}
+use Rattle.bit_addressing.proofs.Rows.{width_positive}
+use Rattle.bit_slice.proofs.Counting.{IsPiece, piece, begin_last, word_before, next_before}
 use Rattle.bit_slice.proofs.Parts.{in_row}
 use Rattle.bit_slice.proofs.counted.ones_between.Goals as goal
 

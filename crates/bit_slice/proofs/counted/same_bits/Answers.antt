@@ -1,7 +1,7 @@
-use Rattle.std.proofs.Common.{◌≡◌, ◌+◌, ◌-◌, ◌*◌, ◌%◌, ◌<◌, ◌≤◌, IsTrue, length, slice_range, refl, sym, ◌∙◌, ap, subst, arith}
+use Rattle.std.proofs.Common.{◌≡◌, ◌+◌, ◌-◌, ◌%◌, ◌≤◌, slice_range, refl, sym, ◌∙◌, ap, subst, arith}
 use Rattle.bit_addressing.specs.Typed.{row}
 use Rattle.bit_addressing.proofs.Rows.{width_positive}
-use Rattle.bit_slice.proofs.Counting.{IsPiece, IsRunOf, begin, piece, begin_last, word_before, next_before, same_more, same_piece, told, not_told, told_false, told_true}
+use Rattle.bit_slice.proofs.Counting.{IsPiece, IsRunOf, piece, begin_last, word_before, next_before, same_more, same_piece, told, not_told, told_false, told_true}
 use Rattle.bit_slice.proofs.Parts.{in_row}
 use Rattle.bit_slice.proofs.counted.same_bits.Goals as goal
 

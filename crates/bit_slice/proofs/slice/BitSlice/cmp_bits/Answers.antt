@@ -1,8 +1,5 @@
-use Rattle.std.proofs.Common.{◌≡◌, ◌+◌, ◌≤◌, length, min, true, false, get_or, cond, nat_cmp, sym, ◌∙◌, ap, arith}
+use Rattle.std.proofs.Common.{◌≡◌, ◌≤◌, length, min, cond, nat_cmp, sym, ◌∙◌, ap, arith}
 use Rattle.std.specs.declared.cmp.Ordering.TheVariants.{Less, Greater}
-use Rattle.bit_addressing.specs.Typed.{row}
-use Rattle.bit_addressing.proofs.Lists.{length-shows}
-use Rattle.bit_slice.proofs.Parts.{in_row}
 use Rattle.bit_slice.proofs.Comparing.{by_difference, by_length}
 use Rattle.bit_slice.specs.BitSlice.{list_of}
 use Rattle.bit_slice.proofs.slice.BitSlice.cmp_bits.Goals as goal

@@ -4,3 +4,4 @@ pub mod Row
 pub mod Typed
 pub mod Text
 pub mod Examples
+pub mod Errors

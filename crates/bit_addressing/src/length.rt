@@ -7,15 +7,6 @@ use crate::store::BitStore;
 /// The most bits that a container or a view holds, whatever its words: 2305843009213693951.
 pub const MAX_BITS: usize = usize::MAX >> 3;
 
-/// Why a container did not grow.
-#[derive(Clone, Copy, PartialEq, Eq, Debug)]
-pub enum GrowError {
-    /// It would hold more than `MAX_BITS` bits.
-    TooLong,
-    /// Memory was refused.
-    OutOfMemory,
-}
-
 /// The least number of words of type `T` that have room for `bits` bits.
 ///
 /// ```text

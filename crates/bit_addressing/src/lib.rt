@@ -2,6 +2,7 @@
 #![tactic(auto)]
 
 mod bits;
+mod errors;
 mod index;
 mod length;
 mod meter;
@@ -17,14 +18,16 @@ mod word_row;
 pub use bits::chunks::{read_chunk, write_chunk};
 pub use bits::combined::{And, BitOperator, Or, Xor, combine_bits};
 pub use bits::copies::{copy_bits, copy_bits_alike};
-pub use bits::growth::{cut_words, push_bit, resize_words};
+pub use bits::growth::{cut_words_in_vec, push_bit_in_vec, resize_words_in_vec};
 pub use bits::searches::{count_bits, differ_at, find_bit};
 pub use bits::single::{exact_words, fill_bits, fill_outside, flip_bits, read_bit, write_bit};
 pub use bits::vectors::{
-    copy_bits_in, fill_bits_in, fill_outside_in, flip_bits_in, move_bits_in, write_bit_in,
+    copy_bits_in_vec, fill_bits_in_vec, fill_outside_in_vec, flip_bits_in_vec, move_bits_in_vec,
+    write_bit_in_vec,
 };
+pub use errors::GrowError;
 pub use index::{BitEnd, BitIdx, BitPos};
-pub use length::{GrowError, MAX_BITS, elts};
+pub use length::{MAX_BITS, elts};
 pub use meter::Meter;
 pub use move_run::move_bits;
 pub use order::{BitOrder, Lsb0, Msb0};

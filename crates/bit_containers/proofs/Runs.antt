@@ -2,7 +2,7 @@
 use Rattle.std.proofs.Common.{◌≡◌, ℕ, ◌+◌, ◌<◌, ◌≤◌, List, Bool, [], ◌∷◌, ◌++◌, refl, ap, sym, subst, ◌∙◌, length, take, get_or}
 use Rattle.std.proofs.Common.{inl}
 use Rattle.std.proofs.lemmas.Option.{slice_get-get_or}
-use Rattle.bit_addressing.specs.declared.length.GrowError.{GrowError}
+use Rattle.bit_addressing.specs.declared.errors.GrowError.{GrowError}
 use Rattle.std.proofs.lemmas.List.{take_more}
 use Rattle.bit_addressing.specs.declared.length.TheConstants.{MAX_BITS}
 use Rattle.bit_containers.specs.declared.machine.Command.{Command}

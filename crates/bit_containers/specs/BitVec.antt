@@ -1,10 +1,10 @@
 -- What a contract sees of a vector, and what calls do to it.
-use Rattle.std.specs.Prelude.{◌≡◌, ℕ, ◌+◌, ◌-◌, ◌*◌, ◌^◌, ◌<◌, ◌≤◌, ◌↔◌, Bool, false, List, length, min, refl, Result, Err, OnErr}
+use Rattle.std.specs.Prelude.{◌≡◌, ℕ, ◌+◌, ◌-◌, ◌*◌, ◌^◌, ◌<◌, ◌≤◌, ◌↔◌, Bool, false, List, length, take, min, refl, Result, Err, OnErr}
 use Rattle.std.specs.Coded.{Coded, code_by, coded×, coded_list, coded_ℕ, coded_bool}
 use Rattle.bit_addressing.specs.Row.{words_for, put, sized, filled}
 use Rattle.bit_addressing.specs.declared.length.TheConstants.{MAX_BITS}
-use Rattle.bit_addressing.specs.declared.length.GrowError.{GrowError}
-use Rattle.bit_addressing.specs.declared.length.GrowError.TheVariants.{TooLong, OutOfMemory}
+use Rattle.bit_addressing.specs.declared.errors.GrowError.{GrowError}
+use Rattle.bit_addressing.specs.declared.errors.GrowError.TheVariants.{TooLong, OutOfMemory}
 
 -- its visible words; their row; where the list begins in the row; the list; how many bits fit without new memory
 pub record Held (X : Type 0) : Type 0 where
@@ -42,6 +42,7 @@ pub record Grew {X : Type 0} (w : ℕ) (old new : Held X) (bits : List Bool) : T
 -- The length is n afterwards. The words are cut to the visible ones, and nothing is written.
 pub record Shrank {X : Type 0} (w : ℕ) (old new : Held X) (n : ℕ) : Type 0 where
   pub head : new.head ≡ old.head
+  pub words : new.words ≡ take (words_for w (old.head + n)) old.words
   pub len : length new.list ≡ n
   pub row : new.row ≡ sized w old.row (old.head + n)
   pub capacity : new.capacity ≡ old.capacity

@@ -3,7 +3,7 @@ use Rattle.std.specs.Prelude.{◌≡◌, ℕ, ◌-◌, ◌^◌, Bool, true, fals
 use Rattle.std.proofs.Common.{get_or, inl, inr, ap, sym, arith}
 use Rattle.std.proofs.lemmas.Bool.{true≢false}
 use Rattle.bit_addressing.specs.declared.length.TheConstants.{MAX_BITS}
-use Rattle.bit_addressing.specs.declared.length.GrowError.TheVariants.{TooLong, OutOfMemory}
+use Rattle.bit_addressing.specs.declared.errors.GrowError.TheVariants.{TooLong, OutOfMemory}
 use Rattle.bit_addressing.specs.Row.{words_for, put, sized, filled, moved}
 use Rattle.bit_containers.specs.declared.machine.Command.{Command}
 use Rattle.bit_containers.specs.declared.machine.Command.TheVariants.{Push, Pop, Get, Set, Insert, Remove, SwapRemove, Truncate, CopyWithin, Align, Len}
@@ -40,7 +40,7 @@ not_with_a_dead_bit grew = true≢false (ap (λ row. get_or row 7 false) grew.ro
 
 shrank_by_a_word : Shrank 4 five three 3
 unfolding three five sized words_for
-shrank_by_a_word = record { head = refl; len = refl; row = refl; capacity = refl }
+shrank_by_a_word = record { head = refl; words = refl; len = refl; row = refl; capacity = refl }
 
 -- a shrinking call writes nothing, not even behind the list
 not_by_writing : Shrank 4 three (record three { row = false ∷ true ∷ false ∷ false ∷ []; list = true ∷ false ∷ [] }) 2 → ⊥

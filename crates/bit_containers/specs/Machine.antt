@@ -2,8 +2,8 @@
 use Rattle.std.specs.Prelude.{◌≡◌, ℕ, ◌+◌, ◌-◌, ◌<◌, ◌≤◌, ◌⊎◌, ◌&&◌, Option, List, Bool, false, [], ◌∷◌, ◌++◌, length, take, slice_set, slice_get, insert, remove, nat_lt, nat_le, if◌then◌else◌, Some, None}
 use Rattle.std.specs.List.{swap_remove}
 use Rattle.bit_addressing.specs.Row.{moved}
-use Rattle.bit_addressing.specs.declared.length.GrowError.{GrowError}
-use Rattle.bit_addressing.specs.declared.length.GrowError.TheVariants.{TooLong, OutOfMemory}
+use Rattle.bit_addressing.specs.declared.errors.GrowError.{GrowError}
+use Rattle.bit_addressing.specs.declared.errors.GrowError.TheVariants.{TooLong, OutOfMemory}
 use Rattle.bit_addressing.specs.declared.length.TheConstants.{MAX_BITS}
 use Rattle.bit_containers.specs.declared.machine.Command.{Command}
 use Rattle.bit_containers.specs.declared.machine.Command.TheVariants.{Push, Pop, Get, Set, Insert, Remove, SwapRemove, Truncate, CopyWithin, Align, Len}

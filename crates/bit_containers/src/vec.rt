@@ -7,7 +7,7 @@ ghost use Rattle.bit_containers.specs.BitVec.{Stayed, IsClean, bits_in};
 ghost use Rattle.bit_slice.specs.BitSlice.{words_of, head_of, len_of, row_of, list_of};
 
 use bit_addressing::{
-    BitOrder, BitStore, Lsb0, MAX_BITS, cut_words, exact_words, fill_outside_in, move_bits_in,
+    BitOrder, BitStore, Lsb0, MAX_BITS, cut_words_in_vec, exact_words, fill_outside_in_vec, move_bits_in_vec,
 };
 use bit_slice::BitSlice;
 use std::alloc::{AllocError, Global};
@@ -115,7 +115,7 @@ impl<T: BitStore, O: BitOrder> BitVec<T, O> {
         let (head, len) = (view.head(), view.len());
         let mut words = Vec::new(alloc);
         words.extend_from_slice(view.as_raw_slice())?;
-        fill_outside_in::<T, O>(&mut words, head, len, false);
+        fill_outside_in_vec::<T, O>(&mut words, head, len, false);
         Ok(BitVec {
             words,
             head,
@@ -148,8 +148,8 @@ impl<T: BitStore, O: BitOrder> BitVec<T, O> {
         ensures clean { IsClean T.BITS self.old → IsClean T.BITS self.new }
         ensures capacity { self.new.capacity ≡ self.old.capacity + self.old.head }
     {
-        move_bits_in::<T, O>(&mut self.words, self.head, 0, self.len);
-        cut_words::<T, O>(&mut self.words, self.len);
+        move_bits_in_vec::<T, O>(&mut self.words, self.head, 0, self.len);
+        cut_words_in_vec::<T, O>(&mut self.words, self.len);
         self.head = 0;
     }
 
@@ -162,6 +162,6 @@ impl<T: BitStore, O: BitOrder> BitVec<T, O> {
         ensures clean { self.old.head ≡ 0 → bit ≡ false → IsClean T.BITS self.new }
         ensures stayed { Stayed self.old self.new }
     {
-        fill_outside_in::<T, O>(&mut self.words, self.head, self.len, bit);
+        fill_outside_in_vec::<T, O>(&mut self.words, self.head, self.len, bit);
     }
 }

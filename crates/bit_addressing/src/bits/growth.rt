@@ -1,5 +1,5 @@
 //! Words grown or cut to a number of bits.
-ghost use Rattle.std.specs.Prelude.{◌≡◌, ◌+◌, ◌*◌, ◌^◌, ◌<◌, ◌≤◌, [], ◌∷◌, length, OnOk, OnErr, vec_capacity};
+ghost use Rattle.std.specs.Prelude.{◌≡◌, ◌+◌, ◌*◌, ◌^◌, ◌<◌, ◌≤◌, [], ◌∷◌, length, take, OnOk, OnErr, vec_capacity};
 ghost use Rattle.bit_addressing.specs.Row.{words_for, put, sized};
 ghost use Rattle.bit_addressing.specs.Typed.{row};
 
@@ -11,7 +11,7 @@ use std::alloc::AllocError;
 
 /// Cuts the words to those for `bits` bits, or fills them up with words of zero. Takes memory.
 /// It is refused only where the capacity, in words, is too small.
-pub fn resize_words<T: BitStore, O: BitOrder>(
+pub fn resize_words_in_vec<T: BitStore, O: BitOrder>(
     words: &mut Vec<T>,
     bits: usize,
 ) -> Result<(), AllocError>
@@ -28,8 +28,9 @@ pub fn resize_words<T: BitStore, O: BitOrder>(
 }
 
 /// Cuts the words to those for `bits` bits. The condition: they have room for so many.
-pub fn cut_words<T: BitStore, O: BitOrder>(words: &mut Vec<T>, bits: usize)
+pub fn cut_words_in_vec<T: BitStore, O: BitOrder>(words: &mut Vec<T>, bits: usize)
     requires { bits ≤ T.BITS * length words.old.items }
+    ensures items { words.new.items ≡ take (words_for T.BITS bits) words.old.items }
     ensures bits { row T.BitStore O.BitOrder words.new.items ≡ sized T.BITS (row T.BitStore O.BitOrder words.old.items) bits }
     ensures size { length words.new.items ≡ words_for T.BITS bits }
     ensures room { bits ≤ T.BITS * length words.new.items }
@@ -42,7 +43,7 @@ pub fn cut_words<T: BitStore, O: BitOrder>(words: &mut Vec<T>, bits: usize)
 /// Joins a bit behind the first `end` bits: a word is added only where no word has room for it, and the
 /// other bits of a word that is added are false. Takes memory where a word is added.
 /// The condition: the words are those for `end` bits. It is refused only where the capacity, in words, is too small.
-pub fn push_bit<T: BitStore, O: BitOrder>(
+pub fn push_bit_in_vec<T: BitStore, O: BitOrder>(
     words: &mut Vec<T>,
     end: usize,
     bit: bool,

@@ -11,7 +11,7 @@ use crate::order::BitOrder;
 use crate::store::BitStore;
 
 /// As `write_bit`, in the words of a vector.
-pub fn write_bit_in<T: BitStore, O: BitOrder>(words: &mut Vec<T>, at: usize, bit: bool)
+pub fn write_bit_in_vec<T: BitStore, O: BitOrder>(words: &mut Vec<T>, at: usize, bit: bool)
     requires { at < T.BITS * length words.old.items }
     ensures bits { row T.BitStore O.BitOrder words.new.items ≡ set (row T.BitStore O.BitOrder words.old.items) at bit }
     ensures size { length words.new.items ≡ length words.old.items }
@@ -21,7 +21,7 @@ pub fn write_bit_in<T: BitStore, O: BitOrder>(words: &mut Vec<T>, at: usize, bit
 }
 
 /// As `fill_bits`, in the words of a vector.
-pub fn fill_bits_in<T: BitStore, O: BitOrder>(
+pub fn fill_bits_in_vec<T: BitStore, O: BitOrder>(
     words: &mut Vec<T>,
     from: usize,
     upto: usize,
@@ -37,7 +37,7 @@ pub fn fill_bits_in<T: BitStore, O: BitOrder>(
 }
 
 /// As `fill_outside`, in the words of a vector.
-pub fn fill_outside_in<T: BitStore, O: BitOrder>(
+pub fn fill_outside_in_vec<T: BitStore, O: BitOrder>(
     words: &mut Vec<T>,
     head: usize,
     len: usize,
@@ -53,7 +53,7 @@ pub fn fill_outside_in<T: BitStore, O: BitOrder>(
 }
 
 /// As `flip_bits`, in the words of a vector.
-pub fn flip_bits_in<T: BitStore, O: BitOrder>(words: &mut Vec<T>)
+pub fn flip_bits_in_vec<T: BitStore, O: BitOrder>(words: &mut Vec<T>)
     ensures bits { row T.BitStore O.BitOrder words.new.items ≡ map not (row T.BitStore O.BitOrder words.old.items) }
     ensures size { length words.new.items ≡ length words.old.items }
     ensures capacity { vec_capacity words.new ≡ vec_capacity words.old }
@@ -62,7 +62,7 @@ pub fn flip_bits_in<T: BitStore, O: BitOrder>(words: &mut Vec<T>)
 }
 
 /// As `copy_bits`, into the words of a vector.
-pub fn copy_bits_in<T: BitStore, O: BitOrder, U: BitStore, P: BitOrder>(
+pub fn copy_bits_in_vec<T: BitStore, O: BitOrder, U: BitStore, P: BitOrder>(
     words: &mut Vec<T>,
     at: usize,
     source: &[U],
@@ -81,7 +81,12 @@ pub fn copy_bits_in<T: BitStore, O: BitOrder, U: BitStore, P: BitOrder>(
 }
 
 /// As `move_bits`, in the words of a vector.
-pub fn move_bits_in<T: BitStore, O: BitOrder>(words: &mut Vec<T>, src: usize, dst: usize, n: usize)
+pub fn move_bits_in_vec<T: BitStore, O: BitOrder>(
+    words: &mut Vec<T>,
+    src: usize,
+    dst: usize,
+    n: usize,
+)
     requires room { T.BITS * length words.old.items ≤ MAX_BITS + 2 * T.BITS }
     requires source { src + n ≤ T.BITS * length words.old.items }
     requires target { dst + n ≤ T.BITS * length words.old.items }

@@ -1,9 +1,10 @@
 //! Rows of words: single bits, runs, copies, chunks, counts and comparisons.
 use crate::tests::orders::{Scramble, Xor4};
 use crate::{
-    And, Lsb0, Msb0, combine_bits, copy_bits, copy_bits_alike, copy_bits_in, count_bits, cut_words,
-    differ_at, fill_bits, fill_bits_in, find_bit, flip_bits, flip_bits_in, move_bits_in, push_bit,
-    read_bit, read_chunk, resize_words, write_bit, write_bit_in, write_chunk,
+    And, Lsb0, Msb0, combine_bits, copy_bits, copy_bits_alike, copy_bits_in_vec, count_bits,
+    cut_words_in_vec, differ_at, fill_bits, fill_bits_in_vec, find_bit, flip_bits,
+    flip_bits_in_vec, move_bits_in_vec, push_bit_in_vec, read_bit, read_chunk, resize_words_in_vec,
+    write_bit, write_bit_in_vec, write_chunk,
 };
 use std::test::Fail;
 
@@ -35,24 +36,24 @@ fn bits_of_words(rt: HostRuntime) {
 #[test]
 fn words_of_a_vector(rt: HostRuntime) -> Result<(), Fail> {
     let mut words = vec![in rt.alloc(); 0xffu8]?;
-    resize_words::<u8, Lsb0>(&mut words, 9)?;
+    resize_words_in_vec::<u8, Lsb0>(&mut words, 9)?;
     assert_eq!(rt; words.as_slice(), [0xff, 0x00].as_slice());
     assert!(rt; words.len() == 2);
-    write_bit_in::<u8, Lsb0>(&mut words, 0, false);
-    fill_bits_in::<u8, Lsb0>(&mut words, 6, 10, true);
+    write_bit_in_vec::<u8, Lsb0>(&mut words, 0, false);
+    fill_bits_in_vec::<u8, Lsb0>(&mut words, 6, 10, true);
     assert_eq!(rt; words.as_slice(), [0xfe, 0x03].as_slice());
     assert!(rt; words.len() == 2);
-    flip_bits_in::<u8, Lsb0>(&mut words);
-    copy_bits_in::<u8, Lsb0, u16, Msb0>(&mut words, 4, &[0xf000], 0, 4);
+    flip_bits_in_vec::<u8, Lsb0>(&mut words);
+    copy_bits_in_vec::<u8, Lsb0, u16, Msb0>(&mut words, 4, &[0xf000], 0, 4);
     assert_eq!(rt; words.as_slice(), [0xf1, 0xfc].as_slice());
     assert!(rt; words.len() == 2);
-    move_bits_in::<u8, Lsb0>(&mut words, 4, 0, 8);
+    move_bits_in_vec::<u8, Lsb0>(&mut words, 4, 0, 8);
     assert_eq!(rt; words.as_slice(), [0xcf, 0xfc].as_slice());
     assert!(rt; words.len() == 2);
-    cut_words::<u8, Lsb0>(&mut words, 8);
+    cut_words_in_vec::<u8, Lsb0>(&mut words, 8);
     assert_eq!(rt; words.as_slice(), [0xcf].as_slice());
     assert!(rt; words.len() == 1);
-    push_bit::<u8, Lsb0>(&mut words, 8, true)?;
+    push_bit_in_vec::<u8, Lsb0>(&mut words, 8, true)?;
     assert_eq!(rt; words.as_slice(), [0xcf, 0x01].as_slice());
     Ok(())
 }

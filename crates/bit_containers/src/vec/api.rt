@@ -6,8 +6,8 @@ ghost use Rattle.bit_containers.specs.BitVec.{Grew, Shrank, IsClean, RefusesOnly
 
 use crate::vec::BitVec;
 use bit_addressing::{
-    BitOrder, BitStore, GrowError, MAX_BITS, cut_words, move_bits_in, push_bit, read_bit,
-    write_bit_in,
+    BitOrder, BitStore, GrowError, MAX_BITS, cut_words_in_vec, move_bits_in_vec, push_bit_in_vec, read_bit,
+    write_bit_in_vec,
 };
 
 impl<T: BitStore, O: BitOrder> BitVec<T, O> {
@@ -50,7 +50,7 @@ impl<T: BitStore, O: BitOrder> BitVec<T, O> {
             return Err(GrowError::TooLong);
         }
         let end = self.head + self.len;
-        let Ok(()) = push_bit::<T, O>(&mut self.words, end, bit) else {
+        let Ok(()) = push_bit_in_vec::<T, O>(&mut self.words, end, bit) else {
             return Err(GrowError::OutOfMemory);
         };
         self.len += 1;
@@ -76,7 +76,7 @@ impl<T: BitStore, O: BitOrder> BitVec<T, O> {
         }
         let last = self.head + (self.len - 1);
         let bit = read_bit::<T, O>(self.words.as_slice(), last);
-        cut_words::<T, O>(&mut self.words, last);
+        cut_words_in_vec::<T, O>(&mut self.words, last);
         self.len -= 1;
         Some(bit)
     }
@@ -89,7 +89,7 @@ impl<T: BitStore, O: BitOrder> BitVec<T, O> {
         ensures row { Shrank T.BITS self.old self.new (min n (length self.old.list)) }
     {
         if n < self.len {
-            cut_words::<T, O>(&mut self.words, self.head + n);
+            cut_words_in_vec::<T, O>(&mut self.words, self.head + n);
             self.len = n;
         }
     }
@@ -110,8 +110,8 @@ impl<T: BitStore, O: BitOrder> BitVec<T, O> {
         self.push(bit)?;
         let at = self.head + i;
         let behind = self.len - 1 - i;
-        move_bits_in::<T, O>(&mut self.words, at, at + 1, behind);
-        write_bit_in::<T, O>(&mut self.words, at, bit);
+        move_bits_in_vec::<T, O>(&mut self.words, at, at + 1, behind);
+        write_bit_in_vec::<T, O>(&mut self.words, at, bit);
         Ok(())
     }
 
@@ -129,8 +129,8 @@ impl<T: BitStore, O: BitOrder> BitVec<T, O> {
         let at = self.head + i;
         let less = self.len - 1;
         let bit = read_bit::<T, O>(self.words.as_slice(), at);
-        move_bits_in::<T, O>(&mut self.words, at + 1, at, less - i);
-        cut_words::<T, O>(&mut self.words, self.head + less);
+        move_bits_in_vec::<T, O>(&mut self.words, at + 1, at, less - i);
+        cut_words_in_vec::<T, O>(&mut self.words, self.head + less);
         self.len = less;
         bit
     }
@@ -150,8 +150,8 @@ impl<T: BitStore, O: BitOrder> BitVec<T, O> {
         let less = self.len - 1;
         let bit = read_bit::<T, O>(self.words.as_slice(), at);
         let last = read_bit::<T, O>(self.words.as_slice(), self.head + less);
-        write_bit_in::<T, O>(&mut self.words, at, last);
-        cut_words::<T, O>(&mut self.words, self.head + less);
+        write_bit_in_vec::<T, O>(&mut self.words, at, last);
+        cut_words_in_vec::<T, O>(&mut self.words, self.head + less);
         self.len = less;
         bit
     }

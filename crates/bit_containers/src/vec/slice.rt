@@ -7,7 +7,7 @@ ghost use Rattle.bit_slice.specs.BitSlice.{len_of, list_of};
 
 use crate::vec::BitVec;
 use bit_addressing::{
-    BitOrder, BitStore, RangeExt, copy_bits_in, fill_bits_in, move_bits_in, read_bit, write_bit_in,
+    BitOrder, BitStore, RangeExt, copy_bits_in_vec, fill_bits_in_vec, move_bits_in_vec, read_bit, write_bit_in_vec,
 };
 use bit_slice::BitSlice;
 
@@ -76,7 +76,7 @@ impl<T: BitStore, O: BitOrder> BitVec<T, O> {
         ensures clean { IsClean T.BITS self.old → IsClean T.BITS self.new }
         ensures stayed { Stayed self.old self.new }
     {
-        write_bit_in::<T, O>(&mut self.words, self.head + i, bit);
+        write_bit_in_vec::<T, O>(&mut self.words, self.head + i, bit);
     }
 
     /// Writes the bit at `i`, and answers the one that was there. Takes no memory. The condition: `i` is below
@@ -119,7 +119,7 @@ impl<T: BitStore, O: BitOrder> BitVec<T, O> {
         ensures stayed { Stayed self.old self.new }
     {
         let (head, len) = (self.head, self.len);
-        fill_bits_in::<T, O>(&mut self.words, head, head + len, bit);
+        fill_bits_in_vec::<T, O>(&mut self.words, head, head + len, bit);
     }
 
     /// Copies the range's bits to the places from `dest` on, as if they were copied out first. No other bit
@@ -139,7 +139,7 @@ impl<T: BitStore, O: BitOrder> BitVec<T, O> {
         let len = self.len;
         let range = range.normalize(len);
         let (from, to) = (self.head + range.start, self.head + dest);
-        move_bits_in::<T, O>(&mut self.words, from, to, range.end - range.start);
+        move_bits_in_vec::<T, O>(&mut self.words, from, to, range.end - range.start);
     }
 
     /// Writes the bits of a view, of any word type and order, over those of the list. No dead bit changes.
@@ -154,6 +154,6 @@ impl<T: BitStore, O: BitOrder> BitVec<T, O> {
     {
         let (head, len) = (self.head, self.len);
         let from = source.head();
-        copy_bits_in::<T, O, U, P>(&mut self.words, head, source.as_raw_slice(), from, len);
+        copy_bits_in_vec::<T, O, U, P>(&mut self.words, head, source.as_raw_slice(), from, len);
     }
 }

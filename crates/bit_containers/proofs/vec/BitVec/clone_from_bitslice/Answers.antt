@@ -16,7 +16,7 @@ returns-clause-row g c =
     let now = c.args.self.now in
     let s = c.args.source in
     let len : i.len ≡ s.len = sym c.self.invariant.shows ∙ ap (λ v. length v.list) c.self.view_is ∙ sym c.requires in
-    c.copy_bits_in.ensures.bits
+    c.copy_bits_in_vec.ensures.bits
     ∙ ap (λ v. put v.row v.head (slice_range (row g.U.BitStore g.P.BitOrder c.as_raw_slice.result.now) c.head-from.result (c.head-from.result + i.len))) c.self.view_is
     ∙ ap (λ ws. put now.row now.head (slice_range (row g.U.BitStore g.P.BitOrder ws) c.head-from.result (c.head-from.result + i.len))) c.as_raw_slice.ensures.words
     ∙ ap (λ n. put now.row now.head (slice_range (row g.U.BitStore g.P.BitOrder s.words.now) n (n + i.len))) c.head-from.ensures.value

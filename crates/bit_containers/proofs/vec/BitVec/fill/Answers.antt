@@ -14,7 +14,7 @@ returns-clause-list g c =
     let bits = row g.T.BitStore g.O.BitOrder i.words.items in
     let fits = shown g.T.BitStore g.O.BitOrder i.words.items i.head i.len g.met.T.BitStore.width c.self.invariant in
     let size : i.head + i.len - i.head ≡ i.len = omega arith in
-    ap (λ r. slice_range r i.head (i.head + i.len)) (c.fill_bits_in.ensures.bits ∙ ap (λ n. put bits i.head (replicate n c.args.bit)) size)
+    ap (λ r. slice_range r i.head (i.head + i.len)) (c.fill_bits_in_vec.ensures.bits ∙ ap (λ n. put bits i.head (replicate n c.args.bit)) size)
     ∙ shown_filled bits (replicate i.len c.args.bit) i.head i.len (sym (length-replicate i.len c.args.bit)) fits
     ∙ ap (λ n. replicate n c.args.bit) (sym c.self.invariant.shows ∙ ap (λ v. length v.list) c.self.view_is)
 
@@ -25,4 +25,4 @@ returns-clause-clean g c =
     let w = g.T.BitStore.BITS in
     let len : i.head + i.len - i.head ≡ length now.list = omega (arith, c.self.invariant.shows, ap (λ v. length v.list) c.self.view_is) in
     clean_whole w now _ (replicate (length now.list) c.args.bit) (width_positive w g.met.T.BitStore.width) (length-replicate (length now.list) c.args.bit) (ap (λ v. v.head) c.self.view_is) (returns-clause-list g c)
-    (c.fill_bits_in.ensures.bits ∙ ap (λ v. put v.row v.head (replicate (i.head + i.len - i.head) c.args.bit)) c.self.view_is ∙ ap (λ n. put now.row now.head (replicate n c.args.bit)) len)
+    (c.fill_bits_in_vec.ensures.bits ∙ ap (λ v. put v.row v.head (replicate (i.head + i.len - i.head) c.args.bit)) c.self.view_is ∙ ap (λ n. put now.row now.head (replicate n c.args.bit)) len)

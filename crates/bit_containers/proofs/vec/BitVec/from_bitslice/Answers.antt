@@ -9,8 +9,8 @@ use Rattle.bit_containers.specs.BitVec.{IsVector}
 use Rattle.bit_containers.proofs.Vectors.{canonical}
 use Rattle.bit_containers.proofs.vec.BitVec.from_bitslice.Goals as goal
 
-pub fill_outside_in-requires-clause-fits : goal.fill_outside_in-requires-clause-fits
-fill_outside_in-requires-clause-fits g c =
+pub fill_outside_in_vec-requires-clause-fits : goal.fill_outside_in_vec-requires-clause-fits
+fill_outside_in_vec-requires-clause-fits g c =
     let w = g.T.BitStore.BITS in
     let v = c.args.view in
     let copied : c.extend_from_slice.new.self.items ≡ v.words.now = c.in_ok-extend_from_slice.ensures.items ∙ ap (λ l. l ++ c.as_raw_slice.result.now) c.new-words.ensures.items ∙ c.as_raw_slice.ensures.words in
@@ -28,7 +28,7 @@ returns-clause-list g c =
     let copied : c.extend_from_slice.new.self.items ≡ v.words.now = c.in_ok-extend_from_slice.ensures.items ∙ ap (λ l. l ++ c.as_raw_slice.result.now) c.new-words.ensures.items ∙ c.as_raw_slice.ensures.words in
     let size : length (bits v.words.now) ≡ g.T.BitStore.BITS * length v.words.now = length_row g.T.BitStore.value g.O.BitOrder.place g.T.BitStore.BITS v.words.now in
     let fits : v.head + v.len ≤ length (bits v.words.now) = let r = v.fits.room in omega arith in
-    rw (c.fill_outside_in.ensures.bits, copied, c.head-head.ensures.value, c.len-len.ensures.value) (shows_filled (bits v.words.now) v.head v.len false fits)
+    rw (c.fill_outside_in_vec.ensures.bits, copied, c.head-head.ensures.value, c.len-len.ensures.value) (shows_filled (bits v.words.now) v.head v.len false fits)
 
 pub returns-clause-clean : goal.returns-clause-clean
 returns-clause-clean g c none =
@@ -38,5 +38,5 @@ returns-clause-clean g c none =
     let here : IsVector w (length v.words.now) v.head v.len v.len = record { head_below = v.fits.in_word; len_small = v.fits.few; count = v.fits.exact; fits = v.fits.room; shows = refl } in
     let is : IsVector w (length c.extend_from_slice.new.self.items) c.head-head.result c.len-len.result v.len = rw (copied, c.head-head.ensures.value, c.len-len.ensures.value) here in
     let zero : c.head-head.result ≡ 0 = c.head-head.ensures.value ∙ none in
-    let made = canonical g.T.BitStore g.O.BitOrder c.extend_from_slice.new.self.items c.fill_outside_in.new.words.items c.head-head.result c.len-len.result false g.met.T.BitStore.width is c.fill_outside_in.ensures.size c.fill_outside_in.ensures.bits zero refl in
+    let made = canonical g.T.BitStore g.O.BitOrder c.extend_from_slice.new.self.items c.fill_outside_in_vec.new.words.items c.head-head.result c.len-len.result false g.met.T.BitStore.width is c.fill_outside_in_vec.ensures.size c.fill_outside_in_vec.ensures.bits zero refl in
     record { head = zero; row = made.row }

@@ -15,6 +15,7 @@ returns-then-self-eq0-clause-row g c =
     let none : i.len - 1 ≡ i.len = omega arith in
     rw (← c.self.view_is, c.self.invariant.shows, none) (record {
       head = refl;
+      words = sym (take_all (words_for w (i.head + i.len)) i.words.items (omega (arith, c.self.invariant.count)));
       len = c.self.invariant.shows;
       capacity = refl;
       row = sym (sized_same w (row g.T.BitStore g.O.BitOrder i.words.items) (i.head + i.len) (length_row g.T.BitStore.value g.O.BitOrder.place w i.words.items ∙ ap (λ n. w * n) c.self.invariant.count));
@@ -27,14 +28,14 @@ returns-clause-answer g c =
     let bits = row g.T.BitStore g.O.BitOrder i.words.items in
     let fits = shown g.T.BitStore g.O.BitOrder i.words.items i.head i.len g.met.T.BitStore.width c.self.invariant in
     rw (← c.self.view_is) (popped_shows w bits i.head i.len c.read_bit-bit.result (width_positive w g.met.T.BitStore.width) (omega arith) fits (rw (← c.as_slice.ensures.value) c.read_bit-bit.ensures)
-    ∙ ap (λ r. slice_range r i.head (i.head + (i.len - 1)) ++ c.read_bit-bit.result ∷ []) (sym c.cut_words.ensures.bits))
+    ∙ ap (λ r. slice_range r i.head (i.head + (i.len - 1)) ++ c.read_bit-bit.result ∷ []) (sym c.cut_words_in_vec.ensures.bits))
 
 pub returns-clause-list : goal.returns-clause-list
 returns-clause-list g c =
     let i = c.self.inside in
     let w = g.T.BitStore.BITS in
     let fits = shown g.T.BitStore g.O.BitOrder i.words.items i.head i.len g.met.T.BitStore.width c.self.invariant in
-    rw (← c.self.view_is, c.self.invariant.shows) (ap (λ r. slice_range r i.head (i.head + (i.len - 1))) c.cut_words.ensures.bits ∙ shrunk_shows w (row g.T.BitStore g.O.BitOrder i.words.items) i.head i.len (i.len - 1) (width_positive w g.met.T.BitStore.width) (omega arith) fits)
+    rw (← c.self.view_is, c.self.invariant.shows) (ap (λ r. slice_range r i.head (i.head + (i.len - 1))) c.cut_words_in_vec.ensures.bits ∙ shrunk_shows w (row g.T.BitStore g.O.BitOrder i.words.items) i.head i.len (i.len - 1) (width_positive w g.met.T.BitStore.width) (omega arith) fits)
 
 pub returns-clause-value : goal.returns-clause-value
 returns-clause-value g c =
@@ -49,4 +50,4 @@ returns-clause-clean g c other =
     let w = g.T.BitStore.BITS in
     let len : i.len ≡ length now.list = sym c.self.invariant.shows ∙ ap (λ v. length v.list) c.self.view_is in
     clean_popped w now _ c.read_bit-bit.result (width_positive w g.met.T.BitStore.width) other (ap (λ v. v.head) c.self.view_is) (returns-clause-answer g c)
-    (c.cut_words.ensures.bits ∙ ap (λ v. sized w v.row (v.head + (i.len - 1))) c.self.view_is ∙ ap (λ n. sized w now.row (now.head + (n - 1))) len)
+    (c.cut_words_in_vec.ensures.bits ∙ ap (λ v. sized w v.row (v.head + (i.len - 1))) c.self.view_is ∙ ap (λ n. sized w now.row (now.head + (n - 1))) len)

@@ -15,7 +15,7 @@ returns-in_default-clause-refusal g c =
     rw (← c.self.view_is, c.self.invariant.shows) (record {
       too_long = ((λ e. cc), (λ h. absurd (omega (arith, c.self.invariant.len_small, c.if-self-eq-MAX_BITS.false))));
       memory = λ _. no_room g.T.BitStore.BITS (vec_capacity i.words) i.head (i.len + 1) (width_positive _ g.met.T.BitStore.width) (omega arith) (subst (λ b. vec_capacity i.words < words_for g.T.BitStore.BITS b) (omega arith) c.in_default.ensures.full);
-      unchanged = kept g.T.BitStore g.O.BitOrder i.words.items c.push_bit.new.words.items i.head i.len _ _ same;
+      unchanged = kept g.T.BitStore g.O.BitOrder i.words.items c.push_bit_in_vec.new.words.items i.head i.len _ _ same;
     })
 
 pub returns-clause-list : goal.returns-clause-list

@@ -11,7 +11,7 @@ returns-clause-list g c =
     let i = c.self.inside in
     let fits = shown g.T.BitStore g.O.BitOrder i.words.items i.head i.len g.met.T.BitStore.width c.self.invariant in
     let len : i.len ≡ length c.args.self.now.list = sym c.self.invariant.shows ∙ ap (λ v. length v.list) c.self.view_is in
-    ap (λ r. slice_range r i.head (i.head + i.len)) c.write_bit_in.ensures.bits
+    ap (λ r. slice_range r i.head (i.head + i.len)) c.write_bit_in_vec.ensures.bits
     ∙ shows_set (row g.T.BitStore g.O.BitOrder i.words.items) i.head i.len c.args.i c.args.bit (omega arith) fits
     ∙ ap (λ v. set v.list c.args.i c.args.bit) c.self.view_is
 
@@ -19,4 +19,4 @@ pub returns-clause-clean : goal.returns-clause-clean
 returns-clause-clean g c =
     let w = g.T.BitStore.BITS in
     clean_set w c.args.self.now _ c.args.i c.args.bit (width_positive w g.met.T.BitStore.width) c.requires (ap (λ v. v.head) c.self.view_is) (returns-clause-list g c)
-    (c.write_bit_in.ensures.bits ∙ ap (λ v. set v.row (v.head + c.args.i) c.args.bit) c.self.view_is)
+    (c.write_bit_in_vec.ensures.bits ∙ ap (λ v. set v.row (v.head + c.args.i) c.args.bit) c.self.view_is)

@@ -5,8 +5,8 @@ use Rattle.bit_addressing.proofs.Rows.{width_positive, width_small}
 use Rattle.bit_containers.proofs.Vectors.{shown, canonical, few_words}
 use Rattle.bit_containers.proofs.vec.BitVec.set_uninitialized.Goals as goal
 
-pub fill_outside_in-requires-clause-fits : goal.fill_outside_in-requires-clause-fits
-fill_outside_in-requires-clause-fits g c =
+pub fill_outside_in_vec-requires-clause-fits : goal.fill_outside_in_vec-requires-clause-fits
+fill_outside_in_vec-requires-clause-fits g c =
     let w = g.T.BitStore.BITS in
     let i = c.self.inside in
     let small = width_small w g.met.T.BitStore.width in
@@ -16,14 +16,14 @@ fill_outside_in-requires-clause-fits g c =
 pub returns-clause-list : goal.returns-clause-list
 returns-clause-list g c =
     let i = c.self.inside in
-    ap (λ r. slice_range r i.head (i.head + i.len)) c.fill_outside_in.ensures.bits
+    ap (λ r. slice_range r i.head (i.head + i.len)) c.fill_outside_in_vec.ensures.bits
     ∙ shows_filled (row g.T.BitStore g.O.BitOrder i.words.items) i.head i.len _ (shown g.T.BitStore g.O.BitOrder i.words.items i.head i.len g.met.T.BitStore.width c.self.invariant)
     ∙ ap (λ v. v.list) c.self.view_is
 
 pub returns-clause-clean : goal.returns-clause-clean
 returns-clause-clean g c none clear =
     let i = c.self.inside in
-    let made = canonical g.T.BitStore g.O.BitOrder i.words.items c.fill_outside_in.new.words.items i.head i.len c.args.bit g.met.T.BitStore.width c.self.invariant c.fill_outside_in.ensures.size c.fill_outside_in.ensures.bits (ap (λ v. v.head) c.self.view_is ∙ none) clear in
+    let made = canonical g.T.BitStore g.O.BitOrder i.words.items c.fill_outside_in_vec.new.words.items i.head i.len c.args.bit g.met.T.BitStore.width c.self.invariant c.fill_outside_in_vec.ensures.size c.fill_outside_in_vec.ensures.bits (ap (λ v. v.head) c.self.view_is ∙ none) clear in
     record {
       head = ap (λ v. v.head) c.self.view_is ∙ none;
       row = made.row;

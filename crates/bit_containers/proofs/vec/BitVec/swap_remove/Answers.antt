@@ -23,6 +23,6 @@ returns-clause-list g c =
     let fits = shown g.T.BitStore g.O.BitOrder i.words.items i.head i.len g.met.T.BitStore.width c.self.invariant in
     let len : i.len ≡ length c.args.self.now.list = sym c.self.invariant.shows ∙ ap (λ v. length v.list) c.self.view_is in
     let last = c.read_bit-last.result in
-    ap (λ r. slice_range r i.head (i.head + (i.len - 1))) (c.cut_words.ensures.bits ∙ ap (λ r. sized w r (i.head + (i.len - 1))) c.write_bit_in.ensures.bits)
+    ap (λ r. slice_range r i.head (i.head + (i.len - 1))) (c.cut_words_in_vec.ensures.bits ∙ ap (λ r. sized w r (i.head + (i.len - 1))) c.write_bit_in_vec.ensures.bits)
     ∙ swap_removed_shows w bits i.head i.len c.args.i last (width_positive w g.met.T.BitStore.width) (omega arith) fits (rw (← c.as_slice-2.ensures.value) c.read_bit-last.ensures)
     ∙ ap (λ v. swap_remove v.list c.args.i false) c.self.view_is

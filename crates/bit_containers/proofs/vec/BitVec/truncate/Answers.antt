@@ -10,7 +10,7 @@ pub returns-then-n-self-clause-list : goal.returns-then-n-self-clause-list
 returns-then-n-self-clause-list g c =
     let i = c.self.inside in
     let fits = shown g.T.BitStore g.O.BitOrder i.words.items i.head i.len g.met.T.BitStore.width c.self.invariant in
-    rw (← c.self.view_is) (ap (λ r. slice_range r i.head (i.head + c.args.n)) c.cut_words.ensures.bits ∙ shrunk_shows g.T.BitStore.BITS (row g.T.BitStore g.O.BitOrder i.words.items) i.head i.len c.args.n (width_positive _ g.met.T.BitStore.width) (omega arith) fits)
+    rw (← c.self.view_is) (ap (λ r. slice_range r i.head (i.head + c.args.n)) c.cut_words_in_vec.ensures.bits ∙ shrunk_shows g.T.BitStore.BITS (row g.T.BitStore g.O.BitOrder i.words.items) i.head i.len c.args.n (width_positive _ g.met.T.BitStore.width) (omega arith) fits)
 
 pub returns-else-n-self-clause-row : goal.returns-else-n-self-clause-row
 returns-else-n-self-clause-row g c =
@@ -19,6 +19,7 @@ returns-else-n-self-clause-row g c =
     let least : min c.args.n i.len ≡ i.len = omega arith in
     rw (← c.self.view_is, c.self.invariant.shows, least) (record {
       head = refl;
+      words = sym (take_all (words_for w (i.head + i.len)) i.words.items (omega (arith, c.self.invariant.count)));
       len = c.self.invariant.shows;
       capacity = refl;
       row = sym (sized_same w (row g.T.BitStore g.O.BitOrder i.words.items) (i.head + i.len) (length_row g.T.BitStore.value g.O.BitOrder.place w i.words.items ∙ ap (λ n. w * n) c.self.invariant.count));

@@ -4,7 +4,7 @@ use Rattle.bit_addressing.specs.Typed.{row}
 use Rattle.bit_addressing.proofs.Lists.{words_for_le, room}
 use Rattle.bit_addressing.proofs.Rows.{width_positive}
 use Rattle.bit_addressing.proofs.Typed.{row_kept}
-use Rattle.bit_addressing.proofs.bits.growth.cut_words.Goals as goal
+use Rattle.bit_addressing.proofs.bits.growth.cut_words_in_vec.Goals as goal
 
 pub returns-clause-bits : goal.returns-clause-bits
 returns-clause-bits g c =

@@ -4,7 +4,7 @@ use Rattle.bit_addressing.specs.Typed.{row}
 use Rattle.bit_addressing.proofs.Lists.{room}
 use Rattle.bit_addressing.proofs.Rows.{width_positive}
 use Rattle.bit_addressing.proofs.Typed.{row_resized}
-use Rattle.bit_addressing.proofs.bits.growth.resize_words.Goals as goal
+use Rattle.bit_addressing.proofs.bits.growth.resize_words_in_vec.Goals as goal
 
 pub returns-clause-bits : goal.returns-clause-bits
 returns-clause-bits g c =

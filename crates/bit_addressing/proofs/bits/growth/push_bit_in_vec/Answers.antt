@@ -7,7 +7,7 @@ use Rattle.bit_addressing.proofs.Lists.{room, put_one, sized_same}
 use Rattle.bit_addressing.proofs.Runs.{words_for_next, words_for_same}
 use Rattle.bit_addressing.proofs.Rows.{width_positive}
 use Rattle.bit_addressing.proofs.Typed.{row_pushed, row_write, length_row}
-use Rattle.bit_addressing.proofs.bits.growth.push_bit.Goals as goal
+use Rattle.bit_addressing.proofs.bits.growth.push_bit_in_vec.Goals as goal
 
 pub returns-in_err-push-clause-full : goal.returns-in_err-push-clause-full
 returns-in_err-push-clause-full g c =

@@ -38,7 +38,7 @@ AreWords w words = (k : ℕ) → k < length words → slice_index_or words k 0 <
 unfoldable pub words_for : ℕ → ℕ → ℕ
 words_for w b = (b + (w - 1)) / w
 
--- xs with the items from d on replaced by those of ys
+-- xs, with ys written over it from item d on
 unfoldable pub put : List Bool → ℕ → List Bool → List Bool
 put xs d ys = take d xs ++ (ys ++ drop (d + length ys) xs)
 

@@ -1,4 +1,4 @@
-//! Moves of runs of bits in a row, by words: each target word is made of at most two words of the row.
+//! Moves of runs of bits in a row, a word at a time: two neighbours, shifted, give a word of the target.
 ghost use Rattle.std.specs.Prelude.{◌≡◌, ℕ, ◌+◌, ◌-◌, ◌*◌, ◌<◌, ◌≤◌, [], ◌∷◌, map, length};
 ghost use Rattle.bit_addressing.specs.Bits.{has_bit};
 ghost use Rattle.bit_addressing.specs.Row.{row_bit, row_of, moved};

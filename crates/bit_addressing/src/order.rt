@@ -32,7 +32,7 @@ pub trait BitOrder {
     fn at<T: BitStore>(i: BitIdx<T>) -> BitPos<T>
         ensures { result ≡ place T.BITS i };
 
-    /// The word with the places of the indices `from..upto` set, and no other. The condition: `from` is at most `upto`.
+    /// The word whose set bits are those at the indices `from..upto`. The condition: `from` is at most `upto`.
     fn mask<T: BitStore>(from: BitIdx<T>, upto: BitEnd<T>) -> T
         requires { from ≤ upto }
         ensures { (i : ℕ) → i < T.BITS → has_bit (T.value result) (place T.BITS i) ≡ (leb from i && ltb i upto) }

@@ -9,7 +9,6 @@ pub mod Canon
 pub mod Moves
 pub mod MovedLists
 pub mod Chunks
-pub mod Counts
 pub mod Differs
 pub mod Finds
 pub mod Reverse
@@ -18,3 +17,4 @@ pub mod Combined
 pub mod Packs
 pub mod Blocks
 pub mod Shifts
+pub mod Counts

@@ -58,7 +58,7 @@ drop_empty_last ([] ∷ []) = []
 drop_empty_last ((b ∷ bytes) ∷ []) = (b ∷ bytes) ∷ []
 drop_empty_last (line ∷ next ∷ more) = line ∷ drop_empty_last (next ∷ more)
 
--- the lines of a text, without their line feeds; one at the very end begins no further line
+-- the lines of a text, without their line feeds; one one at the end of the text begins none after it
 abbrev pub lines_of : List ℕ → List (List ℕ)
 lines_of text = drop_empty_last (slice_split (λ b. b == 10) text)
 

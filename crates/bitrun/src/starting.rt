@@ -6,7 +6,7 @@ use std::io::{Read, Write};
 
 /// Runs what the words after the program's name ask for, and answers the status.
 ///
-/// They are a word, one of `u8 u16 u32 u64 usize`, and an order, `lsb0` or `msb0`. With other words
+/// They are the type of the words, `u8` to `u64` or `usize`, and their order, `lsb0` or `msb0`. With other words
 /// the usage is written, and the status is 2.
 pub fn start<R: Read + Drop, W: Write + Drop>(
     alloc: Global,

@@ -5,12 +5,11 @@ ghost use Rattle.bit_addressing.specs.Row.{IsFirst, IsFirstDifference};
 ghost use Rattle.bit_addressing.specs.Typed.{row};
 
 use crate::bits::chunks::{block_at, read_chunk, word_number};
-use crate::order::BitOrder;
+use crate::order::{BitOrder, Lsb0};
 use crate::store::BitStore;
 
-/// How many bits of the row are set at the places `from..upto`.
-/// The condition: `from` is at most `upto`, which is at most the row's length.
-pub fn count_bits<T: BitStore, O: BitOrder>(words: &[T], from: usize, upto: usize) -> usize
+/// As `count_bits`, whole words too by the order `O`.
+fn count_in_order<T: BitStore, O: BitOrder>(words: &[T], from: usize, upto: usize) -> usize
     requires ordered { from ≤ upto }
     requires within { upto ≤ T.BITS * length words.now }
     ensures { result ≡ count_by (λ b. b) (slice_range (row T.BitStore O.BitOrder words.now) from upto) }
@@ -39,6 +38,30 @@ pub fn count_bits<T: BitStore, O: BitOrder>(words: &[T], from: usize, upto: usiz
     }
     let chunk = read_chunk::<T, O>(words, last * width, end as u8);
     count + chunk.count_ones() as usize
+}
+
+/// How many bits of the row are set at the places `from..upto`. A whole word has as many set in each order,
+/// so the order matters at the ends alone.
+/// The condition: `from` is at most `upto`, which is at most the row's length.
+pub fn count_bits<T: BitStore, O: BitOrder>(words: &[T], from: usize, upto: usize) -> usize
+    requires ordered { from ≤ upto }
+    requires within { upto ≤ T.BITS * length words.now }
+    ensures { result ≡ count_by (λ b. b) (slice_range (row T.BitStore O.BitOrder words.now) from upto) }
+{
+    if from == upto {
+        return 0;
+    }
+    let width = T::BITS as usize;
+    let first = from / width;
+    let last = (upto - 1) / width;
+    if first == last {
+        let chunk = read_chunk::<T, O>(words, from, (upto - from) as u8);
+        return chunk.count_ones() as usize;
+    }
+    let head = read_chunk::<T, O>(words, from, (width - from % width) as u8);
+    let whole = count_in_order::<T, Lsb0>(words, (first + 1) * width, last * width);
+    let tail = read_chunk::<T, O>(words, last * width, ((upto - 1) % width + 1) as u8);
+    head.count_ones() as usize + whole + tail.count_ones() as usize
 }
 
 /// How many blocks of 64 bits from word `k` on have another block behind them, in so many words.

@@ -1,7 +1,7 @@
 use Rattle.std.proofs.Common.{◌≡◌, ◌+◌, ◌*◌, ◌/◌, slice_range}
 use Rattle.std.specs.List.{count_by}
 use Rattle.bit_addressing.specs.Typed.{row}
-use Rattle.bit_addressing.proofs.bits.searches.count_bits.Given as goal
+use Rattle.bit_addressing.proofs.bits.searches.count_in_order.Given as goal
 
 abbrev pub invariant-loop-t : goal.invariant-loop-t
 invariant-loop-t g l = record { counted : l.count ≡ count_by (λ b. b) (slice_range (row g.T.BitStore g.O.BitOrder l.words) l.from ((l.from / g.T.BitStore.BITS + 1) * g.T.BitStore.BITS + l.t * 64)) }

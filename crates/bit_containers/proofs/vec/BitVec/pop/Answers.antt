@@ -1,5 +1,6 @@
 use Rattle.std.proofs.Common.{◌≡◌, ◌+◌, ◌-◌, ◌*◌, [], ◌∷◌, ◌++◌, length, slice_range, refl, sym, ◌∙◌, ap, arith}
-use Rattle.bit_addressing.specs.Row.{sized}
+use Rattle.std.proofs.lemmas.List.{take_all}
+use Rattle.bit_addressing.specs.Row.{words_for, sized}
 use Rattle.bit_addressing.specs.Typed.{row}
 use Rattle.bit_addressing.proofs.Lists.{shows_some, shrunk_shows, sized_same, popped_shows}
 use Rattle.bit_addressing.proofs.Rows.{width_positive}

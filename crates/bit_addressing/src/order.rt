@@ -81,6 +81,24 @@ pub trait BitOrder {
         Self::with_run(T::ZERO, low, high, at, from, upto)
     }
 
+    /// As `window`, as a number: the word whose place `i` has bit `at + i` of the two words.
+    fn window_lsb0<T: BitStore>(low: T, high: T, at: BitIdx<T>) -> T
+        ensures { (i : ℕ) → i < T.BITS → has_bit (T.value result) i ≡ row_bit place T.BITS (T.value low ∷ T.value high ∷ []) (at + i) }
+    {
+        let begin = at.into_inner();
+        let mut word = T::ZERO;
+        for i in 0..T::BITS {
+            let j = begin + i;
+            let bit = if j < T::BITS {
+                low.bit(Self::at(BitIdx::<T>::new_unchecked(j)).into_inner())
+            } else {
+                high.bit(Self::at(BitIdx::<T>::new_unchecked(j - T::BITS)).into_inner())
+            };
+            word = word.with_bit(i, bit);
+        }
+        word
+    }
+
     /// `old` with its bits at the indices `from..upto` replaced: that at index `i` is bit `at + i` of the
     /// two words one after the other. The condition: `from` is at most `upto`.
     fn with_run<T: BitStore>(
@@ -201,6 +219,10 @@ impl BitOrder for Lsb0 {
         low.shr(begin).or(high.shl(T::BITS - begin))
     }
 
+    fn window_lsb0<T: BitStore>(low: T, high: T, at: BitIdx<T>) -> T {
+        Lsb0::window(low, high, at)
+    }
+
     fn with_run<T: BitStore>(
         old: T,
         low: T,
@@ -249,6 +271,10 @@ impl BitOrder for Msb0 {
             return low;
         }
         low.shl(begin).or(high.shr(T::BITS - begin))
+    }
+
+    fn window_lsb0<T: BitStore>(low: T, high: T, at: BitIdx<T>) -> T {
+        Msb0::window(low, high, at).reverse()
     }
 
     fn with_run<T: BitStore>(

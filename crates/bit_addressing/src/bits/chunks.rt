@@ -82,7 +82,7 @@ fn word_of_window<T: BitStore, O: BitOrder, U: BitStore, P: BitOrder>(
     ensures { row T.BitStore O.BitOrder (result ∷ []) ≡ slice_range (row U.BitStore P.BitOrder source.now) (k * U.BITS + skip) (k * U.BITS + skip + U.BITS) }
 {
     let begin = BitIdx::<U>::new_unchecked(skip);
-    let bits = word_number::<U, P>(P::window(source[k], source[k + 1], begin));
+    let bits = P::window_lsb0(source[k], source[k + 1], begin).to_u64();
     O::from_lsb0(T::from_u64(bits))
 }
 

@@ -26,6 +26,7 @@ fn gather<T: BitStore, O: BitOrder>(
     ensures same_words { row.new.words.ghost_name ≡ row.old.words.ghost_name }
     ensures words { row.new.words.now ≡ row.old.words.now }
     ensures reads { row.new.meter.reads ≤ row.old.meter.reads + 2 }
+    ensures reads_rise { row.old.meter.reads ≤ row.new.meter.reads }
     ensures writes { row.new.meter.writes ≡ row.old.meter.writes }
 {
     let width = T::BITS as usize;
@@ -60,6 +61,7 @@ pub(crate) fn move_part<T: BitStore, O: BitOrder>(
     ensures size { length row.new.words.now ≡ length row.old.words.now }
     ensures bits { row_of O.place T.BITS (map T.value row.new.words.now) ≡ moved (row_of O.place T.BITS (map T.value row.old.words.now)) from (k * T.BITS + low) (high - low) }
     ensures reads { row.new.meter.reads ≤ row.old.meter.reads + 3 }
+    ensures reads_rise { row.old.meter.reads ≤ row.new.meter.reads }
     ensures writes { row.new.meter.writes ≡ row.old.meter.writes + 1 }
 {
     let (word, next, begin) = gather::<T, O>(row, from, low, high);
@@ -136,6 +138,7 @@ pub(crate) fn move_words<T: BitStore, O: BitOrder>(
     ensures size { length row.new.words.now ≡ length row.old.words.now }
     ensures bits { row_of O.place T.BITS (map T.value row.new.words.now) ≡ moved (row_of O.place T.BITS (map T.value row.old.words.now)) from (first * T.BITS) (count * T.BITS) }
     ensures reads { row.new.meter.reads ≤ row.old.meter.reads + 2 * count }
+    ensures reads_rise { row.old.meter.reads ≤ row.new.meter.reads }
     ensures writes { row.new.meter.writes ≡ row.old.meter.writes + count }
 {
     let width = T::BITS as usize;

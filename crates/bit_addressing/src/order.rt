@@ -151,6 +151,8 @@ pub trait BitOrder {
         ensures bits { row_of place T.BITS (map T.value row.new.words.now) ≡ moved (row_of place T.BITS (map T.value row.old.words.now)) src dst n }
         ensures reads { row.new.meter.reads ≤ row.old.meter.reads + 3 * touched T.BITS dst n }
         ensures writes { row.new.meter.writes ≤ row.old.meter.writes + touched T.BITS dst n }
+        ensures reads_rise { row.old.meter.reads ≤ row.new.meter.reads }
+        ensures writes_rise { row.old.meter.writes ≤ row.new.meter.writes }
     {
         if n == 0 {
             return;

@@ -94,4 +94,14 @@ fn indices(rt: HostRuntime) {
     assert!(rt; BitPos::<u64>::new(63).map(|p| p.into_inner()) == Some(63));
     assert!(rt; BitPos::<u64>::new(64).is_none());
     assert!(rt; BitIdx::<u8>::new(3) < BitIdx::<u8>::new(4));
+    assert!(rt;
+        BitEnd::<u8>::new(3) < BitEnd::<u8>::new(4) && BitPos::<u8>::new(3) < BitPos::<u8>::new(4)
+    );
+    assert!(rt;
+        BitIdx::<u8>::new(3) == BitIdx::<u8>::new(3) && BitEnd::<u8>::new(8) != BitEnd::<u8>::new(7)
+    );
+    assert!(rt;
+        BitPos::<u16>::new(9) == BitPos::<u16>::new(9)
+            && BitPos::<u16>::new(9) != BitPos::<u16>::new(8)
+    );
 }

@@ -1,6 +1,7 @@
 //! Words, and ranges of them.
-use crate::{BitStore, RangeExt, elts};
+use crate::{BitStore, GrowError, RangeExt, elts};
 use std::process::Abort;
+use std::test::Fail;
 
 fn operations<T: BitStore>(rt: &impl Abort) {
     let low = T::ZERO.with_bit(0, true);
@@ -41,4 +42,13 @@ fn ranges(rt: HostRuntime) {
     assert_eq!(rt; (..2).normalize(5), 0..2);
     assert_eq!(rt; (..=2).normalize(5), 0..3);
     assert_eq!(rt; (..).normalize(5), 0..5);
+}
+
+#[test]
+fn texts_of_errors(rt: HostRuntime) -> Result<(), Fail> {
+    let too_long = format!(in rt.alloc(); "{}", GrowError::TooLong)?;
+    assert_eq!(rt; too_long.as_str(), "more bits than a container holds");
+    let memory = format!(in rt.alloc(); "{}", GrowError::OutOfMemory)?;
+    assert_eq!(rt; memory.as_str(), "memory was refused");
+    Ok(())
 }

@@ -13,9 +13,9 @@ impl<T: BitStore, O: BitOrder> Clone for BitVec<T, O> {
 
     ghost is_clone = { IsCopy T.BITS };
 
-    ghost is_infallible = { λ v. v.words ≡ [] };
+    ghost is_infallible = { λ v. v.list ≡ [] };
 
-    /// A copy: as `from_bitslice` of the vector's view. Takes memory where there is a word.
+    /// A copy: as `from_bitslice` of the vector's view. Takes memory where there is a bit.
     fn clone(&self) -> Result<Self, AllocError> {
         let alloc = *self.words.allocator();
         Self::from_bitslice(alloc, self.as_bitslice())

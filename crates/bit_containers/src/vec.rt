@@ -1,5 +1,5 @@
 //! The vector: what it is, and how it is made and taken apart.
-ghost use Rattle.std.specs.Prelude.{◌≡◌, ◌+◌, ◌*◌, ◌<◌, ◌≤◌, ◌↔◌, false, [], IsTrue, IfOk, OnErr, Err, length, slice_range, vec_capacity};
+ghost use Rattle.std.specs.Prelude.{◌≡◌, ◌+◌, ◌*◌, ◌<◌, ◌≤◌, ◌↔◌, false, [], IsTrue, IfOk, IfErr, IsOk, OnErr, Err, ◌∷◌, length, slice_range, vec_capacity};
 ghost use Rattle.bit_addressing.specs.declared.length.TheConstants.{MAX_BITS};
 ghost use Rattle.bit_addressing.specs.Row.{filled, moved, sized, words_for};
 ghost use Rattle.bit_addressing.specs.Typed.{row, words_from, words_for_list};
@@ -128,6 +128,68 @@ impl<T: BitStore, O: BitOrder> BitVec<T, O> {
             head: 0,
             len,
             order: PhantomData,
+        }
+    }
+
+    /// All bits of one word: head 0. Takes memory.
+    pub fn from_element(alloc: Global, word: T) -> Result<Self, AllocError>
+        ensures words { IfOk result (λ v. v.words ≡ word ∷ []) }
+        ensures head { IfOk result (λ v. v.head ≡ 0) }
+        ensures list { IfOk result (λ v. v.list ≡ row T.BitStore O.BitOrder (word ∷ [])) }
+        ensures clean { IfOk result (λ v. IsClean T.BITS v) }
+    {
+        let mut words = Vec::new(alloc);
+        words.push(word)?;
+        Ok(Self::from_vec(words))
+    }
+
+    /// All bits of these words, which are copied: head 0. Takes memory where there is a word, and is refused
+    /// only then. The condition: they fit, as `fits` tests.
+    pub fn from_slice(alloc: Global, words: &[T]) -> Result<Self, AllocError>
+        requires { T.BITS * length words.now ≤ MAX_BITS }
+        ensures words { IfOk result (λ v. v.words ≡ words.now) }
+        ensures head { IfOk result (λ v. v.head ≡ 0) }
+        ensures list { IfOk result (λ v. v.list ≡ row T.BitStore O.BitOrder words.now) }
+        ensures clean { IfOk result (λ v. IsClean T.BITS v) }
+        ensures memory { OnErr result (0 < length words.now) }
+    {
+        let mut copied = Vec::new(alloc);
+        copied.extend_from_slice(words)?;
+        Ok(Self::from_vec(copied))
+    }
+
+    /// As `from_slice`, with no condition: it answers `TooLong` exactly where the words don't fit.
+    pub fn try_from_slice(alloc: Global, words: &[T]) -> Result<Self, GrowError>
+        ensures words { IfOk result (λ v. v.words ≡ words.now) }
+        ensures head { IfOk result (λ v. v.head ≡ 0) }
+        ensures list { IfOk result (λ v. v.list ≡ row T.BitStore O.BitOrder words.now) }
+        ensures clean { IfOk result (λ v. IsClean T.BITS v) }
+        ensures too_long { (result ≡ Err GrowError.TooLong) ↔ (MAX_BITS < T.BITS * length words.now) }
+        ensures memory { result ≡ Err GrowError.OutOfMemory → 0 < length words.now }
+    {
+        if !Self::fits(words.len()) {
+            return Err(GrowError::TooLong);
+        }
+        match Self::from_slice(alloc, words) {
+            Ok(v) => Ok(v),
+            Err(_) => Err(GrowError::OutOfMemory),
+        }
+    }
+
+    /// All bits of these words, as `from_vec`, with no condition: it hands the words back exactly where they
+    /// don't fit. Takes no memory.
+    pub fn try_from_vec(words: Vec<T>) -> Result<Self, Vec<T>>
+        ensures words { IfOk result (λ v. v.words ≡ words.items) }
+        ensures head { IfOk result (λ v. v.head ≡ 0) }
+        ensures list { IfOk result (λ v. v.list ≡ row T.BitStore O.BitOrder words.items) }
+        ensures clean { IfOk result (λ v. IsClean T.BITS v) }
+        ensures fits { IsOk result ↔ (T.BITS * length words.items ≤ MAX_BITS) }
+        ensures back { IfErr result (λ back. back ≡ words) }
+    {
+        if Self::fits(words.len()) {
+            Ok(Self::from_vec(words))
+        } else {
+            Err(words)
         }
     }
 

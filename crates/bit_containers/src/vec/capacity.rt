@@ -47,7 +47,10 @@ impl<T: BitStore, O: BitOrder> BitVec<T, O> {
             return Err(GrowError::TooLong);
         }
         let wanted = elts::<T>(self.head + (self.len + more));
-        let Ok(()) = self.words.reserve_exact(wanted.saturating_sub(self.words.len())) else {
+        let Ok(()) = self
+            .words
+            .reserve_exact(wanted.saturating_sub(self.words.len()))
+        else {
             return Err(GrowError::OutOfMemory);
         };
         Ok(())

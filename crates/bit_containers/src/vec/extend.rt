@@ -15,7 +15,10 @@ impl<T: BitStore, O: BitOrder> BitVec<T, O> {
     /// added only where no visible word has room. It answers `TooLong` exactly where the length would pass
     /// `MAX_BITS`, and `OutOfMemory` only where it would pass the capacity. A refusal leaves the vector.
     #[tactic(auto, using(crate::proofs::Vectors::shown_length))]
-    pub fn extend_from_bitslice<U: BitStore, P: BitOrder>(&mut self, view: BitSlice<'_, U, P>) -> Result<(), GrowError>
+    pub fn extend_from_bitslice<U: BitStore, P: BitOrder>(
+        &mut self,
+        view: BitSlice<'_, U, P>,
+    ) -> Result<(), GrowError>
         ensures list { OnOk result (self.new.list ≡ self.old.list ++ list_of view.entry) }
         ensures row { OnOk result (Grew T.BITS self.old self.new (list_of view.entry)) }
         ensures clean { OnOk result (IsClean T.BITS self.old → IsClean T.BITS self.new) }
@@ -37,7 +40,10 @@ impl<T: BitStore, O: BitOrder> BitVec<T, O> {
     }
 
     /// As `extend_from_bitslice`.
-    pub fn extend_from_slice<U: BitStore, P: BitOrder>(&mut self, view: BitSlice<'_, U, P>) -> Result<(), GrowError>
+    pub fn extend_from_slice<U: BitStore, P: BitOrder>(
+        &mut self,
+        view: BitSlice<'_, U, P>,
+    ) -> Result<(), GrowError>
         ensures list { OnOk result (self.new.list ≡ self.old.list ++ list_of view.entry) }
         ensures row { OnOk result (Grew T.BITS self.old self.new (list_of view.entry)) }
         ensures clean { OnOk result (IsClean T.BITS self.old → IsClean T.BITS self.new) }
@@ -49,7 +55,10 @@ impl<T: BitStore, O: BitOrder> BitVec<T, O> {
 
     /// Joins the list of another vector, of any word type and order, by whole words, and empties that one.
     /// It is refused as `extend_from_bitslice` is, and a refusal leaves both.
-    pub fn append<U: BitStore, P: BitOrder>(&mut self, other: &mut BitVec<U, P>) -> Result<(), GrowError>
+    pub fn append<U: BitStore, P: BitOrder>(
+        &mut self,
+        other: &mut BitVec<U, P>,
+    ) -> Result<(), GrowError>
         ensures list { OnOk result (self.new.list ≡ self.old.list ++ other.old.list) }
         ensures row { OnOk result (Grew T.BITS self.old self.new other.old.list) }
         ensures clean { OnOk result (IsClean T.BITS self.old → IsClean T.BITS self.new) }

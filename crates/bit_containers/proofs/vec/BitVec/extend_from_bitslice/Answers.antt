@@ -43,5 +43,5 @@ returns-clause-clean g c clean =
     let head : i.head ≡ now.head = ap (λ v. v.head) c.self.view_is in
     let upto : i.head + (i.len + c.len-more.result) ≡ now.head + length now.list + length (list_of s) = omega (arith, c.len-more.ensures.value) in
     let grown : row g.T.BitStore g.O.BitOrder c.copy_bits_in_vec.new.words.items ≡ put (sized w now.row (now.head + length now.list + length (list_of s))) (now.head + length now.list) (list_of s) =
-      c.copy_bits_in_vec.ensures.bits ∙ rw (c.in-Ok.ensures.bits, c.as_raw_slice.ensures.words, c.head-from.ensures.value, ← upto, ← len, ← head, c.len-more.ensures.value) (ap (λ v. put (sized w v.row (i.head + (i.len + s.len))) (i.head + i.len) (list_of s)) c.self.view_is) in
+    c.copy_bits_in_vec.ensures.bits ∙ rw (c.in-Ok.ensures.bits, c.as_raw_slice.ensures.words, c.head-from.ensures.value, ← upto, ← len, ← head, c.len-more.ensures.value) (ap (λ v. put (sized w v.row (i.head + (i.len + s.len))) (i.head + i.len) (list_of s)) c.self.view_is) in
     clean_grown w now _ (list_of s) (width_positive w g.met.T.BitStore.width) head (returns-clause-list g c) grown clean

@@ -7,7 +7,8 @@ use Rattle.bit_addressing.specs.declared.order.BitOrder as order
 use Rattle.bit_addressing.specs.Row.{packed, put, sized, moved, source_of, words_for}
 use Rattle.bit_addressing.specs.Typed.{words_from, words_for_list}
 use Rattle.bit_addressing.proofs.Canon.{packed_sized}
-use Rattle.bit_addressing.proofs.Lists.{room, sized_joined, sized_same, words_for_all, put_one, length-put, length-sized, length-shows, shows_sized}
+use Rattle.std.proofs.Math.Nat.{mul-le-mul_left}
+use Rattle.bit_addressing.proofs.Lists.{words_for_mono, room, sized_joined, sized_same, words_for_all, put_one, length-put, length-sized, length-shows, shows_sized}
 use Rattle.bit_addressing.proofs.MovedLists.{length-moved, get_or-moved, inserted}
 use Rattle.bit_addressing.proofs.Shifts.{put_moved}
 use Rattle.bit_slice.proofs.Shown.{put_all, shown_filled}
@@ -46,6 +47,28 @@ clean_joined w old new b positive head list row clean =
       row = row ∙ ap (λ h. put (sized w old.row (h + n + 1)) (h + n) (b ∷ [])) clean.head ∙ ap (λ r. put (sized w r (0 + n + 1)) (0 + n) (b ∷ [])) clean.row
           ∙ sized_joined w old.list n b positive refl
           ∙ ap (λ l. sized w l (n + 1)) (sym list) ∙ ap (sized w new.list) (sym more);
+    }
+
+-- a list joined to a list and then false
+joined_sized : (w : ℕ) (xs ys : List Bool) (len n : ℕ) → 0 < w → length xs ≡ len → length ys ≡ n → put (sized w (sized w xs len) (0 + len + n)) (0 + len) ys ≡ sized w (xs ++ ys) (len + n)
+unfolding put sized
+joined_sized w xs ys len n positive size more =
+    let r = (room w len positive).0 in
+    let s = (room w (len + n) positive).0 in
+    let fewer : w * words_for w len ≤ w * words_for w (len + n) = mul-le-mul_left w (words_for_mono w len (len + n) positive (omega arith)) in
+    let next : 0 + len + n ≡ len + n = omega arith in
+    rw next (same_lists _ _ (search (rules, places)) (λ i d below. grind (arith, places)))
+
+-- bits joined to a clean vector leave it clean
+pub clean_grown : {X : Type 0} (w : ℕ) (old new : Held X) (ys : List Bool) → 0 < w → new.head ≡ old.head → new.list ≡ old.list ++ ys → new.row ≡ put (sized w old.row (old.head + length old.list + length ys)) (old.head + length old.list) ys → IsClean w old → IsClean w new
+clean_grown w old new ys positive head list row clean =
+    let n = length old.list in
+    let more : length new.list ≡ n + length ys = ap length list ∙ length-append old.list ys in
+    record {
+      head = head ∙ clean.head;
+      row = row ∙ ap (λ h. put (sized w old.row (h + n + length ys)) (h + n) ys) clean.head ∙ ap (λ r. put (sized w r (0 + n + length ys)) (0 + n) ys) clean.row
+          ∙ joined_sized w old.list ys n (length ys) positive refl refl
+          ∙ ap (λ l. sized w l (n + length ys)) (sym list) ∙ ap (sized w new.list) (sym more);
     }
 
 -- bits written over bits of the list leave it clean

@@ -1,7 +1,7 @@
 -- What a contract sees of a vector, and what calls do to it.
 use Rattle.std.specs.Prelude.{◌≡◌, ℕ, ◌+◌, ◌-◌, ◌*◌, ◌^◌, ◌<◌, ◌≤◌, ◌↔◌, Bool, false, List, length, take, min, refl, Result, Err, OnErr}
 use Rattle.std.specs.Coded.{Coded, code_by, coded×, coded_list, coded_ℕ, coded_bool}
-use Rattle.bit_addressing.specs.Row.{words_for, put, sized, filled}
+use Rattle.bit_addressing.specs.Row.{words_for, put, sized}
 use Rattle.bit_addressing.specs.declared.length.TheConstants.{MAX_BITS}
 use Rattle.bit_addressing.specs.declared.errors.GrowError.{GrowError}
 use Rattle.bit_addressing.specs.declared.errors.GrowError.TheVariants.{TooLong, OutOfMemory}
@@ -72,9 +72,7 @@ pub record IsClean {X : Type 0} (w : ℕ) (v : Held X) : Type 0 where
   pub head : v.head ≡ 0
   pub row : v.row ≡ sized w v.list (length v.list)
 
--- A copy: the same list at the same head, and each dead bit is false.
+-- A copy: the same list, from head 0 on, and each dead bit is false.
 pub record IsCopy {X : Type 0} (w : ℕ) (old new : Held X) : Type 0 where
-  pub head : new.head ≡ old.head
   pub list : new.list ≡ old.list
-  pub row : new.row ≡ filled old.row old.head (length old.list) false
-  pub clean : old.head ≡ 0 → IsClean w new
+  pub clean : IsClean w new

@@ -55,11 +55,6 @@ not_with_another_length : Stayed three five → ⊥
 unfolding three five
 not_with_another_length stayed = absurd (omega (arith, stayed.len))
 
--- dead bits aren't copied
-copied_without_them : IsCopy 4 (record three { words = 11 ∷ []; row = true ∷ true ∷ false ∷ true ∷ [] }) three
-unfolding three filled
-copied_without_them = record { head = refl; list = refl; row = refl; clean = λ none. absurd (omega (arith, none)) }
-
 clean_at_its_beginning : IsClean 4 (record three { words = 5 ∷ []; row = true ∷ false ∷ true ∷ false ∷ []; head = 0 })
 unfolding three sized words_for
 clean_at_its_beginning = record { head = refl; row = refl }
@@ -67,6 +62,14 @@ clean_at_its_beginning = record { head = refl; row = refl }
 not_clean_behind_a_head : IsClean 4 three → ⊥
 unfolding three
 not_clean_behind_a_head clean = absurd (omega (arith, clean.head))
+
+-- a copy begins its first word, and dead bits aren't copied
+copied_to_the_beginning : IsCopy 4 three (record three { words = 5 ∷ []; row = true ∷ false ∷ true ∷ false ∷ []; head = 0 })
+unfolding three sized words_for
+copied_to_the_beginning = record { list = refl; clean = record { head = refl; row = refl } }
+
+not_copied_where_it_stood : IsCopy 4 three three → ⊥
+not_copied_where_it_stood copy = not_clean_behind_a_head copy.clean
 
 -- ---- one command
 

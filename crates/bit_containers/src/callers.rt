@@ -1,5 +1,6 @@
 //! Callers that know what they get from the contracts alone: none of them has a proof file.
 
 mod bits;
+mod growing;
 mod iterating;
 mod words;

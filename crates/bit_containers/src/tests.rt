@@ -2,6 +2,7 @@
 mod commands;
 mod copies;
 mod edits;
+mod growing;
 mod moves;
 mod reading;
 mod text;

@@ -1,5 +1,5 @@
 //! The vector: what it is, and how it is made and taken apart.
-ghost use Rattle.std.specs.Prelude.{◌≡◌, ◌+◌, ◌*◌, ◌<◌, ◌≤◌, ◌↔◌, false, [], IsTrue, IfOk, OnErr, length, slice_range, vec_capacity};
+ghost use Rattle.std.specs.Prelude.{◌≡◌, ◌+◌, ◌*◌, ◌<◌, ◌≤◌, ◌↔◌, false, [], IsTrue, IfOk, IfErr, IsOk, OnErr, Err, ◌∷◌, length, slice_range, vec_capacity};
 ghost use Rattle.bit_addressing.specs.declared.length.TheConstants.{MAX_BITS};
 ghost use Rattle.bit_addressing.specs.Row.{filled, moved, sized, words_for};
 ghost use Rattle.bit_addressing.specs.Typed.{row, words_from, words_for_list};
@@ -7,7 +7,8 @@ ghost use Rattle.bit_containers.specs.BitVec.{Stayed, IsClean, bits_in};
 ghost use Rattle.bit_slice.specs.BitSlice.{words_of, head_of, len_of, row_of, list_of};
 
 use bit_addressing::{
-    BitOrder, BitStore, Lsb0, MAX_BITS, cut_words_in_vec, exact_words, fill_outside_in_vec, move_bits_in_vec,
+    BitOrder, BitStore, GrowError, Lsb0, MAX_BITS, cut_words_in_vec, exact_words,
+    fill_outside_in_vec, move_bits_in_vec,
 };
 use bit_slice::BitSlice;
 use std::alloc::{AllocError, Global};
@@ -15,6 +16,7 @@ use std::marker::{Model, PhantomData};
 
 mod api;
 mod capacity;
+mod extend;
 mod iter;
 mod ops;
 mod slice;
@@ -76,6 +78,34 @@ impl<T: BitStore, O: BitOrder> BitVec<T, O> {
         }
     }
 
+    /// As `new`.
+    pub fn empty(alloc: Global) -> Self
+        ensures words { result.words ≡ [] }
+        ensures row { result.row ≡ [] }
+        ensures head { result.head ≡ 0 }
+        ensures list { result.list ≡ [] }
+        ensures clean { IsClean T.BITS result }
+        ensures capacity { result.capacity ≡ 0 }
+    {
+        Self::new(alloc)
+    }
+
+    /// The empty vector, with room for `n` bits. It answers `TooLong` exactly where they pass `MAX_BITS`,
+    /// and takes no memory for no bit.
+    pub fn with_capacity(alloc: Global, n: usize) -> Result<Self, GrowError>
+        ensures words { IfOk result (λ v. v.words ≡ []) }
+        ensures head { IfOk result (λ v. v.head ≡ 0) }
+        ensures list { IfOk result (λ v. v.list ≡ []) }
+        ensures clean { IfOk result (λ v. IsClean T.BITS v) }
+        ensures capacity { IfOk result (λ v. n ≤ v.capacity) }
+        ensures too_long { (result ≡ Err GrowError.TooLong) ↔ (MAX_BITS < n) }
+        ensures memory { result ≡ Err GrowError.OutOfMemory → 0 < n }
+    {
+        let mut v = Self::new(alloc);
+        v.reserve_exact(n)?;
+        Ok(v)
+    }
+
     /// Whether so many words have at most `MAX_BITS` bits: the condition of `from_vec`.
     pub fn fits(words: usize) -> bool
         ensures { IsTrue result ↔ (T.BITS * words ≤ MAX_BITS) }
@@ -102,10 +132,87 @@ impl<T: BitStore, O: BitOrder> BitVec<T, O> {
         }
     }
 
+    /// All bits of one word: head 0. Takes memory.
+    pub fn from_element(alloc: Global, word: T) -> Result<Self, AllocError>
+        ensures words { IfOk result (λ v. v.words ≡ word ∷ []) }
+        ensures head { IfOk result (λ v. v.head ≡ 0) }
+        ensures list { IfOk result (λ v. v.list ≡ row T.BitStore O.BitOrder (word ∷ [])) }
+        ensures clean { IfOk result (λ v. IsClean T.BITS v) }
+    {
+        let mut words = Vec::new(alloc);
+        words.push(word)?;
+        Ok(Self::from_vec(words))
+    }
+
+    /// All bits of these words, which are copied: head 0. Takes memory where there is a word, and is refused
+    /// only then. The condition: they fit, as `fits` tests.
+    pub fn from_slice(alloc: Global, words: &[T]) -> Result<Self, AllocError>
+        requires { T.BITS * length words.now ≤ MAX_BITS }
+        ensures words { IfOk result (λ v. v.words ≡ words.now) }
+        ensures head { IfOk result (λ v. v.head ≡ 0) }
+        ensures list { IfOk result (λ v. v.list ≡ row T.BitStore O.BitOrder words.now) }
+        ensures clean { IfOk result (λ v. IsClean T.BITS v) }
+        ensures memory { OnErr result (0 < length words.now) }
+    {
+        let mut copied = Vec::new(alloc);
+        copied.extend_from_slice(words)?;
+        Ok(Self::from_vec(copied))
+    }
+
+    /// As `from_slice`, with no condition: it answers `TooLong` exactly where the words don't fit.
+    pub fn try_from_slice(alloc: Global, words: &[T]) -> Result<Self, GrowError>
+        ensures words { IfOk result (λ v. v.words ≡ words.now) }
+        ensures head { IfOk result (λ v. v.head ≡ 0) }
+        ensures list { IfOk result (λ v. v.list ≡ row T.BitStore O.BitOrder words.now) }
+        ensures clean { IfOk result (λ v. IsClean T.BITS v) }
+        ensures too_long { (result ≡ Err GrowError.TooLong) ↔ (MAX_BITS < T.BITS * length words.now) }
+        ensures memory { result ≡ Err GrowError.OutOfMemory → 0 < length words.now }
+    {
+        if !Self::fits(words.len()) {
+            return Err(GrowError::TooLong);
+        }
+        match Self::from_slice(alloc, words) {
+            Ok(v) => Ok(v),
+            Err(_) => Err(GrowError::OutOfMemory),
+        }
+    }
+
+    /// All bits of these words, as `from_vec`, with no condition: it hands the words back exactly where they
+    /// don't fit. Takes no memory.
+    pub fn try_from_vec(words: Vec<T>) -> Result<Self, Vec<T>>
+        ensures words { IfOk result (λ v. v.words ≡ words.items) }
+        ensures head { IfOk result (λ v. v.head ≡ 0) }
+        ensures list { IfOk result (λ v. v.list ≡ row T.BitStore O.BitOrder words.items) }
+        ensures clean { IfOk result (λ v. IsClean T.BITS v) }
+        ensures fits { IsOk result ↔ (T.BITS * length words.items ≤ MAX_BITS) }
+        ensures back { IfErr result (λ back. back ≡ words) }
+    {
+        if Self::fits(words.len()) {
+            Ok(Self::from_vec(words))
+        } else {
+            Err(words)
+        }
+    }
+
+    /// The bits of a view, from head 0 on, by whole words: the words are canonical, those of the list and
+    /// then false. Takes memory where the view has a bit, and is refused only then.
+    pub fn from_bitslice(alloc: Global, view: BitSlice<'_, T, O>) -> Result<Self, AllocError>
+        ensures list { IfOk result (λ v. v.list ≡ list_of view.entry) }
+        ensures clean { IfOk result (λ v. IsClean T.BITS v) }
+        ensures memory { OnErr result (0 < len_of view.entry) }
+    {
+        let mut copy = Self::new(alloc);
+        match copy.extend_from_bitslice(view) {
+            Ok(()) => Ok(copy),
+            Err(GrowError::TooLong) => Err(AllocError),
+            Err(GrowError::OutOfMemory) => Err(AllocError),
+        }
+    }
+
     /// The bits of a view: its head is kept, its words are copied, and their dead bits are false. Takes
     /// memory where the view has a word, and is refused only then.
     #[tactic(auto, using(crate::proofs::Vectors::shown_length))]
-    pub fn from_bitslice(alloc: Global, view: BitSlice<'_, T, O>) -> Result<Self, AllocError>
+    pub fn from_bitslice_headed(alloc: Global, view: BitSlice<'_, T, O>) -> Result<Self, AllocError>
         ensures head { IfOk result (λ v. v.head ≡ head_of view.entry) }
         ensures list { IfOk result (λ v. v.list ≡ list_of view.entry) }
         ensures row { IfOk result (λ v. v.row ≡ filled (row_of view.entry) (head_of view.entry) (len_of view.entry) false) }

@@ -83,14 +83,26 @@ pub fn canonical<T: BitStore, O: BitOrder>(a: BitVec<T, O>, b: BitVec<T, O>) -> 
     (a.into_vec(), b.into_vec())
 }
 
-/// A copy of a vector whose list begins its first word has the words for that list.
+/// A copy has the words for the list, wherever the list stood.
 pub fn copied(v: &BitVec<u8, Lsb0>) -> Result<Vec<u8>, AllocError>
-    requires head { v.now.head ≡ 0 }
-    requires list { v.now.list ≡ true ∷ false ∷ true ∷ [] }
+    requires { v.now.list ≡ true ∷ false ∷ true ∷ [] }
     ensures { IfOk result (λ words. words.items ≡ 5 ∷ []) }
 {
     let copy = v.clone()?;
     Ok(copy.into_vec())
+}
+
+/// Copies of equal lists have equal words, wherever the lists stood.
+pub fn copied_alike<T: BitStore, O: BitOrder>(
+    a: &BitVec<T, O>,
+    b: &BitVec<T, O>,
+) -> Result<(Vec<T>, Vec<T>), AllocError>
+    requires { a.now.list ≡ b.now.list }
+    ensures { IfOk result (λ both. both.0.items ≡ both.1.items) }
+{
+    let first = a.clone()?;
+    let second = b.clone()?;
+    Ok((first.into_vec(), second.into_vec()))
 }
 
 /// The row of a vector is that of its words.

@@ -37,7 +37,7 @@ fn edits_at_each_head(rt: HostRuntime) -> Result<(), Fail> {
     let words = [0xff, 0xff];
     let view = BitSlice::<u8, Lsb0>::from_slice(&words);
     for head in 0..8usize {
-        let mut v = BitVec::from_bitslice(rt.alloc(), view.get_range(head..head + 5))?;
+        let mut v = BitVec::from_bitslice_headed(rt.alloc(), view.get_range(head..head + 5))?;
         assert!(rt; v.len() == 5);
         v.set(0, false);
         v.set(2, false);

@@ -6,8 +6,8 @@ ghost use Rattle.bit_containers.specs.BitVec.{Grew, Shrank, IsClean, RefusesOnly
 
 use crate::vec::BitVec;
 use bit_addressing::{
-    BitOrder, BitStore, GrowError, MAX_BITS, cut_words_in_vec, move_bits_in_vec, push_bit_in_vec, read_bit,
-    write_bit_in_vec,
+    BitOrder, BitStore, GrowError, MAX_BITS, cut_words_in_vec, move_bits_in_vec, push_bit_in_vec,
+    read_bit, write_bit_in_vec,
 };
 
 impl<T: BitStore, O: BitOrder> BitVec<T, O> {

@@ -1,8 +1,10 @@
 //! How much room the vector has.
-ghost use Rattle.std.specs.Prelude.{◌≡◌, ◌≤◌, length};
+ghost use Rattle.std.specs.Prelude.{◌≡◌, ◌+◌, ◌≤◌, length, OnOk, IsOk};
+ghost use Rattle.bit_containers.specs.BitVec.{IsKept, RefusesOnly};
 
 use crate::vec::BitVec;
-use bit_addressing::{BitOrder, BitStore};
+use bit_addressing::{BitOrder, BitStore, GrowError, MAX_BITS, elts};
+use std::alloc::AllocError;
 
 impl<T: BitStore, O: BitOrder> BitVec<T, O> {
     /// How many bits the vector has room for without new memory: the bits of the words that fit, less
@@ -13,5 +15,54 @@ impl<T: BitStore, O: BitOrder> BitVec<T, O> {
     {
         let all = self.words.capacity().saturating_mul(T::BITS as usize);
         all - self.head
+    }
+
+    /// Makes room for `more` bits more, and for some beyond them where memory is taken. Words and list stay.
+    /// It answers `TooLong` exactly where the length would pass `MAX_BITS`, and `OutOfMemory` only where it
+    /// would pass the capacity.
+    pub fn reserve(&mut self, more: usize) -> Result<(), GrowError>
+        ensures kept { IsKept self.old self.new }
+        ensures room { OnOk result (length self.old.list + more ≤ self.new.capacity) }
+        ensures refusal { RefusesOnly result (length self.old.list + more) self.old self.new }
+        ensures capacity { self.old.capacity ≤ self.new.capacity }
+    {
+        if more > MAX_BITS - self.len {
+            return Err(GrowError::TooLong);
+        }
+        let wanted = elts::<T>(self.head + (self.len + more));
+        let Ok(()) = self.words.reserve(wanted.saturating_sub(self.words.len())) else {
+            return Err(GrowError::OutOfMemory);
+        };
+        Ok(())
+    }
+
+    /// Makes room for `more` bits more, and takes memory for no word beyond them. Otherwise as `reserve`.
+    pub fn reserve_exact(&mut self, more: usize) -> Result<(), GrowError>
+        ensures kept { IsKept self.old self.new }
+        ensures room { OnOk result (length self.old.list + more ≤ self.new.capacity) }
+        ensures refusal { RefusesOnly result (length self.old.list + more) self.old self.new }
+        ensures capacity { self.old.capacity ≤ self.new.capacity }
+    {
+        if more > MAX_BITS - self.len {
+            return Err(GrowError::TooLong);
+        }
+        let wanted = elts::<T>(self.head + (self.len + more));
+        let Ok(()) = self
+            .words
+            .reserve_exact(wanted.saturating_sub(self.words.len()))
+        else {
+            return Err(GrowError::OutOfMemory);
+        };
+        Ok(())
+    }
+
+    /// Gives back memory that no visible word takes, where it can. Words and list stay. It always succeeds.
+    pub fn shrink_to_fit(&mut self) -> Result<(), AllocError>
+        ensures kept { IsKept self.old self.new }
+        ensures succeeds { IsOk result }
+        ensures capacity { self.new.capacity ≤ self.old.capacity }
+    {
+        self.words.shrink_to_fit();
+        Ok(())
     }
 }

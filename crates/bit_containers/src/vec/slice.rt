@@ -7,7 +7,8 @@ ghost use Rattle.bit_slice.specs.BitSlice.{len_of, list_of};
 
 use crate::vec::BitVec;
 use bit_addressing::{
-    BitOrder, BitStore, RangeExt, copy_bits_in_vec, fill_bits_in_vec, move_bits_in_vec, read_bit, write_bit_in_vec,
+    BitOrder, BitStore, RangeExt, copy_bits_in_vec, fill_bits_in_vec, move_bits_in_vec, read_bit,
+    write_bit_in_vec,
 };
 use bit_slice::BitSlice;
 

@@ -13,9 +13,9 @@ impl<T: BitStore, O: BitOrder> Clone for BitVec<T, O> {
 
     ghost is_clone = { IsCopy T.BITS };
 
-    ghost is_infallible = { λ v. v.words ≡ [] };
+    ghost is_infallible = { λ v. v.list ≡ [] };
 
-    /// A copy: as `from_bitslice` of the vector's view. Takes memory where there is a word.
+    /// A copy: as `from_bitslice` of the vector's view. Takes memory where there is a bit.
     fn clone(&self) -> Result<Self, AllocError> {
         let alloc = *self.words.allocator();
         Self::from_bitslice(alloc, self.as_bitslice())
@@ -42,5 +42,30 @@ impl<T: BitStore, O: BitOrder> fmt::Display for BitVec<T, O> {
             separator = ", ";
         }
         f.write_str("]")
+    }
+}
+
+impl<T: BitStore, O: BitOrder> TryFrom<Vec<T>> for BitVec<T, O> {
+    ghost use Rattle.std.specs.Prelude.{◌≡◌, ◌*◌, ◌≤◌, ◌↔◌, IsOk, MatchResult, length};
+    ghost use Rattle.bit_addressing.specs.declared.length.TheConstants.{MAX_BITS};
+
+    type Error = Vec<T>;
+
+    ghost try_from_gives = { λ words r. MatchResult r (λ v. (v.words ≡ words.items) × (v.head ≡ 0)) (λ back. back ≡ words) × (IsOk r ↔ (T.BITS * length words.items ≤ MAX_BITS)) };
+
+    /// As `BitVec::try_from_vec`.
+    fn try_from(words: Vec<T>) -> Result<Self, Vec<T>> {
+        Self::try_from_vec(words)
+    }
+}
+
+impl<T: BitStore, O: BitOrder> From<BitVec<T, O>> for Vec<T> {
+    ghost use Rattle.std.specs.Prelude.{◌≡◌};
+
+    ghost from_gives = { λ v words. words.items ≡ v.words };
+
+    /// As `BitVec::into_vec`.
+    fn from(v: BitVec<T, O>) -> Vec<T> {
+        v.into_vec()
     }
 }

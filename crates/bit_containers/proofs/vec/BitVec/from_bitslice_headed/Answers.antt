@@ -7,7 +7,7 @@ use Rattle.bit_addressing.proofs.Typed.{length_row}
 use Rattle.std.proofs.Common.{refl}
 use Rattle.bit_containers.specs.BitVec.{IsVector}
 use Rattle.bit_containers.proofs.Vectors.{canonical}
-use Rattle.bit_containers.proofs.vec.BitVec.from_bitslice.Goals as goal
+use Rattle.bit_containers.proofs.vec.BitVec.from_bitslice_headed.Goals as goal
 
 pub fill_outside_in_vec-requires-clause-fits : goal.fill_outside_in_vec-requires-clause-fits
 fill_outside_in_vec-requires-clause-fits g c =

@@ -1,0 +1,52 @@
+//! Callers that grow a vector.
+ghost use Rattle.std.specs.Prelude.{◌≡◌, ◌+◌, ◌-◌, ◌≤◌, ◌<◌, ◌++◌, true, false, [], ◌∷◌, take, replicate, length, IfOk, OnOk, OnErr, Ok, IsOk};
+ghost use Rattle.bit_addressing.specs.declared.length.TheConstants.{MAX_BITS};
+
+use crate::{BitOrder, BitStore, BitVec, GrowError, Lsb0, Msb0};
+use std::alloc::Global;
+
+/// Within the capacity no push is refused.
+pub fn pushed_into_room<T: BitStore, O: BitOrder>(
+    v: &mut BitVec<T, O>,
+    bit: bool,
+) -> Result<(), GrowError>
+    requires room { length v.old.list + 1 ≤ v.old.capacity }
+    requires few { length v.old.list < MAX_BITS }
+    ensures { result ≡ Ok tt }
+{
+    v.push(bit)
+}
+
+pub fn reserved_then_pushed<T: BitStore, O: BitOrder>(
+    v: &mut BitVec<T, O>,
+) -> Result<bool, GrowError>
+    requires { length v.old.list + 2 ≤ MAX_BITS }
+    ensures { IfOk result (λ all. all ≡ true) }
+{
+    v.reserve(2)?;
+    let first = v.push(true).is_ok();
+    Ok(first && v.push(false).is_ok())
+}
+
+pub fn filled_up(v: &mut BitVec<u8, Lsb0>) -> Result<(), GrowError>
+    requires { v.old.list ≡ true ∷ false ∷ [] }
+    ensures { OnOk result (v.new.list ≡ true ∷ false ∷ true ∷ true ∷ []) }
+{
+    v.resize(4, true)
+}
+
+pub fn both_joined(a: &mut BitVec<u8, Msb0>, b: &mut BitVec<u64, Lsb0>) -> Result<(), GrowError>
+    ensures joined { OnOk result (a.new.list ≡ a.old.list ++ b.old.list) }
+    ensures emptied { OnOk result (b.new.list ≡ []) }
+    ensures first_kept { OnErr result (a.new.list ≡ a.old.list) }
+    ensures second_kept { OnErr result (b.new.list ≡ b.old.list) }
+{
+    a.append(b)
+}
+
+pub fn room_from_the_start(alloc: Global) -> Result<usize, GrowError>
+    ensures { IfOk result (λ room. 100 ≤ room) }
+{
+    let v = BitVec::<u32, Lsb0>::with_capacity(alloc, 100)?;
+    Ok(v.capacity())
+}

@@ -1,0 +1,57 @@
+//! Making and growing.
+use crate::tests::{holds, of};
+use crate::{BitSlice, BitVec, GrowError, Lsb0, Msb0};
+use std::test::Fail;
+
+#[test]
+fn joined(rt: HostRuntime) -> Result<(), Fail> {
+    let mut v = of::<u8, Lsb0>(rt.alloc(), b"101")?;
+    let mut other = of::<u16, Msb0>(rt.alloc(), b"0110011")?;
+    v.extend_from_bitslice(other.as_bitslice())?;
+    holds(&rt, &v, b"1010110011");
+    assert_eq!(rt; v.as_raw_slice(), [0x35, 0x03].as_slice());
+    v.append(&mut other)?;
+    holds(&rt, &v, b"10101100110110011");
+    assert!(rt; other.is_empty());
+    v.extend_from_slice(other.as_bitslice())?;
+    assert_eq!(rt; v.len(), 17);
+    assert_eq!(rt; v.resize(usize::MAX, true), Err(GrowError::TooLong));
+    assert_eq!(rt; v.len(), 17);
+    v.resize(2, true)?;
+    v.resize(11, true)?;
+    holds(&rt, &v, b"10111111111");
+    Ok(())
+}
+
+#[test]
+fn room(rt: HostRuntime) -> Result<(), Fail> {
+    let mut v = BitVec::<u8, Lsb0>::with_capacity(rt.alloc(), 20)?;
+    assert!(rt; v.capacity() >= 20 && v.is_empty());
+    v.reserve(100)?;
+    assert!(rt; v.capacity() >= 100);
+    v.reserve_exact(200)?;
+    assert!(rt; v.capacity() >= 200);
+    assert_eq!(rt; v.reserve(usize::MAX), Err(GrowError::TooLong));
+    v.push(true)?;
+    v.shrink_to_fit()?;
+    assert_eq!(rt; v.as_raw_slice(), [0x01].as_slice());
+    Ok(())
+}
+
+#[test]
+fn made(rt: HostRuntime) -> Result<(), Fail> {
+    assert!(rt; BitVec::<u8, Lsb0>::empty(rt.alloc()).is_empty());
+    let v = BitVec::<u8, Msb0>::from_element(rt.alloc(), 0x41)?;
+    holds(&rt, &v, b"01000001");
+    let v = BitVec::<u8, Lsb0>::from_slice(rt.alloc(), &[0x41, 0x80])?;
+    holds(&rt, &v, b"1000001000000001");
+    let v = BitVec::<u16, Lsb0>::try_from_slice(rt.alloc(), &[0x0003])?;
+    holds(&rt, &v, b"1100000000000000");
+    let v = BitVec::<u8, Lsb0>::try_from_vec(vec![in rt.alloc(); 0xdc]?);
+    assert!(rt; v.is_ok());
+    let words = [0xaf, 0xff];
+    let view = BitSlice::<u8, Lsb0>::from_slice(&words).get_range(3..11);
+    let v = BitVec::from_bitslice(rt.alloc(), view)?;
+    assert_eq!(rt; v.as_raw_slice(), [0xf5].as_slice());
+    Ok(())
+}

@@ -1,0 +1,103 @@
+//! Growth by many bits at once.
+ghost use Rattle.std.specs.Prelude.{◌≡◌, ◌+◌, ◌-◌, ◌<◌, ◌≤◌, [], ◌++◌, length, take, replicate, OnOk, OnErr};
+ghost use Rattle.bit_containers.specs.BitVec.{Grew, Shrank, IsClean, RefusesOnly};
+ghost use Rattle.bit_slice.specs.BitSlice.{len_of, list_of};
+
+use crate::vec::BitVec;
+use bit_addressing::{
+    BitOrder, BitStore, GrowError, MAX_BITS, copy_bits_in_vec, fill_bits_in_vec,
+    resize_words_in_vec,
+};
+use bit_slice::BitSlice;
+
+impl<T: BitStore, O: BitOrder> BitVec<T, O> {
+    /// Joins the bits of a view, of any word type and order, at the end, by whole words. Words of zero are
+    /// added only where no visible word has room. It answers `TooLong` exactly where the length would pass
+    /// `MAX_BITS`, and `OutOfMemory` only where it would pass the capacity. A refusal leaves the vector.
+    #[tactic(auto, using(crate::proofs::Vectors::shown_length))]
+    pub fn extend_from_bitslice<U: BitStore, P: BitOrder>(
+        &mut self,
+        view: BitSlice<'_, U, P>,
+    ) -> Result<(), GrowError>
+        ensures list { OnOk result (self.new.list ≡ self.old.list ++ list_of view.entry) }
+        ensures row { OnOk result (Grew T.BITS self.old self.new (list_of view.entry)) }
+        ensures clean { OnOk result (IsClean T.BITS self.old → IsClean T.BITS self.new) }
+        ensures refusal { RefusesOnly result (length self.old.list + len_of view.entry) self.old self.new }
+        ensures capacity { self.old.capacity ≤ self.new.capacity }
+    {
+        let more = view.len();
+        if more > MAX_BITS - self.len {
+            return Err(GrowError::TooLong);
+        }
+        let (end, len) = (self.head + self.len, self.len + more);
+        let Ok(()) = resize_words_in_vec::<T, O>(&mut self.words, self.head + len) else {
+            return Err(GrowError::OutOfMemory);
+        };
+        let from = view.head();
+        copy_bits_in_vec::<T, O, U, P>(&mut self.words, end, view.as_raw_slice(), from, more);
+        self.len = len;
+        Ok(())
+    }
+
+    /// As `extend_from_bitslice`.
+    pub fn extend_from_slice<U: BitStore, P: BitOrder>(
+        &mut self,
+        view: BitSlice<'_, U, P>,
+    ) -> Result<(), GrowError>
+        ensures list { OnOk result (self.new.list ≡ self.old.list ++ list_of view.entry) }
+        ensures row { OnOk result (Grew T.BITS self.old self.new (list_of view.entry)) }
+        ensures clean { OnOk result (IsClean T.BITS self.old → IsClean T.BITS self.new) }
+        ensures refusal { RefusesOnly result (length self.old.list + len_of view.entry) self.old self.new }
+        ensures capacity { self.old.capacity ≤ self.new.capacity }
+    {
+        self.extend_from_bitslice(view)
+    }
+
+    /// Joins the list of another vector, of any word type and order, by whole words, and empties that one.
+    /// It is refused as `extend_from_bitslice` is, and a refusal leaves both.
+    pub fn append<U: BitStore, P: BitOrder>(
+        &mut self,
+        other: &mut BitVec<U, P>,
+    ) -> Result<(), GrowError>
+        ensures list { OnOk result (self.new.list ≡ self.old.list ++ other.old.list) }
+        ensures row { OnOk result (Grew T.BITS self.old self.new other.old.list) }
+        ensures clean { OnOk result (IsClean T.BITS self.old → IsClean T.BITS self.new) }
+        ensures emptied { OnOk result (other.new.list ≡ []) }
+        ensures shrank { OnOk result (Shrank U.BITS other.old other.new 0) }
+        ensures refusal { RefusesOnly result (length self.old.list + length other.old.list) self.old self.new }
+        ensures other_unchanged { OnErr result (other.new ≡ other.old) }
+        ensures capacity { self.old.capacity ≤ self.new.capacity }
+    {
+        self.extend_from_bitslice(other.as_bitslice())?;
+        other.truncate(0);
+        Ok(())
+    }
+
+    /// Keeps the first `n` bits, or fills the list up to `n` with `bit`, by whole words. Where it grows it is
+    /// refused as `push` is, and a refusal leaves the vector. Where it shrinks it is as `truncate`.
+    #[tactic(auto, using(crate::proofs::Vectors::shown_length))]
+    pub fn resize(&mut self, n: usize, bit: bool) -> Result<(), GrowError>
+        ensures list { OnOk result (self.new.list ≡ take n self.old.list ++ replicate (n - length self.old.list) bit) }
+        ensures len { OnOk result (length self.new.list ≡ n) }
+        ensures grew { OnOk result (length self.old.list < n → Grew T.BITS self.old self.new (replicate (n - length self.old.list) bit)) }
+        ensures shrank { n ≤ length self.old.list → Shrank T.BITS self.old self.new n }
+        ensures clean { OnOk result (length self.old.list < n → IsClean T.BITS self.old → IsClean T.BITS self.new) }
+        ensures refusal { RefusesOnly result n self.old self.new }
+        ensures capacity { self.old.capacity ≤ self.new.capacity }
+    {
+        if n <= self.len {
+            self.truncate(n);
+            return Ok(());
+        }
+        if n > MAX_BITS {
+            return Err(GrowError::TooLong);
+        }
+        let (end, upto) = (self.head + self.len, self.head + n);
+        let Ok(()) = resize_words_in_vec::<T, O>(&mut self.words, upto) else {
+            return Err(GrowError::OutOfMemory);
+        };
+        fill_bits_in_vec::<T, O>(&mut self.words, end, upto, bit);
+        self.len = n;
+        Ok(())
+    }
+}

@@ -34,14 +34,15 @@ pub fn set_then_get(v: &mut BitVec<u8, Msb0>, i: usize) -> Option<bool>
     v.get(i)
 }
 
-pub fn three_bits(alloc: Global) -> Result<BitVec<u8, Msb0>, GrowError>
-    ensures { IfOk result (λ v. v.list ≡ true ∷ false ∷ true ∷ []) }
+/// The bits of a permission: read, write, execute.
+pub fn permission(alloc: Global, write: bool) -> Result<BitVec<u8, Msb0>, GrowError>
+    ensures { IfOk result (λ v. v.list ≡ true ∷ write ∷ false ∷ []) }
 {
-    let mut v = BitVec::new(alloc);
-    v.push(true)?;
-    v.push(false)?;
-    v.push(true)?;
-    Ok(v)
+    let mut bits = BitVec::new(alloc);
+    bits.push(true)?;
+    bits.push(write)?;
+    bits.push(false)?;
+    Ok(bits)
 }
 
 pub fn set_two<T: BitStore, O: BitOrder>(v: &mut BitVec<T, O>, i: usize, j: usize)

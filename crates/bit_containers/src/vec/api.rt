@@ -34,7 +34,7 @@ impl<T: BitStore, O: BitOrder> BitVec<T, O> {
         self.len == 0
     }
 
-    /// Joins a bit at the end. A word of zero is added only where no visible word has room, and no other
+    /// Joins a bit at the end. Where the visible words are full a word of zero comes first, and no other
     /// dead bit changes. It answers `TooLong` exactly where the length would pass `MAX_BITS`, and
     /// `OutOfMemory` only where it would pass the capacity. A refusal leaves the vector.
     #[tactic(auto, using(crate::proofs::Vectors::shown_length))]
@@ -115,7 +115,7 @@ impl<T: BitStore, O: BitOrder> BitVec<T, O> {
         Ok(())
     }
 
-    /// Takes the bit at `i`; the rest closes up, by one counted move. Takes no memory. The condition: `i` is
+    /// Takes the bit at `i`; those behind it move down, by one counted move. Takes no memory. The condition: `i` is
     /// below the length. What becomes of dead bits is open.
     #[tactic(auto, using(crate::proofs::Vectors::shown_length))]
     pub fn remove(&mut self, i: usize) -> bool

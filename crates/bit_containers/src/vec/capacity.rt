@@ -7,8 +7,8 @@ use bit_addressing::{BitOrder, BitStore, GrowError, MAX_BITS, elts};
 use std::alloc::AllocError;
 
 impl<T: BitStore, O: BitOrder> BitVec<T, O> {
-    /// How many bits the vector has room for without new memory: the bits of the words that fit, less
-    /// the head; `usize::MAX` less the head where those bits pass `usize::MAX`.
+    /// How many bits the vector has room for without new memory: those of the words that its memory holds,
+    /// or `usize::MAX` if they are more, and of these all from the head on.
     pub fn capacity(&self) -> usize
         ensures value { result ≡ self.now.capacity }
         ensures enough { length self.now.list ≤ result }

@@ -11,8 +11,8 @@ use bit_addressing::{
 use bit_slice::BitSlice;
 
 impl<T: BitStore, O: BitOrder> BitVec<T, O> {
-    /// Joins the bits of a view, of any word type and order, at the end, by whole words. Words of zero are
-    /// added only where no visible word has room. It answers `TooLong` exactly where the length would pass
+    /// Joins the bits of a view at the end, by whole words; the view may be by other words and another order.
+    /// Words of zero come first, as many as the visible ones lack. It answers `TooLong` exactly where the length would pass
     /// `MAX_BITS`, and `OutOfMemory` only where it would pass the capacity. A refusal leaves the vector.
     #[tactic(auto, using(crate::proofs::Vectors::shown_length))]
     pub fn extend_from_bitslice<U: BitStore, P: BitOrder>(

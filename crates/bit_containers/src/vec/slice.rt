@@ -143,7 +143,7 @@ impl<T: BitStore, O: BitOrder> BitVec<T, O> {
         move_bits_in_vec::<T, O>(&mut self.words, from, to, range.end - range.start);
     }
 
-    /// Writes the bits of a view, of any word type and order, over those of the list. No dead bit changes.
+    /// Writes the bits of a view, by whatever words and order, over those of the list. No dead bit changes.
     /// Takes no memory. The condition: the view has as many bits as the vector.
     #[tactic(auto, using(crate::proofs::Vectors::shown_length))]
     pub fn clone_from_bitslice<U: BitStore, P: BitOrder>(&mut self, source: BitSlice<'_, U, P>)

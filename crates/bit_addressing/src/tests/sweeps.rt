@@ -1,5 +1,5 @@
 //! Each bulk call at every head of a byte and every length up to 17 bits, beside a plain loop over lists.
-ghost use Rattle.std.specs.Prelude.{◌+◌, ◌<◌};
+ghost use Rattle.std.specs.Prelude.{◌≡◌, ◌+◌, ◌<◌, IfOk, length};
 
 use crate::tests::orders::Xor4;
 use crate::{
@@ -10,14 +10,20 @@ use std::alloc::{AllocError, Global};
 use std::process::Abort;
 use std::test::Fail;
 
-/// Words whose bits are mixed, and differ by the seed.
-fn words_of<T: BitStore>(seed: u64) -> [T; 4] {
-    [
-        T::from_u64(seed),
-        T::from_u64(seed.wrapping_mul(0x9e37_79b9_7f4a_7c15)),
-        T::from_u64(seed.wrapping_mul(0xbf58_476d_1ce4_e5b9) >> 7),
-        T::from_u64(seed.wrapping_mul(0x94d0_49bb_1331_11eb) >> 13),
-    ]
+/// Four words whose bits are mixed, and differ by the seed.
+fn words_of<T: BitStore>(alloc: Global, seed: u64) -> Result<Vec<T>, AllocError>
+    ensures { IfOk result (λ words. length words.items ≡ 4) }
+{
+    let first = T::from_u64(seed);
+    let second = T::from_u64(seed.wrapping_mul(0x9e37_79b9_7f4a_7c15));
+    let third = T::from_u64(seed.wrapping_mul(0xbf58_476d_1ce4_e5b9) >> 7);
+    let fourth = T::from_u64(seed.wrapping_mul(0x94d0_49bb_1331_11eb) >> 13);
+    let mut words = Vec::new(alloc);
+    words.push(first)?;
+    words.push(second)?;
+    words.push(third)?;
+    words.push(fourth)?;
+    Ok(words)
 }
 
 /// The bits of these words, one by one.
@@ -72,18 +78,18 @@ fn written<T: BitStore, O: BitOrder, U: BitStore, P: BitOrder>(
 ) -> Result<(), Fail>
     requires { at + n + from < 100 }
 {
-    let source = words_of::<U>(0x1234_5678_9abc_def1);
-    let mut words = words_of::<T>(0x0fed_cba9_8765_4321);
-    let before = bits_of::<T, O>(rt.alloc(), &words)?;
-    let given = bits_of::<U, P>(rt.alloc(), &source)?;
+    let source = words_of::<U>(rt.alloc(), 0x1234_5678_9abc_def1)?;
+    let mut words = words_of::<T>(rt.alloc(), 0x0fed_cba9_8765_4321)?;
+    let before = bits_of::<T, O>(rt.alloc(), words.as_slice())?;
+    let given = bits_of::<U, P>(rt.alloc(), source.as_slice())?;
     assert!(rt; at + n <= T::BITS as usize * 4 && from + n <= U::BITS as usize * 4);
     match make {
-        0 => copy_bits::<T, O, U, P>(&mut words, at, &source, from, n),
-        1 => combine_bits::<And, T, O, U, P>(&mut words, at, &source, from, n),
-        2 => combine_bits::<Or, T, O, U, P>(&mut words, at, &source, from, n),
-        _ => combine_bits::<Xor, T, O, U, P>(&mut words, at, &source, from, n),
+        0 => copy_bits::<T, O, U, P>(words.as_mut_slice(), at, source.as_slice(), from, n),
+        1 => combine_bits::<And, T, O, U, P>(words.as_mut_slice(), at, source.as_slice(), from, n),
+        2 => combine_bits::<Or, T, O, U, P>(words.as_mut_slice(), at, source.as_slice(), from, n),
+        _ => combine_bits::<Xor, T, O, U, P>(words.as_mut_slice(), at, source.as_slice(), from, n),
     }
-    let after = bits_of::<T, O>(rt.alloc(), &words)?;
+    let after = bits_of::<T, O>(rt.alloc(), words.as_slice())?;
     assert!(rt; is_made(&before, &after, at, &given, from, n, make));
     Ok(())
 }
@@ -96,13 +102,13 @@ fn copied_alike<T: BitStore, O: BitOrder>(
 ) -> Result<(), Fail>
     requires { at + n + from < 100 }
 {
-    let source = words_of::<T>(0x1234_5678_9abc_def1);
-    let mut words = words_of::<T>(0x0fed_cba9_8765_4321);
-    let before = bits_of::<T, O>(rt.alloc(), &words)?;
-    let given = bits_of::<T, O>(rt.alloc(), &source)?;
+    let source = words_of::<T>(rt.alloc(), 0x1234_5678_9abc_def1)?;
+    let mut words = words_of::<T>(rt.alloc(), 0x0fed_cba9_8765_4321)?;
+    let before = bits_of::<T, O>(rt.alloc(), words.as_slice())?;
+    let given = bits_of::<T, O>(rt.alloc(), source.as_slice())?;
     assert!(rt; at + n <= T::BITS as usize * 4 && from + n <= T::BITS as usize * 4);
-    copy_bits_alike::<T, O>(&mut words, at, &source, from, n);
-    let after = bits_of::<T, O>(rt.alloc(), &words)?;
+    copy_bits_alike::<T, O>(words.as_mut_slice(), at, source.as_slice(), from, n);
+    let after = bits_of::<T, O>(rt.alloc(), words.as_slice())?;
     assert!(rt; is_made(&before, &after, at, &given, from, n, 0));
     Ok(())
 }
@@ -145,24 +151,26 @@ fn read<T: BitStore, O: BitOrder, U: BitStore, P: BitOrder>(
 ) -> Result<(), Fail>
     requires { at + n + from < 100 }
 {
-    let source = words_of::<U>(0x1234_5678_9abc_def1);
-    let mut words = words_of::<T>(0x0fed_cba9_8765_4321);
+    let source = words_of::<U>(rt.alloc(), 0x1234_5678_9abc_def1)?;
+    let mut words = words_of::<T>(rt.alloc(), 0x0fed_cba9_8765_4321)?;
     assert!(rt; at + n <= T::BITS as usize * 4 && from + n <= U::BITS as usize * 4 && n <= 64);
-    let given = bits_of::<U, P>(rt.alloc(), &source)?;
-    let own = bits_of::<T, O>(rt.alloc(), &words)?;
-    let apart = differ_at::<T, O, U, P>(&words, at, &source, from, n);
+    let given = bits_of::<U, P>(rt.alloc(), source.as_slice())?;
+    let own = bits_of::<T, O>(rt.alloc(), words.as_slice())?;
+    let apart = differ_at::<T, O, U, P>(words.as_slice(), at, source.as_slice(), from, n);
     assert!(rt; apart == first_apart(&own, at, &given, from, n));
     let (ones, set) = counted(&given, from, n, true);
     let (_, clear) = counted(&given, from, n, false);
-    assert!(rt; count_bits::<U, P>(&source, from, from + n) == ones);
-    assert!(rt; find_bit::<U, P>(&source, from, from + n, true) == set);
-    assert!(rt; find_bit::<U, P>(&source, from, from + n, false) == clear);
-    let chunk = read_chunk::<U, P>(&source, from, n as u8);
+    assert!(rt; count_bits::<U, P>(source.as_slice(), from, from + n) == ones);
+    assert!(rt; find_bit::<U, P>(source.as_slice(), from, from + n, true) == set);
+    assert!(rt; find_bit::<U, P>(source.as_slice(), from, from + n, false) == clear);
+    let chunk = read_chunk::<U, P>(source.as_slice(), from, n as u8);
     assert!(rt; chunk.count_ones() as usize == ones);
-    write_chunk::<T, O>(&mut words, at, n as u8, chunk);
-    let after = bits_of::<T, O>(rt.alloc(), &words)?;
+    write_chunk::<T, O>(words.as_mut_slice(), at, n as u8, chunk);
+    let after = bits_of::<T, O>(rt.alloc(), words.as_slice())?;
     assert!(rt; is_made(&own, &after, at, &given, from, n, 0));
-    assert!(rt; differ_at::<T, O, U, P>(&words, at, &source, from, n).is_none());
+    assert!(rt;
+        differ_at::<T, O, U, P>(words.as_slice(), at, source.as_slice(), from, n).is_none()
+    );
     Ok(())
 }
 

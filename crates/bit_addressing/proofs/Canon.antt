@@ -12,7 +12,7 @@ use Rattle.bit_addressing.proofs.Words.{same_word, has_or, has_none}
 use Rattle.bit_addressing.specs.Order.{IsPermutation}
 use Rattle.bit_addressing.proofs.Onto.{onto}
 use Rattle.bit_addressing.specs.Row.{row_bit, row_of, words_for, sized, gathered, packed_words, packed, list_words, AreWords, IsCanonical}
-use Rattle.bit_addressing.proofs.Lists.{room, length-sized}
+use Rattle.bit_addressing.proofs.lists.Sized.{room, length-sized}
 use Rattle.bit_addressing.proofs.Rows.{get_or-row_of, length-row_of}
 
 -- equal rows are those of equal words

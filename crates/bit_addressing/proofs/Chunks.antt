@@ -1,5 +1,5 @@
 -- Runs of bits as numbers.
-use Rattle.std.proofs.Common.{◌≡◌, ℕ, ◌+◌, ◌-◌, ◌*◌, ◌/◌, ◌%◌, ◌^◌, ◌<◌, ◌≤◌, Bool, true, false, ◌||◌, ◌&&◌, cond, eqb, List, [], ◌∷◌, map, length, get_or, drop, take, slice_range, refl, sym, ◌∙◌, ap, subst, inl, inr, arith, bit_or, bit_and, mul_comm, lit<}
+use Rattle.std.proofs.Common.{◌≡◌, ℕ, ◌+◌, ◌-◌, ◌*◌, ◌/◌, ◌%◌, ◌^◌, ◌<◌, ◌≤◌, Bool, true, false, ◌||◌, ◌&&◌, cond, eqb, List, [], ◌∷◌, map, length, get_or, drop, slice_range, refl, sym, ◌∙◌, ap, subst, inl, inr, arith, bit_or, bit_and, lit<}
 use Rattle.std.proofs.lemmas.Bool.{cases_lt}
 use Rattle.std.proofs.lemmas.List.{ext_get_or, take_all, get_or_past, get_or-take, get_or-drop, length-take, length-drop}
 use Rattle.std.proofs.lemmas.Nat.{div-add-mod', div-mul-add, mod-mul-add, mul-add-lt}
@@ -12,8 +12,8 @@ use Rattle.bit_addressing.specs.Bits.{has_bit}
 use Rattle.bit_addressing.specs.Row.{row_of, number_of}
 use Rattle.bit_addressing.proofs.Words.{has_and, has_or, has_above, has_shr_low, has_shl_low, has_shl_high, same_word}
 use Rattle.bit_addressing.proofs.Rows.{length-row_of, get_or-row_one, word_below}
-use Rattle.bit_addressing.proofs.Typed.{row_read, length_row}
-use Rattle.bit_addressing.proofs.Runs.{one_more_word, inside_words}
+use Rattle.bit_addressing.proofs.Typed.{row_read}
+use Rattle.bit_addressing.proofs.lists.Sized.{one_more_word}
 
 and_true : (b : Bool) → (b && true) ≡ b
 and_true true = refl

@@ -1,16 +1,17 @@
 -- Two runs of bits made into one.
-use Rattle.std.proofs.Common.{◌≡◌, ℕ, ◌+◌, ◌-◌, ◌*◌, ◌<◌, ◌≤◌, suc, Bool, false, List, [], ◌∷◌, ◌++◌, map, length, get_or, drop, take, slice_range, refl, sym, ◌∙◌, ap, arith, rules}
+use Rattle.std.proofs.Common.{◌≡◌, ℕ, ◌+◌, ◌-◌, ◌*◌, ◌<◌, ◌≤◌, Bool, false, List, [], ◌∷◌, ◌++◌, length, get_or, drop, slice_range, refl, sym, ◌∙◌, ap, arith, rules}
 use Rattle.std.specs.Simd.Lanes.{zip2}
 use Rattle.std.proofs.lemmas.List.{ext_get_or, get_or-take, get_or-drop, length-take, length-drop, take_all, places, same_lists}
 use Rattle.std.proofs.lemmas.Simd.{get_or-zip2, length-zip2}
 use Rattle.bit_addressing.specs.Bits.{has_bit}
 use Rattle.bit_addressing.specs.Order.{IsPermutation}
 use Rattle.bit_addressing.specs.Row.{row_of, put}
-use Rattle.bit_addressing.proofs.Lists.{put_none, put_joined}
-use Rattle.bit_addressing.proofs.Runs.{ArePartsOf, one_more_word, slices_joined}
+use Rattle.bit_addressing.proofs.lists.Put.{put_none, put_joined}
+use Rattle.bit_addressing.proofs.Runs.{ArePartsOf, slices_joined}
+use Rattle.bit_addressing.proofs.lists.Sized.{one_more_word}
 use Rattle.bit_addressing.proofs.Wholes.{split_sum}
 use Rattle.bit_addressing.proofs.Rows.{length-row_of, get_or-row_one}
-use Rattle.bit_addressing.proofs.Differs.{length-run, get_or-run}
+use Rattle.bit_addressing.proofs.lists.Shown.{length-run}
 
 -- what f makes of the bits a .. b of xs, and of those of zs that stand as far behind `from` as they behind `at`
 abbrev pub combined : (Bool → Bool → Bool) → List Bool → List Bool → ℕ → ℕ → ℕ → ℕ → List Bool

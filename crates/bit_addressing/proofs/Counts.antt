@@ -1,5 +1,5 @@
 -- Bits counted, a number of them at a time, and whole words in any order.
-use Rattle.std.proofs.Common.{◌≡◌, ℕ, zero, suc, ◌+◌, ◌-◌, ◌*◌, ◌<◌, ◌≤◌, Bool, false, cond, List, [], ◌∷◌, ◌++◌, map, take, set, get_or, length, slice_range, refl, sym, ◌∙◌, ap, inl, inr, arith, add-one, mul_comm}
+use Rattle.std.proofs.Common.{◌≡◌, ℕ, zero, suc, ◌+◌, ◌-◌, ◌*◌, ◌<◌, ◌≤◌, Bool, false, cond, List, [], ◌∷◌, ◌++◌, take, set, get_or, length, slice_range, refl, sym, ◌∙◌, ap, inl, inr, arith, add-one, mul_comm}
 use Rattle.std.specs.Prelude.{count_ones}
 use Rattle.std.specs.List.{count_by}
 use Rattle.std.specs.Simd.Lanes.{mask_l}
@@ -11,7 +11,8 @@ use Rattle.bit_addressing.specs.Order.{IsPermutation}
 use Rattle.bit_addressing.specs.Row.{number_of, row_of}
 use Rattle.bit_addressing.proofs.Onto.{onto}
 use Rattle.bit_addressing.proofs.Rows.{length-row_of, get_or-row_one}
-use Rattle.bit_addressing.proofs.Runs.{mul_mono, one_more_word, slices_joined}
+use Rattle.bit_addressing.proofs.Runs.{mul_mono, slices_joined}
+use Rattle.bit_addressing.proofs.lists.Sized.{one_more_word}
 use Rattle.bit_addressing.proofs.Shifts.{word_bit, word_copied}
 
 pub counted : (zs : List Bool) (a b from upto x : ℕ) → from ≡ a → upto ≡ b → x ≡ number_of (slice_range zs a b) → count_ones x ≡ count_by (λ bit. bit) (slice_range zs from upto)

@@ -1,10 +1,11 @@
 -- Where two runs of bits differ, found in the numbers of them.
-use Rattle.std.proofs.Common.{◌≡◌, ◌≢◌, ℕ, ◌+◌, ◌-◌, ◌*◌, ◌^◌, ◌<◌, ◌≤◌, Bool, true, false, not, if◌then◌else◌, eqb, List, length, get_or, drop, take, slice_range, refl, sym, ◌∙◌, ap, inl, inr, arith, bit_xor, w64}
+use Rattle.std.proofs.Common.{◌≡◌, ◌≢◌, ℕ, ◌+◌, ◌-◌, ◌^◌, ◌<◌, ◌≤◌, Bool, true, false, not, if◌then◌else◌, eqb, List, length, get_or, slice_range, refl, sym, ◌∙◌, ap, inl, inr, arith, bit_xor, w64}
 use Rattle.std.specs.Int.{bit_at, trailing_zeros}
 use Rattle.std.proofs.lemmas.Bool.{cases_lt}
-use Rattle.std.proofs.lemmas.List.{ext_get_or, get_or_past, get_or-take, get_or-drop, length-take, length-drop}
+use Rattle.std.proofs.lemmas.List.{ext_get_or, get_or_past}
 use Rattle.std.proofs.lemmas.Nat.Bits.{bit_at-trailing_zeros}
 use Rattle.bit_addressing.specs.Bits.{has_bit}
+use Rattle.bit_addressing.proofs.lists.Shown.{get_or-run, length-run}
 use Rattle.bit_addressing.specs.Row.{number_of, IsFirstDifference}
 use Rattle.bit_addressing.proofs.Words.{has_xor, has_none}
 use Rattle.bit_addressing.proofs.Chunks.{has_number}
@@ -23,12 +24,6 @@ apart_if false false h e = cc
 
 true_false : true ≡ false → ⊥
 true_false e = cc
-
-pub get_or-run : (xs : List Bool) (i n q : ℕ) → q < n → get_or (slice_range xs i (i + n)) q false ≡ get_or xs (i + q) false
-get_or-run xs i n q h = get_or-take (i + n - i) (drop i xs) q false (omega arith) ∙ get_or-drop i xs q false
-
-pub length-run : (xs : List Bool) (i n : ℕ) → i + n ≤ length xs → length (slice_range xs i (i + n)) ≡ n
-length-run xs i n h = simp (length-take, length-drop) (omega arith)
 
 -- the first k bits of the two runs are the same
 abbrev pub AreAlike : List Bool → List Bool → ℕ → ℕ → ℕ → Type 0

@@ -1,14 +1,14 @@
 pub mod Words
 pub mod Onto
-pub mod Lists
+pub mod lists
 pub mod Runs
 pub mod Windows
 pub mod Rows
 pub mod Typed
 pub mod Canon
 pub mod Moves
-pub mod MovedLists
 pub mod Chunks
+pub mod Binary
 pub mod Differs
 pub mod Finds
 pub mod Reverse

@@ -1,14 +1,15 @@
 -- Words of 64 bits packed out of narrower ones.
-use Rattle.std.proofs.Common.{◌≡◌, ℕ, ◌+◌, ◌-◌, ◌*◌, ◌/◌, ◌%◌, ◌^◌, ◌<◌, ◌≤◌, Bool, true, false, ◌||◌, List, [], ◌∷◌, map, length, get_or, slice_range, refl, sym, ◌∙◌, ap, subst, inl, inr, arith, bit_or, lit<}
+use Rattle.std.proofs.Common.{◌≡◌, ℕ, ◌+◌, ◌-◌, ◌*◌, ◌/◌, ◌%◌, ◌^◌, ◌<◌, ◌≤◌, Bool, true, false, ◌||◌, List, [], ◌∷◌, map, length, get_or, slice_range, refl, sym, ◌∙◌, ap, inl, inr, arith, bit_or}
 use Rattle.std.proofs.lemmas.Bool.{cases_lt}
 use Rattle.std.proofs.lemmas.List.{ext_get_or}
 use Rattle.std.proofs.lemmas.Nat.{div-add-mod'}
 use Rattle.bit_addressing.specs.Bits.{has_bit, IsWidth}
 use Rattle.bit_addressing.specs.Row.{row_of}
 use Rattle.bit_addressing.proofs.Chunks.{IsRead}
-use Rattle.bit_addressing.proofs.Differs.{get_or-run, length-run}
+use Rattle.bit_addressing.proofs.lists.Shown.{get_or-run, length-run}
 use Rattle.bit_addressing.proofs.Rows.{length-row_of, get_or-row_one}
-use Rattle.bit_addressing.proofs.Runs.{mul_mono, one_more_word}
+use Rattle.bit_addressing.proofs.Runs.{mul_mono}
+use Rattle.bit_addressing.proofs.lists.Sized.{one_more_word}
 use Rattle.bit_addressing.proofs.Wholes.{bit_is}
 use Rattle.bit_addressing.proofs.Words.{has_none, has_or, has_shl_low, has_shl_high}
 

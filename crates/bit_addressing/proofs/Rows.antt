@@ -14,7 +14,8 @@ use Rattle.bit_addressing.specs.Order.{IsPermutation}
 use Rattle.std.proofs.lemmas.List.{get_or-append-add, take_at, take-append-drop}
 use Rattle.std.proofs.Math.Nat.{add-mul-div_left, add-mul-mod_self_left, mul-le-mul_left}
 use Rattle.std.proofs.Common.{add_comm}
-use Rattle.bit_addressing.proofs.Lists.{words_for_le, length-sized, sized_cut, sized_more, length-put, put_before, put_inside, put_behind}
+use Rattle.bit_addressing.proofs.lists.Sized.{words_for_le, length-sized, sized_cut, sized_more}
+use Rattle.bit_addressing.proofs.lists.Put.{length-put, put_before, put_inside, put_behind}
 use Rattle.bit_addressing.specs.Row.{row_bit, row_of, words_for, put, sized}
 
 pub width_positive : (w : ℕ) → IsWidth w → 0 < w

@@ -6,7 +6,8 @@ use Rattle.std.proofs.Math.Nat.{mod-lt, mul-le-mul_left, div-mul-le_self}
 use Rattle.std.proofs.Common.{mul_comm, rules}
 use Rattle.std.proofs.lemmas.Bool.{cases_lt}
 use Rattle.bit_addressing.specs.Row.{put, words_for}
-use Rattle.bit_addressing.proofs.Lists.{put_joined, words_for_mono}
+use Rattle.bit_addressing.proofs.lists.Put.{put_joined}
+use Rattle.bit_addressing.proofs.lists.Sized.{words_for_mono, one_more_word}
 
 -- the run from .. upto begins at index `low` of word `first`, and ends at index `end` of word `last`
 pub record IsRun (w from upto first low last end : ℕ) : Type 0 where
@@ -22,9 +23,6 @@ div_mono a b w positive h = le-div (a / w) b w positive (let e = div-mul-le_self
 
 pub mul_mono : (a b w : ℕ) → a ≤ b → a * w ≤ b * w
 mul_mono a b w h = let m : w * a ≤ w * b = mul-le-mul_left w h in let x : w * a ≡ a * w = mul_comm w a in let y : w * b ≡ b * w = mul_comm w b in omega arith
-
-pub one_more_word : (k w : ℕ) → (k + 1) * w ≡ k * w + w
-one_more_word k w = grind arith
 
 pub run_of : (w width from upto : ℕ) → 0 < w → width ≡ w → from < upto → IsRun w from upto (from / width) (from % width) ((upto - 1) / width) ((upto - 1) % width + 1)
 run_of w width from upto positive is h =
@@ -111,12 +109,6 @@ slice_repeated one w low high n b is h size = rw (is, ← size) (same_lists _ _ 
 pub slices_joined : (zs : List Bool) (a b c : ℕ) → a ≤ b → b ≤ c → c ≤ length zs → slice_range zs a b ++ slice_range zs b c ≡ slice_range zs a c
 slices_joined zs a b c h k l = same_lists _ _ (simp (length-append, length-take, length-drop) (omega arith)) (λ i d below. grind (arith, places))
 
-pub copied_parts : (zs : List Bool) (at upto from : ℕ) → from + (upto - at) ≤ length zs → ArePartsOf at upto (λ i j. slice_range zs (from + (i - at)) (from + (j - at)))
-copied_parts zs at upto from fits = record {
-  size = λ i j h k l. simp (length-take, length-drop) (omega arith);
-  joined = λ i j m h k l n. slices_joined zs (from + (i - at)) (from + (j - at)) (from + (m - at)) (omega arith) (omega arith) (omega arith);
-}
-
 -- ---- one bit more
 
 pub words_for_next : (w b : ℕ) → 0 < w → words_for w (b + 1) ≡ b / w + 1
@@ -146,23 +138,3 @@ same_word_next j w positive some =
     let low : (j + 1) % w < w = mod-lt (j + 1) positive in
     let e : j ≡ (j + 1) / w * w + ((j + 1) % w - 1) = omega arith in
     sym (ap (λ n. n / w) e ∙ div-mul-add ((j + 1) / w) w ((j + 1) % w - 1) (omega arith))
-
--- ---- a run that begins at the same index of a word in two rows
-
-right_sum : (a b w : ℕ) → (a + b) * w ≡ a * w + b * w
-right_sum a b w = grind arith
-
-split_words : (w begin first k : ℕ) → first ≤ k → (begin + (k - first)) * w ≡ begin * w + (k * w - first * w)
-split_words w begin first k h =
-    let e : k ≡ first + (k - first) = omega arith in
-    let m : k * w ≡ first * w + (k - first) * w = ap (λ n. n * w) e ∙ right_sum first (k - first) w in
-    right_sum begin (k - first) w ∙ ap (λ n. begin * w + n) (omega arith)
-
-module _ (w at from n begin first low last end : ℕ) (positive : 0 < w) (run : IsRun w at (at + n) first low last end) (source : begin * w + low ≡ from) where
-  -- where the bits of target word k stand in the source
-  pub source_word : (k : ℕ) → first ≤ k → at ≤ k * w → from + (k * w - at) ≡ (begin + (k - first)) * w
-  source_word k h below =
-      let r = run in
-      let e : (begin + (k - first)) * w ≡ begin * w + (k * w - first * w) = split_words w begin first k h in
-      let m = mul_mono first k w h in
-      omega arith

@@ -6,12 +6,14 @@ use Rattle.std.proofs.lemmas.Bool.{cases_lt, lt-leb, le-leb, lt-ltb, le-ltb}
 use Rattle.std.proofs.lemmas.Bool.Decides.{nat_tests}
 use Rattle.bit_addressing.specs.Bits.{has_bit}
 use Rattle.bit_addressing.specs.Row.{row_bit, row_of, put, source_of, moved}
-use Rattle.bit_addressing.proofs.Lists.{length-put, length-shows, put_joined, put_before, put_inside, put_behind}
-use Rattle.bit_addressing.proofs.Runs.{IsRun, mul_mono, one_more_word, slices_joined}
+use Rattle.bit_addressing.proofs.lists.Put.{length-put, put_joined, put_before, put_inside, put_behind}
+use Rattle.bit_addressing.proofs.lists.Shown.{length-run}
+use Rattle.bit_addressing.proofs.Runs.{IsRun, mul_mono, slices_joined}
+use Rattle.bit_addressing.proofs.lists.Sized.{one_more_word}
 use Rattle.bit_addressing.proofs.Windows.{first_of_two, second_of_two}
 use Rattle.bit_addressing.proofs.Rows.{length-row_of, get_or-row_of, get_or-row_one, row_part}
 use Rattle.bit_addressing.proofs.Moves.{source_below, source_none}
-use Rattle.bit_addressing.proofs.MovedLists.{length-moved, get_or-moved, get_or-shows}
+use Rattle.bit_addressing.proofs.lists.Moved.{length-moved, get_or-moved, get_or-shows}
 
 -- ---- a move is a move of one part, and then of the other
 
@@ -93,7 +95,7 @@ moved_thrice_back xs s d a b c h fits =
 pub put_moved : (xs : List Bool) (s d n : ℕ) → s + n ≤ length xs → d + n ≤ length xs → put xs d (slice_range xs s (s + n)) ≡ moved xs s d n
 put_moved xs s d n from to =
     let ys : List Bool = slice_range xs s (s + n) in
-    let size : length ys ≡ n = length-shows xs s n from in
+    let size : length ys ≡ n = length-run xs s n from in
     let left : length (put xs d ys) ≡ length xs = length-put xs ys d (omega arith) in
     ext_get_or false (put xs d ys) (moved xs s d n) (left ∙ sym (length-moved xs s d n))
     (λ j h.
@@ -145,7 +147,7 @@ module _ (place : ℕ → ℕ → ℕ) (w : ℕ) where
       let all : List Bool = row_of place w words in
       let ys : List Bool = slice_range all from (from + n) in
       let long : length all ≡ w * length words = length-row_of place w words in
-      let short : length ys ≡ n = length-shows all from n (omega arith) in
+      let short : length ys ≡ n = length-run all from n (omega arith) in
       let room : (k + 1) * w ≤ length words * w = mul_mono (k + 1) (length words) w (omega arith) in
       let next = one_more_word k w in
       let turned : w * length words ≡ length words * w = mul_comm w (length words) in
@@ -263,8 +265,8 @@ run_moved_back xs ys zs us w src dst n first low last high a run apart is h fits
 -- two runs of one row that are put one behind the other
 pub put_on : (xs zs : List Bool) (d s a b : ℕ) → s + (a + b) ≤ length zs → d + (a + b) ≤ length xs → put (put xs d (slice_range zs s (s + a))) (d + a) (slice_range zs (s + a) (s + a + b)) ≡ put xs d (slice_range zs s (s + (a + b)))
 put_on xs zs d s a b from to =
-    let one : length (slice_range zs s (s + a)) ≡ a = length-shows zs s a (omega arith) in
-    let two : length (slice_range zs (s + a) (s + a + b)) ≡ b = length-shows zs (s + a) b (omega arith) in
+    let one : length (slice_range zs s (s + a)) ≡ a = length-run zs s a (omega arith) in
+    let two : length (slice_range zs (s + a) (s + a + b)) ≡ b = length-run zs (s + a) b (omega arith) in
     let sum : s + a + b ≡ s + (a + b) = omega arith in
     put_joined xs (slice_range zs s (s + a)) (slice_range zs (s + a) (s + a + b)) d (d + a) (omega arith) (omega arith)
     ∙ ap (put xs d) (slices_joined zs s (s + a) (s + a + b) (omega arith) (omega arith) (omega arith) ∙ ap (slice_range zs s) sum)
@@ -281,7 +283,7 @@ module _ (place : ℕ → ℕ → ℕ) (w : ℕ) where
       let whole : length one ≡ w * 1 = length-row_of place w (v ∷ []) in
       let long : length all ≡ w * length words = length-row_of place w words in
       let left : length (slice_range one low high) ≡ n = simp (length-take, length-drop) (omega arith) in
-      let right : length (slice_range all from (from + n)) ≡ n = length-shows all from n (omega arith) in
+      let right : length (slice_range all from (from + n)) ≡ n = length-run all from n (omega arith) in
       ext_get_or false (slice_range one low high) (slice_range all from (from + n)) (left ∙ sym right)
       (λ i h.
       let inside : i < high - low = subst (λ m. i < m) left h in

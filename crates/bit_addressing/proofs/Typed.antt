@@ -6,7 +6,8 @@ use Rattle.std.proofs.lemmas.Bool.Decides.{eqb_tells}
 use Rattle.bit_addressing.specs.Bits.{has_bit}
 use Rattle.bit_addressing.specs.Order.{IsPermutation}
 use Rattle.bit_addressing.specs.Row.{row_of, words_for, put, sized}
-use Rattle.bit_addressing.proofs.Lists.{room, put_one, length-sized}
+use Rattle.bit_addressing.proofs.lists.Sized.{room, length-sized}
+use Rattle.bit_addressing.proofs.lists.Put.{put_one}
 use Rattle.bit_addressing.proofs.Rows.{resized, word_below, row_set, row_cut, row_flipped, row_blended, row_stored, row_within, get_or-row_of, length-row_of}
 
 module _ {X : Type 0} (value : X → ℕ) (place : ℕ → ℕ → ℕ) (w : ℕ) where

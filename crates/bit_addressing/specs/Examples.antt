@@ -1,7 +1,8 @@
 -- The definitions on small inputs. Words are written in decimal, lists as they stand in memory's order.
-use Rattle.std.specs.Prelude.{◌≡◌, ◌-◌, true, false, [], ◌∷◌, ◌++◌, replicate, refl}
-use Rattle.bit_addressing.specs.Order.{xor4_place, scramble_place}
-use Rattle.bit_addressing.specs.Row.{row_of, packed, words_for, put, sized, filled, moved, touched}
+use Rattle.std.proofs.Common.{arith}
+use Rattle.std.specs.Prelude.{◌≡◌, ℕ, ◌+◌, ◌-◌, ◌*◌, ◌%◌, true, false, [], ◌∷◌, ◌++◌, replicate, refl, bit_xor}
+use Rattle.bit_addressing.specs.Order.{IsLawful, lawful_by_test}
+use Rattle.bit_addressing.specs.Row.{row_of, packed, words_for, put, sized, filled, moved, touched, number_of, number_bits, binary, IsFirst, IsFirstDifference}
 
 -- the word 1c (hexadecimal) from its lowest place, and from its highest
 lowest_first : row_of (λ w i. i) 8 (28 ∷ []) ≡ false ∷ false ∷ true ∷ true ∷ true ∷ false ∷ false ∷ false ∷ []
@@ -12,7 +13,18 @@ highest_first : row_of (λ w i. w - 1 - i) 8 (28 ∷ []) ≡ false ∷ false ∷
 unfolding row_of
 highest_first = refl
 
--- the words 31 and 89 hold 1, 1, 0, 0, 1 by two orders of a user's own
+-- an order of a user's own: the two halves of each byte change places
+abbrev xor4_place : ℕ → ℕ → ℕ
+xor4_place w i = bit_xor i 4
+
+xor4_lawful : IsLawful xor4_place
+xor4_lawful = lawful_by_test xor4_place refl refl refl refl
+
+-- and another: neighbours lie five places apart
+abbrev scramble_place : ℕ → ℕ → ℕ
+scramble_place w i = (5 * i + 3) % w
+
+-- the words 31 and 89 hold 1, 1, 0, 0, 1 by these two
 halves_exchanged : row_of xor4_place 8 (49 ∷ []) ≡ true ∷ true ∷ false ∷ false ∷ true ∷ false ∷ false ∷ false ∷ []
 unfolding row_of
 halves_exchanged = refl
@@ -84,3 +96,22 @@ over_an_edge = refl
 
 nothing_touched : touched 8 7 0 ≡ 0
 nothing_touched = refl
+
+-- the first bit of a list is the lowest of the number
+number_of_bits : number_of (false ∷ true ∷ true ∷ []) ≡ 6
+unfolding number_of
+number_of_bits = refl
+
+bits_of_a_number : number_bits 6 4 ≡ false ∷ true ∷ true ∷ false ∷ []
+unfolding number_bits
+bits_of_a_number = refl
+
+five_in_four_digits : binary 4 5 ≡ false ∷ true ∷ false ∷ true ∷ []
+unfolding binary
+five_in_four_digits = refl
+
+first_one : IsFirst true (false ∷ false ∷ true ∷ true ∷ []) 2
+first_one = record { within = omega arith; here = refl; before = λ i h. grind arith }
+
+first_difference : IsFirstDifference (true ∷ false ∷ true ∷ []) (true ∷ true ∷ false ∷ []) 1
+first_difference = record { within = omega arith; before = λ i h. grind arith; apart = λ e. grind arith }

@@ -1,5 +1,6 @@
 pub mod Bits
 pub mod Order
+pub mod Range
 pub mod Row
 pub mod Typed
 pub mod Text

@@ -1,5 +1,5 @@
 -- Orders of the bits in a word, and the test by which an order proves its law.
-use Rattle.std.specs.Prelude.{◌≡◌, ℕ, ◌+◌, ◌-◌, ◌*◌, ◌%◌, ◌<◌, Bool, true, not, ◌&&◌, ◌||◌, eqb, ltb, zero, suc, refl, bit_xor}
+use Rattle.std.specs.Prelude.{◌≡◌, ℕ, ◌-◌, ◌<◌, Bool, true, not, ◌&&◌, ◌||◌, eqb, ltb, zero, suc, refl}
 use Rattle.std.proofs.Common.{inl, inr, subst, sym, arith}
 use Rattle.std.proofs.lemmas.Bool.Decides.{Decides-below_and, Decides-ltb, nat_tests}
 use Rattle.bit_addressing.specs.Bits.{IsWidth}
@@ -60,19 +60,3 @@ lawful_by_test place at_8 at_16 at_32 at_64 w width = elim width [
     ]
   ]
 ]
-
--- ---- two orders of a user's own, that the tests use
-
--- the two halves of each byte change places
-abbrev pub xor4_place : ℕ → ℕ → ℕ
-xor4_place w i = bit_xor i 4
-
-pub xor4_lawful : IsLawful xor4_place
-xor4_lawful = lawful_by_test xor4_place refl refl refl refl
-
--- neighbours lie five places apart
-abbrev pub scramble_place : ℕ → ℕ → ℕ
-scramble_place w i = (5 * i + 3) % w
-
-pub scramble_lawful : IsLawful scramble_place
-scramble_lawful = lawful_by_test scramble_place refl refl refl refl

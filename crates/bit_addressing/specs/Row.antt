@@ -83,6 +83,10 @@ pub record IsFirst (bit : Bool) (xs : List Bool) (k : ℕ) : Type 0 where
   pub here : slice_index_or xs k false ≡ bit
   pub before : (i : ℕ) → i < k → slice_index_or xs i false ≡ not bit
 
+-- a number written in binary by n digits, the most significant first
+unfoldable pub binary : ℕ → ℕ → List Bool
+binary n x = map (λ i. has_bit x (n - 1 - i)) (range_with_len 0 n)
+
 -- the n lowest bits of a number, that of place 0 first
 unfoldable pub number_bits : ℕ → ℕ → List Bool
 number_bits x n = map (has_bit x) (range_with_len 0 n)

@@ -15,7 +15,7 @@ mod tests;
 mod word_read;
 mod word_row;
 
-pub use bits::chunks::{read_chunk, write_chunk};
+pub use bits::chunks::{read_binary, read_chunk, write_binary, write_chunk};
 pub use bits::combined::{And, BitOperator, Or, Xor, combine_bits};
 pub use bits::copies::{copy_bits, copy_bits_alike};
 pub use bits::growth::{cut_words_in_vec, push_bit_in_vec, resize_words_in_vec};

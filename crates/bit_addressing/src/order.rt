@@ -69,6 +69,19 @@ pub trait BitOrder {
         made
     }
 
+    /// Bit `j` of two words one after the other. The condition: `j` is below twice `T::BITS`.
+    #[inline(always)]
+    fn bit_of_pair<T: BitStore>(low: T, high: T, j: u8) -> bool
+        requires { j < 2 * T.BITS }
+        ensures { result ≡ row_bit place T.BITS (T.value low ∷ T.value high ∷ []) j }
+    {
+        if j < T::BITS {
+            low.bit(Self::at(BitIdx::<T>::new_unchecked(j)).into_inner())
+        } else {
+            high.bit(Self::at(BitIdx::<T>::new_unchecked(j - T::BITS)).into_inner())
+        }
+    }
+
     /// The word whose bit at index `i` is bit `at + i` of the two words one after the other.
     fn window<T: BitStore>(low: T, high: T, at: BitIdx<T>) -> T
         ensures { (i : ℕ) → i < T.BITS → has_bit (T.value result) (place T.BITS i) ≡ row_bit place T.BITS (T.value low ∷ T.value high ∷ []) (at + i) }
@@ -88,13 +101,7 @@ pub trait BitOrder {
         let begin = at.into_inner();
         let mut word = T::ZERO;
         for i in 0..T::BITS {
-            let j = begin + i;
-            let bit = if j < T::BITS {
-                low.bit(Self::at(BitIdx::<T>::new_unchecked(j)).into_inner())
-            } else {
-                high.bit(Self::at(BitIdx::<T>::new_unchecked(j - T::BITS)).into_inner())
-            };
-            word = word.with_bit(i, bit);
+            word = word.with_bit(i, Self::bit_of_pair(low, high, begin + i));
         }
         word
     }
@@ -115,13 +122,8 @@ pub trait BitOrder {
         let begin = at.into_inner();
         let mut word = old;
         for i in from.into_inner()..upto.into_inner() {
-            let j = begin + i;
-            let bit = if j < T::BITS {
-                low.bit(Self::at(BitIdx::<T>::new_unchecked(j)).into_inner())
-            } else {
-                high.bit(Self::at(BitIdx::<T>::new_unchecked(j - T::BITS)).into_inner())
-            };
-            word = word.with_bit(Self::at(BitIdx::<T>::new_unchecked(i)).into_inner(), bit);
+            let place = Self::at(BitIdx::<T>::new_unchecked(i)).into_inner();
+            word = word.with_bit(place, Self::bit_of_pair(low, high, begin + i));
         }
         word
     }

@@ -1,5 +1,6 @@
 //! Ranges of indices.
-ghost use Rattle.std.specs.Prelude.{◌≡◌, ℕ, ◌+◌, ◌≤◌, ◌↔◌, IsTrue};
+ghost use Rattle.std.specs.Prelude.{◌≡◌, ℕ, ◌+◌, ◌↔◌, IsTrue};
+ghost use Rattle.bit_addressing.specs.Range.{LiesIn};
 
 use std::ops::{Range, RangeFrom, RangeFull, RangeInclusive, RangeTo, RangeToInclusive};
 
@@ -21,12 +22,11 @@ pub trait RangeExt: Drop {
 
     /// Whether the range's start is at most its end, and its end at most `len`.
     fn lies_in(&self, len: usize) -> bool
-        ensures { IsTrue result ↔ ((start_of self.now ≤ end_of self.now len) × (end_of self.now len ≤ len)) };
+        ensures { IsTrue result ↔ LiesIn (start_of self.now) (end_of self.now len) len };
 
     /// The range with both its ends. The condition: it lies in `len`.
     fn normalize(self, len: usize) -> Range<usize>
-        requires order { start_of self ≤ end_of self len }
-        requires within { end_of self len ≤ len }
+        requires lies { LiesIn (start_of self) (end_of self len) len }
         ensures start { result.start ≡ start_of self }
         ensures end { result.end ≡ end_of self len };
 }

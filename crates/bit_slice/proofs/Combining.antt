@@ -5,7 +5,8 @@ use Rattle.std.proofs.lemmas.List.{length-drop, length-take-le, length-replicate
 use Rattle.std.specs.Simd.Lanes.{zip2}
 use Rattle.std.proofs.lemmas.Simd.{length-zip2}
 use Rattle.bit_addressing.specs.Row.{put}
-use Rattle.bit_addressing.proofs.Lists.{put_joined, length-put, shows_fewer, length-shows}
+use Rattle.bit_addressing.proofs.lists.Put.{put_joined, length-put}
+use Rattle.bit_addressing.proofs.lists.Shown.{shows_fewer, length-run}
 use Rattle.bit_addressing.proofs.Combined.{put_later}
 use Rattle.bit_slice.proofs.Shown.{length-run}
 use Rattle.bit_slice.specs.Operators.{combined, and_of}
@@ -61,14 +62,14 @@ module _ (f : Bool → Bool → Bool) (old ys : List Bool) (head len n : ℕ) (l
   front = zip2 f (slice_range old head (head + n)) (take n ys)
 
   size : length xs ≡ len
-  size = length-shows old head len room
+  size = length-run old head len room
 
   front_is : front ≡ zip2 f (take n xs) (take n ys)
   front_is = ap (λ l. zip2 f l (take n ys)) (shows_fewer old head n len (omega arith) room)
 
   length-front : length front ≡ n
   length-front =
-      let a : length (slice_range old head (head + n)) ≡ n = length-shows old head n (omega arith) in
+      let a : length (slice_range old head (head + n)) ≡ n = length-run old head n (omega arith) in
       let b : length (take n ys) ≡ n = length-take-le n ys (omega arith) in
       length-zip2 f (slice_range old head (head + n)) (take n ys) (a ∙ sym b) ∙ a
 

@@ -9,7 +9,7 @@ use Rattle.bit_addressing.specs.declared.order.BitOrder as order
 use Rattle.bit_addressing.specs.Typed.{row}
 use Rattle.bit_addressing.specs.Row.{row_of, words_for}
 use Rattle.bit_addressing.specs.declared.length.TheConstants.{MAX_BITS}
-use Rattle.bit_addressing.proofs.Lists.{few_words, room, words_for_all, words_for_le}
+use Rattle.bit_addressing.proofs.lists.Sized.{few_words, room, words_for_all, words_for_le}
 use Rattle.bit_addressing.proofs.Rows.{mul_add, width_positive, row_append, row_take, length-row_of}
 use Rattle.bit_addressing.proofs.Typed.{length_row}
 use Rattle.bit_slice.specs.Fits.{IsView}

@@ -4,7 +4,8 @@ use Rattle.std.proofs.lemmas.List.{drop_more, take_all, length-take, length-drop
 use Rattle.std.proofs.lemmas.List.Edits.{between_more, swap_is}
 use Rattle.std.proofs.lemmas.List.Sums.{sum_by-cons}
 use Rattle.bit_addressing.specs.Row.{put}
-use Rattle.bit_addressing.proofs.Lists.{shows_put, shows_set, length-put}
+use Rattle.bit_addressing.proofs.lists.Shown.{shows_put, shows_set}
+use Rattle.bit_addressing.proofs.lists.Put.{length-put}
 
 -- ---- what an iterator has left
 

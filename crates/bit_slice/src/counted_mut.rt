@@ -1,5 +1,6 @@
 //! A view whose moves are counted.
 ghost use Rattle.std.specs.Prelude.{◌≡◌, ℕ, ◌+◌, ◌-◌, ◌*◌, ◌<◌, ◌≤◌, ◌↔◌, IsTrue, length};
+ghost use Rattle.bit_addressing.specs.Range.{LiesIn};
 ghost use Rattle.bit_addressing.specs.Row.{moved, touched, words_for};
 ghost use Rattle.bit_addressing.specs.declared.length.TheConstants.{MAX_BITS};
 ghost use Rattle.bit_slice.specs.Fits.{IsView};
@@ -85,8 +86,7 @@ impl<'a, T: BitStore, O: BitOrder> CountedMut<'a, T, O> {
     /// out first: the two runs may overlap. No other bit changes, no more words are written than have a
     /// bit of the target, and at most three times as many are read. The condition: both runs lie in the view's length.
     pub fn copy_within_counted<R: RangeExt>(&mut self, range: R, dest: usize)
-        requires ordered { R.start_of range ≤ R.end_of range (len_of self.old) }
-        requires within { R.end_of range (len_of self.old) ≤ len_of self.old }
+        requires lies { LiesIn (R.start_of range) (R.end_of range (len_of self.old)) (len_of self.old) }
         requires target { dest + (R.end_of range (len_of self.old) - R.start_of range) ≤ len_of self.old }
         ensures same_words { loan_of self.new ≡ loan_of self.old }
         ensures row { row_of self.new ≡ moved (row_of self.old) (head_of self.old + R.start_of range) (head_of self.old + dest) (R.end_of range (len_of self.old) - R.start_of range) }

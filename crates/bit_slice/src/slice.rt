@@ -3,6 +3,7 @@ ghost use Rattle.std.specs.Iterator.{YieldsFirst, YieldsLast};
 ghost use Rattle.std.specs.Iterator.Runs.{YieldsInOrder, YieldsInReverse};
 ghost use Rattle.std.specs.Prelude.{◌≡◌, ℕ, ◌+◌, ◌-◌, ◌*◌, ◌/◌, ◌%◌, ◌<◌, ◌≤◌, ◌↔◌, Bool, not, length, count_by, slice_get, slice_index_or, slice_range, true, false, EachIndex, SomeIndex, IsTrue, IsOk, IfOk};
 ghost use Rattle.std.specs.List.{list_any, list_all};
+ghost use Rattle.bit_addressing.specs.Range.{LiesIn};
 ghost use Rattle.bit_addressing.specs.Row.{words_for};
 ghost use Rattle.bit_addressing.specs.Typed.{row, words_from};
 ghost use Rattle.bit_addressing.specs.declared.length.TheConstants.{MAX_BITS};
@@ -171,8 +172,7 @@ impl<'a, T: BitStore, O: BitOrder> BitSlice<'a, T, O> {
 
     /// The part of the view at a range of indices. The condition: the range lies in the view's length.
     pub fn get_range<R: RangeExt>(self, range: R) -> Self
-        requires ordered { R.start_of range ≤ R.end_of range (len_of self) }
-        requires within { R.end_of range (len_of self) ≤ len_of self }
+        requires lies { LiesIn (R.start_of range) (R.end_of range (len_of self)) (len_of self) }
         ensures list { list_of result ≡ slice_range (list_of self.entry) (R.start_of range) (R.end_of range (len_of self.entry)) }
         ensures head { head_of result ≡ (head_of self.entry + R.start_of range) % T.BITS }
         ensures len { len_of result ≡ R.end_of range (len_of self.entry) - R.start_of range }

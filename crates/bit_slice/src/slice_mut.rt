@@ -4,6 +4,7 @@ ghost use Rattle.std.specs.Iterator.Runs.{YieldsInOrder, YieldsInReverse};
 ghost use Rattle.std.specs.Prelude.{◌≡◌, ℕ, ◌+◌, ◌-◌, ◌*◌, ◌/◌, ◌%◌, ◌<◌, ◌≤◌, ◌↔◌, Bool, true, false, EachIndex, SomeIndex, not, length, count_by, replicate, set, slice_get, slice_index_or, slice_range, swap, IsTrue};
 ghost use Rattle.std.specs.List.{list_any, list_all};
 ghost use Rattle.std.specs.Borrow.{sem};
+ghost use Rattle.bit_addressing.specs.Range.{LiesIn};
 ghost use Rattle.bit_addressing.specs.Row.{words_for, put, moved};
 ghost use Rattle.bit_addressing.specs.Typed.{row, words_from};
 ghost use Rattle.bit_addressing.specs.declared.length.TheConstants.{MAX_BITS};
@@ -158,8 +159,7 @@ impl<'a, T: BitStore, O: BitOrder> BitSliceMut<'a, T, O> {
     /// The part of the view at a range of indices, for reading. The condition: the range lies in the
     /// view's length.
     pub fn get_range<R: RangeExt>(&self, range: R) -> BitSlice<'_, T, O>
-        requires ordered { R.start_of range ≤ R.end_of range (len_of self.now) }
-        requires within { R.end_of range (len_of self.now) ≤ len_of self.now }
+        requires lies { LiesIn (R.start_of range) (R.end_of range (len_of self.now)) (len_of self.now) }
         ensures list { list_seen result ≡ slice_range (list_of self.now) (R.start_of range) (R.end_of range (len_of self.now)) }
         ensures head { head_seen result ≡ (head_of self.now + R.start_of range) % T.BITS }
         ensures len { len_seen result ≡ R.end_of range (len_of self.now) - R.start_of range }
@@ -273,8 +273,7 @@ impl<'a, T: BitStore, O: BitOrder> BitSliceMut<'a, T, O> {
     /// any is written. The runs may overlap. The condition: the range and the places lie in the view.
     #[tactic(auto, using(crate::proofs::Parts::roomy))]
     pub fn copy_within<R: RangeExt>(&mut self, range: R, dest: usize)
-        requires ordered { R.start_of range ≤ R.end_of range (len_of self.old) }
-        requires within { R.end_of range (len_of self.old) ≤ len_of self.old }
+        requires lies { LiesIn (R.start_of range) (R.end_of range (len_of self.old)) (len_of self.old) }
         requires room { dest + (R.end_of range (len_of self.old) - R.start_of range) ≤ len_of self.old }
         ensures row { row_of self.new ≡ moved (row_of self.old) (head_of self.old + R.start_of range) (head_of self.old + dest) (R.end_of range (len_of self.old) - R.start_of range) }
         ensures list { list_of self.new ≡ moved (list_of self.old) (R.start_of range) dest (R.end_of range (len_of self.old) - R.start_of range) }

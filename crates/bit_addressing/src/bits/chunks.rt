@@ -2,7 +2,7 @@
 //!
 //! Calls between words of two types or orders go through these numbers, 64 bits at a time.
 ghost use Rattle.std.specs.Prelude.{◌≡◌, ◌+◌, ◌*◌, ◌^◌, ◌<◌, ◌≤◌, [], ◌∷◌, length, slice_range};
-ghost use Rattle.bit_addressing.specs.Row.{number_bits, number_of, put, row_of};
+ghost use Rattle.bit_addressing.specs.Row.{binary, number_bits, number_of, put, row_of};
 ghost use Rattle.bit_addressing.specs.Typed.{row};
 
 use crate::bits::copies::copy_bits;
@@ -50,6 +50,36 @@ pub fn write_chunk<T: BitStore, O: BitOrder>(words: &mut [T], at: usize, n: u8, 
     ensures size { length words.new ≡ length words.old }
 {
     copy_bits::<T, O, u64, Lsb0>(words, at, &[chunk], 0, n as usize);
+}
+
+/// The number that the `n` bits of the row from `at` on write in binary, the most significant digit
+/// first: each word is read once. The condition: `n` is at most 64, and the run lies in the words.
+pub fn read_binary<T: BitStore, O: BitOrder>(words: &[T], at: usize, n: u8) -> u64
+    requires few { n ≤ 64 }
+    requires within { at + n ≤ T.BITS * length words.now }
+    ensures digits { binary n result ≡ slice_range (row T.BitStore O.BitOrder words.now) at (at + n) }
+    ensures below { result < 2 ^ n }
+{
+    if n == 0 {
+        return 0;
+    }
+    read_chunk::<T, O>(words, at, n).reverse() >> (64 - n)
+}
+
+/// Writes a number in binary by `n` digits at the places from `at` on, the most significant digit first,
+/// and no other bit; digits above the `n` lowest are left out. What `read_binary` reads.
+/// The condition: `n` is at most 64, and the run lies in the words.
+pub fn write_binary<T: BitStore, O: BitOrder>(words: &mut [T], at: usize, n: u8, number: u64)
+    requires few { n ≤ 64 }
+    requires within { at + n ≤ T.BITS * length words.old }
+    requires fits { at + n < 2 ^ 64 }
+    ensures bits { row T.BitStore O.BitOrder words.new ≡ put (row T.BitStore O.BitOrder words.old) at (binary n number) }
+    ensures size { length words.new ≡ length words.old }
+{
+    if n == 0 {
+        return;
+    }
+    write_chunk::<T, O>(words, at, n, number.reverse() >> (64 - n));
 }
 
 /// A word whose indices from `low` on have the `n` bits of the row of `source` from `from` on.

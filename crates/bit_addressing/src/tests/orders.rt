@@ -1,5 +1,6 @@
 //! Orders, masks and indices.
-ghost use Rattle.bit_addressing.specs.Order.{xor4_place, xor4_lawful, scramble_place, scramble_lawful};
+ghost use Rattle.std.specs.Prelude.{◌+◌, ◌*◌, ◌%◌, bit_xor, refl};
+ghost use Rattle.bit_addressing.specs.Order.{lawful_by_test};
 
 use crate::{BitEnd, BitIdx, BitOrder, BitPos, BitStore, Lsb0, Msb0};
 use std::process::Abort;
@@ -8,9 +9,9 @@ use std::process::Abort;
 pub(crate) struct Xor4;
 
 impl BitOrder for Xor4 {
-    ghost place = { xor4_place };
+    ghost place = { λ w i. bit_xor i 4 };
 
-    ghost lawful = { xor4_lawful };
+    ghost lawful = { lawful_by_test (λ w i. bit_xor i 4) refl refl refl refl };
 
     fn at<T: BitStore>(i: BitIdx<T>) -> BitPos<T> {
         BitPos::new_unchecked(i.into_inner() ^ 4)
@@ -21,9 +22,9 @@ impl BitOrder for Xor4 {
 pub(crate) struct Scramble;
 
 impl BitOrder for Scramble {
-    ghost place = { scramble_place };
+    ghost place = { λ w i. (5 * i + 3) % w };
 
-    ghost lawful = { scramble_lawful };
+    ghost lawful = { lawful_by_test (λ w i. (5 * i + 3) % w) refl refl refl refl };
 
     fn at<T: BitStore>(i: BitIdx<T>) -> BitPos<T> {
         BitPos::new_unchecked(((5 * i.into_inner() as u16 + 3) % T::BITS as u16) as u8)

@@ -3,8 +3,8 @@ use crate::tests::orders::{Scramble, Xor4};
 use crate::{
     And, Lsb0, Msb0, combine_bits, copy_bits, copy_bits_alike, copy_bits_in_vec, count_bits,
     cut_words_in_vec, differ_at, fill_bits, fill_bits_in_vec, find_bit, flip_bits,
-    flip_bits_in_vec, move_bits_in_vec, push_bit_in_vec, read_bit, read_chunk, resize_words_in_vec,
-    write_bit, write_bit_in_vec, write_chunk,
+    flip_bits_in_vec, move_bits_in_vec, push_bit_in_vec, read_binary, read_bit, read_chunk,
+    resize_words_in_vec, write_binary, write_bit, write_bit_in_vec, write_chunk,
 };
 use std::test::Fail;
 
@@ -83,4 +83,12 @@ fn chunks(rt: HostRuntime) {
     write_chunk::<u8, Msb0>(&mut bytes, 6, 12, 0xfd);
     assert_eq!(rt; bytes, [0x02, 0xfc, 0x00]);
     assert_eq!(rt; read_chunk::<u8, Msb0>(&bytes, 6, 12), 0xfd);
+    bytes = [0; 3];
+    write_binary::<u8, Msb0>(&mut bytes, 6, 12, 0xfd);
+    assert_eq!(rt; bytes, [0x00, 0x3f, 0x40]);
+    assert_eq!(rt; read_binary::<u8, Msb0>(&bytes, 6, 12), 0xfd);
+    let mut word = [0u16];
+    write_binary::<u16, Lsb0>(&mut word, 3, 3, 6);
+    assert_eq!(rt; word, [0x18]);
+    assert_eq!(rt; read_binary::<u16, Lsb0>(&word, 3, 3), 6);
 }

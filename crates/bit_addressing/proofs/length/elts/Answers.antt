@@ -1,5 +1,5 @@
 use Rattle.std.proofs.Common.{◌≡◌, ◌/◌, ◌%◌, ◌+◌, ap, ◌∙◌, subst}
-use Rattle.bit_addressing.proofs.Lists.{words_even, words_odd}
+use Rattle.bit_addressing.proofs.lists.Sized.{words_even, words_odd}
 use Rattle.bit_addressing.proofs.Rows.{width_positive}
 use Rattle.bit_addressing.proofs.length.elts.Goals as goal
 

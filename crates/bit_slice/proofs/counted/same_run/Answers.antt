@@ -1,7 +1,7 @@
 use Rattle.std.proofs.Common.{◌≡◌, ◌+◌, slice_range, sym, ◌∙◌, ap}
 use Rattle.bit_addressing.specs.Row.{number_of}
 use Rattle.bit_addressing.specs.Typed.{row}
-use Rattle.bit_addressing.proofs.Differs.{length-run}
+use Rattle.bit_addressing.proofs.lists.Shown.{length-run}
 use Rattle.bit_slice.proofs.Counting.{one_number, told_by}
 use Rattle.bit_slice.proofs.Parts.{in_row}
 use Rattle.bit_slice.proofs.counted.same_run.Goals as goal

@@ -2,7 +2,7 @@ use Rattle.std.proofs.Common.{◌≡◌, ◌+◌, ◌-◌, false, replicate, ◌
 use Rattle.std.specs.Simd.Lanes.{zip2}
 use Rattle.bit_addressing.specs.Row.{put}
 use Rattle.bit_addressing.specs.Typed.{row}
-use Rattle.bit_addressing.proofs.Lists.{shows_fewer, length-shows}
+use Rattle.bit_addressing.proofs.lists.Shown.{shows_fewer, length-run}
 use Rattle.bit_slice.proofs.Parts.{in_row}
 use Rattle.bit_slice.proofs.Combining.{written_and}
 use Rattle.bit_slice.specs.BitSlice.{list_of}
@@ -15,7 +15,7 @@ returns-clause-bits g c =
     let len = c.args.len in
     let n = c.min-both.result in
     let old = row g.T.BitStore g.O.BitOrder c.args.words.now in
-    let size = length-shows (row g.U.BitStore g.P.BitOrder s.words.now) s.head s.len (in_row g.U.BitStore g.P.BitOrder s.words.now (s.head + s.len) s.fits.room) in
+    let size = length-run (row g.U.BitStore g.P.BitOrder s.words.now) s.head s.len (in_row g.U.BitStore g.P.BitOrder s.words.now (s.head + s.len) s.fits.room) in
     let least : n ≡ min len (length (list_of s)) = omega (arith, c.min-both.ensures, c.len.ensures.list) in
     c.fill_bits.ensures.bits
     ∙ ap (λ r. put r (head + n) (replicate (head + len - (head + n)) false))

@@ -1,6 +1,6 @@
 use Rattle.std.proofs.Common.{◌≡◌, ◌+◌, take, slice_range, ◌∙◌, ap}
 use Rattle.bit_addressing.specs.Typed.{row}
-use Rattle.bit_addressing.proofs.Lists.{shows_fewer}
+use Rattle.bit_addressing.proofs.lists.Shown.{shows_fewer}
 use Rattle.bit_slice.proofs.Parts.{in_row}
 use Rattle.bit_slice.proofs.Comparing.{found_in}
 use Rattle.bit_slice.specs.BitSlice.{list_of}

@@ -2,7 +2,7 @@ use Rattle.std.proofs.Common.{◌≡◌, ◌+◌, not, cond, length, min, slice_
 use Rattle.std.specs.Simd.Lanes.{zip2}
 use Rattle.bit_addressing.specs.Row.{put}
 use Rattle.bit_addressing.specs.Typed.{row}
-use Rattle.bit_addressing.proofs.Lists.{shows_fewer, length-shows}
+use Rattle.bit_addressing.proofs.lists.Shown.{shows_fewer, length-run}
 use Rattle.bit_slice.proofs.Parts.{in_row}
 use Rattle.bit_slice.proofs.Combining.{written_front, xor_keeps}
 use Rattle.bit_slice.specs.BitSlice.{list_of}
@@ -15,7 +15,7 @@ returns-clause-bits g c =
     let len = c.args.len in
     let n = c.min-both.result in
     let old = row g.T.BitStore g.O.BitOrder c.args.words.now in
-    let size = length-shows (row g.U.BitStore g.P.BitOrder s.words.now) s.head s.len (in_row g.U.BitStore g.P.BitOrder s.words.now (s.head + s.len) s.fits.room) in
+    let size = length-run (row g.U.BitStore g.P.BitOrder s.words.now) s.head s.len (in_row g.U.BitStore g.P.BitOrder s.words.now (s.head + s.len) s.fits.room) in
     let least : n ≡ min len (length (list_of s)) = omega (arith, c.min-both.ensures, c.len.ensures.list) in
     c.combine_bits.ensures.bits
     ∙ ap (λ ws. put old head (zip2 (λ x y. cond x (not y) y) (slice_range old head (head + n)) (slice_range (row g.U.BitStore g.P.BitOrder ws) c.head-from.result (c.head-from.result + n)))) c.as_raw_slice.ensures.words

@@ -1,11 +1,11 @@
-use Rattle.std.proofs.Common.{◌≡◌, ℕ, ◌+◌, ◌*◌, ◌/◌, ◌<◌, ◌≤◌, [], ◌∷◌, length, slice_range, sym, ◌∙◌, ap, arith}
-use Rattle.bit_addressing.specs.Row.{row_bit, row_of}
+use Rattle.std.proofs.Common.{◌≡◌, ◌+◌, ◌*◌, ◌/◌, [], ◌∷◌, length, slice_range, ◌∙◌, ap, arith}
+use Rattle.bit_addressing.specs.Row.{row_bit}
 use Rattle.bit_addressing.specs.Typed.{row}
 use Rattle.bit_addressing.proofs.Blocks.{block_is}
 use Rattle.bit_addressing.proofs.Packs.{pack_fills}
 use Rattle.bit_addressing.proofs.Rows.{width_small}
 use Rattle.bit_addressing.proofs.Typed.{length_row}
-use Rattle.bit_addressing.proofs.Wholes.{right_sum}
+use Rattle.bit_addressing.proofs.lists.Sized.{right_sum}
 use Rattle.bit_addressing.proofs.bits.chunks.block_at.Goals as goal
 
 pub returns : goal.returns

@@ -1,5 +1,4 @@
-use Rattle.std.proofs.Common.{◌≡◌, ◌+◌, ◌-◌, ◌*◌, ◌/◌, ◌%◌, ◌^◌, ◌<◌, bit_or, slice_range, length, sym, ◌∙◌, ap, subst, arith}
-use Rattle.bit_addressing.specs.Row.{number_of}
+use Rattle.std.proofs.Common.{◌≡◌, ◌+◌, ◌-◌, ◌*◌, ◌/◌, ◌%◌, ◌^◌, ◌<◌, bit_or, length, sym, ap, subst, arith}
 use Rattle.bit_addressing.specs.Typed.{row}
 use Rattle.bit_addressing.proofs.Chunks.{IsRead, no_bits, read_first, read_next, read_done, reach_first, reach_next}
 use Rattle.bit_addressing.proofs.Rows.{width_positive, width_small}

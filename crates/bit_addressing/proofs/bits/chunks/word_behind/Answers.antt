@@ -1,10 +1,9 @@
-use Rattle.std.proofs.Common.{◌≡◌, ℕ, ◌+◌, ◌*◌, ◌/◌, ◌<◌, ◌≤◌, [], ◌∷◌, length, slice_range, refl, sym, ◌∙◌, ap, subst, arith}
-use Rattle.bit_addressing.specs.Row.{row_of}
+use Rattle.std.proofs.Common.{◌≡◌, ℕ, ◌+◌, ◌*◌, ◌/◌, slice_range, sym, ◌∙◌, ap, arith}
 use Rattle.bit_addressing.specs.Typed.{row}
 use Rattle.bit_addressing.proofs.Blocks.{block_as_word}
 use Rattle.bit_addressing.proofs.Chunks.{whole_is}
 use Rattle.bit_addressing.proofs.Packs.{pack_fills}
-use Rattle.bit_addressing.proofs.Wholes.{right_sum}
+use Rattle.bit_addressing.proofs.lists.Sized.{right_sum}
 use Rattle.bit_addressing.proofs.bits.chunks.word_behind.Goals as goal
 
 -- where a block begins, some blocks behind a word

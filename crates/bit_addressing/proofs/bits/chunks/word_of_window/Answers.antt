@@ -4,11 +4,12 @@ use Rattle.std.proofs.lemmas.List.{length-map, get_or-map, get_or_past}
 use Rattle.bit_addressing.specs.Row.{number_of, row_bit}
 use Rattle.bit_addressing.specs.Typed.{row}
 use Rattle.bit_addressing.proofs.Chunks.{number_from_bits}
-use Rattle.bit_addressing.proofs.Differs.{get_or-run, length-run}
+use Rattle.bit_addressing.proofs.lists.Shown.{get_or-run, length-run}
 use Rattle.bit_addressing.proofs.Shifts.{pair_bit}
 use Rattle.bit_addressing.proofs.Wholes.{word_placed}
 use Rattle.bit_addressing.proofs.Rows.{width_positive, width_small, get_or-row_of}
-use Rattle.bit_addressing.proofs.Runs.{one_more_word, mul_mono}
+use Rattle.bit_addressing.proofs.lists.Sized.{one_more_word}
+use Rattle.bit_addressing.proofs.Runs.{mul_mono}
 use Rattle.bit_addressing.proofs.Typed.{length_row}
 use Rattle.bit_addressing.proofs.bits.chunks.word_of_window.Goals as goal
 

@@ -2,7 +2,7 @@ use Rattle.std.proofs.Common.{◌≡◌, ◌+◌, ◌*◌, length, slice_range, 
 use Rattle.bit_addressing.specs.Row.{put}
 use Rattle.bit_addressing.specs.Typed.{row}
 use Rattle.bit_addressing.proofs.Combined.{second_bits}
-use Rattle.bit_addressing.proofs.Differs.{length-run}
+use Rattle.bit_addressing.proofs.lists.Shown.{length-run}
 use Rattle.bit_addressing.proofs.Typed.{length_row}
 use Rattle.bit_addressing.proofs.bits.copies.copy_bits.Goals as goal
 

@@ -2,8 +2,9 @@ use Rattle.std.proofs.Common.{◌≡◌, ℕ, ◌+◌, ◌*◌, ◌<◌, ◌≤�
 use Rattle.std.proofs.lemmas.List.{length-map, get_or-map}
 use Rattle.bit_addressing.specs.Row.{row_bit, row_of, put}
 use Rattle.bit_addressing.specs.Typed.{row}
-use Rattle.bit_addressing.proofs.Lists.{copy_none}
-use Rattle.bit_addressing.proofs.Runs.{mul_mono, one_more_word}
+use Rattle.bit_addressing.proofs.lists.Shown.{copy_none}
+use Rattle.bit_addressing.proofs.Runs.{mul_mono}
+use Rattle.bit_addressing.proofs.lists.Sized.{one_more_word}
 use Rattle.bit_addressing.proofs.Rows.{width_positive}
 use Rattle.bit_addressing.proofs.Typed.{length_row, row_replaced}
 use Rattle.bit_addressing.proofs.Shifts.{pair_bit, word_copied, put_on}

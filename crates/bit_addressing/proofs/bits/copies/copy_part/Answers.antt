@@ -1,9 +1,9 @@
-use Rattle.std.proofs.Common.{◌≡◌, ℕ, ◌+◌, ◌-◌, ◌*◌, ◌<◌, ◌≤◌, if◌then◌else◌, ◌&&◌, leb, ltb, Bool, List, false, [], ◌∷◌, map, length, get_or, slice_range, sym, ◌∙◌, ap, arith}
+use Rattle.std.proofs.Common.{◌≡◌, ◌+◌, ◌-◌, ◌*◌, ◌<◌, if◌then◌else◌, ◌&&◌, leb, ltb, false, [], ◌∷◌, map, length, get_or, slice_range, sym, ◌∙◌, ap, arith}
 use Rattle.std.proofs.lemmas.List.{map-set, length-map, get_or-map}
 use Rattle.bit_addressing.specs.Bits.{has_bit}
 use Rattle.bit_addressing.specs.Row.{row_bit, row_of}
 use Rattle.bit_addressing.specs.Typed.{row}
-use Rattle.bit_addressing.proofs.Differs.{get_or-run, length-run}
+use Rattle.bit_addressing.proofs.lists.Shown.{get_or-run, length-run}
 use Rattle.bit_addressing.proofs.Rows.{width_positive, row_part, get_or-row_of}
 use Rattle.bit_addressing.proofs.Shifts.{blended}
 use Rattle.bit_addressing.proofs.Typed.{length_row}

@@ -2,7 +2,8 @@ use Rattle.std.proofs.Common.{◌≡◌, ◌+◌, ◌-◌, ◌*◌, ◌/◌, ◌
 use Rattle.std.proofs.lemmas.List.{length-map, get_or-map}
 use Rattle.std.proofs.lemmas.Nat.{div-add-mod'}
 use Rattle.bit_addressing.specs.Row.{row_bit}
-use Rattle.bit_addressing.proofs.Runs.{one_more_word, inside_words}
+use Rattle.bit_addressing.proofs.lists.Sized.{one_more_word}
+use Rattle.bit_addressing.proofs.Runs.{inside_words}
 use Rattle.bit_addressing.proofs.Rows.{width_positive, word_below}
 use Rattle.bit_addressing.proofs.Shifts.{pair_bit, round_bit}
 use Rattle.bit_addressing.proofs.bits.copies.gathered.Goals as goal

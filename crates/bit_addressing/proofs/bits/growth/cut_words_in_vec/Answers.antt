@@ -1,7 +1,7 @@
 use Rattle.std.proofs.Common.{◌∙◌, ap, subst, sym, ◌≤◌, length}
 use Rattle.std.proofs.lemmas.List.{length-take-le}
 use Rattle.bit_addressing.specs.Typed.{row}
-use Rattle.bit_addressing.proofs.Lists.{words_for_le, room}
+use Rattle.bit_addressing.proofs.lists.Sized.{words_for_le, room}
 use Rattle.bit_addressing.proofs.Rows.{width_positive}
 use Rattle.bit_addressing.proofs.Typed.{row_kept}
 use Rattle.bit_addressing.proofs.bits.growth.cut_words_in_vec.Goals as goal

@@ -3,7 +3,8 @@ use Rattle.std.proofs.lemmas.List.{length-set, length-append}
 use Rattle.std.proofs.lemmas.Result.{err_from_is_err_and}
 use Rattle.bit_addressing.specs.Row.{words_for, put}
 use Rattle.bit_addressing.specs.Typed.{row}
-use Rattle.bit_addressing.proofs.Lists.{room, put_one, sized_same}
+use Rattle.bit_addressing.proofs.lists.Sized.{room, sized_same}
+use Rattle.bit_addressing.proofs.lists.Put.{put_one}
 use Rattle.bit_addressing.proofs.Runs.{words_for_next, words_for_same}
 use Rattle.bit_addressing.proofs.Rows.{width_positive}
 use Rattle.bit_addressing.proofs.Typed.{row_pushed, row_write, length_row}

@@ -1,7 +1,7 @@
 use Rattle.std.proofs.Common.{◌≡◌, ◌∙◌, ap, sym, ◌-◌, ◌++◌, take, replicate, length}
 use Rattle.bit_addressing.specs.Row.{words_for}
 use Rattle.bit_addressing.specs.Typed.{row}
-use Rattle.bit_addressing.proofs.Lists.{room}
+use Rattle.bit_addressing.proofs.lists.Sized.{room}
 use Rattle.bit_addressing.proofs.Rows.{width_positive}
 use Rattle.bit_addressing.proofs.Typed.{row_resized}
 use Rattle.bit_addressing.proofs.bits.growth.resize_words_in_vec.Goals as goal

@@ -1,11 +1,12 @@
-use Rattle.std.proofs.Common.{◌≡◌, ℕ, ◌+◌, ◌-◌, ◌*◌, ◌/◌, ◌%◌, ◌≤◌, map, slice_range, length, refl, sym, ◌∙◌, ap, subst, arith}
+use Rattle.std.proofs.Common.{◌≡◌, ℕ, ◌+◌, ◌-◌, ◌*◌, ◌/◌, ◌%◌, ◌≤◌, map, slice_range, length, refl, sym, ◌∙◌, ap, arith}
 use Rattle.std.specs.Prelude.{count_ones}
 use Rattle.std.specs.List.{count_by}
 use Rattle.std.proofs.lemmas.List.{length-map}
 use Rattle.bit_addressing.specs.Row.{row_of}
 use Rattle.bit_addressing.specs.Typed.{row}
 use Rattle.bit_addressing.proofs.Counts.{counted, counted_next, counted-le, words_alike}
-use Rattle.bit_addressing.proofs.Runs.{run_of, last_inside, one_more_word, mul_mono}
+use Rattle.bit_addressing.proofs.Runs.{run_of, last_inside, mul_mono}
+use Rattle.bit_addressing.proofs.lists.Sized.{one_more_word}
 use Rattle.bit_addressing.proofs.Rows.{width_positive}
 use Rattle.bit_addressing.proofs.Typed.{length_row}
 use Rattle.bit_addressing.proofs.bits.searches.count_bits.Given as given

@@ -6,8 +6,9 @@ use Rattle.bit_addressing.specs.Typed.{row}
 use Rattle.bit_addressing.proofs.Chunks.{reach_first}
 use Rattle.bit_addressing.proofs.Counts.{counted, counted_next, counted-le}
 use Rattle.bit_addressing.proofs.Packs.{pack_fills, block_at, block_inside, blocks_inside}
-use Rattle.bit_addressing.proofs.Runs.{run_of, last_inside, one_more_word, mul_mono}
-use Rattle.bit_addressing.proofs.Rows.{width_positive, width_small}
+use Rattle.bit_addressing.proofs.Runs.{run_of, last_inside, mul_mono}
+use Rattle.bit_addressing.proofs.lists.Sized.{one_more_word}
+use Rattle.bit_addressing.proofs.Rows.{width_positive}
 use Rattle.bit_addressing.proofs.Typed.{length_row, row_whole}
 use Rattle.bit_addressing.proofs.bits.searches.count_in_order.Given as given
 use Rattle.bit_addressing.proofs.bits.searches.count_in_order.Goals as goal

@@ -1,10 +1,11 @@
-use Rattle.std.proofs.Common.{◌≡◌, ◌≢◌, ℕ, ◌+◌, ◌-◌, ◌*◌, ◌/◌, ◌%◌, ◌^◌, ◌<◌, ◌≤◌, Bool, List, not, if◌then◌else◌, bit_xor, length, replicate, slice_range, w64, refl, sym, ◌∙◌, ap, subst, arith}
+use Rattle.std.proofs.Common.{◌≡◌, ◌≢◌, ℕ, ◌+◌, ◌-◌, ◌*◌, ◌/◌, ◌%◌, ◌^◌, ◌<◌, ◌≤◌, Bool, List, not, bit_xor, length, replicate, slice_range, w64, refl, sym, ◌∙◌, ap, subst, arith}
 use Rattle.std.specs.Int.{trailing_zeros}
 use Rattle.std.proofs.lemmas.List.{length-replicate}
 use Rattle.std.proofs.lemmas.Nat.{xor_lt}
 use Rattle.bit_addressing.specs.Row.{number_of, IsFirst}
 use Rattle.bit_addressing.specs.Typed.{row}
-use Rattle.bit_addressing.proofs.Differs.{AreAlike, alike_all, alike_more, differ_here, length-run}
+use Rattle.bit_addressing.proofs.Differs.{AreAlike, alike_all, alike_more, differ_here}
+use Rattle.bit_addressing.proofs.lists.Shown.{length-run}
 use Rattle.bit_addressing.proofs.Finds.{run_of_one, others_are, lowest_of, first_is}
 use Rattle.bit_addressing.proofs.Typed.{length_row}
 use Rattle.bit_addressing.proofs.bits.searches.find_bit.Given as given

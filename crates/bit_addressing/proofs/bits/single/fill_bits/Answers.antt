@@ -1,8 +1,9 @@
 use Rattle.std.proofs.Common.{◌≡◌, ◌+◌, ◌-◌, ◌*◌, ◌/◌, ◌%◌, [], ◌∷◌, replicate, length, slice_range, sym, ◌∙◌, ap, arith, rules}
 use Rattle.bit_addressing.specs.Row.{put}
 use Rattle.bit_addressing.specs.Typed.{row}
-use Rattle.bit_addressing.proofs.Lists.{put_none}
-use Rattle.bit_addressing.proofs.Runs.{run_of, repeated_parts, slice_repeated, one_word, first_word, next_word, last_word, last_inside, one_more_word}
+use Rattle.bit_addressing.proofs.lists.Put.{put_none}
+use Rattle.bit_addressing.proofs.Runs.{run_of, repeated_parts, slice_repeated, one_word, first_word, next_word, last_word, last_inside}
+use Rattle.bit_addressing.proofs.lists.Sized.{one_more_word}
 use Rattle.bit_addressing.proofs.Rows.{width_positive, row_repeated}
 use Rattle.bit_addressing.proofs.Typed.{length_row, row_replaced}
 use Rattle.bit_addressing.proofs.bits.single.fill_bits.Goals as goal

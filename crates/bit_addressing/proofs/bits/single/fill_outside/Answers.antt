@@ -1,7 +1,7 @@
 use Rattle.std.proofs.Common.{◌≡◌, ◌+◌, ◌-◌, ◌*◌, replicate, length, sym, ◌∙◌, ap, arith}
 use Rattle.bit_addressing.specs.Row.{put}
 use Rattle.bit_addressing.specs.Typed.{row}
-use Rattle.bit_addressing.proofs.Lists.{put_ends}
+use Rattle.bit_addressing.proofs.lists.Put.{put_ends}
 use Rattle.bit_addressing.proofs.Typed.{length_row}
 use Rattle.bit_addressing.proofs.bits.single.fill_outside.Goals as goal
 

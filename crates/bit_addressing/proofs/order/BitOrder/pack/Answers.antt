@@ -1,11 +1,11 @@
-use Rattle.std.proofs.Common.{◌≡◌, ℕ, ◌+◌, ◌*◌, ◌/◌, ◌%◌, ◌^◌, ◌<◌, ◌≤◌, bit_or, length, map, refl, sym, ◌∙◌, ap, subst, arith}
+use Rattle.std.proofs.Common.{◌≡◌, ◌+◌, ◌*◌, ◌/◌, ◌%◌, ◌^◌, ◌<◌, ◌≤◌, bit_or, length, map, sym, ◌∙◌, ap, subst, arith}
 use Rattle.bit_addressing.specs.Row.{row_of}
 use Rattle.bit_addressing.proofs.Chunks.{IsRead, read_next, word_is}
 use Rattle.bit_addressing.proofs.Packs.{pack_fills, pack_inside, read_nothing, row_from}
 use Rattle.bit_addressing.proofs.Rows.{width_positive, width_small}
-use Rattle.bit_addressing.proofs.Runs.{inside_words, one_more_word}
+use Rattle.bit_addressing.proofs.Runs.{inside_words}
+use Rattle.bit_addressing.proofs.lists.Sized.{one_more_word, right_sum}
 use Rattle.bit_addressing.proofs.Typed.{length_row}
-use Rattle.bit_addressing.proofs.Wholes.{right_sum}
 use Rattle.bit_addressing.proofs.order.BitOrder.pack.Goals as goal
 
 pub loop-i-init : goal.loop-i-init

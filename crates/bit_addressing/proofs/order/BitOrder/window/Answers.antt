@@ -1,8 +1,5 @@
-use Rattle.std.proofs.Common.{◌≡◌, ◌+◌, if◌then◌else◌, ◌&&◌, leb, ltb, [], ◌∷◌, true, refl, ◌∙◌, arith}
+use Rattle.std.proofs.Common.{refl, ◌∙◌, arith}
 use Rattle.std.proofs.lemmas.Bool.{le-leb, lt-ltb}
-use Rattle.bit_addressing.specs.Bits.{has_bit}
-use Rattle.bit_addressing.specs.Row.{row_bit}
-use Rattle.bit_addressing.proofs.Windows.{first_of_two}
 use Rattle.bit_addressing.proofs.order.BitOrder.window.Goals as goal
 
 pub returns : goal.returns

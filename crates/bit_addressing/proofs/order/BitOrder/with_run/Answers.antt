@@ -1,10 +1,8 @@
-use Rattle.std.proofs.Common.{◌≡◌, ◌+◌, ◌-◌, if◌then◌else◌, ◌&&◌, leb, ltb, [], ◌∷◌, sym, ◌∙◌, ap, arith}
+use Rattle.std.proofs.Common.{◌≡◌, ◌+◌, if◌then◌else◌, ◌&&◌, leb, ltb, [], ◌∷◌, ◌∙◌, ap, arith}
 use Rattle.bit_addressing.specs.Bits.{has_bit}
 use Rattle.bit_addressing.specs.Row.{row_bit}
 use Rattle.bit_addressing.proofs.Moves.{run_step, none_yet}
-use Rattle.bit_addressing.proofs.Windows.{first_of_two, second_of_two}
 use Rattle.bit_addressing.proofs.order.BitOrder.with_run.Goals as goal
-use Rattle.bit_addressing.proofs.order.BitOrder.with_run.Goals.{then-j-BITS, else-j-BITS}
 
 pub loop-i-preserved : goal.loop-i-preserved
 loop-i-preserved g c =
@@ -13,14 +11,9 @@ loop-i-preserved g c =
     let place = g.Self.BitOrder.place in
     let at = c.args.at in
     let i = c.loop-i.i in
-    let bit : c.if-j-BITS.bit ≡ row_bit place w (value c.args.low ∷ value c.args.high ∷ []) (at + i) =
-    elim c.if-j-BITS.branch [
-      | then-j-BITS v ↦ let here : c.if-j-BITS.bit ≡ has_bit (value c.args.low) (place w (at + i)) = cc in here ∙ sym (first_of_two place w (value c.args.low) (value c.args.high) (at + i) (omega arith))
-      | else-j-BITS v ↦ let here : c.if-j-BITS.bit ≡ has_bit (value c.args.high) (place w (at + i - w)) = cc in here ∙ sym (second_of_two place w (value c.args.low) (value c.args.high) (at + i) (omega arith) (omega arith))
-    ] in
-    run_step (place w) w c.args.from i (value c.loop-i.word) (value c.with_bit-word.result) c.into_inner-in-loop-i.result c.if-j-BITS.bit
+    run_step (place w) w c.args.from i (value c.loop-i.word) (value c.with_bit-word.result) c.into_inner-place.result c.bit_of_pair.result
     (λ j. row_bit place w (value c.args.low ∷ value c.args.high ∷ []) (at + j)) (λ j. has_bit (value c.args.old) (place w j))
-    (g.met.Self.BitOrder.lawful w g.met.T.BitStore.width) (omega arith) (omega arith) (cc) c.with_bit-word.ensures bit c.loop-i.invariant
+    (g.met.Self.BitOrder.lawful w g.met.T.BitStore.width) (omega arith) (omega arith) (cc) c.with_bit-word.ensures (cc) c.loop-i.invariant
 
 pub loop-i-init : goal.loop-i-init
 loop-i-init g c =

@@ -1,4 +1,4 @@
-use Rattle.std.proofs.Common.{◌+◌, ◌-◌, [], ◌∷◌}
+use Rattle.std.proofs.Common.{◌+◌, [], ◌∷◌}
 use Rattle.bit_addressing.specs.Order.{lsb0_lawful}
 use Rattle.bit_addressing.specs.Row.{row_bit}
 use Rattle.bit_addressing.proofs.Moves.{run_blended}

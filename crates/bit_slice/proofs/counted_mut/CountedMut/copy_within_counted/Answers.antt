@@ -1,7 +1,7 @@
 use Rattle.std.proofs.Common.{◌+◌, ◌-◌, Bool, ℕ, List, slice_range, ◌∙◌, ap, arith}
 use Rattle.bit_addressing.specs.Row.{moved}
 use Rattle.bit_addressing.specs.Typed.{row}
-use Rattle.bit_addressing.proofs.MovedLists.{shows_moved}
+use Rattle.bit_addressing.proofs.lists.Moved.{shows_moved}
 use Rattle.bit_slice.proofs.Parts.{in_row}
 use Rattle.bit_slice.proofs.counted_mut.CountedMut.copy_within_counted.Goals as goal
 
@@ -9,8 +9,8 @@ pub returns-clause-list : goal.returns-clause-list
 returns-clause-list g c =
     let v = c.args.self.now in
     let to = c.args.dest in
-    let ordered = c.requires.ordered in
-    let within = c.requires.within in
+    let ordered = c.requires.lies.0 in
+    let within = c.requires.lies.1 in
     let target = c.requires.target in
     let from : ℕ = g.R.RangeExt.start_of c.args.range in
     let upto : ℕ = g.R.RangeExt.end_of c.args.range v.len in

@@ -2,7 +2,7 @@ use Rattle.std.proofs.Common.{◌+◌, sym}
 use Rattle.bit_addressing.specs.Typed.{row}
 use Rattle.bit_slice.proofs.Parts.{in_row}
 use Rattle.bit_slice.proofs.Shown.{shown_item}
-use Rattle.bit_addressing.proofs.Lists.{shows_some}
+use Rattle.bit_addressing.proofs.lists.Shown.{shows_some}
 use Rattle.bit_slice.proofs.slice.BitSlice.bit.Goals as goal
 
 pub returns-clause-value : goal.returns-clause-value

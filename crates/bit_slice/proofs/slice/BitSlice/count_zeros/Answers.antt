@@ -2,12 +2,12 @@ use Rattle.std.proofs.Common.{◌≡◌, ◌+◌, length, sym}
 use Rattle.bit_addressing.specs.Typed.{row}
 use Rattle.bit_slice.proofs.Parts.{in_row}
 use Rattle.bit_slice.proofs.Shown.{count_by-not}
-use Rattle.bit_addressing.proofs.Lists.{length-shows}
+use Rattle.bit_addressing.proofs.lists.Shown.{length-run}
 use Rattle.bit_slice.specs.BitSlice.{list_of}
 use Rattle.bit_slice.proofs.slice.BitSlice.count_zeros.Goals as goal
 
 pub returns-clause-value : goal.returns-clause-value
 returns-clause-value g c =
     let v = c.args.self in
-    let size : length (list_of v) ≡ v.len = length-shows (row g.T.BitStore g.O.BitOrder v.words.now) v.head v.len (in_row g.T.BitStore g.O.BitOrder v.words.now (v.head + v.len) v.fits.room) in
+    let size : length (list_of v) ≡ v.len = length-run (row g.T.BitStore g.O.BitOrder v.words.now) v.head v.len (in_row g.T.BitStore g.O.BitOrder v.words.now (v.head + v.len) v.fits.room) in
     count_by-not (list_of v) v.len c.count_ones.result (sym size) c.count_ones.ensures.value

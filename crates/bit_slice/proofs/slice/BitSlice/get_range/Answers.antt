@@ -3,7 +3,7 @@ use Rattle.bit_addressing.specs.Typed.{row}
 use Rattle.bit_slice.proofs.Parts.{part_room, part_shows, words_cut}
 use Rattle.bit_slice.specs.BitSlice.{list_of}
 use Rattle.bit_addressing.specs.Row.{words_for}
-use Rattle.bit_addressing.proofs.Lists.{room}
+use Rattle.bit_addressing.proofs.lists.Sized.{room}
 use Rattle.bit_addressing.proofs.Rows.{width_positive}
 use Rattle.std.proofs.lemmas.Nat.{div-add-mod'}
 use Rattle.bit_slice.proofs.slice.BitSlice.get_range.Goals as goal
@@ -13,7 +13,7 @@ words_at-requires g c =
     let v = c.args.self in
     let from = c.normalize-part.result.start in
     let upto = c.normalize-part.result.end in
-    let fits : v.head + from + (upto - from) ≤ g.T.BitStore.BITS * length v.words.now = omega (arith, c.normalize-part.ensures.start, c.normalize-part.ensures.end, c.requires.ordered, c.requires.within, v.fits.room) in
+    let fits : v.head + from + (upto - from) ≤ g.T.BitStore.BITS * length v.words.now = omega (arith, c.normalize-part.ensures.start, c.normalize-part.ensures.end, c.requires.lies.0, c.requires.lies.1, v.fits.room) in
     rw (c.elts-count.ensures, c.BITS-width.ensures) (part_room g.T.BitStore.BITS (length v.words.now) (v.head + from) (upto - from) (width_positive g.T.BitStore.BITS g.met.T.BitStore.width) fits)
 
 pub from_parts-requires-clause-exact : goal.from_parts-requires-clause-exact
@@ -22,7 +22,7 @@ from_parts-requires-clause-exact g c =
     let first : ℕ = (v.head + c.normalize-part.result.start) / c.BITS-width.result in
     let from = c.normalize-part.result.start in
     let upto = c.normalize-part.result.end in
-    let fits : v.head + from + (upto - from) ≤ g.T.BitStore.BITS * length v.words.now = omega (arith, c.normalize-part.ensures.start, c.normalize-part.ensures.end, c.requires.ordered, c.requires.within, v.fits.room) in
+    let fits : v.head + from + (upto - from) ≤ g.T.BitStore.BITS * length v.words.now = omega (arith, c.normalize-part.ensures.start, c.normalize-part.ensures.end, c.requires.lies.0, c.requires.lies.1, v.fits.room) in
     let there : first + c.elts-count.result ≤ length v.words.now = rw (c.elts-count.ensures, c.BITS-width.ensures) (part_room g.T.BitStore.BITS (length v.words.now) (v.head + from) (upto - from) (width_positive g.T.BitStore.BITS g.met.T.BitStore.width) fits) in
     ap length c.words_at.ensures ∙ words_cut v.words.now first c.elts-count.result there ∙ c.elts-count.ensures
 
@@ -37,8 +37,8 @@ returns-clause-list g c =
     let width = c.BITS-width.result in
     let is : width ≡ w = c.BITS-width.ensures in
     let count : c.elts-count.result ≡ words_for w (at % w + (upto - from)) = c.elts-count.ensures ∙ ap (λ n. words_for w (at % n + (upto - from))) is in
-    let ordered : from ≤ upto = omega (arith, c.normalize-part.ensures.start, c.normalize-part.ensures.end, c.requires.ordered) in
-    let within : upto ≤ v.len = omega (arith, c.normalize-part.ensures.end, c.requires.within) in
+    let ordered : from ≤ upto = omega (arith, c.normalize-part.ensures.start, c.normalize-part.ensures.end, c.requires.lies.0) in
+    let within : upto ≤ v.len = omega (arith, c.normalize-part.ensures.end, c.requires.lies.1) in
     let fits : at + (upto - from) ≤ w * length v.words.now = omega (arith, v.fits.room) in
     let there = part_room w (length v.words.now) at (upto - from) positive fits in
     c.from_parts.ensures.list

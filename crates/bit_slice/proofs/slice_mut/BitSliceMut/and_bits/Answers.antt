@@ -1,6 +1,6 @@
 use Rattle.std.proofs.Common.{◌&&◌, ◌+◌, slice_range, sym, ◌∙◌, ap}
 use Rattle.bit_addressing.specs.Typed.{row}
-use Rattle.bit_addressing.proofs.Lists.{length-shows}
+use Rattle.bit_addressing.proofs.lists.Shown.{length-run}
 use Rattle.bit_slice.proofs.Parts.{in_row, row_size}
 use Rattle.bit_slice.proofs.Shown.{shown_filled, put_all}
 use Rattle.bit_slice.proofs.Combining.{length-combined}
@@ -15,7 +15,7 @@ returns-clause-list g c =
     let old = row g.T.BitStore g.O.BitOrder v.words.now in
     let room = in_row g.T.BitStore g.O.BitOrder v.words.now (v.head + v.len) v.fits.room in
     ap (λ r. slice_range r v.head (v.head + v.len)) c.and_words.ensures.bits
-    ∙ shown_filled old (and_of (list_of v) (list_seen c.args.other)) v.head v.len (sym (length-combined (λ x y. x && y) (list_of v) (list_seen c.args.other) ∙ length-shows old v.head v.len room)) room
+    ∙ shown_filled old (and_of (list_of v) (list_seen c.args.other)) v.head v.len (sym (length-combined (λ x y. x && y) (list_of v) (list_seen c.args.other) ∙ length-run old v.head v.len room)) room
 
 pub returns-clause-whole : goal.returns-clause-whole
 returns-clause-whole g c h l =
@@ -23,4 +23,4 @@ returns-clause-whole g c h l =
     let old = row g.T.BitStore g.O.BitOrder v.words.now in
     let room = in_row g.T.BitStore g.O.BitOrder v.words.now (v.head + v.len) v.fits.room in
     c.and_words.ensures.bits
-    ∙ put_all old (and_of (list_of v) (list_seen c.args.other)) v.head h (length-combined (λ x y. x && y) (list_of v) (list_seen c.args.other) ∙ length-shows old v.head v.len room ∙ l ∙ sym (row_size g.T.BitStore g.O.BitOrder v.words.now))
+    ∙ put_all old (and_of (list_of v) (list_seen c.args.other)) v.head h (length-combined (λ x y. x && y) (list_of v) (list_seen c.args.other) ∙ length-run old v.head v.len room ∙ l ∙ sym (row_size g.T.BitStore g.O.BitOrder v.words.now))

@@ -2,7 +2,7 @@ use Rattle.std.proofs.Common.{◌≡◌, ◌+◌, length, slice_range, sym, ◌�
 use Rattle.bit_addressing.specs.Typed.{row}
 use Rattle.bit_slice.proofs.Parts.{in_row, row_size}
 use Rattle.bit_slice.proofs.Shown.{shown_filled, put_all}
-use Rattle.bit_addressing.proofs.Lists.{length-shows}
+use Rattle.bit_addressing.proofs.lists.Shown.{length-run}
 use Rattle.bit_slice.specs.BitSlice.{list_of}
 use Rattle.bit_addressing.specs.Row.{put}
 use Rattle.bit_slice.proofs.slice_mut.BitSliceMut.clone_from_bitslice.Goals as goal
@@ -12,7 +12,7 @@ returns-clause-list g c =
     let v = c.args.self.now in
     let s = c.args.source in
     let old = row g.T.BitStore g.O.BitOrder v.words.now in
-    let size : length (list_of s) ≡ s.len = length-shows (row g.U.BitStore g.P.BitOrder s.words.now) s.head s.len (in_row g.U.BitStore g.P.BitOrder s.words.now (s.head + s.len) s.fits.room) in
+    let size : length (list_of s) ≡ s.len = length-run (row g.U.BitStore g.P.BitOrder s.words.now) s.head s.len (in_row g.U.BitStore g.P.BitOrder s.words.now (s.head + s.len) s.fits.room) in
     ap (λ r. slice_range r v.head (v.head + v.len)) (c.copy_bits.ensures.bits
     ∙ ap (λ ws. put old v.head (slice_range (row g.U.BitStore g.P.BitOrder ws) c.head-from.result (c.head-from.result + v.len))) c.as_raw_slice.ensures.words
     ∙ ap (λ n. put old v.head (slice_range (row g.U.BitStore g.P.BitOrder s.words.now) n (n + v.len))) c.head-from.ensures.value
@@ -24,7 +24,7 @@ returns-clause-whole g c h l =
     let v = c.args.self.now in
     let s = c.args.source in
     let old = row g.T.BitStore g.O.BitOrder v.words.now in
-    let size : length (list_of s) ≡ s.len = length-shows (row g.U.BitStore g.P.BitOrder s.words.now) s.head s.len (in_row g.U.BitStore g.P.BitOrder s.words.now (s.head + s.len) s.fits.room) in
+    let size : length (list_of s) ≡ s.len = length-run (row g.U.BitStore g.P.BitOrder s.words.now) s.head s.len (in_row g.U.BitStore g.P.BitOrder s.words.now (s.head + s.len) s.fits.room) in
     c.copy_bits.ensures.bits
     ∙ ap (λ ws. put old v.head (slice_range (row g.U.BitStore g.P.BitOrder ws) c.head-from.result (c.head-from.result + v.len))) c.as_raw_slice.ensures.words
     ∙ ap (λ n. put old v.head (slice_range (row g.U.BitStore g.P.BitOrder s.words.now) n (n + v.len))) c.head-from.ensures.value

@@ -1,7 +1,7 @@
 use Rattle.std.proofs.Common.{◌+◌, ◌-◌, slice_range, ◌∙◌, ap, arith}
 use Rattle.bit_addressing.specs.Row.{moved}
 use Rattle.bit_addressing.specs.Typed.{row}
-use Rattle.bit_addressing.proofs.MovedLists.{shows_moved}
+use Rattle.bit_addressing.proofs.lists.Moved.{shows_moved}
 use Rattle.bit_slice.proofs.Parts.{in_row}
 use Rattle.bit_slice.proofs.slice_mut.BitSliceMut.copy_within.Goals as goal
 

@@ -1,7 +1,7 @@
 use Rattle.std.proofs.Common.{◌+◌, slice_range, ◌∙◌, ap}
 use Rattle.bit_addressing.specs.Typed.{row}
 use Rattle.bit_slice.proofs.Parts.{in_row}
-use Rattle.bit_addressing.proofs.Lists.{shows_set}
+use Rattle.bit_addressing.proofs.lists.Shown.{shows_set}
 use Rattle.bit_slice.proofs.slice_mut.BitSliceMut.set.Goals as goal
 
 pub returns-clause-list : goal.returns-clause-list

@@ -7,7 +7,7 @@ use Rattle.std.proofs.lemmas.List.Edits.{length-insert, get_or-insert_below, get
 use Rattle.std.proofs.lemmas.Bool.{cases_lt, cases_order}
 use Rattle.std.proofs.lemmas.Bool.Decides.{nat_tests}
 use Rattle.bit_addressing.specs.Row.{source_of, moved, sized}
-use Rattle.bit_addressing.proofs.Lists.{length-shows, shows_sized, shows_set, shrunk_shows}
+use Rattle.bit_addressing.proofs.lists.Shown.{length-run, shows_sized, shows_set, shrunk_shows}
 use Rattle.bit_addressing.proofs.Moves.{source_below}
 
 pub length-moved : (xs : List Bool) (s d n : ℕ) → length (moved xs s d n) ≡ length xs
@@ -30,8 +30,8 @@ pub shows_moved : (xs : List Bool) (head len s d n : ℕ) → s + n ≤ len → 
 shows_moved xs head len s d n from to fits =
     let all : List Bool = moved xs (head + s) (head + d) n in
     let size : length all ≡ length xs = length-moved xs (head + s) (head + d) n in
-    let shown : length (slice_range xs head (head + len)) ≡ len = length-shows xs head len fits in
-    let left : length (slice_range all head (head + len)) ≡ len = length-shows all head len (omega arith) in
+    let shown : length (slice_range xs head (head + len)) ≡ len = length-run xs head len fits in
+    let left : length (slice_range all head (head + len)) ≡ len = length-run all head len (omega arith) in
     let right : length (moved (slice_range xs head (head + len)) s d n) ≡ len = length-moved (slice_range xs head (head + len)) s d n ∙ shown in
     ext_get_or false (slice_range all head (head + len)) (moved (slice_range xs head (head + len)) s d n) (left ∙ sym right)
     (λ i h.
@@ -93,8 +93,8 @@ pub aligned_shows : (w : ℕ) (xs : List Bool) (head len : ℕ) → 0 < w → he
 aligned_shows w xs head len positive fits =
     let all : List Bool = moved xs head 0 len in
     let size : length all ≡ length xs = length-moved xs head 0 len in
-    let shown : length (slice_range xs head (head + len)) ≡ len = length-shows xs head len fits in
-    let left : length (slice_range all 0 (0 + len)) ≡ len = length-shows all 0 len (omega arith) in
+    let shown : length (slice_range xs head (head + len)) ≡ len = length-run xs head len fits in
+    let left : length (slice_range all 0 (0 + len)) ≡ len = length-run all 0 len (omega arith) in
     shows_sized w all (0 + len) 0 (0 + len) positive (omega arith) (omega arith) (omega arith)
     ∙ ext_get_or false (slice_range all 0 (0 + len)) (slice_range xs head (head + len)) (left ∙ sym shown)
     (λ j h.
@@ -120,7 +120,7 @@ removed_shows w xs head len i positive h fits =
     let n : ℕ = len - 1 - i in
     let list : List Bool = slice_range xs head (head + len) in
     let next : head + i + 1 ≡ head + (i + 1) = omega arith in
-    let size : length list ≡ len = length-shows xs head len fits in
+    let size : length list ≡ len = length-run xs head len fits in
     let long : length (moved xs (head + i + 1) (head + i) n) ≡ length xs = length-moved xs (head + i + 1) (head + i) n in
     let less : len - 1 ≡ length list - 1 = omega arith in
     shrunk_shows w (moved xs (head + i + 1) (head + i) n) head len (len - 1) positive (omega arith) (omega arith)
@@ -131,7 +131,7 @@ removed_shows w xs head len i positive h fits =
 pub swap_removed_shows : (w : ℕ) (xs : List Bool) (head len i : ℕ) (last : Bool) → 0 < w → i < len → head + len ≤ length xs → last ≡ get_or xs (head + (len - 1)) false → slice_range (sized w (set xs (head + i) last) (head + (len - 1))) head (head + (len - 1)) ≡ swap_remove (slice_range xs head (head + len)) i false
 swap_removed_shows w xs head len i last positive h fits is =
     let list : List Bool = slice_range xs head (head + len) in
-    let size : length list ≡ len = length-shows xs head len fits in
+    let size : length list ≡ len = length-run xs head len fits in
     let long : length (set xs (head + i) last) ≡ length xs = length-set xs (head + i) last in
     let less : len - 1 ≡ length list - 1 = omega arith in
     let read : last ≡ get_or list (length list - 1) false = is ∙ sym (ap (λ m. get_or list m false) (sym less) ∙ get_or-shows xs head len (len - 1) (omega arith)) in

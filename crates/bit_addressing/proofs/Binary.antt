@@ -1,0 +1,60 @@
+-- Numbers written in binary, the most significant digit first, out of chunks and into them.
+use Rattle.std.proofs.Common.{◌≡◌, ℕ, ◌+◌, ◌-◌, ◌*◌, ◌/◌, ◌^◌, ◌<◌, ◌≤◌, Bool, false, List, length, get_or, slice_range, refl, sym, ◌∙◌, ap, subst, arith}
+use Rattle.std.proofs.Math.Nat.{div-lt_iff_lt-mul}
+use Rattle.std.proofs.lemmas.Nat.{pow-add}
+use Rattle.std.proofs.Math.Pow.{pow_pos}
+use Rattle.std.proofs.lemmas.List.{ext_get_or}
+use Rattle.std.proofs.lemmas.List.FromFn.{length-map-range_with_len, get_or-map-range_with_len}
+use Rattle.bit_addressing.specs.Bits.{has_bit}
+use Rattle.bit_addressing.specs.Row.{binary, number_bits, number_of, put}
+use Rattle.bit_addressing.proofs.Chunks.{has_number}
+use Rattle.bit_addressing.proofs.Words.{has_shr_low}
+use Rattle.bit_addressing.proofs.lists.Put.{put_none}
+
+pub length-binary : (n x : ℕ) → length (binary n x) ≡ n
+unfolding binary
+length-binary n x = length-map-range_with_len (λ i. has_bit x (n - 1 - i)) 0 n
+
+pub get_or-binary : (n x i : ℕ) → i < n → get_or (binary n x) i false ≡ has_bit x (n - 1 - i)
+unfolding binary
+get_or-binary n x i h = get_or-map-range_with_len (λ i. has_bit x (n - 1 - i)) 0 n i i false h (omega arith)
+
+-- a number turned round within 64 places, of which the lowest are left out
+module _ (n x turned : ℕ) (some : 0 < n) (few : n ≤ 64) (round : (p : ℕ) → p < 64 → has_bit turned p ≡ has_bit x (64 - 1 - p)) where
+  digit : (j i : ℕ) → i < n → j ≡ n - 1 - i → has_bit (turned / 2 ^ (64 - n)) j ≡ has_bit x i
+  digit j i h is =
+      let at : 64 - 1 - (j + (64 - n)) ≡ i = omega arith in
+      has_shr_low turned (64 - n) j ∙ round (j + (64 - n)) (omega arith) ∙ ap (has_bit x) at
+
+  -- the number whose digits are those of a chunk
+  pub binary_of : (ms : List Bool) → length ms ≡ n → x ≡ number_of ms → binary n (turned / 2 ^ (64 - n)) ≡ ms
+  binary_of ms size is = ext_get_or false (binary n (turned / 2 ^ (64 - n))) ms (length-binary n (turned / 2 ^ (64 - n)) ∙ sym size)
+      (λ i h.
+      let left = length-binary n (turned / 2 ^ (64 - n)) in
+      let below : i < n = omega arith in
+      get_or-binary n (turned / 2 ^ (64 - n)) i below ∙ digit (n - 1 - i) i below refl ∙ ap (λ m. has_bit m i) is ∙ has_number ms i)
+
+  -- which has no more digits
+  pub digits_below : turned < 2 ^ 64 → turned / 2 ^ (64 - n) < 2 ^ n
+  digits_below fits =
+      let all : 64 ≡ n + (64 - n) = omega arith in
+      let parts : 2 ^ 64 ≡ 2 ^ n * 2 ^ (64 - n) = ap (λ k. 2 ^ k) all ∙ pow-add 2 n (64 - n) in
+      (div-lt_iff_lt-mul (pow_pos (64 - n))).1 (subst (λ k. turned < k) parts fits)
+
+  -- the chunk of a number's digits
+  pub chunk_of : number_bits (turned / 2 ^ (64 - n)) n ≡ binary n x
+  unfolding number_bits
+  chunk_of = ext_get_or false (number_bits (turned / 2 ^ (64 - n)) n) (binary n x) (length-map-range_with_len (has_bit (turned / 2 ^ (64 - n))) 0 n ∙ sym (length-binary n x))
+      (λ i h.
+      let left = length-map-range_with_len (has_bit (turned / 2 ^ (64 - n))) 0 n in
+      let below : i < n = omega arith in
+      let back : i ≡ n - 1 - (n - 1 - i) = omega arith in
+      get_or-map-range_with_len (has_bit (turned / 2 ^ (64 - n))) 0 n i i false below (omega arith) ∙ digit i (n - 1 - i) (omega arith) back ∙ sym (get_or-binary n x i below))
+
+pub no_digits_of : (ms : List Bool) (at n : ℕ) → n ≡ 0 → binary n 0 ≡ slice_range ms at (at + n)
+unfolding binary
+no_digits_of ms at n none = let e : at + n - at ≡ 0 = omega arith in rw (e, none) refl
+
+pub no_digits : (xs : List Bool) (at n x : ℕ) → n ≡ 0 → xs ≡ put xs at (binary n x)
+unfolding binary
+no_digits xs at n x none = rw none (sym (put_none xs at))

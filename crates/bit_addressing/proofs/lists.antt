@@ -1,0 +1,4 @@
+pub mod Sized
+pub mod Put
+pub mod Shown
+pub mod Moved

@@ -1,0 +1,68 @@
+-- A list with others written over a part of it.
+use Rattle.std.proofs.Common.{◌≡◌, ℕ, ◌+◌, ◌-◌, ◌<◌, ◌≤◌, Bool, false, List, [], ◌∷◌, ◌++◌, length, take, drop, set, replicate, get_or, sym, ◌∙◌, ap, arith}
+use Rattle.std.proofs.lemmas.List.{places, same_lists, append_assoc, set_split, length-take, length-take-le, length-drop, length-append, length-replicate, take-append-drop}
+use Rattle.std.proofs.lemmas.List.Edits.{fill_from_more, paste_all}
+use Rattle.std.proofs.lemmas.List.{set-append_right, length_push, drop_more}
+use Rattle.std.proofs.Common.{add-one, add-zero, rules}
+use Rattle.bit_addressing.specs.Row.{put, filled}
+
+pub length-put : (xs ys : List Bool) (d : ℕ) → d + length ys ≤ length xs → length (put xs d ys) ≡ length xs
+unfolding put
+length-put xs ys d h = simp (length-append, length-take, length-drop) (omega arith)
+
+pub put_none : (xs : List Bool) (d : ℕ) → put xs d [] ≡ xs
+unfolding put
+put_none xs d = ap (λ n. take d xs ++ drop n xs) (add-zero d) ∙ take-append-drop d xs
+
+pub put_one : (xs : List Bool) (d : ℕ) (b : Bool) → d < length xs → set xs d b ≡ put xs d (b ∷ [])
+unfolding put
+put_one xs d b h = set_split xs d b h ∙ ap (λ n. take d xs ++ b ∷ drop n xs) (sym (add-one d))
+
+-- one more item of a fill
+pub put_more : (xs : List Bool) (d i : ℕ) (b : Bool) → d + i < length xs → set (put xs d (replicate i b)) (d + i) b ≡ put xs d (replicate (i + 1) b)
+unfolding put
+put_more xs d i b h =
+    let before = paste_all xs d (replicate i b) i (sym (length-replicate i b)) in
+    let after = paste_all xs d (replicate (i + 1) b) (i + 1) (sym (length-replicate (i + 1) b)) in
+    rw (length-replicate i b, length-replicate (i + 1) b) (ap (λ l. set l (d + i) b) (sym before) ∙ fill_from_more xs d i b h ∙ after)
+
+-- both ends are filled
+pub put_both : (xs : List Bool) (head len : ℕ) (b : Bool) → head + len ≤ length xs → put (put xs 0 (replicate head b)) (head + len) (replicate (length xs - (head + len)) b) ≡ filled xs head len b
+unfolding put filled
+put_both xs head len b h = same_lists _ _ (search (rules, places)) (λ i d below. grind (arith, places))
+
+pub put_ends : (xs : List Bool) (head len all : ℕ) (b : Bool) → all ≡ length xs → head + len ≤ length xs → put (put xs 0 (replicate (head - 0) b)) (head + len) (replicate (all - (head + len)) b) ≡ filled xs head len b
+put_ends xs head len all b is h =
+    let low : head - 0 ≡ head = omega arith in
+    rw (low, is) (put_both xs head len b h)
+
+-- one more item behind those that were put
+pub put_next : (xs ys : List Bool) (d n : ℕ) (b : Bool) → n ≡ length ys → d + n < length xs → set (put xs d ys) (d + n) b ≡ put xs d (ys ++ b ∷ [])
+unfolding put
+put_next xs ys d n b is h =
+    let front : length (take d xs) ≡ d = length-take-le d xs (omega arith) in
+    let rest : d + n - d ≡ n = omega arith in
+    let none : n - n ≡ 0 = omega arith in
+    let size : d + length ys ≡ d + n = omega arith in
+    let more : d + n + 1 ≡ d + length (ys ++ b ∷ []) = let l = length_push ys b in omega arith in
+    set-append_right (take d xs) (ys ++ drop (d + length ys) xs) d (d + n) b front (omega arith)
+    ∙ ap (λ l. take d xs ++ l) (ap (λ m. set (ys ++ drop (d + length ys) xs) m b) rest ∙ set-append_right ys (drop (d + length ys) xs) n n b (sym is) (omega arith)
+    ∙ ap (λ m. ys ++ set (drop (d + length ys) xs) m b) none ∙ ap (λ m. ys ++ set (drop m xs) 0 b) size ∙ ap (λ l. ys ++ set l 0 b) (drop_more xs (d + n) false h)
+    ∙ ap (λ m. ys ++ b ∷ drop m xs) more ∙ sym (append_assoc ys (b ∷ []) (drop (d + length (ys ++ b ∷ [])) xs)))
+
+pub put_before : (xs ys : List Bool) (d j : ℕ) (b : Bool) → d ≤ length xs → j < d → get_or (put xs d ys) j b ≡ get_or xs j b
+unfolding put
+put_before xs ys d j b h k = grind (arith, places)
+
+pub put_inside : (xs ys : List Bool) (d j : ℕ) (b : Bool) → d ≤ length xs → d ≤ j → j < d + length ys → get_or (put xs d ys) j b ≡ get_or ys (j - d) b
+unfolding put
+put_inside xs ys d j b h k l = grind (arith, places)
+
+pub put_behind : (xs ys : List Bool) (d j : ℕ) (b : Bool) → d + length ys ≤ length xs → d + length ys ≤ j → get_or (put xs d ys) j b ≡ get_or xs j b
+unfolding put
+put_behind xs ys d j b h k = grind (arith, places)
+
+-- two runs that are put one behind the other
+pub put_joined : (xs ys zs : List Bool) (d n : ℕ) → n ≡ d + length ys → n + length zs ≤ length xs → put (put xs d ys) n zs ≡ put xs d (ys ++ zs)
+unfolding put
+put_joined xs ys zs d n is h = same_lists _ _ (search (rules, places)) (λ i b below. grind (arith, places))

@@ -92,3 +92,7 @@ kept W P old new head len room more same = record {
 -- the words of a vector have at most so many bits
 pub few_words : {size : ℕ} (w n head len : ℕ) → 0 < w → IsVector w n head len size → w * n ≤ MAX_BITS + 2 * w
 few_words w n head len positive v = few w n head len MAX_BITS positive v.head_below v.len_small v.count
+
+-- words for at most so many bits behind a head have at most so many bits
+pub few_words_for : (w head len n : ℕ) → 0 < w → head < w → len ≤ MAX_BITS → n ≡ words_for w (head + len) → w * n ≤ MAX_BITS + 2 * w
+few_words_for w head len n positive below few_bits exact = few w n head len MAX_BITS positive below few_bits exact

@@ -1,5 +1,5 @@
 -- What a contract sees of a vector, and what calls do to it.
-use Rattle.std.specs.Prelude.{◌≡◌, ℕ, ◌+◌, ◌-◌, ◌*◌, ◌^◌, ◌<◌, ◌≤◌, ◌↔◌, Bool, false, List, length, take, min, refl, Result, Err, OnErr}
+use Rattle.std.specs.Prelude.{◌≡◌, ℕ, ◌+◌, ◌-◌, ◌*◌, ◌^◌, ◌<◌, ◌≤◌, ◌↔◌, Bool, List, length, take, min, refl, Result, Err, OnErr}
 use Rattle.std.specs.Coded.{Coded, code_by, coded×, coded_list, coded_ℕ, coded_bool}
 use Rattle.bit_addressing.specs.Row.{words_for, put, sized}
 use Rattle.bit_addressing.specs.declared.length.TheConstants.{MAX_BITS}

@@ -4,7 +4,7 @@ use Rattle.std.proofs.Common.{get_or, inl, inr, ap, sym, arith}
 use Rattle.std.proofs.lemmas.Bool.{true≢false}
 use Rattle.bit_addressing.specs.declared.length.TheConstants.{MAX_BITS}
 use Rattle.bit_addressing.specs.declared.errors.GrowError.TheVariants.{TooLong, OutOfMemory}
-use Rattle.bit_addressing.specs.Row.{words_for, put, sized, filled, moved}
+use Rattle.bit_addressing.specs.Row.{words_for, put, sized, moved}
 use Rattle.bit_containers.specs.declared.machine.Command.{Command}
 use Rattle.bit_containers.specs.declared.machine.Command.TheVariants.{Push, Pop, Get, Set, Insert, Remove, SwapRemove, Truncate, CopyWithin, Align, Len}
 use Rattle.bit_containers.specs.declared.machine.Reply.TheVariants.{Done, Bit, Nothing, Number, OutOfRange}

@@ -1,5 +1,5 @@
 //! The vector: what it is, and how it is made and taken apart.
-ghost use Rattle.std.specs.Prelude.{◌≡◌, ◌+◌, ◌*◌, ◌<◌, ◌≤◌, ◌↔◌, false, [], IsTrue, IfOk, IfErr, IsOk, OnErr, Err, ◌∷◌, length, slice_range, vec_capacity};
+ghost use Rattle.std.specs.Prelude.{◌≡◌, ◌+◌, ◌*◌, ◌<◌, ◌≤◌, ◌↔◌, false, [], IsTrue, IfOk, IfErr, IsOk, OnErr, Err, ◌∷◌, length, replicate, slice_range, vec_capacity};
 ghost use Rattle.bit_addressing.specs.declared.length.TheConstants.{MAX_BITS};
 ghost use Rattle.bit_addressing.specs.Row.{filled, moved, sized, words_for};
 ghost use Rattle.bit_addressing.specs.Typed.{row, words_from, words_for_list};
@@ -7,8 +7,8 @@ ghost use Rattle.bit_containers.specs.BitVec.{Stayed, IsClean, bits_in};
 ghost use Rattle.bit_slice.specs.BitSlice.{words_of, head_of, len_of, row_of, list_of};
 
 use bit_addressing::{
-    BitOrder, BitStore, GrowError, Lsb0, MAX_BITS, cut_words_in_vec, exact_words,
-    fill_outside_in_vec, move_bits_in_vec,
+    BitOrder, BitStore, GrowError, Lsb0, MAX_BITS, cut_words_in_vec, exact_words, fill_bits_in_vec,
+    fill_outside_in_vec, move_bits_in_vec, resize_words_in_vec,
 };
 use bit_slice::BitSlice;
 use std::alloc::{AllocError, Global};
@@ -104,6 +104,33 @@ impl<T: BitStore, O: BitOrder> BitVec<T, O> {
         let mut v = Self::new(alloc);
         v.reserve_exact(n)?;
         Ok(v)
+    }
+
+    /// The list of `n` times `bit`, from head 0 on: all bits of the words are `bit`, dead ones too. It answers
+    /// `TooLong` exactly where they pass `MAX_BITS`, and takes no memory for no bit.
+    pub fn repeat(alloc: Global, bit: bool, n: usize) -> Result<Self, GrowError>
+        ensures head { IfOk result (λ v. v.head ≡ 0) }
+        ensures list { IfOk result (λ v. v.list ≡ replicate n bit) }
+        ensures row { IfOk result (λ v. v.row ≡ replicate (T.BITS * words_for T.BITS n) bit) }
+        ensures clean { IfOk result (λ v. bit ≡ false → IsClean T.BITS v) }
+        ensures too_long { (result ≡ Err GrowError.TooLong) ↔ (MAX_BITS < n) }
+        ensures memory { result ≡ Err GrowError.OutOfMemory → 0 < n }
+    {
+        if n > MAX_BITS {
+            return Err(GrowError::TooLong);
+        }
+        let mut words = Vec::new(alloc);
+        let Ok(()) = resize_words_in_vec::<T, O>(&mut words, n) else {
+            return Err(GrowError::OutOfMemory);
+        };
+        let all = T::BITS as usize * words.len();
+        fill_bits_in_vec::<T, O>(&mut words, 0, all, bit);
+        Ok(BitVec {
+            words,
+            head: 0,
+            len: n,
+            order: PhantomData,
+        })
     }
 
     /// Whether so many words have at most `MAX_BITS` bits: the condition of `from_vec`.

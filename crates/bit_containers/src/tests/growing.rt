@@ -55,3 +55,31 @@ fn made(rt: HostRuntime) -> Result<(), Fail> {
     assert_eq!(rt; v.as_raw_slice(), [0xf5].as_slice());
     Ok(())
 }
+
+#[test]
+fn repeated(rt: HostRuntime) -> Result<(), Fail> {
+    let v = BitVec::<u8, Lsb0>::repeat(rt.alloc(), true, 5)?;
+    holds(&rt, &v, b"11111");
+    assert_eq!(rt; v.as_raw_slice(), [0xff].as_slice());
+    let v = BitVec::<u16, Msb0>::repeat(rt.alloc(), false, 17)?;
+    assert_eq!(rt; v.len(), 17);
+    assert_eq!(rt; v.as_raw_slice(), [0, 0].as_slice());
+    let refused = BitVec::<u8, Lsb0>::repeat(rt.alloc(), false, 2305843009213693952);
+    assert!(rt; matches!(refused, Err(GrowError::TooLong)));
+    Ok(())
+}
+
+#[test]
+fn joined_within(rt: HostRuntime) -> Result<(), Fail> {
+    let mut v = of::<u8, Msb0>(rt.alloc(), b"01")?;
+    assert!(rt; v.len() == 2);
+    v.extend_from_within(..)?;
+    holds(&rt, &v, b"0101");
+    assert!(rt; v.len() == 4);
+    v.extend_from_within(1..3)?;
+    holds(&rt, &v, b"010110");
+    v.extend_from_raw_slice(&[0xc3])?;
+    holds(&rt, &v, b"01011011000011");
+    assert_eq!(rt; v.as_raw_slice(), [0x5b, 0x0c].as_slice());
+    Ok(())
+}

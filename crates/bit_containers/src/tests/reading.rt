@@ -1,6 +1,7 @@
 //! The calls that a vector has of a view.
 use crate::tests::{holds, of};
 use crate::{Lsb0, Msb0};
+use std::cmp::Ordering;
 use std::test::Fail;
 
 #[test]
@@ -40,5 +41,26 @@ fn parts_and_sums(rt: HostRuntime) -> Result<(), Fail> {
         ones = ones.saturating_add(bit as u8);
     }
     assert_eq!(rt; ones, 4);
+    Ok(())
+}
+
+#[test]
+fn compared_and_combined(rt: HostRuntime) -> Result<(), Fail> {
+    let mut v = of::<u8, Lsb0>(rt.alloc(), b"0011")?;
+    let short = of::<u32, Msb0>(rt.alloc(), b"01")?;
+    let long = of::<u64, Lsb0>(rt.alloc(), b"1111111")?;
+    assert!(rt; v.len() == 4);
+    assert!(rt; !v.eq_bits(short.as_bitslice()));
+    assert!(rt; v.get_range(1..3).eq_bits(short.as_bitslice()) && short.eq_bits(v.get_range(1..3)));
+    let one = of::<u16, Msb0>(rt.alloc(), b"1")?;
+    assert_eq!(rt; short.cmp_bits(one.as_bitslice()), Ordering::Less);
+    assert_eq!(rt; one.cmp_bits(short.as_bitslice()), Ordering::Greater);
+    v.or_bits(short.as_bitslice());
+    holds(&rt, &v, b"0111");
+    v.and_bits(short.as_bitslice());
+    holds(&rt, &v, b"0100");
+    v.xor_bits(long.as_bitslice());
+    holds(&rt, &v, b"1011");
+    assert_eq!(rt; v.as_raw_slice(), [0x0d].as_slice());
     Ok(())
 }

@@ -1,12 +1,14 @@
 //! Growth by many bits at once.
-ghost use Rattle.std.specs.Prelude.{◌≡◌, ◌+◌, ◌-◌, ◌<◌, ◌≤◌, [], ◌++◌, length, take, replicate, OnOk, OnErr};
+ghost use Rattle.std.specs.Prelude.{◌≡◌, ◌+◌, ◌-◌, ◌*◌, ◌^◌, ◌<◌, ◌≤◌, [], ◌++◌, length, take, replicate, slice_range, vec_capacity, OnOk, OnErr};
+ghost use Rattle.bit_addressing.specs.Row.{number_bits, put};
+ghost use Rattle.bit_addressing.specs.Typed.{row};
 ghost use Rattle.bit_containers.specs.BitVec.{Grew, Shrank, IsClean, RefusesOnly};
 ghost use Rattle.bit_slice.specs.BitSlice.{len_of, list_of};
 
 use crate::vec::BitVec;
 use bit_addressing::{
-    BitOrder, BitStore, GrowError, MAX_BITS, copy_bits_in_vec, fill_bits_in_vec,
-    resize_words_in_vec,
+    BitOrder, BitStore, GrowError, MAX_BITS, RangeExt, copy_bits_in_vec, fill_bits_in_vec,
+    move_bits_in_vec, resize_words_in_vec, write_chunk,
 };
 use bit_slice::BitSlice;
 
@@ -100,4 +102,84 @@ impl<T: BitStore, O: BitOrder> BitVec<T, O> {
         self.len = n;
         Ok(())
     }
+
+    /// Joins all bits of these words. It is refused as `extend_from_bitslice` is.
+    pub fn extend_from_raw_slice(&mut self, words: &[T]) -> Result<(), GrowError>
+        ensures list { OnOk result (self.new.list ≡ self.old.list ++ row T.BitStore O.BitOrder words.now) }
+        ensures row { OnOk result (Grew T.BITS self.old self.new (row T.BitStore O.BitOrder words.now)) }
+        ensures clean { OnOk result (IsClean T.BITS self.old → IsClean T.BITS self.new) }
+        ensures refusal { RefusesOnly result (length self.old.list + T.BITS * length words.now) self.old self.new }
+        ensures capacity { self.old.capacity ≤ self.new.capacity }
+    {
+        if !Self::fits(words.len()) {
+            return Err(GrowError::TooLong);
+        }
+        self.extend_from_bitslice(BitSlice::<T, O>::from_slice(words))
+    }
+
+    /// Joins the bits at a range of indices once more, by one move of whole words. It is refused as
+    /// `extend_from_bitslice` is. The condition: the range lies in the length.
+    #[tactic(auto, using(crate::proofs::Vectors::shown_length))]
+    pub fn extend_from_within<R: RangeExt>(&mut self, range: R) -> Result<(), GrowError>
+        requires ordered { R.start_of range ≤ R.end_of range (length self.old.list) }
+        requires within { R.end_of range (length self.old.list) ≤ length self.old.list }
+        ensures list { OnOk result (self.new.list ≡ self.old.list ++ slice_range self.old.list (R.start_of range) (R.end_of range (length self.old.list))) }
+        ensures row { OnOk result (Grew T.BITS self.old self.new (slice_range self.old.list (R.start_of range) (R.end_of range (length self.old.list)))) }
+        ensures clean { OnOk result (IsClean T.BITS self.old → IsClean T.BITS self.new) }
+        ensures refusal { RefusesOnly result (length self.old.list + (R.end_of range (length self.old.list) - R.start_of range)) self.old self.new }
+        ensures capacity { self.old.capacity ≤ self.new.capacity }
+    {
+        let range = range.normalize(self.len);
+        let more = range.end - range.start;
+        if more > MAX_BITS - self.len {
+            return Err(GrowError::TooLong);
+        }
+        let (end, len) = (self.head + self.len, self.len + more);
+        let Ok(()) = resize_words_in_vec::<T, O>(&mut self.words, self.head + len) else {
+            return Err(GrowError::OutOfMemory);
+        };
+        move_bits_in_vec::<T, O>(&mut self.words, self.head + range.start, end, more);
+        self.len = len;
+        Ok(())
+    }
+
+    /// Joins the `n` lowest bits of a number, that of place 0 first. It is refused as `extend_from_bitslice` is.
+    /// The condition: `n` is at most 64.
+    #[tactic(auto, using(crate::proofs::Vectors::shown_length))]
+    pub(crate) fn extend_from_number(&mut self, number: u64, n: u8) -> Result<(), GrowError>
+        requires { n ≤ 64 }
+        ensures list { OnOk result (self.new.list ≡ self.old.list ++ number_bits number n) }
+        ensures row { OnOk result (Grew T.BITS self.old self.new (number_bits number n)) }
+        ensures refusal { RefusesOnly result (length self.old.list + n) self.old self.new }
+        ensures capacity { self.old.capacity ≤ self.new.capacity }
+    {
+        let more = n as usize;
+        if more > MAX_BITS - self.len {
+            return Err(GrowError::TooLong);
+        }
+        let (end, len) = (self.head + self.len, self.len + more);
+        let Ok(()) = resize_words_in_vec::<T, O>(&mut self.words, self.head + len) else {
+            return Err(GrowError::OutOfMemory);
+        };
+        write_chunk_in_vec::<T, O>(&mut self.words, end, n, number);
+        self.len = len;
+        Ok(())
+    }
+}
+
+/// As `write_chunk`, in the words of a vector.
+pub(crate) fn write_chunk_in_vec<T: BitStore, O: BitOrder>(
+    words: &mut Vec<T>,
+    at: usize,
+    n: u8,
+    chunk: u64,
+)
+    requires few { n ≤ 64 }
+    requires within { at + n ≤ T.BITS * length words.old.items }
+    requires fits { at + n < 2 ^ 64 }
+    ensures bits { row T.BitStore O.BitOrder words.new.items ≡ put (row T.BitStore O.BitOrder words.old.items) at (number_bits chunk n) }
+    ensures size { length words.new.items ≡ length words.old.items }
+    ensures capacity { vec_capacity words.new ≡ vec_capacity words.old }
+{
+    write_chunk::<T, O>(words.as_mut_slice(), at, n, chunk);
 }

@@ -1,6 +1,6 @@
-use Rattle.std.proofs.Common.{◌≡◌, ◌+◌, ◌-◌, ◌*◌, ◌<◌, ◌≤◌, ◌++◌, length, slice_range, sym, ◌∙◌, ap, subst, arith, rules}
+use Rattle.std.proofs.Common.{◌≡◌, ◌+◌, ◌≤◌, length, sym, ◌∙◌, ap, arith, rules}
 use Rattle.std.proofs.Common.{vec_capacity}
-use Rattle.bit_addressing.specs.Row.{words_for, put, sized}
+use Rattle.bit_addressing.specs.Row.{put, sized}
 use Rattle.bit_addressing.specs.Typed.{row}
 use Rattle.bit_addressing.proofs.Lists.{joined_shows, length-shows}
 use Rattle.bit_addressing.proofs.Rows.{width_positive}

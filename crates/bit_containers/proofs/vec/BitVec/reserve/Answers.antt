@@ -1,5 +1,5 @@
-use Rattle.std.proofs.Common.{◌≡◌, ◌+◌, ◌-◌, ◌*◌, ◌<◌, ◌≤◌, length, sym, ◌∙◌, ap, subst, arith, rules}
-use Rattle.std.proofs.Common.{vec_capacity, vec_len}
+use Rattle.std.proofs.Common.{◌+◌, ◌<◌, ◌≤◌, length, arith, rules}
+use Rattle.std.proofs.Common.{vec_capacity}
 use Rattle.bit_addressing.specs.Row.{words_for}
 use Rattle.bit_addressing.proofs.Rows.{width_positive, width_small}
 use Rattle.bit_containers.proofs.Vectors.{kept, has_room, no_room_for}

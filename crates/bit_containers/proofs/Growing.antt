@@ -1,0 +1,114 @@
+-- Bits joined: a part of the list once more, and in several steps.
+use Rattle.std.proofs.Common.{◌≡◌, ℕ, ◌+◌, ◌-◌, ◌*◌, ◌<◌, ◌≤◌, Bool, false, List, [], ◌++◌, length, replicate, slice_range, refl, sym, ◌∙◌, ap, inl, inr, arith, rules}
+use Rattle.std.proofs.lemmas.Bool.{cases_lt}
+use Rattle.std.proofs.lemmas.List.{places, same_lists, length-append}
+use Rattle.std.proofs.Math.Nat.{mul-le-mul_left}
+use Rattle.std.proofs.lemmas.List.FromFn.{length-map-range_with_len}
+use Rattle.bit_addressing.specs.Bits.{has_bit}
+use Rattle.bit_addressing.specs.Row.{words_for, put, sized, moved, number_bits}
+use Rattle.bit_addressing.proofs.Lists.{room, words_for_mono, words_for_le, length-put, put_joined, sized_more, length-sized, length-shows, shows_sized, put_none, sized_same, grown_shows}
+use Rattle.bit_addressing.proofs.Shifts.{put_moved}
+use Rattle.bit_containers.specs.BitVec.{Held, Grew}
+
+-- a part of what is shown
+shown_part : (xs : List Bool) (head len s n : ℕ) → s + n ≤ len → head + len ≤ length xs → slice_range xs (head + s) (head + s + n) ≡ slice_range (slice_range xs head (head + len)) s (s + n)
+shown_part xs head len s n h k = same_lists _ _ (search (rules, places)) (λ i d below. grind (arith, places))
+
+-- a part of what is shown moved behind it
+pub part_moved : (w : ℕ) (xs : List Bool) (head len s n : ℕ) → 0 < w → s + n ≤ len → head + len ≤ length xs
+    → moved (sized w xs (head + (len + n))) (head + s) (head + len) n ≡ put (sized w xs (head + len + n)) (head + len) (slice_range (slice_range xs head (head + len)) s (s + n))
+part_moved w xs head len s n positive h k =
+    let e : head + (len + n) ≡ head + len + n = omega arith in
+    let r = (room w (head + len + n) positive).0 in
+    let size = length-sized w xs (head + len + n) in
+    let all : List Bool = sized w xs (head + len + n) in
+    ap (λ b. moved (sized w xs b) (head + s) (head + len) n) e
+    ∙ sym (put_moved all (head + s) (head + len) n (omega arith) (omega arith))
+    ∙ ap (put all (head + len)) (shows_sized w xs (head + len + n) (head + s) (head + s + n) positive (omega arith) (omega arith) (omega arith) ∙ shown_part xs head len s n h k)
+
+pub part_joined : (w : ℕ) (xs : List Bool) (head len s n : ℕ) → 0 < w → s + n ≤ len → head + len ≤ length xs
+    → slice_range (moved (sized w xs (head + (len + n))) (head + s) (head + len) n) head (head + (len + n)) ≡ slice_range xs head (head + len) ++ slice_range (slice_range xs head (head + len)) s (s + n)
+part_joined w xs head len s n positive h k =
+    let list : List Bool = slice_range xs head (head + len) in
+    let shown : length list ≡ len = length-shows xs head len k in
+    let size : length (slice_range list s (s + n)) ≡ n = length-shows list s n (omega arith) in
+    ap (λ r. slice_range r head (head + (len + n))) (part_moved w xs head len s n positive h k)
+    ∙ grown_shows w xs (slice_range list s (s + n)) head len n positive k (sym size)
+
+-- ---- in several steps
+
+put_front : (xs ys : List Bool) (e p q : ℕ) → e ≤ length xs → e + length ys ≤ length xs + p → put (xs ++ replicate p false) e ys ++ replicate q false ≡ put (xs ++ replicate (p + q) false) e ys
+unfolding put
+put_front xs ys e p q h k = same_lists _ _ (search (rules, places)) (λ i d below. grind (arith, places))
+
+put_twice : (w : ℕ) (xs ys zs : List Bool) (e n m : ℕ) → 0 < w → length xs ≡ w * words_for w e → length ys ≡ n → length zs ≡ m → put (sized w (put (sized w xs (e + n)) e ys) (e + n + m)) (e + n) zs ≡ put (sized w xs (e + (n + m))) e (ys ++ zs)
+put_twice w xs ys zs e n m positive inside size more =
+    let a : ℕ = w * words_for w (e + n) in
+    let b : ℕ = w * words_for w (e + n + m) in
+    let q = (room w e positive).0 in
+    let r = (room w (e + n) positive).0 in
+    let s = (room w (e + n + m) positive).0 in
+    let first : w * words_for w e ≤ a = mul-le-mul_left w (words_for_mono w e (e + n) positive (omega arith)) in
+    let fewer : a ≤ b = mul-le-mul_left w (words_for_mono w (e + n) (e + n + m) positive (omega arith)) in
+    let mid : List Bool = put (sized w xs (e + n)) e ys in
+    let long : length mid ≡ a = length-put (sized w xs (e + n)) ys e (rw (length-sized w xs (e + n)) (omega arith)) ∙ length-sized w xs (e + n) in
+    let p : a - length xs + (b - a) ≡ b - length xs = omega arith in
+    let next : e + n + m ≡ e + (n + m) = omega arith in
+    let grown : sized w mid (e + n + m) ≡ put (sized w xs (e + n + m)) e ys =
+    sym (sized_more w mid (e + n + m) (b - a) (omega arith))
+    ∙ ap (λ l. put l e ys ++ replicate (b - a) false) (sym (sized_more w xs (e + n) (a - length xs) (omega arith)))
+    ∙ put_front xs ys e (a - length xs) (b - a) (omega arith) (omega arith)
+    ∙ ap (λ k. put (xs ++ replicate k false) e ys) p
+    ∙ ap (λ l. put l e ys) (sized_more w xs (e + n + m) (b - length xs) (omega arith)) in
+    ap (λ l. put l (e + n) zs) grown
+    ∙ put_joined (sized w xs (e + n + m)) ys zs e (e + n) (omega arith) (rw (length-sized w xs (e + n + m)) (omega arith))
+    ∙ ap (λ k. put (sized w xs k) e (ys ++ zs)) next
+
+-- bits joined, and then more
+pub grew_twice : {X : Type 0} (w : ℕ) (old mid new : Held X) (xs ys : List Bool) → 0 < w → length old.row ≡ w * words_for w (old.head + length old.list) → Grew w old mid xs → Grew w mid new ys → Grew w old new (xs ++ ys)
+grew_twice w old mid new xs ys positive inside first second =
+    let e = old.head + length old.list in
+    let both : length (xs ++ ys) ≡ length xs + length ys = length-append xs ys in
+    let at : mid.head + length mid.list ≡ e + length xs = omega (arith, first.head, first.len) in
+    let upto : e + (length xs + length ys) ≡ e + length (xs ++ ys) = omega arith in
+    record {
+      head = second.head ∙ first.head;
+      len = omega (arith, first.len, second.len);
+      row = second.row ∙ ap (λ n. put (sized w mid.row (n + length ys)) n ys) at ∙ ap (λ r. put (sized w r (e + length xs + length ys)) (e + length xs) ys) first.row
+          ∙ put_twice w old.row xs ys e (length xs) (length ys) positive inside refl refl
+          ∙ ap (λ n. put (sized w old.row n) e (xs ++ ys)) upto;
+    }
+
+-- no bit joined
+pub grew_none : {X : Type 0} (w : ℕ) (v : Held X) → length v.row ≡ w * words_for w (v.head + length v.list) → Grew w v v []
+grew_none w v size =
+    let end : v.head + length v.list + 0 ≡ v.head + length v.list = omega arith in
+    record {
+      head = refl;
+      len = omega arith;
+      row = sym (put_none (sized w v.row (v.head + length v.list + 0)) (v.head + length v.list) ∙ ap (sized w v.row) end ∙ sized_same w v.row (v.head + length v.list) size);
+    }
+
+-- a row that grew, with its list
+pub grew_by : {X : Type 0} (w : ℕ) (old new : Held X) (bits : List Bool) → new.head ≡ old.head → new.list ≡ old.list ++ bits → new.row ≡ put (sized w old.row (old.head + length old.list + length bits)) (old.head + length old.list) bits → Grew w old new bits
+grew_by w old new bits head list row = record { head = head; len = ap length list ∙ length-append old.list bits; row = row }
+
+-- words are wanted for bits alone
+pub some_bits : (w n : ℕ) → 0 < w → 0 < words_for w n → 0 < n
+some_bits w n positive h = elim (cases_lt 0 n) [
+  | inl some ↦ some
+  | inr none ↦ let few = words_for_le w n 0 positive (omega arith) in absurd (omega arith)
+]
+
+-- false bits and false bits behind them
+pub sized_false : (w n : ℕ) → 0 < w → sized w (replicate n false) n ≡ replicate (w * words_for w n) false
+unfolding sized
+sized_false w n positive =
+    let r = (room w n positive).0 in
+    same_lists _ _ (search (rules, places)) (λ i d below. grind (arith, places))
+
+-- ---- bits gathered in a number
+
+pub length-number_bits : (x n : ℕ) → length (number_bits x n) ≡ n
+unfolding number_bits
+length-number_bits x n = length-map-range_with_len (has_bit x) 0 n

@@ -11,6 +11,10 @@ use Rattle.bit_addressing.proofs.Chunks.{has_number}
 use Rattle.bit_addressing.proofs.Words.{has_shr_low}
 use Rattle.bit_addressing.proofs.lists.Put.{put_none}
 
+pub length-number_bits : (x n : ℕ) → length (number_bits x n) ≡ n
+unfolding number_bits
+length-number_bits x n = length-map-range_with_len (has_bit x) 0 n
+
 pub length-binary : (n x : ℕ) → length (binary n x) ≡ n
 unfolding binary
 length-binary n x = length-map-range_with_len (λ i. has_bit x (n - 1 - i)) 0 n

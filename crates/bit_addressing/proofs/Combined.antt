@@ -11,7 +11,7 @@ use Rattle.bit_addressing.proofs.Runs.{ArePartsOf, slices_joined}
 use Rattle.bit_addressing.proofs.lists.Sized.{one_more_word}
 use Rattle.bit_addressing.proofs.Wholes.{split_sum}
 use Rattle.bit_addressing.proofs.Rows.{length-row_of, get_or-row_one}
-use Rattle.bit_addressing.proofs.lists.Shown.{length-run}
+use Rattle.bit_addressing.proofs.lists.Shown.{length-between, length-run}
 
 -- what f makes of the bits a .. b of xs, and of those of zs that stand as far behind `from` as they behind `at`
 abbrev pub combined : (Bool → Bool → Bool) → List Bool → List Bool → ℕ → ℕ → ℕ → ℕ → List Bool
@@ -22,9 +22,6 @@ zip2-append f [] us [] vs h = refl
 zip2-append f [] us (y ∷ ys) vs h = cc
 zip2-append f (x ∷ xs) us [] vs h = cc
 zip2-append f (x ∷ xs) us (y ∷ ys) vs h = ap (λ l. f x y ∷ l) (zip2-append f xs us ys vs (omega arith))
-
-length-between : (xs : List Bool) (a b : ℕ) → b ≤ length xs → length (slice_range xs a b) ≡ b - a
-length-between xs a b h = simp (length-take, length-drop) (omega arith)
 
 pub combined_parts : (f : Bool → Bool → Bool) (xs zs : List Bool) (at upto from : ℕ) → upto ≤ length xs → from + (upto - at) ≤ length zs → ArePartsOf at upto (combined f xs zs at from)
 combined_parts f xs zs at upto from fits long = record {

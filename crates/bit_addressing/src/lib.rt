@@ -23,7 +23,7 @@ pub use bits::searches::{count_bits, differ_at, find_bit};
 pub use bits::single::{exact_words, fill_bits, fill_outside, flip_bits, read_bit, write_bit};
 pub use bits::vectors::{
     copy_bits_in_vec, fill_bits_in_vec, fill_outside_in_vec, flip_bits_in_vec, move_bits_in_vec,
-    write_bit_in_vec,
+    write_binary_in_vec, write_bit_in_vec, write_chunk_in_vec,
 };
 pub use errors::GrowError;
 pub use index::{BitEnd, BitIdx, BitPos};

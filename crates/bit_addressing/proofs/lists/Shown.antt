@@ -51,12 +51,24 @@ shows_fewer xs head n len h k =
 pub shows_map : (f : Bool → Bool) (xs : List Bool) (head end : ℕ) → slice_range (map f xs) head end ≡ map f (slice_range xs head end)
 shows_map f xs head end = ap (take (end - head)) (drop-map f head xs) ∙ take-map f (end - head) (drop head xs)
 
+pub length-between : (xs : List Bool) (a b : ℕ) → b ≤ length xs → length (slice_range xs a b) ≡ b - a
+length-between xs a b h = simp (length-take, length-drop) (omega arith)
+
 pub length-run : (xs : List Bool) (head len : ℕ) → head + len ≤ length xs → length (slice_range xs head (head + len)) ≡ len
 length-run xs head len h = simp (length-take, length-drop) (omega arith)
 
 -- an item of a run
 pub get_or-run : (xs : List Bool) (i n q : ℕ) → q < n → get_or (slice_range xs i (i + n)) q false ≡ get_or xs (i + q) false
 get_or-run xs i n q h = get_or-take (i + n - i) (drop i xs) q false (omega arith) ∙ get_or-drop i xs q false
+
+-- a part of what is shown
+pub shown_part : (xs : List Bool) (head len s n : ℕ) → s + n ≤ len → head + len ≤ length xs → slice_range xs (head + s) (head + s + n) ≡ slice_range (slice_range xs head (head + len)) s (s + n)
+shown_part xs head len s n h k = same_lists _ _ (search (rules, places)) (λ i d below. grind (arith, places))
+
+-- a part of what is shown written over
+pub shown_written : (xs ys : List Bool) (head len d : ℕ) → d + length ys ≤ len → head + len ≤ length xs → slice_range (put xs (head + d) ys) head (head + len) ≡ put (slice_range xs head (head + len)) d ys
+unfolding put
+shown_written xs ys head len d h k = same_lists _ _ (search (rules, places)) (λ i e below. grind (arith, places))
 
 pub shows_some : (xs : List Bool) (head len i : ℕ) (b : Bool) → i < len → head + len ≤ length xs → b ≡ get_or xs (head + i) false → Some b ≡ slice_get (slice_range xs head (head + len)) i
 shows_some xs head len i b h k is =

@@ -1,5 +1,5 @@
 //! Words grown or cut to a number of bits.
-ghost use Rattle.std.specs.Prelude.{◌≡◌, ◌+◌, ◌*◌, ◌^◌, ◌<◌, ◌≤◌, [], ◌∷◌, length, take, OnOk, OnErr, vec_capacity};
+ghost use Rattle.std.specs.Prelude.{◌≡◌, ◌+◌, ◌*◌, ◌^◌, ◌<◌, ◌≤◌, ◌++◌, [], ◌∷◌, length, take, OnOk, OnErr, vec_capacity};
 ghost use Rattle.bit_addressing.specs.Row.{words_for, put, sized};
 ghost use Rattle.bit_addressing.specs.Typed.{row};
 
@@ -40,6 +40,23 @@ pub fn cut_words_in_vec<T: BitStore, O: BitOrder>(words: &mut Vec<T>, bits: usiz
     words.truncate(count);
 }
 
+/// Joins a word, by memory alone where the capacity is full.
+#[inline(always)]
+fn push_word<T: BitStore>(words: &mut Vec<T>, word: T) -> Result<(), AllocError>
+    ensures items { OnOk result (words.new.items ≡ words.old.items ++ word ∷ []) }
+    ensures capacity { vec_capacity words.old ≤ vec_capacity words.new }
+    ensures no_memory { length words.old.items < vec_capacity words.old → vec_capacity words.new ≡ vec_capacity words.old }
+    ensures full { OnErr result (vec_capacity words.old ≤ length words.old.items) }
+    ensures unchanged { OnErr result (words.new.items ≡ words.old.items) }
+{
+    if words.len() < words.capacity() {
+        words.push_reserved(word);
+        return Ok(());
+    }
+    words.push(word)?;
+    Ok(())
+}
+
 /// Joins a bit behind the first `end` bits: a word is added only where no word has room for it, and the
 /// other bits of a word that is added are false. Takes memory where a word is added.
 /// The condition: the words are those for `end` bits. It is refused only where the capacity, in words, is too small.
@@ -54,6 +71,7 @@ pub fn push_bit_in_vec<T: BitStore, O: BitOrder>(
     ensures size { OnOk result (length words.new.items ≡ words_for T.BITS (end + 1)) }
     ensures room { OnOk result (end + 1 ≤ T.BITS * length words.new.items) }
     ensures capacity { vec_capacity words.old ≤ vec_capacity words.new }
+    ensures no_memory { words_for T.BITS (end + 1) ≤ vec_capacity words.old → vec_capacity words.new ≡ vec_capacity words.old }
     ensures full { OnErr result (vec_capacity words.old < words_for T.BITS (end + 1)) }
     ensures unchanged { OnErr result (words.new.items ≡ words.old.items) }
 {
@@ -61,7 +79,7 @@ pub fn push_bit_in_vec<T: BitStore, O: BitOrder>(
     let place = O::at(BitIdx::<T>::new_unchecked((end % width) as u8)).into_inner();
     let k = end / width;
     if k == words.len() {
-        words.push(T::ZERO.with_bit(place, bit))?;
+        push_word(words, T::ZERO.with_bit(place, bit))?;
     } else {
         let word = words[k];
         words[k] = word.with_bit(place, bit);

@@ -1,9 +1,10 @@
 //! The calls on words that lie in a vector, which keeps its capacity.
 ghost use Rattle.std.specs.Prelude.{◌≡◌, ◌+◌, ◌-◌, ◌*◌, ◌^◌, ◌<◌, ◌≤◌, not, map, length, replicate, slice_range, set, vec_capacity};
-ghost use Rattle.bit_addressing.specs.Row.{put, filled, moved};
+ghost use Rattle.bit_addressing.specs.Row.{binary, filled, moved, number_bits, put};
 ghost use Rattle.bit_addressing.specs.declared.length.TheConstants.{MAX_BITS};
 ghost use Rattle.bit_addressing.specs.Typed.{row};
 
+use crate::bits::chunks::{write_binary, write_chunk};
 use crate::bits::copies::copy_bits;
 use crate::bits::single::{fill_bits, fill_outside, flip_bits, write_bit};
 use crate::move_run::move_bits;
@@ -95,4 +96,38 @@ pub fn move_bits_in_vec<T: BitStore, O: BitOrder>(
     ensures capacity { vec_capacity words.new ≡ vec_capacity words.old }
 {
     move_bits::<T, O>(words.as_mut_slice(), src, dst, n);
+}
+
+/// As `write_chunk`, in the words of a vector.
+pub fn write_chunk_in_vec<T: BitStore, O: BitOrder>(
+    words: &mut Vec<T>,
+    at: usize,
+    n: u8,
+    chunk: u64,
+)
+    requires few { n ≤ 64 }
+    requires within { at + n ≤ T.BITS * length words.old.items }
+    requires fits { at + n < 2 ^ 64 }
+    ensures bits { row T.BitStore O.BitOrder words.new.items ≡ put (row T.BitStore O.BitOrder words.old.items) at (number_bits chunk n) }
+    ensures size { length words.new.items ≡ length words.old.items }
+    ensures capacity { vec_capacity words.new ≡ vec_capacity words.old }
+{
+    write_chunk::<T, O>(words.as_mut_slice(), at, n, chunk);
+}
+
+/// As `write_binary`, in the words of a vector.
+pub fn write_binary_in_vec<T: BitStore, O: BitOrder>(
+    words: &mut Vec<T>,
+    at: usize,
+    n: u8,
+    number: u64,
+)
+    requires few { n ≤ 64 }
+    requires within { at + n ≤ T.BITS * length words.old.items }
+    requires fits { at + n < 2 ^ 64 }
+    ensures bits { row T.BitStore O.BitOrder words.new.items ≡ put (row T.BitStore O.BitOrder words.old.items) at (binary n number) }
+    ensures size { length words.new.items ≡ length words.old.items }
+    ensures capacity { vec_capacity words.new ≡ vec_capacity words.old }
+{
+    write_binary::<T, O>(words.as_mut_slice(), at, n, number);
 }

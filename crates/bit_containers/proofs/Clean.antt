@@ -8,8 +8,10 @@ use Rattle.bit_addressing.specs.Row.{packed, put, sized, moved, source_of, words
 use Rattle.bit_addressing.specs.Typed.{words_from, words_for_list}
 use Rattle.bit_addressing.proofs.Canon.{packed_sized}
 use Rattle.std.proofs.Math.Nat.{mul-le-mul_left}
-use Rattle.bit_addressing.proofs.Lists.{words_for_mono, room, sized_joined, sized_same, words_for_all, put_one, length-put, length-sized, length-shows, shows_sized}
-use Rattle.bit_addressing.proofs.MovedLists.{length-moved, get_or-moved, inserted}
+use Rattle.bit_addressing.proofs.lists.Sized.{words_for_mono, room, sized_same, words_for_all, length-sized}
+use Rattle.bit_addressing.proofs.lists.Shown.{sized_joined, length-run, shows_sized}
+use Rattle.bit_addressing.proofs.lists.Put.{put_one, length-put}
+use Rattle.bit_addressing.proofs.lists.Moved.{length-moved, get_or-moved, inserted}
 use Rattle.bit_addressing.proofs.Shifts.{put_moved}
 use Rattle.bit_slice.proofs.Shown.{put_all, shown_filled}
 use Rattle.bit_addressing.proofs.Rows.{width_positive}
@@ -95,7 +97,7 @@ clean_moved w old new s d n positive from to head list row clean =
     let inside = in_row w old positive clean in
     let none = clean.head in
     let ys : List Bool = slice_range old.list s (s + n) in
-    let size : length ys ≡ n = length-shows old.list s n from in
+    let size : length ys ≡ n = length-run old.list s n from in
     let run : slice_range old.row (old.head + s) (old.head + s + n) ≡ ys = ap (λ h. slice_range old.row (h + s) (h + s + n)) clean.head ∙ ap (λ r. slice_range r (0 + s) (0 + s + n)) clean.row ∙ seen w old.list s n positive from in
     clean_put w old new d ys positive (omega arith) head
     (list ∙ sym (put_moved old.list s d n from to))
@@ -170,7 +172,7 @@ clean_all w n bits list positive size is =
 pub moved_lands : (xs : List Bool) (s d n : ℕ) → s + n ≤ length xs → d + n ≤ length xs → slice_range (moved xs s d n) d (d + n) ≡ slice_range xs s (s + n)
 moved_lands xs s d n from to =
     let ys : List Bool = slice_range xs s (s + n) in
-    ap (λ l. slice_range l d (d + n)) (sym (put_moved xs s d n from to)) ∙ shown_filled xs ys d n (sym (length-shows xs s n from)) to
+    ap (λ l. slice_range l d (d + n)) (sym (put_moved xs s d n from to)) ∙ shown_filled xs ys d n (sym (length-run xs s n from)) to
 
 -- the words of a clean vector are those for its list
 pub clean_words : {X Y : Type 0} (W : store.Ghosts X) (P : order.Ghosts Y) (v : Held X) (items : List X) → IsWidth W.BITS → items ≡ words_from W P v.row → IsClean W.BITS v → items ≡ words_for_list W P v.list

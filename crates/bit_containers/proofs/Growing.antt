@@ -6,13 +6,20 @@ use Rattle.std.proofs.Math.Nat.{mul-le-mul_left}
 use Rattle.std.proofs.lemmas.List.FromFn.{length-map-range_with_len}
 use Rattle.bit_addressing.specs.Bits.{has_bit}
 use Rattle.bit_addressing.specs.Row.{words_for, put, sized, moved, number_bits}
-use Rattle.bit_addressing.proofs.Lists.{room, words_for_mono, words_for_le, length-put, put_joined, sized_more, length-sized, length-shows, shows_sized, put_none, sized_same, grown_shows}
+use Rattle.bit_addressing.proofs.lists.Sized.{room, words_for_mono, words_for_le, sized_more, length-sized, sized_same}
+use Rattle.bit_addressing.proofs.lists.Put.{length-put, put_joined, put_none}
+use Rattle.bit_addressing.proofs.lists.Shown.{length-run, shows_sized, grown_shows}
 use Rattle.bit_addressing.proofs.Shifts.{put_moved}
 use Rattle.bit_containers.specs.BitVec.{Held, Grew}
 
 -- a part of what is shown
-shown_part : (xs : List Bool) (head len s n : ℕ) → s + n ≤ len → head + len ≤ length xs → slice_range xs (head + s) (head + s + n) ≡ slice_range (slice_range xs head (head + len)) s (s + n)
+pub shown_part : (xs : List Bool) (head len s n : ℕ) → s + n ≤ len → head + len ≤ length xs → slice_range xs (head + s) (head + s + n) ≡ slice_range (slice_range xs head (head + len)) s (s + n)
 shown_part xs head len s n h k = same_lists _ _ (search (rules, places)) (λ i d below. grind (arith, places))
+
+-- a part of what is shown written over
+pub shown_written : (xs ys : List Bool) (head len d : ℕ) → d + length ys ≤ len → head + len ≤ length xs → slice_range (put xs (head + d) ys) head (head + len) ≡ put (slice_range xs head (head + len)) d ys
+unfolding put
+shown_written xs ys head len d h k = same_lists _ _ (search (rules, places)) (λ i e below. grind (arith, places))
 
 -- a part of what is shown moved behind it
 pub part_moved : (w : ℕ) (xs : List Bool) (head len s n : ℕ) → 0 < w → s + n ≤ len → head + len ≤ length xs
@@ -30,8 +37,8 @@ pub part_joined : (w : ℕ) (xs : List Bool) (head len s n : ℕ) → 0 < w → 
     → slice_range (moved (sized w xs (head + (len + n))) (head + s) (head + len) n) head (head + (len + n)) ≡ slice_range xs head (head + len) ++ slice_range (slice_range xs head (head + len)) s (s + n)
 part_joined w xs head len s n positive h k =
     let list : List Bool = slice_range xs head (head + len) in
-    let shown : length list ≡ len = length-shows xs head len k in
-    let size : length (slice_range list s (s + n)) ≡ n = length-shows list s n (omega arith) in
+    let shown : length list ≡ len = length-run xs head len k in
+    let size : length (slice_range list s (s + n)) ≡ n = length-run list s n (omega arith) in
     ap (λ r. slice_range r head (head + (len + n))) (part_moved w xs head len s n positive h k)
     ∙ grown_shows w xs (slice_range list s (s + n)) head len n positive k (sym size)
 

@@ -9,7 +9,8 @@ use Rattle.bit_addressing.specs.declared.order.BitOrder as order
 use Rattle.std.proofs.lemmas.List.{length-map}
 use Rattle.bit_addressing.specs.Row.{words_for, sized, filled, IsCanonical}
 use Rattle.bit_addressing.specs.Typed.{row}
-use Rattle.bit_addressing.proofs.Lists.{few_words as few, room, shows_filled, length-shows, canonical_row}
+use Rattle.bit_addressing.proofs.lists.Shown.{shows_filled, length-run, canonical_row}
+use Rattle.bit_addressing.proofs.lists.Sized.{few_words as few, room}
 use Rattle.bit_addressing.proofs.Rows.{width_positive}
 use Rattle.bit_addressing.proofs.Typed.{length_row}
 use Rattle.bit_addressing.specs.declared.length.TheConstants.{MAX_BITS}
@@ -40,7 +41,7 @@ canonical_0 W P old new len width v size is =
     let w = W.BITS in
     let fits : 0 + len ≤ length (row W P old) = shown W P old 0 len width v in
     let lists : slice_range (row W P new) 0 (0 + len) ≡ slice_range (row W P old) 0 (0 + len) = ap (λ r. slice_range r 0 (0 + len)) is ∙ shows_filled (row W P old) 0 len false fits in
-    let short : length (slice_range (row W P new) 0 (0 + len)) ≡ 0 + len = ap length lists ∙ length-shows (row W P old) 0 len fits ∙ omega arith in
+    let short : length (slice_range (row W P new) 0 (0 + len)) ≡ 0 + len = ap length lists ∙ length-run (row W P old) 0 len fits ∙ omega arith in
     record {
       count = length-map new W.value ∙ size ∙ v.count ∙ ap (words_for w) (sym short);
       row = is ∙ canonical_row w (row W P old) len (width_positive w width) (length_row W.value P.place w old ∙ ap (λ n. w * n) v.count)
@@ -56,7 +57,7 @@ canonical {size} W P old new head len b width v same is none clear =
 
 -- as many bits are shown as the length says
 pub shown_length : {X Y : Type 0} (W : store.Ghosts X) (P : order.Ghosts Y) (ws : List X) (head len : ℕ) → head + len ≤ W.BITS * length ws → length (slice_range (row W P ws) head (head + len)) ≡ len
-shown_length W P ws head len fits = length-shows (row W P ws) head len (rw (length_row W.value P.place W.BITS ws) fits)
+shown_length W P ws head len fits = length-run (row W P ws) head len (rw (length_row W.value P.place W.BITS ws) fits)
 
 -- other words, as many, are a vector with the same head and length
 pub refilled : {X Y : Type 0} {size : ℕ} (W : store.Ghosts X) (P : order.Ghosts Y) (old new : List X) (head len : ℕ) → length new ≡ length old → IsVector W.BITS (length old) head len size → IsVector W.BITS (length new) head len (length (slice_range (row W P new) head (head + len)))

@@ -18,6 +18,7 @@ mod api;
 mod capacity;
 mod extend;
 mod iter;
+mod numbers;
 mod ops;
 mod slice;
 mod traits;

@@ -1,5 +1,6 @@
 //! Growth by many bits at once.
 ghost use Rattle.std.specs.Prelude.{◌≡◌, ◌+◌, ◌-◌, ◌*◌, ◌^◌, ◌<◌, ◌≤◌, [], ◌++◌, length, take, replicate, slice_range, vec_capacity, OnOk, OnErr};
+ghost use Rattle.bit_addressing.specs.Range.{LiesIn};
 ghost use Rattle.bit_addressing.specs.Row.{number_bits, put};
 ghost use Rattle.bit_addressing.specs.Typed.{row};
 ghost use Rattle.bit_containers.specs.BitVec.{Grew, Shrank, IsClean, RefusesOnly};
@@ -121,8 +122,7 @@ impl<T: BitStore, O: BitOrder> BitVec<T, O> {
     /// `extend_from_bitslice` is. The condition: the range lies in the length.
     #[tactic(auto, using(crate::proofs::Vectors::shown_length))]
     pub fn extend_from_within<R: RangeExt>(&mut self, range: R) -> Result<(), GrowError>
-        requires ordered { R.start_of range ≤ R.end_of range (length self.old.list) }
-        requires within { R.end_of range (length self.old.list) ≤ length self.old.list }
+        requires lies { LiesIn (R.start_of range) (R.end_of range (length self.old.list)) (length self.old.list) }
         ensures list { OnOk result (self.new.list ≡ self.old.list ++ slice_range self.old.list (R.start_of range) (R.end_of range (length self.old.list))) }
         ensures row { OnOk result (Grew T.BITS self.old self.new (slice_range self.old.list (R.start_of range) (R.end_of range (length self.old.list)))) }
         ensures clean { OnOk result (IsClean T.BITS self.old → IsClean T.BITS self.new) }

@@ -1,6 +1,7 @@
 //! The calls of a view that the vector has itself.
-ghost use Rattle.std.specs.Prelude.{◌≡◌, ◌+◌, ◌-◌, ◌<◌, ◌≤◌, length, not, replicate, count_by, slice_get, slice_range, set, swap};
+ghost use Rattle.std.specs.Prelude.{◌≡◌, ◌+◌, ◌-◌, ◌<◌, ◌≤◌, ◌↔◌, EachIndex, IsTrue, SomeIndex, length, not, replicate, count_by, slice_get, slice_range, set, swap, true};
 ghost use Rattle.std.specs.List.{list_any, list_all};
+ghost use Rattle.bit_addressing.specs.Range.{LiesIn};
 ghost use Rattle.bit_addressing.specs.Row.{moved, put};
 ghost use Rattle.bit_containers.specs.BitVec.{Stayed, IsClean};
 ghost use Rattle.bit_slice.specs.BitSlice.{len_of, list_of};
@@ -56,14 +57,16 @@ impl<T: BitStore, O: BitOrder> BitVec<T, O> {
 
     /// Whether some bit is true. Of an empty vector it is false.
     pub fn any(&self) -> bool
-        ensures { result ≡ list_any (λ bit. bit) self.now.list }
+        ensures value { result ≡ list_any (λ bit. bit) self.now.list }
+        ensures index { IsTrue result ↔ SomeIndex self.now.list (λ i. slice_get self.now.list i ≡ Some true) }
     {
         self.as_bitslice().any()
     }
 
     /// Whether every bit is true. Of an empty vector it is true.
     pub fn all(&self) -> bool
-        ensures { result ≡ list_all (λ bit. bit) self.now.list }
+        ensures value { result ≡ list_all (λ bit. bit) self.now.list }
+        ensures index { IsTrue result ↔ EachIndex self.now.list (λ i. slice_get self.now.list i ≡ Some true) }
     {
         self.as_bitslice().all()
     }
@@ -128,8 +131,7 @@ impl<T: BitStore, O: BitOrder> BitVec<T, O> {
     /// the range lies in the length, and its bits have room from `dest` on.
     #[tactic(auto, using(crate::proofs::Vectors::shown_length))]
     pub fn copy_within<R: RangeExt>(&mut self, range: R, dest: usize)
-        requires order { R.start_of range ≤ R.end_of range (length self.old.list) }
-        requires within { R.end_of range (length self.old.list) ≤ length self.old.list }
+        requires lies { LiesIn (R.start_of range) (R.end_of range (length self.old.list)) (length self.old.list) }
         requires room { dest + (R.end_of range (length self.old.list) - R.start_of range) ≤ length self.old.list }
         ensures list { self.new.list ≡ moved self.old.list (R.start_of range) dest (R.end_of range (length self.old.list) - R.start_of range) }
         ensures row { self.new.row ≡ moved self.old.row (self.old.head + R.start_of range) (self.old.head + dest) (R.end_of range (length self.old.list) - R.start_of range) }

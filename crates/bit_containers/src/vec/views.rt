@@ -1,6 +1,7 @@
 //! The views of the vector, and its words.
 ghost use Rattle.std.specs.Prelude.{◌≡◌, ◌+◌, ◌-◌, ◌/◌, ◌%◌, ◌≤◌, length, slice_range};
 ghost use Rattle.std.specs.Borrow.{sem};
+ghost use Rattle.bit_addressing.specs.Range.{LiesIn};
 ghost use Rattle.bit_addressing.specs.Row.{words_for};
 ghost use Rattle.bit_addressing.specs.Typed.{row, words_from, words_for_list};
 ghost use Rattle.bit_slice.specs.BitSlice.{words_of, head_of, len_of, row_of, list_of};
@@ -63,8 +64,7 @@ impl<T: BitStore, O: BitOrder> BitVec<T, O> {
 
     /// The view of the bits at a range of indices, for reading. The condition: the range lies in the length.
     pub fn get_range<R: RangeExt>(&self, range: R) -> BitSlice<'_, T, O>
-        requires ordered { R.start_of range ≤ R.end_of range (length self.now.list) }
-        requires within { R.end_of range (length self.now.list) ≤ length self.now.list }
+        requires lies { LiesIn (R.start_of range) (R.end_of range (length self.now.list)) (length self.now.list) }
         ensures list { list_of result ≡ slice_range self.now.list (R.start_of range) (R.end_of range (length self.now.list)) }
         ensures head { head_of result ≡ (self.now.head + R.start_of range) % T.BITS }
         ensures len { len_of result ≡ R.end_of range (length self.now.list) - R.start_of range }

@@ -1,7 +1,7 @@
 use Rattle.std.proofs.Common.{◌≡◌, ◌+◌, length, slice_range, sym, ◌∙◌, ap}
 use Rattle.bit_addressing.specs.Row.{put}
 use Rattle.bit_addressing.specs.Typed.{row}
-use Rattle.bit_addressing.proofs.Lists.{length-shows}
+use Rattle.bit_addressing.proofs.lists.Shown.{length-run}
 use Rattle.bit_addressing.proofs.Rows.{width_positive}
 use Rattle.bit_slice.proofs.Parts.{in_row}
 use Rattle.bit_slice.proofs.Shown.{shown_filled}
@@ -27,7 +27,7 @@ returns-clause-list g c =
     let i = c.self.inside in
     let s = c.args.source in
     let old = row g.T.BitStore g.O.BitOrder i.words.items in
-    let size : length (list_of s) ≡ s.len = length-shows (row g.U.BitStore g.P.BitOrder s.words.now) s.head s.len (in_row g.U.BitStore g.P.BitOrder s.words.now (s.head + s.len) s.fits.room) in
+    let size : length (list_of s) ≡ s.len = length-run (row g.U.BitStore g.P.BitOrder s.words.now) s.head s.len (in_row g.U.BitStore g.P.BitOrder s.words.now (s.head + s.len) s.fits.room) in
     let len : i.len ≡ s.len = sym c.self.invariant.shows ∙ ap (λ v. length v.list) c.self.view_is ∙ sym c.requires in
     let fits = shown g.T.BitStore g.O.BitOrder i.words.items i.head i.len g.met.T.BitStore.width c.self.invariant in
     ap (λ r. slice_range r i.head (i.head + i.len)) (returns-clause-row g c ∙ sym (ap (λ v. put v.row v.head (list_of s)) c.self.view_is))
@@ -37,5 +37,5 @@ pub returns-clause-clean : goal.returns-clause-clean
 returns-clause-clean g c =
     let s = c.args.source in
     let w = g.T.BitStore.BITS in
-    let size : length (list_of s) ≡ s.len = length-shows (row g.U.BitStore g.P.BitOrder s.words.now) s.head s.len (in_row g.U.BitStore g.P.BitOrder s.words.now (s.head + s.len) s.fits.room) in
+    let size : length (list_of s) ≡ s.len = length-run (row g.U.BitStore g.P.BitOrder s.words.now) s.head s.len (in_row g.U.BitStore g.P.BitOrder s.words.now (s.head + s.len) s.fits.room) in
     clean_whole w c.args.self.now _ (list_of s) (width_positive w g.met.T.BitStore.width) (size ∙ c.requires) (ap (λ v. v.head) c.self.view_is) (returns-clause-list g c) (returns-clause-row g c)

@@ -2,7 +2,7 @@ use Rattle.std.proofs.Common.{◌≡◌, ◌+◌, ◌-◌, length, slice_range, 
 use Rattle.bit_addressing.specs.Row.{moved}
 use Rattle.bit_addressing.specs.Typed.{row}
 use Rattle.bit_addressing.proofs.Rows.{width_positive}
-use Rattle.bit_addressing.proofs.MovedLists.{shows_moved}
+use Rattle.bit_addressing.proofs.lists.Moved.{shows_moved}
 use Rattle.bit_containers.proofs.Vectors.{few_words, shown}
 use Rattle.bit_containers.proofs.Clean.{clean_moved, moved_lands}
 use Rattle.bit_containers.proofs.vec.BitVec.copy_within.Goals as goal
@@ -31,8 +31,8 @@ returns-clause-landed g c =
     let list = c.args.self.now.list in
     let start = g.R.RangeExt.start_of c.args.range in
     let n = g.R.RangeExt.end_of c.args.range (length list) - start in
-    let o = c.requires.order in
-    let h = c.requires.within in
+    let o = c.requires.lies.0 in
+    let h = c.requires.lies.1 in
     ap (λ l. slice_range l c.args.dest (c.args.dest + n)) (returns-clause-list g c) ∙ moved_lands list start c.args.dest n (omega arith) c.requires.room
 
 pub returns-clause-clean : goal.returns-clause-clean
@@ -42,8 +42,8 @@ returns-clause-clean g c =
     let w = g.T.BitStore.BITS in
     let start = g.R.RangeExt.start_of c.args.range in
     let n = g.R.RangeExt.end_of c.args.range (length now.list) - start in
-    let o = c.requires.order in
-    let h = c.requires.within in
+    let o = c.requires.lies.0 in
+    let h = c.requires.lies.1 in
     let from = c.normalize-range.result.start in
     let upto = c.normalize-range.result.end in
     let len : i.len ≡ length now.list = sym c.self.invariant.shows ∙ ap (λ v. length v.list) c.self.view_is in

@@ -2,7 +2,7 @@ use Rattle.std.proofs.Common.{◌≡◌, ◌+◌, ◌≤◌, length, sym, ◌∙
 use Rattle.std.proofs.Common.{vec_capacity}
 use Rattle.bit_addressing.specs.Row.{put, sized}
 use Rattle.bit_addressing.specs.Typed.{row}
-use Rattle.bit_addressing.proofs.Lists.{joined_shows, length-shows}
+use Rattle.bit_addressing.proofs.lists.Shown.{joined_shows, length-run}
 use Rattle.bit_addressing.proofs.Rows.{width_positive}
 use Rattle.bit_slice.proofs.Parts.{in_row}
 use Rattle.bit_slice.specs.BitSlice.{list_of}
@@ -38,7 +38,7 @@ returns-clause-clean g c clean =
     let s = c.args.view in
     let now = c.args.self.now in
     let w = g.T.BitStore.BITS in
-    let size : length (list_of s) ≡ s.len = length-shows (row g.U.BitStore g.P.BitOrder s.words.now) s.head s.len (in_row g.U.BitStore g.P.BitOrder s.words.now (s.head + s.len) s.fits.room) in
+    let size : length (list_of s) ≡ s.len = length-run (row g.U.BitStore g.P.BitOrder s.words.now) s.head s.len (in_row g.U.BitStore g.P.BitOrder s.words.now (s.head + s.len) s.fits.room) in
     let len : i.len ≡ length now.list = sym c.self.invariant.shows ∙ ap (λ v. length v.list) c.self.view_is in
     let head : i.head ≡ now.head = ap (λ v. v.head) c.self.view_is in
     let upto : i.head + (i.len + c.len-more.result) ≡ now.head + length now.list + length (list_of s) = omega (arith, c.len-more.ensures.value) in

@@ -2,7 +2,7 @@ use Rattle.std.proofs.Common.{◌≡◌, ◌+◌, ◌≤◌, ◌++◌, length, s
 use Rattle.std.proofs.Common.{vec_capacity}
 use Rattle.bit_addressing.specs.Row.{put, sized, number_bits}
 use Rattle.bit_addressing.specs.Typed.{row}
-use Rattle.bit_addressing.proofs.Lists.{grown_shows}
+use Rattle.bit_addressing.proofs.lists.Shown.{grown_shows}
 use Rattle.bit_addressing.proofs.Rows.{width_positive}
 use Rattle.bit_containers.proofs.Vectors.{kept, shown, no_room_for}
 use Rattle.bit_containers.proofs.Growing.{grew_by, length-number_bits}

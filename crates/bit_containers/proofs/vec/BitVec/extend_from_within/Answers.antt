@@ -44,8 +44,8 @@ returns-clause-list g c =
     let len : i.len ≡ length now.list = sym c.self.invariant.shows ∙ ap (λ v. length v.list) c.self.view_is in
     let end : upto ≡ g.R.RangeExt.end_of c.args.range (length now.list) = c.normalize-range.ensures.end ∙ ap (g.R.RangeExt.end_of c.args.range) len in
     let start : from ≡ g.R.RangeExt.start_of c.args.range = c.normalize-range.ensures.start in
-    let o = c.requires.ordered in
-    let h = c.requires.within in
+    let o = c.requires.lies.0 in
+    let h = c.requires.lies.1 in
     let behind : from + (upto - from) ≡ upto = omega arith in
     ap (λ r. slice_range r i.head (i.head + (i.len + (upto - from)))) (c.move_bits_in_vec.ensures.bits ∙ ap (λ r. moved r (i.head + from) (i.head + i.len) (upto - from)) c.in-Ok.ensures.bits)
     ∙ part_joined w bits i.head i.len from (upto - from) (width_positive w g.met.T.BitStore.width) (omega arith) fits
@@ -64,8 +64,8 @@ returns-clause-row g c =
     let len : i.len ≡ length now.list = sym c.self.invariant.shows ∙ ap (λ v. length v.list) c.self.view_is in
     let end : upto ≡ g.R.RangeExt.end_of c.args.range (length now.list) = c.normalize-range.ensures.end ∙ ap (g.R.RangeExt.end_of c.args.range) len in
     let start : from ≡ g.R.RangeExt.start_of c.args.range = c.normalize-range.ensures.start in
-    let o = c.requires.ordered in
-    let h = c.requires.within in
+    let o = c.requires.lies.0 in
+    let h = c.requires.lies.1 in
     let behind : from + (upto - from) ≡ upto = omega arith in
     let size : length (slice_range now.list (g.R.RangeExt.start_of c.args.range) (g.R.RangeExt.end_of c.args.range (length now.list))) ≡ upto - from =
     length-run now.list (g.R.RangeExt.start_of c.args.range) (g.R.RangeExt.end_of c.args.range (length now.list)) o h ∙ (omega arith) in

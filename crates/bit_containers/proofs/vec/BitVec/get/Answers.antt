@@ -1,6 +1,6 @@
 use Rattle.std.proofs.Common.{arith}
 use Rattle.bit_addressing.specs.Typed.{row}
-use Rattle.bit_addressing.proofs.Lists.{shows_some, shows_none}
+use Rattle.bit_addressing.proofs.lists.Shown.{shows_some, shows_none}
 use Rattle.bit_containers.proofs.Vectors.{shown}
 use Rattle.bit_containers.proofs.vec.BitVec.get.Goals as goal
 

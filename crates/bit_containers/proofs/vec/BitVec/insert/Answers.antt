@@ -3,7 +3,7 @@ use Rattle.bit_addressing.specs.Row.{moved}
 use Rattle.bit_addressing.specs.Typed.{row}
 use Rattle.bit_addressing.proofs.Rows.{width_positive}
 use Rattle.std.proofs.lemmas.List.{length_push}
-use Rattle.bit_addressing.proofs.MovedLists.{inserted_shows}
+use Rattle.bit_addressing.proofs.lists.Moved.{inserted_shows}
 use Rattle.bit_containers.proofs.Vectors.{few_words, shown}
 use Rattle.bit_containers.proofs.Clean.{clean_inserted}
 use Rattle.bit_containers.proofs.vec.BitVec.insert.Goals as goal

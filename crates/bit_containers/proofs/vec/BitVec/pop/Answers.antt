@@ -2,7 +2,8 @@ use Rattle.std.proofs.Common.{◌≡◌, ◌+◌, ◌-◌, ◌*◌, [], ◌∷�
 use Rattle.std.proofs.lemmas.List.{take_all}
 use Rattle.bit_addressing.specs.Row.{words_for, sized}
 use Rattle.bit_addressing.specs.Typed.{row}
-use Rattle.bit_addressing.proofs.Lists.{shows_some, shrunk_shows, sized_same, popped_shows}
+use Rattle.bit_addressing.proofs.lists.Shown.{shows_some, shrunk_shows, popped_shows}
+use Rattle.bit_addressing.proofs.lists.Sized.{sized_same}
 use Rattle.bit_addressing.proofs.Rows.{width_positive}
 use Rattle.bit_addressing.proofs.Typed.{length_row}
 use Rattle.bit_containers.proofs.Vectors.{shown}

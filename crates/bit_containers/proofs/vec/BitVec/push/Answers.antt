@@ -1,7 +1,7 @@
 use Rattle.std.proofs.Common.{◌≡◌, ◌+◌, ◌<◌, [], ◌∷◌, ◌++◌, length, slice_range, refl, sym, ◌∙◌, ap, subst, arith}
 use Rattle.bit_addressing.specs.Row.{words_for, put, sized}
 use Rattle.bit_addressing.specs.Typed.{row}
-use Rattle.bit_addressing.proofs.Lists.{grown_shows}
+use Rattle.bit_addressing.proofs.lists.Shown.{grown_shows}
 use Rattle.std.proofs.Common.{vec_capacity}
 use Rattle.bit_addressing.proofs.Rows.{width_positive}
 use Rattle.bit_containers.proofs.Vectors.{kept, shown, no_room}

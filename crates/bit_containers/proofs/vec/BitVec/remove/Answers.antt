@@ -3,8 +3,8 @@ use Rattle.std.specs.List.{remove}
 use Rattle.bit_addressing.specs.Row.{sized}
 use Rattle.bit_addressing.specs.Typed.{row}
 use Rattle.bit_addressing.proofs.Rows.{width_positive}
-use Rattle.bit_addressing.proofs.Lists.{shows_some}
-use Rattle.bit_addressing.proofs.MovedLists.{removed_shows}
+use Rattle.bit_addressing.proofs.lists.Shown.{shows_some}
+use Rattle.bit_addressing.proofs.lists.Moved.{removed_shows}
 use Rattle.bit_containers.proofs.Vectors.{few_words, shown}
 use Rattle.bit_containers.proofs.vec.BitVec.remove.Goals as goal
 

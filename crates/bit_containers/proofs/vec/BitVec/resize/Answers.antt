@@ -3,7 +3,7 @@ use Rattle.std.proofs.Common.{vec_capacity}
 use Rattle.std.proofs.lemmas.List.{length-replicate, take_all}
 use Rattle.bit_addressing.specs.Row.{put, sized}
 use Rattle.bit_addressing.specs.Typed.{row}
-use Rattle.bit_addressing.proofs.Lists.{resized_shows}
+use Rattle.bit_addressing.proofs.lists.Shown.{resized_shows}
 use Rattle.bit_addressing.proofs.Rows.{width_positive}
 use Rattle.bit_containers.proofs.Vectors.{kept, shown, shown_length, no_room_for}
 use Rattle.bit_containers.proofs.Clean.{clean_grown}

@@ -1,6 +1,6 @@
 use Rattle.std.proofs.Common.{◌+◌, length, slice_range, ◌∙◌, ap, arith}
 use Rattle.bit_addressing.specs.Typed.{row}
-use Rattle.bit_addressing.proofs.Lists.{shows_filled}
+use Rattle.bit_addressing.proofs.lists.Shown.{shows_filled}
 use Rattle.bit_addressing.proofs.Rows.{width_positive, width_small}
 use Rattle.bit_containers.proofs.Vectors.{shown, canonical, few_words}
 use Rattle.bit_containers.proofs.vec.BitVec.set_uninitialized.Goals as goal

@@ -3,8 +3,8 @@ use Rattle.std.specs.List.{swap_remove}
 use Rattle.bit_addressing.specs.Row.{sized}
 use Rattle.bit_addressing.specs.Typed.{row}
 use Rattle.bit_addressing.proofs.Rows.{width_positive}
-use Rattle.bit_addressing.proofs.Lists.{shows_some}
-use Rattle.bit_addressing.proofs.MovedLists.{swap_removed_shows}
+use Rattle.bit_addressing.proofs.lists.Shown.{shows_some}
+use Rattle.bit_addressing.proofs.lists.Moved.{swap_removed_shows}
 use Rattle.bit_containers.proofs.Vectors.{shown}
 use Rattle.bit_containers.proofs.vec.BitVec.swap_remove.Goals as goal
 

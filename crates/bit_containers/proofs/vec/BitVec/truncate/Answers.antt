@@ -2,7 +2,8 @@ use Rattle.std.proofs.Common.{◌≡◌, ◌+◌, ◌*◌, min, slice_range, ref
 use Rattle.std.proofs.lemmas.List.{take_all}
 use Rattle.bit_addressing.specs.Row.{words_for}
 use Rattle.bit_addressing.specs.Typed.{row}
-use Rattle.bit_addressing.proofs.Lists.{shrunk_shows, sized_same}
+use Rattle.bit_addressing.proofs.lists.Shown.{shrunk_shows}
+use Rattle.bit_addressing.proofs.lists.Sized.{sized_same}
 use Rattle.bit_addressing.proofs.Rows.{width_positive}
 use Rattle.bit_addressing.proofs.Typed.{length_row}
 use Rattle.bit_containers.proofs.Vectors.{shown}

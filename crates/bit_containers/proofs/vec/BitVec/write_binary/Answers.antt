@@ -1,0 +1,30 @@
+use Rattle.std.proofs.Common.{◌≡◌, ◌+◌, ◌≤◌, length, slice_range, sym, ◌∙◌, ap, arith}
+use Rattle.bit_addressing.specs.Row.{binary, put}
+use Rattle.bit_addressing.specs.Typed.{row}
+use Rattle.bit_addressing.proofs.Binary.{length-binary}
+use Rattle.bit_addressing.proofs.Rows.{width_positive}
+use Rattle.bit_containers.proofs.Vectors.{shown}
+use Rattle.bit_containers.proofs.Clean.{clean_put}
+use Rattle.bit_containers.proofs.Growing.{shown_written}
+use Rattle.bit_containers.proofs.vec.BitVec.write_binary.Goals as goal
+
+pub returns-clause-list : goal.returns-clause-list
+returns-clause-list g c =
+    let i = c.self.inside in
+    let bits = binary c.args.n c.args.number in
+    let digits = length-binary c.args.n c.args.number in
+    let fits = shown g.T.BitStore g.O.BitOrder i.words.items i.head i.len g.met.T.BitStore.width c.self.invariant in
+    let len : i.len ≡ length c.args.self.now.list = sym c.self.invariant.shows ∙ ap (λ v. length v.list) c.self.view_is in
+    ap (λ r. slice_range r i.head (i.head + i.len)) c.write_binary_in_vec.ensures.bits
+    ∙ shown_written (row g.T.BitStore g.O.BitOrder i.words.items) bits i.head i.len c.args.at (omega arith) fits
+    ∙ ap (λ v. put v.list c.args.at bits) c.self.view_is
+
+pub returns-clause-clean : goal.returns-clause-clean
+returns-clause-clean g c =
+    let w = g.T.BitStore.BITS in
+    let bits = binary c.args.n c.args.number in
+    let digits = length-binary c.args.n c.args.number in
+    let now = c.args.self.now in
+    let room : c.args.at + length bits ≤ length now.list = omega arith in
+    clean_put w now _ c.args.at bits (width_positive w g.met.T.BitStore.width) room (ap (λ v. v.head) c.self.view_is) (returns-clause-list g c)
+    (c.write_binary_in_vec.ensures.bits ∙ ap (λ v. put v.row (v.head + c.args.at) bits) c.self.view_is)

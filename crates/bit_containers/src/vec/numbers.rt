@@ -1,0 +1,80 @@
+//! Numbers of up to 64 digits in the bits of a vector, the most significant digit first.
+ghost use Rattle.std.specs.Prelude.{◌≡◌, ◌+◌, ◌*◌, ◌^◌, ◌<◌, ◌≤◌, ◌++◌, IfOk, IsOk, OnErr, OnOk, length, slice_range, vec_capacity};
+ghost use Rattle.bit_addressing.specs.Row.{binary, put};
+ghost use Rattle.bit_addressing.specs.Typed.{row};
+ghost use Rattle.bit_containers.specs.BitVec.{Grew, IsClean, RefusesOnly, Stayed};
+
+use crate::vec::BitVec;
+use bit_addressing::{
+    BitOrder, BitStore, GrowError, MAX_BITS, read_binary, resize_words_in_vec, write_binary,
+};
+
+impl<T: BitStore, O: BitOrder> BitVec<T, O> {
+    /// The number that the `n` bits from `at` on write in binary, the most significant digit first. Each
+    /// word is read once. The condition: `n` is at most 64, and the bits lie in the length.
+    ///
+    /// ```text
+    /// of the bits 0, 1, 1, 0:  v.read_binary(1, 3) == 6
+    /// ```
+    #[tactic(auto, using(crate::proofs::Vectors::shown_length))]
+    pub fn read_binary(&self, at: usize, n: u8) -> u64
+        requires few { n ≤ 64 }
+        requires within { at + n ≤ length self.now.list }
+        ensures digits { binary n result ≡ slice_range self.now.list at (at + n) }
+        ensures below { result < 2 ^ n }
+    {
+        read_binary::<T, O>(self.words.as_slice(), self.head + at, n)
+    }
+
+    /// Writes a number in binary over the `n` bits from `at` on, the most significant digit first, and
+    /// changes no other bit; digits above the `n` lowest are left out. Takes no memory. The condition:
+    /// `n` is at most 64, and the bits lie in the length.
+    #[tactic(auto, using(crate::proofs::Vectors::shown_length))]
+    pub fn write_binary(&mut self, at: usize, n: u8, number: u64)
+        requires few { n ≤ 64 }
+        requires within { at + n ≤ length self.old.list }
+        ensures list { self.new.list ≡ put self.old.list at (binary n number) }
+        ensures row { self.new.row ≡ put self.old.row (self.old.head + at) (binary n number) }
+        ensures clean { IsClean T.BITS self.old → IsClean T.BITS self.new }
+        ensures stayed { Stayed self.old self.new }
+    {
+        write_binary_in_vec::<T, O>(&mut self.words, self.head + at, n, number);
+    }
+
+    /// Joins a number in binary by `n` digits, the most significant first; digits above the `n` lowest are left
+    /// out. It answers `TooLong` exactly where the length would pass `MAX_BITS`, and `OutOfMemory` only where
+    /// it would pass the capacity. A refusal leaves the vector. The condition: `n` is at most 64.
+    #[tactic(auto, using(crate::proofs::Vectors::shown_length))]
+    pub fn push_binary(&mut self, n: u8, number: u64) -> Result<(), GrowError>
+        requires { n ≤ 64 }
+        ensures list { OnOk result (self.new.list ≡ self.old.list ++ binary n number) }
+        ensures row { OnOk result (Grew T.BITS self.old self.new (binary n number)) }
+        ensures clean { OnOk result (IsClean T.BITS self.old → IsClean T.BITS self.new) }
+        ensures refusal { RefusesOnly result (length self.old.list + n) self.old self.new }
+        ensures capacity { self.old.capacity ≤ self.new.capacity }
+    {
+        let more = n as usize;
+        if more > MAX_BITS - self.len {
+            return Err(GrowError::TooLong);
+        }
+        let (end, len) = (self.head + self.len, self.len + more);
+        let Ok(()) = resize_words_in_vec::<T, O>(&mut self.words, self.head + len) else {
+            return Err(GrowError::OutOfMemory);
+        };
+        write_binary_in_vec::<T, O>(&mut self.words, end, n, number);
+        self.len = len;
+        Ok(())
+    }
+}
+
+/// As `bit_addressing::write_binary`, in the words of a vector.
+fn write_binary_in_vec<T: BitStore, O: BitOrder>(words: &mut Vec<T>, at: usize, n: u8, number: u64)
+    requires few { n ≤ 64 }
+    requires within { at + n ≤ T.BITS * length words.old.items }
+    requires fits { at + n < 2 ^ 64 }
+    ensures bits { row T.BitStore O.BitOrder words.new.items ≡ put (row T.BitStore O.BitOrder words.old.items) at (binary n number) }
+    ensures size { length words.new.items ≡ length words.old.items }
+    ensures capacity { vec_capacity words.new ≡ vec_capacity words.old }
+{
+    write_binary::<T, O>(words.as_mut_slice(), at, n, number);
+}

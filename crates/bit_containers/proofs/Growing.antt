@@ -8,18 +8,9 @@ use Rattle.bit_addressing.specs.Bits.{has_bit}
 use Rattle.bit_addressing.specs.Row.{words_for, put, sized, moved, number_bits}
 use Rattle.bit_addressing.proofs.lists.Sized.{room, words_for_mono, words_for_le, sized_more, length-sized, sized_same}
 use Rattle.bit_addressing.proofs.lists.Put.{length-put, put_joined, put_none}
-use Rattle.bit_addressing.proofs.lists.Shown.{length-run, shows_sized, grown_shows}
+use Rattle.bit_addressing.proofs.lists.Shown.{length-run, shown_part, shows_sized, grown_shows}
 use Rattle.bit_addressing.proofs.Shifts.{put_moved}
 use Rattle.bit_containers.specs.BitVec.{Held, Grew}
-
--- a part of what is shown
-pub shown_part : (xs : List Bool) (head len s n : ℕ) → s + n ≤ len → head + len ≤ length xs → slice_range xs (head + s) (head + s + n) ≡ slice_range (slice_range xs head (head + len)) s (s + n)
-shown_part xs head len s n h k = same_lists _ _ (search (rules, places)) (λ i d below. grind (arith, places))
-
--- a part of what is shown written over
-pub shown_written : (xs ys : List Bool) (head len d : ℕ) → d + length ys ≤ len → head + len ≤ length xs → slice_range (put xs (head + d) ys) head (head + len) ≡ put (slice_range xs head (head + len)) d ys
-unfolding put
-shown_written xs ys head len d h k = same_lists _ _ (search (rules, places)) (λ i e below. grind (arith, places))
 
 -- a part of what is shown moved behind it
 pub part_moved : (w : ℕ) (xs : List Bool) (head len s n : ℕ) → 0 < w → s + n ≤ len → head + len ≤ length xs
@@ -113,9 +104,3 @@ unfolding sized
 sized_false w n positive =
     let r = (room w n positive).0 in
     same_lists _ _ (search (rules, places)) (λ i d below. grind (arith, places))
-
--- ---- bits gathered in a number
-
-pub length-number_bits : (x n : ℕ) → length (number_bits x n) ≡ n
-unfolding number_bits
-length-number_bits x n = length-map-range_with_len (has_bit x) 0 n

@@ -8,7 +8,7 @@ use Rattle.bit_addressing.specs.Row.{put}
 use Rattle.bit_addressing.proofs.lists.Put.{put_joined, length-put}
 use Rattle.bit_addressing.proofs.lists.Shown.{shows_fewer, length-run}
 use Rattle.bit_addressing.proofs.Combined.{put_later}
-use Rattle.bit_slice.proofs.Shown.{length-between}
+use Rattle.bit_addressing.proofs.lists.Shown.{length-between}
 use Rattle.bit_slice.specs.Operators.{combined, and_of}
 
 -- what stands on both sides, and behind it what the left has alone
@@ -45,7 +45,7 @@ put_same xs a b h l = same_lists _ _ (search (rules, places)) (λ i e below. gri
 put_kept : (xs ys : List Bool) (d n b : ℕ) → n ≡ d + length ys → n ≤ b → b ≤ length xs → put xs d (ys ++ slice_range xs n b) ≡ put xs d ys
 put_kept xs ys d n b is h l =
     let long = length-put xs ys d (omega arith) in
-    let size : length (slice_range xs n b) ≡ b - n = length-between xs n b h l in
+    let size : length (slice_range xs n b) ≡ b - n = length-between xs n b l in
     let later : slice_range (put xs d ys) n b ≡ slice_range xs n b = put_later xs ys d n b (omega arith) (omega arith) h l in
     sym (put_joined xs ys (slice_range xs n b) d n is (omega arith))
     ∙ ap (put (put xs d ys) n) (sym later) ∙ put_same (put xs d ys) n b h (omega arith)

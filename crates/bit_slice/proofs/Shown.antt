@@ -5,12 +5,10 @@ use Rattle.std.proofs.lemmas.List.Edits.{between_more, swap_is}
 use Rattle.std.proofs.lemmas.List.Sums.{sum_by-cons}
 use Rattle.bit_addressing.specs.Row.{put}
 use Rattle.bit_addressing.proofs.lists.Shown.{shows_put, shows_set}
+use Rattle.bit_addressing.proofs.lists.Shown.{length-between}
 use Rattle.bit_addressing.proofs.lists.Put.{length-put}
 
 -- ---- what an iterator has left
-
-pub length-between : (xs : List Bool) (from upto : ℕ) → from ≤ upto → upto ≤ length xs → length (slice_range xs from upto) ≡ upto - from
-length-between xs from upto h k = simp (length-take, length-drop) (omega arith)
 
 pub run_none : (xs : List Bool) (from upto : ℕ) → upto ≤ from → slice_range xs from upto ≡ []
 run_none xs from upto h = let e : upto - from ≡ 0 = omega arith in ap (λ n. take n (drop from xs)) e
@@ -41,7 +39,7 @@ shown_filled xs ys head len is h =
 pub shown_swapped : (xs : List Bool) (head len i j : ℕ) → i < len → j < len → head + len ≤ length xs → slice_range (swap xs (head + i) (head + j)) head (head + len) ≡ swap (slice_range xs head (head + len)) i j
 shown_swapped xs head len i j h k room =
     let list : List Bool = slice_range xs head (head + len) in
-    let size : length list ≡ head + len - head = length-between xs head (head + len) (omega arith) room in
+    let size : length list ≡ head + len - head = length-between xs head (head + len) room in
     let a : get_or list i false ≡ get_or xs (head + i) false = sym (shown_item xs head len i (get_or xs (head + i) false) h room refl) in
     let b : get_or list j false ≡ get_or xs (head + j) false = sym (shown_item xs head len j (get_or xs (head + j) false) k room refl) in
     let one : List Bool = set xs (head + i) (get_or xs (head + j) false) in

@@ -1,5 +1,5 @@
-ghost use Rattle.std.specs.Prelude.{◌≡◌, ◌↔◌, IsTrue, count_by, ℕ, ◌+◌, ◌*◌, ◌-◌, ◌<◌, ◌≤◌, true, false, length, set, swap, slice_get, Some};
-ghost use Rattle.bit_addressing.specs.Order.{xor4_place, xor4_lawful};
+ghost use Rattle.std.specs.Prelude.{◌≡◌, ◌↔◌, IsTrue, count_by, ℕ, ◌+◌, ◌*◌, ◌-◌, ◌<◌, ◌≤◌, true, false, length, set, swap, slice_get, Some, bit_xor, refl};
+ghost use Rattle.bit_addressing.specs.Order.{lawful_by_test};
 ghost use Rattle.bit_addressing.specs.Typed.{row};
 ghost use Rattle.bit_addressing.specs.Row.{moved, words_for};
 ghost use Rattle.bit_slice.specs.CountedMut.{head_of as head_counted, len_of as len_counted, loan_of as loan_counted, list_of as list_counted, reads_of as reads_counted, writes_of};
@@ -18,9 +18,9 @@ use std::test::Fail;
 struct Xor4;
 
 impl BitOrder for Xor4 {
-    ghost place = { xor4_place };
+    ghost place = { λ w i. bit_xor i 4 };
 
-    ghost lawful = { xor4_lawful };
+    ghost lawful = { lawful_by_test (λ w i. bit_xor i 4) refl refl refl refl };
 
     fn at<T: BitStore>(i: BitIdx<T>) -> BitPos<T> {
         BitPos::new_unchecked(i.into_inner() ^ 4)

@@ -45,6 +45,7 @@ impl<T: BitStore, O: BitOrder> BitVec<T, O> {
         ensures refusal { RefusesOnly result (length self.old.list + 1) self.old self.new }
         ensures bound { length self.old.list ≤ MAX_BITS }
         ensures capacity { self.old.capacity ≤ self.new.capacity }
+        ensures no_memory { length self.old.list < self.old.capacity → self.new.capacity ≡ self.old.capacity }
     {
         if self.len == MAX_BITS {
             return Err(GrowError::TooLong);

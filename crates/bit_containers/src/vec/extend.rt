@@ -9,7 +9,7 @@ ghost use Rattle.bit_slice.specs.BitSlice.{len_of, list_of};
 use crate::vec::BitVec;
 use bit_addressing::{
     BitOrder, BitStore, GrowError, MAX_BITS, RangeExt, copy_bits_in_vec, fill_bits_in_vec,
-    move_bits_in_vec, resize_words_in_vec, write_chunk,
+    move_bits_in_vec, resize_words_in_vec, write_chunk_in_vec,
 };
 use bit_slice::BitSlice;
 
@@ -165,21 +165,4 @@ impl<T: BitStore, O: BitOrder> BitVec<T, O> {
         self.len = len;
         Ok(())
     }
-}
-
-/// As `write_chunk`, in the words of a vector.
-pub(crate) fn write_chunk_in_vec<T: BitStore, O: BitOrder>(
-    words: &mut Vec<T>,
-    at: usize,
-    n: u8,
-    chunk: u64,
-)
-    requires few { n ≤ 64 }
-    requires within { at + n ≤ T.BITS * length words.old.items }
-    requires fits { at + n < 2 ^ 64 }
-    ensures bits { row T.BitStore O.BitOrder words.new.items ≡ put (row T.BitStore O.BitOrder words.old.items) at (number_bits chunk n) }
-    ensures size { length words.new.items ≡ length words.old.items }
-    ensures capacity { vec_capacity words.new ≡ vec_capacity words.old }
-{
-    write_chunk::<T, O>(words.as_mut_slice(), at, n, chunk);
 }

@@ -6,7 +6,7 @@ ghost use Rattle.bit_containers.specs.BitVec.{Grew, IsClean, RefusesOnly, Stayed
 
 use crate::vec::BitVec;
 use bit_addressing::{
-    BitOrder, BitStore, GrowError, MAX_BITS, read_binary, resize_words_in_vec, write_binary,
+    BitOrder, BitStore, GrowError, MAX_BITS, read_binary, resize_words_in_vec, write_binary_in_vec,
 };
 
 impl<T: BitStore, O: BitOrder> BitVec<T, O> {
@@ -65,16 +65,4 @@ impl<T: BitStore, O: BitOrder> BitVec<T, O> {
         self.len = len;
         Ok(())
     }
-}
-
-/// As `bit_addressing::write_binary`, in the words of a vector.
-fn write_binary_in_vec<T: BitStore, O: BitOrder>(words: &mut Vec<T>, at: usize, n: u8, number: u64)
-    requires few { n ≤ 64 }
-    requires within { at + n ≤ T.BITS * length words.old.items }
-    requires fits { at + n < 2 ^ 64 }
-    ensures bits { row T.BitStore O.BitOrder words.new.items ≡ put (row T.BitStore O.BitOrder words.old.items) at (binary n number) }
-    ensures size { length words.new.items ≡ length words.old.items }
-    ensures capacity { vec_capacity words.new ≡ vec_capacity words.old }
-{
-    write_binary::<T, O>(words.as_mut_slice(), at, n, number);
 }

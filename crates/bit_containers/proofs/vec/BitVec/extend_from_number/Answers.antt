@@ -5,7 +5,8 @@ use Rattle.bit_addressing.specs.Typed.{row}
 use Rattle.bit_addressing.proofs.lists.Shown.{grown_shows}
 use Rattle.bit_addressing.proofs.Rows.{width_positive}
 use Rattle.bit_containers.proofs.Vectors.{kept, shown, no_room_for}
-use Rattle.bit_containers.proofs.Growing.{grew_by, length-number_bits}
+use Rattle.bit_addressing.proofs.Binary.{length-number_bits}
+use Rattle.bit_containers.proofs.Growing.{grew_by}
 use Rattle.bit_containers.proofs.vec.BitVec.extend_from_number.Goals as goal
 
 pub returns-in_default-clause-refusal : goal.returns-in_default-clause-refusal

@@ -2,7 +2,7 @@ use Rattle.std.proofs.Common.{◌≡◌, ◌+◌, ◌-◌, ◌≤◌, ◌++◌, 
 use Rattle.std.proofs.Common.{vec_capacity}
 use Rattle.bit_addressing.specs.Row.{put, sized, moved}
 use Rattle.bit_addressing.specs.Typed.{row}
-use Rattle.bit_slice.proofs.Shown.{length-run}
+use Rattle.bit_addressing.proofs.lists.Shown.{length-between}
 use Rattle.bit_addressing.proofs.Rows.{width_positive}
 use Rattle.bit_containers.proofs.Vectors.{kept, shown, no_room_for, few_words_for}
 use Rattle.bit_containers.proofs.Clean.{clean_grown}
@@ -68,7 +68,7 @@ returns-clause-row g c =
     let h = c.requires.lies.1 in
     let behind : from + (upto - from) ≡ upto = omega arith in
     let size : length (slice_range now.list (g.R.RangeExt.start_of c.args.range) (g.R.RangeExt.end_of c.args.range (length now.list))) ≡ upto - from =
-    length-run now.list (g.R.RangeExt.start_of c.args.range) (g.R.RangeExt.end_of c.args.range (length now.list)) o h ∙ (omega arith) in
+    length-between now.list (g.R.RangeExt.start_of c.args.range) (g.R.RangeExt.end_of c.args.range (length now.list)) h ∙ (omega arith) in
     grew_by w now _ (slice_range now.list (g.R.RangeExt.start_of c.args.range) (g.R.RangeExt.end_of c.args.range (length now.list))) (ap (λ v. v.head) c.self.view_is) (returns-clause-list g c)
     (c.move_bits_in_vec.ensures.bits ∙ ap (λ r. moved r (i.head + from) (i.head + i.len) (upto - from)) c.in-Ok.ensures.bits
     ∙ part_moved w bits i.head i.len from (upto - from) (width_positive w g.met.T.BitStore.width) (omega arith) fits

@@ -1,7 +1,7 @@
 use Rattle.std.proofs.Common.{◌≡◌, ◌+◌, length, slice_range, sym, ◌∙◌, ap, arith}
 use Rattle.bit_addressing.specs.Typed.{row}
 use Rattle.bit_containers.proofs.Vectors.{shown}
-use Rattle.bit_containers.proofs.Growing.{shown_part}
+use Rattle.bit_addressing.proofs.lists.Shown.{shown_part}
 use Rattle.bit_containers.proofs.vec.BitVec.read_binary.Goals as goal
 
 pub returns-clause-digits : goal.returns-clause-digits

@@ -5,7 +5,7 @@ use Rattle.bit_addressing.proofs.Binary.{length-binary}
 use Rattle.bit_addressing.proofs.Rows.{width_positive}
 use Rattle.bit_containers.proofs.Vectors.{shown}
 use Rattle.bit_containers.proofs.Clean.{clean_put}
-use Rattle.bit_containers.proofs.Growing.{shown_written}
+use Rattle.bit_addressing.proofs.lists.Shown.{shown_written}
 use Rattle.bit_containers.proofs.vec.BitVec.write_binary.Goals as goal
 
 pub returns-clause-list : goal.returns-clause-list

@@ -1,7 +1,8 @@
 use Rattle.std.proofs.Common.{◌+◌, arith}
 use Rattle.bit_addressing.specs.Typed.{row}
 use Rattle.bit_slice.proofs.Parts.{in_row}
-use Rattle.bit_slice.proofs.Shown.{length-between, run_first}
+use Rattle.bit_addressing.proofs.lists.Shown.{length-between}
+use Rattle.bit_slice.proofs.Shown.{run_first}
 use Rattle.bit_slice.proofs.iter.IterIterator.next.Goals as goal
 
 pub returns-clause-steps : goal.returns-clause-steps
@@ -13,6 +14,6 @@ pub returns-clause-goes : goal.returns-clause-goes
 returns-clause-goes g c =
     let s = c.args.self.now in
     let inside = in_row g.T.BitStore g.O.BitOrder s.words.now s.upto s.fits.room in
-    let before = length-between (row g.T.BitStore g.O.BitOrder s.words.now) s.from s.upto s.fits.ordered inside in
-    let after = length-between (row g.T.BitStore g.O.BitOrder s.words.now) (s.from + 1) s.upto (omega (arith, s.fits.ordered)) inside in
+    let before = length-between (row g.T.BitStore g.O.BitOrder s.words.now) s.from s.upto inside in
+    let after = length-between (row g.T.BitStore g.O.BitOrder s.words.now) (s.from + 1) s.upto inside in
     record { on = λ _. (tt, tt, omega (arith, before, after, s.fits.ordered)); keeps = tt; rests = λ _. tt }

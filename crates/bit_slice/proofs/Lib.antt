@@ -6,3 +6,5 @@ pub mod Comparing
 pub mod Combining
 pub mod Counting
 pub mod Finding
+pub mod Writing
+pub mod Digits

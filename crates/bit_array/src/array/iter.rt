@@ -1,0 +1,1 @@
+//! The bits of the array, one after another.

@@ -1,0 +1,10 @@
+//! Arrays of words as bits: `BitArray`, the words that one is made of, and the iterator that owns one.
+#![tactic(auto)]
+
+mod array;
+mod errors;
+mod sized;
+
+pub use array::BitArray;
+pub use errors::TryFromBitSliceError;
+pub use sized::{BitViewSized, BitWords, OneWord};

@@ -13,6 +13,8 @@ mod ops;
 mod traits;
 mod views;
 
+pub use iter::IntoIter;
+
 /// A fixed number of truth values, one bit each, in the words of `A`, in the order `O` of the bits in a word.
 ///
 /// `A` is a word or an array of words. All bits of the words are the array's, from head 0 on. Nothing takes
@@ -85,5 +87,15 @@ impl<A: BitWords, O: BitOrder> BitArray<A, O> {
         ensures { result ≡ self }
     {
         self.inner
+    }
+
+    // The same array.
+    pub(crate) fn copied(&self) -> Self
+        ensures { result ≡ self.now }
+    {
+        BitArray {
+            inner: self.inner,
+            order: PhantomData,
+        }
     }
 }

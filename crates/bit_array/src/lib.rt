@@ -2,9 +2,13 @@
 #![tactic(auto)]
 
 mod array;
+#[cfg(test)]
+mod callers;
 mod errors;
 mod sized;
+#[cfg(test)]
+mod tests;
 
-pub use array::BitArray;
+pub use array::{BitArray, IntoIter};
 pub use errors::TryFromBitSliceError;
 pub use sized::{BitViewSized, BitWords, OneWord};

@@ -8,3 +8,4 @@ pub mod Counting
 pub mod Finding
 pub mod Writing
 pub mod Digits
+pub mod Owned

@@ -8,3 +8,4 @@ pub mod CountedMut
 pub mod Operators
 pub mod Comparisons
 pub mod Texts
+pub mod Owned

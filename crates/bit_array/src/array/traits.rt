@@ -17,7 +17,6 @@ use std::alloc::AllocError;
 use std::cmp::Ordering;
 use std::fmt;
 use std::hash::{Hash, Hasher};
-use std::marker::PhantomData;
 
 impl<A: BitWords, O: BitOrder> Clone for BitArray<A, O> {
     ghost use Rattle.std.specs.Prelude.{◌≡◌, ⊤};
@@ -28,10 +27,7 @@ impl<A: BitWords, O: BitOrder> Clone for BitArray<A, O> {
 
     /// The same array. Takes no memory.
     fn clone(&self) -> Result<Self, AllocError> {
-        Ok(BitArray {
-            inner: self.inner,
-            order: PhantomData,
-        })
+        Ok(self.copied())
     }
 }
 

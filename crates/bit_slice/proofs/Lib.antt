@@ -6,3 +6,6 @@ pub mod Comparing
 pub mod Combining
 pub mod Counting
 pub mod Finding
+pub mod Writing
+pub mod Digits
+pub mod Owned

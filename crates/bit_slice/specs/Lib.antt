@@ -6,3 +6,6 @@ pub mod Lends
 pub mod Counted
 pub mod CountedMut
 pub mod Operators
+pub mod Comparisons
+pub mod Texts
+pub mod Owned

@@ -11,6 +11,7 @@ mod slice;
 mod slice_mut;
 #[cfg(test)]
 mod tests;
+mod texts;
 
 pub use counted::Counted;
 pub use counted_mut::CountedMut;
@@ -18,3 +19,4 @@ pub use iter::Iter;
 pub use ops::{and_words, or_words, order_of_bits, xor_words};
 pub use slice::BitSlice;
 pub use slice_mut::BitSliceMut;
+pub use texts::{hash_bits, write_digits, write_list};

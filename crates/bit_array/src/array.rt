@@ -1,0 +1,101 @@
+//! The array: what it is, and how it is made and taken apart.
+ghost use Rattle.std.specs.Prelude.{◌≡◌, ℕ, ◌*◌, ◌≤◌, ◌↔◌, false, length, replicate, IsTrue};
+ghost use Rattle.bit_addressing.specs.declared.length.TheConstants.{MAX_BITS};
+ghost use Rattle.bit_addressing.specs.Typed.{row};
+
+use crate::sized::{BitViewSized, BitWords};
+use bit_addressing::{BitOrder, BitStore, Lsb0, MAX_BITS};
+use std::marker::{Model, PhantomData};
+
+mod api;
+mod iter;
+mod ops;
+mod traits;
+mod views;
+
+pub use iter::IntoIter;
+
+/// A fixed number of truth values, one bit each, in the words of `A`, in the order `O` of the bits in a word.
+///
+/// `A` is a word or an array of words. All bits of the words are the array's, from head 0 on. Nothing takes
+/// memory.
+///
+/// In contracts an array is the `A` that it was made of: its words are `A.words a`, and its list of bits is
+/// their row, `row A.Store.BitStore O.BitOrder (A.words a)`.
+///
+/// ```text
+/// let mut a = BitArray::<[u8; 2], Msb0>::new([0x80, 0x01]);
+/// a.set(1, true);
+/// a.into_inner()          // [0xc0, 0x01]
+/// ```
+pub struct BitArray<A: BitWords = [usize; 1], O: BitOrder = Lsb0> {
+    inner: A,
+    order: PhantomData<O>,
+}
+
+impl<A: BitWords, O: BitOrder> Model for BitArray<A, O> {
+    ghost use Rattle.std.specs.Prelude.{◌*◌, ◌≤◌};
+    ghost use Rattle.bit_addressing.specs.declared.length.TheConstants.{MAX_BITS};
+
+    ghost Value = { A };
+
+    ghost coded = { A.code };
+
+    ghost view = { λ a. a.inner };
+
+    ghost invariant = { λ a. A.Store.BITS * A.count ≤ MAX_BITS };
+
+    ghost inverse = { λ inner. record { inner = inner; order = record {} } };
+}
+
+impl<A: BitWords, O: BitOrder> Copy for BitArray<A, O> {}
+
+impl<A: BitWords, O: BitOrder> BitArray<A, O> {
+    /// Whether the words have at most `MAX_BITS` bits: the condition of `zero` and `new`.
+    pub fn fits() -> bool
+        ensures { IsTrue result ↔ (A.Store.BITS * A.count ≤ MAX_BITS) }
+    {
+        A::count() <= MAX_BITS / A::Store::BITS as usize
+    }
+
+    /// All bits false. The condition: they are at most `MAX_BITS`, as `fits` tests.
+    pub fn zero() -> Self
+        requires { A.Store.BITS * A.count ≤ MAX_BITS }
+        ensures words { A.words result ≡ replicate A.count A.Store.ZERO }
+        ensures list { row A.Store.BitStore O.BitOrder (A.words result) ≡ replicate (A.Store.BITS * A.count) false }
+    {
+        BitArray {
+            inner: A::zero(),
+            order: PhantomData,
+        }
+    }
+
+    /// The bits of these words, which are kept as they are. The condition: they are at most `MAX_BITS`, as
+    /// `fits` tests.
+    pub fn new(inner: A) -> Self
+        requires { A.Store.BITS * A.count ≤ MAX_BITS }
+        ensures { result ≡ inner }
+    {
+        BitArray {
+            inner,
+            order: PhantomData,
+        }
+    }
+
+    /// The words, as they are.
+    pub fn into_inner(self) -> A
+        ensures { result ≡ self }
+    {
+        self.inner
+    }
+
+    // The same array.
+    pub(crate) fn copied(&self) -> Self
+        ensures { result ≡ self.now }
+    {
+        BitArray {
+            inner: self.inner,
+            order: PhantomData,
+        }
+    }
+}

@@ -1,0 +1,79 @@
+//! Views of the array, and its words.
+ghost use Rattle.std.specs.Prelude.{◌≡◌, ℕ, ◌*◌, length};
+ghost use Rattle.std.specs.Borrow.{sem};
+ghost use Rattle.bit_addressing.specs.Typed.{row, words_from};
+ghost use Rattle.bit_slice.specs.BitSlice.{words_of, head_of, len_of, list_of};
+ghost use Rattle.bit_slice.specs.BitSliceMut.{words_of as lent_words, head_of as lent_head, len_of as lent_len, list_of as lent_list, loan_of};
+ghost use Rattle.bit_array.specs.Sized.{lends_words, lends_view};
+ghost use Rattle.bit_array.specs.contracts.array.BitArray.{the_row};
+
+use crate::array::BitArray;
+use crate::sized::{BitViewSized, BitWords};
+use bit_addressing::{BitOrder, BitStore, exact_words};
+use bit_slice::{BitSlice, BitSliceMut};
+
+impl<A: BitWords, O: BitOrder> BitArray<A, O> {
+    /// The view of the array's bits, for reading.
+    pub fn as_bitslice(&self) -> BitSlice<'_, A::Store, O>
+        ensures words { words_of result ≡ A.words self.now }
+        ensures head { head_of result ≡ 0 }
+        ensures len { len_of result ≡ A.Store.BITS * A.count }
+        ensures list { list_of result ≡ row A.Store.BitStore O.BitOrder (A.words self.now) }
+    {
+        BitSlice::from_slice(self.inner.as_raw_slice())
+    }
+
+    /// As `as_bitslice`.
+    pub fn as_slice(&self) -> BitSlice<'_, A::Store, O>
+        ensures words { words_of result ≡ A.words self.now }
+        ensures head { head_of result ≡ 0 }
+        ensures len { len_of result ≡ A.Store.BITS * A.count }
+        ensures list { list_of result ≡ row A.Store.BitStore O.BitOrder (A.words self.now) }
+    {
+        self.as_bitslice()
+    }
+
+    /// The words.
+    pub fn as_raw_slice(&self) -> &[A::Store]
+        ensures words { result.now ≡ A.words self.now }
+        ensures len { length result.now ≡ A.count }
+        ensures from_row { result.now ≡ words_from A.Store.BitStore O.BitOrder (row A.Store.BitStore O.BitOrder (A.words self.now)) }
+    {
+        let words = self.inner.as_raw_slice();
+        exact_words::<A::Store, O>(words);
+        words
+    }
+}
+
+impl<A: BitViewSized, O: BitOrder> BitArray<A, O> {
+    /// The view of the array's bits, for writing: what is written lands in the array.
+    pub fn as_mut_bitslice(&mut self) -> BitSliceMut<'_, A::Store, O>
+        ensures* writes_back { sem 𝓛 (lends_view (the_row A.row O.row A.Store.row A.BitWords A.Store.BitStore O.BitOrder) A.Store.row self.entry (A.refilled self.old) (loan_of result)) }
+        ensures words { lent_words result ≡ A.words self.old }
+        ensures head { lent_head result ≡ 0 }
+        ensures len { lent_len result ≡ A.Store.BITS * A.count }
+        ensures list { lent_list result ≡ row A.Store.BitStore O.BitOrder (A.words self.old) }
+    {
+        BitSliceMut::from_slice_mut(self.inner.as_raw_mut_slice())
+    }
+
+    /// As `as_mut_bitslice`.
+    pub fn as_mut_slice(&mut self) -> BitSliceMut<'_, A::Store, O>
+        ensures* writes_back { sem 𝓛 (lends_view (the_row A.row O.row A.Store.row A.BitWords A.Store.BitStore O.BitOrder) A.Store.row self.entry (A.refilled self.old) (loan_of result)) }
+        ensures words { lent_words result ≡ A.words self.old }
+        ensures head { lent_head result ≡ 0 }
+        ensures len { lent_len result ≡ A.Store.BITS * A.count }
+        ensures list { lent_list result ≡ row A.Store.BitStore O.BitOrder (A.words self.old) }
+    {
+        self.as_mut_bitslice()
+    }
+
+    /// The words, for writing: what is written lands in the array.
+    pub fn as_raw_mut_slice(&mut self) -> &mut [A::Store]
+        ensures* writes_back { sem 𝓛 (lends_words (the_row A.row O.row A.Store.row A.BitWords A.Store.BitStore O.BitOrder) A.Store.row self.entry (A.refilled self.old) result) }
+        ensures words { result.now ≡ A.words self.old }
+        ensures len { length result.now ≡ A.count }
+    {
+        self.inner.as_raw_mut_slice()
+    }
+}

@@ -1,0 +1,98 @@
+-- How the texts of a list of bits grow.
+use Rattle.std.proofs.Common.{◌≡◌, ℕ, suc, ◌+◌, ◌-◌, ◌*◌, ◌<◌, ◌≤◌, Bool, false, List, [], ◌∷◌, ◌++◌, length, get_or, slice_range, refl, ap, sym, ◌∙◌, arith, rules}
+use Rattle.std.proofs.lemmas.List.{append_assoc, same_lists, places, ext_get_or, take_all}
+use Rattle.std.proofs.lemmas.List.FromFn.{length-map-range_with_len, get_or-map-range_with_len, map-range_with_len_more}
+use Rattle.bit_addressing.specs.Bits.{has_bit}
+use Rattle.bit_addressing.specs.Row.{number_bits, number_of}
+use Rattle.bit_addressing.specs.Text.{digit_of, joined, list_text}
+use Rattle.bit_addressing.proofs.Chunks.{has_number}
+use Rattle.bit_addressing.specs.declared.store.BitStore as store
+use Rattle.bit_addressing.specs.declared.order.BitOrder as order
+use Rattle.bit_addressing.specs.Typed.{row}
+use Rattle.bit_slice.proofs.Parts.{in_row, run_in_run}
+use Rattle.bit_slice.specs.BitSlice.{list_of}
+use Rattle.bit_slice.specs.declared.slice.BitSlice.{BitSlice}
+use Rattle.bit_slice.specs.Texts.{spaced}
+
+-- ---- the bits of a number
+
+pub bits_of_number : (ms : List Bool) (n : ℕ) → length ms ≡ n → number_bits (number_of ms) n ≡ ms
+unfolding number_bits
+bits_of_number ms n size =
+    ext_get_or false (number_bits (number_of ms) n) ms (length-map-range_with_len (has_bit (number_of ms)) 0 n ∙ sym size)
+    (λ i h. get_or-map-range_with_len (has_bit (number_of ms)) 0 n i i false (omega (arith, h, length-map-range_with_len (has_bit (number_of ms)) 0 n)) (omega arith) ∙ has_number ms i)
+
+pub length-number_bits : (x n : ℕ) → length (number_bits x n) ≡ n
+unfolding number_bits
+length-number_bits x n = length-map-range_with_len (has_bit x) 0 n
+
+pub number_bits_more : (x n : ℕ) → number_bits x (n + 1) ≡ number_bits x n ++ has_bit x n ∷ []
+unfolding number_bits
+number_bits_more x n = map-range_with_len_more (has_bit x) 0 n n (omega arith)
+
+pub number_bits_none : (x : ℕ) → number_bits x 0 ≡ []
+unfolding number_bits
+number_bits_none x = refl
+
+-- ---- digits behind commas
+
+pub spaced-append : (xs ys : List Bool) → spaced (xs ++ ys) ≡ spaced xs ++ spaced ys
+spaced-append [] ys = refl
+spaced-append (x ∷ xs) ys = ap (λ l. 44 ∷ 32 ∷ digit_of x ∷ l) (spaced-append xs ys)
+
+pub length-spaced : (xs : List Bool) → length (spaced xs) ≡ 3 * length xs
+length-spaced [] = refl
+length-spaced (x ∷ xs) =
+    let more : length (spaced (x ∷ xs)) ≡ suc (suc (suc (length (spaced xs)))) = refl in
+    let size : length (x ∷ xs) ≡ suc (length xs) = refl in
+    omega (arith, length-spaced xs)
+
+-- one digit more
+pub spaced_more : (x k : ℕ) (text : List ℕ) (d : ℕ) → text ≡ spaced (number_bits x k) → d ≡ digit_of (has_bit x k) → ((text ++ 44 ∷ []) ++ 32 ∷ []) ++ d ∷ [] ≡ spaced (number_bits x (k + 1))
+spaced_more x k text d is digit =
+    ap (λ t. ((t ++ 44 ∷ []) ++ 32 ∷ []) ++ d ∷ []) is
+    ∙ append_assoc (spaced (number_bits x k) ++ 44 ∷ []) (32 ∷ []) (d ∷ [])
+    ∙ append_assoc (spaced (number_bits x k)) (44 ∷ []) (32 ∷ d ∷ [])
+    ∙ ap (λ e. spaced (number_bits x k) ++ 44 ∷ 32 ∷ e ∷ []) digit
+    ∙ sym (spaced-append (number_bits x k) (has_bit x k ∷ []))
+    ∙ ap spaced (sym (number_bits_more x k))
+
+-- the text of all but the brackets
+pub joined_spaced : (b : Bool) (bits : List Bool) → joined (b ∷ bits) ≡ digit_of b ∷ spaced bits
+joined_spaced b [] = refl
+joined_spaced b (c ∷ bits) = ap (λ l. digit_of b ∷ 44 ∷ 32 ∷ l) (joined_spaced c bits)
+
+-- two runs, one behind the other
+pub runs_joined : (xs : List Bool) (a b c : ℕ) → a ≤ b → b ≤ c → c ≤ length xs → slice_range xs a b ++ slice_range xs b c ≡ slice_range xs a c
+runs_joined xs a b c h k l = same_lists _ _ (search (rules, places)) (λ n d below. grind (arith, places))
+
+pub spaced_runs : (xs : List Bool) (a b c : ℕ) → a ≤ b → b ≤ c → c ≤ length xs → spaced (slice_range xs a b) ++ spaced (slice_range xs b c) ≡ spaced (slice_range xs a c)
+spaced_runs xs a b c h k l = sym (spaced-append (slice_range xs a b) (slice_range xs b c)) ∙ ap spaced (runs_joined xs a b c h k l)
+
+-- the whole text: the bracket, the first digit, two runs of further digits, and the bracket
+pub text_whole : (xs : List Bool) (d : List ℕ) (n from upto : ℕ) → 0 < length xs → d ≡ digit_of (get_or xs 0 false) ∷ [] → from ≡ n → 1 ≤ n → n ≤ upto → upto ≡ length xs
+    → ((((91 ∷ []) ++ d) ++ spaced (slice_range xs 1 n)) ++ spaced (slice_range xs from upto)) ++ 93 ∷ [] ≡ list_text xs
+text_whole [] d n from upto some is at one more end = absurd (omega arith)
+text_whole (x ∷ ys) d n from upto some is at one more end =
+    let xs : List Bool = x ∷ ys in
+    let size : length xs ≡ suc (length ys) = refl in
+    let behind : spaced (slice_range xs 1 n) ++ spaced (slice_range xs from upto) ≡ spaced ys =
+    ap (λ k. spaced (slice_range xs 1 n) ++ spaced (slice_range xs k upto)) at ∙ spaced_runs xs 1 n upto one more (omega arith)
+    ∙ ap spaced (take_all (upto - 1) ys (omega arith)) in
+    ap (λ l. (((91 ∷ l) ++ spaced (slice_range xs 1 n)) ++ spaced (slice_range xs from upto)) ++ 93 ∷ []) is
+    ∙ ap (λ l. 91 ∷ digit_of x ∷ l) (ap (λ l. l ++ 93 ∷ []) behind)
+    ∙ ap (λ l. 91 ∷ l ++ 93 ∷ []) (sym (joined_spaced x ys))
+
+-- a list of no bits
+pub no_bits : (xs : List Bool) → length xs ≡ 0 → xs ≡ []
+no_bits [] e = refl
+no_bits (x ∷ xs) e = let size : length (x ∷ xs) ≡ suc (length xs) = refl in absurd (omega arith)
+
+-- a run of a view's list stands in the row of its words
+module _ {X Y : Type 0} (W : store.Ghosts X) (P : order.Ghosts Y) (v : BitSlice X Y W P) where
+  pub chunk_of_list : (from n : ℕ) → from + n ≤ v.len → slice_range (row W P v.words.now) (v.head + from) (v.head + from + n) ≡ slice_range (list_of v) from (from + n)
+  chunk_of_list from n within =
+      let bits = row W P v.words.now in
+      let fits : v.head + v.len ≤ length bits = in_row W P v.words.now (v.head + v.len) v.fits.room in
+      let last : v.head + (from + n) ≡ v.head + from + n = omega arith in
+      ap (slice_range bits (v.head + from)) (sym last) ∙ sym (run_in_run bits v.head (v.head + v.len) from (from + n) (omega arith) fits (omega arith))

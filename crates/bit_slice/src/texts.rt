@@ -1,0 +1,190 @@
+//! The texts of a list of bits, written many digits at a time, and what a hasher is fed of it.
+ghost use Rattle.std.specs.Prelude.{◌≡◌, ℕ, ◌+◌, ◌*◌, ◌<◌, ◌≤◌, [], ◌∷◌, ◌++◌, length, slice_range};
+ghost use Rattle.std.specs.Fmt.{WritesStyledOnOk, digit_glyph};
+ghost use Rattle.std.specs.List.{fold};
+ghost use Rattle.bit_addressing.specs.Row.{number_bits, words_for};
+ghost use Rattle.bit_addressing.specs.Text.{list_text, digit_of};
+ghost use Rattle.bit_addressing.specs.Bits.{has_bit};
+ghost use Rattle.bit_slice.specs.BitSlice.{len_of, list_of};
+ghost use Rattle.bit_slice.specs.Comparisons.{bits_fed};
+ghost use Rattle.bit_slice.specs.Texts.{IsDigitSize, digits_from, digits_text, number_behind, spaced};
+
+use crate::slice::BitSlice;
+use bit_addressing::{BitOrder, BitStore, read_chunk};
+use std::fmt;
+use std::hash::{Hash, Hasher};
+use std::marker::Model;
+
+// Up to 96 ASCII characters that are collected for one call of the writer.
+#[derive(Drop)]
+struct Piece {
+    bytes: [u8; 96],
+    len: usize,
+}
+
+impl Model for Piece {
+    ghost use Rattle.std.specs.Prelude.{ℕ, ◌≤◌, List, length, take};
+    ghost use Rattle.std.specs.Str.{IsAscii};
+
+    ghost Value = { List ℕ };
+
+    ghost view = { λ p. take p.len p.bytes };
+
+    ghost invariant = { λ p. (p.len ≤ length p.bytes) × IsAscii (take p.len p.bytes) };
+}
+
+impl Piece {
+    fn new() -> Self
+        ensures { result ≡ [] }
+    {
+        Piece {
+            bytes: [0; 96],
+            len: 0,
+        }
+    }
+
+    // Joins a character. The condition: there is room, and it is ASCII.
+    fn push(&mut self, byte: u8)
+        requires room { length self.old < 96 }
+        requires ascii { byte < 128 }
+        ensures { self.new ≡ self.old ++ byte ∷ [] }
+    {
+        self.bytes[self.len] = byte;
+        self.len += 1;
+    }
+
+    fn as_str(&self) -> &str
+        ensures { result.now ≡ self.now }
+    {
+        unsafe { std::str::from_utf8_unchecked(&self.bytes[..self.len]) }
+    }
+}
+
+// The digit of bit `k` of a number.
+fn digit_at(chunk: u64, k: u8) -> u8
+    requires { k < 64 }
+    ensures value { result ≡ digit_of (has_bit chunk k) }
+    ensures ascii { result < 128 }
+{
+    if (chunk >> k) & 1 == 1 { b'1' } else { b'0' }
+}
+
+// Writes `n` bits from index `from` on, each behind a comma and a space.
+fn write_more<T: BitStore, O: BitOrder, W: fmt::Write>(
+    view: BitSlice<'_, T, O>,
+    from: usize,
+    n: u8,
+    f: &mut fmt::Formatter<W>,
+) -> fmt::Result
+    requires few { n ≤ 32 }
+    requires within { from + n ≤ len_of view }
+    ensures { WritesStyledOnOk W.write_str_gives f.old result (spaced (slice_range (list_of view.entry) from (from + n))) f.new }
+{
+    let chunk = read_chunk::<T, O>(view.as_raw_slice(), view.head() + from, n);
+    let mut piece = Piece::new();
+    for k in 0..n {
+        piece.push(b',');
+        piece.push(b' ');
+        piece.push(digit_at(chunk, k));
+    }
+    f.write_str(piece.as_str())
+}
+
+/// Writes the list of a view: `[`, its digits joined by `, `, and `]`, 32 bits at each call of the writer.
+/// Flags and widths have no effect. It takes no memory.
+pub fn write_list<T: BitStore, O: BitOrder, W: fmt::Write>(
+    view: BitSlice<'_, T, O>,
+    f: &mut fmt::Formatter<W>,
+) -> fmt::Result
+    ensures { WritesStyledOnOk W.write_str_gives f.old result (list_text (list_of view.entry)) f.new }
+{
+    f.write_str("[")?;
+    if view.len() == 0 {
+        return f.write_str("]");
+    }
+    f.write_str(if view.bit(0) { "1" } else { "0" })?;
+    let behind = view.len() - 1;
+    for t in 0..behind / 32 {
+        write_more(view, 1 + t * 32, 32, f)?;
+    }
+    write_more(view, 1 + behind / 32 * 32, (behind % 32) as u8, f)?;
+    f.write_str("]")
+}
+
+// The digit of the bits `from..upto` of a number, the first the most significant.
+fn digit_of_bits(chunk: u64, from: u8, upto: u8, upper: bool) -> u8
+    requires ordered { from ≤ upto }
+    requires few { upto ≤ from + 4 }
+    requires within { upto ≤ 64 }
+    ensures value { result ≡ digit_glyph upper (number_behind 0 (slice_range (number_bits chunk 64) from upto)) }
+    ensures ascii { result < 128 }
+{
+    let mut value = 0;
+    for k in from..upto {
+        value = value * 2 + (digit_at(chunk, k) - b'0');
+    }
+    if value < 10 {
+        b'0' + value
+    } else if upper {
+        b'A' + (value - 10)
+    } else {
+        b'a' + (value - 10)
+    }
+}
+
+// Writes the digits of `n` bits from index `from` on, in groups of `size`, the last perhaps short.
+fn write_groups<T: BitStore, O: BitOrder, W: fmt::Write>(
+    view: BitSlice<'_, T, O>,
+    size: u8,
+    upper: bool,
+    from: usize,
+    n: u8,
+    f: &mut fmt::Formatter<W>,
+) -> fmt::Result
+    requires some { 0 < size }
+    requires small { size ≤ 4 }
+    requires few { n ≤ 60 }
+    requires within { from + n ≤ len_of view }
+    ensures { WritesStyledOnOk W.write_str_gives f.old result (digits_from size upper (words_for size n) (slice_range (list_of view.entry) from (from + n))) f.new }
+{
+    let chunk = read_chunk::<T, O>(view.as_raw_slice(), view.head() + from, n);
+    let mut piece = Piece::new();
+    for i in 0..(n + (size - 1)) / size {
+        let first = i * size;
+        let last = (first + size).min(n);
+        piece.push(digit_of_bits(chunk, first, last, upper));
+    }
+    f.write_str(piece.as_str())
+}
+
+/// Writes the list of a view as numbers: `[`, the list cut from its front in groups of `size` bits, a digit
+/// each, the first bit of a group the most significant and the last group perhaps short, and `]`. It goes 60
+/// bits at each call of the writer. Flags and widths have no effect. It takes no memory. The condition: the
+/// groups are of 1, 3 or 4 bits, for binary, octal and hexadecimal digits, these in upper case where `upper`.
+pub fn write_digits<T: BitStore, O: BitOrder, W: fmt::Write>(
+    view: BitSlice<'_, T, O>,
+    size: u8,
+    upper: bool,
+    f: &mut fmt::Formatter<W>,
+) -> fmt::Result
+    requires { IsDigitSize size }
+    ensures { WritesStyledOnOk W.write_str_gives f.old result (digits_text size upper (list_of view.entry)) f.new }
+{
+    f.write_str("[")?;
+    let len = view.len();
+    for t in 0..len / 60 {
+        write_groups(view, size, upper, t * 60, 60, f)?;
+    }
+    write_groups(view, size, upper, len / 60 * 60, (len % 60) as u8, f)?;
+    f.write_str("]")
+}
+
+/// Feeds a hasher the hash of each bit of a view as a truth value, in order, and nothing else. It takes no
+/// memory.
+pub fn hash_bits<T: BitStore, O: BitOrder, H: Hasher>(view: BitSlice<'_, T, O>, state: &mut H)
+    ensures { state.new ≡ fold H.write state.old (bits_fed (list_of view.entry)) }
+{
+    for bit in view.iter() {
+        bit.hash(state);
+    }
+}

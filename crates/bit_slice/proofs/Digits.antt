@@ -11,8 +11,8 @@ use Rattle.bit_addressing.specs.Bits.{has_bit}
 use Rattle.bit_addressing.specs.Row.{number_bits, number_of, words_for}
 use Rattle.bit_addressing.specs.Text.{digit_of}
 use Rattle.bit_addressing.proofs.Chunks.{has_number}
-use Rattle.bit_addressing.proofs.Differs.{get_or-run, length-run}
-use Rattle.bit_addressing.proofs.Lists.{room}
+use Rattle.bit_addressing.proofs.lists.Shown.{get_or-run, length-run}
+use Rattle.bit_addressing.proofs.lists.Sized.{room}
 use Rattle.bit_slice.specs.Texts.{IsDigitSize, digits_from, number_behind}
 
 -- ---- the number of a group

@@ -1,7 +1,7 @@
 use Rattle.std.proofs.Common.{◌≡◌, ◌+◌, ◌*◌, length, slice_range, sym, ◌∙◌, ap, arith, mul_comm}
 use Rattle.bit_addressing.specs.Row.{words_for}
 use Rattle.bit_addressing.specs.Typed.{row}
-use Rattle.bit_addressing.proofs.Lists.{words_for_all}
+use Rattle.bit_addressing.proofs.lists.Sized.{words_for_all}
 use Rattle.bit_addressing.proofs.Rows.{width_positive}
 use Rattle.bit_addressing.proofs.Typed.{length_row}
 use Rattle.bit_slice.proofs.Shown.{shown_all}

@@ -65,6 +65,13 @@ refilled W P old new head len same v =
     let fits : head + len ≤ W.BITS * length new = rw same v.fits in
     record { head_below = v.head_below; len_small = v.len_small; count = same ∙ v.count; fits = fits; shows = shown_length W P new head len fits }
 
+-- a bit more than those of the list has room within the capacity
+pub room_in : (w words head len : ℕ) → 0 < w → len < bits_in w words head → words_for w (head + len + 1) ≤ words
+room_in w words head len positive h = elim (cases_lt words (words_for w (head + len + 1))) [
+  | inl few ↦ let full = no_room w words head (len + 1) positive (omega arith) (subst (λ b. words < words_for w b) (omega arith) few) in absurd (omega (arith, h, full))
+  | inr room ↦ room
+]
+
 -- a capacity of the words for so many bits has room for them
 pub has_room : (w words head wanted : ℕ) → 0 < w → head + wanted < 18446744073709551616 → words_for w (head + wanted) ≤ words → wanted ≤ bits_in w words head
 has_room w words head wanted positive short h =

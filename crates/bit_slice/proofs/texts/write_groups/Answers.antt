@@ -7,7 +7,7 @@ use Rattle.bit_slice.specs.BitSlice.{list_of}
 use Rattle.bit_slice.specs.Texts.{digits_from, number_behind}
 use Rattle.bit_slice.proofs.Writing.{chunk_of_list}
 use Rattle.bit_slice.proofs.Parts.{in_row}
-use Rattle.bit_slice.proofs.Shown.{length-run}
+use Rattle.bit_addressing.proofs.lists.Shown.{length-between}
 use Rattle.bit_slice.proofs.Digits.{digits_more, group_at, group_begins, length-digits, groups_are}
 use Rattle.bit_slice.proofs.texts.write_groups.Goals as goal
 
@@ -18,8 +18,8 @@ loop-i-preserved g c =
     let n = c.args.n in
     let i = c.loop-i.i in
     let bits : List Bool = slice_range (list_of v) c.args.from (c.args.from + n) in
-    let size : length (list_of v) ≡ v.len = length-run (row g.T.BitStore g.O.BitOrder v.words.now) v.head (v.head + v.len) (omega arith) (in_row g.T.BitStore g.O.BitOrder v.words.now (v.head + v.len) v.fits.room) ∙ omega arith in
-    let all : length bits ≡ n = length-run (list_of v) c.args.from (c.args.from + n) (omega arith) (omega (arith, size, c.requires.within)) ∙ omega arith in
+    let size : length (list_of v) ≡ v.len = length-between (row g.T.BitStore g.O.BitOrder v.words.now) v.head (v.head + v.len) (in_row g.T.BitStore g.O.BitOrder v.words.now (v.head + v.len) v.fits.room) ∙ omega arith in
+    let all : length bits ≡ n = length-between (list_of v) c.args.from (c.args.from + n) (omega (arith, size, c.requires.within)) ∙ omega arith in
     let chunk : c.read_chunk-chunk.result ≡ number_of bits =
     c.read_chunk-chunk.ensures ∙ ap (λ ws. number_of (slice_range (row g.T.BitStore g.O.BitOrder ws) (c.head.result + c.args.from) (c.head.result + c.args.from + n))) c.as_raw_slice.ensures.words
     ∙ ap (λ h. number_of (slice_range (row g.T.BitStore g.O.BitOrder v.words.now) (h + c.args.from) (h + c.args.from + n))) c.head.ensures.value

@@ -5,7 +5,7 @@ use Rattle.bit_addressing.specs.Typed.{row}
 use Rattle.bit_slice.specs.BitSlice.{list_of}
 use Rattle.bit_slice.specs.Texts.{spaced}
 use Rattle.bit_slice.proofs.Parts.{in_row}
-use Rattle.bit_slice.proofs.Shown.{length-run}
+use Rattle.bit_addressing.proofs.lists.Shown.{length-between}
 use Rattle.bit_slice.proofs.Writing.{chunk_of_list, bits_of_number, length-number_bits, number_bits_none, length-spaced, spaced_more}
 use Rattle.bit_slice.proofs.texts.write_more.Goals as goal
 
@@ -34,8 +34,8 @@ returns g c flush ok =
     let list = list_of v in
     let end : c.loop-k.k ≡ c.args.n = omega (arith, c.loop-k-test.false, c.loop-k.auto.k-end) in
     let run : List Bool = slice_range list c.args.from (c.args.from + c.args.n) in
-    let all : length list ≡ v.len = length-run bits v.head (v.head + v.len) (omega arith) (in_row g.T.BitStore g.O.BitOrder v.words.now (v.head + v.len) v.fits.room) ∙ omega arith in
-    let size : length run ≡ c.args.n = length-run list c.args.from (c.args.from + c.args.n) (omega arith) (omega (arith, all, c.requires.within)) ∙ omega arith in
+    let all : length list ≡ v.len = length-between bits v.head (v.head + v.len) (in_row g.T.BitStore g.O.BitOrder v.words.now (v.head + v.len) v.fits.room) ∙ omega arith in
+    let size : length run ≡ c.args.n = length-between list c.args.from (c.args.from + c.args.n) (omega (arith, all, c.requires.within)) ∙ omega arith in
     let chunk : c.read_chunk-chunk.result ≡ number_of run =
     c.read_chunk-chunk.ensures ∙ ap (λ ws. number_of (slice_range (row g.T.BitStore g.O.BitOrder ws) (c.head.result + c.args.from) (c.head.result + c.args.from + c.args.n))) c.as_raw_slice.ensures.words
     ∙ ap (λ h. number_of (slice_range bits (h + c.args.from) (h + c.args.from + c.args.n))) c.head.ensures.value

@@ -4,7 +4,8 @@ use Rattle.bit_addressing.specs.Typed.{row}
 use Rattle.bit_addressing.proofs.lists.Shown.{grown_shows}
 use Rattle.std.proofs.Common.{vec_capacity}
 use Rattle.bit_addressing.proofs.Rows.{width_positive}
-use Rattle.bit_containers.proofs.Vectors.{kept, shown, no_room}
+use Rattle.bit_containers.proofs.Vectors.{kept, shown, no_room, room_in}
+use Rattle.bit_containers.specs.BitVec.{bits_in}
 use Rattle.bit_containers.proofs.Clean.{clean_joined}
 use Rattle.bit_containers.proofs.vec.BitVec.push.Goals as goal
 
@@ -36,3 +37,19 @@ returns-clause-clean g c =
     clean_joined w c.args.self.now _ c.args.bit (width_positive w g.met.T.BitStore.width) (ap (λ v. v.head) c.self.view_is) (returns-clause-list g c)
     (c.in-Ok.ensures.bits ∙ ap (λ v. put (sized w v.row (v.head + i.len + 1)) (v.head + i.len) (c.args.bit ∷ [])) c.self.view_is
     ∙ ap (λ n. put (sized w c.args.self.now.row (c.args.self.now.head + n + 1)) (c.args.self.now.head + n) (c.args.bit ∷ [])) len)
+
+pub returns-in_default-clause-no_memory : goal.returns-in_default-clause-no_memory
+returns-in_default-clause-no_memory g c = λ h.
+    let i = c.self.inside in
+    let w = g.T.BitStore.BITS in
+    let few = subst (λ n. n < bits_in w (vec_capacity i.words) i.head) c.self.invariant.shows (subst (λ v. length v.list < v.capacity) (sym c.self.view_is) h) in
+    ap (λ n. bits_in w n i.head) (c.push_bit_in_vec.ensures.no_memory (room_in w (vec_capacity i.words) i.head i.len (width_positive w g.met.T.BitStore.width) few))
+    ∙ ap (λ v. v.capacity) c.self.view_is
+
+pub returns-clause-no_memory : goal.returns-clause-no_memory
+returns-clause-no_memory g c = λ h.
+    let i = c.self.inside in
+    let w = g.T.BitStore.BITS in
+    let few = subst (λ n. n < bits_in w (vec_capacity i.words) i.head) c.self.invariant.shows (subst (λ v. length v.list < v.capacity) (sym c.self.view_is) h) in
+    ap (λ n. bits_in w n i.head) (c.push_bit_in_vec.ensures.no_memory (room_in w (vec_capacity i.words) i.head i.len (width_positive w g.met.T.BitStore.width) few))
+    ∙ ap (λ v. v.capacity) c.self.view_is

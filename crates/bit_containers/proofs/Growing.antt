@@ -1,9 +1,11 @@
 -- Bits joined: a part of the list once more, and in several steps.
-use Rattle.std.proofs.Common.{◌≡◌, ℕ, ◌+◌, ◌-◌, ◌*◌, ◌<◌, ◌≤◌, Bool, false, List, [], ◌++◌, length, replicate, slice_range, refl, sym, ◌∙◌, ap, inl, inr, arith, rules}
+use Rattle.std.proofs.Common.{if◌then◌else◌, eqb, map, get_or, ◌≡◌, ℕ, ◌+◌, ◌-◌, ◌*◌, ◌<◌, ◌≤◌, Bool, false, List, [], ◌∷◌, ◌++◌, length, replicate, slice_range, refl, sym, ◌∙◌, ap, inl, inr, arith, rules}
 use Rattle.std.proofs.lemmas.Bool.{cases_lt}
-use Rattle.std.proofs.lemmas.List.{places, same_lists, length-append}
+use Rattle.std.proofs.lemmas.List.{places, same_lists, length-append, ext_get_or, length_push, get_or-append_right, get_or_append_left}
 use Rattle.std.proofs.Math.Nat.{mul-le-mul_left}
-use Rattle.std.proofs.lemmas.List.FromFn.{length-map-range_with_len}
+use Rattle.std.proofs.lemmas.List.FromFn.{length-map-range_with_len, get_or-map-range_with_len}
+use Rattle.std.specs.List.{range_with_len}
+use Rattle.std.proofs.lemmas.Bool.Decides.{eqb_tells}
 use Rattle.bit_addressing.specs.Bits.{has_bit}
 use Rattle.bit_addressing.specs.Row.{words_for, put, sized, moved, number_bits}
 use Rattle.bit_addressing.proofs.lists.Sized.{room, words_for_mono, words_for_le, sized_more, length-sized, sized_same}
@@ -104,3 +106,25 @@ unfolding sized
 sized_false w n positive =
     let r = (room w n positive).0 in
     same_lists _ _ (search (rules, places)) (λ i d below. grind (arith, places))
+
+-- ---- bits gathered in a number
+
+-- one bit more in a number
+pub number_bits_next : (x y n : ℕ) (b : Bool) → n < 64 → ((p : ℕ) → p < 64 → has_bit y p ≡ (if eqb p n then b else has_bit x p)) → number_bits y (n + 1) ≡ number_bits x n ++ b ∷ []
+unfolding number_bits
+number_bits_next x y n b few change =
+    let gone : n - n ≡ 0 = omega arith in
+    let xs : List Bool = map (has_bit x) (range_with_len 0 n) in
+    let size : length xs ≡ n = length-map-range_with_len (has_bit x) 0 n in
+    let left : length (number_bits y (n + 1)) ≡ n + 1 = length-map-range_with_len (has_bit y) 0 (n + 1) in
+    ext_get_or false (number_bits y (n + 1)) (xs ++ b ∷ []) (left ∙ sym (length_push xs b ∙ ap (λ k. k + 1) size))
+    (λ i h.
+    let below : i < n + 1 = omega arith in
+    get_or-map-range_with_len (has_bit y) 0 (n + 1) i i false below (omega arith) ∙ change i (omega arith) ∙ elim (eqb_tells i n) [
+      | inl e ↦ rw (e.0, e.1) (sym (get_or-append_right xs (b ∷ []) n n false size (omega arith) ∙ ap (λ k. get_or (b ∷ []) k false) gone))
+      | inr e ↦ rw e.0 (sym (get_or_append_left xs (b ∷ []) false i (omega (arith, e.1)) ∙ get_or-map-range_with_len (has_bit x) 0 n i i false (omega (arith, e.1)) (omega arith)))
+    ])
+
+pub number_bits_none : (x : ℕ) → number_bits x 0 ≡ []
+unfolding number_bits
+number_bits_none x = refl

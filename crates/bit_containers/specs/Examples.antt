@@ -6,7 +6,7 @@ use Rattle.bit_addressing.specs.declared.length.TheConstants.{MAX_BITS}
 use Rattle.bit_addressing.specs.declared.errors.GrowError.TheVariants.{TooLong, OutOfMemory}
 use Rattle.bit_addressing.specs.Row.{words_for, put, sized, moved}
 use Rattle.bit_containers.specs.declared.machine.Command.{Command}
-use Rattle.bit_containers.specs.declared.machine.Command.TheVariants.{Push, Pop, Get, Set, Insert, Remove, SwapRemove, Truncate, CopyWithin, Align, Len}
+use Rattle.bit_containers.specs.declared.machine.Command.TheVariants.{Push, Pop, Get, Set, Insert, Remove, SwapRemove, Truncate, Resize, Reserve, ExtendWithin, CopyWithin, Align, Len}
 use Rattle.bit_containers.specs.declared.machine.Reply.TheVariants.{Done, Bit, Nothing, Number, OutOfRange}
 use Rattle.bit_containers.specs.BitVec.{Held, bits_in, Grew, Shrank, Stayed, IsCopy, IsClean}
 use Rattle.bit_containers.specs.Machine.{list_after_one, head_after_one, reply_to, new_length, list_after, head_after, replies_of, AllFit, IsRefusal, IsStopReason}
@@ -111,6 +111,18 @@ swap_remove = (refl, refl)
 
 truncate : (list_after_one pair (Truncate 1) ≡ true ∷ []) × (list_after_one pair (Truncate 3) ≡ pair) × (reply_to pair (Truncate 3) ≡ Done)
 truncate = (refl, refl, refl)
+
+resize : (list_after_one pair (Resize 4 true) ≡ true ∷ false ∷ true ∷ true ∷ []) × (list_after_one pair (Resize 1 true) ≡ true ∷ []) × (reply_to pair (Resize 4 true) ≡ Done) × (new_length pair (Resize 4 true) ≡ 4)
+resize = (refl, refl, refl, refl)
+
+reserve : (list_after_one pair (Reserve 7) ≡ pair) × (reply_to pair (Reserve 7) ≡ Done) × (new_length pair (Reserve 7) ≡ 9)
+reserve = (refl, refl, refl)
+
+extend_within : (list_after_one pair (ExtendWithin 1 2) ≡ true ∷ false ∷ false ∷ []) × (reply_to pair (ExtendWithin 1 2) ≡ Done) × (new_length pair (ExtendWithin 1 2) ≡ 3)
+extend_within = (refl, refl, refl)
+
+extend_past_the_end : (list_after_one pair (ExtendWithin 1 3) ≡ pair) × (reply_to pair (ExtendWithin 1 3) ≡ OutOfRange) × (new_length pair (ExtendWithin 1 3) ≡ 2)
+extend_past_the_end = (refl, refl, refl)
 
 copy_within : (list_after_one (true ∷ false ∷ false ∷ []) (CopyWithin 0 2 1) ≡ true ∷ true ∷ false ∷ []) × (reply_to (true ∷ false ∷ false ∷ []) (CopyWithin 0 2 1) ≡ Done)
 unfolding moved

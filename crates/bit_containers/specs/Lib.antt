@@ -1,4 +1,6 @@
 pub mod BitVec
+pub mod Closures
 pub mod Examples
 pub mod Lends
 pub mod Machine
+pub mod Pulls

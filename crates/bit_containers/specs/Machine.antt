@@ -1,18 +1,22 @@
 -- What commands, and runs of them, do to a list of bits and reply.
-use Rattle.std.specs.Prelude.{◌≡◌, ℕ, ◌+◌, ◌-◌, ◌<◌, ◌≤◌, ◌⊎◌, ◌&&◌, Option, List, Bool, false, [], ◌∷◌, ◌++◌, length, take, slice_set, slice_get, insert, remove, nat_lt, nat_le, if◌then◌else◌, Some, None}
+use Rattle.std.specs.Prelude.{◌≡◌, ℕ, ◌+◌, ◌-◌, ◌<◌, ◌≤◌, ◌⊎◌, ◌&&◌, Option, List, Bool, false, [], ◌∷◌, ◌++◌, length, take, replicate, slice_range, slice_set, slice_get, insert, remove, nat_lt, nat_le, if◌then◌else◌, Some, None}
 use Rattle.std.specs.List.{swap_remove}
 use Rattle.bit_addressing.specs.Row.{moved}
 use Rattle.bit_addressing.specs.declared.errors.GrowError.{GrowError}
 use Rattle.bit_addressing.specs.declared.errors.GrowError.TheVariants.{TooLong, OutOfMemory}
 use Rattle.bit_addressing.specs.declared.length.TheConstants.{MAX_BITS}
 use Rattle.bit_containers.specs.declared.machine.Command.{Command}
-use Rattle.bit_containers.specs.declared.machine.Command.TheVariants.{Push, Pop, Get, Set, Insert, Remove, SwapRemove, Truncate, CopyWithin, Align, Len}
+use Rattle.bit_containers.specs.declared.machine.Command.TheVariants.{Push, Pop, Get, Set, Insert, Remove, SwapRemove, Truncate, Resize, Reserve, ExtendWithin, CopyWithin, Align, Len}
 use Rattle.bit_containers.specs.declared.machine.Reply.{Reply}
 use Rattle.bit_containers.specs.declared.machine.Reply.TheVariants.{Done, Bit, Nothing, Number, OutOfRange}
 
 -- whether `from..upto` is a range of the list, and what stands in it has room from `dest` on
 abbrev pub can_copy : List Bool → ℕ → ℕ → ℕ → Bool
 can_copy list from upto dest = nat_le from upto && (nat_le upto (length list) && nat_le (dest + (upto - from)) (length list))
+
+-- whether `from..upto` is a range of the list
+abbrev pub is_range : List Bool → ℕ → ℕ → Bool
+is_range list from upto = nat_le from upto && nat_le upto (length list)
 
 -- the list after a command; where the command's index or range is out of range, the list itself
 abbrev pub list_after_one : List Bool → Command → List Bool
@@ -24,6 +28,9 @@ list_after_one list (Insert i b) = if nat_le i (length list) then insert list i 
 list_after_one list (Remove i) = if nat_lt i (length list) then remove list i else list
 list_after_one list (SwapRemove i) = if nat_lt i (length list) then swap_remove list i false else list
 list_after_one list (Truncate n) = take n list
+list_after_one list (Resize n b) = take n list ++ replicate (n - length list) b
+list_after_one list (Reserve k) = list
+list_after_one list (ExtendWithin from upto) = if is_range list from upto then list ++ slice_range list from upto else list
 list_after_one list (CopyWithin from upto dest) = if can_copy list from upto dest then moved list from dest (upto - from) else list
 list_after_one list Align = list
 list_after_one list Len = list
@@ -47,6 +54,9 @@ reply_to list (Insert i b) = done_if (nat_le i (length list))
 reply_to list (Remove i) = bit_or OutOfRange (slice_get list i)
 reply_to list (SwapRemove i) = bit_or OutOfRange (slice_get list i)
 reply_to list (Truncate n) = Done
+reply_to list (Resize n b) = Done
+reply_to list (Reserve k) = Done
+reply_to list (ExtendWithin from upto) = done_if (is_range list from upto)
 reply_to list (CopyWithin from upto dest) = done_if (can_copy list from upto dest)
 reply_to list Align = Done
 reply_to list Len = Number (length list)
@@ -66,6 +76,9 @@ head_after_one head (Insert i b) = head
 head_after_one head (Remove i) = head
 head_after_one head (SwapRemove i) = head
 head_after_one head (Truncate n) = head
+head_after_one head (Resize n b) = head
+head_after_one head (Reserve k) = head
+head_after_one head (ExtendWithin from upto) = head
 head_after_one head (CopyWithin from upto dest) = head
 head_after_one head Align = 0
 head_after_one head Len = head
@@ -84,6 +97,9 @@ replies_of list (command ∷ commands) = reply_to list command ∷ replies_of (l
 abbrev pub new_length : List Bool → Command → ℕ
 new_length list (Push b) = length list + 1
 new_length list (Insert i b) = if nat_le i (length list) then length list + 1 else length list
+new_length list (Resize n b) = n
+new_length list (Reserve k) = length list + k
+new_length list (ExtendWithin from upto) = if is_range list from upto then length list + (upto - from) else length list
 new_length list command = length (list_after_one list command)
 
 -- no command asks for more bits than a vector holds

@@ -1,5 +1,5 @@
 //! Runs of commands.
-ghost use Rattle.std.specs.Prelude.{◌⊎◌, Err, ◌≡◌, ◌+◌, ◌-◌, ◌<◌, ◌≤◌, ◌++◌, length, take, OnOk, OnErr, IfOk, IfErr};
+ghost use Rattle.std.specs.Prelude.{◌⊎◌, Err, Some, slice_get, ◌≡◌, ◌+◌, ◌-◌, ◌<◌, ◌≤◌, ◌++◌, length, take, OnOk, OnErr, IfOk, IfErr};
 ghost use Rattle.bit_addressing.specs.declared.length.TheConstants.{MAX_BITS};
 ghost use Rattle.bit_containers.specs.Machine.{list_after_one, reply_to, list_after, replies_of, head_after_one, head_after, AllFit, IsRefusal, IsStopReason, new_length};
 
@@ -25,6 +25,12 @@ pub enum Command {
     SwapRemove(usize),
     /// Keeps the first items.
     Truncate(usize),
+    /// Keeps the first items, or fills the list up to a length with a bit.
+    Resize(usize, bool),
+    /// Makes room for so many bits more.
+    Reserve(usize),
+    /// Joins the range from the first index to the second once more.
+    ExtendWithin(usize, usize),
     /// Copies the range from the first index to the second to the place from the third on.
     CopyWithin(usize, usize, usize),
     /// Moves the bits to the beginning of their words; the list stays.
@@ -82,7 +88,7 @@ fn insert_at<T: BitStore, O: BitOrder>(
     ensures reply { IfOk result (λ reply. reply ≡ reply_to v.old.list (Command.Insert i b)) }
     ensures head { v.new.head ≡ v.old.head }
     ensures capacity { v.old.capacity ≤ v.new.capacity }
-    ensures memory { result ≡ Err GrowError.OutOfMemory → v.old.capacity < length v.old.list + 1 }
+    ensures memory { result ≡ Err GrowError.OutOfMemory → v.old.capacity < new_length v.old.list (Command.Insert i b) }
     ensures list { OnOk result (v.new.list ≡ list_after_one v.old.list (Command.Insert i b)) }
     ensures fits { OnOk result (new_length v.old.list (Command.Insert i b) ≤ MAX_BITS) }
     ensures unchanged { OnErr result (v.new.list ≡ v.old.list) }
@@ -126,6 +132,68 @@ fn swap_remove_at<T: BitStore, O: BitOrder>(v: &mut BitVec<T, O>, i: usize) -> R
     }
 }
 
+/// Joins a range once more, where it is one of the list.
+fn extend_at<T: BitStore, O: BitOrder>(
+    v: &mut BitVec<T, O>,
+    from: usize,
+    upto: usize,
+) -> Result<Reply, GrowError>
+    ensures reply { IfOk result (λ reply. reply ≡ reply_to v.old.list (Command.ExtendWithin from upto)) }
+    ensures head { v.new.head ≡ v.old.head }
+    ensures capacity { v.old.capacity ≤ v.new.capacity }
+    ensures memory { result ≡ Err GrowError.OutOfMemory → v.old.capacity < new_length v.old.list (Command.ExtendWithin from upto) }
+    ensures list { OnOk result (v.new.list ≡ list_after_one v.old.list (Command.ExtendWithin from upto)) }
+    ensures fits { OnOk result (new_length v.old.list (Command.ExtendWithin from upto) ≤ MAX_BITS) }
+    ensures unchanged { OnErr result (v.new.list ≡ v.old.list) }
+    ensures why { IfErr result (λ why. IsRefusal v.old.list (Command.ExtendWithin from upto) why) }
+{
+    v.in_words();
+    if from <= upto && upto <= v.len() {
+        v.extend_from_within(from..upto)?;
+        Ok(Reply::Done)
+    } else {
+        Ok(Reply::OutOfRange)
+    }
+}
+
+/// Cuts the list, or fills it up.
+fn resize_to<T: BitStore, O: BitOrder>(
+    v: &mut BitVec<T, O>,
+    n: usize,
+    bit: bool,
+) -> Result<Reply, GrowError>
+    ensures reply { IfOk result (λ reply. reply ≡ Reply.Done) }
+    ensures head { v.new.head ≡ v.old.head }
+    ensures capacity { v.old.capacity ≤ v.new.capacity }
+    ensures memory { result ≡ Err GrowError.OutOfMemory → v.old.capacity < n }
+    ensures list { OnOk result (v.new.list ≡ list_after_one v.old.list (Command.Resize n bit)) }
+    ensures fits { OnOk result (n ≤ MAX_BITS) }
+    ensures unchanged { OnErr result (v.new.list ≡ v.old.list) }
+    ensures why { IfErr result (λ why. IsRefusal v.old.list (Command.Resize n bit) why) }
+{
+    v.in_words();
+    v.resize(n, bit)?;
+    Ok(Reply::Done)
+}
+
+/// Makes room for more bits.
+fn reserve_for<T: BitStore, O: BitOrder>(
+    v: &mut BitVec<T, O>,
+    more: usize,
+) -> Result<Reply, GrowError>
+    ensures reply { IfOk result (λ reply. reply ≡ Reply.Done) }
+    ensures head { v.new.head ≡ v.old.head }
+    ensures capacity { v.old.capacity ≤ v.new.capacity }
+    ensures memory { result ≡ Err GrowError.OutOfMemory → v.old.capacity < length v.old.list + more }
+    ensures list { v.new.list ≡ v.old.list }
+    ensures fits { OnOk result (length v.old.list + more ≤ MAX_BITS) }
+    ensures why { IfErr result (λ why. IsRefusal v.old.list (Command.Reserve more) why) }
+{
+    v.in_words();
+    v.reserve(more)?;
+    Ok(Reply::Done)
+}
+
 /// Copies a range, where it is one of the list and has room at its destination.
 fn copy_at<T: BitStore, O: BitOrder>(
     v: &mut BitVec<T, O>,
@@ -157,7 +225,7 @@ fn step<T: BitStore, O: BitOrder>(
     ensures head { OnOk result (v.new.head ≡ head_after_one v.old.head command) }
     ensures head_kept { OnErr result (v.new.head ≡ v.old.head) }
     ensures capacity { v.old.capacity ≤ v.new.capacity }
-    ensures memory { result ≡ Err GrowError.OutOfMemory → v.old.capacity < length v.old.list + 1 }
+    ensures memory { result ≡ Err GrowError.OutOfMemory → v.old.capacity < new_length v.old.list command }
     ensures list { OnOk result (v.new.list ≡ list_after_one v.old.list command) }
     ensures fits { OnOk result (new_length v.old.list command ≤ MAX_BITS) }
     ensures unchanged { OnErr result (v.new.list ≡ v.old.list) }
@@ -179,6 +247,9 @@ fn step<T: BitStore, O: BitOrder>(
             v.truncate(n);
             Ok(Reply::Done)
         }
+        Command::Resize(n, b) => resize_to(v, n, b),
+        Command::Reserve(more) => reserve_for(v, more),
+        Command::ExtendWithin(from, upto) => extend_at(v, from, upto),
         Command::CopyWithin(from, upto, dest) => Ok(copy_at(v, from, upto, dest)),
         Command::Align => {
             v.force_align();
@@ -201,7 +272,7 @@ pub fn run<T: BitStore, O: BitOrder>(
     ensures head { OnOk result (v.new.head ≡ head_after v.old.head commands.now) }
     ensures stopped_head { IfErr result (λ stop. v.new.head ≡ head_after v.old.head (take stop.done commands.now)) }
     ensures capacity { v.old.capacity ≤ v.new.capacity }
-    ensures memory { IfErr result (λ stop. stop.why ≡ GrowError.OutOfMemory → (stop.done ≡ 0) ⊎ (v.old.capacity < length v.new.list + 1)) }
+    ensures memory { IfErr result (λ stop. stop.why ≡ GrowError.OutOfMemory → (stop.done ≡ 0) ⊎ ((command : Command) × (slice_get commands.now stop.done ≡ Some command) × (v.old.capacity < new_length v.new.list command))) }
     ensures list { OnOk result (v.new.list ≡ list_after v.old.list commands.now) }
     ensures fit { OnOk result (AllFit v.old.list commands.now) }
     ensures stopped_replies { IfErr result (λ stop.

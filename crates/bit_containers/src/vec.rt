@@ -16,6 +16,8 @@ use std::marker::{Model, PhantomData};
 
 mod api;
 mod capacity;
+mod closures;
+mod collect;
 mod extend;
 mod iter;
 mod numbers;

@@ -4,7 +4,7 @@ use Rattle.std.specs.List.{slice_split}
 use Rattle.std.specs.Str.{bytes_eq, all_ascii_digits}
 use Rattle.std.specs.Str.Parse.{digits_value}
 use Rattle.bit_containers.specs.declared.machine.Command.{Command}
-use Rattle.bit_containers.specs.declared.machine.Command.TheVariants.{Push, Pop, Get, Set, Insert, Remove, SwapRemove, Truncate, CopyWithin, Align, Len}
+use Rattle.bit_containers.specs.declared.machine.Command.TheVariants.{Push, Pop, Get, Set, Insert, Remove, SwapRemove, Truncate, Resize, Reserve, ExtendWithin, CopyWithin, Align, Len}
 use Rattle.bitrun.specs.declared.parsing.TheConstants.{MAX_LINE}
 use Rattle.bitrun.specs.declared.parsing.Line.{Line}
 use Rattle.bitrun.specs.declared.parsing.Line.TheVariants.{Run, ShowList, ShowWords}
@@ -33,6 +33,12 @@ with_number_and_bit command (Some i) (Some b) = Some (Run (command i b))
 with_number_and_bit command (Some i) None = None
 with_number_and_bit command None b = None
 
+-- the line of a command with two numbers, where there are both
+abbrev pub with_two_numbers : (ℕ → ℕ → Command) → Option ℕ → Option ℕ → Option Line
+with_two_numbers command (Some i) (Some j) = Some (Run (command i j))
+with_two_numbers command (Some i) None = None
+with_two_numbers command None j = None
+
 -- the line of a command with three numbers, where there are all
 abbrev pub with_numbers : (ℕ → ℕ → ℕ → Command) → Option ℕ → Option ℕ → Option ℕ → Option Line
 with_numbers command (Some i) (Some j) (Some k) = Some (Run (command i j k))
@@ -53,11 +59,14 @@ of_fields (word ∷ a ∷ []) =
     if bytes_eq word (codes "push") then with_bit Push (bit_of a) else
     if bytes_eq word (codes "get") then with_number Get (number_of a) else
     if bytes_eq word (codes "truncate") then with_number Truncate (number_of a) else
+    if bytes_eq word (codes "reserve") then with_number Reserve (number_of a) else
     if bytes_eq word (codes "remove") then with_number Remove (number_of a) else
     if bytes_eq word (codes "swapremove") then with_number SwapRemove (number_of a) else None
 of_fields (word ∷ a ∷ b ∷ []) =
     if bytes_eq word (codes "set") then with_number_and_bit Set (number_of a) (bit_of b) else
-    if bytes_eq word (codes "insert") then with_number_and_bit Insert (number_of a) (bit_of b) else None
+    if bytes_eq word (codes "insert") then with_number_and_bit Insert (number_of a) (bit_of b) else
+    if bytes_eq word (codes "resize") then with_number_and_bit Resize (number_of a) (bit_of b) else
+    if bytes_eq word (codes "within") then with_two_numbers ExtendWithin (number_of a) (number_of b) else None
 of_fields (word ∷ a ∷ b ∷ c ∷ []) =
     if bytes_eq word (codes "copy") then with_numbers CopyWithin (number_of a) (number_of b) (number_of c) else None
 of_fields (word ∷ a ∷ b ∷ c ∷ d ∷ more) = None

@@ -106,6 +106,8 @@ fn with_one(word: &[u8], a: &[u8]) -> Option<Line>
         Some(Line::Run(Command::Get(number(a)?)))
     } else if word == b"truncate".as_slice() {
         Some(Line::Run(Command::Truncate(number(a)?)))
+    } else if word == b"reserve".as_slice() {
+        Some(Line::Run(Command::Reserve(number(a)?)))
     } else if word == b"remove".as_slice() {
         Some(Line::Run(Command::Remove(number(a)?)))
     } else if word == b"swapremove".as_slice() {
@@ -123,6 +125,10 @@ fn with_two(word: &[u8], a: &[u8], b: &[u8]) -> Option<Line>
         Some(Line::Run(Command::Set(number(a)?, bit(b)?)))
     } else if word == b"insert".as_slice() {
         Some(Line::Run(Command::Insert(number(a)?, bit(b)?)))
+    } else if word == b"resize".as_slice() {
+        Some(Line::Run(Command::Resize(number(a)?, bit(b)?)))
+    } else if word == b"within".as_slice() {
+        Some(Line::Run(Command::ExtendWithin(number(a)?, number(b)?)))
     } else {
         None
     }

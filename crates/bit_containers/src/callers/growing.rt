@@ -1,5 +1,5 @@
 //! Callers that grow a vector.
-ghost use Rattle.std.specs.Prelude.{◌≡◌, ◌+◌, ◌-◌, ◌≤◌, ◌<◌, ◌++◌, true, false, [], ◌∷◌, take, replicate, length, IfOk, OnOk, OnErr, Ok, IsOk};
+ghost use Rattle.std.specs.Prelude.{◌≡◌, ◌+◌, ◌-◌, ◌≤◌, ◌<◌, ◌++◌, map, not, true, false, [], ◌∷◌, take, replicate, length, IfOk, OnOk, OnErr, Ok, IsOk};
 ghost use Rattle.bit_addressing.specs.declared.length.TheConstants.{MAX_BITS};
 
 use crate::{BitOrder, BitStore, BitVec, GrowError, Lsb0, Msb0};
@@ -49,4 +49,65 @@ pub fn room_from_the_start(alloc: Global) -> Result<usize, GrowError>
 {
     let v = BitVec::<u32, Lsb0>::with_capacity(alloc, 100)?;
     Ok(v.capacity())
+}
+
+/// After a reservation so many pushes find room, wherever the head is.
+pub fn pushed_after_reserving<T: BitStore, O: BitOrder>(
+    v: &mut BitVec<T, O>,
+    k: usize,
+    bit: bool,
+) -> Result<bool, GrowError>
+    ensures { IfOk result (λ all. all ≡ true) }
+{
+    v.reserve(k)?;
+    Ok(push_all(v, k, bit))
+}
+
+/// Pushes a bit `k` times, and says whether each push found room.
+fn push_all<T: BitStore, O: BitOrder>(v: &mut BitVec<T, O>, k: usize, bit: bool) -> bool
+    requires room { length v.old.list + k ≤ v.old.capacity }
+    requires fits { length v.old.list + k ≤ MAX_BITS }
+    ensures { result ≡ true }
+{
+    if k == 0 {
+        return true;
+    }
+    v.push(bit).is_ok() && push_all(v, k - 1, bit)
+}
+
+pub fn joined_from_a_vector<T: BitStore, O: BitOrder>(
+    v: &mut BitVec<T, O>,
+    bits: Vec<bool>,
+) -> Result<(), GrowError>
+    ensures joined { OnOk result (v.new.list ≡ v.old.list ++ bits.items) }
+    ensures kept { OnErr result (v.new.list ≡ v.old.list) }
+{
+    v.extend(bits)
+}
+
+pub fn made_of_a_vector(alloc: Global, bits: Vec<bool>) -> Result<BitVec<u8, Msb0>, GrowError>
+    ensures { IfOk result (λ v. v.list ≡ bits.items) }
+{
+    BitVec::from_bits(alloc, bits)
+}
+
+pub fn opposites_joined<T: BitStore, O: BitOrder>(
+    v: &mut BitVec<T, O>,
+    other: &BitVec<u8, Lsb0>,
+) -> Result<(), GrowError>
+    ensures { OnOk result (v.new.list ≡ v.old.list ++ map not other.now.list) }
+{
+    v.extend(other.iter().map(|bit| !bit))
+}
+
+pub fn once_more<T: BitStore, O: BitOrder>(v: &mut BitVec<T, O>) -> Result<(), GrowError>
+    ensures { OnOk result (v.new.list ≡ v.old.list ++ v.old.list) }
+{
+    v.extend_from_within(..)
+}
+
+pub fn five_times(alloc: Global, bit: bool) -> Result<BitVec<u16, Lsb0>, GrowError>
+    ensures { IfOk result (λ v. v.list ≡ replicate 5 bit) }
+{
+    BitVec::repeat(alloc, bit, 5)
 }

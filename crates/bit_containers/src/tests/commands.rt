@@ -1,5 +1,5 @@
 //! Runs of commands.
-use crate::{BitVec, Command, GrowError, Msb0, Reply, run};
+use crate::{BitVec, Command, GrowError, Msb0, Reply, Stop, run};
 use std::test::Fail;
 
 #[test]
@@ -41,5 +41,39 @@ fn runs_of_commands(rt: HostRuntime) -> Result<(), Fail> {
     assert!(rt; v.is_empty());
     assert!(rt; run(&mut v, &[], &mut replies).is_ok());
     assert_ne!(rt; GrowError::TooLong, GrowError::OutOfMemory);
+    Ok(())
+}
+
+#[test]
+fn growing_commands(rt: HostRuntime) -> Result<(), Fail> {
+    let mut v = BitVec::<u8, Msb0>::new(rt.alloc());
+    let mut replies = Vec::new(rt.alloc());
+    let commands = [
+        Command::Resize(3, true),
+        Command::ExtendWithin(1, 3),
+        Command::ExtendWithin(4, 6),
+        Command::Reserve(100),
+        Command::Resize(4, false),
+        Command::Len,
+    ];
+    assert!(rt; run(&mut v, &commands, &mut replies).is_ok());
+    let want = [
+        Reply::Done,
+        Reply::Done,
+        Reply::OutOfRange,
+        Reply::Done,
+        Reply::Done,
+        Reply::Number(4),
+    ];
+    assert_eq!(rt; replies.as_slice(), want.as_slice());
+    let commands = [
+        Command::Push(true),
+        Command::Reserve(usize::MAX),
+        Command::Pop,
+    ];
+    let stop = run(&mut v, &commands, &mut replies);
+    let why = GrowError::TooLong;
+    assert_eq!(rt; stop, Err(Stop { done: 1, why }));
+    assert_eq!(rt; v.len(), 5);
     Ok(())
 }

@@ -83,3 +83,72 @@ fn joined_within(rt: HostRuntime) -> Result<(), Fail> {
     assert_eq!(rt; v.as_raw_slice(), [0x5b, 0x0c].as_slice());
     Ok(())
 }
+
+#[test]
+fn pulled(rt: HostRuntime) -> Result<(), Fail> {
+    let mut v = BitVec::<u8, Msb0>::new(rt.alloc());
+    v.push(false)?;
+    v.push(true)?;
+    v.extend(vec![in rt.alloc(); false, false, false, false]?)?;
+    let words = [0x0f];
+    let view = BitSlice::<u8, Lsb0>::from_slice(&words);
+    v.extend_from_bitslice(view.get_range(..4))?;
+    assert_eq!(rt; v.as_raw_slice(), [0x43, 0xc0].as_slice());
+    assert_eq!(rt; v.len(), 10);
+    let mut v = of::<u8, Lsb0>(rt.alloc(), b"1")?;
+    v.extend_words(vec![in rt.alloc(); 3]?)?;
+    assert_eq!(rt; v.as_raw_slice(), [0x07, 0x00].as_slice());
+    assert_eq!(rt; v.len(), 9);
+    let v = BitVec::<u16, Msb0>::from_bits(rt.alloc(), (0..100).map(|i| i % 3 == 0))?;
+    assert!(rt; v.len() == 100 && v.count_ones() == 34);
+    assert!(rt; v.get(66) == Some(true) && v.get(65) == Some(false));
+    let v = BitVec::<u8, Lsb0>::from_words(rt.alloc(), vec![in rt.alloc(); 0x41, 0x80]?)?;
+    holds(&rt, &v, b"1000001000000001");
+    Ok(())
+}
+
+#[test]
+fn filled_by_answers(rt: HostRuntime) -> Result<(), Fail> {
+    let mut v = of::<u8, Lsb0>(rt.alloc(), b"11")?;
+    v.resize_with(5, |i| i % 2 == 1)?;
+    holds(&rt, &v, b"11010");
+    v.resize_with(1, |_| false)?;
+    holds(&rt, &v, b"1");
+    Ok(())
+}
+
+#[test]
+fn appended(rt: HostRuntime) -> Result<(), Fail> {
+    let mut v = BitVec::<u16, Msb0>::repeat(rt.alloc(), false, 10)?;
+    let mut other = BitVec::<u32, Lsb0>::repeat(rt.alloc(), true, 10)?;
+    v.append(&mut other)?;
+    assert_eq!(rt; v.as_raw_slice(), [0x003f, 0xf000].as_slice());
+    assert_eq!(rt; v.len(), 20);
+    assert!(rt; other.is_empty() && other.as_raw_slice().is_empty());
+    Ok(())
+}
+
+/// A vector behind a head that shows a word has room in it.
+#[test]
+fn room_behind_a_head(rt: HostRuntime) -> Result<(), Fail> {
+    let words = [0xff];
+    let view = BitSlice::<u8, Lsb0>::from_slice(&words);
+    let mut v = BitVec::from_bitslice_headed(rt.alloc(), view.get_range(5..5))?;
+    assert_eq!(rt; v.as_raw_slice(), [0x00].as_slice());
+    assert!(rt; v.head() == 5 && v.is_empty());
+    v.reserve(3)?;
+    v.push(true)?;
+    v.push(true)?;
+    v.push(true)?;
+    assert_eq!(rt; v.as_raw_slice(), [0xe0].as_slice());
+    v.push(true)?;
+    assert_eq!(rt; v.as_raw_slice(), [0xe0, 0x01].as_slice());
+    let mut v = BitVec::from_bitslice(rt.alloc(), view.get_range(5..5))?;
+    assert!(rt; v.head() == 0 && v.as_raw_slice().is_empty());
+    v.reserve(3)?;
+    v.extend(vec![in rt.alloc(); true, true, true]?)?;
+    assert_eq!(rt; v.as_raw_slice(), [0x07].as_slice());
+    v.push(true)?;
+    assert_eq!(rt; v.as_raw_slice(), [0x0f].as_slice());
+    Ok(())
+}

@@ -1,5 +1,6 @@
 //! How much room the vector has.
 ghost use Rattle.std.specs.Prelude.{◌≡◌, ◌+◌, ◌≤◌, length, OnOk, IsOk};
+ghost use Rattle.bit_addressing.specs.declared.length.TheConstants.{MAX_BITS};
 ghost use Rattle.bit_containers.specs.BitVec.{IsKept, RefusesOnly};
 
 use crate::vec::BitVec;
@@ -23,6 +24,7 @@ impl<T: BitStore, O: BitOrder> BitVec<T, O> {
     pub fn reserve(&mut self, more: usize) -> Result<(), GrowError>
         ensures kept { IsKept self.old self.new }
         ensures room { OnOk result (length self.old.list + more ≤ self.new.capacity) }
+        ensures fits { OnOk result (length self.old.list + more ≤ MAX_BITS) }
         ensures refusal { RefusesOnly result (length self.old.list + more) self.old self.new }
         ensures capacity { self.old.capacity ≤ self.new.capacity }
     {
@@ -40,6 +42,7 @@ impl<T: BitStore, O: BitOrder> BitVec<T, O> {
     pub fn reserve_exact(&mut self, more: usize) -> Result<(), GrowError>
         ensures kept { IsKept self.old self.new }
         ensures room { OnOk result (length self.old.list + more ≤ self.new.capacity) }
+        ensures fits { OnOk result (length self.old.list + more ≤ MAX_BITS) }
         ensures refusal { RefusesOnly result (length self.old.list + more) self.old self.new }
         ensures capacity { self.old.capacity ≤ self.new.capacity }
     {

@@ -49,6 +49,32 @@ fn whole_runs(rt: HostRuntime) -> Result<(), Fail> {
 }
 
 #[test]
+fn growing_lines(rt: HostRuntime) -> Result<(), Fail> {
+    let alloc = rt.alloc();
+    check(
+        &rt,
+        alloc,
+        "u8 lsb0",
+        b"resize 3 1\nwithin 1 3\nwithin 4 6\nreserve 100\nlen\n",
+        (b"ok\nok\nrange\nok\n5\n", 0),
+    )?;
+    check(
+        &rt,
+        alloc,
+        "u8 lsb0",
+        b"reserve 2305843009213693952\n",
+        (b"too long\n", 1),
+    )?;
+    check(
+        &rt,
+        alloc,
+        "u16 lsb0",
+        b"resize 20 1\nraw\nresize 0 0\nraw\nlist\npush 2\n",
+        (b"ok\nffff 000f\nok\n\n[]\nline 6: bad command\n", 2),
+    )
+}
+
+#[test]
 fn shown_words(rt: HostRuntime) -> Result<(), Fail> {
     let alloc = rt.alloc();
     let mut input = Vec::from_slice(alloc, b"raw\nlist\n")?;

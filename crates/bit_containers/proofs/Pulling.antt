@@ -1,0 +1,73 @@
+-- Items pulled out of an iterator, one after another.
+use Rattle.std.proofs.Common.{map, false, ◌≡◌, ℕ, ◌+◌, ◌*◌, ◌<◌, ◌≤◌, Bool, List, [], ◌∷◌, ◌++◌, length, Option, Some, refl, subst, sym, ◌∙◌, ap, arith, append_assoc}
+use Rattle.std.proofs.lemmas.List.{length-append, map-append, ext_get_or}
+use Rattle.std.proofs.lemmas.List.FromFn.{length-map-range_with_len, get_or-map-range_with_len}
+use Rattle.bit_addressing.specs.Bits.{has_bit}
+use Rattle.std.specs.Iterator.{Yields}
+use Rattle.bit_addressing.specs.declared.store.BitStore as store
+use Rattle.bit_addressing.specs.declared.order.BitOrder as order
+use Rattle.bit_addressing.specs.Row.{words_for, number_bits, row_of}
+use Rattle.bit_addressing.specs.Typed.{row}
+use Rattle.bit_addressing.proofs.Rows.{row_append, length-row_of, get_or-row_one}
+use Rattle.bit_addressing.specs.declared.length.TheConstants.{MAX_BITS}
+use Rattle.bit_containers.specs.BitVec.{Held, Grew}
+use Rattle.bit_containers.specs.Pulls.{GivesFirst}
+use Rattle.bit_addressing.proofs.Binary.{length-number_bits}
+use Rattle.bit_containers.proofs.Growing.{grew_twice}
+
+-- one item more
+pub yields_more : {S A : Type 0} (steps : S → Option A → S → Type 0) (s : S) (items : List A) (t : S) (x : A) (u : S) → Yields steps s items t → steps t (Some x) u → Yields steps s (items ++ x ∷ []) u
+yields_more steps s [] t x u run step = (u, subst (λ j. steps j (Some x) u) (sym run) step, refl)
+yields_more steps s (y ∷ items) t x u run step = (run.0, run.1, yields_more steps run.0 items t x u run.2 step)
+
+-- of the bits that were pulled the last are still in a number
+abbrev pub Gathers : {X : Type 0} → ℕ → Held X → Held X → ℕ → ℕ → List Bool → Type 0
+Gathers w old now number got pulled = (front : List Bool) × (now.list ≡ old.list ++ front) × Grew w old now front × (front ++ number_bits number got ≡ pulled)
+
+module _ {X : Type 0} (w : ℕ) (old : Held X) (positive : 0 < w) (inside : length old.row ≡ w * words_for w (old.head + length old.list)) where
+  -- one bit more was pulled
+  pub gathers_more : (mid new : Held X) (number got next more : ℕ) (pulled : List Bool) (bit : Bool) → Gathers w old mid number got pulled → (front : List Bool) → new.list ≡ mid.list ++ front → Grew w mid new front → front ++ number_bits next more ≡ number_bits number got ++ bit ∷ [] → Gathers w old new next more (pulled ++ bit ∷ [])
+  gathers_more mid new number got next more pulled bit was front list grew same = (
+    was.0 ++ front,
+    list ∙ ap (λ l. l ++ front) was.1 ∙ append_assoc old.list was.0 front,
+    grew_twice w old mid new was.0 front positive inside was.2 grew,
+    append_assoc was.0 front (number_bits next more) ∙ ap (λ l. was.0 ++ l) same ∙ sym (append_assoc was.0 (number_bits number got) (bit ∷ [])) ∙ ap (λ l. l ++ bit ∷ []) was.3,
+  )
+
+  -- what the number still has is joined
+  pub gathers_all : (mid new : Held X) (number got : ℕ) (pulled : List Bool) → Gathers w old mid number got pulled → new.list ≡ mid.list ++ number_bits number got → Grew w mid new (number_bits number got) → (new.list ≡ old.list ++ pulled) × Grew w old new pulled
+  gathers_all mid new number got pulled was list grew = (
+    list ∙ ap (λ l. l ++ number_bits number got) was.1 ∙ append_assoc old.list was.0 (number_bits number got) ∙ ap (λ l. old.list ++ l) was.3,
+    subst (Grew w old new) was.3 (grew_twice w old mid new was.0 (number_bits number got) positive inside was.2 grew),
+  )
+
+-- how many were pulled
+pub gathers_length : {X : Type 0} (w : ℕ) (old now : Held X) (number got : ℕ) (pulled : List Bool) → Gathers w old now number got pulled → length now.list + got ≡ length old.list + length pulled
+gathers_length w old now number got pulled was =
+    let a = ap length was.1 ∙ length-append old.list was.0 in
+    let b = sym (ap length was.3) ∙ length-append was.0 (number_bits number got) in
+    let s = length-number_bits number got in
+    omega arith
+
+-- ---- words
+
+module _ {X Y : Type 0} (W : store.Ghosts X) (P : order.Ghosts Y) where
+  -- the row of one word more
+  pub row_more : (ws : List X) (x : X) → 0 < W.BITS → row W P (ws ++ x ∷ []) ≡ row W P ws ++ row W P (x ∷ [])
+  row_more ws x positive = ap (row_of P.place W.BITS) (map-append W.value ws (x ∷ [])) ∙ row_append P.place W.BITS (map W.value ws) (map W.value (x ∷ [])) positive
+
+-- the bits of one word more
+pub words_more : (w n m : ℕ) → m ≡ n + 1 → w * n + w ≡ w * m
+words_more w n m is = rw is (grind arith)
+
+-- a word by its bits in order
+pub word_bits : (place : ℕ → ℕ → ℕ) (w x y : ℕ) → 0 < w → ((i : ℕ) → i < w → has_bit y i ≡ has_bit x (place w i)) → number_bits y w ≡ row_of place w (x ∷ [])
+unfolding number_bits
+word_bits place w x y positive same =
+    let one : ℕ = w * 1 in
+    let size : one ≡ w = grind arith in
+    let left = length-map-range_with_len (has_bit y) 0 w in
+    ext_get_or false (number_bits y w) (row_of place w (x ∷ [])) (left ∙ sym size ∙ sym (length-row_of place w (x ∷ [])))
+    (λ i h.
+    let below : i < w = omega arith in
+    get_or-map-range_with_len (has_bit y) 0 w i i false below (omega arith) ∙ same i below ∙ sym (get_or-row_one place w x i positive below))

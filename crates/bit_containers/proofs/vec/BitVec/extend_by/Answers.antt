@@ -1,0 +1,95 @@
+use Rattle.std.proofs.Common.{◌≡◌, ◌+◌, ◌<◌, ◌≤◌, [], ◌∷◌, ◌++◌, length, refl, sym, ◌∙◌, ap, arith, rules, append-nil}
+use Rattle.std.proofs.lemmas.List.{length_push}
+use Rattle.bit_addressing.proofs.Rows.{width_positive}
+use Rattle.bit_containers.proofs.Growing.{grew_none, number_bits_none}
+use Rattle.bit_containers.proofs.Pulling.{yields_more, gathers_more, gathers_all, gathers_length}
+use Rattle.bit_containers.proofs.vec.BitVec.extend_by.Goals as goal
+
+pub loop-bit-init : goal.loop-bit-init
+loop-bit-init g c =
+    let now = c.args.self.now in
+    let may = c.requires c.into_iter-bit-iterator.result c.into_iter-bit-iterator.ensures.into_iter_gives in
+    record {
+      can = may.0;
+      finite = may.1;
+      joined = ([], sym (append-nil now.list), grew_none g.T.BitStore.BITS now c.in_words.ensures.size, number_bits_none 0);
+      room = omega arith;
+      few = omega (arith, c.in_words.ensures.few);
+      capacity = omega arith;
+    }
+
+pub loop-bit-preserved : goal.loop-bit-preserved
+loop-bit-preserved g c =
+    let w = g.T.BitStore.BITS in
+    let now = c.args.self.now in
+    let at = c.loop-bit in
+    let one = c.in-Ok.ensures.joined in
+    record {
+      can = search rules;
+      finite = search rules;
+      joined = gathers_more w now (width_positive w g.met.T.BitStore.width) c.in_words.ensures.size at.self c.gather.new.self at.number at.got c.in-Ok.next.0 c.in-Ok.next.1 at.yielded c.in-Some.bit at.invariant.joined one.0 one.1 one.2 one.3;
+      room = c.in-Ok.ensures.next.0;
+      few = c.in-Ok.ensures.next.1;
+      capacity = omega (arith, at.invariant.capacity, c.gather.ensures.capacity);
+    }
+
+pub returns-in-Err-clause-too_long : goal.returns-in-Err-clause-too_long
+returns-in-Err-clause-too_long g c is =
+    let at = c.loop-bit in
+    let size = gathers_length g.T.BitStore.BITS c.args.self.now at.self at.number at.got at.yielded at.invariant.joined in
+    let more = length_push at.yielded c.in-Some.bit in
+    let past = c.in-Err.ensures.refusal.too_long.0 (search rules) in (
+      c.into_iter-bit-iterator.result,
+      at.yielded ++ c.in-Some.bit ∷ [],
+      c.next.new.self,
+      c.into_iter-bit-iterator.ensures.into_iter_gives,
+      yields_more g.I.IntoIter.Iterator.next_gives c.into_iter-bit-iterator.result at.yielded at.bit-iterator c.in-Some.bit c.next.new.self at.yielded_by c.in-Some.ensures.steps,
+      omega arith,
+    )
+
+pub returns-in-Err-clause-memory : goal.returns-in-Err-clause-memory
+returns-in-Err-clause-memory g c is =
+    let at = c.loop-bit in
+    let size = gathers_length g.T.BitStore.BITS c.args.self.now at.self at.number at.got at.yielded at.invariant.joined in
+    let more = length_push at.yielded c.in-Some.bit in
+    let past = c.in-Err.ensures.refusal.memory (search rules) in
+    let kept = at.invariant.capacity in (
+      c.into_iter-bit-iterator.result,
+      at.yielded ++ c.in-Some.bit ∷ [],
+      c.next.new.self,
+      c.into_iter-bit-iterator.ensures.into_iter_gives,
+      yields_more g.I.IntoIter.Iterator.next_gives c.into_iter-bit-iterator.result at.yielded at.bit-iterator c.in-Some.bit c.next.new.self at.yielded_by c.in-Some.ensures.steps,
+      omega arith,
+    )
+
+pub returns-in-Err-extend_from_number-clause-memory : goal.returns-in-Err-extend_from_number-clause-memory
+returns-in-Err-extend_from_number-clause-memory g c is =
+    let at = c.loop-bit in
+    let size = gathers_length g.T.BitStore.BITS c.args.self.now at.self at.number at.got at.yielded at.invariant.joined in
+    let past = c.in-Err-extend_from_number.ensures.refusal.memory (search rules) in
+    let kept = at.invariant.capacity in (
+      c.into_iter-bit-iterator.result,
+      at.yielded,
+      at.bit-iterator,
+      c.into_iter-bit-iterator.ensures.into_iter_gives,
+      at.yielded_by,
+      omega arith,
+    )
+
+pub returns-clause-joined : goal.returns-clause-joined
+returns-clause-joined g c =
+    let w = g.T.BitStore.BITS in
+    let at = c.loop-bit in (
+      c.into_iter-bit-iterator.result,
+      at.yielded,
+      c.into_iter-bit-iterator.ensures.into_iter_gives,
+      (c.next.new.self, (at.bit-iterator, at.yielded_by, c.in-None.ensures.steps)),
+      gathers_all w c.args.self.now (width_positive w g.met.T.BitStore.width) c.in_words.ensures.size at.self c.extend_from_number.new.self at.number at.got at.yielded at.invariant.joined c.in_default.ensures.list c.in_default.ensures.row,
+    )
+
+pub returns-clause-few : goal.returns-clause-few
+returns-clause-few g c =
+    let at = c.loop-bit in
+    let size = gathers_length g.T.BitStore.BITS c.args.self.now at.self at.number at.got at.yielded at.invariant.joined in
+    let grown = gathers_all g.T.BitStore.BITS c.args.self.now (width_positive g.T.BitStore.BITS g.met.T.BitStore.width) c.in_words.ensures.size at.self c.extend_from_number.new.self at.number at.got at.yielded at.invariant.joined c.in_default.ensures.list c.in_default.ensures.row in
+    omega (arith, grown.1.len, at.invariant.few)

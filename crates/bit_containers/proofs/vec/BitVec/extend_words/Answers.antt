@@ -1,0 +1,19 @@
+use Rattle.std.proofs.Common.{◌≡◌, ◌++◌}
+use Rattle.std.proofs.lemmas.Result.{on_ok_weaker}
+use Rattle.std.proofs.iter.runs.Consumers.{total_runs}
+use Rattle.bit_addressing.specs.Typed.{row}
+use Rattle.bit_addressing.proofs.Rows.{width_positive}
+use Rattle.bit_containers.proofs.Clean.{clean_grown}
+use Rattle.bit_containers.proofs.vec.BitVec.extend_words.Goals as goal
+
+pub returns-clause-runs : goal.returns-clause-runs
+returns-clause-runs g c =
+    on_ok_weaker c.extend_by_words.result
+    (λ h. (h.0, h.2, total_runs g.I.IntoIter.Iterator.next_gives h.0 (Unit {0}) (λ words. c.extend_by_words.new.self.list ≡ c.args.self.now.list ++ row g.T.BitStore g.O.BitOrder words) (h.1, λ _. h.3, h.4.0) tt))
+    c.extend_by_words.ensures.joined
+
+pub returns-clause-clean : goal.returns-clause-clean
+returns-clause-clean g c =
+    on_ok_weaker c.extend_by_words.result
+    (λ h clean. clean_grown g.T.BitStore.BITS c.args.self.now c.extend_by_words.new.self (row g.T.BitStore g.O.BitOrder h.1) (width_positive g.T.BitStore.BITS g.met.T.BitStore.width) h.4.1.head h.4.0 h.4.1.row clean)
+    c.extend_by_words.ensures.joined

@@ -1,0 +1,10 @@
+use Rattle.std.proofs.Common.{◌≡◌, ◌+◌, ◌*◌, length, ◌∙◌, ap}
+use Rattle.bit_addressing.specs.Row.{words_for}
+use Rattle.bit_addressing.proofs.Typed.{length_row}
+use Rattle.bit_containers.proofs.vec.BitVec.in_words.Goals as goal
+
+pub returns-clause-size : goal.returns-clause-size
+returns-clause-size g c =
+    let i = c.self.inside in
+    let w = g.T.BitStore.BITS in
+    rw (← c.self.view_is, c.self.invariant.shows) (length_row g.T.BitStore.value g.O.BitOrder.place w i.words.items ∙ ap (λ n. w * n) c.self.invariant.count)

@@ -1,0 +1,44 @@
+use Rattle.std.proofs.Common.{◌≡◌, ◌+◌, ◌∷◌, [], ◌++◌, length, refl, sym, ap, ◌∙◌, arith, rules, append_assoc, length-append, append-nil, of_calls}
+use Rattle.std.proofs.lemmas.List.{length_push}
+use Rattle.bit_addressing.proofs.Rows.{width_positive}
+use Rattle.bit_containers.proofs.Calling.{answers_more, grew_kept}
+use Rattle.bit_containers.proofs.Growing.{grew_twice}
+use Rattle.bit_containers.proofs.vec.BitVec.resize_by.Goals as goal
+
+pub loop-index-init : goal.loop-index-init
+loop-index-init g c =
+    let now = c.args.self.now in
+    let same = c.in_ok-reserve.ensures.kept in
+    let long = ap length same.list in
+    record {
+      callable = c.requires;
+      room = omega (arith, c.in_ok-reserve.ensures.room, c.len-len.ensures.value, c.if-n-len.false);
+      few = omega (arith, c.in_ok-reserve.ensures.fits, c.len-len.ensures.value, c.if-n-len.false);
+      size = omega (arith, c.len-len.ensures.value);
+      capacity = c.reserve.ensures.capacity;
+      joined = ([], refl, same.list ∙ sym (append-nil now.list), grew_kept g.T.BitStore.BITS now c.reserve.new.self c.in_words.ensures.size same);
+    }
+
+pub loop-index-preserved : goal.loop-index-preserved
+loop-index-preserved g c =
+    let w = g.T.BitStore.BITS in
+    let now = c.args.self.now in
+    let at = c.loop-index in
+    let put = c.push_reserved.ensures in
+    let run = at.invariant.joined in
+    let bit = c.f-bit.result in
+    let long = ap length put.list ∙ length_push at.self.list bit in
+    let whole = ap length run.2 ∙ length-append now.list run.0 in
+    record {
+      callable = search of_calls;
+      room = omega (arith, at.invariant.room, put.capacity);
+      few = at.invariant.few;
+      size = omega (arith, at.invariant.size);
+      capacity = omega (arith, at.invariant.capacity, put.capacity);
+      joined = (
+        run.0 ++ bit ∷ [],
+        answers_more (goal.F-step g) _ _ run.0 at.f at.index bit _ run.1 c.f-bit.ensures (omega (arith, at.invariant.size)),
+        put.list ∙ ap (λ l. l ++ bit ∷ []) run.2 ∙ append_assoc now.list run.0 (bit ∷ []),
+        grew_twice w now at.self c.push_reserved.new.self run.0 (bit ∷ []) (width_positive w g.met.T.BitStore.width) c.in_words.ensures.size run.3 put.row,
+      );
+    }

@@ -1,0 +1,199 @@
+//! Bits and words that an iterator gives.
+ghost use Rattle.std.specs.Prelude.{◌≡◌, ◌+◌, ◌*◌, ◌<◌, ◌≤◌, Bool, List, [], ◌∷◌, ◌++◌, length, Err, IfOk, OnOk, OnErr};
+ghost use Rattle.std.specs.Iterator.{IsFiniteIterable};
+ghost use Rattle.bit_addressing.specs.Row.{number_bits, words_for};
+ghost use Rattle.bit_addressing.specs.Typed.{row};
+ghost use Rattle.bit_addressing.specs.declared.length.TheConstants.{MAX_BITS};
+ghost use Rattle.bit_containers.specs.BitVec.{Grew, IsClean, RefusesOnly};
+ghost use Rattle.bit_containers.specs.Pulls.{GivesAll, GivesFirst, RunsThrough};
+
+use crate::vec::BitVec;
+use bit_addressing::{BitOrder, BitStore, GrowError, MAX_BITS};
+use std::alloc::Global;
+
+/// The number with a bit written at place `got`: one bit more is gathered in it. The condition: `got` is below 64.
+#[inline(always)]
+pub(crate) fn with_next(number: u64, got: u8, bit: bool) -> u64
+    requires { got < 64 }
+    ensures { number_bits result (got + 1) ≡ number_bits number got ++ bit ∷ [] }
+{
+    number.with_bit(got, bit)
+}
+
+impl<T: BitStore, O: BitOrder> BitVec<T, O> {
+    /// Joins what an iterator gives before its first None, a word at a time, and pulls nothing after that None. It
+    /// answers `TooLong` at the first bit with which the length would pass `MAX_BITS`, and `OutOfMemory` only for
+    /// bits that would pass the capacity; then it pulls no more, and leaves the list. What was pulled is gone.
+    pub fn extend<I: IntoIterator<Item = bool>>(&mut self, iter: I) -> Result<(), GrowError>
+        requires { IsFiniteIterable I.into_iter_gives I.IntoIter.can_next I.IntoIter.remaining iter }
+        ensures joined { OnOk result (GivesAll I.into_iter_gives I.IntoIter.next_gives iter (λ bits. (self.new.list ≡ self.old.list ++ bits) × Grew T.BITS self.old self.new bits)) }
+        ensures runs { OnOk result (RunsThrough I.into_iter_gives I.IntoIter.next_gives iter (λ bits. self.new.list ≡ self.old.list ++ bits)) }
+        ensures clean { OnOk result (IsClean T.BITS self.old → IsClean T.BITS self.new) }
+        ensures few { length self.new.list ≤ MAX_BITS }
+        ensures too_long { result ≡ Err GrowError.TooLong → GivesFirst I.into_iter_gives I.IntoIter.next_gives iter (λ bits. MAX_BITS < length self.old.list + length bits) }
+        ensures memory { result ≡ Err GrowError.OutOfMemory → GivesFirst I.into_iter_gives I.IntoIter.next_gives iter (λ bits. self.old.capacity < length self.old.list + length bits) }
+        ensures unchanged { OnErr result (self.new.list ≡ self.old.list) }
+        ensures head { self.new.head ≡ self.old.head }
+        ensures capacity { self.old.capacity ≤ self.new.capacity }
+    {
+        self.extend_by(iter)
+    }
+
+    // As `extend`.
+    fn extend_by<I: IntoIterator<Item = bool>>(&mut self, iter: I) -> Result<(), GrowError>
+        requires { IsFiniteIterable I.into_iter_gives I.IntoIter.can_next I.IntoIter.remaining iter }
+        ensures joined { OnOk result (GivesAll I.into_iter_gives I.IntoIter.next_gives iter (λ bits. (self.new.list ≡ self.old.list ++ bits) × Grew T.BITS self.old self.new bits)) }
+        ensures few { length self.new.list ≤ MAX_BITS }
+        ensures too_long { result ≡ Err GrowError.TooLong → GivesFirst I.into_iter_gives I.IntoIter.next_gives iter (λ bits. MAX_BITS < length self.old.list + length bits) }
+        ensures memory { result ≡ Err GrowError.OutOfMemory → GivesFirst I.into_iter_gives I.IntoIter.next_gives iter (λ bits. self.old.capacity < length self.old.list + length bits) }
+        ensures unchanged { OnErr result (self.new.list ≡ self.old.list) }
+        ensures head { self.new.head ≡ self.old.head }
+        ensures capacity { self.old.capacity ≤ self.new.capacity }
+    {
+        let len = self.len();
+        let (mut number, mut got) = (0, 0);
+        self.in_words();
+        for bit in iter {
+            match self.gather(number, got, bit) {
+                Ok(next) => (number, got) = next,
+                Err(why) => {
+                    self.truncate(len);
+                    return Err(why);
+                }
+            }
+        }
+        if let Err(why) = self.extend_from_number(number, got) {
+            self.truncate(len);
+            return Err(why);
+        }
+        Ok(())
+    }
+
+    // Does nothing: the row is that of the words for head and list, and the capacity has room for the list.
+    pub(crate) fn in_words(&self)
+        ensures size { length self.now.row ≡ T.BITS * words_for T.BITS (self.now.head + length self.now.list) }
+        ensures few { length self.now.list ≤ MAX_BITS }
+        ensures room { length self.now.list ≤ self.now.capacity }
+    {
+        let _room = self.capacity();
+        let _words = &self.words;
+    }
+
+    // One bit more behind the `got` lowest bits of a number, which are to be joined: where it is the last that the
+    // number has room for, all are joined. It answers the number and how many of its bits are to be joined then.
+    #[inline(always)]
+    fn gather(&mut self, number: u64, got: u8, bit: bool) -> Result<(u64, u8), GrowError>
+        requires room { got < 64 }
+        requires few { length self.old.list + got ≤ MAX_BITS }
+        ensures joined { IfOk result (λ next. (more : List Bool) × (self.new.list ≡ self.old.list ++ more) × Grew T.BITS self.old self.new more × (more ++ number_bits next.0 next.1 ≡ number_bits number got ++ bit ∷ [])) }
+        ensures next { IfOk result (λ next. (next.1 < 64) × (length self.new.list + next.1 ≤ MAX_BITS)) }
+        ensures refusal { RefusesOnly result (length self.old.list + (got + 1)) self.old self.new }
+        ensures capacity { self.old.capacity ≤ self.new.capacity }
+    {
+        self.in_words();
+        if self.len() + got as usize == MAX_BITS {
+            return Err(GrowError::TooLong);
+        }
+        let number = with_next(number, got, bit);
+        if got < 63 {
+            return Ok((number, got + 1));
+        }
+        self.extend_from_number(number, 64)?;
+        Ok((0, 0))
+    }
+
+    /// The bits that an iterator gives before its first None, from head 0 on: the words are canonical. It is refused
+    /// as `extend` is.
+    pub fn from_bits<I: IntoIterator<Item = bool>>(
+        alloc: Global,
+        iter: I,
+    ) -> Result<Self, GrowError>
+        requires { IsFiniteIterable I.into_iter_gives I.IntoIter.can_next I.IntoIter.remaining iter }
+        ensures list { IfOk result (λ v. GivesAll I.into_iter_gives I.IntoIter.next_gives iter (λ bits. v.list ≡ bits)) }
+        ensures runs { IfOk result (λ v. RunsThrough I.into_iter_gives I.IntoIter.next_gives iter (λ bits. v.list ≡ bits)) }
+        ensures clean { IfOk result (λ v. IsClean T.BITS v) }
+        ensures few { IfOk result (λ v. length v.list ≤ MAX_BITS) }
+        ensures too_long { result ≡ Err GrowError.TooLong → GivesFirst I.into_iter_gives I.IntoIter.next_gives iter (λ bits. MAX_BITS < length bits) }
+        ensures memory { result ≡ Err GrowError.OutOfMemory → GivesFirst I.into_iter_gives I.IntoIter.next_gives iter (λ bits. 0 < length bits) }
+    {
+        let mut v = Self::new(alloc);
+        match v.extend(iter) {
+            Ok(()) => Ok(v),
+            Err(why) => Err(why),
+        }
+    }
+
+    /// Joins all bits of the words that an iterator gives before its first None, and pulls nothing after that None.
+    /// It answers `TooLong` at the first word with which the length would pass `MAX_BITS`; otherwise as `extend`.
+    pub fn extend_words<I: IntoIterator<Item = T>>(&mut self, iter: I) -> Result<(), GrowError>
+        requires { IsFiniteIterable I.into_iter_gives I.IntoIter.can_next I.IntoIter.remaining iter }
+        ensures joined { OnOk result (GivesAll I.into_iter_gives I.IntoIter.next_gives iter (λ words. (self.new.list ≡ self.old.list ++ row T.BitStore O.BitOrder words) × Grew T.BITS self.old self.new (row T.BitStore O.BitOrder words))) }
+        ensures runs { OnOk result (RunsThrough I.into_iter_gives I.IntoIter.next_gives iter (λ words. self.new.list ≡ self.old.list ++ row T.BitStore O.BitOrder words)) }
+        ensures clean { OnOk result (IsClean T.BITS self.old → IsClean T.BITS self.new) }
+        ensures few { length self.new.list ≤ MAX_BITS }
+        ensures too_long { result ≡ Err GrowError.TooLong → GivesFirst I.into_iter_gives I.IntoIter.next_gives iter (λ words. MAX_BITS < length self.old.list + T.BITS * length words) }
+        ensures memory { result ≡ Err GrowError.OutOfMemory → GivesFirst I.into_iter_gives I.IntoIter.next_gives iter (λ words. self.old.capacity < length self.old.list + T.BITS * length words) }
+        ensures unchanged { OnErr result (self.new.list ≡ self.old.list) }
+        ensures head { self.new.head ≡ self.old.head }
+        ensures capacity { self.old.capacity ≤ self.new.capacity }
+    {
+        self.extend_by_words(iter)
+    }
+
+    // Joins all bits of one word.
+    fn extend_from_word(&mut self, word: T) -> Result<(), GrowError>
+        ensures list { OnOk result (self.new.list ≡ self.old.list ++ row T.BitStore O.BitOrder (word ∷ [])) }
+        ensures row { OnOk result (Grew T.BITS self.old self.new (row T.BitStore O.BitOrder (word ∷ []))) }
+        ensures refusal { RefusesOnly result (length self.old.list + T.BITS) self.old self.new }
+        ensures capacity { self.old.capacity ≤ self.new.capacity }
+    {
+        self.extend_from_number(O::to_lsb0(word).to_u64(), T::BITS)
+    }
+
+    // As `extend_words`.
+    fn extend_by_words<I: IntoIterator<Item = T>>(&mut self, iter: I) -> Result<(), GrowError>
+        requires { IsFiniteIterable I.into_iter_gives I.IntoIter.can_next I.IntoIter.remaining iter }
+        ensures joined { OnOk result (GivesAll I.into_iter_gives I.IntoIter.next_gives iter (λ words. (self.new.list ≡ self.old.list ++ row T.BitStore O.BitOrder words) × Grew T.BITS self.old self.new (row T.BitStore O.BitOrder words))) }
+        ensures few { length self.new.list ≤ MAX_BITS }
+        ensures too_long { result ≡ Err GrowError.TooLong → GivesFirst I.into_iter_gives I.IntoIter.next_gives iter (λ words. MAX_BITS < length self.old.list + T.BITS * length words) }
+        ensures memory { result ≡ Err GrowError.OutOfMemory → GivesFirst I.into_iter_gives I.IntoIter.next_gives iter (λ words. self.old.capacity < length self.old.list + T.BITS * length words) }
+        ensures unchanged { OnErr result (self.new.list ≡ self.old.list) }
+        ensures head { self.new.head ≡ self.old.head }
+        ensures capacity { self.old.capacity ≤ self.new.capacity }
+    {
+        let len = self.len();
+        self.in_words();
+        for word in iter {
+            if let Err(why) = self.extend_from_word(word) {
+                self.truncate(len);
+                return Err(why);
+            }
+        }
+        self.in_words();
+        Ok(())
+    }
+
+    /// The words that an iterator gives before its first None, as they are: head 0. It answers `TooLong` at the
+    /// first word with which the length would pass `MAX_BITS`; otherwise it is refused as `from_bits` is.
+    pub fn from_words<I: IntoIterator<Item = T>>(alloc: Global, iter: I) -> Result<Self, GrowError>
+        requires { IsFiniteIterable I.into_iter_gives I.IntoIter.can_next I.IntoIter.remaining iter }
+        ensures words { IfOk result (λ v. GivesAll I.into_iter_gives I.IntoIter.next_gives iter (λ words. v.words ≡ words)) }
+        ensures runs { IfOk result (λ v. RunsThrough I.into_iter_gives I.IntoIter.next_gives iter (λ words. v.words ≡ words)) }
+        ensures head { IfOk result (λ v. v.head ≡ 0) }
+        ensures list { IfOk result (λ v. v.list ≡ row T.BitStore O.BitOrder v.words) }
+        ensures clean { IfOk result (λ v. IsClean T.BITS v) }
+        ensures too_long { result ≡ Err GrowError.TooLong → GivesFirst I.into_iter_gives I.IntoIter.next_gives iter (λ words. MAX_BITS < T.BITS * length words) }
+        ensures memory { result ≡ Err GrowError.OutOfMemory → GivesFirst I.into_iter_gives I.IntoIter.next_gives iter (λ words. 0 < length words) }
+    {
+        let mut words = Vec::new(alloc);
+        for word in iter {
+            if !Self::fits(words.len() + 1) {
+                return Err(GrowError::TooLong);
+            }
+            let Ok(()) = words.push(word) else {
+                return Err(GrowError::OutOfMemory);
+            };
+        }
+        Ok(Self::from_vec(words))
+    }
+}

@@ -1,0 +1,77 @@
+-- What holds of each box.
+use Rattle.std.proofs.Common.{◌≡◌, ℕ, ◌+◌, ◌*◌, ◌<◌, ◌≤◌, Bool, List, length, take, slice_range, refl, sym, ◌∙◌, ap, subst, arith}
+use Rattle.std.proofs.Common.{inl, inr, rules}
+use Rattle.std.proofs.lemmas.Bool.{cases_lt}
+use Rattle.std.proofs.Math.Nat.{mul-le-mul_left}
+use Rattle.std.proofs.lemmas.List.{places, same_lists}
+use Rattle.bit_addressing.specs.Bits.{IsWidth}
+use Rattle.bit_addressing.specs.declared.store.BitStore as store
+use Rattle.bit_addressing.specs.declared.order.BitOrder as order
+use Rattle.bit_addressing.specs.declared.length.TheConstants.{MAX_BITS}
+use Rattle.bit_addressing.specs.Row.{words_for, moved, put, sized}
+use Rattle.bit_addressing.specs.Typed.{row}
+use Rattle.bit_addressing.proofs.Lists.{few_words, length-shows, words_for_le, shows_sized, room}
+use Rattle.bit_addressing.proofs.Rows.{width_positive}
+use Rattle.bit_addressing.proofs.Shifts.{put_moved}
+use Rattle.bit_addressing.proofs.Typed.{length_row, row_kept}
+use Rattle.bit_slice.proofs.Shown.{shown_filled}
+use Rattle.bit_boxed.specs.BitBox.{IsBox}
+
+module _ {X Y : Type 0} (W : store.Ghosts X) (P : order.Ghosts Y) where
+  -- the list stands in the row
+  pub shown : (ws : List X) (head len : ℕ) → head + len ≤ W.BITS * length ws → head + len ≤ length (row W P ws)
+  shown ws head len fits = rw (length_row W.value P.place W.BITS ws) fits
+
+  -- as many bits are shown as the length says
+  pub shown_length : (ws : List X) (head len : ℕ) → head + len ≤ W.BITS * length ws → length (slice_range (row W P ws) head (head + len)) ≡ len
+  shown_length ws head len fits = length-shows (row W P ws) head len (shown ws head len fits)
+
+  -- other words, as many, are a box with the same head and length
+  pub refilled : {size : ℕ} (old new : List X) (head len : ℕ) → length new ≡ length old → IsBox W.BITS (length old) head len size → IsBox W.BITS (length new) head len (length (slice_range (row W P new) head (head + len)))
+  refilled old new head len same b =
+      let fits : head + len ≤ W.BITS * length new = rw same b.fits in
+      let few : W.BITS * length new ≤ MAX_BITS + 2 * W.BITS = rw same b.few in
+      record { head_below = b.head_below; len_small = b.len_small; fits = fits; few = few; shows = shown_length new head len fits }
+
+  -- words that are exactly as many as it takes are a box
+  pub exactly : (ws : List X) (head len : ℕ) → IsWidth W.BITS → head < W.BITS → len ≤ MAX_BITS → length ws ≡ words_for W.BITS (head + len) → IsBox W.BITS (length ws) head len (length (slice_range (row W P ws) head (head + len)))
+  exactly ws head len width low small count =
+      let positive = width_positive W.BITS width in
+      let r = (room W.BITS (head + len) positive).0 in
+      let fits : head + len ≤ W.BITS * length ws = subst (λ n. head + len ≤ W.BITS * n) (sym count) r in
+      record { head_below = low; len_small = small; fits = fits; few = few_words W.BITS (length ws) head len MAX_BITS positive low small count; shows = shown_length ws head len fits }
+
+  -- the visible words are there
+  pub visible : {size : ℕ} (ws : List X) (head len : ℕ) → IsWidth W.BITS → IsBox W.BITS (length ws) head len size → words_for W.BITS (head + len) ≤ length ws
+  visible ws head len width b = words_for_le W.BITS (head + len) (length ws) (width_positive W.BITS width) b.fits
+
+  -- the visible words show the list
+  pub visible_show : {size : ℕ} (ws : List X) (head len : ℕ) → IsWidth W.BITS → IsBox W.BITS (length ws) head len size → slice_range (row W P (take (words_for W.BITS (head + len)) ws)) head (head + len) ≡ slice_range (row W P ws) head (head + len)
+  visible_show ws head len width b =
+      let positive = width_positive W.BITS width in
+      let n = words_for W.BITS (head + len) in
+      ap (λ r. slice_range r head (head + len)) (row_kept W.value P.place W.BITS ws (head + len) n positive refl (visible ws head len width b))
+      ∙ shows_sized W.BITS (row W P ws) (head + len) head (head + len) positive (omega arith) (shown ws head len b.fits) (omega arith)
+
+-- what stands where a run was moved to
+pub moved_lands : (xs : List Bool) (s d n : ℕ) → s + n ≤ length xs → d + n ≤ length xs → slice_range (moved xs s d n) d (d + n) ≡ slice_range xs s (s + n)
+moved_lands xs s d n from to =
+    let ys : List Bool = slice_range xs s (s + n) in
+    ap (λ l. slice_range l d (d + n)) (sym (put_moved xs s d n from to)) ∙ shown_filled xs ys d n (sym (length-shows xs s n from)) to
+
+-- bits that are put before words of zero
+pub put_blank : (w : ℕ) (xs ys : List Bool) (n : ℕ) → 0 < w → length xs ≡ 0 → length ys ≡ n → put (sized w xs n) 0 ys ≡ sized w ys n
+unfolding put sized
+put_blank w xs ys n positive none size =
+    let r = (room w n positive).0 in
+    same_lists _ _ (search (rules, places)) (λ i d below. grind (arith, places))
+
+-- no word has no bit
+pub some_bits : (w n words : ℕ) → 0 < w → words < words_for w n → 0 < n
+some_bits w n words positive h = elim (cases_lt 0 n) [
+  | inl some ↦ some
+  | inr none ↦
+      let r = (room w n positive).1 in
+      let m : w * 1 ≤ w * words_for w n = mul-le-mul_left w (omega arith) in
+      absurd (omega arith)
+]

@@ -1,0 +1,22 @@
+use Rattle.std.proofs.Common.{◌≡◌, ◌+◌, ◌-◌, length, slice_range, sym, ◌∙◌, ap, arith}
+use Rattle.bit_addressing.specs.Row.{moved}
+use Rattle.bit_addressing.specs.Typed.{row}
+use Rattle.bit_addressing.proofs.MovedLists.{shows_moved}
+use Rattle.bit_boxed.proofs.Boxes.{shown}
+use Rattle.bit_boxed.proofs.boxed.BitBox.copy_within.Goals as goal
+
+pub returns-clause-list : goal.returns-clause-list
+returns-clause-list g c =
+    let i = c.self.inside in
+    let bits = row g.T.BitStore g.O.BitOrder i.words.items in
+    let fits = shown g.T.BitStore g.O.BitOrder i.words.items i.head i.len c.self.invariant.fits in
+    let from = c.normalize-range.result.start in
+    let upto = c.normalize-range.result.end in
+    let start = c.normalize-range.ensures.start in
+    let len : i.len ≡ length c.args.self.now.list = sym c.self.invariant.shows ∙ ap (λ v. length v.list) c.self.view_is in
+    let end : upto ≡ g.R.RangeExt.end_of c.args.range (length c.args.self.now.list) = c.normalize-range.ensures.end ∙ ap (g.R.RangeExt.end_of c.args.range) len in
+    ap (λ r. slice_range r i.head (i.head + i.len)) c.move_bits_in_vec.ensures.bits
+    ∙ shows_moved bits i.head i.len from c.args.dest (upto - from) (omega arith) (omega arith) fits
+    ∙ ap (λ v. moved v.list from c.args.dest (upto - from)) c.self.view_is
+    ∙ ap (λ s. moved c.args.self.now.list s c.args.dest (upto - s)) start
+    ∙ ap (λ e. moved c.args.self.now.list (g.R.RangeExt.start_of c.args.range) c.args.dest (e - g.R.RangeExt.start_of c.args.range)) end

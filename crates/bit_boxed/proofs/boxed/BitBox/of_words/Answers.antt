@@ -1,0 +1,20 @@
+use Rattle.std.proofs.Common.{◌≡◌, ◌+◌, ◌-◌, ◌*◌, length, arith}
+use Rattle.std.proofs.lemmas.List.{take_all}
+use Rattle.bit_addressing.specs.Typed.{row}
+use Rattle.bit_addressing.proofs.Rows.{width_positive}
+use Rattle.bit_addressing.proofs.Typed.{length_row}
+use Rattle.bit_boxed.proofs.Boxes.{shown_length}
+use Rattle.bit_boxed.proofs.boxed.BitBox.of_words.Goals as goal
+
+pub invariant_of-result : goal.invariant_of-result
+invariant_of-result g c =
+    let w = g.T.BitStore.BITS in
+    let is : c.BITS.result * c.len.result ≡ w * length c.args.words.items = cc in
+    rw is (record { head_below = width_positive w g.met.T.BitStore.width; len_small = c.requires; fits = omega arith; few = omega (arith, c.requires); shows = shown_length g.T.BitStore g.O.BitOrder c.args.words.items 0 (w * length c.args.words.items) (omega arith) })
+
+pub returns-clause-list : goal.returns-clause-list
+returns-clause-list g c =
+    let bits = row g.T.BitStore g.O.BitOrder c.args.words.items in
+    let is : c.BITS.result * c.len.result ≡ g.T.BitStore.BITS * length c.args.words.items = cc in
+    let size : length bits ≡ g.T.BitStore.BITS * length c.args.words.items = length_row g.T.BitStore.value g.O.BitOrder.place g.T.BitStore.BITS c.args.words.items in
+    take_all (0 + c.BITS.result * c.len.result - 0) bits (omega arith)

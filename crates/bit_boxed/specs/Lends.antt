@@ -1,0 +1,19 @@
+-- Where writes through lent words land.
+use Rattle.std.specs.Prelude.{◌+◌, List, length, slice_range}
+use Rattle.std.specs.Borrow.{Lends, Fml, RattleType, MutBor, Array}
+use Rattle.std.specs.List.{refill}
+use Rattle.bit_addressing.specs.declared.store.BitStore as store
+use Rattle.bit_addressing.specs.declared.order.BitOrder as order
+use Rattle.bit_addressing.specs.Typed.{row}
+use Rattle.bit_boxed.specs.BitBox.{Held}
+use Rattle.bit_boxed.specs.contracts.boxed.BitBox.{the_row}
+
+-- the box with other words, as many; its list is that part of their row, and `refill` shows that it is as long as before
+abbrev pub with_words : {X Y : Type 0} → store.Ghosts X → order.Ghosts Y → Held X → List X → Held X
+with_words W P v ws =
+    record { words = refill (length v.words) v.words ws; row = row W P (refill (length v.words) v.words ws); head = v.head; list = refill (length v.list) v.list (slice_range (row W P (refill (length v.words) v.words ws)) v.head (v.head + length v.list)) }
+
+module _ (T O : RattleType) (W : store.Ghosts T.Denot) (P : order.Ghosts O.Denot) (v : MutBor (Held T.Denot)) where
+  -- the box ends with the words that are left behind this slice
+  abbrev pub lends_words : MutBor (List T.Denot) → Fml
+  lends_words r = Lends (the_row T O W P) (Array T 0) v r (with_words W P v.now)

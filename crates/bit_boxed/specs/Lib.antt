@@ -1,0 +1,2 @@
+pub mod BitBox
+pub mod Lends

@@ -1,0 +1,265 @@
+//! The box: what it is, and how it is made and taken apart.
+ghost use Rattle.std.specs.Prelude.{◌≡◌, ◌+◌, ◌*◌, ◌<◌, ◌≤◌, ◌↔◌, false, [], ◌∷◌, IfOk, IfErr, IsOk, OnErr, length, slice_range};
+ghost use Rattle.std.specs.Box.{boxed_slice_items};
+ghost use Rattle.bit_addressing.specs.declared.length.TheConstants.{MAX_BITS};
+ghost use Rattle.bit_addressing.specs.Row.{filled, moved, words_for};
+ghost use Rattle.bit_addressing.specs.Typed.{row, words_from};
+ghost use Rattle.bit_slice.specs.BitSlice.{words_of, head_of, len_of, row_of, list_of};
+ghost use Rattle.bit_boxed.specs.BitBox.{IsClean, Stayed};
+
+use bit_addressing::{
+    BitOrder, BitStore, Lsb0, MAX_BITS, copy_bits_in_vec, exact_words, fill_outside_in_vec,
+    move_bits_in_vec, resize_words_in_vec,
+};
+use bit_array::{BitArray, BitWords};
+use bit_slice::BitSlice;
+use std::alloc::{AllocError, Global};
+use std::boxed::BoxedSlice;
+use std::marker::{Model, PhantomData};
+
+mod api;
+mod iter;
+mod ops;
+mod traits;
+mod views;
+
+pub use iter::IntoIter;
+
+/// A fixed number of truth values, one bit each, in words of type `T` that it owns, in the order `O` of the
+/// bits in a word.
+///
+/// Its bits begin at the head, an index below the bits of a word, and lie one behind the other. The first
+/// words that they take are the visible ones; it may own words behind them, and all its other bits are dead.
+///
+/// In contracts a box `b` is all its words `b.words`, their bits in a row `b.row`, the head `b.head` and the
+/// list `b.list`.
+///
+/// ```text
+/// let mut b = BitBox::from_bitslice(alloc, view)?;
+/// b.set(0, true);
+/// b.into_boxed_slice()
+/// ```
+#[derive(Drop)]
+pub struct BitBox<T: BitStore = usize, O: BitOrder = Lsb0> {
+    words: Vec<T>,
+    head: usize,
+    len: usize,
+    order: PhantomData<O>,
+}
+
+impl<T: BitStore, O: BitOrder> Model for BitBox<T, O> {
+    ghost use Rattle.std.specs.Prelude.{◌+◌, length, slice_range};
+    ghost use Rattle.bit_addressing.specs.Typed.{row};
+    ghost use Rattle.bit_boxed.specs.BitBox.{Held, IsBox, held_code};
+
+    ghost Value = { Held T };
+
+    ghost coded = { held_code T.code };
+
+    ghost view = { λ b. record { words = b.words.items; row = row T.BitStore O.BitOrder b.words.items; head = b.head; list = slice_range (row T.BitStore O.BitOrder b.words.items) b.head (b.head + b.len) } };
+
+    ghost invariant = { λ b. IsBox T.BITS (length b.words.items) b.head b.len (length (slice_range (row T.BitStore O.BitOrder b.words.items) b.head (b.head + b.len))) };
+}
+
+impl<T: BitStore, O: BitOrder> BitBox<T, O> {
+    // All bits of these words: head 0.
+    fn of_words(words: Vec<T>) -> Self
+        requires { T.BITS * length words.items ≤ MAX_BITS }
+        ensures words { result.words ≡ words.items }
+        ensures row { result.row ≡ row T.BitStore O.BitOrder words.items }
+        ensures head { result.head ≡ 0 }
+        ensures list { result.list ≡ row T.BitStore O.BitOrder words.items }
+    {
+        let len = T::BITS as usize * words.len();
+        BitBox {
+            words,
+            head: 0,
+            len,
+            order: PhantomData,
+        }
+    }
+
+    // As `from_parts`, which always succeeds.
+    fn of_parts(words: Vec<T>, head: usize, len: usize) -> Self
+        requires in_word { head < T.BITS }
+        requires few { len ≤ MAX_BITS }
+        requires exact { length words.items ≡ words_for T.BITS (head + len) }
+        ensures words { result.words ≡ words.items }
+        ensures row { result.row ≡ row T.BitStore O.BitOrder words.items }
+        ensures head { result.head ≡ head }
+        ensures list { result.list ≡ slice_range (row T.BitStore O.BitOrder words.items) head (head + len) }
+    {
+        let mut words = words;
+        words.shrink_to_fit();
+        Self::kept(words, head, len)
+    }
+
+    // As `of_parts`, with all the memory that the vector has.
+    pub(crate) fn kept(words: Vec<T>, head: usize, len: usize) -> Self
+        requires in_word { head < T.BITS }
+        requires few { len ≤ MAX_BITS }
+        requires exact { length words.items ≡ words_for T.BITS (head + len) }
+        ensures words { result.words ≡ words.items }
+        ensures row { result.row ≡ row T.BitStore O.BitOrder words.items }
+        ensures head { result.head ≡ head }
+        ensures list { result.list ≡ slice_range (row T.BitStore O.BitOrder words.items) head (head + len) }
+    {
+        BitBox {
+            words,
+            head,
+            len,
+            order: PhantomData,
+        }
+    }
+
+    /// The empty box: head 0, and no word. It always succeeds, and takes no memory.
+    pub fn empty(alloc: Global) -> Result<Self, AllocError>
+        ensures words { IfOk result (λ b. b.words ≡ []) }
+        ensures head { IfOk result (λ b. b.head ≡ 0) }
+        ensures list { IfOk result (λ b. b.list ≡ []) }
+        ensures succeeds { IsOk result }
+    {
+        Ok(Self::of_words(Vec::new(alloc)))
+    }
+
+    /// These words with a head and a length. Memory that no word takes is given back, and it always succeeds.
+    /// The condition: the head is in the first word, the words are exactly as many as it takes, and the bits
+    /// at most `MAX_BITS`.
+    pub fn from_parts(words: Vec<T>, head: usize, len: usize) -> Result<Self, AllocError>
+        requires in_word { head < T.BITS }
+        requires few { len ≤ MAX_BITS }
+        requires exact { length words.items ≡ words_for T.BITS (head + len) }
+        ensures words { IfOk result (λ b. b.words ≡ words.items) }
+        ensures row { IfOk result (λ b. b.row ≡ row T.BitStore O.BitOrder words.items) }
+        ensures head { IfOk result (λ b. b.head ≡ head) }
+        ensures list { IfOk result (λ b. b.list ≡ slice_range (row T.BitStore O.BitOrder words.items) head (head + len)) }
+        ensures succeeds { IsOk result }
+    {
+        Ok(Self::of_parts(words, head, len))
+    }
+
+    /// All bits of these words, which are kept: head 0. Takes no memory. The condition: they are at most
+    /// `MAX_BITS` bits.
+    pub fn from_boxed_slice(words: BoxedSlice<T>) -> Self
+        requires { T.BITS * length (boxed_slice_items words) ≤ MAX_BITS }
+        ensures words { result.words ≡ boxed_slice_items words }
+        ensures row { result.row ≡ row T.BitStore O.BitOrder (boxed_slice_items words) }
+        ensures head { result.head ≡ 0 }
+        ensures list { result.list ≡ row T.BitStore O.BitOrder (boxed_slice_items words) }
+    {
+        Self::of_words(words.into_vec())
+    }
+
+    /// As `from_boxed_slice`, with no condition: it hands the words back exactly where they have more than
+    /// `MAX_BITS` bits. Takes no memory.
+    pub fn try_from_boxed_slice(words: BoxedSlice<T>) -> Result<Self, BoxedSlice<T>>
+        ensures words { IfOk result (λ b. b.words ≡ boxed_slice_items words) }
+        ensures head { IfOk result (λ b. b.head ≡ 0) }
+        ensures list { IfOk result (λ b. b.list ≡ row T.BitStore O.BitOrder (boxed_slice_items words)) }
+        ensures fits { IsOk result ↔ (T.BITS * length (boxed_slice_items words) ≤ MAX_BITS) }
+        ensures back { IfErr result (λ back. back ≡ words) }
+    {
+        if words.as_slice().len() <= MAX_BITS / T::BITS as usize {
+            Ok(Self::from_boxed_slice(words))
+        } else {
+            Err(words)
+        }
+    }
+
+    /// All bits of a boxed word, which is placed in a new box: head 0. Takes memory.
+    pub fn from_box(alloc: Global, word: Box<T>) -> Result<Self, AllocError>
+        ensures words { IfOk result (λ b. b.words ≡ word.value ∷ []) }
+        ensures head { IfOk result (λ b. b.head ≡ 0) }
+        ensures list { IfOk result (λ b. b.list ≡ row T.BitStore O.BitOrder (word.value ∷ [])) }
+    {
+        let word = Box::into_inner(word);
+        let mut words = Vec::new(alloc);
+        words.push(word)?;
+        Ok(Self::of_words(words))
+    }
+
+    /// The bits of an array, whose words are copied: head 0. Takes memory where it has a word, and is refused
+    /// only then.
+    pub fn from_bitarray<A: BitWords<Store = T>>(
+        alloc: Global,
+        array: BitArray<A, O>,
+    ) -> Result<Self, AllocError>
+        ensures words { IfOk result (λ b. b.words ≡ A.words array) }
+        ensures head { IfOk result (λ b. b.head ≡ 0) }
+        ensures list { IfOk result (λ b. b.list ≡ row T.BitStore O.BitOrder (A.words array)) }
+        ensures memory { OnErr result (0 < A.count) }
+    {
+        let mut words = Vec::new(alloc);
+        words.extend_from_slice(array.as_raw_slice())?;
+        Ok(Self::of_words(words))
+    }
+
+    /// The bits of a view, from head 0 on, by whole words: the words are canonical, those of the list and
+    /// then false. Takes memory where the view has a bit, and is refused only then.
+    pub fn from_bitslice(alloc: Global, view: BitSlice<'_, T, O>) -> Result<Self, AllocError>
+        ensures list { IfOk result (λ b. b.list ≡ list_of view.entry) }
+        ensures clean { IfOk result (λ b. IsClean T.BITS b) }
+        ensures memory { OnErr result (0 < len_of view.entry) }
+    {
+        let (from, len) = (view.head(), view.len());
+        let mut words = Vec::new(alloc);
+        let Ok(()) = resize_words_in_vec::<T, O>(&mut words, len) else {
+            return Err(AllocError);
+        };
+        copy_bits_in_vec::<T, O, T, O>(&mut words, 0, view.as_raw_slice(), from, len);
+        Ok(Self::of_parts(words, 0, len))
+    }
+
+    /// The bits of a view: its head is kept, its words are copied, and their dead bits are false. Takes
+    /// memory where the view has a word, and is refused only then.
+    pub fn from_bitslice_headed(alloc: Global, view: BitSlice<'_, T, O>) -> Result<Self, AllocError>
+        ensures head { IfOk result (λ b. b.head ≡ head_of view.entry) }
+        ensures list { IfOk result (λ b. b.list ≡ list_of view.entry) }
+        ensures row { IfOk result (λ b. b.row ≡ filled (row_of view.entry) (head_of view.entry) (len_of view.entry) false) }
+        ensures memory { OnErr result (0 < length (words_of view.entry)) }
+    {
+        let (head, len) = (view.head(), view.len());
+        let mut words = Vec::new(alloc);
+        words.extend_from_slice(view.as_raw_slice())?;
+        fill_outside_in_vec::<T, O>(&mut words, head, len, false);
+        Ok(Self::of_parts(words, head, len))
+    }
+
+    /// All the words, as they are. Takes no memory.
+    pub fn into_boxed_slice(self) -> BoxedSlice<T>
+        ensures words { boxed_slice_items result ≡ self.words }
+        ensures row { row T.BitStore O.BitOrder (boxed_slice_items result) ≡ self.row }
+        ensures from_row { boxed_slice_items result ≡ words_from T.BitStore O.BitOrder self.row }
+    {
+        exact_words::<T, O>(self.words.as_slice());
+        self.words.into_boxed_slice()
+    }
+
+    /// Makes the head 0: the list moves to the beginning of the words, by one counted move. The words stay as
+    /// many. Takes no memory.
+    #[tactic(auto, using(crate::proofs::Boxes::shown_length))]
+    pub fn force_align(&mut self)
+        ensures head { self.new.head ≡ 0 }
+        ensures list { self.new.list ≡ self.old.list }
+        ensures row { self.new.row ≡ moved self.old.row self.old.head 0 (length self.old.list) }
+        ensures size { length self.new.words ≡ length self.old.words }
+    {
+        move_bits_in_vec::<T, O>(&mut self.words, self.head, 0, self.len);
+        self.head = 0;
+    }
+
+    /// Makes every dead bit of all the words `bit`, and changes no bit of the list. Takes no memory.
+    #[tactic(auto, using(crate::proofs::Boxes::shown_length))]
+    pub fn fill_uninitialized(&mut self, bit: bool)
+        ensures list { self.new.list ≡ self.old.list }
+        ensures row { self.new.row ≡ filled self.old.row self.old.head (length self.old.list) bit }
+        ensures stayed { Stayed self.old self.new }
+    {
+        fill_outside_in_vec::<T, O>(&mut self.words, self.head, self.len, bit);
+    }
+
+    // The allocator that its words came from.
+    pub(crate) fn allocator(&self) -> Global {
+        *self.words.allocator()
+    }
+}

@@ -1,0 +1,208 @@
+//! The bits of the box, one after another: lent, and given up with the box.
+ghost use Rattle.std.specs.Prelude.{◌≡◌, ℕ, ◌+◌, ◌*◌, ◌<◌, ◌≤◌, [], length, slice_range, IfSome, Some};
+ghost use Rattle.std.specs.Iterator.{YieldsFirst, YieldsLast};
+ghost use Rattle.std.specs.Iterator.Runs.{YieldsInOrder, YieldsInReverse};
+ghost use Rattle.bit_addressing.specs.Row.{words_for};
+ghost use Rattle.bit_addressing.specs.Typed.{row};
+ghost use Rattle.bit_addressing.specs.declared.length.TheConstants.{MAX_BITS};
+ghost use Rattle.bit_slice.specs.BitSlice.{len_of, list_of};
+ghost use Rattle.bit_slice.specs.Iter.{rest_of as rest_lent};
+ghost use Rattle.bit_slice.specs.Owned.{rest_of, GivesInOrder, GivesInReverse};
+
+use crate::boxed::BitBox;
+use bit_addressing::{BitOrder, BitStore, Lsb0};
+use bit_slice::{BitSlice, Iter, write_list};
+use std::alloc::AllocError;
+use std::fmt;
+use std::iter::{DoubleEndedIterator, ExactSizeIterator, FusedIterator, Iterator};
+use std::marker::Model;
+
+impl<T: BitStore, O: BitOrder> BitBox<T, O> {
+    /// The bits in order, from both ends.
+    pub fn iter(&self) -> Iter<'_, T, O>
+        ensures list { rest_lent result ≡ self.now.list }
+        ensures few { length (rest_lent result) ≤ MAX_BITS }
+        ensures runs { YieldsInOrder (YieldsFirst (rest_lent {X = T} {Y = O} {W = T.BitStore} {P = O.BitOrder})) rest_lent }
+        ensures runs_back { YieldsInReverse (YieldsLast (rest_lent {X = T} {Y = O} {W = T.BitStore} {P = O.BitOrder})) rest_lent }
+    {
+        self.as_bitslice().iter()
+    }
+}
+
+impl<'a, T: BitStore, O: BitOrder> IntoIterator for &'a BitBox<T, O> {
+    type Item = bool;
+
+    type IntoIter = Iter<'a, T, O>;
+
+    ghost into_iter_gives = { λ b r. (rest_lent r ≡ b.now.list) × (length (rest_lent r) ≤ MAX_BITS) × YieldsInOrder (YieldsFirst (rest_lent {X = T} {Y = O} {W = T.BitStore} {P = O.BitOrder})) rest_lent × YieldsInReverse (YieldsLast (rest_lent {X = T} {Y = O} {W = T.BitStore} {P = O.BitOrder})) rest_lent };
+
+    /// As `iter`: the items are truth values.
+    fn into_iter(self) -> Iter<'a, T, O> {
+        self.iter()
+    }
+}
+
+/// The bits of a box that is given up, from both ends, each once.
+///
+/// Its length is known, and after the first None there is no more. In contracts it is the list of the bits
+/// that it has left.
+#[derive(Drop)]
+pub struct IntoIter<T: BitStore = usize, O: BitOrder = Lsb0> {
+    inner: BitBox<T, O>,
+    from: usize,
+    upto: usize,
+}
+
+impl<T: BitStore, O: BitOrder> Model for IntoIter<T, O> {
+    ghost use Rattle.std.specs.Prelude.{◌≤◌, Bool, List, length, slice_range};
+    ghost use Rattle.bit_addressing.specs.declared.length.TheConstants.{MAX_BITS};
+
+    ghost Value = { List Bool };
+
+    ghost view = { λ s. slice_range s.inner.list s.from s.upto };
+
+    ghost invariant = { λ s. (s.from ≤ s.upto) × (s.upto ≤ length s.inner.list) × (length s.inner.list ≤ MAX_BITS) };
+}
+
+impl<T: BitStore, O: BitOrder> IntoIter<T, O> {
+    // The bits of a box, in order.
+    fn of(inner: BitBox<T, O>) -> Self
+        ensures list { result ≡ inner.list }
+        ensures few { length result ≤ MAX_BITS }
+        ensures runs { GivesInOrder }
+        ensures runs_back { GivesInReverse }
+    {
+        let upto = inner.len();
+        IntoIter {
+            inner,
+            from: 0,
+            upto,
+        }
+    }
+
+    /// The bits of these words with a head and a length. The vector is kept, and no memory is taken. The
+    /// condition: the head is in the first word, the words are exactly as many as it takes, and the bits at
+    /// most `MAX_BITS`.
+    pub fn from_parts(words: Vec<T>, head: usize, len: usize) -> Self
+        requires in_word { head < T.BITS }
+        requires few { len ≤ MAX_BITS }
+        requires exact { length words.items ≡ words_for T.BITS (head + len) }
+        ensures list { result ≡ slice_range (row T.BitStore O.BitOrder words.items) head (head + len) }
+        ensures few { length result ≤ MAX_BITS }
+        ensures runs { GivesInOrder }
+        ensures runs_back { GivesInReverse }
+    {
+        IntoIter::of(BitBox::kept(words, head, len))
+    }
+
+    /// The view of the bits that are left, for reading.
+    pub fn as_bitslice(&self) -> BitSlice<'_, T, O>
+        ensures list { list_of result ≡ self.now }
+        ensures len { len_of result ≡ length self.now }
+    {
+        self.inner.as_bitslice().get_range(self.from..self.upto)
+    }
+
+    /// As `as_bitslice`.
+    pub fn as_slice(&self) -> BitSlice<'_, T, O>
+        ensures list { list_of result ≡ self.now }
+        ensures len { len_of result ≡ length self.now }
+    {
+        self.as_bitslice()
+    }
+}
+
+impl<T: BitStore, O: BitOrder> Iterator for IntoIter<T, O> {
+    ghost use Rattle.std.specs.Iterator.{YieldsFirst, UpTo, at_most, item_count};
+    ghost use Rattle.std.specs.Iterator.SizeHint.{IsWithinCount};
+
+    type Item = bool;
+
+    ghost next_gives = { YieldsFirst rest_of };
+
+    ghost remaining = { item_count rest_of };
+
+    /// The first bit that is left. None exactly where none is.
+    fn next(&mut self) -> Option<bool> {
+        if self.from == self.upto {
+            return None;
+        }
+        let bit = self.inner[self.from];
+        self.from += 1;
+        Some(bit)
+    }
+
+    /// How many bits are left, twice.
+    fn size_hint(&self) -> (usize, Option<usize>)
+        ensures lower { IsWithinCount result.0 (at_most (length self.now)) }
+        ensures upper { IfSome result.1 (UpTo (at_most (length self.now))) }
+        ensures value { result ≡ (length self.now, Some (length self.now)) }
+    {
+        let count = self.len();
+        (count, Some(count))
+    }
+}
+
+impl<T: BitStore, O: BitOrder> DoubleEndedIterator for IntoIter<T, O> {
+    ghost use Rattle.std.specs.Iterator.{YieldsLast};
+
+    ghost next_back_gives = { YieldsLast rest_of };
+
+    /// The last bit that is left. None exactly where none is.
+    fn next_back(&mut self) -> Option<bool> {
+        if self.from == self.upto {
+            return None;
+        }
+        self.upto -= 1;
+        Some(self.inner[self.upto])
+    }
+}
+
+impl<T: BitStore, O: BitOrder> ExactSizeIterator for IntoIter<T, O> {
+    /// How many bits are left.
+    fn len(&self) -> usize {
+        self.upto - self.from
+    }
+}
+
+impl<T: BitStore, O: BitOrder> FusedIterator for IntoIter<T, O> {}
+
+impl<T: BitStore, O: BitOrder> IntoIterator for BitBox<T, O> {
+    type Item = bool;
+
+    type IntoIter = IntoIter<T, O>;
+
+    ghost into_iter_gives = { λ b r. (r ≡ b.list) × (length r ≤ MAX_BITS) × GivesInOrder × GivesInReverse };
+
+    /// The bits in order, from both ends; the box is given up, and its words are kept.
+    fn into_iter(self) -> IntoIter<T, O> {
+        IntoIter::of(self)
+    }
+}
+
+impl<T: BitStore, O: BitOrder> Clone for IntoIter<T, O> {
+    ghost use Rattle.std.specs.Prelude.{◌≡◌, []};
+
+    ghost is_clone = { λ a b. b ≡ a };
+
+    ghost is_infallible = { λ s. s ≡ [] };
+
+    /// An iterator over the same bits, in words of its own that begin with them. Takes memory where a bit is
+    /// left.
+    fn clone(&self) -> Result<Self, AllocError> {
+        let alloc = self.inner.allocator();
+        match BitBox::from_bitslice(alloc, self.as_bitslice()) {
+            Ok(copy) => Ok(IntoIter::of(copy)),
+            Err(_) => Err(AllocError),
+        }
+    }
+}
+
+/// `IntoIter(`, the text of the bits that are left, and `)`.
+impl<T: BitStore, O: BitOrder> fmt::Debug for IntoIter<T, O> {
+    fn fmt<W: fmt::Write>(&self, f: &mut fmt::Formatter<W>) -> fmt::Result {
+        f.write_str("IntoIter(")?;
+        write_list(self.as_bitslice(), f)?;
+        f.write_str(")")
+    }
+}

@@ -1,0 +1,168 @@
+//! The operators of the box: bits read, and whole boxes combined and flipped by words.
+ghost use Rattle.std.specs.Prelude.{◌≡◌, ◌+◌, ◌*◌, ◌^◌, ◌<◌, ◌≤◌, not, map, length, slice_range};
+ghost use Rattle.bit_addressing.specs.Row.{put};
+ghost use Rattle.bit_addressing.specs.Typed.{row};
+ghost use Rattle.bit_slice.specs.BitSlice.{list_of};
+ghost use Rattle.bit_slice.specs.Operators.{and_of, or_of, xor_of};
+ghost use Rattle.bit_boxed.specs.BitBox.{Stayed};
+
+use crate::boxed::BitBox;
+use bit_addressing::{BitOrder, BitStore, flip_bits_in_vec};
+use bit_slice::{BitSlice, and_words, or_words, xor_words};
+use std::ops::{BitAnd, BitAndAssign, BitOr, BitOrAssign, BitXor, BitXorAssign, Index, Not};
+
+impl<T: BitStore, O: BitOrder> Index<usize> for BitBox<T, O> {
+    ghost use Rattle.std.specs.Prelude.{◌≡◌, ◌<◌, Some, slice_get, length};
+
+    type Output = bool;
+
+    ghost can_index = { λ b i. i < length b.list };
+
+    ghost index_gives = { λ b i bit. Some bit ≡ slice_get b.list i };
+
+    /// The bit at `i`. The condition: `i` is below the length.
+    fn index(&self, i: usize) -> &bool {
+        if self.as_bitslice()[i] { &true } else { &false }
+    }
+}
+
+impl<T: BitStore, O: BitOrder> BitBox<T, O> {
+    /// Flips every bit of all the words, dead bits included.
+    #[tactic(auto, using(crate::proofs::Boxes::shown_length))]
+    pub fn flip_all(&mut self)
+        ensures list { self.new.list ≡ map not self.old.list }
+        ensures row { self.new.row ≡ map not self.old.row }
+        ensures stayed { Stayed self.old self.new }
+    {
+        flip_bits_in_vec::<T, O>(&mut self.words);
+    }
+}
+
+impl<T: BitStore, O: BitOrder> Not for BitBox<T, O> {
+    type Output = Self;
+
+    ghost not_gives = { λ a b. (b.list ≡ map not a.list) × (b.row ≡ map not a.row) × Stayed a b };
+
+    /// Every bit of all the words flipped, dead bits included.
+    fn not(mut self) -> Self {
+        self.flip_all();
+        self
+    }
+}
+
+impl<T: BitStore, O: BitOrder> BitAndAssign for BitBox<T, O> {
+    ghost bitand_assign_gives = { λ a b c. (c.list ≡ and_of a.list b.list) × (c.row ≡ put a.row a.head (and_of a.list b.list)) × Stayed a c };
+
+    /// Clears each bit that is false in the right side, or that it is too short for. No dead bit changes.
+    #[tactic(auto, using(crate::proofs::Boxes::shown_length))]
+    fn bitand_assign(&mut self, rhs: Self) {
+        let (head, len) = (self.head, self.len);
+        let other = rhs.as_bitslice();
+        and_in_vec::<T, O>(&mut self.words, head, len, other);
+    }
+}
+
+impl<T: BitStore, O: BitOrder> BitAnd for BitBox<T, O> {
+    type Output = Self;
+
+    ghost bitand_gives = { λ a b c. (c.list ≡ and_of a.list b.list) × (c.row ≡ put a.row a.head (and_of a.list b.list)) × Stayed a c };
+
+    /// The bits that are true in both; the left side's words.
+    fn bitand(mut self, rhs: Self) -> Self {
+        self &= rhs;
+        self
+    }
+}
+
+impl<T: BitStore, O: BitOrder> BitOrAssign for BitBox<T, O> {
+    ghost bitor_assign_gives = { λ a b c. (c.list ≡ or_of a.list b.list) × (c.row ≡ put a.row a.head (or_of a.list b.list)) × Stayed a c };
+
+    /// Sets each bit that is true in the right side. No dead bit changes.
+    #[tactic(auto, using(crate::proofs::Boxes::shown_length))]
+    fn bitor_assign(&mut self, rhs: Self) {
+        let (head, len) = (self.head, self.len);
+        let other = rhs.as_bitslice();
+        or_in_vec::<T, O>(&mut self.words, head, len, other);
+    }
+}
+
+impl<T: BitStore, O: BitOrder> BitOr for BitBox<T, O> {
+    type Output = Self;
+
+    ghost bitor_gives = { λ a b c. (c.list ≡ or_of a.list b.list) × (c.row ≡ put a.row a.head (or_of a.list b.list)) × Stayed a c };
+
+    /// The bits that are true in one or in both; the left side's words.
+    fn bitor(mut self, rhs: Self) -> Self {
+        self |= rhs;
+        self
+    }
+}
+
+impl<T: BitStore, O: BitOrder> BitXorAssign for BitBox<T, O> {
+    ghost bitxor_assign_gives = { λ a b c. (c.list ≡ xor_of a.list b.list) × (c.row ≡ put a.row a.head (xor_of a.list b.list)) × Stayed a c };
+
+    /// Flips each bit that is true in the right side. No dead bit changes.
+    #[tactic(auto, using(crate::proofs::Boxes::shown_length))]
+    fn bitxor_assign(&mut self, rhs: Self) {
+        let (head, len) = (self.head, self.len);
+        let other = rhs.as_bitslice();
+        xor_in_vec::<T, O>(&mut self.words, head, len, other);
+    }
+}
+
+impl<T: BitStore, O: BitOrder> BitXor for BitBox<T, O> {
+    type Output = Self;
+
+    ghost bitxor_gives = { λ a b c. (c.list ≡ xor_of a.list b.list) × (c.row ≡ put a.row a.head (xor_of a.list b.list)) × Stayed a c };
+
+    /// The bits that are true in one alone; the left side's words.
+    fn bitxor(mut self, rhs: Self) -> Self {
+        self ^= rhs;
+        self
+    }
+}
+
+// As `and_words`, in the words of a vector.
+fn and_in_vec<T: BitStore, O: BitOrder>(
+    words: &mut Vec<T>,
+    head: usize,
+    len: usize,
+    other: BitSlice<'_, T, O>,
+)
+    requires within { head + len ≤ T.BITS * length words.old.items }
+    requires fits { head + len < 2 ^ 64 }
+    ensures bits { row T.BitStore O.BitOrder words.new.items ≡ put (row T.BitStore O.BitOrder words.old.items) head (and_of (slice_range (row T.BitStore O.BitOrder words.old.items) head (head + len)) (list_of other.entry)) }
+    ensures size { length words.new.items ≡ length words.old.items }
+{
+    and_words::<T, O, T, O>(words.as_mut_slice(), head, len, other);
+}
+
+// As `or_words`, in the words of a vector.
+fn or_in_vec<T: BitStore, O: BitOrder>(
+    words: &mut Vec<T>,
+    head: usize,
+    len: usize,
+    other: BitSlice<'_, T, O>,
+)
+    requires within { head + len ≤ T.BITS * length words.old.items }
+    requires fits { head + len < 2 ^ 64 }
+    ensures bits { row T.BitStore O.BitOrder words.new.items ≡ put (row T.BitStore O.BitOrder words.old.items) head (or_of (slice_range (row T.BitStore O.BitOrder words.old.items) head (head + len)) (list_of other.entry)) }
+    ensures size { length words.new.items ≡ length words.old.items }
+{
+    or_words::<T, O, T, O>(words.as_mut_slice(), head, len, other);
+}
+
+// As `xor_words`, in the words of a vector.
+fn xor_in_vec<T: BitStore, O: BitOrder>(
+    words: &mut Vec<T>,
+    head: usize,
+    len: usize,
+    other: BitSlice<'_, T, O>,
+)
+    requires within { head + len ≤ T.BITS * length words.old.items }
+    requires fits { head + len < 2 ^ 64 }
+    ensures bits { row T.BitStore O.BitOrder words.new.items ≡ put (row T.BitStore O.BitOrder words.old.items) head (xor_of (slice_range (row T.BitStore O.BitOrder words.old.items) head (head + len)) (list_of other.entry)) }
+    ensures size { length words.new.items ≡ length words.old.items }
+{
+    xor_words::<T, O, T, O>(words.as_mut_slice(), head, len, other);
+}

@@ -1,0 +1,57 @@
+//! Views of the box, and its words.
+ghost use Rattle.std.specs.Prelude.{◌≡◌, ◌+◌, length, slice_range, take};
+ghost use Rattle.std.specs.Borrow.{sem};
+ghost use Rattle.bit_addressing.specs.Row.{words_for};
+ghost use Rattle.bit_addressing.specs.Typed.{row, words_from};
+ghost use Rattle.bit_slice.specs.BitSlice.{words_of, head_of, len_of, list_of};
+ghost use Rattle.bit_slice.specs.BitSliceMut.{words_of as lent_words, head_of as lent_head, len_of as lent_len, list_of as lent_list};
+ghost use Rattle.bit_boxed.specs.Lends.{lends_words};
+
+use crate::boxed::BitBox;
+use bit_addressing::{BitOrder, BitStore, elts, exact_words};
+use bit_slice::{BitSlice, BitSliceMut};
+
+impl<T: BitStore, O: BitOrder> BitBox<T, O> {
+    /// The view of the box's bits, for reading: of its visible words.
+    pub fn as_bitslice(&self) -> BitSlice<'_, T, O>
+        ensures words { words_of result ≡ take (words_for T.BITS (self.now.head + length self.now.list)) self.now.words }
+        ensures head { head_of result ≡ self.now.head }
+        ensures len { len_of result ≡ length self.now.list }
+        ensures list { list_of result ≡ self.now.list }
+    {
+        let count = elts::<T>(self.head + self.len);
+        BitSlice::from_parts(&self.words.as_slice()[..count], self.head, self.len)
+    }
+
+    /// The view of the box's bits, for writing: what is written lands in the box.
+    pub fn as_mut_bitslice(&mut self) -> BitSliceMut<'_, T, O>
+        ensures words { lent_words result ≡ take (words_for T.BITS (self.old.head + length self.old.list)) self.old.words }
+        ensures head { lent_head result ≡ self.old.head }
+        ensures len { lent_len result ≡ length self.old.list }
+        ensures list { lent_list result ≡ self.old.list }
+    {
+        let (head, len) = (self.head, self.len);
+        let count = elts::<T>(head + len);
+        BitSliceMut::from_parts_mut(&mut self.words.as_mut_slice()[..count], head, len)
+    }
+
+    /// All the words that the box owns.
+    pub fn as_raw_slice(&self) -> &[T]
+        ensures words { result.now ≡ self.now.words }
+        ensures row { row T.BitStore O.BitOrder result.now ≡ self.now.row }
+        ensures from_row { result.now ≡ words_from T.BitStore O.BitOrder self.now.row }
+        ensures shows { slice_range self.now.row self.now.head (self.now.head + length self.now.list) ≡ self.now.list }
+    {
+        exact_words::<T, O>(self.words.as_slice());
+        self.words.as_slice()
+    }
+
+    /// All the words that the box owns, for writing: what is written lands in the row, live bits and dead ones.
+    pub fn as_raw_mut_slice(&mut self) -> &mut [T]
+        ensures* writes_back { sem 𝓛 (lends_words T.row O.row T.BitStore O.BitOrder self.entry result) }
+        ensures value { result.now ≡ self.old.words }
+        ensures row { row T.BitStore O.BitOrder result.now ≡ self.old.row }
+    {
+        self.words.as_mut_slice()
+    }
+}

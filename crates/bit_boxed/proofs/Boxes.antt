@@ -10,7 +10,8 @@ use Rattle.bit_addressing.specs.declared.order.BitOrder as order
 use Rattle.bit_addressing.specs.declared.length.TheConstants.{MAX_BITS}
 use Rattle.bit_addressing.specs.Row.{words_for, moved, put, sized}
 use Rattle.bit_addressing.specs.Typed.{row}
-use Rattle.bit_addressing.proofs.Lists.{few_words, length-shows, words_for_le, shows_sized, room}
+use Rattle.bit_addressing.proofs.lists.Sized.{few_words, words_for_le, room}
+use Rattle.bit_addressing.proofs.lists.Shown.{length-run, shows_sized}
 use Rattle.bit_addressing.proofs.Rows.{width_positive}
 use Rattle.bit_addressing.proofs.Shifts.{put_moved}
 use Rattle.bit_addressing.proofs.Typed.{length_row, row_kept}
@@ -24,7 +25,7 @@ module _ {X Y : Type 0} (W : store.Ghosts X) (P : order.Ghosts Y) where
 
   -- as many bits are shown as the length says
   pub shown_length : (ws : List X) (head len : ℕ) → head + len ≤ W.BITS * length ws → length (slice_range (row W P ws) head (head + len)) ≡ len
-  shown_length ws head len fits = length-shows (row W P ws) head len (shown ws head len fits)
+  shown_length ws head len fits = length-run (row W P ws) head len (shown ws head len fits)
 
   -- other words, as many, are a box with the same head and length
   pub refilled : {size : ℕ} (old new : List X) (head len : ℕ) → length new ≡ length old → IsBox W.BITS (length old) head len size → IsBox W.BITS (length new) head len (length (slice_range (row W P new) head (head + len)))
@@ -57,7 +58,7 @@ module _ {X Y : Type 0} (W : store.Ghosts X) (P : order.Ghosts Y) where
 pub moved_lands : (xs : List Bool) (s d n : ℕ) → s + n ≤ length xs → d + n ≤ length xs → slice_range (moved xs s d n) d (d + n) ≡ slice_range xs s (s + n)
 moved_lands xs s d n from to =
     let ys : List Bool = slice_range xs s (s + n) in
-    ap (λ l. slice_range l d (d + n)) (sym (put_moved xs s d n from to)) ∙ shown_filled xs ys d n (sym (length-shows xs s n from)) to
+    ap (λ l. slice_range l d (d + n)) (sym (put_moved xs s d n from to)) ∙ shown_filled xs ys d n (sym (length-run xs s n from)) to
 
 -- bits that are put before words of zero
 pub put_blank : (w : ℕ) (xs ys : List Bool) (n : ℕ) → 0 < w → length xs ≡ 0 → length ys ≡ n → put (sized w xs n) 0 ys ≡ sized w ys n

@@ -1,6 +1,7 @@
 //! The calls of a view that the array has itself.
 ghost use Rattle.std.specs.Prelude.{◌≡◌, ℕ, ◌+◌, ◌-◌, ◌*◌, ◌<◌, ◌≤◌, ◌↔◌, length, replicate, count_by, set, slice_get, IsTrue};
 ghost use Rattle.bit_addressing.specs.declared.length.TheConstants.{MAX_BITS};
+ghost use Rattle.bit_addressing.specs.Range.{LiesIn};
 ghost use Rattle.bit_addressing.specs.Row.{moved};
 ghost use Rattle.bit_addressing.specs.Typed.{row};
 
@@ -83,8 +84,7 @@ impl<A: BitViewSized, O: BitOrder> BitArray<A, O> {
     /// changes. It is one counted move of the words. The condition: the range lies in the length, and its
     /// bits have room from `dest` on.
     pub fn copy_within<R: RangeExt>(&mut self, range: R, dest: usize)
-        requires order { R.start_of range ≤ R.end_of range (A.Store.BITS * A.count) }
-        requires within { R.end_of range (A.Store.BITS * A.count) ≤ A.Store.BITS * A.count }
+        requires lies { LiesIn (R.start_of range) (R.end_of range (A.Store.BITS * A.count)) (A.Store.BITS * A.count) }
         requires room { dest + (R.end_of range (A.Store.BITS * A.count) - R.start_of range) ≤ A.Store.BITS * A.count }
         ensures { row A.Store.BitStore O.BitOrder (A.words self.new) ≡ moved (row A.Store.BitStore O.BitOrder (A.words self.old)) (R.start_of range) dest (R.end_of range (A.Store.BITS * A.count) - R.start_of range) }
     {

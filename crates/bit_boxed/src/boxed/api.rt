@@ -1,6 +1,7 @@
 //! The calls of a view that the box has itself.
 ghost use Rattle.std.specs.Prelude.{◌≡◌, ◌+◌, ◌-◌, ◌<◌, ◌≤◌, ◌↔◌, IsTrue, length, replicate, count_by, set, slice_get};
 ghost use Rattle.bit_addressing.specs.declared.length.TheConstants.{MAX_BITS};
+ghost use Rattle.bit_addressing.specs.Range.{LiesIn};
 ghost use Rattle.bit_addressing.specs.Row.{moved, put};
 ghost use Rattle.bit_boxed.specs.BitBox.{Stayed};
 
@@ -89,8 +90,7 @@ impl<T: BitStore, O: BitOrder> BitBox<T, O> {
     /// length, and its bits have room from `dest` on.
     #[tactic(auto, using(crate::proofs::Boxes::shown_length))]
     pub fn copy_within<R: RangeExt>(&mut self, range: R, dest: usize)
-        requires order { R.start_of range ≤ R.end_of range (length self.old.list) }
-        requires within { R.end_of range (length self.old.list) ≤ length self.old.list }
+        requires lies { LiesIn (R.start_of range) (R.end_of range (length self.old.list)) (length self.old.list) }
         requires room { dest + (R.end_of range (length self.old.list) - R.start_of range) ≤ length self.old.list }
         ensures list { self.new.list ≡ moved self.old.list (R.start_of range) dest (R.end_of range (length self.old.list) - R.start_of range) }
         ensures row { self.new.row ≡ moved self.old.row (self.old.head + R.start_of range) (self.old.head + dest) (R.end_of range (length self.old.list) - R.start_of range) }

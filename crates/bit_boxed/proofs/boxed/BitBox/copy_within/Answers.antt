@@ -1,7 +1,7 @@
 use Rattle.std.proofs.Common.{◌≡◌, ◌+◌, ◌-◌, length, slice_range, sym, ◌∙◌, ap, arith}
 use Rattle.bit_addressing.specs.Row.{moved}
 use Rattle.bit_addressing.specs.Typed.{row}
-use Rattle.bit_addressing.proofs.MovedLists.{shows_moved}
+use Rattle.bit_addressing.proofs.lists.Moved.{shows_moved}
 use Rattle.bit_boxed.proofs.Boxes.{shown}
 use Rattle.bit_boxed.proofs.boxed.BitBox.copy_within.Goals as goal
 

@@ -1,6 +1,6 @@
 use Rattle.std.proofs.Common.{◌+◌, slice_range, ◌∙◌, ap}
 use Rattle.bit_addressing.specs.Typed.{row}
-use Rattle.bit_addressing.proofs.Lists.{shows_filled}
+use Rattle.bit_addressing.proofs.lists.Shown.{shows_filled}
 use Rattle.bit_boxed.proofs.Boxes.{shown}
 use Rattle.bit_boxed.proofs.boxed.BitBox.fill_uninitialized.Goals as goal
 

@@ -1,6 +1,6 @@
 use Rattle.std.proofs.Common.{◌+◌, not, map, slice_range, ◌∙◌, ap}
 use Rattle.bit_addressing.specs.Typed.{row}
-use Rattle.bit_addressing.proofs.Lists.{shows_map}
+use Rattle.bit_addressing.proofs.lists.Shown.{shows_map}
 use Rattle.bit_boxed.proofs.boxed.BitBox.flip_all.Goals as goal
 
 pub returns-clause-list : goal.returns-clause-list

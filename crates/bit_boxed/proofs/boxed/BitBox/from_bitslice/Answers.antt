@@ -1,7 +1,8 @@
 use Rattle.std.proofs.Common.{◌≡◌, ◌+◌, ◌*◌, ◌<◌, ◌≤◌, Bool, List, length, sym, ◌∙◌, ap, arith}
 use Rattle.bit_addressing.specs.Row.{sized}
 use Rattle.bit_addressing.specs.Typed.{row}
-use Rattle.bit_addressing.proofs.Lists.{length-shows, length-sized, room}
+use Rattle.bit_addressing.proofs.lists.Shown.{length-run}
+use Rattle.bit_addressing.proofs.lists.Sized.{length-sized, room}
 use Rattle.bit_addressing.proofs.Rows.{width_positive}
 use Rattle.bit_addressing.proofs.Typed.{length_row}
 use Rattle.bit_slice.proofs.Parts.{in_row}
@@ -22,7 +23,7 @@ returns-clause-list g c =
     let w = g.T.BitStore.BITS in
     let bits = row g.T.BitStore g.O.BitOrder in
     let blank : List Bool = sized w (bits c.new-words.result.items) v.len in
-    let size : length (list_of v) ≡ v.len = length-shows (bits v.words.now) v.head v.len (in_row g.T.BitStore g.O.BitOrder v.words.now (v.head + v.len) v.fits.room) in
+    let size : length (list_of v) ≡ v.len = length-run (bits v.words.now) v.head v.len (in_row g.T.BitStore g.O.BitOrder v.words.now (v.head + v.len) v.fits.room) in
     let there : 0 + v.len ≤ length blank = let r = (room w v.len (width_positive w g.met.T.BitStore.width)).0 in omega (arith, length-sized w (bits c.new-words.result.items) v.len) in
     c.of_parts.ensures.list
     ∙ rw (c.copy_bits_in_vec.ensures.bits, c.in-Ok.ensures.bits, c.as_raw_slice.ensures.words, c.head-from.ensures.value, c.len-len.ensures.value) (shown_filled blank (list_of v) 0 v.len (sym size) there)
@@ -33,7 +34,7 @@ returns-clause-clean g c =
     let w = g.T.BitStore.BITS in
     let bits = row g.T.BitStore g.O.BitOrder in
     let positive = width_positive w g.met.T.BitStore.width in
-    let size : length (list_of v) ≡ v.len = length-shows (bits v.words.now) v.head v.len (in_row g.T.BitStore g.O.BitOrder v.words.now (v.head + v.len) v.fits.room) in
+    let size : length (list_of v) ≡ v.len = length-run (bits v.words.now) v.head v.len (in_row g.T.BitStore g.O.BitOrder v.words.now (v.head + v.len) v.fits.room) in
     let none : length (bits c.new-words.result.items) ≡ 0 = length_row g.T.BitStore.value g.O.BitOrder.place w c.new-words.result.items ∙ ap (λ l. w * length l) c.new-words.ensures.items ∙ omega arith in
     let made : c.of_parts.result.row ≡ sized w (list_of v) v.len =
     c.of_parts.ensures.row

@@ -1,7 +1,8 @@
 use Rattle.std.proofs.Common.{◌≡◌, ◌+◌, ◌*◌, ◌≤◌, ◌++◌, false, length, ◌∙◌, ap, arith}
 use Rattle.bit_addressing.specs.Row.{words_for}
 use Rattle.bit_addressing.specs.Typed.{row}
-use Rattle.bit_addressing.proofs.Lists.{room, shows_filled}
+use Rattle.bit_addressing.proofs.lists.Sized.{room}
+use Rattle.bit_addressing.proofs.lists.Shown.{shows_filled}
 use Rattle.bit_addressing.proofs.Rows.{width_positive, width_small}
 use Rattle.bit_addressing.proofs.Typed.{length_row}
 use Rattle.bit_boxed.proofs.boxed.BitBox.from_bitslice_headed.Goals as goal

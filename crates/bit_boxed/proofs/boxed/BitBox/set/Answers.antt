@@ -1,6 +1,6 @@
 use Rattle.std.proofs.Common.{◌≡◌, ◌+◌, set, length, slice_range, sym, ◌∙◌, ap, arith}
 use Rattle.bit_addressing.specs.Typed.{row}
-use Rattle.bit_addressing.proofs.Lists.{shows_set}
+use Rattle.bit_addressing.proofs.lists.Shown.{shows_set}
 use Rattle.bit_boxed.proofs.Boxes.{shown}
 use Rattle.bit_boxed.proofs.boxed.BitBox.set.Goals as goal
 

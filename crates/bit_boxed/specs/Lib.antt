@@ -1,2 +1,3 @@
 pub mod BitBox
 pub mod Lends
+pub mod Pulls

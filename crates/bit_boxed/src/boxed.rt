@@ -1,15 +1,17 @@
 //! The box: what it is, and how it is made and taken apart.
-ghost use Rattle.std.specs.Prelude.{◌≡◌, ◌+◌, ◌*◌, ◌<◌, ◌≤◌, ◌↔◌, false, [], ◌∷◌, IfOk, IfErr, IsOk, OnErr, length, slice_range};
+ghost use Rattle.std.specs.Prelude.{◌≡◌, ◌+◌, ◌*◌, ◌<◌, ◌≤◌, ◌↔◌, false, [], ◌∷◌, Err, IfOk, IfErr, IsOk, OnErr, length, slice_range};
 ghost use Rattle.std.specs.Box.{boxed_slice_items};
+ghost use Rattle.std.specs.Iterator.{IsFiniteIterable};
 ghost use Rattle.bit_addressing.specs.declared.length.TheConstants.{MAX_BITS};
 ghost use Rattle.bit_addressing.specs.Row.{filled, moved, words_for};
 ghost use Rattle.bit_addressing.specs.Typed.{row, words_from};
 ghost use Rattle.bit_slice.specs.BitSlice.{words_of, head_of, len_of, row_of, list_of};
 ghost use Rattle.bit_boxed.specs.BitBox.{IsClean, Stayed};
+ghost use Rattle.bit_boxed.specs.Pulls.{GivesAll, GivesFirst, RunsThrough};
 
 use bit_addressing::{
-    BitOrder, BitStore, Lsb0, MAX_BITS, copy_bits_in_vec, exact_words, fill_outside_in_vec,
-    move_bits_in_vec, resize_words_in_vec,
+    BitOrder, BitStore, GrowError, Lsb0, MAX_BITS, copy_bits_in_vec, exact_words,
+    fill_outside_in_vec, move_bits_in_vec, push_bit_in_vec, resize_words_in_vec,
 };
 use bit_array::{BitArray, BitWords};
 use bit_slice::BitSlice;
@@ -223,6 +225,34 @@ impl<T: BitStore, O: BitOrder> BitBox<T, O> {
         words.extend_from_slice(view.as_raw_slice())?;
         fill_outside_in_vec::<T, O>(&mut words, head, len, false);
         Ok(Self::of_parts(words, head, len))
+    }
+
+    /// The bits that an iterator gives before its first None, from head 0 on: the words are canonical. It pulls
+    /// nothing after that None. It answers `TooLong` at the first bit with which the length would pass `MAX_BITS`,
+    /// and `OutOfMemory` only where there is a bit; then it pulls no more. What was pulled is gone.
+    pub fn from_bits<I: IntoIterator<Item = bool>>(
+        alloc: Global,
+        iter: I,
+    ) -> Result<Self, GrowError>
+        requires { IsFiniteIterable I.into_iter_gives I.IntoIter.can_next I.IntoIter.remaining iter }
+        ensures list { IfOk result (λ b. GivesAll I.into_iter_gives I.IntoIter.next_gives iter (λ bits. b.list ≡ bits)) }
+        ensures runs { IfOk result (λ b. RunsThrough I.into_iter_gives I.IntoIter.next_gives iter (λ bits. b.list ≡ bits)) }
+        ensures clean { IfOk result (λ b. IsClean T.BITS b) }
+        ensures too_long { result ≡ Err GrowError.TooLong → GivesFirst I.into_iter_gives I.IntoIter.next_gives iter (λ bits. MAX_BITS < length bits) }
+        ensures memory { result ≡ Err GrowError.OutOfMemory → GivesFirst I.into_iter_gives I.IntoIter.next_gives iter (λ bits. 0 < length bits) }
+    {
+        let mut words = Vec::new(alloc);
+        let mut len = 0;
+        for bit in iter {
+            if len == MAX_BITS {
+                return Err(GrowError::TooLong);
+            }
+            let Ok(()) = push_bit_in_vec::<T, O>(&mut words, len, bit) else {
+                return Err(GrowError::OutOfMemory);
+            };
+            len += 1;
+        }
+        Ok(Self::of_parts(words, 0, len))
     }
 
     /// All the words, as they are. Takes no memory.

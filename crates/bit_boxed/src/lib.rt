@@ -2,5 +2,9 @@
 #![tactic(auto)]
 
 mod boxed;
+#[cfg(test)]
+mod callers;
+#[cfg(test)]
+mod tests;
 
 pub use boxed::{BitBox, IntoIter};

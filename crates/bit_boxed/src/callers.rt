@@ -1,0 +1,47 @@
+//! Callers that know what they get from the contracts alone: none of them has a proof file.
+ghost use Rattle.std.specs.Prelude.{◌≡◌, ◌↔◌, ◌*◌, ◌≤◌, IfOk, IsTrue, length, set, true, ◌<◌};
+ghost use Rattle.std.specs.Box.{boxed_slice_items};
+ghost use Rattle.bit_addressing.specs.declared.length.TheConstants.{MAX_BITS};
+ghost use Rattle.bit_slice.specs.BitSlice.{list_of};
+
+use crate::BitBox;
+use bit_addressing::{BitOrder, BitStore};
+use bit_slice::BitSlice;
+use std::alloc::{AllocError, Global};
+use std::boxed::BoxedSlice;
+
+/// A box made of a view, and read back.
+pub fn kept<T: BitStore, O: BitOrder>(
+    alloc: Global,
+    view: BitSlice<'_, T, O>,
+) -> Result<BitBox<T, O>, AllocError>
+    ensures { IfOk result (λ b. b.list ≡ list_of view.entry) }
+{
+    BitBox::from_bitslice(alloc, view)
+}
+
+/// Boxes with equal lists are equal, whatever their heads.
+#[tactic(auto, using(bit_slice::specs::Comparisons::equal_lists))]
+pub fn same<T: BitStore, O: BitOrder>(a: &BitBox<T, O>, b: &BitBox<T, O>) -> bool
+    ensures { IsTrue result ↔ (a.now.list ≡ b.now.list) }
+{
+    *a == *b
+}
+
+/// The words of a boxed slice, there and back.
+pub fn round<T: BitStore, O: BitOrder>(words: BoxedSlice<T>) -> BoxedSlice<T>
+    requires { T.BITS * length (boxed_slice_items words) ≤ MAX_BITS }
+    ensures { boxed_slice_items result ≡ boxed_slice_items words }
+{
+    BitBox::<T, O>::from_boxed_slice(words).into_boxed_slice()
+}
+
+/// A bit written behind any head.
+pub fn marked<T: BitStore, O: BitOrder>(b: BitBox<T, O>) -> BitBox<T, O>
+    requires { 2 < length b.list }
+    ensures { result.list ≡ set b.list 2 true }
+{
+    let mut b = b;
+    b.set(2, true);
+    b
+}

@@ -3,7 +3,7 @@ use Rattle.std.proofs.Common.{◌≡◌, ℕ, ◌+◌, ◌-◌, ◌*◌, ◌<◌
 use Rattle.std.proofs.lemmas.List.{take_all}
 use Rattle.std.specs.Iterator.{Yields}
 use Rattle.bit_addressing.specs.Row.{put, sized}
-use Rattle.bit_addressing.proofs.Lists.{shows_sized, sized_joined}
+use Rattle.bit_addressing.proofs.lists.Shown.{shows_sized, sized_joined}
 
 -- one item more
 pub yields_more : {S A : Type 0} (steps : S → Option A → S → Type 0) (s : S) (items : List A) (t : S) (x : A) (u : S) → Yields steps s items t → steps t (Some x) u → Yields steps s (items ++ x ∷ []) u

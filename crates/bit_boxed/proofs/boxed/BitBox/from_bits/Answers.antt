@@ -3,7 +3,7 @@ use Rattle.std.proofs.lemmas.List.{length_push}
 use Rattle.std.proofs.iter.runs.Consumers.{total_runs}
 use Rattle.bit_addressing.specs.Row.{sized, words_for}
 use Rattle.bit_addressing.specs.Typed.{row}
-use Rattle.bit_addressing.proofs.Lists.{words_for_all}
+use Rattle.bit_addressing.proofs.lists.Sized.{words_for_all}
 use Rattle.bit_addressing.proofs.Rows.{row_of_none, sized_none, width_positive}
 use Rattle.bit_boxed.proofs.Pulling.{yields_more, one_more, shows_all}
 use Rattle.bit_boxed.proofs.boxed.BitBox.from_bits.Goals as goal

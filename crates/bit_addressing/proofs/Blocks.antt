@@ -22,7 +22,7 @@ pub block_is : (place other : ℕ → ℕ → ℕ) (low high word mid out a b sk
     → ((i : ℕ) → i < 64 → has_bit word (place 64 i) ≡ row_bit place 64 (low ∷ high ∷ []) (skip + i)) → ((i : ℕ) → i < 64 → has_bit mid i ≡ has_bit word (place 64 i)) → ((i : ℕ) → i < 64 → has_bit out (other 64 i) ≡ has_bit mid i)
     → row_of other 64 (out ∷ []) ≡ slice_range zs (a + skip) (a + skip + 64)
 block_is place other low high word mid out a b skip zs within next inside is_low is_high window plain ordered =
-    row_from other out (a + skip) zs (omega arith)
+    row_from other 64 out (a + skip) zs (omega arith) (omega arith)
     (λ i h. ordered i h ∙ plain i h ∙ window i h ∙ elim (cases_lt (skip + i) 64) [
       | inl l ↦ let at : a + (skip + i) ≡ a + skip + i = omega arith in first_of_two place 64 low high (skip + i) l ∙ block_bit place low a (skip + i) zs l is_low ∙ ap (λ n. get_or zs n false) at
       | inr l ↦

@@ -42,14 +42,14 @@ pub read_nothing : (ms : List Bool) (at got : ℕ) → got ≡ 0 → IsRead ms a
 read_nothing ms at got none = record { shown = λ i h _. absurd (omega arith); clear = λ i _. has_none i }
 
 -- a word that has in its order the bits of a list from a place on
-pub row_from : (place : ℕ → ℕ → ℕ) (v at : ℕ) (ms : List Bool) → at + 64 ≤ length ms → ((i : ℕ) → i < 64 → has_bit v (place 64 i) ≡ get_or ms (at + i) false) → row_of place 64 (v ∷ []) ≡ slice_range ms at (at + 64)
-row_from place v at ms inside shows =
-    let one : List Bool = row_of place 64 (v ∷ []) in
-    let size : length one ≡ 64 * 1 = length-row_of place 64 (v ∷ []) in
-    let part = length-run ms at 64 inside in
-    ext_get_or false one (slice_range ms at (at + 64)) (size ∙ omega arith) (λ i h.
-    let below : i < 64 = omega arith in
-    get_or-row_one place 64 v i (omega arith) below ∙ shows i below ∙ sym (get_or-run ms at 64 i below))
+pub row_from : (place : ℕ → ℕ → ℕ) (w v at : ℕ) (ms : List Bool) → 0 < w → at + w ≤ length ms → ((i : ℕ) → i < w → has_bit v (place w i) ≡ get_or ms (at + i) false) → row_of place w (v ∷ []) ≡ slice_range ms at (at + w)
+row_from place w v at ms positive inside shows =
+    let one : List Bool = row_of place w (v ∷ []) in
+    let size : length one ≡ w * 1 = length-row_of place w (v ∷ []) in
+    let part = length-run ms at w inside in
+    ext_get_or false one (slice_range ms at (at + w)) (size ∙ omega arith) (λ i h.
+    let below : i < w = omega arith in
+    get_or-row_one place w v i positive below ∙ shows i below ∙ sym (get_or-run ms at w i below))
 
 -- the bits of x from its place 63 down are those of the list from `at` on, `got` of them, and those below are false
 pub record IsPacked (ms : List Bool) (at got x : ℕ) : Type 0 where

@@ -116,6 +116,58 @@ fn word_of_window<T: BitStore, O: BitOrder, U: BitStore, P: BitOrder>(
     O::from_lsb0(T::from_u64(bits))
 }
 
+/// Whether the ends of a word lie in an order as in the two orders that go by shifts. It is a hint for speed
+/// alone: of another order, bits are cheaper taken one by one than by way of a number.
+#[inline(always)]
+fn goes_by_shifts<O: BitOrder>() -> bool {
+    let first = O::at(BitIdx::<u64>::new_unchecked(0)).into_inner();
+    let last = O::at(BitIdx::<u64>::new_unchecked(63)).into_inner();
+    (first == 0 && last == 63) || (first == 63 && last == 0)
+}
+
+/// As `word_of_window`, bit by bit.
+#[inline(always)]
+fn word_by_bits<T: BitStore, O: BitOrder, U: BitStore, P: BitOrder>(
+    source: &[U],
+    k: usize,
+    skip: u8,
+) -> T
+    requires width { U.BITS ≡ T.BITS }
+    requires word { k + 1 < length source.now }
+    requires within { skip < U.BITS }
+    ensures { row T.BitStore O.BitOrder (result ∷ []) ≡ slice_range (row U.BitStore P.BitOrder source.now) (k * U.BITS + skip) (k * U.BITS + skip + U.BITS) }
+{
+    let (low, high) = (source[k], source[k + 1]);
+    let mut word = T::ZERO;
+    for i in 0..T::BITS {
+        let place = O::at(BitIdx::<T>::new_unchecked(i)).into_inner();
+        word = word.with_bit(place, P::bit_of_pair(low, high, skip + i));
+    }
+    word
+}
+
+/// As `word_behind`, out of words in an order that does not go by shifts.
+fn word_behind_by_bits<T: BitStore, O: BitOrder, U: BitStore, P: BitOrder>(
+    source: &[U],
+    begin: usize,
+    skip: u8,
+    t: usize,
+) -> T
+    requires within { skip < U.BITS }
+    requires source { begin * U.BITS + skip + t * T.BITS + T.BITS < U.BITS * length source.now }
+    requires fits { begin * U.BITS + skip + t * T.BITS + T.BITS < 2 ^ 64 }
+    ensures { row T.BitStore O.BitOrder (result ∷ []) ≡ slice_range (row U.BitStore P.BitOrder source.now) (begin * U.BITS + skip + t * T.BITS) (begin * U.BITS + skip + t * T.BITS + T.BITS) }
+{
+    if U::BITS == T::BITS {
+        if goes_by_shifts::<O>() {
+            return word_of_window::<T, O, U, P>(source, begin + t, skip);
+        }
+        return word_by_bits::<T, O, U, P>(source, begin + t, skip);
+    }
+    let at = begin * U::BITS as usize + skip as usize + t * T::BITS as usize;
+    word_of_run::<T, O, U, P>(source, at, T::BITS, 0)
+}
+
 /// The 64 bits of `source` from index `skip` of word `k` on, in the order `O`.
 /// The condition: `skip` is an index of the word, and the row has 128 bits from word `k` on.
 #[inline(always)]
@@ -148,6 +200,9 @@ pub(crate) fn word_behind<T: BitStore, O: BitOrder, U: BitStore, P: BitOrder>(
     requires fits { begin * U.BITS + skip + t * T.BITS + T.BITS < 2 ^ 64 }
     ensures { row T.BitStore O.BitOrder (result ∷ []) ≡ slice_range (row U.BitStore P.BitOrder source.now) (begin * U.BITS + skip + t * T.BITS) (begin * U.BITS + skip + t * T.BITS + T.BITS) }
 {
+    if !goes_by_shifts::<P>() {
+        return word_behind_by_bits::<T, O, U, P>(source, begin, skip, t);
+    }
     if U::BITS == T::BITS {
         return word_of_window::<T, O, U, P>(source, begin + t, skip);
     }

@@ -42,4 +42,4 @@ returns g c =
     let end : 64 / c.BITS-i-end.result ≡ 64 / w = ap (λ n. 64 / n) c.BITS-i-end.ensures in
     let last : c.loop-i.i ≡ 64 / w = omega (arith, c.loop-i-test.false, c.loop-i.auto.i-end) in
     let full : c.loop-i.i * w ≡ 64 = ap (λ n. n * w) last ∙ pack_fills w g.met.T.BitStore.width in
-    row_from place c.from_lsb0.result (c.args.k * w) ms (omega (arith, c.requires)) (λ i h. c.from_lsb0.ensures i h ∙ c.loop-i.invariant.shown i (omega arith) h)
+    row_from place 64 c.from_lsb0.result (c.args.k * w) ms (omega arith) (omega (arith, c.requires)) (λ i h. c.from_lsb0.ensures i h ∙ c.loop-i.invariant.shown i (omega arith) h)

@@ -157,10 +157,10 @@ fn write_groups<T: BitStore, O: BitOrder, W: fmt::Write>(
     f.write_str(piece.as_str())
 }
 
-/// Writes the list of a view as numbers: `[`, the list cut from its front in groups of `size` bits, a digit
-/// each, the first bit of a group the most significant and the last group perhaps short, and `]`. It goes 60
-/// bits at each call of the writer. Flags and widths have no effect. It takes no memory. The condition: the
-/// groups are of 1, 3 or 4 bits, for binary, octal and hexadecimal digits, these in upper case where `upper`.
+/// Writes the list of a view as digits between brackets: each stands for the next `size` bits from the front on,
+/// its highest bit first, and what is left for the last may be fewer. It goes 60 bits at each call of the
+/// writer. Flags and widths have no effect. It takes no memory. The condition: a digit has 1, 3 or 4 bits, for
+/// binary, octal and hexadecimal ones, these in upper case where `upper`.
 pub fn write_digits<T: BitStore, O: BitOrder, W: fmt::Write>(
     view: BitSlice<'_, T, O>,
     size: u8,

@@ -1,5 +1,5 @@
 //! A range of bits replaced by others, and a vector cut in two.
-ghost use Rattle.std.specs.Prelude.{◌≡◌, ◌≢◌, ◌+◌, ◌-◌, ◌<◌, ◌≤◌, Bool, List, [], length, take, drop, slice_range, Err, IfOk, OnOk, OnErr};
+ghost use Rattle.std.specs.Prelude.{◌≡◌, ◌≢◌, ◌+◌, ◌-◌, ◌<◌, ◌≤◌, Bool, List, [], length, take, drop, replicate, slice_range, Err, IfOk, OnOk, OnErr};
 ghost use Rattle.std.specs.Iterator.{IsFinite, Drains, Yields};
 ghost use Rattle.std.specs.Iterator.Runs.{WholeRun};
 ghost use Rattle.std.specs.List.{splice};
@@ -136,6 +136,34 @@ impl<T: BitStore, O: BitOrder> BitVec<T, O> {
         self.copy_within(end..len, end + extra);
         self.write_bits(start, view);
         Ok(())
+    }
+
+    // Puts a bit `n` times in place of those from `start` up to `end`. The condition: the range lies in the length.
+    pub(crate) fn replace_by(
+        &mut self,
+        start: usize,
+        end: usize,
+        bit: bool,
+        n: usize,
+    ) -> Result<(), GrowError>
+        requires ordered { start ≤ end }
+        requires within { end ≤ length self.old.list }
+        ensures list { OnOk result (self.new.list ≡ splice self.old.list start end (replicate n bit)) }
+        ensures fits { OnOk result (length self.old.list - (end - start) + n ≤ MAX_BITS) }
+        ensures head { self.new.head ≡ self.old.head }
+        ensures too_long { result ≡ Err GrowError.TooLong → MAX_BITS < length self.old.list - (end - start) + n }
+        ensures memory { result ≡ Err GrowError.OutOfMemory → 0 < n }
+        ensures small { result ≡ Err GrowError.OutOfMemory → length self.old.list - (end - start) + n ≤ MAX_BITS }
+        ensures unchanged { OnErr result (self.new.list ≡ self.old.list) }
+        ensures capacity { self.old.capacity ≤ self.new.capacity }
+    {
+        let kept = self.len() - (end - start);
+        if n > MAX_BITS - kept {
+            return Err(GrowError::TooLong);
+        }
+        let alloc = self.allocator();
+        let bits = Self::repeat(alloc, bit, n)?;
+        self.put_range(start, end, bits.as_bitslice())
     }
 
     // What an iterator gives before its first None, at most so many bits.

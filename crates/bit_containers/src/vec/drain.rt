@@ -12,7 +12,7 @@ use std::iter::FusedIterator;
 
 /// The bits of a range of a vector, from both ends, each once, and then None for good.
 ///
-/// When it ends, the whole range is gone from the vector, whatever was taken from it before: the bits behind
+/// Its end takes the whole range out of the vector, also where some of it was never asked for: the bits behind
 /// the range move down by one move of whole words. No call takes memory.
 ///
 /// ```text

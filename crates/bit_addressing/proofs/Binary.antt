@@ -15,6 +15,10 @@ pub length-number_bits : (x n : ℕ) → length (number_bits x n) ≡ n
 unfolding number_bits
 length-number_bits x n = length-map-range_with_len (has_bit x) 0 n
 
+pub number_bits_none : (x : ℕ) → number_bits x 0 ≡ []
+unfolding number_bits
+number_bits_none x = refl
+
 pub length-binary : (n x : ℕ) → length (binary n x) ≡ n
 unfolding binary
 length-binary n x = length-map-range_with_len (λ i. has_bit x (n - 1 - i)) 0 n

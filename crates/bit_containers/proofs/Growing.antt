@@ -124,7 +124,3 @@ number_bits_next x y n b few change =
       | inl e ↦ rw (e.0, e.1) (sym (get_or-append_right xs (b ∷ []) n n false size (omega arith) ∙ ap (λ k. get_or (b ∷ []) k false) gone))
       | inr e ↦ rw e.0 (sym (get_or_append_left xs (b ∷ []) false i (omega (arith, e.1)) ∙ get_or-map-range_with_len (has_bit x) 0 n i i false (omega (arith, e.1)) (omega arith)))
     ])
-
-pub number_bits_none : (x : ℕ) → number_bits x 0 ≡ []
-unfolding number_bits
-number_bits_none x = refl

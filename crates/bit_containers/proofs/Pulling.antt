@@ -1,5 +1,5 @@
 -- Items pulled out of an iterator, one after another.
-use Rattle.std.proofs.Common.{map, false, ◌≡◌, ℕ, ◌+◌, ◌*◌, ◌<◌, ◌≤◌, Bool, List, [], ◌∷◌, ◌++◌, length, Option, Some, refl, subst, sym, ◌∙◌, ap, arith, append_assoc}
+use Rattle.std.proofs.Common.{map, false, ◌≡◌, ℕ, ◌+◌, ◌*◌, ◌<◌, Bool, List, [], ◌∷◌, ◌++◌, length, Option, Some, refl, subst, sym, ◌∙◌, ap, arith, append_assoc}
 use Rattle.std.proofs.lemmas.List.{length-append, map-append, ext_get_or}
 use Rattle.std.proofs.lemmas.List.FromFn.{length-map-range_with_len, get_or-map-range_with_len}
 use Rattle.bit_addressing.specs.Bits.{has_bit}
@@ -9,7 +9,6 @@ use Rattle.bit_addressing.specs.declared.order.BitOrder as order
 use Rattle.bit_addressing.specs.Row.{words_for, number_bits, row_of}
 use Rattle.bit_addressing.specs.Typed.{row}
 use Rattle.bit_addressing.proofs.Rows.{row_append, length-row_of, get_or-row_one}
-use Rattle.bit_addressing.specs.declared.length.TheConstants.{MAX_BITS}
 use Rattle.bit_containers.specs.BitVec.{Held, Grew}
 use Rattle.bit_containers.specs.Pulls.{GivesFirst}
 use Rattle.bit_addressing.proofs.Binary.{length-number_bits}

@@ -1,12 +1,12 @@
 -- Runs of commands, one after another.
 use Rattle.std.proofs.Common.{◌≡◌, ℕ, ◌+◌, ◌<◌, ◌≤◌, List, Bool, [], ◌∷◌, ◌++◌, refl, ap, sym, subst, ◌∙◌, length, take, get_or}
-use Rattle.std.proofs.Common.{inl}
+use Rattle.std.proofs.Common.{inl, inr, arith}
 use Rattle.std.proofs.lemmas.Option.{slice_get-get_or}
 use Rattle.bit_addressing.specs.declared.errors.GrowError.{GrowError}
 use Rattle.std.proofs.lemmas.List.{take_more}
 use Rattle.bit_addressing.specs.declared.length.TheConstants.{MAX_BITS}
 use Rattle.bit_containers.specs.declared.machine.Command.{Command}
-use Rattle.bit_containers.specs.Machine.{list_after_one, reply_to, list_after, replies_of, head_after_one, head_after, AllFit, new_length, IsRefusal, IsStopReason}
+use Rattle.bit_containers.specs.Machine.{list_after_one, reply_to, list_after, replies_of, head_after_one, head_after, AllFit, new_length, IsRefusal, IsStopReason, CanWantMemory}
 
 -- a run goes on where another ended
 pub list_after-append : (list : List Bool) (xs ys : List Command) → list_after list (xs ++ ys) ≡ list_after (list_after list xs) ys
@@ -42,3 +42,10 @@ module _ (list : List Bool) (cs : List Command) (i : ℕ) (d : Command) (h : i <
 -- a run stopped before a command that was refused, with the list as it was before it
 pub stopped_at : (old new : List Bool) (cs : List Command) (i : ℕ) (d : Command) (why : GrowError) → i < length cs → new ≡ old → IsRefusal old (get_or cs i d) why → IsStopReason new cs i why
 stopped_at old new cs i d why h same r = inl (get_or cs i d, slice_get-get_or cs i d h, subst (λ list. IsRefusal list (get_or cs i d) why) (sym same) r)
+
+-- memory that may be wanting at a capacity may be wanting at a smaller one
+pub wants_before : (less more : ℕ) (list : List Bool) (command : Command) → less ≤ more → CanWantMemory more list command → CanWantMemory less list command
+wants_before less more list command h wants = elim wants [
+  | inl longer ↦ inl (omega arith)
+  | inr own ↦ inr own
+]

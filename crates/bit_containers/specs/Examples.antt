@@ -6,7 +6,7 @@ use Rattle.bit_addressing.specs.declared.length.TheConstants.{MAX_BITS}
 use Rattle.bit_addressing.specs.declared.errors.GrowError.TheVariants.{TooLong, OutOfMemory}
 use Rattle.bit_addressing.specs.Row.{words_for, put, sized, moved}
 use Rattle.bit_containers.specs.declared.machine.Command.{Command}
-use Rattle.bit_containers.specs.declared.machine.Command.TheVariants.{Push, Pop, Get, Set, Insert, Remove, SwapRemove, Truncate, Resize, Reserve, ExtendWithin, CopyWithin, Align, Len}
+use Rattle.bit_containers.specs.declared.machine.Command.TheVariants.{Push, Pop, Get, Set, Insert, Remove, SwapRemove, Truncate, Clear, Drain, Splice, SplitOff, Resize, Reserve, ExtendWithin, CopyWithin, Align, Len}
 use Rattle.bit_containers.specs.declared.machine.Reply.TheVariants.{Done, Bit, Nothing, Number, OutOfRange}
 use Rattle.bit_containers.specs.BitVec.{Held, bits_in, Grew, Shrank, Stayed, IsCopy, IsClean}
 use Rattle.bit_containers.specs.Machine.{list_after_one, head_after_one, reply_to, new_length, list_after, head_after, replies_of, AllFit, IsRefusal, IsStopReason}
@@ -112,6 +112,21 @@ swap_remove = (refl, refl)
 truncate : (list_after_one pair (Truncate 1) ≡ true ∷ []) × (list_after_one pair (Truncate 3) ≡ pair) × (reply_to pair (Truncate 3) ≡ Done)
 truncate = (refl, refl, refl)
 
+clear : (list_after_one pair Clear ≡ []) × (reply_to pair Clear ≡ Done) × (new_length pair Clear ≡ 0)
+clear = (refl, refl, refl)
+
+drain : (list_after_one (true ∷ pair) (Drain 0 2) ≡ false ∷ []) × (reply_to (true ∷ pair) (Drain 0 2) ≡ Number 2) × (reply_to pair (Drain 1 3) ≡ OutOfRange)
+drain = (refl, refl, refl)
+
+splice : (list_after_one pair (Splice 0 1 false 3) ≡ false ∷ false ∷ false ∷ false ∷ []) × (reply_to pair (Splice 0 1 false 3) ≡ Done) × (new_length pair (Splice 0 1 false 3) ≡ 4)
+splice = (refl, refl, refl)
+
+splice_out_of_range : (list_after_one pair (Splice 1 0 false 3) ≡ pair) × (reply_to pair (Splice 1 0 false 3) ≡ OutOfRange) × (new_length pair (Splice 1 0 false 3) ≡ 2)
+splice_out_of_range = (refl, refl, refl)
+
+split_off : (list_after_one pair (SplitOff 1) ≡ true ∷ []) × (reply_to pair (SplitOff 1) ≡ Number 1) × (reply_to pair (SplitOff 3) ≡ OutOfRange)
+split_off = (refl, refl, refl)
+
 resize : (list_after_one pair (Resize 4 true) ≡ true ∷ false ∷ true ∷ true ∷ []) × (list_after_one pair (Resize 1 true) ≡ true ∷ []) × (reply_to pair (Resize 4 true) ≡ Done) × (new_length pair (Resize 4 true) ≡ 4)
 resize = (refl, refl, refl, refl)
 
@@ -150,7 +165,7 @@ without_a_refusal : (list_after [] refused ≡ true ∷ false ∷ []) × (replie
 without_a_refusal = (refl, refl, refl, (omega arith, (omega arith, (omega arith, tt))))
 
 a_stop : IsStopReason (true ∷ []) refused 1 OutOfMemory
-a_stop = inl (Push false, refl, (omega arith, omega arith))
+a_stop = inl (Push false, refl, (inl (omega arith), omega arith))
 
 -- the length that a command asks for of a list of one bit, or 0
 abbrev wanted : Option Command → ℕ
@@ -166,7 +181,7 @@ no_such_stop reason = elim reason [ inl stop ↦ absurd (omega (arith, stop.2, w
 
 -- a command that doesn't grow the list isn't refused
 no_refusal_of_a_pop : IsRefusal pair Pop OutOfMemory → ⊥
-no_refusal_of_a_pop refusal = absurd (omega (arith, refusal.0))
+no_refusal_of_a_pop refusal = elim refusal.0 [ inl longer ↦ absurd (omega (arith, longer)) | inr none ↦ none ]
 
 -- a full list is refused one bit more
 too_long : (list : List Bool) → length list ≡ MAX_BITS → IsRefusal list (Push true) TooLong

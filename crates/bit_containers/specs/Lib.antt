@@ -1,6 +1,8 @@
 pub mod BitVec
 pub mod Closures
+pub mod Drain
 pub mod Examples
 pub mod Lends
 pub mod Machine
 pub mod Pulls
+pub mod Splice

@@ -1,12 +1,12 @@
 -- What commands, and runs of them, do to a list of bits and reply.
-use Rattle.std.specs.Prelude.{◌≡◌, ℕ, ◌+◌, ◌-◌, ◌<◌, ◌≤◌, ◌⊎◌, ◌&&◌, Option, List, Bool, false, [], ◌∷◌, ◌++◌, length, take, replicate, slice_range, slice_set, slice_get, insert, remove, nat_lt, nat_le, if◌then◌else◌, Some, None}
-use Rattle.std.specs.List.{swap_remove}
+use Rattle.std.specs.Prelude.{◌≡◌, ℕ, ◌+◌, ◌-◌, ◌<◌, ◌≤◌, ◌⊎◌, ◌&&◌, Option, List, Bool, false, [], ◌∷◌, ◌++◌, length, take, replicate, slice_range, slice_set, slice_get, insert, remove, nat_lt, nat_le, if◌then◌else◌, Some, None, drop, count_by}
+use Rattle.std.specs.List.{swap_remove, splice}
 use Rattle.bit_addressing.specs.Row.{moved}
 use Rattle.bit_addressing.specs.declared.errors.GrowError.{GrowError}
 use Rattle.bit_addressing.specs.declared.errors.GrowError.TheVariants.{TooLong, OutOfMemory}
 use Rattle.bit_addressing.specs.declared.length.TheConstants.{MAX_BITS}
 use Rattle.bit_containers.specs.declared.machine.Command.{Command}
-use Rattle.bit_containers.specs.declared.machine.Command.TheVariants.{Push, Pop, Get, Set, Insert, Remove, SwapRemove, Truncate, Resize, Reserve, ExtendWithin, CopyWithin, Align, Len}
+use Rattle.bit_containers.specs.declared.machine.Command.TheVariants.{Push, Pop, Get, Set, Insert, Remove, SwapRemove, Truncate, Clear, Drain, Splice, SplitOff, Resize, Reserve, ExtendWithin, CopyWithin, Align, Len}
 use Rattle.bit_containers.specs.declared.machine.Reply.{Reply}
 use Rattle.bit_containers.specs.declared.machine.Reply.TheVariants.{Done, Bit, Nothing, Number, OutOfRange}
 
@@ -28,6 +28,10 @@ list_after_one list (Insert i b) = if nat_le i (length list) then insert list i 
 list_after_one list (Remove i) = if nat_lt i (length list) then remove list i else list
 list_after_one list (SwapRemove i) = if nat_lt i (length list) then swap_remove list i false else list
 list_after_one list (Truncate n) = take n list
+list_after_one list Clear = []
+list_after_one list (Drain from upto) = if is_range list from upto then splice list from upto [] else list
+list_after_one list (Splice from upto b n) = if is_range list from upto then splice list from upto (replicate n b) else list
+list_after_one list (SplitOff at) = take at list
 list_after_one list (Resize n b) = take n list ++ replicate (n - length list) b
 list_after_one list (Reserve k) = list
 list_after_one list (ExtendWithin from upto) = if is_range list from upto then list ++ slice_range list from upto else list
@@ -54,6 +58,10 @@ reply_to list (Insert i b) = done_if (nat_le i (length list))
 reply_to list (Remove i) = bit_or OutOfRange (slice_get list i)
 reply_to list (SwapRemove i) = bit_or OutOfRange (slice_get list i)
 reply_to list (Truncate n) = Done
+reply_to list Clear = Done
+reply_to list (Drain from upto) = if is_range list from upto then Number (count_by (λ bit. bit) (slice_range list from upto)) else OutOfRange
+reply_to list (Splice from upto b n) = done_if (is_range list from upto)
+reply_to list (SplitOff at) = if nat_le at (length list) then Number (length list - at) else OutOfRange
 reply_to list (Resize n b) = Done
 reply_to list (Reserve k) = Done
 reply_to list (ExtendWithin from upto) = done_if (is_range list from upto)
@@ -76,6 +84,10 @@ head_after_one head (Insert i b) = head
 head_after_one head (Remove i) = head
 head_after_one head (SwapRemove i) = head
 head_after_one head (Truncate n) = head
+head_after_one head Clear = head
+head_after_one head (Drain from upto) = head
+head_after_one head (Splice from upto b n) = head
+head_after_one head (SplitOff at) = head
 head_after_one head (Resize n b) = head
 head_after_one head (Reserve k) = head
 head_after_one head (ExtendWithin from upto) = head
@@ -97,6 +109,7 @@ replies_of list (command ∷ commands) = reply_to list command ∷ replies_of (l
 abbrev pub new_length : List Bool → Command → ℕ
 new_length list (Push b) = length list + 1
 new_length list (Insert i b) = if nat_le i (length list) then length list + 1 else length list
+new_length list (Splice from upto b n) = if is_range list from upto then length list - (upto - from) + n else length list
 new_length list (Resize n b) = n
 new_length list (Reserve k) = length list + k
 new_length list (ExtendWithin from upto) = if is_range list from upto then length list + (upto - from) else length list
@@ -107,10 +120,20 @@ abbrev pub AllFit : List Bool → List Command → Type 0
 AllFit list [] = Unit {0}
 AllFit list (command ∷ commands) = (new_length list command ≤ MAX_BITS) × AllFit (list_after_one list command) commands
 
--- a command was refused at this list, for this reason: it asks for more bits than a vector holds, or it grows the list
+-- a command that takes memory of its own, beside that for a longer list: for what it puts in, or for what it cuts off
+abbrev pub TakesMore : List Bool → Command → Type 0
+TakesMore list (Splice from upto b n) = (from ≤ upto) × (upto ≤ length list) × (0 < n)
+TakesMore list (SplitOff at) = at < length list
+TakesMore list command = ⊥
+
+-- a command was refused at this list, for this reason: it asks for more bits than a vector holds, or it grows the list or takes memory of its own
 abbrev pub IsRefusal : List Bool → Command → GrowError → Type 0
 IsRefusal list command TooLong = MAX_BITS < new_length list command
-IsRefusal list command OutOfMemory = (length list < new_length list command) × (new_length list command ≤ MAX_BITS)
+IsRefusal list command OutOfMemory = ((length list < new_length list command) ⊎ TakesMore list command) × (new_length list command ≤ MAX_BITS)
+
+-- a command for which memory may be wanting, at this capacity and list: its length passes the capacity, or it takes memory of its own
+abbrev pub CanWantMemory : ℕ → List Bool → Command → Type 0
+CanWantMemory capacity list command = (capacity < new_length list command) ⊎ TakesMore list command
 
 -- a run stopped before the command at `done`, with this list: the command was refused, or at the very beginning there was no memory for the replies
 abbrev pub IsStopReason : List Bool → List Command → ℕ → GrowError → Type 0

@@ -3,4 +3,5 @@
 mod bits;
 mod growing;
 mod iterating;
+mod removing;
 mod words;

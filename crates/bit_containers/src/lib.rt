@@ -14,4 +14,4 @@ pub use bit_addressing::{
 };
 pub use bit_slice::{BitSlice, BitSliceMut, CountedMut, Iter};
 pub use machine::{Command, Reply, Stop, run};
-pub use vec::BitVec;
+pub use vec::{BitVec, Drain, Splice};

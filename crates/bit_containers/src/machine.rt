@@ -1,7 +1,7 @@
 //! Runs of commands.
-ghost use Rattle.std.specs.Prelude.{◌⊎◌, Err, Some, slice_get, ◌≡◌, ◌+◌, ◌-◌, ◌<◌, ◌≤◌, ◌++◌, length, take, OnOk, OnErr, IfOk, IfErr};
+ghost use Rattle.std.specs.Prelude.{◌⊎◌, Err, Some, slice_get, ◌≡◌, ◌≢◌, ◌+◌, ◌-◌, ◌<◌, ◌≤◌, ◌++◌, length, take, OnOk, OnErr, IfOk, IfErr};
 ghost use Rattle.bit_addressing.specs.declared.length.TheConstants.{MAX_BITS};
-ghost use Rattle.bit_containers.specs.Machine.{list_after_one, reply_to, list_after, replies_of, head_after_one, head_after, AllFit, IsRefusal, IsStopReason, new_length};
+ghost use Rattle.bit_containers.specs.Machine.{list_after_one, reply_to, list_after, replies_of, head_after_one, head_after, AllFit, IsRefusal, IsStopReason, new_length, CanWantMemory};
 
 use crate::vec::BitVec;
 use bit_addressing::{BitOrder, BitStore, GrowError};
@@ -25,12 +25,20 @@ pub enum Command {
     SwapRemove(usize),
     /// Keeps the first items.
     Truncate(usize),
+    /// Drops all items.
+    Clear,
     /// Keeps the first items, or fills the list up to a length with a bit.
     Resize(usize, bool),
     /// Makes room for so many bits more.
     Reserve(usize),
     /// Joins the range from the first index to the second once more.
     ExtendWithin(usize, usize),
+    /// Takes out the range from the first index to the second, and asks how many of its bits are true.
+    Drain(usize, usize),
+    /// Puts a bit so many times in place of the range from the first index to the second.
+    Splice(usize, usize, bool, usize),
+    /// Drops the items from an index on, and asks how many they are.
+    SplitOff(usize),
     /// Copies the range from the first index to the second to the place from the third on.
     CopyWithin(usize, usize, usize),
     /// Moves the bits to the beginning of their words; the list stays.
@@ -132,6 +140,71 @@ fn swap_remove_at<T: BitStore, O: BitOrder>(v: &mut BitVec<T, O>, i: usize) -> R
     }
 }
 
+/// Takes a range out, where it is one of the list.
+fn drain_at<T: BitStore, O: BitOrder>(v: &mut BitVec<T, O>, from: usize, upto: usize) -> Reply
+    ensures reply { result ≡ reply_to v.old.list (Command.Drain from upto) }
+    ensures head { v.new.head ≡ v.old.head }
+    ensures capacity { v.old.capacity ≤ v.new.capacity }
+    ensures list { v.new.list ≡ list_after_one v.old.list (Command.Drain from upto) }
+    ensures len { length v.new.list ≤ length v.old.list }
+{
+    if from <= upto && upto <= v.len() {
+        let ones = v.get_range(from..upto).count_ones();
+        let _drain = v.drain(from..upto);
+        Reply::Number(ones)
+    } else {
+        Reply::OutOfRange
+    }
+}
+
+/// Puts a bit in place of a range, so many times, where it is one of the list.
+fn splice_at<T: BitStore, O: BitOrder>(
+    v: &mut BitVec<T, O>,
+    from: usize,
+    upto: usize,
+    bit: bool,
+    n: usize,
+) -> Result<Reply, GrowError>
+    ensures reply { IfOk result (λ reply. reply ≡ reply_to v.old.list (Command.Splice from upto bit n)) }
+    ensures head { v.new.head ≡ v.old.head }
+    ensures capacity { v.old.capacity ≤ v.new.capacity }
+    ensures memory { result ≡ Err GrowError.OutOfMemory → CanWantMemory v.old.capacity v.old.list (Command.Splice from upto bit n) }
+    ensures list { OnOk result (v.new.list ≡ list_after_one v.old.list (Command.Splice from upto bit n)) }
+    ensures fits { OnOk result (new_length v.old.list (Command.Splice from upto bit n) ≤ MAX_BITS) }
+    ensures unchanged { OnErr result (v.new.list ≡ v.old.list) }
+    ensures why { IfErr result (λ why. IsRefusal v.old.list (Command.Splice from upto bit n) why) }
+{
+    v.in_words();
+    if from <= upto && upto <= v.len() {
+        v.replace_by(from, upto, bit, n)?;
+        Ok(Reply::Done)
+    } else {
+        Ok(Reply::OutOfRange)
+    }
+}
+
+/// Drops what is behind an index, where it is at most the length.
+fn split_at<T: BitStore, O: BitOrder>(v: &mut BitVec<T, O>, at: usize) -> Result<Reply, GrowError>
+    ensures reply { IfOk result (λ reply. reply ≡ reply_to v.old.list (Command.SplitOff at)) }
+    ensures head { v.new.head ≡ v.old.head }
+    ensures capacity { v.old.capacity ≤ v.new.capacity }
+    ensures only_memory { result ≢ Err GrowError.TooLong }
+    ensures list { OnOk result (v.new.list ≡ list_after_one v.old.list (Command.SplitOff at)) }
+    ensures unchanged { OnErr result (v.new.list ≡ v.old.list) }
+    ensures why { IfErr result (λ why. IsRefusal v.old.list (Command.SplitOff at) why) }
+    ensures fits { OnOk result (new_length v.old.list (Command.SplitOff at) ≤ MAX_BITS) }
+{
+    v.in_words();
+    if at <= v.len() {
+        match v.split_off(at) {
+            Ok(rest) => Ok(Reply::Number(rest.len())),
+            Err(_) => Err(GrowError::OutOfMemory),
+        }
+    } else {
+        Ok(Reply::OutOfRange)
+    }
+}
+
 /// Joins a range once more, where it is one of the list.
 fn extend_at<T: BitStore, O: BitOrder>(
     v: &mut BitVec<T, O>,
@@ -225,7 +298,7 @@ fn step<T: BitStore, O: BitOrder>(
     ensures head { OnOk result (v.new.head ≡ head_after_one v.old.head command) }
     ensures head_kept { OnErr result (v.new.head ≡ v.old.head) }
     ensures capacity { v.old.capacity ≤ v.new.capacity }
-    ensures memory { result ≡ Err GrowError.OutOfMemory → v.old.capacity < new_length v.old.list command }
+    ensures memory { result ≡ Err GrowError.OutOfMemory → CanWantMemory v.old.capacity v.old.list command }
     ensures list { OnOk result (v.new.list ≡ list_after_one v.old.list command) }
     ensures fits { OnOk result (new_length v.old.list command ≤ MAX_BITS) }
     ensures unchanged { OnErr result (v.new.list ≡ v.old.list) }
@@ -247,6 +320,13 @@ fn step<T: BitStore, O: BitOrder>(
             v.truncate(n);
             Ok(Reply::Done)
         }
+        Command::Clear => {
+            v.clear();
+            Ok(Reply::Done)
+        }
+        Command::Drain(from, upto) => Ok(drain_at(v, from, upto)),
+        Command::Splice(from, upto, b, n) => splice_at(v, from, upto, b, n),
+        Command::SplitOff(at) => split_at(v, at),
         Command::Resize(n, b) => resize_to(v, n, b),
         Command::Reserve(more) => reserve_for(v, more),
         Command::ExtendWithin(from, upto) => extend_at(v, from, upto),
@@ -272,7 +352,7 @@ pub fn run<T: BitStore, O: BitOrder>(
     ensures head { OnOk result (v.new.head ≡ head_after v.old.head commands.now) }
     ensures stopped_head { IfErr result (λ stop. v.new.head ≡ head_after v.old.head (take stop.done commands.now)) }
     ensures capacity { v.old.capacity ≤ v.new.capacity }
-    ensures memory { IfErr result (λ stop. stop.why ≡ GrowError.OutOfMemory → (stop.done ≡ 0) ⊎ ((command : Command) × (slice_get commands.now stop.done ≡ Some command) × (v.old.capacity < new_length v.new.list command))) }
+    ensures memory { IfErr result (λ stop. stop.why ≡ GrowError.OutOfMemory → (stop.done ≡ 0) ⊎ ((command : Command) × (slice_get commands.now stop.done ≡ Some command) × CanWantMemory v.old.capacity v.new.list command)) }
     ensures list { OnOk result (v.new.list ≡ list_after v.old.list commands.now) }
     ensures fit { OnOk result (AllFit v.old.list commands.now) }
     ensures stopped_replies { IfErr result (λ stop.

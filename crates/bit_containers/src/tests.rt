@@ -5,6 +5,7 @@ mod edits;
 mod growing;
 mod moves;
 mod reading;
+mod removing;
 mod text;
 mod words;
 

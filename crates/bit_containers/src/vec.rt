@@ -18,13 +18,18 @@ mod api;
 mod capacity;
 mod closures;
 mod collect;
+mod drain;
 mod extend;
 mod iter;
 mod numbers;
 mod ops;
 mod slice;
+mod splice;
 mod traits;
 mod views;
+
+pub use drain::Drain;
+pub use splice::Splice;
 
 /// A vector of truth values, one bit each, in words of type `T`, in the order `O` of the bits in a word.
 ///

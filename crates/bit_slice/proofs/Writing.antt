@@ -22,17 +22,9 @@ bits_of_number ms n size =
     ext_get_or false (number_bits (number_of ms) n) ms (length-map-range_with_len (has_bit (number_of ms)) 0 n ∙ sym size)
     (λ i h. get_or-map-range_with_len (has_bit (number_of ms)) 0 n i i false (omega (arith, h, length-map-range_with_len (has_bit (number_of ms)) 0 n)) (omega arith) ∙ has_number ms i)
 
-pub length-number_bits : (x n : ℕ) → length (number_bits x n) ≡ n
-unfolding number_bits
-length-number_bits x n = length-map-range_with_len (has_bit x) 0 n
-
 pub number_bits_more : (x n : ℕ) → number_bits x (n + 1) ≡ number_bits x n ++ has_bit x n ∷ []
 unfolding number_bits
 number_bits_more x n = map-range_with_len_more (has_bit x) 0 n n (omega arith)
-
-pub number_bits_none : (x : ℕ) → number_bits x 0 ≡ []
-unfolding number_bits
-number_bits_none x = refl
 
 -- ---- digits behind commas
 

@@ -37,13 +37,13 @@ uncut_at line false e h = uncut_by (λ b. b == 32) line (grind (arith, prefix_le
 pub uncut : (line : List ℕ) → None ≡ position (λ b. b == 32) line → fields_of line ≡ line ∷ []
 uncut line h = uncut_at line (nat_lt (position_or_len (λ b. b == 32) line) (length line)) refl h
 
-too_many : (w a b c : List ℕ) (parts : List (List ℕ)) → 0 < length parts → None ≡ of_fields (w ∷ a ∷ b ∷ c ∷ parts)
-too_many w a b c [] h = absurd (omega arith)
-too_many w a b c (d ∷ more) h = refl
+too_many : (w a b c d : List ℕ) (parts : List (List ℕ)) → 0 < length parts → None ≡ of_fields (w ∷ a ∷ b ∷ c ∷ d ∷ parts)
+too_many w a b c d [] h = absurd (omega arith)
+too_many w a b c d (e ∷ more) h = refl
 
--- a word with more than three arguments is no line
-pub too_many_fields : (w a b c rest : List ℕ) → None ≡ of_fields (w ∷ a ∷ b ∷ c ∷ fields_of rest)
-too_many_fields w a b c rest = too_many w a b c (fields_of rest) (omega (arith, length-slice_split (λ b. b == 32) rest))
+-- a word with more than four arguments is no line
+pub too_many_fields : (w a b c d rest : List ℕ) → None ≡ of_fields (w ∷ a ∷ b ∷ c ∷ d ∷ fields_of rest)
+too_many_fields w a b c d rest = too_many w a b c d (fields_of rest) (omega (arith, length-slice_split (λ b. b == 32) rest))
 
 own : IsNumeralModel (λ ds. all_ascii_digits ds ≡ true) (digits_value 10)
 own = numerals_by_value _ tells_all_ascii_digits

@@ -4,7 +4,7 @@ use Rattle.std.specs.List.{slice_split}
 use Rattle.std.specs.Str.{bytes_eq, all_ascii_digits}
 use Rattle.std.specs.Str.Parse.{digits_value}
 use Rattle.bit_containers.specs.declared.machine.Command.{Command}
-use Rattle.bit_containers.specs.declared.machine.Command.TheVariants.{Push, Pop, Get, Set, Insert, Remove, SwapRemove, Truncate, Resize, Reserve, ExtendWithin, CopyWithin, Align, Len}
+use Rattle.bit_containers.specs.declared.machine.Command.TheVariants.{Push, Pop, Get, Set, Insert, Remove, SwapRemove, Truncate, Clear, Drain, Splice, SplitOff, Resize, Reserve, ExtendWithin, CopyWithin, Align, Len}
 use Rattle.bitrun.specs.declared.parsing.TheConstants.{MAX_LINE}
 use Rattle.bitrun.specs.declared.parsing.Line.{Line}
 use Rattle.bitrun.specs.declared.parsing.Line.TheVariants.{Run, ShowList, ShowWords}
@@ -46,12 +46,21 @@ with_numbers command (Some i) (Some j) None = None
 with_numbers command (Some i) None k = None
 with_numbers command None j k = None
 
+-- the line that puts a bit in place of a range, where its two ends, the bit and how many times are there
+abbrev pub with_splice : Option ℕ → Option ℕ → Option Bool → Option ℕ → Option Line
+with_splice (Some i) (Some j) (Some b) (Some n) = Some (Run (Splice i j b n))
+with_splice (Some i) (Some j) (Some b) None = None
+with_splice (Some i) (Some j) None n = None
+with_splice (Some i) None b n = None
+with_splice None j b n = None
+
 -- the line with these fields
 abbrev pub of_fields : List (List ℕ) → Option Line
 of_fields [] = None
 of_fields (word ∷ []) =
     if bytes_eq word (codes "pop") then Some (Run Pop) else
     if bytes_eq word (codes "len") then Some (Run Len) else
+    if bytes_eq word (codes "clear") then Some (Run Clear) else
     if bytes_eq word (codes "align") then Some (Run Align) else
     if bytes_eq word (codes "list") then Some ShowList else
     if bytes_eq word (codes "raw") then Some ShowWords else None
@@ -59,6 +68,7 @@ of_fields (word ∷ a ∷ []) =
     if bytes_eq word (codes "push") then with_bit Push (bit_of a) else
     if bytes_eq word (codes "get") then with_number Get (number_of a) else
     if bytes_eq word (codes "truncate") then with_number Truncate (number_of a) else
+    if bytes_eq word (codes "splitoff") then with_number SplitOff (number_of a) else
     if bytes_eq word (codes "reserve") then with_number Reserve (number_of a) else
     if bytes_eq word (codes "remove") then with_number Remove (number_of a) else
     if bytes_eq word (codes "swapremove") then with_number SwapRemove (number_of a) else None
@@ -66,10 +76,13 @@ of_fields (word ∷ a ∷ b ∷ []) =
     if bytes_eq word (codes "set") then with_number_and_bit Set (number_of a) (bit_of b) else
     if bytes_eq word (codes "insert") then with_number_and_bit Insert (number_of a) (bit_of b) else
     if bytes_eq word (codes "resize") then with_number_and_bit Resize (number_of a) (bit_of b) else
+    if bytes_eq word (codes "drain") then with_two_numbers Drain (number_of a) (number_of b) else
     if bytes_eq word (codes "within") then with_two_numbers ExtendWithin (number_of a) (number_of b) else None
 of_fields (word ∷ a ∷ b ∷ c ∷ []) =
     if bytes_eq word (codes "copy") then with_numbers CopyWithin (number_of a) (number_of b) (number_of c) else None
-of_fields (word ∷ a ∷ b ∷ c ∷ d ∷ more) = None
+of_fields (word ∷ a ∷ b ∷ c ∷ d ∷ []) =
+    if bytes_eq word (codes "splice") then with_splice (number_of a) (number_of b) (bit_of c) (number_of d) else None
+of_fields (word ∷ a ∷ b ∷ c ∷ d ∷ e ∷ more) = None
 
 -- the fields of a line, cut at each space
 abbrev pub fields_of : List ℕ → List (List ℕ)

@@ -85,6 +85,8 @@ fn of_word(word: &[u8]) -> Option<Line>
         Some(Line::Run(Command::Pop))
     } else if word == b"len".as_slice() {
         Some(Line::Run(Command::Len))
+    } else if word == b"clear".as_slice() {
+        Some(Line::Run(Command::Clear))
     } else if word == b"align".as_slice() {
         Some(Line::Run(Command::Align))
     } else if word == b"list".as_slice() {
@@ -106,6 +108,8 @@ fn with_one(word: &[u8], a: &[u8]) -> Option<Line>
         Some(Line::Run(Command::Get(number(a)?)))
     } else if word == b"truncate".as_slice() {
         Some(Line::Run(Command::Truncate(number(a)?)))
+    } else if word == b"splitoff".as_slice() {
+        Some(Line::Run(Command::SplitOff(number(a)?)))
     } else if word == b"reserve".as_slice() {
         Some(Line::Run(Command::Reserve(number(a)?)))
     } else if word == b"remove".as_slice() {
@@ -127,6 +131,8 @@ fn with_two(word: &[u8], a: &[u8], b: &[u8]) -> Option<Line>
         Some(Line::Run(Command::Insert(number(a)?, bit(b)?)))
     } else if word == b"resize".as_slice() {
         Some(Line::Run(Command::Resize(number(a)?, bit(b)?)))
+    } else if word == b"drain".as_slice() {
+        Some(Line::Run(Command::Drain(number(a)?, number(b)?)))
     } else if word == b"within".as_slice() {
         Some(Line::Run(Command::ExtendWithin(number(a)?, number(b)?)))
     } else {
@@ -146,6 +152,29 @@ fn with_three(word: &[u8], a: &[u8], b: &[u8], c: &[u8]) -> Option<Line>
     }
 }
 
+/// The line of a word and four arguments.
+fn with_four(word: &[u8], a: &[u8], b: &[u8], c: &[u8], d: &[u8]) -> Option<Line>
+    ensures { result ≡ of_fields (word.now ∷ a.now ∷ b.now ∷ c.now ∷ d.now ∷ []) }
+{
+    if word == b"splice".as_slice() {
+        let command = Command::Splice(number(a)?, number(b)?, bit(c)?, number(d)?);
+        Some(Line::Run(command))
+    } else {
+        None
+    }
+}
+
+/// The line of a word, three arguments and what follows them.
+fn with_rest(word: &[u8], a: &[u8], b: &[u8], c: &[u8], rest: &[u8]) -> Option<Line>
+    ensures { result ≡ of_fields (word.now ∷ a.now ∷ b.now ∷ c.now ∷ fields_of rest.now) }
+{
+    let (d, rest) = cut(rest);
+    match rest {
+        None => with_four(word, a, b, c, d),
+        Some(_) => None,
+    }
+}
+
 /// The line of a word, two arguments and what follows them.
 fn with_more(word: &[u8], a: &[u8], b: &[u8], rest: &[u8]) -> Option<Line>
     ensures { result ≡ of_fields (word.now ∷ a.now ∷ b.now ∷ fields_of rest.now) }
@@ -153,7 +182,7 @@ fn with_more(word: &[u8], a: &[u8], b: &[u8], rest: &[u8]) -> Option<Line>
     let (c, rest) = cut(rest);
     match rest {
         None => with_three(word, a, b, c),
-        Some(_) => None,
+        Some(rest) => with_rest(word, a, b, c, rest),
     }
 }
 

@@ -77,3 +77,40 @@ fn growing_commands(rt: HostRuntime) -> Result<(), Fail> {
     assert_eq!(rt; v.len(), 5);
     Ok(())
 }
+
+#[test]
+fn removing_commands(rt: HostRuntime) -> Result<(), Fail> {
+    let mut v = BitVec::<u16, Msb0>::new(rt.alloc());
+    let mut replies = Vec::new(rt.alloc());
+    let commands = [
+        Command::Resize(5, true),
+        Command::Splice(1, 4, false, 1),
+        Command::Splice(2, 4, false, 1),
+        Command::Drain(0, 2),
+        Command::Drain(2, 1),
+        Command::SplitOff(1),
+        Command::Clear,
+        Command::Len,
+    ];
+    assert!(rt; run(&mut v, &commands, &mut replies).is_ok());
+    let want = [
+        Reply::Done,
+        Reply::Done,
+        Reply::OutOfRange,
+        Reply::Number(1),
+        Reply::OutOfRange,
+        Reply::Number(0),
+        Reply::Done,
+        Reply::Number(0),
+    ];
+    assert_eq!(rt; replies.as_slice(), want.as_slice());
+    let commands = [
+        Command::Push(true),
+        Command::Splice(0, 1, false, usize::MAX),
+    ];
+    let stop = run(&mut v, &commands, &mut replies);
+    let why = GrowError::TooLong;
+    assert_eq!(rt; stop, Err(Stop { done: 1, why }));
+    assert_eq!(rt; v.len(), 1);
+    Ok(())
+}

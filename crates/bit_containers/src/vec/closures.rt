@@ -1,10 +1,13 @@
 //! Growth and removal by the answers of a function.
-ghost use Rattle.std.specs.Prelude.{◌≡◌, ◌+◌, ◌<◌, ◌≤◌, Bool, List, [], ◌∷◌, ◌++◌, length, take, OnOk, OnErr};
+ghost use Rattle.std.specs.Prelude.{◌≡◌, ◌+◌, ◌-◌, ◌%◌, ◌<◌, ◌≤◌, Bool, List, [], ◌∷◌, ◌++◌, length, take, drop, OnOk, OnErr};
+ghost use Rattle.bit_addressing.specs.Row.{number_bits, put};
 ghost use Rattle.bit_addressing.specs.declared.length.TheConstants.{MAX_BITS};
-ghost use Rattle.bit_containers.specs.BitVec.{Grew, Shrank, IsClean, RefusesOnly};
-ghost use Rattle.bit_containers.specs.Closures.{AnswersFrom};
+ghost use Rattle.bit_containers.specs.BitVec.{Grew, Shrank, Stayed, RefusesOnly};
+ghost use Rattle.bit_containers.specs.Closures.{AnswersFrom, AnswersAtEach, kept};
 
 use crate::vec::BitVec;
+use crate::vec::collect::with_next;
+use crate::vec::extend::write_chunk_in_vec;
 use bit_addressing::{BitOrder, BitStore, GrowError};
 
 impl<T: BitStore, O: BitOrder> BitVec<T, O> {
@@ -62,5 +65,56 @@ impl<T: BitStore, O: BitOrder> BitVec<T, O> {
         ensures capacity { self.old.capacity ≤ self.new.capacity }
     {
         let _there_is_room = self.push(bit);
+    }
+
+    /// Keeps the bits at which `f` answers true, in order. `f` is called once for each bit, with its index and the bit,
+    /// by ascending index. The bits that stay are gathered in words, and each word is stored once. Takes no memory.
+    /// What becomes of dead bits is open.
+    pub fn retain<F: FnMut(usize, &bool) -> bool>(&mut self, mut f: F)
+        requires { F.IsAlwaysCallable f }
+        ensures list { (answers : List Bool) × (last : F) × AnswersAtEach F.step f 0 self.old.list answers last × (self.new.list ≡ kept self.old.list answers) }
+        ensures head { self.new.head ≡ self.old.head }
+        ensures capacity { self.new.capacity ≡ self.old.capacity }
+    {
+        let mut count = 0;
+        let mut number = 0;
+        for index in 0..self.len() {
+            let bit = self.bit(index);
+            if f(index, &bit) {
+                number = self.keep(count, number, bit);
+                count += 1;
+            }
+        }
+        let got = (count % 64) as u8;
+        self.write_number(count - count % 64, got, number);
+        self.truncate(count);
+    }
+
+    // Writes the `n` lowest bits of a number at the indices from `at` on. The condition: they lie in the length.
+    #[tactic(auto, using(crate::proofs::Vectors::shown_length))]
+    fn write_number(&mut self, at: usize, n: u8, number: u64)
+        requires few { n ≤ 64 }
+        requires within { at + n ≤ length self.old.list }
+        ensures list { self.new.list ≡ put self.old.list at (number_bits number n) }
+        ensures stayed { Stayed self.old self.new }
+    {
+        let from = self.head + at;
+        write_chunk_in_vec::<T, O>(&mut self.words, from, n, number);
+    }
+
+    // One bit more is kept, as item `count` of those that stay: the number has those behind the last multiple of 64,
+    // and where it has 64 they are written. It answers the number then. The condition: `count` is below the length.
+    fn keep(&mut self, count: usize, number: u64, bit: bool) -> u64
+        requires { count < length self.old.list }
+        ensures front { take (count + 1 - (count + 1) % 64) self.new.list ++ number_bits result ((count + 1) % 64) ≡ (take (count - count % 64) self.old.list ++ number_bits number (count % 64)) ++ bit ∷ [] }
+        ensures rest { drop (count + 1) self.new.list ≡ drop (count + 1) self.old.list }
+        ensures stayed { Stayed self.old self.new }
+    {
+        let got = (count % 64) as u8;
+        let number = with_next(number, got, bit);
+        if got == 63 {
+            self.write_number(count - 63, 64, number);
+        }
+        number
     }
 }

@@ -13,7 +13,8 @@ use std::cmp::Ordering;
 use std::ops::Index;
 
 impl<T: BitStore, O: BitOrder> BitVec<T, O> {
-    /// Whether the vector has the bits of a view, of any word type and order. Heads and dead bits don't count.
+    /// Whether the vector and a view, whose words and order may be others, have the same bits. Heads and dead
+    /// bits don't count.
     pub fn eq_bits<U: BitStore, P: BitOrder>(&self, other: BitSlice<'_, U, P>) -> bool
         ensures { IsTrue result ↔ (self.now.list ≡ list_of other.entry) }
     {

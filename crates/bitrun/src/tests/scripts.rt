@@ -49,6 +49,25 @@ fn whole_runs(rt: HostRuntime) -> Result<(), Fail> {
 }
 
 #[test]
+fn removing_lines(rt: HostRuntime) -> Result<(), Fail> {
+    let alloc = rt.alloc();
+    check(
+        &rt,
+        alloc,
+        "u8 lsb0",
+        b"resize 5 1\nsplice 1 4 0 1\nlist\ndrain 0 2\ndrain 2 1\nsplitoff 1\nlist\n",
+        (b"ok\nok\n[1, 0, 1]\n1\nrange\n0\n[1]\n", 0),
+    )?;
+    check(
+        &rt,
+        alloc,
+        "u16 lsb0",
+        b"resize 20 1\nraw\nclear\nraw\nlist\npush 2\n",
+        (b"ok\nffff 000f\nok\n\n[]\nline 6: bad command\n", 2),
+    )
+}
+
+#[test]
 fn growing_lines(rt: HostRuntime) -> Result<(), Fail> {
     let alloc = rt.alloc();
     check(

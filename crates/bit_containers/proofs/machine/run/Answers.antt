@@ -1,6 +1,8 @@
-use Rattle.std.proofs.Common.{rules, append_assoc, false}
+use Rattle.std.proofs.Common.{rules, append_assoc, false, get_or, subst, sym, inr}
+use Rattle.std.proofs.lemmas.Option.{slice_get-get_or}
+use Rattle.bit_containers.specs.Machine.{CanWantMemory}
 use Rattle.bit_containers.specs.declared.machine.Command.TheVariants.{Push}
-use Rattle.bit_containers.proofs.Runs.{list_after-next, head_after-next, replies_of-next, AllFit-next, stopped_at}
+use Rattle.bit_containers.proofs.Runs.{list_after-next, head_after-next, replies_of-next, AllFit-next, stopped_at, wants_before}
 use Rattle.bit_containers.proofs.machine.run.Goals as goal
 
 pub loop-done-preserved : goal.loop-done-preserved
@@ -21,3 +23,14 @@ loop-done-preserved g c =
 pub returns-in-Err-clause-why : goal.returns-in-Err-clause-why
 returns-in-Err-clause-why g c =
     stopped_at c.loop-done.v.list c.step.new.v.list c.args.commands.now c.loop-done.done (Push false) c.in-Err.why c.loop-done-test.true c.in-Err.ensures.unchanged c.in-Err.ensures.why
+
+pub returns-in-Err-clause-memory : goal.returns-in-Err-clause-memory
+returns-in-Err-clause-memory g c is =
+    let commands = c.args.commands.now in
+    let at = c.loop-done in
+    let command = get_or commands at.done (Push false) in
+    inr (
+      command,
+      slice_get-get_or commands at.done (Push false) c.loop-done-test.true,
+      subst (λ list. CanWantMemory c.args.v.now.capacity list command) (sym c.in-Err.ensures.unchanged) (wants_before c.args.v.now.capacity at.v.capacity at.v.list command at.invariant.capacity (c.in-Err.ensures.memory (search rules))),
+    )

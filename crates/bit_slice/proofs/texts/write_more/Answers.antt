@@ -6,7 +6,8 @@ use Rattle.bit_slice.specs.BitSlice.{list_of}
 use Rattle.bit_slice.specs.Texts.{spaced}
 use Rattle.bit_slice.proofs.Parts.{in_row}
 use Rattle.bit_addressing.proofs.lists.Shown.{length-between}
-use Rattle.bit_slice.proofs.Writing.{chunk_of_list, bits_of_number, length-number_bits, number_bits_none, length-spaced, spaced_more}
+use Rattle.bit_addressing.proofs.Binary.{length-number_bits, number_bits_none}
+use Rattle.bit_slice.proofs.Writing.{chunk_of_list, bits_of_number, length-spaced, spaced_more}
 use Rattle.bit_slice.proofs.texts.write_more.Goals as goal
 
 pub loop-k-init : goal.loop-k-init

@@ -1,7 +1,8 @@
-use Rattle.std.proofs.Common.{◌≡◌, ◌+◌, ◌<◌, ◌≤◌, [], ◌∷◌, ◌++◌, length, refl, sym, ◌∙◌, ap, arith, rules, append-nil}
+use Rattle.std.proofs.Common.{[], ◌∷◌, ◌++◌, sym, arith, rules, append-nil}
 use Rattle.std.proofs.lemmas.List.{length_push}
 use Rattle.bit_addressing.proofs.Rows.{width_positive}
-use Rattle.bit_containers.proofs.Growing.{grew_none, number_bits_none}
+use Rattle.bit_addressing.proofs.Binary.{number_bits_none}
+use Rattle.bit_containers.proofs.Growing.{grew_none}
 use Rattle.bit_containers.proofs.Pulling.{yields_more, gathers_more, gathers_all, gathers_length}
 use Rattle.bit_containers.proofs.vec.BitVec.extend_by.Goals as goal
 

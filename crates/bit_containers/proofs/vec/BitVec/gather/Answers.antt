@@ -1,7 +1,7 @@
-use Rattle.std.proofs.Common.{◌≡◌, ◌+◌, [], ◌∷◌, ◌++◌, length, sym, ◌∙◌, ap, arith, append-nil}
+use Rattle.std.proofs.Common.{◌≡◌, ◌+◌, [], ◌++◌, sym, ◌∙◌, ap, arith, append-nil}
 use Rattle.bit_addressing.specs.Row.{number_bits}
-use Rattle.bit_addressing.proofs.Binary.{length-number_bits}
-use Rattle.bit_containers.proofs.Growing.{grew_none, number_bits_none}
+use Rattle.bit_addressing.proofs.Binary.{length-number_bits, number_bits_none}
+use Rattle.bit_containers.proofs.Growing.{grew_none}
 use Rattle.bit_containers.proofs.vec.BitVec.gather.Goals as goal
 
 pub returns-then-got-lt63-clause-joined : goal.returns-then-got-lt63-clause-joined

@@ -1,5 +1,4 @@
-use Rattle.std.proofs.Common.{◌≡◌, ◌+◌, ◌*◌, length, ◌∙◌, ap}
-use Rattle.bit_addressing.specs.Row.{words_for}
+use Rattle.std.proofs.Common.{◌*◌, ◌∙◌, ap}
 use Rattle.bit_addressing.proofs.Typed.{length_row}
 use Rattle.bit_containers.proofs.vec.BitVec.in_words.Goals as goal
 

@@ -1,4 +1,4 @@
-use Rattle.std.proofs.Common.{◌≡◌, ◌+◌, ◌∷◌, [], ◌++◌, length, refl, sym, ap, ◌∙◌, arith, rules, append_assoc, length-append, append-nil, of_calls}
+use Rattle.std.proofs.Common.{◌∷◌, [], ◌++◌, length, refl, sym, ap, ◌∙◌, arith, append_assoc, length-append, append-nil, of_calls}
 use Rattle.std.proofs.lemmas.List.{length_push}
 use Rattle.bit_addressing.proofs.Rows.{width_positive}
 use Rattle.bit_containers.proofs.Calling.{answers_more, grew_kept}

@@ -1,0 +1,12 @@
+use Rattle.std.proofs.Common.{◌≡◌}
+use Rattle.std.specs.List.{splice}
+use Rattle.std.proofs.lemmas.Result.{on_ok_weaker}
+use Rattle.std.proofs.iter.runs.Consumers.{total_runs}
+use Rattle.bit_containers.proofs.vec.splice.Splice.finish.Goals as goal
+
+pub returns-clause-runs : goal.returns-clause-runs
+returns-clause-runs g c =
+    let s = c.args.self in
+    on_ok_weaker c.replace_range.result
+    (λ h. total_runs g.I.Iterator.next_gives _ (Unit {0}) (λ xs. c.replace_range.new.self.list ≡ splice s.vec.now.list s.start s.end xs) (h.0, λ _. h.1, h.2) tt)
+    c.replace_range.ensures.list

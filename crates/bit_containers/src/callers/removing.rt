@@ -1,0 +1,60 @@
+//! Callers that take bits out of a vector, and put others in their place.
+ghost use Rattle.std.specs.Prelude.{◌≡◌, ◌+◌, ◌≤◌, ◌++◌, true, false, [], ◌∷◌, take, drop, length, slice_get, slice_range, count_by, IfOk, OnOk, OnErr};
+ghost use Rattle.std.specs.List.{splice};
+
+use crate::{BitOrder, BitStore, BitVec, GrowError, Lsb0, Msb0};
+use std::alloc::AllocError;
+
+/// A range is gone though nothing of it was asked for.
+pub fn drained_unseen<T: BitStore, O: BitOrder>(v: &mut BitVec<T, O>, from: usize, upto: usize)
+    requires ordered { from ≤ upto }
+    requires within { upto ≤ length v.old.list }
+    ensures { v.new.list ≡ splice v.old.list from upto [] }
+{
+    let _drain = v.drain(from..upto);
+}
+
+/// A range is gone though its first bit alone was asked for.
+pub fn drained_once<T: BitStore, O: BitOrder>(v: &mut BitVec<T, O>) -> Option<bool>
+    requires { 3 ≤ length v.old.list }
+    ensures first { result ≡ slice_get v.old.list 1 }
+    ensures list { v.new.list ≡ splice v.old.list 1 3 [] }
+{
+    let mut drain = v.drain(1..3);
+    drain.next()
+}
+
+/// A range is gone after each of its bits was asked for.
+pub fn drained_all<T: BitStore, O: BitOrder>(v: &mut BitVec<T, O>, from: usize, upto: usize)
+    requires ordered { from ≤ upto }
+    requires within { upto ≤ length v.old.list }
+    ensures { v.new.list ≡ splice v.old.list from upto [] }
+{
+    for _bit in v.drain(from..upto) {}
+}
+
+pub fn cut_in_two<T: BitStore, O: BitOrder>(
+    v: &mut BitVec<T, O>,
+    at: usize,
+) -> Result<BitVec<T, O>, AllocError>
+    requires { at ≤ length v.old.list }
+    ensures front { OnOk result (v.new.list ≡ take at v.old.list) }
+    ensures rest { IfOk result (λ rest. rest.list ≡ drop at v.old.list) }
+    ensures kept { OnErr result (v.new.list ≡ v.old.list) }
+{
+    v.split_off(at)
+}
+
+pub fn replaced_by_a_vector(v: &mut BitVec<u8, Lsb0>, bits: Vec<bool>) -> Result<(), GrowError>
+    requires { 4 ≤ length v.old.list }
+    ensures list { OnOk result (v.new.list ≡ splice v.old.list 1 4 bits.items) }
+    ensures kept { OnErr result (v.new.list ≡ v.old.list) }
+{
+    v.splice(1..4, bits).finish()
+}
+
+pub fn emptied(v: &mut BitVec<u32, Msb0>)
+    ensures { v.new.list ≡ [] }
+{
+    v.clear();
+}

@@ -1,0 +1,278 @@
+//! A range of bits replaced by others, and a vector cut in two.
+ghost use Rattle.std.specs.Prelude.{◌≡◌, ◌≢◌, ◌+◌, ◌-◌, ◌<◌, ◌≤◌, Bool, List, [], length, take, drop, replicate, slice_range, Err, IfOk, OnOk, OnErr};
+ghost use Rattle.std.specs.Iterator.{IsFinite, Drains, Yields};
+ghost use Rattle.std.specs.Iterator.Runs.{WholeRun};
+ghost use Rattle.std.specs.List.{splice};
+ghost use Rattle.bit_addressing.specs.Range.{LiesIn};
+ghost use Rattle.bit_addressing.specs.Row.{put};
+ghost use Rattle.bit_addressing.specs.declared.length.TheConstants.{MAX_BITS};
+ghost use Rattle.bit_slice.specs.BitSlice.{len_of, list_of};
+ghost use Rattle.bit_containers.specs.BitVec.{Shrank, Stayed, IsClean};
+
+use crate::vec::BitVec;
+use bit_addressing::{BitOrder, BitStore, GrowError, Lsb0, MAX_BITS, RangeExt, copy_bits_in_vec};
+use bit_slice::BitSlice;
+use std::alloc::{AllocError, Global};
+
+/// The bits of a range of a vector, from both ends, and what is to replace them.
+///
+/// It has to be spent by `finish`, which puts the replacement in place of the range: before that nothing is pulled,
+/// and the vector stays.
+///
+/// ```text
+/// v.splice(1..4, bits).finish()?;
+/// ```
+pub struct Splice<'a, T: BitStore, O: BitOrder, I> {
+    vec: &'a mut BitVec<T, O>,
+    start: usize,
+    end: usize,
+    front: usize,
+    back: usize,
+    replacement: I,
+}
+
+impl<T: BitStore, O: BitOrder> BitVec<T, O> {
+    ghost use Rattle.bit_containers.specs.Splice.{splice_rest, splice_vector, splice_lender, SpliceIsReady};
+
+    /// Drops all bits. The words are dropped too, and the capacity stays. Takes no memory.
+    pub fn clear(&mut self)
+        ensures list { self.new.list ≡ [] }
+        ensures row { Shrank T.BITS self.old self.new 0 }
+    {
+        self.truncate(0);
+    }
+
+    /// Cuts the vector at `at`, and answers what was behind: a clean vector, which begins at head 0. Takes memory where
+    /// a bit is behind, and is refused only then; a refusal leaves the vector. The condition: `at` is at most the length.
+    pub fn split_off(&mut self, at: usize) -> Result<Self, AllocError>
+        requires { at ≤ length self.old.list }
+        ensures left { OnOk result (self.new.list ≡ take at self.old.list) }
+        ensures row { OnOk result (Shrank T.BITS self.old self.new at) }
+        ensures rest { IfOk result (λ rest. rest.list ≡ drop at self.old.list) }
+        ensures clean { IfOk result (λ rest. IsClean T.BITS rest) }
+        ensures unchanged { OnErr result (self.new ≡ self.old) }
+        ensures memory { OnErr result (at < length self.old.list) }
+        ensures capacity { self.new.capacity ≡ self.old.capacity }
+    {
+        let alloc = self.allocator();
+        let rest = Self::from_bitslice(alloc, self.get_range(at..))?;
+        self.truncate(at);
+        Ok(rest)
+    }
+
+    // The allocator that the vector was made with.
+    fn allocator(&self) -> Global {
+        *self.words.allocator()
+    }
+
+    /// Replaces the bits at a range of indices by what an iterator gives, once the splice is finished; until then it
+    /// gives the bits of the range. The condition: the range lies in the length.
+    pub fn splice<R: RangeExt, U: IntoIterator<Item = bool>>(
+        &mut self,
+        range: R,
+        replacement: U,
+    ) -> Splice<'_, T, O, U::IntoIter>
+        requires lies { LiesIn (R.start_of range) (R.end_of range (length self.old.list)) (length self.old.list) }
+        ensures list { splice_rest result ≡ slice_range self.old.list (R.start_of range) (R.end_of range (length self.old.list)) }
+        ensures vector { splice_vector result ≡ self.old }
+        ensures start { result.start ≡ R.start_of range }
+        ensures end { result.end ≡ R.end_of range (length self.old.list) }
+        ensures replacement { U.into_iter_gives replacement result.replacement }
+        ensures same_vector { splice_lender result ≡ self.entry.ghost_name }
+        ensures ready { SpliceIsReady result }
+    {
+        let len = self.len();
+        let range = range.normalize(len);
+        let (start, end) = (range.start, range.end);
+        Splice {
+            vec: self,
+            start,
+            end,
+            front: start,
+            back: end,
+            replacement: replacement.into_iter(),
+        }
+    }
+
+    // Writes the bits of a view at the indices from `at` on. The condition: they lie in the length.
+    #[tactic(auto, using(crate::proofs::Vectors::shown_length))]
+    fn write_bits(&mut self, at: usize, view: BitSlice<'_, T, O>)
+        requires { at + len_of view ≤ length self.old.list }
+        ensures list { self.new.list ≡ put self.old.list at (list_of view.entry) }
+        ensures stayed { Stayed self.old self.new }
+    {
+        let (at, n) = (self.head + at, view.len());
+        let from = view.head();
+        copy_bits_in_vec::<T, O, T, O>(&mut self.words, at, view.as_raw_slice(), from, n);
+    }
+
+    // Puts the bits of a view in place of those from `start` up to `end`: what is behind moves once.
+    fn put_range(
+        &mut self,
+        start: usize,
+        end: usize,
+        view: BitSlice<'_, T, O>,
+    ) -> Result<(), GrowError>
+        requires ordered { start ≤ end }
+        requires within { end ≤ length self.old.list }
+        requires fits { length self.old.list - (end - start) + len_of view ≤ MAX_BITS }
+        ensures list { OnOk result (self.new.list ≡ splice self.old.list start end (list_of view.entry)) }
+        ensures head { self.new.head ≡ self.old.head }
+        ensures too_long { result ≢ Err GrowError.TooLong }
+        ensures memory { result ≡ Err GrowError.OutOfMemory → end - start < len_of view.entry }
+        ensures unchanged { OnErr result (self.new.list ≡ self.old.list) }
+        ensures capacity { self.old.capacity ≤ self.new.capacity }
+    {
+        let (len, more) = (self.len(), view.len());
+        if more <= end - start {
+            self.write_bits(start, view);
+            self.remove_range(start + more, end);
+            return Ok(());
+        }
+        let extra = more - (end - start);
+        let Ok(()) = self.resize(len + extra, false) else {
+            return Err(GrowError::OutOfMemory);
+        };
+        self.copy_within(end..len, end + extra);
+        self.write_bits(start, view);
+        Ok(())
+    }
+
+    // Puts a bit `n` times in place of those from `start` up to `end`. The condition: the range lies in the length.
+    pub(crate) fn replace_by(
+        &mut self,
+        start: usize,
+        end: usize,
+        bit: bool,
+        n: usize,
+    ) -> Result<(), GrowError>
+        requires ordered { start ≤ end }
+        requires within { end ≤ length self.old.list }
+        ensures list { OnOk result (self.new.list ≡ splice self.old.list start end (replicate n bit)) }
+        ensures fits { OnOk result (length self.old.list - (end - start) + n ≤ MAX_BITS) }
+        ensures head { self.new.head ≡ self.old.head }
+        ensures too_long { result ≡ Err GrowError.TooLong → MAX_BITS < length self.old.list - (end - start) + n }
+        ensures memory { result ≡ Err GrowError.OutOfMemory → 0 < n }
+        ensures small { result ≡ Err GrowError.OutOfMemory → length self.old.list - (end - start) + n ≤ MAX_BITS }
+        ensures unchanged { OnErr result (self.new.list ≡ self.old.list) }
+        ensures capacity { self.old.capacity ≤ self.new.capacity }
+    {
+        let kept = self.len() - (end - start);
+        if n > MAX_BITS - kept {
+            return Err(GrowError::TooLong);
+        }
+        let alloc = self.allocator();
+        let bits = Self::repeat(alloc, bit, n)?;
+        self.put_range(start, end, bits.as_bitslice())
+    }
+
+    // What an iterator gives before its first None, at most so many bits.
+    fn pulled<I: Iterator<Item = bool>>(
+        alloc: Global,
+        most: usize,
+        iter: I,
+    ) -> Result<Self, GrowError>
+        requires few { most ≤ MAX_BITS }
+        requires ends { I.can_next iter × IsFinite (I.remaining iter) }
+        ensures list { IfOk result (λ v. Drains I.next_gives iter v.list) }
+        ensures few { IfOk result (λ v. length v.list ≤ most) }
+        ensures too_long { result ≡ Err GrowError.TooLong → (bits : List Bool) × (rest : I) × Yields I.next_gives iter bits rest × (most < length bits) }
+        ensures memory { result ≡ Err GrowError.OutOfMemory → (bits : List Bool) × (rest : I) × Yields I.next_gives iter bits rest × (0 < length bits) }
+    {
+        let mut v = Self::new(alloc);
+        for bit in iter {
+            if v.len() == most {
+                return Err(GrowError::TooLong);
+            }
+            v.push(bit)?;
+        }
+        Ok(v)
+    }
+
+    // Puts what an iterator gives in place of the bits from `start` up to `end`.
+    fn replace_range<I: Iterator<Item = bool>>(
+        &mut self,
+        start: usize,
+        end: usize,
+        replacement: I,
+    ) -> Result<(), GrowError>
+        requires ordered { start ≤ end }
+        requires within { end ≤ length self.old.list }
+        requires ends { I.can_next replacement × IsFinite (I.remaining replacement) }
+        ensures list { OnOk result ((bits : List Bool) × Drains I.next_gives replacement bits × (self.new.list ≡ splice self.old.list start end bits)) }
+        ensures head { self.new.head ≡ self.old.head }
+        ensures too_long { result ≡ Err GrowError.TooLong → (bits : List Bool) × (rest : I) × Yields I.next_gives replacement bits rest × (MAX_BITS < length self.old.list - (end - start) + length bits) }
+        ensures memory { result ≡ Err GrowError.OutOfMemory → (bits : List Bool) × (rest : I) × Yields I.next_gives replacement bits rest × (0 < length bits) }
+        ensures unchanged { OnErr result (self.new.list ≡ self.old.list) }
+        ensures capacity { self.old.capacity ≤ self.new.capacity }
+    {
+        let kept = self.len() - (end - start);
+        let alloc = self.allocator();
+        let bits = Self::pulled(alloc, MAX_BITS - kept, replacement)?;
+        self.put_range(start, end, bits.as_bitslice())
+    }
+}
+
+impl<'a, T: BitStore, O: BitOrder, I: Iterator<Item = bool>> Splice<'a, T, O, I> {
+    ghost use Rattle.bit_containers.specs.Splice.{splice_rest, SpliceIsReady, SpliceSteps, SpliceStepsBack};
+
+    /// The next of the replaced bits.
+    pub fn next(&mut self) -> Option<bool>
+        requires { SpliceIsReady self.old }
+        ensures steps { SpliceSteps self.old result self.new }
+        ensures ready { SpliceIsReady self.new }
+    {
+        if self.front == self.back {
+            return None;
+        }
+        let bit = self.vec.bit(self.front);
+        self.front += 1;
+        Some(bit)
+    }
+
+    /// The last of the replaced bits that are still to come.
+    pub fn next_back(&mut self) -> Option<bool>
+        requires { SpliceIsReady self.old }
+        ensures steps { SpliceStepsBack self.old result self.new }
+        ensures ready { SpliceIsReady self.new }
+    {
+        if self.front == self.back {
+            return None;
+        }
+        self.back -= 1;
+        Some(self.vec.bit(self.back))
+    }
+
+    /// How many of the replaced bits are still to come.
+    pub fn len(&self) -> usize
+        requires { SpliceIsReady self.now }
+        ensures { result ≡ length (splice_rest self.now) }
+    {
+        self.back - self.front
+    }
+
+    /// Pulls the whole replacement, and puts it in place of the range: what is behind moves once. It answers `TooLong` at
+    /// the first bit with which the length would pass `MAX_BITS`, and `OutOfMemory` only where there is a bit to put; a
+    /// refusal pulls no more, and leaves the vector. What becomes of dead bits is open.
+    pub fn finish(self) -> Result<(), GrowError>
+        requires ready { SpliceIsReady self }
+        requires ends { I.can_next self.replacement × IsFinite (I.remaining self.replacement) }
+        ensures list { OnOk result ((bits : List Bool) × Drains I.next_gives self.entry.replacement bits × (self.exit.0.now.list ≡ splice self.entry.vec.now.list self.entry.start self.entry.end bits)) }
+        ensures runs { OnOk result (WholeRun I.next_gives self.entry.replacement (λ p. self.exit.0.now.list ≡ splice self.entry.vec.now.list self.entry.start self.entry.end p.items)) }
+        ensures head { self.exit.0.now.head ≡ self.entry.vec.now.head }
+        ensures too_long { result ≡ Err GrowError.TooLong → (bits : List Bool) × (rest : I) × Yields I.next_gives self.entry.replacement bits rest × (MAX_BITS < length self.entry.vec.now.list - (self.entry.end - self.entry.start) + length bits) }
+        ensures memory { result ≡ Err GrowError.OutOfMemory → (bits : List Bool) × (rest : I) × Yields I.next_gives self.entry.replacement bits rest × (0 < length bits) }
+        ensures unchanged { OnErr result (self.exit.0.now.list ≡ self.entry.vec.now.list) }
+        ensures capacity { self.entry.vec.now.capacity ≤ self.exit.0.now.capacity }
+    {
+        let Splice {
+            vec,
+            start,
+            end,
+            front: _,
+            back: _,
+            replacement,
+        } = self;
+        vec.replace_range(start, end, replacement)
+    }
+}

@@ -7,8 +7,7 @@ ghost use Rattle.bit_containers.specs.Closures.{AnswersFrom, AnswersAtEach, kept
 
 use crate::vec::BitVec;
 use crate::vec::collect::with_next;
-use crate::vec::extend::write_chunk_in_vec;
-use bit_addressing::{BitOrder, BitStore, GrowError};
+use bit_addressing::{BitOrder, BitStore, GrowError, write_chunk_in_vec};
 
 impl<T: BitStore, O: BitOrder> BitVec<T, O> {
     /// Keeps the first `n` bits, or fills the list up to `n` with what `f` answers at each new index: memory comes

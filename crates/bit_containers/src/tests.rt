@@ -4,6 +4,7 @@ mod copies;
 mod edits;
 mod growing;
 mod moves;
+mod numbers;
 mod reading;
 mod removing;
 mod text;

@@ -1,0 +1,152 @@
+//! Numbers of one width, one behind the other in the bits of a vector.
+ghost use Rattle.std.specs.Prelude.{◌≡◌, ◌+◌, ◌*◌, ◌^◌, ◌<◌, ◌≤◌, ◌↔◌, ◌++◌, ◌||◌, [], ◌∷◌, Err, IfOk, IsTrue, MatchOption, OnErr, OnOk, eqb, length, ltb, set, slice_get};
+ghost use Rattle.bit_addressing.specs.declared.errors.GrowError.{GrowError};
+ghost use Rattle.bit_addressing.specs.declared.length.TheConstants.{MAX_BITS};
+ghost use Rattle.bit_records.specs.Records.{AreKept, joined};
+
+use bit_containers::{BitOrder, BitStore, BitVec, GrowError, Lsb0};
+use std::alloc::{AllocError, Global};
+use std::marker::Model;
+
+/// Numbers of one width, from 1 to 64 binary digits, packed without a gap: the most significant digit of
+/// each comes first.
+///
+/// In contracts records `r` are their width `r.width`, the numbers `r.list`, and the vector of their
+/// bits `r.bits`.
+///
+/// ```text
+/// let mut ages = Records::<u64>::new(alloc, 7)?;
+/// ages.push(41)?;
+/// ages.push(8)?;
+/// ages.get(1)             // Some(8)
+/// ```
+#[derive(Drop)]
+pub struct Records<T: BitStore = usize, O: BitOrder = Lsb0> {
+    bits: BitVec<T, O>,
+    width: u8,
+    len: usize,
+}
+
+impl<T: BitStore, O: BitOrder> Model for Records<T, O> {
+    ghost use Rattle.std.specs.Prelude.{length};
+    ghost use Rattle.bit_records.specs.Records.{AreRecords, Filed, filed_code, numbers_in};
+
+    ghost Value = { Filed T };
+
+    ghost coded = { filed_code T.code };
+
+    ghost view = { λ r. record { width = r.width; list = numbers_in r.width r.bits.list; bits = r.bits } };
+
+    ghost invariant = { λ r. AreRecords r.width r.len (length r.bits.list) };
+}
+
+impl<T: BitStore, O: BitOrder> Records<T, O> {
+    /// No number, of `width` digits each. None exactly where the width is 0 or above 64. Takes no memory.
+    pub fn new(alloc: Global, width: u8) -> Option<Self>
+        ensures { MatchOption result (IsTrue (eqb width 0 || ltb 64 width)) (λ r. (r.width ≡ width) × ((r.list ≡ []) × (r.bits.capacity ≡ 0))) }
+    {
+        if width == 0 || width > 64 {
+            return None;
+        }
+        Some(Records {
+            bits: BitVec::new(alloc),
+            width,
+            len: 0,
+        })
+    }
+
+    /// How many numbers there are.
+    pub fn len(&self) -> usize
+        ensures { result ≡ length self.now.list }
+    {
+        self.len
+    }
+
+    /// Whether there is no number.
+    pub fn is_empty(&self) -> bool
+        ensures { IsTrue result ↔ (length self.now.list ≡ 0) }
+    {
+        self.len() == 0
+    }
+
+    /// How many digits each number has.
+    pub fn width(&self) -> u8
+        ensures { result ≡ self.now.width }
+    {
+        self.width
+    }
+
+    /// The number at `i`. None exactly where `i` is at or past the length.
+    pub fn get(&self, i: usize) -> Option<u64>
+        ensures { result ≡ slice_get self.now.list i }
+    {
+        if i >= self.len {
+            return None;
+        }
+        let width = self.width;
+        Some(self.bits.read_binary(i * width as usize, width))
+    }
+
+    /// Writes the number at `i`, and no other. Takes no memory. The condition: `i` is below the length, and
+    /// the number has at most as many digits as the width.
+    pub fn set(&mut self, i: usize, number: u64)
+        requires inside { i < length self.old.list }
+        requires fits { number < 2 ^ self.old.width }
+        ensures list { self.new.list ≡ set self.old.list i number }
+        ensures width { self.new.width ≡ self.old.width }
+        ensures capacity { self.new.bits.capacity ≡ self.old.bits.capacity }
+    {
+        let width = self.width;
+        self.bits.write_binary(i * width as usize, width, number);
+    }
+
+    /// Joins a number at the end. It answers `TooLong` exactly where the bits with it would pass
+    /// `MAX_BITS`, and `OutOfMemory` only where they would pass the capacity. A refusal leaves the
+    /// records. The condition: the number has at most as many digits as the width.
+    pub fn push(&mut self, number: u64) -> Result<(), GrowError>
+        requires { number < 2 ^ self.old.width }
+        ensures list { OnOk result (self.new.list ≡ self.old.list ++ number ∷ []) }
+        ensures width { self.new.width ≡ self.old.width }
+        ensures too_long { (result ≡ Err GrowError.TooLong) ↔ (MAX_BITS < length self.old.list * self.old.width + self.old.width) }
+        ensures memory { result ≡ Err GrowError.OutOfMemory → self.old.bits.capacity < length self.old.list * self.old.width + self.old.width }
+        ensures unchanged { OnErr result (AreKept self.old self.new) }
+        ensures capacity { self.old.bits.capacity ≤ self.new.bits.capacity }
+    {
+        match self.bits.push_binary(self.width, number) {
+            Ok(()) => {
+                self.len += 1;
+                Ok(())
+            }
+            Err(why) => Err(why),
+        }
+    }
+
+    /// The bits of the numbers, one behind the other, each from its most significant digit on. Takes no memory.
+    pub fn into_bits(self) -> BitVec<T, O>
+        ensures bits { result ≡ self.bits }
+        ensures list { result.list ≡ joined self.width self.list }
+    {
+        self.bits
+    }
+}
+
+impl<T: BitStore, O: BitOrder> Clone for Records<T, O> {
+    ghost use Rattle.std.specs.Prelude.{◌≡◌, []};
+    ghost use Rattle.bit_records.specs.Records.{AreCopied};
+
+    ghost is_clone = { AreCopied T.BITS };
+
+    ghost is_infallible = { λ r. r.list ≡ [] };
+
+    /// A copy, whose bits begin at head 0 and leave no dead bit true. Takes memory where there is a number.
+    fn clone(&self) -> Result<Self, AllocError> {
+        match self.bits.clone() {
+            Ok(bits) => Ok(Records {
+                bits,
+                width: self.width,
+                len: self.len,
+            }),
+            Err(refused) => Err(refused),
+        }
+    }
+}

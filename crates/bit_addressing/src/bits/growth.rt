@@ -40,7 +40,7 @@ pub fn cut_words_in_vec<T: BitStore, O: BitOrder>(words: &mut Vec<T>, bits: usiz
     words.truncate(count);
 }
 
-/// Joins a word, by memory alone where the capacity is full.
+/// Joins a word. Takes memory only where the capacity is full.
 #[inline(always)]
 fn push_word<T: BitStore>(words: &mut Vec<T>, word: T) -> Result<(), AllocError>
     ensures items { OnOk result (words.new.items ≡ words.old.items ++ word ∷ []) }

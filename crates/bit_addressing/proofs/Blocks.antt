@@ -1,5 +1,5 @@
 -- Blocks of 64 bits out of two that follow each other.
-use Rattle.std.proofs.Common.{◌≡◌, ℕ, ◌+◌, ◌-◌, ◌*◌, ◌/◌, ◌%◌, ◌<◌, ◌≤◌, Bool, false, List, [], ◌∷◌, length, get_or, slice_range, sym, ◌∙◌, ap, inl, inr, arith, mul_comm}
+use Rattle.std.proofs.Common.{◌≡◌, ℕ, ◌+◌, ◌-◌, ◌*◌, ◌/◌, ◌%◌, ◌<◌, ◌≤◌, Bool, false, List, [], ◌∷◌, length, get_or, slice_range, sym, ◌∙◌, ap, inl, inr, arith}
 use Rattle.std.proofs.lemmas.Bool.{cases_lt}
 use Rattle.std.proofs.lemmas.List.{ext_get_or}
 use Rattle.std.proofs.lemmas.Nat.{div-add-mod'}
@@ -7,8 +7,7 @@ use Rattle.bit_addressing.specs.Bits.{has_bit}
 use Rattle.bit_addressing.specs.Row.{row_bit, row_of}
 use Rattle.bit_addressing.proofs.lists.Shown.{get_or-run}
 use Rattle.bit_addressing.proofs.Packs.{row_from}
-use Rattle.bit_addressing.proofs.Runs.{mul_mono}
-use Rattle.bit_addressing.proofs.lists.Sized.{one_more_word, right_sum}
+use Rattle.bit_addressing.proofs.lists.Sized.{right_sum}
 use Rattle.bit_addressing.proofs.Rows.{length-row_of, get_or-row_one}
 use Rattle.bit_addressing.proofs.Windows.{first_of_two, second_of_two}
 
@@ -46,18 +45,4 @@ block_from w each at t fills =
     let sum : (at / w + t * each) * w ≡ at / w * w + (t * each) * w = right_sum (at / w) (t * each) w in
     let inner : (t * each) * w ≡ t * (each * w) = grind arith in
     let whole : t * (each * w) ≡ t * 64 = ap (λ n. t * n) fills in
-    omega arith
-
--- a block that is numbered below those with another behind them
-pub block_room : (w each words k t : ℕ) → each * w ≡ 64 → t < (words - k) / each - 1 → (k + t * each) * w + 128 ≤ w * words
-block_room w each words k t fills below =
-    let split : (words - k) / each * each + (words - k) % each ≡ words - k = div-add-mod' (words - k) each in
-    let most = mul_mono (t + 1 + 1) ((words - k) / each) each (omega arith) in
-    let one = one_more_word t each in
-    let two = one_more_word (t + 1) each in
-    let inside : k + t * each + each + each ≤ words = omega arith in
-    let wide = mul_mono (k + t * each + each + each) words w inside in
-    let more = right_sum (k + t * each + each) each w in
-    let less = right_sum (k + t * each) each w in
-    let turned : w * words ≡ words * w = mul_comm w words in
     omega arith

@@ -30,9 +30,6 @@ abbrev pub AreAlike : List Bool → List Bool → ℕ → ℕ → ℕ → Type 0
 AreAlike xs ys i j k = (q : ℕ) → q < k → get_or xs (i + q) false ≡ get_or ys (j + q) false
 
 module _ (xs ys : List Bool) (i j : ℕ) where
-  pub alike_none : (k : ℕ) → k ≡ 0 → AreAlike xs ys i j k
-  alike_none k e q h = absurd (omega arith)
-
   pub alike_all : (n k : ℕ) → n ≤ k → i + n ≤ length xs → j + n ≤ length ys → AreAlike xs ys i j k → slice_range xs i (i + n) ≡ slice_range ys j (j + n)
   alike_all n k le h l same =
       let a = length-run xs i n h in

@@ -56,9 +56,6 @@ pub record IsPacked (ms : List Bool) (at got x : ℕ) : Type 0 where
   pub shown : (i : ℕ) → i < got → i < 64 → has_bit x (63 - i) ≡ get_or ms (at + i) false
   pub clear : (p : ℕ) → p + got < 64 → has_bit x p ≡ false
 
-pub packed_nothing : (ms : List Bool) (at got : ℕ) → got ≡ 0 → IsPacked ms at got 0
-packed_nothing ms at got none = record { shown = λ i h _. absurd (omega arith); clear = λ p _. has_none p }
-
 module _ {X : Type 0} (value : X → ℕ) (w : ℕ) (positive : 0 < w) (ws : List X) where
   pub packed_next : (at k got x y back : ℕ) (word : X) → IsPacked (row_of (λ w i. w - 1 - i) w (map value ws)) at got x → at + got ≡ k * w → got + w ≤ 64 → back ≡ 64 - w - got → k < length ws → word ≡ get_or ws k word
       → ((p : ℕ) → p < w → has_bit y p ≡ has_bit (value word) p) → ((p : ℕ) → w ≤ p → has_bit y p ≡ false)

@@ -130,11 +130,3 @@ words_for_same w b n positive is apart =
     let high = words_for_mono w b (b + 1) positive (omega arith) in
     let next = words_for_next w b positive in
     (omega arith, omega arith)
-
--- the next place of the same word
-pub same_word_next : (j w : ℕ) → 0 < w → (j + 1) % w ≢ 0 → (j + 1) / w ≡ j / w
-same_word_next j w positive some =
-    let d : (j + 1) / w * w + (j + 1) % w ≡ j + 1 = div-add-mod' (j + 1) w in
-    let low : (j + 1) % w < w = mod-lt (j + 1) positive in
-    let e : j ≡ (j + 1) / w * w + ((j + 1) % w - 1) = omega arith in
-    sym (ap (λ n. n / w) e ∙ div-mul-add ((j + 1) / w) w ((j + 1) % w - 1) (omega arith))

@@ -30,7 +30,8 @@ module _ {X : Type 0} (value : X → ℕ) (place : ℕ → ℕ → ℕ) (w : ℕ
       ∙ row_set place w (map value ws) at (value new) b positive lawful (rw length-map below)
       (λ q h. change q h ∙ ap (λ n. if eqb q n then b else has_bit (value old) q) ep ∙ ap (λ x. if eqb q (place w (at % w)) then b else has_bit x q) (sym was))
 
-map_replicate : {X : Type 0} (value : X → ℕ) (n : ℕ) (x : X) → map value (replicate n x) ≡ replicate n (value x)
+-- the values of one word over and over
+pub map_replicate : {X : Type 0} (value : X → ℕ) (n : ℕ) (x : X) → map value (replicate n x) ≡ replicate n (value x)
 map_replicate value zero x = refl
 map_replicate value (suc n) x = ap (λ l. value x ∷ l) (map_replicate value n x)
 

@@ -1,19 +1,15 @@
 -- What holds of the words of each array.
-use Rattle.std.proofs.Common.{◌≡◌, ℕ, zero, suc, ◌∷◌, ◌+◌, ◌*◌, Bool, false, List, length, map, replicate, slice_range, refl, sym, ◌∙◌, ap}
+use Rattle.std.proofs.Common.{◌≡◌, ℕ, zero, ◌+◌, ◌*◌, Bool, false, List, length, map, replicate, slice_range, refl, sym, ◌∙◌, ap}
 use Rattle.bit_addressing.specs.Bits.{IsWidth}
 use Rattle.bit_addressing.specs.declared.store.BitStore as store
 use Rattle.bit_addressing.specs.declared.order.BitOrder as order
 use Rattle.bit_addressing.specs.Row.{row_of, put}
 use Rattle.bit_addressing.specs.Typed.{row}
 use Rattle.bit_addressing.proofs.Rows.{width_positive, row_zeros}
-use Rattle.bit_addressing.proofs.Typed.{length_row}
+use Rattle.bit_addressing.proofs.Typed.{length_row, map_replicate}
 use Rattle.bit_slice.specs.Operators.{combined}
 use Rattle.bit_slice.proofs.Combining.{length-combined}
 use Rattle.bit_slice.proofs.Shown.{put_all, shown_all}
-
-map_replicate : {X : Type 0} (value : X → ℕ) (n : ℕ) (x : X) → map value (replicate n x) ≡ replicate n (value x)
-map_replicate value zero x = refl
-map_replicate value (suc n) x = ap (λ l. value x ∷ l) (map_replicate value n x)
 
 module _ {X Y : Type 0} (W : store.Ghosts X) (P : order.Ghosts Y) where
   -- words of zero have false bits alone

@@ -1,8 +1,8 @@
 -- What a contract sees of a box, and what calls do to it.
 use Rattle.std.specs.Prelude.{◌≡◌, ℕ, ◌+◌, ◌*◌, ◌<◌, ◌≤◌, Bool, List, length, refl}
 use Rattle.std.specs.Coded.{Coded, code_by, coded×, coded_list, coded_ℕ, coded_bool}
-use Rattle.bit_addressing.specs.Row.{sized}
 use Rattle.bit_addressing.specs.declared.length.TheConstants.{MAX_BITS}
+use Rattle.bit_slice.specs.Clean.{IsCleanRow, IsCopiedRow}
 
 -- all its words; their row; where the list begins in the row; the list
 pub record Held (X : Type 0) : Type 0 where
@@ -35,11 +35,9 @@ pub record Stayed {X : Type 0} (old new : Held X) : Type 0 where
   pub size : length new.words ≡ length old.words
 
 -- The head is 0 and each dead bit is false: the row is the list and then false.
-pub record IsClean {X : Type 0} (w : ℕ) (b : Held X) : Type 0 where
-  pub head : b.head ≡ 0
-  pub row : b.row ≡ sized w b.list (length b.list)
+abbrev pub IsClean : {X : Type 0} → ℕ → Held X → Type 0
+IsClean w b = IsCleanRow w b.head b.row b.list
 
 -- A copy: the same list, from head 0 on, and each dead bit is false.
-pub record IsCopy {X : Type 0} (w : ℕ) (old new : Held X) : Type 0 where
-  pub list : new.list ≡ old.list
-  pub clean : IsClean w new
+abbrev pub IsCopy : {X : Type 0} → ℕ → Held X → Held X → Type 0
+IsCopy w old new = IsCopiedRow w old.list new.head new.row new.list

@@ -1,3 +1,2 @@
 pub mod BitBox
 pub mod Lends
-pub mod Pulls

@@ -7,7 +7,7 @@ ghost use Rattle.bit_addressing.specs.Row.{filled, moved, words_for};
 ghost use Rattle.bit_addressing.specs.Typed.{row, words_from};
 ghost use Rattle.bit_slice.specs.BitSlice.{words_of, head_of, len_of, row_of, list_of};
 ghost use Rattle.bit_boxed.specs.BitBox.{IsClean, Stayed};
-ghost use Rattle.bit_boxed.specs.Pulls.{GivesAll, GivesFirst, RunsThrough};
+ghost use Rattle.bit_slice.specs.Pulls.{GivesAll, GivesFirst, RunsThrough};
 
 use bit_addressing::{
     BitOrder, BitStore, GrowError, Lsb0, MAX_BITS, copy_bits_in_vec, exact_words,

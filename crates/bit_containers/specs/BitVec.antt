@@ -5,6 +5,7 @@ use Rattle.bit_addressing.specs.Row.{words_for, put, sized}
 use Rattle.bit_addressing.specs.declared.length.TheConstants.{MAX_BITS}
 use Rattle.bit_addressing.specs.declared.errors.GrowError.{GrowError}
 use Rattle.bit_addressing.specs.declared.errors.GrowError.TheVariants.{TooLong, OutOfMemory}
+use Rattle.bit_slice.specs.Clean.{IsCleanRow, IsCopiedRow}
 
 -- its visible words; their row; where the list begins in the row; the list; how many bits fit without new memory
 pub record Held (X : Type 0) : Type 0 where
@@ -68,11 +69,9 @@ pub record RefusesOnly {X A : Type 0} (result : Result A GrowError) (wanted : �
   pub unchanged : OnErr result (IsKept old new)
 
 -- The head is 0 and each dead bit is false: the row is the list and then false.
-pub record IsClean {X : Type 0} (w : ℕ) (v : Held X) : Type 0 where
-  pub head : v.head ≡ 0
-  pub row : v.row ≡ sized w v.list (length v.list)
+abbrev pub IsClean : {X : Type 0} → ℕ → Held X → Type 0
+IsClean w v = IsCleanRow w v.head v.row v.list
 
 -- A copy: the same list, from head 0 on, and each dead bit is false.
-pub record IsCopy {X : Type 0} (w : ℕ) (old new : Held X) : Type 0 where
-  pub list : new.list ≡ old.list
-  pub clean : IsClean w new
+abbrev pub IsCopy : {X : Type 0} → ℕ → Held X → Held X → Type 0
+IsCopy w old new = IsCopiedRow w old.list new.head new.row new.list

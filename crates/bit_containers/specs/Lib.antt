@@ -4,5 +4,4 @@ pub mod Drain
 pub mod Examples
 pub mod Lends
 pub mod Machine
-pub mod Pulls
 pub mod Splice

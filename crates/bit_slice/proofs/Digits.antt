@@ -154,9 +154,6 @@ pub groups_split : (s t r : ℕ) → IsDigitSize s → t * words_for s 60 + word
 unfolding words_for
 groups_split s t r size = elim size [ inl e ↦ rw e (omega arith) | inr r ↦ elim r [ inl e ↦ rw e (omega arith) | inr e ↦ rw e (omega arith) ] ]
 
-pub size_some : (s : ℕ) → IsDigitSize s → (0 < s) × (s ≤ 4)
-size_some s size = elim size [ inl e ↦ (omega arith, omega arith) | inr r ↦ elim r [ inl e ↦ (omega arith, omega arith) | inr e ↦ (omega arith, omega arith) ] ]
-
 module _ (s : ℕ) (u : Bool) (size : IsDigitSize s) (bits : List Bool) where
   -- a block behind t blocks
   pub block_joined : (t upto : ℕ) → upto ≡ t * 60 + 60 → digits s u (t * words_for s 60) bits ++ digits s u (words_for s 60) (slice_range bits (t * 60) upto) ≡ digits s u ((t + 1) * words_for s 60) bits

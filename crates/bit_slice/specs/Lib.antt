@@ -9,3 +9,5 @@ pub mod Operators
 pub mod Comparisons
 pub mod Texts
 pub mod Owned
+pub mod Pulls
+pub mod Clean

@@ -1,5 +1,5 @@
 //! Two views compared, and one combined into the other, whatever their words, orders and heads.
-ghost use Rattle.std.specs.Prelude.{◌≡◌, ◌+◌, ◌*◌, ◌^◌, ◌<◌, ◌≤◌, ◌↔◌, IsTrue, MatchOption, length, slice_range, take};
+ghost use Rattle.std.specs.Prelude.{◌≡◌, ◌+◌, ◌*◌, ◌^◌, ◌<◌, ◌≤◌, ◌↔◌, IsTrue, MatchOption, length, slice_range, take, vec_capacity};
 ghost use Rattle.bit_addressing.specs.Row.{put, IsFirstDifference};
 ghost use Rattle.bit_addressing.specs.Typed.{row};
 ghost use Rattle.bit_addressing.specs.declared.length.TheConstants.{MAX_BITS};
@@ -165,4 +165,52 @@ impl<'a, T: BitStore, O: BitOrder> BitSliceMut<'a, T, O> {
     {
         xor_words::<T, O, U, P>(self.words, self.head, self.len, other);
     }
+}
+
+/// As `and_words`, in the words of a vector, whose capacity stays.
+pub fn and_in_vec<T: BitStore, O: BitOrder, U: BitStore, P: BitOrder>(
+    words: &mut Vec<T>,
+    head: usize,
+    len: usize,
+    other: BitSlice<'_, U, P>,
+)
+    requires within { head + len ≤ T.BITS * length words.old.items }
+    requires fits { head + len < 2 ^ 64 }
+    ensures bits { row T.BitStore O.BitOrder words.new.items ≡ put (row T.BitStore O.BitOrder words.old.items) head (and_of (slice_range (row T.BitStore O.BitOrder words.old.items) head (head + len)) (list_seen other.entry)) }
+    ensures size { length words.new.items ≡ length words.old.items }
+    ensures capacity { vec_capacity words.new ≡ vec_capacity words.old }
+{
+    and_words::<T, O, U, P>(words.as_mut_slice(), head, len, other);
+}
+
+/// As `or_words`, in the words of a vector, whose capacity stays.
+pub fn or_in_vec<T: BitStore, O: BitOrder, U: BitStore, P: BitOrder>(
+    words: &mut Vec<T>,
+    head: usize,
+    len: usize,
+    other: BitSlice<'_, U, P>,
+)
+    requires within { head + len ≤ T.BITS * length words.old.items }
+    requires fits { head + len < 2 ^ 64 }
+    ensures bits { row T.BitStore O.BitOrder words.new.items ≡ put (row T.BitStore O.BitOrder words.old.items) head (or_of (slice_range (row T.BitStore O.BitOrder words.old.items) head (head + len)) (list_seen other.entry)) }
+    ensures size { length words.new.items ≡ length words.old.items }
+    ensures capacity { vec_capacity words.new ≡ vec_capacity words.old }
+{
+    or_words::<T, O, U, P>(words.as_mut_slice(), head, len, other);
+}
+
+/// As `xor_words`, in the words of a vector, whose capacity stays.
+pub fn xor_in_vec<T: BitStore, O: BitOrder, U: BitStore, P: BitOrder>(
+    words: &mut Vec<T>,
+    head: usize,
+    len: usize,
+    other: BitSlice<'_, U, P>,
+)
+    requires within { head + len ≤ T.BITS * length words.old.items }
+    requires fits { head + len < 2 ^ 64 }
+    ensures bits { row T.BitStore O.BitOrder words.new.items ≡ put (row T.BitStore O.BitOrder words.old.items) head (xor_of (slice_range (row T.BitStore O.BitOrder words.old.items) head (head + len)) (list_seen other.entry)) }
+    ensures size { length words.new.items ≡ length words.old.items }
+    ensures capacity { vec_capacity words.new ≡ vec_capacity words.old }
+{
+    xor_words::<T, O, U, P>(words.as_mut_slice(), head, len, other);
 }

@@ -1,7 +1,6 @@
 -- A list with others written over a part of it.
 use Rattle.std.proofs.Common.{◌≡◌, ℕ, ◌+◌, ◌-◌, ◌<◌, ◌≤◌, Bool, false, List, [], ◌∷◌, ◌++◌, length, take, drop, set, replicate, get_or, sym, ◌∙◌, ap, arith}
-use Rattle.std.proofs.lemmas.List.{places, same_lists, append_assoc, set_split, length-take, length-take-le, length-drop, length-append, length-replicate, take-append-drop}
-use Rattle.std.proofs.lemmas.List.Edits.{fill_from_more, paste_all}
+use Rattle.std.proofs.lemmas.List.{places, same_lists, append_assoc, set_split, length-take, length-take-le, length-drop, length-append, take-append-drop}
 use Rattle.std.proofs.lemmas.List.{set-append_right, length_push, drop_more}
 use Rattle.std.proofs.Common.{add-one, add-zero, rules}
 use Rattle.bit_addressing.specs.Row.{put, filled}
@@ -17,14 +16,6 @@ put_none xs d = ap (λ n. take d xs ++ drop n xs) (add-zero d) ∙ take-append-d
 pub put_one : (xs : List Bool) (d : ℕ) (b : Bool) → d < length xs → set xs d b ≡ put xs d (b ∷ [])
 unfolding put
 put_one xs d b h = set_split xs d b h ∙ ap (λ n. take d xs ++ b ∷ drop n xs) (sym (add-one d))
-
--- one more item of a fill
-pub put_more : (xs : List Bool) (d i : ℕ) (b : Bool) → d + i < length xs → set (put xs d (replicate i b)) (d + i) b ≡ put xs d (replicate (i + 1) b)
-unfolding put
-put_more xs d i b h =
-    let before = paste_all xs d (replicate i b) i (sym (length-replicate i b)) in
-    let after = paste_all xs d (replicate (i + 1) b) (i + 1) (sym (length-replicate (i + 1) b)) in
-    rw (length-replicate i b, length-replicate (i + 1) b) (ap (λ l. set l (d + i) b) (sym before) ∙ fill_from_more xs d i b h ∙ after)
 
 -- both ends are filled
 pub put_both : (xs : List Bool) (head len : ℕ) (b : Bool) → head + len ≤ length xs → put (put xs 0 (replicate head b)) (head + len) (replicate (length xs - (head + len)) b) ≡ filled xs head len b

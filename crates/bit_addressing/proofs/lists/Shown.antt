@@ -10,7 +10,7 @@ use Rattle.std.proofs.Common.{rules}
 use Rattle.std.proofs.lemmas.Slice.{between_is}
 use Rattle.bit_addressing.specs.Row.{words_for, put, sized, filled}
 use Rattle.bit_addressing.proofs.lists.Sized.{room, length-sized, words_for_mono}
-use Rattle.bit_addressing.proofs.lists.Put.{put_none, put_next}
+use Rattle.bit_addressing.proofs.lists.Put.{put_none}
 
 take-set-comm : (n : ℕ) (xs : List Bool) (i : ℕ) (b : Bool) → take n (set xs i b) ≡ set (take n xs) i b
 take-set-comm zero [] i b = refl
@@ -135,13 +135,6 @@ pub copy_none : (xs ys : List Bool) (d from : ℕ) → xs ≡ put xs d (slice_ra
 copy_none xs ys d from =
     let e : from + 0 - from ≡ 0 = omega arith in
     rw e (sym (put_none xs d))
-
-pub copy_more : (xs ys : List Bool) (d from i : ℕ) (b : Bool) → d + i < length xs → from + i < length ys → b ≡ get_or ys (from + i) false → set (put xs d (slice_range ys from (from + i))) (d + i) b ≡ put xs d (slice_range ys from (from + (i + 1)))
-copy_more xs ys d from i b h k is =
-    let next : from + i + 1 ≡ from + (i + 1) = omega arith in
-    put_next xs (slice_range ys from (from + i)) d i b (sym (length-run ys from i (omega arith))) h
-    ∙ ap (λ x. put xs d (slice_range ys from (from + i) ++ x ∷ [])) is
-    ∙ ap (put xs d) (sym (between_more ys from (from + i) false (omega arith) k) ∙ ap (slice_range ys from) next)
 
 pub joined_shows : (w : ℕ) (xs ys : List Bool) (head len from n : ℕ) → 0 < w → head + len ≤ length xs → from + n ≤ length ys → slice_range (put (sized w xs (head + (len + n))) (head + len) (slice_range ys from (from + n))) head (head + (len + n)) ≡ slice_range xs head (head + len) ++ slice_range ys from (from + n)
 joined_shows w xs ys head len from n positive h k =

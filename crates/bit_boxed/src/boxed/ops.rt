@@ -1,14 +1,12 @@
 //! The operators of the box: bits read, and whole boxes combined and flipped by words.
-ghost use Rattle.std.specs.Prelude.{◌≡◌, ◌+◌, ◌*◌, ◌^◌, ◌<◌, ◌≤◌, not, map, length, slice_range};
+ghost use Rattle.std.specs.Prelude.{◌≡◌, not, map};
 ghost use Rattle.bit_addressing.specs.Row.{put};
-ghost use Rattle.bit_addressing.specs.Typed.{row};
-ghost use Rattle.bit_slice.specs.BitSlice.{list_of};
 ghost use Rattle.bit_slice.specs.Operators.{and_of, or_of, xor_of};
 ghost use Rattle.bit_boxed.specs.BitBox.{Stayed};
 
 use crate::boxed::BitBox;
 use bit_addressing::{BitOrder, BitStore, flip_bits_in_vec};
-use bit_slice::{BitSlice, and_words, or_words, xor_words};
+use bit_slice::{and_in_vec, or_in_vec, xor_in_vec};
 use std::ops::{BitAnd, BitAndAssign, BitOr, BitOrAssign, BitXor, BitXorAssign, Index, Not};
 
 impl<T: BitStore, O: BitOrder> Index<usize> for BitBox<T, O> {
@@ -58,7 +56,7 @@ impl<T: BitStore, O: BitOrder> BitAndAssign for BitBox<T, O> {
     fn bitand_assign(&mut self, rhs: Self) {
         let (head, len) = (self.head, self.len);
         let other = rhs.as_bitslice();
-        and_in_vec::<T, O>(&mut self.words, head, len, other);
+        and_in_vec::<T, O, T, O>(&mut self.words, head, len, other);
     }
 }
 
@@ -82,7 +80,7 @@ impl<T: BitStore, O: BitOrder> BitOrAssign for BitBox<T, O> {
     fn bitor_assign(&mut self, rhs: Self) {
         let (head, len) = (self.head, self.len);
         let other = rhs.as_bitslice();
-        or_in_vec::<T, O>(&mut self.words, head, len, other);
+        or_in_vec::<T, O, T, O>(&mut self.words, head, len, other);
     }
 }
 
@@ -106,7 +104,7 @@ impl<T: BitStore, O: BitOrder> BitXorAssign for BitBox<T, O> {
     fn bitxor_assign(&mut self, rhs: Self) {
         let (head, len) = (self.head, self.len);
         let other = rhs.as_bitslice();
-        xor_in_vec::<T, O>(&mut self.words, head, len, other);
+        xor_in_vec::<T, O, T, O>(&mut self.words, head, len, other);
     }
 }
 
@@ -120,49 +118,4 @@ impl<T: BitStore, O: BitOrder> BitXor for BitBox<T, O> {
         self ^= rhs;
         self
     }
-}
-
-// As `and_words`, in the words of a vector.
-fn and_in_vec<T: BitStore, O: BitOrder>(
-    words: &mut Vec<T>,
-    head: usize,
-    len: usize,
-    other: BitSlice<'_, T, O>,
-)
-    requires within { head + len ≤ T.BITS * length words.old.items }
-    requires fits { head + len < 2 ^ 64 }
-    ensures bits { row T.BitStore O.BitOrder words.new.items ≡ put (row T.BitStore O.BitOrder words.old.items) head (and_of (slice_range (row T.BitStore O.BitOrder words.old.items) head (head + len)) (list_of other.entry)) }
-    ensures size { length words.new.items ≡ length words.old.items }
-{
-    and_words::<T, O, T, O>(words.as_mut_slice(), head, len, other);
-}
-
-// As `or_words`, in the words of a vector.
-fn or_in_vec<T: BitStore, O: BitOrder>(
-    words: &mut Vec<T>,
-    head: usize,
-    len: usize,
-    other: BitSlice<'_, T, O>,
-)
-    requires within { head + len ≤ T.BITS * length words.old.items }
-    requires fits { head + len < 2 ^ 64 }
-    ensures bits { row T.BitStore O.BitOrder words.new.items ≡ put (row T.BitStore O.BitOrder words.old.items) head (or_of (slice_range (row T.BitStore O.BitOrder words.old.items) head (head + len)) (list_of other.entry)) }
-    ensures size { length words.new.items ≡ length words.old.items }
-{
-    or_words::<T, O, T, O>(words.as_mut_slice(), head, len, other);
-}
-
-// As `xor_words`, in the words of a vector.
-fn xor_in_vec<T: BitStore, O: BitOrder>(
-    words: &mut Vec<T>,
-    head: usize,
-    len: usize,
-    other: BitSlice<'_, T, O>,
-)
-    requires within { head + len ≤ T.BITS * length words.old.items }
-    requires fits { head + len < 2 ^ 64 }
-    ensures bits { row T.BitStore O.BitOrder words.new.items ≡ put (row T.BitStore O.BitOrder words.old.items) head (xor_of (slice_range (row T.BitStore O.BitOrder words.old.items) head (head + len)) (list_of other.entry)) }
-    ensures size { length words.new.items ≡ length words.old.items }
-{
-    xor_words::<T, O, T, O>(words.as_mut_slice(), head, len, other);
 }

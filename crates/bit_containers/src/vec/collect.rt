@@ -5,7 +5,7 @@ ghost use Rattle.bit_addressing.specs.Row.{number_bits, words_for};
 ghost use Rattle.bit_addressing.specs.Typed.{row};
 ghost use Rattle.bit_addressing.specs.declared.length.TheConstants.{MAX_BITS};
 ghost use Rattle.bit_containers.specs.BitVec.{Grew, IsClean, RefusesOnly};
-ghost use Rattle.bit_containers.specs.Pulls.{GivesAll, GivesFirst, RunsThrough};
+ghost use Rattle.bit_slice.specs.Pulls.{GivesAll, GivesFirst, RunsThrough};
 
 use crate::vec::BitVec;
 use bit_addressing::{BitOrder, BitStore, GrowError, MAX_BITS};

@@ -1,14 +1,13 @@
 //! The vector compared and combined with views, and its operators.
-ghost use Rattle.std.specs.Prelude.{◌≡◌, ◌+◌, ◌*◌, ◌^◌, ◌<◌, ◌≤◌, ◌↔◌, IsTrue, length, slice_range, vec_capacity};
+ghost use Rattle.std.specs.Prelude.{◌≡◌, ◌↔◌, IsTrue};
 ghost use Rattle.bit_addressing.specs.Row.{put};
-ghost use Rattle.bit_addressing.specs.Typed.{row};
 ghost use Rattle.bit_containers.specs.BitVec.{Stayed, IsClean};
 ghost use Rattle.bit_slice.specs.BitSlice.{list_of};
 ghost use Rattle.bit_slice.specs.Operators.{bits_cmp, and_of, or_of, xor_of};
 
 use crate::vec::BitVec;
 use bit_addressing::{BitOrder, BitStore};
-use bit_slice::{BitSlice, and_words, or_words, xor_words};
+use bit_slice::{BitSlice, and_in_vec, or_in_vec, xor_in_vec};
 use std::cmp::Ordering;
 use std::ops::Index;
 
@@ -67,54 +66,6 @@ impl<T: BitStore, O: BitOrder> BitVec<T, O> {
         let (head, len) = (self.head, self.len);
         xor_in_vec::<T, O, U, P>(&mut self.words, head, len, other);
     }
-}
-
-/// As `and_words`, in the words of a vector.
-fn and_in_vec<T: BitStore, O: BitOrder, U: BitStore, P: BitOrder>(
-    words: &mut Vec<T>,
-    head: usize,
-    len: usize,
-    other: BitSlice<'_, U, P>,
-)
-    requires within { head + len ≤ T.BITS * length words.old.items }
-    requires fits { head + len < 2 ^ 64 }
-    ensures bits { row T.BitStore O.BitOrder words.new.items ≡ put (row T.BitStore O.BitOrder words.old.items) head (and_of (slice_range (row T.BitStore O.BitOrder words.old.items) head (head + len)) (list_of other.entry)) }
-    ensures size { length words.new.items ≡ length words.old.items }
-    ensures capacity { vec_capacity words.new ≡ vec_capacity words.old }
-{
-    and_words::<T, O, U, P>(words.as_mut_slice(), head, len, other);
-}
-
-/// As `or_words`, in the words of a vector.
-fn or_in_vec<T: BitStore, O: BitOrder, U: BitStore, P: BitOrder>(
-    words: &mut Vec<T>,
-    head: usize,
-    len: usize,
-    other: BitSlice<'_, U, P>,
-)
-    requires within { head + len ≤ T.BITS * length words.old.items }
-    requires fits { head + len < 2 ^ 64 }
-    ensures bits { row T.BitStore O.BitOrder words.new.items ≡ put (row T.BitStore O.BitOrder words.old.items) head (or_of (slice_range (row T.BitStore O.BitOrder words.old.items) head (head + len)) (list_of other.entry)) }
-    ensures size { length words.new.items ≡ length words.old.items }
-    ensures capacity { vec_capacity words.new ≡ vec_capacity words.old }
-{
-    or_words::<T, O, U, P>(words.as_mut_slice(), head, len, other);
-}
-
-/// As `xor_words`, in the words of a vector.
-fn xor_in_vec<T: BitStore, O: BitOrder, U: BitStore, P: BitOrder>(
-    words: &mut Vec<T>,
-    head: usize,
-    len: usize,
-    other: BitSlice<'_, U, P>,
-)
-    requires within { head + len ≤ T.BITS * length words.old.items }
-    requires fits { head + len < 2 ^ 64 }
-    ensures bits { row T.BitStore O.BitOrder words.new.items ≡ put (row T.BitStore O.BitOrder words.old.items) head (xor_of (slice_range (row T.BitStore O.BitOrder words.old.items) head (head + len)) (list_of other.entry)) }
-    ensures size { length words.new.items ≡ length words.old.items }
-    ensures capacity { vec_capacity words.new ≡ vec_capacity words.old }
-{
-    xor_words::<T, O, U, P>(words.as_mut_slice(), head, len, other);
 }
 
 impl<T: BitStore, O: BitOrder> Index<usize> for BitVec<T, O> {

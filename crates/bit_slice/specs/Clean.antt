@@ -8,6 +8,6 @@ pub record IsCleanRow (w start : ℕ) (bits list : List Bool) : Type 0 where
   pub row : bits ≡ sized w list (length list)
 
 -- a copy of a list: the same list, in a clean row
-pub record IsCopiedRow (w : ℕ) (old : List Bool) (start : ℕ) (bits list : List Bool) : Type 0 where
-  pub list : list ≡ old
-  pub clean : IsCleanRow w start bits list
+pub record IsCopiedRow (w : ℕ) (old : List Bool) (start : ℕ) (bits shown : List Bool) : Type 0 where
+  pub list : shown ≡ old
+  pub clean : IsCleanRow w start bits shown

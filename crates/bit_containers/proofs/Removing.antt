@@ -12,6 +12,8 @@ use Rattle.bit_addressing.proofs.Shifts.{put_moved}
 use Rattle.bit_addressing.specs.declared.store.BitStore as store
 use Rattle.bit_addressing.specs.declared.order.BitOrder as order
 use Rattle.bit_containers.specs.declared.vec.drain.Drain.{Drain}
+use Rattle.std.specs.Iterator.{YieldsFirst, YieldsLast}
+use Rattle.bit_containers.specs.Items.{items_rest}
 use Rattle.bit_containers.specs.Drain.{drain_rest, DrainSteps, DrainStepsBack, DrainKeeps, DrainKeepsAlong}
 
 -- ---- a range that is taken out
@@ -64,6 +66,12 @@ module _ {X Y : Type 0} {W : store.Ghosts X} {P : order.Ghosts Y} where
       let step = run.1.1 in
       let rest = drain_keeps_along run.0 items later run.2 in
       (rest.0 ∙ step.0, rest.1 ∙ step.1, rest.2 ∙ step.2, rest.3 ∙ step.3)
+
+  pub items_runs : YieldsInOrder (YieldsFirst (items_rest {X = X} {Y = Y} {W = W} {P = P})) items_rest
+  items_runs p s = as_is p (items_rest p.from) (from_front (YieldsFirst items_rest) (λ b. b) items_rest (λ s t h. ap length h.0) (λ s x t h. h) p s)
+
+  pub items_runs_back : YieldsInReverse (YieldsLast (items_rest {X = X} {Y = Y} {W = W} {P = P})) items_rest
+  items_runs_back p s = as_is_back p (items_rest p.from) (from_back (YieldsLast items_rest) (λ b. b) items_rest (λ s t h. ap length h.0) (λ s x t h. h) p s)
 
 -- ---- bits written inside what a vector shows
 

@@ -3,6 +3,7 @@ pub mod Closures
 pub mod Compared
 pub mod Drain
 pub mod Examples
+pub mod Items
 pub mod Lends
 pub mod Machine
 pub mod Splice

@@ -27,6 +27,10 @@ module _ {X Y I : Type 0} where
   SpliceKeeps old new = (splice_lender new ≡ splice_lender old) × (splice_vector new ≡ splice_vector old)
       × (new.start ≡ old.start) × (new.end ≡ old.end) × (new.replacement ≡ old.replacement)
 
+  -- it replaces the same, and no replaced bit is left to come
+  abbrev pub SpliceIsEmptied : Splice X Y I → Splice X Y I → Type 0
+  SpliceIsEmptied old new = SpliceKeeps old new × (new.front ≡ new.back) × SpliceIsReady new
+
   -- a step at the front
   abbrev pub SpliceSteps : Splice X Y I → Option Bool → Splice X Y I → Type 0
   SpliceSteps old item new = YieldsFirst splice_rest old item new × SpliceKeeps old new

@@ -1,4 +1,5 @@
-//! A vector of bits, and runs of commands over it.
+//! A vector of bits, and runs of commands over it. The crates of arrays and boxes are here as `array` and
+//! `boxed`.
 #![tactic(auto)]
 
 #[cfg(test)]
@@ -16,4 +17,4 @@ pub use bit_array as array;
 pub use bit_boxed as boxed;
 pub use bit_slice::{BitSlice, BitSliceMut, CountedMut, Iter};
 pub use machine::{Command, Reply, Stop, run};
-pub use vec::{BitVec, Drain, IntoBitVec, Splice};
+pub use vec::{BitVec, Drain, IntoBitVec, Items, Splice};

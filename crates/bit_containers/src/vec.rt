@@ -22,6 +22,7 @@ mod convert;
 mod drain;
 mod elements;
 mod extend;
+mod items;
 mod iter;
 mod numbers;
 mod ops;
@@ -33,6 +34,7 @@ mod views;
 pub use bit_boxed::IntoIter;
 pub use convert::IntoBitVec;
 pub use drain::Drain;
+pub use items::Items;
 pub use splice::Splice;
 
 /// A vector of truth values, one bit each, in words of type `T`, in the order `O` of the bits in a word.

@@ -53,6 +53,19 @@ pub fn replaced_by_a_vector(v: &mut BitVec<u8, Lsb0>, bits: Vec<bool>) -> Result
     v.splice(1..4, bits).finish()
 }
 
+/// The replaced bits are counted, and then replaced.
+pub fn counted_and_replaced(v: &mut BitVec<u8, Lsb0>, bits: Vec<bool>) -> Result<usize, GrowError>
+    requires { 4 ≤ length v.old.list }
+    ensures ones { IfOk result (λ ones. ones ≡ count_by (λ bit. bit) (slice_range v.old.list 1 4)) }
+    ensures list { OnOk result (v.new.list ≡ splice v.old.list 1 4 bits.items) }
+    ensures kept { OnErr result (v.new.list ≡ v.old.list) }
+{
+    let mut splice = v.splice(1..4, bits);
+    let ones = splice.items().filter(|bit| *bit).count();
+    splice.finish()?;
+    Ok(ones)
+}
+
 pub fn emptied(v: &mut BitVec<u32, Msb0>)
     ensures { v.new.list ≡ [] }
 {

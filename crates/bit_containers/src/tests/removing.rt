@@ -136,6 +136,23 @@ fn spliced(rt: HostRuntime) -> Result<(), Fail> {
 }
 
 #[test]
+fn handed_over(rt: HostRuntime) -> Result<(), Fail> {
+    let mut v = of::<u8, Lsb0>(rt.alloc(), b"0110010")?;
+    assert!(rt; v.len() == 7);
+    let mut splice = v.splice(1..6, None);
+    assert_eq!(rt; splice.next(), Some(true));
+    let mut items = splice.items();
+    assert_eq!(rt; items.size_hint(), (4, Some(4)));
+    assert!(rt; items.next() == Some(true) && items.next_back() == Some(true));
+    assert!(rt; items.len() == 2 && items.nth(1) == Some(false));
+    assert!(rt; items.next().is_none() && items.next_back().is_none());
+    assert!(rt; splice.next().is_none() && splice.len() == 0);
+    splice.finish()?;
+    holds(&rt, &v, b"00");
+    Ok(())
+}
+
+#[test]
 fn passed_over(rt: HostRuntime) -> Result<(), Fail> {
     let mut v = of::<u8, Lsb0>(rt.alloc(), b"0110010")?;
     assert!(rt; v.len() == 7);

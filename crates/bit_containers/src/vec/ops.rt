@@ -68,7 +68,7 @@ impl<T: BitStore, O: BitOrder> BitVec<T, O> {
     }
 
     /// Flips every bit of the words, dead bits included. Takes no memory.
-    #[tactic(auto, using(crate::proofs::Vectors::shown_length))]
+    #[tactic(auto, using(crate::proofs::Vectors::shown_length, bit_addressing::proofs::lists::Shown::shows_map))]
     pub fn flip_all(&mut self)
         ensures list { self.new.list ≡ map not self.old.list }
         ensures row { self.new.row ≡ map not self.old.row }

@@ -1,7 +1,7 @@
 //! A range of bits replaced by others, and a vector cut in two.
 ghost use Rattle.std.specs.Prelude.{◌≡◌, ◌≢◌, ◌+◌, ◌-◌, ◌<◌, ◌≤◌, Bool, List, [], length, take, drop, replicate, reverse, slice_get, slice_range, Err, IfOk, OnOk, OnErr};
-ghost use Rattle.std.specs.Iterator.{IsFinite, Drains, Yields};
-ghost use Rattle.std.specs.Iterator.Runs.{WholeRun};
+ghost use Rattle.std.specs.Iterator.{IsFinite, Drains, Yields, YieldsFirst, YieldsLast};
+ghost use Rattle.std.specs.Iterator.Runs.{WholeRun, YieldsInOrder, YieldsInReverse};
 ghost use Rattle.std.specs.List.{splice};
 ghost use Rattle.bit_addressing.specs.Range.{LiesIn};
 ghost use Rattle.bit_addressing.specs.Row.{put};
@@ -9,7 +9,7 @@ ghost use Rattle.bit_addressing.specs.declared.length.TheConstants.{MAX_BITS};
 ghost use Rattle.bit_slice.specs.BitSlice.{len_of, list_of};
 ghost use Rattle.bit_containers.specs.BitVec.{Shrank, Stayed, IsClean};
 
-use crate::vec::BitVec;
+use crate::vec::{BitVec, Items};
 use bit_addressing::{BitOrder, BitStore, GrowError, Lsb0, MAX_BITS, RangeExt, copy_bits_in_vec};
 use bit_slice::BitSlice;
 use std::alloc::{AllocError, Global};
@@ -214,7 +214,13 @@ impl<T: BitStore, O: BitOrder> BitVec<T, O> {
 }
 
 impl<'a, T: BitStore, O: BitOrder, I: Iterator<Item = bool>> Splice<'a, T, O, I> {
-    ghost use Rattle.bit_containers.specs.Splice.{splice_rest, SpliceIsReady, SpliceKeeps, SpliceSteps, SpliceStepsBack};
+    ghost use Rattle.bit_containers.specs.Splice.{splice_rest, SpliceIsReady, SpliceIsEmptied, SpliceKeeps, SpliceSteps, SpliceStepsBack};
+    ghost use Rattle.bit_containers.specs.Items.{items_rest};
+    ghost use Rattle.std.specs.Borrow.{sem, follows_so};
+    ghost use Rattle.std.specs.Prelude.{⊤};
+    ghost use mathlib.Core.Option.{none};
+    ghost use mir.Syntax.{named};
+    ghost use Rattle.bit_containers.specs.contracts.vec.splice.Splice.{the_row};
 
     /// The next of the replaced bits.
     pub fn next(&mut self) -> Option<bool>
@@ -276,6 +282,20 @@ impl<'a, T: BitStore, O: BitOrder, I: Iterator<Item = bool>> Splice<'a, T, O, I>
         }
         self.back -= n + 1;
         Some(self.vec.bit(self.back))
+    }
+
+    /// An iterator over the replaced bits that are still to come, from both ends: it takes them all, and the splice has
+    /// none left.
+    pub fn items(&mut self) -> Items<'_, T, O>
+        requires { SpliceIsReady self.old }
+        ensures* writes_back { sem 𝓛 (follows_so (the_row (record { mir = named 1; lft = [] }) T.row O.row I.row T.BitStore O.BitOrder) (the_row (record { mir = named 1; lft = [] }) T.row O.row I.row T.BitStore O.BitOrder) self.entry.ghost_name none (λ _ _. ⊤) (λ v. SpliceIsEmptied self.old v)) }
+        ensures rest { items_rest result ≡ splice_rest self.old }
+        ensures runs { YieldsInOrder (YieldsFirst (items_rest {X = T} {Y = O} {W = T.BitStore} {P = O.BitOrder})) items_rest }
+        ensures runs_back { YieldsInReverse (YieldsLast (items_rest {X = T} {Y = O} {W = T.BitStore} {P = O.BitOrder})) items_rest }
+    {
+        let (front, back) = (self.front, self.back);
+        self.front = back;
+        Items::of(self.vec.get_range(front..back).iter())
     }
 
     /// How many of the replaced bits are still to come.

@@ -36,6 +36,7 @@ impl<T: BitStore, O: BitOrder> PartialEq for BitVec<T, O> {
     ghost laws = { on_per list_in (partial_equiv_from_equiv bits_equiv) };
 
     /// Whether both have the same bits.
+    #[tactic(auto, using(bit_slice::specs::Comparisons::equal_lists, std::proofs::lemmas::Bool::Decides::same_from_decides))]
     fn eq(&self, other: &Self) -> bool {
         self.eq_bits(other.as_bitslice())
     }

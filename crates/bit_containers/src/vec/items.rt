@@ -1,0 +1,69 @@
+//! The bits that a splice replaces, one after another.
+ghost use Rattle.std.specs.Prelude.{◌≡◌, length};
+
+use bit_addressing::{BitOrder, BitStore, Lsb0};
+use bit_slice::Iter;
+use std::iter::FusedIterator;
+
+/// The replaced bits that a `Splice` had left, from both ends, each once.
+///
+/// Its length is known, and after the first None there is no more. It takes no memory.
+#[derive(Drop)]
+pub struct Items<'b, T: BitStore = usize, O: BitOrder = Lsb0> {
+    inner: Iter<'b, T, O>,
+}
+
+impl<'b, T: BitStore, O: BitOrder> Items<'b, T, O> {
+    ghost use Rattle.bit_slice.specs.Iter.{rest_of};
+    ghost use Rattle.bit_containers.specs.Items.{items_rest};
+
+    // The bits of an iterator over a view.
+    pub(crate) fn of(inner: Iter<'b, T, O>) -> Self
+        ensures { items_rest result ≡ rest_of inner.entry }
+    {
+        Items { inner }
+    }
+}
+
+impl<'b, T: BitStore, O: BitOrder> Iterator for Items<'b, T, O> {
+    ghost use Rattle.std.specs.Iterator.{YieldsFirst, item_count};
+    ghost use Rattle.bit_containers.specs.Items.{items_rest};
+
+    type Item = bool;
+
+    ghost next_gives = { YieldsFirst items_rest };
+
+    ghost remaining = { item_count items_rest };
+
+    /// The first bit that is left. None exactly where none is.
+    fn next(&mut self) -> Option<bool> {
+        self.inner.next()
+    }
+
+    /// How many bits are left, twice.
+    fn size_hint(&self) -> (usize, Option<usize>) {
+        let count = self.inner.len();
+        (count, Some(count))
+    }
+}
+
+impl<'b, T: BitStore, O: BitOrder> DoubleEndedIterator for Items<'b, T, O> {
+    ghost use Rattle.std.specs.Iterator.{YieldsLast};
+    ghost use Rattle.bit_containers.specs.Items.{items_rest};
+
+    ghost next_back_gives = { YieldsLast items_rest };
+
+    /// The last bit that is left. None exactly where none is.
+    fn next_back(&mut self) -> Option<bool> {
+        self.inner.next_back()
+    }
+}
+
+impl<'b, T: BitStore, O: BitOrder> ExactSizeIterator for Items<'b, T, O> {
+    /// How many bits are left.
+    fn len(&self) -> usize {
+        self.inner.len()
+    }
+}
+
+impl<'b, T: BitStore, O: BitOrder> FusedIterator for Items<'b, T, O> {}

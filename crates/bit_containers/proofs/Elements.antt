@@ -4,10 +4,12 @@ use Rattle.bit_addressing.specs.Bits.{IsWidth}
 use Rattle.bit_addressing.specs.declared.store.BitStore as store
 use Rattle.bit_addressing.specs.declared.order.BitOrder as order
 use Rattle.bit_addressing.specs.declared.length.TheConstants.{MAX_BITS}
-use Rattle.bit_addressing.specs.Row.{words_for}
+use Rattle.bit_addressing.specs.Row.{words_for, sized}
 use Rattle.bit_addressing.specs.Typed.{row}
 use Rattle.bit_addressing.proofs.Rows.{width_positive}
 use Rattle.bit_addressing.proofs.lists.Sized.{room}
+use Rattle.bit_addressing.proofs.lists.Shown.{shows_sized}
+use Rattle.bit_addressing.proofs.Typed.{length_row}
 use Rattle.bit_containers.specs.BitVec.{IsVector}
 use Rattle.bit_containers.proofs.Vectors.{shown_length}
 
@@ -17,6 +19,12 @@ exactly W P ws head len width low small count =
     let r = (room W.BITS (head + len) (width_positive W.BITS width)).0 in
     let fits : head + len ≤ W.BITS * length ws = subst (λ n. head + len ≤ W.BITS * n) (sym count) r in
     record { head_below = low; len_small = small; count = count; fits = fits; shows = shown_length W P ws head len fits }
+
+-- words cut to the places up to the end of a run show the run
+pub run_kept : {X Y : Type 0} (W : store.Ghosts X) (P : order.Ghosts Y) (old new : List X) (head n : ℕ) → IsWidth W.BITS → head + n ≤ W.BITS * length old → row W P new ≡ sized W.BITS (row W P old) (head + n) → slice_range (row W P new) head (head + n) ≡ slice_range (row W P old) head (head + n)
+run_kept W P old new head n width h is =
+    let long : head + n ≤ length (row W P old) = rw (length_row W.value P.place W.BITS old) h in
+    ap (λ r. slice_range r head (head + n)) is ∙ shows_sized W.BITS (row W P old) (head + n) head (head + n) (width_positive W.BITS width) (omega arith) long (omega arith)
 
 set_next : {X : Type 0} (ws : List X) (k : ℕ) (word : X) → k < length ws → set (replicate k word ++ drop k ws) k word ≡ replicate (suc k) word ++ drop (suc k) ws
 set_next [] k word h = absurd (omega arith)

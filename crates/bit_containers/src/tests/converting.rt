@@ -4,7 +4,13 @@ use crate::boxed::BitBox;
 use crate::tests::{holds, of};
 use crate::vec::IntoIter;
 use crate::{BitSlice, BitVec, IntoBitVec, Lsb0, Msb0};
+use std::alloc::AllocError;
 use std::test::Fail;
+
+/// What becomes a vector, as one.
+fn vector_of<B: IntoBitVec>(b: B) -> Result<BitVec<B::Store, B::Order>, AllocError> {
+    b.into_bitvec()
+}
 
 #[test]
 fn of_an_array(rt: HostRuntime) -> Result<(), Fail> {
@@ -23,7 +29,7 @@ fn boxed(rt: HostRuntime) -> Result<(), Fail> {
     b.force_align();
     b.fill_uninitialized(false);
     assert_eq!(rt; b.as_raw_slice(), [0xf5, 0x00].as_slice());
-    let v = b.into_bitvec()?;
+    let v = vector_of(b)?;
     assert_eq!(rt; v.as_raw_slice(), [0xf5].as_slice());
     assert!(rt; v.head() == 0 && v.len() == 8);
     let v = BitVec::from_bitslice_headed(rt.alloc(), view)?;

@@ -105,6 +105,7 @@ impl<T: BitStore, O: BitOrder> IntoBitVec for BitBox<T, O> {
 
     /// The vector of the same head and list, whose words are the box's visible ones. The words are kept, no
     /// memory is taken, and it always succeeds.
+    #[tactic(auto, using(crate::proofs::Elements::run_kept))]
     fn into_bitvec(self) -> Result<BitVec<T, O>, AllocError>
         ensures words { IfOk result (λ v. v.words ≡ take (words_for T.BITS (self.head + length self.list)) self.words) }
         ensures head { IfOk result (λ v. v.head ≡ self.head) }

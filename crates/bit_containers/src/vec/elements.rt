@@ -40,7 +40,7 @@ impl<T: BitStore, O: BitOrder> BitVec<T, O> {
     /// Makes the length `n`: bits of the visible words that become live are those that stood there, and nothing
     /// is written. Takes no memory. The condition: the visible words have `n` bits from the head on, and they
     /// are at most `MAX_BITS`.
-    #[tactic(auto, using(crate::proofs::Vectors::shown_length))]
+    #[tactic(auto, using(crate::proofs::Vectors::shown_length, crate::proofs::Elements::run_kept))]
     pub fn set_len(&mut self, n: usize)
         requires visible { self.old.head + n ≤ T.BITS * length self.old.words }
         requires few { n ≤ MAX_BITS }

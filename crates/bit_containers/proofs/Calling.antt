@@ -4,7 +4,7 @@ use Rattle.std.proofs.lemmas.List.{take_more, drop_more, drop-drop, take_all, le
 use Rattle.std.specs.Borrow.{Bor}
 use Rattle.bit_addressing.specs.Row.{words_for, number_bits}
 use Rattle.bit_containers.specs.BitVec.{Held, Grew, IsKept}
-use Rattle.bit_containers.specs.Closures.{AnswersFrom, AnswersAtEach, kept}
+use Rattle.bit_containers.specs.Closures.{AnswersFrom, AnswersAtEach, kept, keep_where}
 use Rattle.bit_addressing.proofs.Binary.{number_bits_none}
 use Rattle.bit_containers.proofs.Growing.{grew_none}
 
@@ -24,6 +24,10 @@ grew_kept w old new size same =
 
 -- ---- the bits that stay
 
+kept_cond : (b x : Bool) (bits answers : List Bool) → kept (x ∷ bits) (b ∷ answers) ≡ cond b (x ∷ kept bits answers) (kept bits answers)
+kept_cond true x bits answers = refl
+kept_cond false x bits answers = refl
+
 module _ {F : Type 0} (step : F → ℕ → Bor Bool → Bool → F → Type 0) where
   pub answers_at_each_more : (f : F) (i : ℕ) (bits answers : List Bool) (g : F) (j : ℕ) (bit : Bool) (shown : Bor Bool) (b : Bool) (h : F) → AnswersAtEach step f i bits answers g → step g j shown b h → shown.now ≡ bit → j ≡ i + length bits → AnswersAtEach step f i (bits ++ bit ∷ []) (answers ++ b ∷ []) h
   answers_at_each_more f i [] answers g j bit shown b h run called shows at =
@@ -35,6 +39,15 @@ module _ {F : Type 0} (step : F → ℕ → Bor Bool → Bool → F → Type 0) 
   length-answers : (f : F) (i : ℕ) (bits answers : List Bool) (g : F) → AnswersAtEach step f i bits answers g → length answers ≡ length bits
   length-answers f i [] answers g run = rw run.0 refl
   length-answers f i (x ∷ bits) answers g run = rw run.4 (ap suc (length-answers run.2 (i + 1) bits run.1 g run.7))
+
+  -- where each answer is that of a test of the index and the bit, the bits that pass it are kept
+  pub kept_where : (test : ℕ → Bool → Bool) → ((f : F) (i : ℕ) (shown : Bor Bool) (answer : Bool) (next : F) → step f i shown answer next → answer ≡ test i shown.now)
+      → (f : F) (i : ℕ) (bits answers : List Bool) (last : F) → AnswersAtEach step f i bits answers last → kept bits answers ≡ keep_where test i bits
+  kept_where test says f i [] answers last run = rw run.0 refl
+  kept_where test says f i (x ∷ bits) answers last run =
+      let same : run.0 ≡ test i x = says f i run.3 run.0 run.2 run.6 ∙ ap (test i) run.5 in
+      let rest = kept_where test says run.2 (i + 1) bits run.1 last run.7 in
+      rw (run.4, same) (kept_cond (test i x) x bits run.1 ∙ ap (λ l. cond (test i x) (x ∷ l) l) rest)
 
 kept_more : (bits answers : List Bool) (x b : Bool) → length answers ≡ length bits → kept (bits ++ x ∷ []) (answers ++ b ∷ []) ≡ kept bits answers ++ cond b (x ∷ []) []
 kept_more [] [] x true e = refl

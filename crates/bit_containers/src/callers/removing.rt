@@ -1,6 +1,7 @@
 //! Callers that take bits out of a vector, and put others in their place.
 ghost use Rattle.std.specs.Prelude.{◌≡◌, ◌+◌, ◌≤◌, ◌++◌, true, false, [], ◌∷◌, take, drop, length, slice_get, slice_range, count_by, IfOk, OnOk, OnErr};
 ghost use Rattle.std.specs.List.{splice};
+ghost use Rattle.bit_containers.specs.Closures.{keep_where};
 
 use crate::{BitOrder, BitStore, BitVec, GrowError, Lsb0, Msb0};
 use std::alloc::AllocError;
@@ -51,6 +52,19 @@ pub fn replaced_by_a_vector(v: &mut BitVec<u8, Lsb0>, bits: Vec<bool>) -> Result
     ensures kept { OnErr result (v.new.list ≡ v.old.list) }
 {
     v.splice(1..4, bits).finish()
+}
+
+/// A function that counts its calls decides which bits stay.
+#[tactic(auto, using(crate::proofs::Calling::kept_where))]
+pub fn counted_and_kept<T: BitStore, O: BitOrder>(v: &mut BitVec<T, O>) -> usize
+    ensures { v.new.list ≡ keep_where (λ index bit. bit) 0 v.old.list }
+{
+    let mut count = 0usize;
+    v.retain(|_, bit| {
+        count = count.wrapping_add(1);
+        *bit
+    });
+    count
 }
 
 /// The replaced bits are counted, and then replaced.

@@ -1,4 +1,7 @@
 //! Examples, and each public call once.
+mod orders;
+mod sweeps;
+
 use crate::{BitBox, IntoIter};
 use bit_addressing::{BitOrder, BitStore, Lsb0, Msb0};
 use bit_array::BitArray;

@@ -4,7 +4,7 @@ use Rattle.std.specs.List.{slice_split}
 use Rattle.std.specs.Str.{bytes_eq, all_ascii_digits}
 use Rattle.std.specs.Str.Parse.{digits_value}
 use Rattle.bit_containers.specs.declared.machine.Command.{Command}
-use Rattle.bit_containers.specs.declared.machine.Command.TheVariants.{Push, Pop, Get, Set, Insert, Remove, SwapRemove, Truncate, Clear, Drain, Splice, SplitOff, Resize, Reserve, ExtendWithin, CopyWithin, Align, Len}
+use Rattle.bit_containers.specs.declared.machine.Command.TheVariants.{Push, Pop, Get, Set, Insert, Remove, SwapRemove, Truncate, Clear, Drain, Splice, SplitOff, Resize, Reserve, ExtendWithin, CopyWithin, Not, Align, Clean, Len}
 use Rattle.bitrun.specs.declared.parsing.TheConstants.{MAX_LINE}
 use Rattle.bitrun.specs.declared.parsing.Line.{Line}
 use Rattle.bitrun.specs.declared.parsing.Line.TheVariants.{Run, ShowList, ShowWords}
@@ -61,7 +61,9 @@ of_fields (word ∷ []) =
     if bytes_eq word (codes "pop") then Some (Run Pop) else
     if bytes_eq word (codes "len") then Some (Run Len) else
     if bytes_eq word (codes "clear") then Some (Run Clear) else
+    if bytes_eq word (codes "not") then Some (Run Not) else
     if bytes_eq word (codes "align") then Some (Run Align) else
+    if bytes_eq word (codes "clean") then Some (Run Clean) else
     if bytes_eq word (codes "list") then Some ShowList else
     if bytes_eq word (codes "raw") then Some ShowWords else None
 of_fields (word ∷ a ∷ []) =

@@ -87,8 +87,12 @@ fn of_word(word: &[u8]) -> Option<Line>
         Some(Line::Run(Command::Len))
     } else if word == b"clear".as_slice() {
         Some(Line::Run(Command::Clear))
+    } else if word == b"not".as_slice() {
+        Some(Line::Run(Command::Not))
     } else if word == b"align".as_slice() {
         Some(Line::Run(Command::Align))
+    } else if word == b"clean".as_slice() {
+        Some(Line::Run(Command::Clean))
     } else if word == b"list".as_slice() {
         Some(Line::ShowList)
     } else if word == b"raw".as_slice() {

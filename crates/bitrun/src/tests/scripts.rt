@@ -94,6 +94,28 @@ fn growing_lines(rt: HostRuntime) -> Result<(), Fail> {
 }
 
 #[test]
+fn lines_on_words(rt: HostRuntime) -> Result<(), Fail> {
+    let alloc = rt.alloc();
+    check(
+        &rt,
+        alloc,
+        "u8 lsb0",
+        b"resize 5 1\ntruncate 2\nraw\nclean\nraw\n",
+        (b"ok\nok\n1f\nok\n03\n", 0),
+    )?;
+    check(
+        &rt,
+        alloc,
+        "u8 msb0",
+        b"push 1\npush 0\nnot\nlist\nraw\nalign\nclean\nraw\nnot 1\n",
+        (
+            b"ok\nok\nok\n[0, 1]\n7f\nok\nok\n40\nline 9: bad command\n",
+            2,
+        ),
+    )
+}
+
+#[test]
 fn shown_words(rt: HostRuntime) -> Result<(), Fail> {
     let alloc = rt.alloc();
     let mut input = Vec::from_slice(alloc, b"raw\nlist\n")?;

@@ -1,5 +1,5 @@
 -- What holds of the words of each array.
-use Rattle.std.proofs.Common.{◌≡◌, ℕ, zero, ◌+◌, ◌*◌, Bool, false, List, length, map, replicate, slice_range, refl, sym, ◌∙◌, ap}
+use Rattle.std.proofs.Common.{◌≡◌, ℕ, ◌+◌, ◌*◌, Bool, false, List, length, map, replicate, slice_range, refl, sym, ◌∙◌, ap}
 use Rattle.bit_addressing.specs.Bits.{IsWidth}
 use Rattle.bit_addressing.specs.declared.store.BitStore as store
 use Rattle.bit_addressing.specs.declared.order.BitOrder as order

@@ -1,5 +1,5 @@
 //! Examples, and each public call once.
-use crate::{BitArray, BitViewSized, BitWords, IntoIter, TryFromBitSliceError};
+use crate::{BitArray, BitViewSized, BitWords, IntoIter, TryFromBitSliceError, run_mut};
 use bit_addressing::{BitOrder, Lsb0, Msb0};
 use bit_slice::BitSlice;
 use std::cmp::Ordering;
@@ -64,6 +64,9 @@ fn written(rt: HostRuntime) {
     a.as_mut_slice().set(1, false);
     assert_eq!(rt; a.as_slice().count_ones(), 10);
     assert_eq!(rt; a.as_bitslice().count_zeros(), 6);
+    let mut words = [0xff_u8, 0xff];
+    run_mut::<u8, Lsb0>(&mut words, 3, 11).fill(false);
+    assert_eq!(rt; words.as_slice(), [0x07, 0xf8].as_slice());
 }
 
 #[test]
@@ -219,4 +222,20 @@ fn iterated(rt: HostRuntime) -> Result<(), Fail> {
     assert_eq!(rt; (&a).into_iter().filter(|bit| *bit).count(), 64);
     assert_eq!(rt; a.iter().rev().filter(|bit| *bit).count(), 64);
     Ok(())
+}
+
+#[test]
+fn written_while_given(rt: HostRuntime) {
+    let mut bits = IntoIter::new(BitArray::<u8, Msb0>::new(0x60));
+    assert_eq!(rt; bits.next(), Some(false));
+    let mut view = bits.as_mut_bitslice();
+    assert_eq!(rt; view.len(), 7);
+    view.set(6, true);
+    let mut view = bits.as_mut_slice();
+    assert_eq!(rt; view.len(), 7);
+    view.swap(0, 2);
+    for bit in [false, true, true, false, false, false, true] {
+        assert_eq!(rt; bits.next(), Some(bit));
+    }
+    assert!(rt; bits.next().is_none());
 }

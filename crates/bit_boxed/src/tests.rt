@@ -1,4 +1,9 @@
 //! Examples, and each public call once.
+mod memory;
+mod orders;
+mod sweeps;
+
+use crate::tests::orders::{Scramble, Xor4};
 use crate::{BitBox, IntoIter};
 use bit_addressing::{BitOrder, BitStore, Lsb0, Msb0};
 use bit_array::BitArray;
@@ -241,5 +246,42 @@ fn iterated(rt: HostRuntime) -> Result<(), Fail> {
     assert!(rt; bits.next().is_none() && bits.next_back().is_none() && bits.len() == 0);
     let parts = IntoIter::<u8, Lsb0>::from_parts(vec![in rt.alloc(); 0xa8, 0x07]?, 3, 8);
     assert_eq!(rt; parts.filter(|bit| *bit).count(), 6);
+    Ok(())
+}
+
+#[test]
+fn empty_behind_a_head(rt: HostRuntime) -> Result<(), Fail> {
+    let words = [0xff_u8];
+    let view = BitSlice::<u8, Lsb0>::from_slice(&words).get_range(5..5);
+    let mut b = BitBox::from_bitslice_headed(rt.alloc(), view)?;
+    assert_eq!(rt; b.as_raw_slice(), [0].as_slice());
+    b.fill_uninitialized(true);
+    assert_eq!(rt; b.as_raw_slice(), [0xff].as_slice());
+    let b = !BitBox::from_bitslice_headed(rt.alloc(), view)?;
+    assert_eq!(rt; b.as_raw_slice(), [0xff].as_slice());
+    let mut b = BitBox::from_bitslice_headed(rt.alloc(), view)?;
+    b.force_align();
+    assert_eq!(rt; b.head(), 0);
+    assert_eq!(rt; b.as_raw_slice(), [0].as_slice());
+    assert_eq!(rt; b.as_bitslice().as_raw_slice(), [].as_slice());
+    Ok(())
+}
+
+#[test]
+fn by_orders_of_a_user(rt: HostRuntime) -> Result<(), Fail> {
+    let words: BoxedSlice<u8> = vec![in rt.alloc(); 0xb1, 0x6d]?.into_boxed_slice();
+    let Ok(mut b) = BitBox::<u8, Xor4>::try_from_boxed_slice(words) else {
+        panic!(rt; "two words have few bits");
+    };
+    assert_eq!(rt; b.len(), 16);
+    b.copy_within(1..12, 3);
+    assert_eq!(rt; b.as_raw_slice(), [0xb6, 0x8d].as_slice());
+    let bits = [true, true, false, false, true];
+    let b = BitBox::<u8, Xor4>::from_bits(rt.alloc(), bits)?;
+    assert_eq!(rt; b.as_raw_slice(), [0x31].as_slice());
+    let b = BitBox::<u8, Scramble>::from_bits(rt.alloc(), bits)?;
+    assert_eq!(rt; b.as_raw_slice(), [0x89].as_slice());
+    let b = BitBox::<u16, Scramble>::from_bits(rt.alloc(), bits)?;
+    assert_eq!(rt; b.as_raw_slice(), [0x0188].as_slice());
     Ok(())
 }

@@ -5,13 +5,15 @@ ghost use Rattle.std.specs.Iterator.Runs.{YieldsInOrder, YieldsInReverse};
 ghost use Rattle.bit_addressing.specs.declared.length.TheConstants.{MAX_BITS};
 ghost use Rattle.bit_addressing.specs.Typed.{row};
 ghost use Rattle.bit_slice.specs.BitSlice.{list_of};
+ghost use Rattle.bit_slice.specs.BitSliceMut.{len_of as lent_len, list_of as lent_list};
 ghost use Rattle.bit_slice.specs.Iter.{rest_of as rest_lent};
 ghost use Rattle.bit_slice.specs.Owned.{rest_of, GivesInOrder, GivesInReverse};
 
 use crate::array::BitArray;
-use crate::sized::BitWords;
+use crate::run::run_mut;
+use crate::sized::{BitViewSized, BitWords};
 use bit_addressing::{BitOrder, BitStore, read_bit};
-use bit_slice::{BitSlice, Iter, write_list};
+use bit_slice::{BitSlice, BitSliceMut, Iter, write_list};
 use std::alloc::AllocError;
 use std::fmt;
 use std::iter::{DoubleEndedIterator, ExactSizeIterator, FusedIterator, Iterator};
@@ -49,7 +51,7 @@ impl<A: BitWords, O: BitOrder> Model for IntoIter<A, O> {
 
     ghost view = { λ s. slice_range (row A.Store.BitStore O.BitOrder (A.words s.array)) s.from s.upto };
 
-    ghost invariant = { λ s. (s.from ≤ s.upto) × (s.upto ≤ A.Store.BITS * A.count) × (A.Store.BITS * A.count ≤ MAX_BITS) × (length (A.words s.array) ≡ A.count) };
+    ghost invariant = { λ s. (s.from ≤ s.upto) × (s.upto ≤ A.Store.BITS * A.count) × (A.Store.BITS * A.count ≤ MAX_BITS) };
 }
 
 impl<A: BitWords, O: BitOrder> IntoIter<A, O> {
@@ -80,6 +82,26 @@ impl<A: BitWords, O: BitOrder> IntoIter<A, O> {
         ensures { list_of result ≡ self.now }
     {
         self.as_bitslice()
+    }
+}
+
+impl<A: BitViewSized, O: BitOrder> IntoIter<A, O> {
+    /// The view of the bits that are left, for writing: what is written stands in the bits that are still to
+    /// come.
+    pub fn as_mut_bitslice(&mut self) -> BitSliceMut<'_, A::Store, O>
+        ensures list { lent_list result ≡ self.old }
+        ensures len { lent_len result ≡ length self.old }
+    {
+        let (from, upto) = (self.from, self.upto);
+        run_mut::<A::Store, O>(self.array.as_raw_mut_slice(), from, upto)
+    }
+
+    /// As `as_mut_bitslice`.
+    pub fn as_mut_slice(&mut self) -> BitSliceMut<'_, A::Store, O>
+        ensures list { lent_list result ≡ self.old }
+        ensures len { lent_len result ≡ length self.old }
+    {
+        self.as_mut_bitslice()
     }
 }
 
@@ -132,7 +154,7 @@ impl<A: BitWords, O: BitOrder> DoubleEndedIterator for IntoIter<A, O> {
 impl<A: BitWords, O: BitOrder> ExactSizeIterator for IntoIter<A, O> {
     /// How many bits are left.
     fn len(&self) -> usize {
-        self.upto - self.from
+        self.as_bitslice().len()
     }
 }
 

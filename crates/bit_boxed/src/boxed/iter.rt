@@ -6,12 +6,14 @@ ghost use Rattle.bit_addressing.specs.Row.{words_for};
 ghost use Rattle.bit_addressing.specs.Typed.{row};
 ghost use Rattle.bit_addressing.specs.declared.length.TheConstants.{MAX_BITS};
 ghost use Rattle.bit_slice.specs.BitSlice.{len_of, list_of};
+ghost use Rattle.bit_slice.specs.BitSliceMut.{len_of as lent_len, list_of as lent_list};
 ghost use Rattle.bit_slice.specs.Iter.{rest_of as rest_lent};
 ghost use Rattle.bit_slice.specs.Owned.{rest_of, GivesInOrder, GivesInReverse};
 
 use crate::boxed::BitBox;
 use bit_addressing::{BitOrder, BitStore, Lsb0};
-use bit_slice::{BitSlice, Iter, write_list};
+use bit_array::run_mut;
+use bit_slice::{BitSlice, BitSliceMut, Iter, write_list};
 use std::alloc::AllocError;
 use std::fmt;
 use std::iter::{DoubleEndedIterator, ExactSizeIterator, FusedIterator, Iterator};
@@ -109,6 +111,25 @@ impl<T: BitStore, O: BitOrder> IntoIter<T, O> {
         ensures len { len_of result ≡ length self.now }
     {
         self.as_bitslice()
+    }
+
+    /// The view of the bits that are left, for writing: what is written stands in the bits that are still to
+    /// come.
+    pub fn as_mut_bitslice(&mut self) -> BitSliceMut<'_, T, O>
+        ensures list { lent_list result ≡ self.old }
+        ensures len { lent_len result ≡ length self.old }
+    {
+        let head = self.inner.head;
+        let (from, upto) = (head + self.from, head + self.upto);
+        run_mut::<T, O>(self.inner.words.as_mut_slice(), from, upto)
+    }
+
+    /// As `as_mut_bitslice`.
+    pub fn as_mut_slice(&mut self) -> BitSliceMut<'_, T, O>
+        ensures list { lent_list result ≡ self.old }
+        ensures len { lent_len result ≡ length self.old }
+    {
+        self.as_mut_bitslice()
     }
 }
 

@@ -10,7 +10,7 @@ returns-clause-steps g c =
     let s = c.self.inside in
     let ws = g.A.BitWords.words s.array in
     let bits = row g.A.Store.BitStore g.O.BitOrder in
-    let size : length (bits ws) ≡ g.A.Store.BitStore.BITS * g.A.BitWords.count = length_row g.A.Store.BitStore.value g.O.BitOrder.place g.A.Store.BitStore.BITS ws ∙ ap (λ n. g.A.Store.BitStore.BITS * n) c.self.invariant.3 in
+    let size : length (bits ws) ≡ g.A.Store.BitStore.BITS * g.A.BitWords.count = length_row g.A.Store.BitStore.value g.O.BitOrder.place g.A.Store.BitStore.BITS ws ∙ ap (λ n. g.A.Store.BitStore.BITS * n) (sym (ap length c.as_raw_slice.ensures.words) ∙ c.as_raw_slice.ensures.len) in
     let inside : s.upto ≤ length (bits ws) = omega (arith, c.self.invariant.1, size) in
     sym c.self.view_is ∙ run_first (bits ws) s.from s.upto c.read_bit-bit.result (omega (arith, c.self.invariant.0)) inside (c.read_bit-bit.ensures ∙ ap (λ l. get_or (bits l) s.from _) c.as_raw_slice.ensures.words)
 

@@ -3,7 +3,7 @@ ghost use Rattle.std.specs.Prelude.{◌≡◌, ◌+◌, ◌-◌, ◌<◌, ◌≤
 ghost use Rattle.bit_addressing.specs.Row.{moved};
 ghost use Rattle.bit_addressing.specs.Typed.{row};
 
-use bit_addressing::{BitOrder, BitStore};
+use bit_addressing::{BitOrder, BitStore, MAX_BITS};
 use bit_array::{BitArray, BitViewSized};
 use bit_boxed::BitBox;
 use bit_containers::BitVec;
@@ -66,7 +66,8 @@ impl<A: BitViewSized, O: BitOrder> Bits for BitArray<A, O> {
     }
 
     fn fill(&mut self, bit: bool) {
-        prove!(BitArray::len(self) <= usize::MAX);
+        // The contract of `len` ties the list's length to the array's.
+        prove!(BitArray::len(self) <= MAX_BITS);
         BitArray::fill(self, bit);
     }
 

@@ -137,7 +137,8 @@ fn vectors(rt: HostRuntime) -> Result<(), Fail> {
     Ok(())
 }
 
-/// A run whose replies find no memory, as they may not, stops before its first command and changes nothing.
+/// A run: where its replies find no memory, it stops before its first command, and changes nothing. It passes with ample
+/// memory, and whichever request `rt try --test --fail-alloc N` refuses.
 fn stopped<B: Bits>(rt: &(impl Abort + AllocGlobal), bits: &mut B) {
     let mut replies = Vec::new(rt.alloc());
     let commands = [FixedCommand::Fill(true), FixedCommand::Len];
@@ -160,4 +161,12 @@ fn stopped<B: Bits>(rt: &(impl Abort + AllocGlobal), bits: &mut B) {
 #[test]
 fn refused(rt: HostRuntime) {
     stopped(&rt, &mut BitArray::<u8, Msb0>::zero());
+    let zeros = [0_u8];
+    let view = BitSlice::<u8, Lsb0>::from_slice(&zeros);
+    if let Ok(mut b) = BitBox::from_bitslice(rt.alloc(), view) {
+        stopped(&rt, &mut b);
+    }
+    if let Ok(mut v) = BitVec::from_bitslice(rt.alloc(), view) {
+        stopped(&rt, &mut v);
+    }
 }

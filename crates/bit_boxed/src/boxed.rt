@@ -71,6 +71,7 @@ impl<T: BitStore, O: BitOrder> BitBox<T, O> {
         ensures row { result.row ≡ row T.BitStore O.BitOrder words.items }
         ensures head { result.head ≡ 0 }
         ensures list { result.list ≡ row T.BitStore O.BitOrder words.items }
+        ensures len { length result.list ≡ T.BITS * length words.items }
     {
         let len = T::BITS as usize * words.len();
         BitBox {
@@ -90,6 +91,7 @@ impl<T: BitStore, O: BitOrder> BitBox<T, O> {
         ensures row { result.row ≡ row T.BitStore O.BitOrder words.items }
         ensures head { result.head ≡ head }
         ensures list { result.list ≡ slice_range (row T.BitStore O.BitOrder words.items) head (head + len) }
+        ensures len { length result.list ≡ len }
     {
         let mut words = words;
         words.shrink_to_fit();
@@ -105,6 +107,7 @@ impl<T: BitStore, O: BitOrder> BitBox<T, O> {
         ensures row { result.row ≡ row T.BitStore O.BitOrder words.items }
         ensures head { result.head ≡ head }
         ensures list { result.list ≡ slice_range (row T.BitStore O.BitOrder words.items) head (head + len) }
+        ensures len { length result.list ≡ len }
     {
         BitBox {
             words,
@@ -135,6 +138,7 @@ impl<T: BitStore, O: BitOrder> BitBox<T, O> {
         ensures row { IfOk result (λ b. b.row ≡ row T.BitStore O.BitOrder words.items) }
         ensures head { IfOk result (λ b. b.head ≡ head) }
         ensures list { IfOk result (λ b. b.list ≡ slice_range (row T.BitStore O.BitOrder words.items) head (head + len)) }
+        ensures len { IfOk result (λ b. length b.list ≡ len) }
         ensures succeeds { IsOk result }
     {
         Ok(Self::of_parts(words, head, len))
@@ -148,6 +152,7 @@ impl<T: BitStore, O: BitOrder> BitBox<T, O> {
         ensures row { result.row ≡ row T.BitStore O.BitOrder (boxed_slice_items words) }
         ensures head { result.head ≡ 0 }
         ensures list { result.list ≡ row T.BitStore O.BitOrder (boxed_slice_items words) }
+        ensures len { length result.list ≡ T.BITS * length (boxed_slice_items words) }
     {
         Self::of_words(words.into_vec())
     }
@@ -158,6 +163,7 @@ impl<T: BitStore, O: BitOrder> BitBox<T, O> {
         ensures words { IfOk result (λ b. b.words ≡ boxed_slice_items words) }
         ensures head { IfOk result (λ b. b.head ≡ 0) }
         ensures list { IfOk result (λ b. b.list ≡ row T.BitStore O.BitOrder (boxed_slice_items words)) }
+        ensures len { IfOk result (λ b. length b.list ≡ T.BITS * length (boxed_slice_items words)) }
         ensures fits { IsOk result ↔ (T.BITS * length (boxed_slice_items words) ≤ MAX_BITS) }
         ensures back { IfErr result (λ back. back ≡ words) }
     {
@@ -173,6 +179,7 @@ impl<T: BitStore, O: BitOrder> BitBox<T, O> {
         ensures words { IfOk result (λ b. b.words ≡ word.value ∷ []) }
         ensures head { IfOk result (λ b. b.head ≡ 0) }
         ensures list { IfOk result (λ b. b.list ≡ row T.BitStore O.BitOrder (word.value ∷ [])) }
+        ensures len { IfOk result (λ b. length b.list ≡ T.BITS) }
     {
         let word = Box::into_inner(word);
         let mut words = Vec::new(alloc);
@@ -189,6 +196,7 @@ impl<T: BitStore, O: BitOrder> BitBox<T, O> {
         ensures words { IfOk result (λ b. b.words ≡ A.words array) }
         ensures head { IfOk result (λ b. b.head ≡ 0) }
         ensures list { IfOk result (λ b. b.list ≡ row T.BitStore O.BitOrder (A.words array)) }
+        ensures len { IfOk result (λ b. length b.list ≡ T.BITS * A.count) }
         ensures memory { OnErr result (0 < A.count) }
     {
         let mut words = Vec::new(alloc);
@@ -200,6 +208,7 @@ impl<T: BitStore, O: BitOrder> BitBox<T, O> {
     /// then false. Takes memory where the view has a bit, and is refused only then.
     pub fn from_bitslice(alloc: Global, view: BitSlice<'_, T, O>) -> Result<Self, AllocError>
         ensures list { IfOk result (λ b. b.list ≡ list_of view.entry) }
+        ensures len { IfOk result (λ b. length b.list ≡ len_of view.entry) }
         ensures clean { IfOk result (λ b. IsClean T.BITS b) }
         ensures memory { OnErr result (0 < len_of view.entry) }
     {
@@ -217,6 +226,7 @@ impl<T: BitStore, O: BitOrder> BitBox<T, O> {
     pub fn from_bitslice_headed(alloc: Global, view: BitSlice<'_, T, O>) -> Result<Self, AllocError>
         ensures head { IfOk result (λ b. b.head ≡ head_of view.entry) }
         ensures list { IfOk result (λ b. b.list ≡ list_of view.entry) }
+        ensures len { IfOk result (λ b. length b.list ≡ len_of view.entry) }
         ensures row { IfOk result (λ b. b.row ≡ filled (row_of view.entry) (head_of view.entry) (len_of view.entry) false) }
         ensures memory { OnErr result (0 < length (words_of view.entry)) }
     {

@@ -2,7 +2,7 @@
 ghost use Rattle.std.specs.Prelude.{◌≡◌, ◌↔◌, ◌*◌, ◌≤◌, IfOk, IsTrue, length, set, true, ◌<◌};
 ghost use Rattle.std.specs.Box.{boxed_slice_items};
 ghost use Rattle.bit_addressing.specs.declared.length.TheConstants.{MAX_BITS};
-ghost use Rattle.bit_slice.specs.BitSlice.{list_of};
+ghost use Rattle.bit_slice.specs.BitSlice.{len_of, list_of};
 
 use crate::BitBox;
 use bit_addressing::{BitOrder, BitStore};
@@ -44,4 +44,17 @@ pub fn marked<T: BitStore, O: BitOrder>(b: BitBox<T, O>) -> BitBox<T, O>
     let mut b = b;
     b.set(2, true);
     b
+}
+
+/// A copy of a view that has a bit, with its first bit written.
+pub fn first_set<T: BitStore, O: BitOrder>(
+    alloc: Global,
+    view: BitSlice<'_, T, O>,
+) -> Result<BitBox<T, O>, AllocError>
+    requires { 0 < len_of view }
+    ensures { IfOk result (λ b. b.list ≡ set (list_of view.entry) 0 true) }
+{
+    let mut b = BitBox::from_bitslice(alloc, view)?;
+    b.set(0, true);
+    Ok(b)
 }

@@ -1,4 +1,4 @@
-use Rattle.std.proofs.Common.{◌≡◌, ◌+◌, ◌-◌, ◌*◌, length, arith}
+use Rattle.std.proofs.Common.{◌≡◌, ◌+◌, ◌-◌, ◌*◌, length, ◌∙◌, ap, arith}
 use Rattle.std.proofs.lemmas.List.{take_all}
 use Rattle.bit_addressing.specs.Typed.{row}
 use Rattle.bit_addressing.proofs.Rows.{width_positive}
@@ -18,3 +18,6 @@ returns-clause-list g c =
     let is : c.BITS.result * c.len.result ≡ g.T.BitStore.BITS * length c.args.words.items = cc in
     let size : length bits ≡ g.T.BitStore.BITS * length c.args.words.items = length_row g.T.BitStore.value g.O.BitOrder.place g.T.BitStore.BITS c.args.words.items in
     take_all (0 + c.BITS.result * c.len.result - 0) bits (omega arith)
+
+pub returns-clause-len : goal.returns-clause-len
+returns-clause-len g c = ap length (returns-clause-list g c) ∙ length_row g.T.BitStore.value g.O.BitOrder.place g.T.BitStore.BITS c.args.words.items

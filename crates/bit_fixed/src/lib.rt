@@ -1,0 +1,13 @@
+//! One trait for arrays, boxes and vectors of bits, and runs of commands over any of them.
+#![tactic(auto)]
+
+mod bits;
+#[cfg(test)]
+mod callers;
+mod machine;
+#[cfg(test)]
+mod tests;
+
+pub use bit_containers::{Reply, Stop};
+pub use bits::Bits;
+pub use machine::{FixedCommand, run_fixed};

@@ -17,6 +17,13 @@ use Rattle.bit_slice.proofs.Shown.{put_all, shown_filled}
 use Rattle.bit_addressing.proofs.Rows.{width_positive}
 use Rattle.bit_containers.specs.BitVec.{Held}
 use Rattle.bit_containers.specs.BitVec.{IsClean}
+use Rattle.bit_slice.specs.Clean.{IsCleanRow}
+
+-- what is told of a vector by whether it is clean
+pub record Seen : Type 0 where
+  pub head : ℕ
+  pub row : List Bool
+  pub list : List Bool
 
 -- what is put into a list is put into its row
 put_sized : (w : ℕ) (xs ys : List Bool) (d : ℕ) → 0 < w → d + length ys ≤ length xs → put (sized w xs (length xs)) d ys ≡ sized w (put xs d ys) (length xs)
@@ -40,7 +47,7 @@ seen w xs s n positive h =
     ap (λ k. slice_range (sized w xs (length xs)) k (k + n)) none ∙ shows_sized w xs (length xs) s (s + n) positive (omega arith) h h
 
 -- a bit joined to a clean vector leaves it clean
-pub clean_joined : {X : Type 0} (w : ℕ) (old new : Held X) (b : Bool) → 0 < w → new.head ≡ old.head → new.list ≡ old.list ++ b ∷ [] → new.row ≡ put (sized w old.row (old.head + length old.list + 1)) (old.head + length old.list) (b ∷ []) → IsClean w old → IsClean w new
+pub clean_joined : {X : Type 0} (w : ℕ) (old : Held X) (new : Seen) (b : Bool) → 0 < w → new.head ≡ old.head → new.list ≡ old.list ++ b ∷ [] → new.row ≡ put (sized w old.row (old.head + length old.list + 1)) (old.head + length old.list) (b ∷ []) → IsClean w old → IsCleanRow w new.head new.row new.list
 clean_joined w old new b positive head list row clean =
     let n = length old.list in
     let more : length new.list ≡ n + 1 = ap length list ∙ length-append old.list (b ∷ []) in
@@ -62,7 +69,7 @@ joined_sized w xs ys len n positive size more =
     rw next (same_lists _ _ (search (rules, places)) (λ i d below. grind (arith, places)))
 
 -- bits joined to a clean vector leave it clean
-pub clean_grown : {X : Type 0} (w : ℕ) (old new : Held X) (ys : List Bool) → 0 < w → new.head ≡ old.head → new.list ≡ old.list ++ ys → new.row ≡ put (sized w old.row (old.head + length old.list + length ys)) (old.head + length old.list) ys → IsClean w old → IsClean w new
+pub clean_grown : {X : Type 0} (w : ℕ) (old : Held X) (new : Seen) (ys : List Bool) → 0 < w → new.head ≡ old.head → new.list ≡ old.list ++ ys → new.row ≡ put (sized w old.row (old.head + length old.list + length ys)) (old.head + length old.list) ys → IsClean w old → IsCleanRow w new.head new.row new.list
 clean_grown w old new ys positive head list row clean =
     let n = length old.list in
     let more : length new.list ≡ n + length ys = ap length list ∙ length-append old.list ys in
@@ -74,7 +81,7 @@ clean_grown w old new ys positive head list row clean =
     }
 
 -- bits written over bits of the list leave it clean
-pub clean_put : {X : Type 0} (w : ℕ) (old new : Held X) (d : ℕ) (ys : List Bool) → 0 < w → d + length ys ≤ length old.list → new.head ≡ old.head → new.list ≡ put old.list d ys → new.row ≡ put old.row (old.head + d) ys → IsClean w old → IsClean w new
+pub clean_put : {X : Type 0} (w : ℕ) (old : Held X) (new : Seen) (d : ℕ) (ys : List Bool) → 0 < w → d + length ys ≤ length old.list → new.head ≡ old.head → new.list ≡ put old.list d ys → new.row ≡ put old.row (old.head + d) ys → IsClean w old → IsCleanRow w new.head new.row new.list
 clean_put w old new d ys positive h head list row clean =
     let none : 0 + d ≡ d = omega arith in
     let size : length old.list ≡ length new.list = sym (length-put old.list ys d h) ∙ ap length (sym list) in
@@ -86,13 +93,13 @@ clean_put w old new d ys positive h head list row clean =
     }
 
 -- one bit of the list written
-pub clean_set : {X : Type 0} (w : ℕ) (old new : Held X) (i : ℕ) (b : Bool) → 0 < w → i < length old.list → new.head ≡ old.head → new.list ≡ set old.list i b → new.row ≡ set old.row (old.head + i) b → IsClean w old → IsClean w new
+pub clean_set : {X : Type 0} (w : ℕ) (old : Held X) (new : Seen) (i : ℕ) (b : Bool) → 0 < w → i < length old.list → new.head ≡ old.head → new.list ≡ set old.list i b → new.row ≡ set old.row (old.head + i) b → IsClean w old → IsCleanRow w new.head new.row new.list
 clean_set w old new i b positive h head list row clean =
     let inside = in_row w old positive clean in
     clean_put w old new i (b ∷ []) positive (omega arith) head (list ∙ put_one old.list i b h) (row ∙ put_one old.row (old.head + i) b (omega arith)) clean
 
 -- a run of the list moved inside it
-pub clean_moved : {X : Type 0} (w : ℕ) (old new : Held X) (s d n : ℕ) → 0 < w → s + n ≤ length old.list → d + n ≤ length old.list → new.head ≡ old.head → new.list ≡ moved old.list s d n → new.row ≡ moved old.row (old.head + s) (old.head + d) n → IsClean w old → IsClean w new
+pub clean_moved : {X : Type 0} (w : ℕ) (old : Held X) (new : Seen) (s d n : ℕ) → 0 < w → s + n ≤ length old.list → d + n ≤ length old.list → new.head ≡ old.head → new.list ≡ moved old.list s d n → new.row ≡ moved old.row (old.head + s) (old.head + d) n → IsClean w old → IsCleanRow w new.head new.row new.list
 clean_moved w old new s d n positive from to head list row clean =
     let inside = in_row w old positive clean in
     let none = clean.head in
@@ -105,19 +112,19 @@ clean_moved w old new s d n positive from to head list row clean =
     clean
 
 -- the whole list written over
-pub clean_whole : {X : Type 0} (w : ℕ) (old new : Held X) (ys : List Bool) → 0 < w → length ys ≡ length old.list → new.head ≡ old.head → new.list ≡ ys → new.row ≡ put old.row old.head ys → IsClean w old → IsClean w new
+pub clean_whole : {X : Type 0} (w : ℕ) (old : Held X) (new : Seen) (ys : List Bool) → 0 < w → length ys ≡ length old.list → new.head ≡ old.head → new.list ≡ ys → new.row ≡ put old.row old.head ys → IsClean w old → IsCleanRow w new.head new.row new.list
 clean_whole w old new ys positive size head list row clean =
     let none : old.head ≡ old.head + 0 = omega arith in
     clean_put w old new 0 ys positive (omega arith) head (list ∙ sym (put_all old.list ys 0 refl size)) (row ∙ ap (λ n. put old.row n ys) none) clean
 
 -- a bit put before another: one joined, the rest moved up, and it written
-pub clean_inserted : {X : Type 0} (w : ℕ) (old mid new : Held X) (i : ℕ) (b : Bool) → 0 < w → i ≤ length old.list → mid.list ≡ old.list ++ b ∷ [] → new.head ≡ mid.head → new.list ≡ insert old.list i b
-    → new.row ≡ set (moved mid.row (mid.head + i) (mid.head + i + 1) (length old.list - i)) (mid.head + i) b → IsClean w mid → IsClean w new
+pub clean_inserted : {X : Type 0} (w : ℕ) (old mid : Held X) (new : Seen) (i : ℕ) (b : Bool) → 0 < w → i ≤ length old.list → mid.list ≡ old.list ++ b ∷ [] → new.head ≡ mid.head → new.list ≡ insert old.list i b
+    → new.row ≡ set (moved mid.row (mid.head + i) (mid.head + i + 1) (length old.list - i)) (mid.head + i) b → IsClean w mid → IsCleanRow w new.head new.row new.list
 clean_inserted w old mid new i b positive h joined head list row clean =
     let n = length old.list - i in
     let size : length mid.list ≡ length old.list + 1 = ap length joined ∙ length-append old.list (b ∷ []) in
     let shifted = record mid { row = moved mid.row (mid.head + i) (mid.head + (i + 1)) n; list = moved mid.list i (i + 1) n } in
-    let still : IsClean w shifted = clean_moved w mid shifted i (i + 1) n positive (omega arith) (omega arith) refl refl refl clean in
+    let still : IsClean w shifted = clean_moved w mid (record { head = mid.head; row = shifted.row; list = shifted.list }) i (i + 1) n positive (omega arith) (omega arith) refl refl refl clean in
     let long : length shifted.list ≡ length mid.list = length-moved mid.list i (i + 1) n in
     let next : mid.head + i + 1 ≡ mid.head + (i + 1) = omega arith in
     clean_set w shifted new i b positive (omega arith) head
@@ -134,7 +141,7 @@ cut_false w xs positive =
     rw none (same_lists _ _ (search (rules, places)) (λ i d below. grind (arith, places)))
 
 -- the last bit taken, where it is false
-pub clean_popped : {X : Type 0} (w : ℕ) (old new : Held X) (b : Bool) → 0 < w → Some b ≢ Some true → new.head ≡ old.head → old.list ≡ new.list ++ b ∷ [] → new.row ≡ sized w old.row (old.head + (length old.list - 1)) → IsClean w old → IsClean w new
+pub clean_popped : {X : Type 0} (w : ℕ) (old : Held X) (new : Seen) (b : Bool) → 0 < w → Some b ≢ Some true → new.head ≡ old.head → old.list ≡ new.list ++ b ∷ [] → new.row ≡ sized w old.row (old.head + (length old.list - 1)) → IsClean w old → IsCleanRow w new.head new.row new.list
 clean_popped w old new true positive h head list row clean = absurd (h refl)
 clean_popped w old new false positive h head list row clean =
     let n = length new.list in
@@ -154,7 +161,7 @@ moved_nowhere : (xs : List Bool) (s n : ℕ) → moved xs s s n ≡ xs
 moved_nowhere xs s n = ext_get_or false (moved xs s s n) xs (length-moved xs s s n) (λ j h. get_or-moved xs s s n j (subst (λ l. j < l) (length-moved xs s s n) h) ∙ ap (λ k. get_or xs k false) (source_same s n j))
 
 -- a vector that is clean has its list at the beginning already
-pub clean_aligned : {X : Type 0} (w : ℕ) (old new : Held X) → new.head ≡ 0 → new.list ≡ old.list → new.row ≡ sized w (moved old.row old.head 0 (length old.list)) (length old.list) → IsClean w old → IsClean w new
+pub clean_aligned : {X : Type 0} (w : ℕ) (old : Held X) (new : Seen) → new.head ≡ 0 → new.list ≡ old.list → new.row ≡ sized w (moved old.row old.head 0 (length old.list)) (length old.list) → IsClean w old → IsCleanRow w new.head new.row new.list
 clean_aligned w old new head list row clean =
     let n = length old.list in
     record {

@@ -6,7 +6,7 @@ use Rattle.bit_addressing.specs.declared.length.TheConstants.{MAX_BITS}
 use Rattle.bit_addressing.specs.declared.errors.GrowError.TheVariants.{TooLong, OutOfMemory}
 use Rattle.bit_addressing.specs.Row.{words_for, put, sized, moved}
 use Rattle.bit_containers.specs.declared.machine.Command.{Command}
-use Rattle.bit_containers.specs.declared.machine.Command.TheVariants.{Push, Pop, Get, Set, Insert, Remove, SwapRemove, Truncate, Clear, Drain, Splice, SplitOff, Resize, Reserve, ExtendWithin, CopyWithin, Align, Len}
+use Rattle.bit_containers.specs.declared.machine.Command.TheVariants.{Push, Pop, Get, Set, Insert, Remove, SwapRemove, Truncate, Clear, Drain, Splice, SplitOff, Resize, Reserve, ExtendWithin, CopyWithin, Not, Align, Clean, Len}
 use Rattle.bit_containers.specs.declared.machine.Reply.TheVariants.{Done, Bit, Nothing, Number, OutOfRange}
 use Rattle.bit_containers.specs.BitVec.{Held, bits_in, Grew, Shrank, Stayed, IsCopy, IsClean}
 use Rattle.bit_containers.specs.Machine.{list_after_one, head_after_one, reply_to, new_length, list_after, head_after, replies_of, AllFit, IsRefusal, IsStopReason}
@@ -146,8 +146,14 @@ copy_within = (refl, refl)
 copy_without_room : (list_after_one pair (CopyWithin 0 2 1) ≡ pair) × (reply_to pair (CopyWithin 0 2 1) ≡ OutOfRange) × (reply_to pair (CopyWithin 1 0 0) ≡ OutOfRange)
 copy_without_room = (refl, refl, refl)
 
+flip : (list_after_one pair Not ≡ false ∷ true ∷ []) × (reply_to pair Not ≡ Done) × (head_after_one 3 Not ≡ 3)
+flip = (refl, refl, refl)
+
 align : (list_after_one pair Align ≡ pair) × (reply_to pair Align ≡ Done) × (head_after_one 3 Align ≡ 0)
 align = (refl, refl, refl)
+
+clean : (list_after_one pair Clean ≡ pair) × (reply_to pair Clean ≡ Done) × (head_after_one 3 Clean ≡ 3)
+clean = (refl, refl, refl)
 
 len : (list_after_one pair Len ≡ pair) × (reply_to pair Len ≡ Number 2) × (head_after_one 3 Len ≡ 3)
 len = (refl, refl, refl)

@@ -1,5 +1,6 @@
 pub mod BitVec
 pub mod Closures
+pub mod Compared
 pub mod Drain
 pub mod Examples
 pub mod Lends

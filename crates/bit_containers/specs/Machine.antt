@@ -1,12 +1,12 @@
 -- What commands, and runs of them, do to a list of bits and reply.
-use Rattle.std.specs.Prelude.{◌≡◌, ℕ, ◌+◌, ◌-◌, ◌<◌, ◌≤◌, ◌⊎◌, ◌&&◌, Option, List, Bool, false, [], ◌∷◌, ◌++◌, length, take, replicate, slice_range, slice_set, slice_get, insert, remove, nat_lt, nat_le, if◌then◌else◌, Some, None, drop, count_by}
+use Rattle.std.specs.Prelude.{◌≡◌, ℕ, ◌+◌, ◌-◌, ◌<◌, ◌≤◌, ◌⊎◌, ◌&&◌, not, map, Option, List, Bool, false, [], ◌∷◌, ◌++◌, length, take, replicate, slice_range, slice_set, slice_get, insert, remove, nat_lt, nat_le, if◌then◌else◌, Some, None, count_by}
 use Rattle.std.specs.List.{swap_remove, splice}
 use Rattle.bit_addressing.specs.Row.{moved}
 use Rattle.bit_addressing.specs.declared.errors.GrowError.{GrowError}
 use Rattle.bit_addressing.specs.declared.errors.GrowError.TheVariants.{TooLong, OutOfMemory}
 use Rattle.bit_addressing.specs.declared.length.TheConstants.{MAX_BITS}
 use Rattle.bit_containers.specs.declared.machine.Command.{Command}
-use Rattle.bit_containers.specs.declared.machine.Command.TheVariants.{Push, Pop, Get, Set, Insert, Remove, SwapRemove, Truncate, Clear, Drain, Splice, SplitOff, Resize, Reserve, ExtendWithin, CopyWithin, Align, Len}
+use Rattle.bit_containers.specs.declared.machine.Command.TheVariants.{Push, Pop, Get, Set, Insert, Remove, SwapRemove, Truncate, Clear, Drain, Splice, SplitOff, Resize, Reserve, ExtendWithin, CopyWithin, Not, Align, Clean, Len}
 use Rattle.bit_containers.specs.declared.machine.Reply.{Reply}
 use Rattle.bit_containers.specs.declared.machine.Reply.TheVariants.{Done, Bit, Nothing, Number, OutOfRange}
 
@@ -36,7 +36,9 @@ list_after_one list (Resize n b) = take n list ++ replicate (n - length list) b
 list_after_one list (Reserve k) = list
 list_after_one list (ExtendWithin from upto) = if is_range list from upto then list ++ slice_range list from upto else list
 list_after_one list (CopyWithin from upto dest) = if can_copy list from upto dest then moved list from dest (upto - from) else list
+list_after_one list Not = map not list
 list_after_one list Align = list
+list_after_one list Clean = list
 list_after_one list Len = list
 
 -- the reply that tells a bit, or this one where there is no bit
@@ -66,7 +68,9 @@ reply_to list (Resize n b) = Done
 reply_to list (Reserve k) = Done
 reply_to list (ExtendWithin from upto) = done_if (is_range list from upto)
 reply_to list (CopyWithin from upto dest) = done_if (can_copy list from upto dest)
+reply_to list Not = Done
 reply_to list Align = Done
+reply_to list Clean = Done
 reply_to list Len = Number (length list)
 
 -- the list after commands
@@ -92,7 +96,9 @@ head_after_one head (Resize n b) = head
 head_after_one head (Reserve k) = head
 head_after_one head (ExtendWithin from upto) = head
 head_after_one head (CopyWithin from upto dest) = head
+head_after_one head Not = head
 head_after_one head Align = 0
+head_after_one head Clean = head
 head_after_one head Len = head
 
 -- the head after commands

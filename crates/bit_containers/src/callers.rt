@@ -3,5 +3,6 @@
 mod bits;
 mod growing;
 mod iterating;
+mod laws;
 mod removing;
 mod words;

@@ -6,12 +6,14 @@ mod callers;
 mod machine;
 #[cfg(test)]
 mod tests;
-mod vec;
+pub mod vec;
 
 pub use bit_addressing::{
     BitEnd, BitIdx, BitOrder, BitPos, BitRegister, BitStore, GrowError, Lsb0, MAX_BITS, Msb0,
     RangeExt, elts,
 };
+pub use bit_array as array;
+pub use bit_boxed as boxed;
 pub use bit_slice::{BitSlice, BitSliceMut, CountedMut, Iter};
 pub use machine::{Command, Reply, Stop, run};
-pub use vec::{BitVec, Drain, Splice};
+pub use vec::{BitVec, Drain, IntoBitVec, Splice};

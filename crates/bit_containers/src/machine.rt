@@ -41,8 +41,12 @@ pub enum Command {
     SplitOff(usize),
     /// Copies the range from the first index to the second to the place from the third on.
     CopyWithin(usize, usize, usize),
+    /// Flips every bit.
+    Not,
     /// Moves the bits to the beginning of their words; the list stays.
     Align,
+    /// Makes every dead bit of the words false; the list stays.
+    Clean,
     /// Asks for the length.
     Len,
 }
@@ -331,8 +335,16 @@ fn step<T: BitStore, O: BitOrder>(
         Command::Reserve(more) => reserve_for(v, more),
         Command::ExtendWithin(from, upto) => extend_at(v, from, upto),
         Command::CopyWithin(from, upto, dest) => Ok(copy_at(v, from, upto, dest)),
+        Command::Not => {
+            v.flip_all();
+            Ok(Reply::Done)
+        }
         Command::Align => {
             v.force_align();
+            Ok(Reply::Done)
+        }
+        Command::Clean => {
+            v.set_uninitialized(false);
             Ok(Reply::Done)
         }
         Command::Len => Ok(Reply::Number(len)),

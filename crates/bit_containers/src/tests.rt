@@ -1,10 +1,12 @@
 //! Examples, and each public call once.
 mod commands;
+mod converting;
 mod copies;
 mod edits;
 mod growing;
 mod moves;
 mod numbers;
+mod operators;
 mod reading;
 mod removing;
 mod text;

@@ -18,7 +18,9 @@ mod api;
 mod capacity;
 mod closures;
 mod collect;
+mod convert;
 mod drain;
+mod elements;
 mod extend;
 mod iter;
 mod numbers;
@@ -28,6 +30,8 @@ mod splice;
 mod traits;
 mod views;
 
+pub use bit_boxed::IntoIter;
+pub use convert::IntoBitVec;
 pub use drain::Drain;
 pub use splice::Splice;
 

@@ -79,6 +79,32 @@ fn growing_commands(rt: HostRuntime) -> Result<(), Fail> {
 }
 
 #[test]
+fn commands_on_words(rt: HostRuntime) -> Result<(), Fail> {
+    let mut v = BitVec::<u8, Msb0>::new(rt.alloc());
+    let mut replies = Vec::new(rt.alloc());
+    let commands = [
+        Command::Push(true),
+        Command::Push(false),
+        Command::Not,
+        Command::Clean,
+        Command::Get(0),
+        Command::Get(1),
+    ];
+    assert!(rt; run(&mut v, &commands, &mut replies).is_ok());
+    let want = [
+        Reply::Done,
+        Reply::Done,
+        Reply::Done,
+        Reply::Done,
+        Reply::Bit(false),
+        Reply::Bit(true),
+    ];
+    assert_eq!(rt; replies.as_slice(), want.as_slice());
+    assert_eq!(rt; v.as_raw_slice(), [0x40].as_slice());
+    Ok(())
+}
+
+#[test]
 fn removing_commands(rt: HostRuntime) -> Result<(), Fail> {
     let mut v = BitVec::<u16, Msb0>::new(rt.alloc());
     let mut replies = Vec::new(rt.alloc());

@@ -20,6 +20,10 @@ fn drained(rt: HostRuntime) -> Result<(), Fail> {
     {
         let mut drain = v.drain(1..4);
         assert!(rt; drain.as_bitslice().len() == 3 && drain.as_slice().all());
+        assert_eq!(rt;
+            format!(in rt.alloc(); "{drain:?}")?.as_str(),
+            "Drain([1, 1, 1])"
+        );
         assert_eq!(rt; drain.nth(5), None);
         assert_eq!(rt; drain.len(), 0);
     }
@@ -128,6 +132,20 @@ fn spliced(rt: HostRuntime) -> Result<(), Fail> {
     assert_eq!(rt; splice.len(), 1);
     splice.finish()?;
     holds(&rt, &v, b"001100");
+    Ok(())
+}
+
+#[test]
+fn passed_over(rt: HostRuntime) -> Result<(), Fail> {
+    let mut v = of::<u8, Lsb0>(rt.alloc(), b"0110010")?;
+    assert!(rt; v.len() == 7);
+    let mut splice = v.splice(1..6, Some(true));
+    assert_eq!(rt; splice.nth(1), Some(true));
+    assert_eq!(rt; splice.nth_back(1), Some(false));
+    assert!(rt; splice.len() == 1 && splice.nth(1).is_none());
+    assert!(rt; splice.len() == 0 && splice.nth_back(0).is_none());
+    splice.finish()?;
+    holds(&rt, &v, b"010");
     Ok(())
 }
 

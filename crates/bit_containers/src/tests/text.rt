@@ -1,6 +1,7 @@
 //! The text of a vector.
 use crate::tests::of;
-use crate::{BitVec, Lsb0, Msb0};
+use crate::{BitOrder, BitSlice, BitStore, BitVec, Lsb0, Msb0};
+use std::fmt;
 use std::test::Fail;
 
 #[test]
@@ -13,5 +14,59 @@ fn text(rt: HostRuntime) -> Result<(), Fail> {
     );
     let v = BitVec::<u64, Msb0>::new(rt.alloc());
     assert_eq!(rt; format!(in rt.alloc(); "{v}")?.as_str(), "[]");
+    Ok(())
+}
+
+/// How a vector is written in a radix.
+#[derive(Drop)]
+enum Radix {
+    Binary,
+    Octal,
+    LowerHex,
+    UpperHex,
+}
+
+/// A vector, in a radix.
+#[derive(Drop)]
+struct In<'a, T: BitStore, O: BitOrder>(&'a BitVec<T, O>, Radix);
+
+impl<T: BitStore, O: BitOrder> fmt::Display for In<'_, T, O> {
+    fn fmt<W: fmt::Write>(&self, f: &mut fmt::Formatter<W>) -> fmt::Result {
+        match self.1 {
+            Radix::Binary => fmt::Binary::fmt(self.0, f),
+            Radix::Octal => fmt::Octal::fmt(self.0, f),
+            Radix::LowerHex => fmt::LowerHex::fmt(self.0, f),
+            Radix::UpperHex => fmt::UpperHex::fmt(self.0, f),
+        }
+    }
+}
+
+#[test]
+fn digits(rt: HostRuntime) -> Result<(), Fail> {
+    let v = of::<u8, Lsb0>(rt.alloc(), b"11010")?;
+    let (y, o, x, u) = (
+        In(&v, Radix::Binary),
+        In(&v, Radix::Octal),
+        In(&v, Radix::LowerHex),
+        In(&v, Radix::UpperHex),
+    );
+    let text = format!(in rt.alloc(); "{y} {o} {x} {u}")?;
+    assert_eq!(rt; text.as_str(), "[11010] [62] [d0] [D0]");
+    Ok(())
+}
+
+#[test]
+fn told_apart(rt: HostRuntime) -> Result<(), Fail> {
+    let v = BitVec::<u8, Lsb0>::new(rt.alloc());
+    assert_eq!(rt;
+        format!(in rt.alloc(); "{v:?}")?.as_str(),
+        "BitVec { head: 0, bits: 0, capacity: 0 } []"
+    );
+    let words = [0x0b];
+    let view = BitSlice::<u8, Lsb0>::from_slice(&words).get_range(1..4);
+    let v = BitVec::from_bitslice_headed(rt.alloc(), view)?;
+    let room = v.capacity();
+    let want = format!(in rt.alloc(); "BitVec {{ head: 1, bits: 3, capacity: {room} }} [1, 0, 1]")?;
+    assert_eq!(rt; format!(in rt.alloc(); "{v:?}")?.as_str(), want.as_str());
     Ok(())
 }

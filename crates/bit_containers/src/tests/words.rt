@@ -67,3 +67,23 @@ fn dead_bits(rt: HostRuntime) -> Result<(), Fail> {
     assert_eq!(rt; v.as_raw_slice(), [0x1c].as_slice());
     Ok(())
 }
+
+#[test]
+fn words_and_lengths_set(rt: HostRuntime) -> Result<(), Fail> {
+    let mut v = BitVec::<u8, Lsb0>::from_vec(vec![in rt.alloc(); 0xdc]?);
+    v.truncate(4);
+    assert_eq!(rt; v.as_raw_slice(), [0xdc].as_slice());
+    v.set_len(8);
+    holds(&rt, &v, b"00111011");
+    v.truncate(4);
+    holds(&rt, &v, b"0011");
+    v.set_uninitialized(false);
+    assert_eq!(rt; v.as_raw_slice(), [0x0c].as_slice());
+    v.set_uninitialized(true);
+    assert_eq!(rt; v.as_raw_slice(), [0xfc].as_slice());
+    let mut v = BitVec::<u8, Msb0>::repeat(rt.alloc(), false, 20)?;
+    v.set_elements(0xa5);
+    assert_eq!(rt; v.as_raw_slice(), [0xa5, 0xa5, 0xa5].as_slice());
+    assert!(rt; v.count_ones() == 10 && v.len() == 20);
+    Ok(())
+}

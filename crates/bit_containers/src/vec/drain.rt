@@ -8,7 +8,8 @@ ghost use Rattle.bit_slice.specs.BitSlice.{list_of};
 
 use crate::vec::BitVec;
 use bit_addressing::{BitOrder, BitStore, Lsb0, RangeExt, cut_words_in_vec, move_bits_in_vec};
-use bit_slice::BitSlice;
+use bit_slice::{BitSlice, write_list};
+use std::fmt;
 use std::iter::FusedIterator;
 
 /// The bits of a range of a vector, from both ends, each once, and then None for good.
@@ -114,6 +115,17 @@ impl<'a, T: BitStore, O: BitOrder> Drain<'a, T, O> {
         ensures { list_of result ≡ drain_rest self.now }
     {
         self.as_bitslice()
+    }
+}
+
+/// `Drain(`, the text of the bits that are still to come, and `)`.
+impl<T: BitStore, O: BitOrder> fmt::Debug for Drain<'_, T, O> {
+    fn fmt<W: fmt::Write>(&self, f: &mut fmt::Formatter<W>) -> fmt::Result {
+        let upto = self.back.min(self.vec.len());
+        let from = self.front.min(upto);
+        f.write_str("Drain(")?;
+        write_list(self.vec.get_range(from..upto), f)?;
+        f.write_str(")")
     }
 }
 

@@ -1,12 +1,14 @@
-//! The bits of the vector, one after another.
+//! The bits of the vector, one after another: lent, and given up with the vector.
 ghost use Rattle.std.specs.Prelude.{◌≡◌, ◌≤◌, length};
 ghost use Rattle.std.specs.Iterator.{YieldsFirst, YieldsLast};
 ghost use Rattle.std.specs.Iterator.Runs.{YieldsInOrder, YieldsInReverse};
 ghost use Rattle.bit_addressing.specs.declared.length.TheConstants.{MAX_BITS};
 ghost use Rattle.bit_slice.specs.Iter.{rest_of};
+ghost use Rattle.bit_slice.specs.Owned.{GivesInOrder, GivesInReverse};
 
 use crate::vec::BitVec;
 use bit_addressing::{BitOrder, BitStore};
+use bit_boxed::IntoIter;
 use bit_slice::Iter;
 
 impl<T: BitStore, O: BitOrder> BitVec<T, O> {
@@ -31,5 +33,18 @@ impl<'a, T: BitStore, O: BitOrder> IntoIterator for &'a BitVec<T, O> {
     /// As `iter`: the items are truth values.
     fn into_iter(self) -> Iter<'a, T, O> {
         self.iter()
+    }
+}
+
+impl<T: BitStore, O: BitOrder> IntoIterator for BitVec<T, O> {
+    type Item = bool;
+
+    type IntoIter = IntoIter<T, O>;
+
+    ghost into_iter_gives = { λ v r. (r ≡ v.list) × (length r ≤ MAX_BITS) × GivesInOrder × GivesInReverse };
+
+    /// The bits in order, from both ends; the vector is given up, and its words are kept. Takes no memory.
+    fn into_iter(self) -> IntoIter<T, O> {
+        IntoIter::from_parts(self.words, self.head, self.len)
     }
 }

@@ -1,15 +1,15 @@
 //! The vector compared and combined with views, and its operators.
-ghost use Rattle.std.specs.Prelude.{◌≡◌, ◌↔◌, IsTrue};
+ghost use Rattle.std.specs.Prelude.{◌≡◌, ◌↔◌, IsTrue, not, map};
 ghost use Rattle.bit_addressing.specs.Row.{put};
 ghost use Rattle.bit_containers.specs.BitVec.{Stayed, IsClean};
 ghost use Rattle.bit_slice.specs.BitSlice.{list_of};
 ghost use Rattle.bit_slice.specs.Operators.{bits_cmp, and_of, or_of, xor_of};
 
 use crate::vec::BitVec;
-use bit_addressing::{BitOrder, BitStore};
+use bit_addressing::{BitOrder, BitStore, flip_bits_in_vec};
 use bit_slice::{BitSlice, and_in_vec, or_in_vec, xor_in_vec};
 use std::cmp::Ordering;
-use std::ops::Index;
+use std::ops::{BitAnd, BitAndAssign, BitOr, BitOrAssign, BitXor, BitXorAssign, Index, Not};
 
 impl<T: BitStore, O: BitOrder> BitVec<T, O> {
     /// Whether the vector and a view, whose words and order may be others, have the same bits. Heads and dead
@@ -66,6 +66,28 @@ impl<T: BitStore, O: BitOrder> BitVec<T, O> {
         let (head, len) = (self.head, self.len);
         xor_in_vec::<T, O, U, P>(&mut self.words, head, len, other);
     }
+
+    /// Flips every bit of the words, dead bits included. Takes no memory.
+    #[tactic(auto, using(crate::proofs::Vectors::shown_length))]
+    pub fn flip_all(&mut self)
+        ensures list { self.new.list ≡ map not self.old.list }
+        ensures row { self.new.row ≡ map not self.old.row }
+        ensures stayed { Stayed self.old self.new }
+    {
+        flip_bits_in_vec::<T, O>(&mut self.words);
+    }
+}
+
+impl<T: BitStore, O: BitOrder> Not for BitVec<T, O> {
+    type Output = Self;
+
+    ghost not_gives = { λ a b. (b.list ≡ map not a.list) × (b.row ≡ map not a.row) × Stayed a b };
+
+    /// Every bit of the words flipped, dead bits included.
+    fn not(mut self) -> Self {
+        self.flip_all();
+        self
+    }
 }
 
 impl<T: BitStore, O: BitOrder> Index<usize> for BitVec<T, O> {
@@ -84,5 +106,68 @@ impl<T: BitStore, O: BitOrder> Index<usize> for BitVec<T, O> {
         } else {
             &false
         }
+    }
+}
+
+impl<T: BitStore, O: BitOrder> BitAndAssign for BitVec<T, O> {
+    ghost bitand_assign_gives = { λ a b c. (c.list ≡ and_of a.list b.list) × (c.row ≡ put a.row a.head (and_of a.list b.list)) × Stayed a c × (IsClean T.BITS a → IsClean T.BITS c) };
+
+    /// Clears each bit that is false in the right side, or that it is too short for. No dead bit changes.
+    fn bitand_assign(&mut self, rhs: Self) {
+        self.and_bits(rhs.as_bitslice());
+    }
+}
+
+impl<T: BitStore, O: BitOrder> BitAnd for BitVec<T, O> {
+    type Output = Self;
+
+    ghost bitand_gives = { λ a b c. (c.list ≡ and_of a.list b.list) × (c.row ≡ put a.row a.head (and_of a.list b.list)) × Stayed a c × (IsClean T.BITS a → IsClean T.BITS c) };
+
+    /// The bits that are true in both; the left side's words.
+    fn bitand(mut self, rhs: Self) -> Self {
+        self &= rhs;
+        self
+    }
+}
+
+impl<T: BitStore, O: BitOrder> BitOrAssign for BitVec<T, O> {
+    ghost bitor_assign_gives = { λ a b c. (c.list ≡ or_of a.list b.list) × (c.row ≡ put a.row a.head (or_of a.list b.list)) × Stayed a c × (IsClean T.BITS a → IsClean T.BITS c) };
+
+    /// Sets each bit that is true in the right side. No dead bit changes.
+    fn bitor_assign(&mut self, rhs: Self) {
+        self.or_bits(rhs.as_bitslice());
+    }
+}
+
+impl<T: BitStore, O: BitOrder> BitOr for BitVec<T, O> {
+    type Output = Self;
+
+    ghost bitor_gives = { λ a b c. (c.list ≡ or_of a.list b.list) × (c.row ≡ put a.row a.head (or_of a.list b.list)) × Stayed a c × (IsClean T.BITS a → IsClean T.BITS c) };
+
+    /// The bits that are true in one or in both; the left side's words.
+    fn bitor(mut self, rhs: Self) -> Self {
+        self |= rhs;
+        self
+    }
+}
+
+impl<T: BitStore, O: BitOrder> BitXorAssign for BitVec<T, O> {
+    ghost bitxor_assign_gives = { λ a b c. (c.list ≡ xor_of a.list b.list) × (c.row ≡ put a.row a.head (xor_of a.list b.list)) × Stayed a c × (IsClean T.BITS a → IsClean T.BITS c) };
+
+    /// Flips each bit that is true in the right side. No dead bit changes.
+    fn bitxor_assign(&mut self, rhs: Self) {
+        self.xor_bits(rhs.as_bitslice());
+    }
+}
+
+impl<T: BitStore, O: BitOrder> BitXor for BitVec<T, O> {
+    type Output = Self;
+
+    ghost bitxor_gives = { λ a b c. (c.list ≡ xor_of a.list b.list) × (c.row ≡ put a.row a.head (xor_of a.list b.list)) × Stayed a c × (IsClean T.BITS a → IsClean T.BITS c) };
+
+    /// The bits that are true in one alone; the left side's words.
+    fn bitxor(mut self, rhs: Self) -> Self {
+        self ^= rhs;
+        self
     }
 }

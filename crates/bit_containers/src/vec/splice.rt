@@ -1,5 +1,5 @@
 //! A range of bits replaced by others, and a vector cut in two.
-ghost use Rattle.std.specs.Prelude.{◌≡◌, ◌≢◌, ◌+◌, ◌-◌, ◌<◌, ◌≤◌, Bool, List, [], length, take, drop, replicate, slice_range, Err, IfOk, OnOk, OnErr};
+ghost use Rattle.std.specs.Prelude.{◌≡◌, ◌≢◌, ◌+◌, ◌-◌, ◌<◌, ◌≤◌, Bool, List, [], length, take, drop, replicate, reverse, slice_get, slice_range, Err, IfOk, OnOk, OnErr};
 ghost use Rattle.std.specs.Iterator.{IsFinite, Drains, Yields};
 ghost use Rattle.std.specs.Iterator.Runs.{WholeRun};
 ghost use Rattle.std.specs.List.{splice};
@@ -214,7 +214,7 @@ impl<T: BitStore, O: BitOrder> BitVec<T, O> {
 }
 
 impl<'a, T: BitStore, O: BitOrder, I: Iterator<Item = bool>> Splice<'a, T, O, I> {
-    ghost use Rattle.bit_containers.specs.Splice.{splice_rest, SpliceIsReady, SpliceSteps, SpliceStepsBack};
+    ghost use Rattle.bit_containers.specs.Splice.{splice_rest, SpliceIsReady, SpliceKeeps, SpliceSteps, SpliceStepsBack};
 
     /// The next of the replaced bits.
     pub fn next(&mut self) -> Option<bool>
@@ -240,6 +240,41 @@ impl<'a, T: BitStore, O: BitOrder, I: Iterator<Item = bool>> Splice<'a, T, O, I>
             return None;
         }
         self.back -= 1;
+        Some(self.vec.bit(self.back))
+    }
+
+    /// The replaced bit behind the next `n`, which are passed over. None exactly where there are no more than `n`; then
+    /// none is left.
+    pub fn nth(&mut self, n: usize) -> Option<bool>
+        requires { SpliceIsReady self.old }
+        ensures answer { result ≡ slice_get (splice_rest self.old) n }
+        ensures rest { splice_rest self.new ≡ drop (n + 1) (splice_rest self.old) }
+        ensures keeps { SpliceKeeps self.old self.new }
+        ensures ready { SpliceIsReady self.new }
+    {
+        if n >= self.back - self.front {
+            self.front = self.back;
+            return None;
+        }
+        let at = self.front + n;
+        self.front = at + 1;
+        Some(self.vec.bit(at))
+    }
+
+    /// The replaced bit before the last `n` that are still to come, which are passed over. None exactly where there are
+    /// no more than `n`; then none is left.
+    pub fn nth_back(&mut self, n: usize) -> Option<bool>
+        requires { SpliceIsReady self.old }
+        ensures answer { result ≡ slice_get (reverse (splice_rest self.old)) n }
+        ensures rest { splice_rest self.new ≡ take (length (splice_rest self.old) - (n + 1)) (splice_rest self.old) }
+        ensures keeps { SpliceKeeps self.old self.new }
+        ensures ready { SpliceIsReady self.new }
+    {
+        if n >= self.back - self.front {
+            self.back = self.front;
+            return None;
+        }
+        self.back -= n + 1;
         Some(self.vec.bit(self.back))
     }
 

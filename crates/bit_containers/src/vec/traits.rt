@@ -1,11 +1,19 @@
 //! What the vector has of std's traits.
-ghost use Rattle.std.specs.Prelude.{Some};
+ghost use Rattle.std.specs.Prelude.{refl, Some};
+ghost use Rattle.std.specs.Cmp.{on_equiv, on_total, on_po, on_per, partial_equiv_from_equiv};
+ghost use Rattle.std.specs.Hash.{on_Alike};
 ghost use Rattle.bit_addressing.specs.Text.{list_text};
+ghost use Rattle.bit_slice.specs.Operators.{bits_cmp};
+ghost use Rattle.bit_slice.specs.Comparisons.{bits_equal, bits_equiv, bits_total, bits_partial, bits_tie, bits_fed, bits_alike};
+ghost use Rattle.bit_containers.specs.Compared.{list_in};
 
 use crate::vec::BitVec;
 use bit_addressing::{BitOrder, BitStore};
+use bit_slice::{hash_bits, write_digits, write_list};
 use std::alloc::AllocError;
+use std::cmp::Ordering;
 use std::fmt;
+use std::hash::{Hash, Hasher};
 
 impl<T: BitStore, O: BitOrder> Clone for BitVec<T, O> {
     ghost use Rattle.std.specs.Prelude.{◌≡◌, []};
@@ -22,6 +30,59 @@ impl<T: BitStore, O: BitOrder> Clone for BitVec<T, O> {
     }
 }
 
+impl<T: BitStore, O: BitOrder> PartialEq for BitVec<T, O> {
+    ghost eq = { λ a b. bits_equal a.list b.list };
+
+    ghost laws = { on_per list_in (partial_equiv_from_equiv bits_equiv) };
+
+    /// Whether both have the same bits.
+    fn eq(&self, other: &Self) -> bool {
+        self.eq_bits(other.as_bitslice())
+    }
+}
+
+impl<T: BitStore, O: BitOrder> Eq for BitVec<T, O> {
+    ghost laws = { on_equiv list_in bits_equiv };
+}
+
+impl<T: BitStore, O: BitOrder> PartialOrd for BitVec<T, O> {
+    ghost partial_cmp = { λ a b. Some (bits_cmp a.list b.list) };
+
+    ghost laws = { on_po list_in bits_partial };
+
+    /// As `cmp`.
+    fn partial_cmp(&self, other: &Self) -> Option<Ordering> {
+        Some(self.cmp(other))
+    }
+}
+
+impl<T: BitStore, O: BitOrder> Ord for BitVec<T, O> {
+    ghost cmp = { λ a b. bits_cmp a.list b.list };
+
+    ghost total = { on_total list_in bits_total };
+
+    ghost matches_partial_cmp = { λ a b. refl };
+
+    ghost matches_eq = { λ a b. bits_tie a.list b.list };
+
+    /// How the bits are ordered: the first that differ decide, false before true,
+    /// and where none do the shorter comes first.
+    fn cmp(&self, other: &Self) -> Ordering {
+        self.cmp_bits(other.as_bitslice())
+    }
+}
+
+impl<T: BitStore, O: BitOrder> Hash for BitVec<T, O> {
+    ghost hash_input = { λ a. bits_fed a.list };
+
+    ghost respects_eq = { (on_Alike list_in bits_alike).fed };
+
+    /// Feeds the hash of each bit as a truth value, in order, and nothing else.
+    fn hash<H: Hasher>(&self, state: &mut H) {
+        hash_bits(self.as_bitslice(), state);
+    }
+}
+
 /// `[`, the digits of the list joined by `, `, and `]`. Flags and widths have no effect.
 ///
 /// ```text
@@ -33,15 +94,76 @@ impl<T: BitStore, O: BitOrder> fmt::Display for BitVec<T, O> {
     ghost styled_output = { λ v _. Some (list_text v.list) };
 
     fn fmt<W: fmt::Write>(&self, f: &mut fmt::Formatter<W>) -> fmt::Result {
-        f.write_str("[")?;
-        let mut separator = "";
-        for i in 0..self.len() {
-            f.write_str(separator)?;
-            let bit = self.get(i).unwrap_or(false);
-            f.write_str(if bit { "1" } else { "0" })?;
-            separator = ", ";
-        }
-        f.write_str("]")
+        write_list(self.as_bitslice(), f)
+    }
+}
+
+/// `BitVec { head: `, the head, `, bits: `, the length, `, capacity: `, the capacity, ` } `, and the text of
+/// `Display`.
+impl<T: BitStore, O: BitOrder> fmt::Debug for BitVec<T, O> {
+    fn fmt<W: fmt::Write>(&self, f: &mut fmt::Formatter<W>) -> fmt::Result {
+        let (head, len, capacity) = (self.head(), self.len(), self.capacity());
+        write!(
+            f,
+            "BitVec {{ head: {head}, bits: {len}, capacity: {capacity} }} "
+        )?;
+        write_list(self.as_bitslice(), f)
+    }
+}
+
+/// `[`, a digit for each group of one bit, the first the most significant, and `]`. Flags and widths
+/// have no effect.
+impl<T: BitStore, O: BitOrder> fmt::Binary for BitVec<T, O> {
+    ghost use Rattle.std.specs.Prelude.{false};
+    ghost use Rattle.std.specs.Fmt.{WritesStyledOnOk};
+    ghost use Rattle.bit_slice.specs.Texts.{digits_text};
+
+    fn fmt<W: fmt::Write>(&self, f: &mut fmt::Formatter<W>) -> fmt::Result
+        ensures { WritesStyledOnOk W.write_str_gives f.old result (digits_text 1 false (self.now.list)) f.new }
+    {
+        write_digits(self.as_bitslice(), 1, false, f)
+    }
+}
+
+/// `[`, a digit for each group of three bits, the first the most significant, and `]`. Flags and widths
+/// have no effect.
+impl<T: BitStore, O: BitOrder> fmt::Octal for BitVec<T, O> {
+    ghost use Rattle.std.specs.Prelude.{false};
+    ghost use Rattle.std.specs.Fmt.{WritesStyledOnOk};
+    ghost use Rattle.bit_slice.specs.Texts.{digits_text};
+
+    fn fmt<W: fmt::Write>(&self, f: &mut fmt::Formatter<W>) -> fmt::Result
+        ensures { WritesStyledOnOk W.write_str_gives f.old result (digits_text 3 false (self.now.list)) f.new }
+    {
+        write_digits(self.as_bitslice(), 3, false, f)
+    }
+}
+
+/// `[`, a digit for each group of four bits, the first the most significant, the digits above 9 in lower case, and `]`. Flags and widths
+/// have no effect.
+impl<T: BitStore, O: BitOrder> fmt::LowerHex for BitVec<T, O> {
+    ghost use Rattle.std.specs.Prelude.{false};
+    ghost use Rattle.std.specs.Fmt.{WritesStyledOnOk};
+    ghost use Rattle.bit_slice.specs.Texts.{digits_text};
+
+    fn fmt<W: fmt::Write>(&self, f: &mut fmt::Formatter<W>) -> fmt::Result
+        ensures { WritesStyledOnOk W.write_str_gives f.old result (digits_text 4 false (self.now.list)) f.new }
+    {
+        write_digits(self.as_bitslice(), 4, false, f)
+    }
+}
+
+/// `[`, a digit for each group of four bits, the first the most significant, the digits above 9 in upper case, and `]`. Flags and widths
+/// have no effect.
+impl<T: BitStore, O: BitOrder> fmt::UpperHex for BitVec<T, O> {
+    ghost use Rattle.std.specs.Prelude.{true};
+    ghost use Rattle.std.specs.Fmt.{WritesStyledOnOk};
+    ghost use Rattle.bit_slice.specs.Texts.{digits_text};
+
+    fn fmt<W: fmt::Write>(&self, f: &mut fmt::Formatter<W>) -> fmt::Result
+        ensures { WritesStyledOnOk W.write_str_gives f.old result (digits_text 4 true (self.now.list)) f.new }
+    {
+        write_digits(self.as_bitslice(), 4, true, f)
     }
 }
 

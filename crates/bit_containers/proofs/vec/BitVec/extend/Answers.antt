@@ -14,5 +14,5 @@ returns-clause-runs g c =
 pub returns-clause-clean : goal.returns-clause-clean
 returns-clause-clean g c =
     on_ok_weaker c.extend_by.result
-    (λ h clean. clean_grown g.T.BitStore.BITS c.args.self.now c.extend_by.new.self h.1 (width_positive g.T.BitStore.BITS g.met.T.BitStore.width) h.4.1.head h.4.0 h.4.1.row clean)
+    (λ h clean. clean_grown g.T.BitStore.BITS c.args.self.now _ h.1 (width_positive g.T.BitStore.BITS g.met.T.BitStore.width) h.4.1.head h.4.0 h.4.1.row clean)
     c.extend_by.ensures.joined

@@ -1,0 +1,39 @@
+-- Vectors made of words that are there.
+use Rattle.std.proofs.Common.{◌≡◌, ℕ, zero, suc, ◌+◌, ◌*◌, ◌<◌, ◌≤◌, List, [], ◌∷◌, ◌++◌, length, replicate, drop, set, slice_range, Bool, true, false, not, map, refl, ap, ◌∙◌, subst, sym, arith}
+use Rattle.bit_addressing.specs.Bits.{IsWidth}
+use Rattle.bit_addressing.specs.declared.store.BitStore as store
+use Rattle.bit_addressing.specs.declared.order.BitOrder as order
+use Rattle.bit_addressing.specs.declared.length.TheConstants.{MAX_BITS}
+use Rattle.bit_addressing.specs.Row.{words_for}
+use Rattle.bit_addressing.specs.Typed.{row}
+use Rattle.bit_addressing.proofs.Rows.{width_positive}
+use Rattle.bit_addressing.proofs.lists.Sized.{room}
+use Rattle.bit_containers.specs.BitVec.{IsVector}
+use Rattle.bit_containers.proofs.Vectors.{shown_length}
+
+-- words that are exactly as many as it takes are a vector
+pub exactly : {X Y : Type 0} (W : store.Ghosts X) (P : order.Ghosts Y) (ws : List X) (head len : ℕ) → IsWidth W.BITS → head < W.BITS → len ≤ MAX_BITS → length ws ≡ words_for W.BITS (head + len) → IsVector W.BITS (length ws) head len (length (slice_range (row W P ws) head (head + len)))
+exactly W P ws head len width low small count =
+    let r = (room W.BITS (head + len) (width_positive W.BITS width)).0 in
+    let fits : head + len ≤ W.BITS * length ws = subst (λ n. head + len ≤ W.BITS * n) (sym count) r in
+    record { head_below = low; len_small = small; count = count; fits = fits; shows = shown_length W P ws head len fits }
+
+set_next : {X : Type 0} (ws : List X) (k : ℕ) (word : X) → k < length ws → set (replicate k word ++ drop k ws) k word ≡ replicate (suc k) word ++ drop (suc k) ws
+set_next [] k word h = absurd (omega arith)
+set_next (x ∷ ws) zero word h = refl
+set_next (x ∷ ws) (suc k) word h = ap (λ l. word ∷ l) (set_next ws k word (omega arith))
+
+-- one word more is written over
+pub set_one_more : {X : Type 0} (ws : List X) (k : ℕ) (word : X) → k < length ws → set (replicate k word ++ drop k ws) k word ≡ replicate (k + 1) word ++ drop (k + 1) ws
+set_one_more ws k word h =
+    let next : suc k ≡ k + 1 = omega arith in
+    set_next ws k word h ∙ ap (λ n. replicate n word ++ drop n ws) next
+
+not_twice : (b : Bool) → not (not b) ≡ b
+not_twice true = refl
+not_twice false = refl
+
+-- bits flipped twice are as before
+pub flipped_twice : (bits : List Bool) → map not (map not bits) ≡ bits
+flipped_twice [] = refl
+flipped_twice (b ∷ bits) = rw (not_twice b, flipped_twice bits) refl

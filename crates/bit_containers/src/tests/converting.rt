@@ -1,0 +1,56 @@
+//! Vectors made of arrays and boxes, and given up.
+use crate::array::BitArray;
+use crate::boxed::BitBox;
+use crate::tests::{holds, of};
+use crate::vec::IntoIter;
+use crate::{BitSlice, BitVec, IntoBitVec, Lsb0, Msb0};
+use std::test::Fail;
+
+#[test]
+fn of_an_array(rt: HostRuntime) -> Result<(), Fail> {
+    let array = BitArray::<[u8; 2], Msb0>::new([0x80, 0x01]);
+    let v = BitVec::from_bitarray(rt.alloc(), array)?;
+    assert_eq!(rt; v.as_raw_slice(), [0x80, 0x01].as_slice());
+    holds(&rt, &v, b"1000000000000001");
+    Ok(())
+}
+
+#[test]
+fn boxed(rt: HostRuntime) -> Result<(), Fail> {
+    let words = [0xa8, 0x07];
+    let view = BitSlice::<u8, Lsb0>::from_slice(&words).get_range(3..11);
+    let mut b = BitBox::from_bitslice_headed(rt.alloc(), view)?;
+    b.force_align();
+    b.fill_uninitialized(false);
+    assert_eq!(rt; b.as_raw_slice(), [0xf5, 0x00].as_slice());
+    let v = b.into_bitvec()?;
+    assert_eq!(rt; v.as_raw_slice(), [0xf5].as_slice());
+    assert!(rt; v.head() == 0 && v.len() == 8);
+    let v = BitVec::from_bitslice_headed(rt.alloc(), view)?;
+    let b = v.into_boxed_bitslice()?;
+    assert_eq!(rt; b.as_raw_slice(), [0xa8, 0x07].as_slice());
+    assert_eq!(rt; b.head(), 3);
+    let v = b.into_vec()?;
+    assert_eq!(rt; v.as_raw_slice(), [0xa8, 0x07].as_slice());
+    assert_eq!(rt; v.head(), 3);
+    holds(&rt, &v, b"10101111");
+    assert_eq!(rt; v.into_boxed_slice()?.count_ones(), 6);
+    Ok(())
+}
+
+#[test]
+fn given_up(rt: HostRuntime) -> Result<(), Fail> {
+    let mut bits: IntoIter<u8, Lsb0> = of(rt.alloc(), b"011001")?.into_iter();
+    assert!(rt; bits.len() == 6 && bits.next() == Some(false));
+    assert_eq!(rt; bits.next_back(), Some(true));
+    assert_eq!(rt; bits.nth(1), Some(true));
+    assert_eq!(rt; bits.nth_back(1), Some(false));
+    assert_eq!(rt; bits.next(), None);
+    assert_eq!(rt; bits.next_back(), None);
+    let mut ones = 0u8;
+    for bit in of::<u16, Msb0>(rt.alloc(), b"1101")? {
+        ones = ones.saturating_add(bit as u8);
+    }
+    assert_eq!(rt; ones, 3);
+    Ok(())
+}

@@ -1,15 +1,16 @@
 -- Numbers written in binary one behind the other, and the bytes that they make.
-use Rattle.std.proofs.Common.{zero, suc, ◌≡◌, ℕ, ◌+◌, ◌-◌, ◌*◌, ◌/◌, ◌%◌, ◌^◌, ◌<◌, ◌≤◌, Bool, false, List, [], ◌∷◌, ◌++◌, map, length, get_or, slice_range, refl, sym, ◌∙◌, ap, subst, inl, inr, arith, append_assoc}
+use Rattle.std.proofs.Common.{zero, suc, ◌≡◌, ℕ, ◌+◌, ◌-◌, ◌*◌, ◌/◌, ◌%◌, ◌^◌, ◌<◌, ◌≤◌, Bool, false, List, [], ◌∷◌, ◌++◌, map, length, get_or, slice_range, refl, sym, ◌∙◌, ap, inl, inr, arith, append_assoc}
 use Rattle.std.specs.Prelude.{⊤}
 use Rattle.std.proofs.lemmas.Bool.{cases_lt}
-use Rattle.std.proofs.lemmas.List.{ext_get_or, length-append, get_or_append_left, get_or-append_right}
+use Rattle.std.proofs.lemmas.List.{append-nil, ext_get_or, length-append, get_or_append_left, get_or-append_right}
 use Rattle.bit_addressing.specs.Bits.{has_bit}
 use Rattle.std.proofs.lemmas.List.Edits.{between_none}
 use Rattle.bit_addressing.specs.Order.{msb0_lawful}
-use Rattle.bit_addressing.specs.Row.{binary, row_of, AreWords}
-use Rattle.bit_addressing.proofs.Canon.{words_from_row}
+use Rattle.bit_addressing.specs.Row.{binary, packed, row_of, sized, words_for, AreWords}
+use Rattle.bit_addressing.proofs.Canon.{packed_row, words_from_row}
 use Rattle.bit_slice.proofs.Writing.{runs_joined}
 use Rattle.bit_addressing.proofs.Binary.{length-binary, get_or-binary}
+use Rattle.bit_addressing.proofs.lists.Sized.{sized_same}
 use Rattle.bit_addressing.proofs.Rows.{length-row_of, row_of_none, row_append, get_or-row_one}
 use Rattle.bit_addressing.proofs.Words.{has_low, has_shr_low, same_word}
 use Rattle.std.proofs.Math.Pow.{high, low}
@@ -126,7 +127,7 @@ standing xs at (f ∷ fs) h all =
     ∙ runs_joined xs at (at + f.0) (at + f.0 + digits fs) (omega arith) (omega arith) (omega arith)
     ∙ ap (slice_range xs at) more
 
--- bytes of two lists are the same where their bits are
+-- two lists of bytes are the same where their bits are
 pub same_bytes : (xs ys : List ℕ) → AreWords 8 xs → AreWords 8 ys → length xs ≡ length ys → row_of (λ w i. w - 1 - i) 8 xs ≡ row_of (λ w i. w - 1 - i) 8 ys → xs ≡ ys
 same_bytes xs ys low_x low_y size same = words_from_row (λ w i. w - 1 - i) 8 xs ys (omega arith) (msb0_lawful 8 (inl refl)) low_x low_y size same
 
@@ -140,21 +141,10 @@ are_bytes [] below k h = absurd (omega arith)
 are_bytes (x ∷ xs) below zero h = below.0
 are_bytes (x ∷ xs) below (suc k) h = are_bytes xs below.1 k (omega arith)
 
--- a header's fields are numbers of their widths
-pub record AreFields (h : Header) : Type 0 where
-  pub fits : Fits h
-  pub total_length : h.total_length < 2 ^ 16
-  pub identification : h.identification < 2 ^ 16
-  pub time_to_live : h.time_to_live < 2 ^ 8
-  pub protocol : h.protocol < 2 ^ 8
-  pub checksum : h.checksum < 2 ^ 16
-  pub source : h.source < 2 ^ 32
-  pub destination : h.destination < 2 ^ 32
-
--- so its bytes are bytes
-pub bytes_below : (h : Header) → AreFields h → AreWords 8 (bytes_of h)
+-- a header's bytes are bytes
+pub bytes_below : (h : Header) → Fits h → AreWords 8 (bytes_of h)
 bytes_below h a =
-    let f = a.fits in
+    let f = a in
     let v = f.version in
     let w = f.header_words in
     let s = f.service in
@@ -185,3 +175,35 @@ bytes_below h a =
     let b18 : h.destination / 256 % 256 < 256 = omega arith in
     let b19 : h.destination % 256 < 256 = omega arith in
     are_bytes (bytes_of h) (b0, (b1, (b2, (b3, (b4, (b5, (b6, (b7, (a.time_to_live, (a.protocol, (b10, (b11, (b12, (b13, (b14, (b15, (b16, (b17, (b18, (b19, tt))))))))))))))))))))
+
+-- a field that was joined before others
+pub joined_field : (all old new : List Bool) (f : ℕ × ℕ) (fs : List (ℕ × ℕ)) → new ≡ old ++ binary f.0 f.1 → all ≡ new ++ written_fields fs → all ≡ old ++ written_fields (f ∷ fs)
+unfolding written_fields
+joined_field all old new f fs joined rest = rest ∙ ap (λ l. l ++ written_fields fs) joined ∙ append_assoc old (binary f.0 f.1) (written_fields fs)
+
+pub no_field : (all : List Bool) → all ≡ all ++ written_fields []
+unfolding written_fields
+no_field all = sym (append-nil all)
+
+-- the bytes of a header's bits
+pub bytes_are : (h : Header) (bytes : List ℕ) → Fits h → AreWords 8 bytes → row_of (λ w i. w - 1 - i) 8 bytes ≡ bits_of h → bytes ≡ bytes_of h
+bytes_are h bytes fits low is =
+    let same : row_of (λ w i. w - 1 - i) 8 bytes ≡ row_of (λ w i. w - 1 - i) 8 (bytes_of h) = is ∙ sym (row_of_bytes (bytes_of h) ∙ header_bytes h fits) in
+    let long = length-row_of (λ w i. w - 1 - i) 8 bytes in
+    let wide = length-row_of (λ w i. w - 1 - i) 8 (bytes_of h) in
+    let size = ap length same in
+    same_bytes bytes (bytes_of h) low (bytes_below h fits) (omega arith) same
+
+-- a header has 160 bits
+pub many_bits : (h : Header) → length (bits_of h) ≡ 160
+unfolding written_fields
+many_bits h = simp (length-append, length-binary) refl
+
+-- the words of its bits are its bytes
+pub header_words : (h : Header) → Fits h → packed (λ w i. w - 1 - i) 8 (bits_of h) ≡ bytes_of h
+header_words h fits = ap (packed (λ w i. w - 1 - i) 8) (sym (row_of_bytes (bytes_of h) ∙ header_bytes h fits)) ∙ packed_row (λ w i. w - 1 - i) 8 (bytes_of h) (omega arith) (msb0_lawful 8 (inl refl)) (bytes_below h fits)
+
+-- whole bytes have no dead bit
+pub whole_bytes : (xs : List Bool) → length xs ≡ 160 → sized 8 xs (length xs) ≡ xs
+unfolding words_for
+whole_bytes xs size = ap (sized 8 xs) size ∙ sized_same 8 xs 160 size

@@ -1,10 +1,9 @@
 -- The members of a set, of what is made of two, and in order.
-use Rattle.std.proofs.Common.{◌≡◌, ◌≢◌, ℕ, zero, suc, ◌+◌, ◌<◌, ◌≤◌, Bool, true, false, not, ◌&&◌, ◌||◌, cond, List, [], ◌∷◌, map, length, drop, slice_get, if◌then◌else◌, Some, None, refl, sym, ◌∙◌, ap, inl, inr, arith}
+use Rattle.std.proofs.Common.{◌≡◌, ◌≢◌, ℕ, zero, suc, ◌+◌, Bool, true, false, not, ◌&&◌, ◌||◌, cond, List, [], ◌∷◌, map, length, drop, slice_get, if◌then◌else◌, Some, refl, sym, ◌∙◌, ap, inl, inr, arith}
 use Rattle.std.specs.Prelude.{◌⊎◌, ◌↔◌}
 use Rattle.std.specs.List.{count_by}
-use Rattle.std.proofs.lemmas.Bool.{true≢false}
 use Rattle.std.proofs.lemmas.List.Recursion.{is_count_by}
-use Rattle.bit_slice.specs.Operators.{combined, and_of, or_of}
+use Rattle.bit_slice.specs.Operators.{and_of, or_of}
 use Rattle.bit_users.specs.Search.{IsNext, NoneFrom}
 use Rattle.bit_users.specs.Table.{IsIn, members_from}
 

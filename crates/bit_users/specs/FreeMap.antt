@@ -1,5 +1,5 @@
 -- Maps of frames, as lists of truth values: item k says whether frame k is taken.
-use Rattle.std.specs.Prelude.{◌≡◌, ℕ, ◌+◌, ◌<◌, ◌≤◌, false, Bool, List, Some, slice_get}
+use Rattle.std.specs.Prelude.{◌≡◌, ℕ, ◌+◌, ◌<◌, ◌≤◌, false, Bool, List, Some, length, slice_get}
 
 -- the frame is there, and free
 abbrev pub IsFree : List Bool → ℕ → Type 0
@@ -11,5 +11,6 @@ AreFree map count first = (i : ℕ) → i < count → IsFree map (first + i)
 
 -- such a run begins at this frame, and none at a lower one
 pub record IsFirstRun (map : List Bool) (count first : ℕ) : Type 0 where
+  pub inside : first + count ≤ length map
   pub free : AreFree map count first
   pub before : (i : ℕ) → i < first → AreFree map count i → ⊥

@@ -1,5 +1,5 @@
 -- Sets of the numbers below a bound, as lists of truth values: item k says whether k is in the set.
-use Rattle.std.specs.Prelude.{◌≡◌, ◌≢◌, ℕ, ◌%◌, ◌<◌, ◌≤◌, Bool, true, false, if◌then◌else◌, List, [], ◌∷◌, zero, suc, Some, slice_get, refl}
+use Rattle.std.specs.Prelude.{◌≡◌, ◌≢◌, ℕ, ◌%◌, ◌<◌, ◌≤◌, Bool, true, false, if◌then◌else◌, List, [], ◌∷◌, suc, Some, slice_get, refl}
 
 -- k is in the set
 abbrev pub IsIn : List Bool → ℕ → Type 0

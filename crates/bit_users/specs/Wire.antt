@@ -27,11 +27,18 @@ bytes_of h =
     ∷ (h.source / 2 ^ 24) ∷ (h.source / 2 ^ 16 % 256) ∷ (h.source / 256 % 256) ∷ (h.source % 256)
     ∷ (h.destination / 2 ^ 24) ∷ (h.destination / 2 ^ 16 % 256) ∷ (h.destination / 256 % 256) ∷ (h.destination % 256) ∷ []
 
--- each field has a number of no more digits than it has room for; those of whole bytes always do
+-- no number has more digits than its field
 pub record Fits (h : Header) : Type 0 where
   pub version : h.version < 2 ^ 4
   pub header_words : h.header_words < 2 ^ 4
   pub service : h.service < 2 ^ 6
   pub congestion : h.congestion < 2 ^ 2
+  pub total_length : h.total_length < 2 ^ 16
+  pub identification : h.identification < 2 ^ 16
   pub flags : h.flags < 2 ^ 3
   pub fragment_offset : h.fragment_offset < 2 ^ 13
+  pub time_to_live : h.time_to_live < 2 ^ 8
+  pub protocol : h.protocol < 2 ^ 8
+  pub checksum : h.checksum < 2 ^ 16
+  pub source : h.source < 2 ^ 32
+  pub destination : h.destination < 2 ^ 32

@@ -1,5 +1,5 @@
 //! An allocator's map of frames, one bit each.
-ghost use Rattle.std.specs.Prelude.{◌≡◌, ◌+◌, ◌≤◌, ◌<◌, ◌↔◌, ℕ, false, true, not, Err, IfOk, IfSome, IsTrue, MatchOption, Some, length, replicate, set, slice_get};
+ghost use Rattle.std.specs.Prelude.{◌≡◌, ◌+◌, ◌≤◌, ◌<◌, ◌↔◌, ℕ, Bool, List, false, true, not, Err, IfOk, IsTrue, MatchOption, Some, length, replicate, set, slice_get};
 ghost use Rattle.std.specs.List.{count_by};
 ghost use Rattle.bit_addressing.specs.declared.errors.GrowError.TheVariants as errors;
 ghost use Rattle.bit_addressing.specs.declared.length.TheConstants.{MAX_BITS};
@@ -9,7 +9,7 @@ ghost use Rattle.bit_users.specs.Search.{IsNext, NoneFrom};
 
 use crate::search::next_bit;
 use bit_addressing::{GrowError, Lsb0, fill_bits};
-use bit_boxed::BitBox;
+use bit_containers::BitVec;
 use std::alloc::Global;
 use std::marker::Model;
 
@@ -26,7 +26,7 @@ use std::marker::Model;
 /// ```
 #[derive(Drop)]
 pub struct FreeMap {
-    taken: BitBox<usize, Lsb0>,
+    taken: BitVec<usize, Lsb0>,
 }
 
 impl Model for FreeMap {
@@ -47,11 +47,10 @@ impl FreeMap {
     /// So many frames, all free. `TooLong` exactly where they pass `MAX_BITS`.
     pub fn new(alloc: Global, frames: usize) -> Result<Self, GrowError>
         ensures free { IfOk result (λ m. m ≡ replicate frames false) }
+        ensures too_long { (result ≡ Err errors.TooLong) ↔ (MAX_BITS < frames) }
     {
-        match BitBox::empty(alloc) {
-            Ok(taken) => if frames == 0 { Ok(FreeMap { taken }) } else { Err(GrowError::OutOfMemory) },
-            Err(_) => Err(GrowError::OutOfMemory),
-        }
+        let taken = BitVec::repeat(alloc, false, frames)?;
+        Ok(FreeMap { taken })
     }
 
     /// How many frames there are.
@@ -73,7 +72,7 @@ impl FreeMap {
     pub fn count_free(&self) -> usize
         ensures { result ≡ count_by not self.now }
     {
-        self.taken.as_bitslice().count_zeros()
+        self.taken.count_zeros()
     }
 
     /// Takes the lowest free frame, which is found by words. None exactly where no frame is free, and then
@@ -92,9 +91,11 @@ impl FreeMap {
 
     /// Takes the lowest `count` free frames in a row, which are found by words. None exactly where there is
     /// no such run, and then nothing changes. The condition: `count` is at least 1.
+    #[tactic(auto, using(crate::proofs::Frames::marked_length))]
     pub fn take_run(&mut self, count: usize) -> Option<usize>
         requires { 0 < count }
-        ensures { MatchOption result ((self.new ≡ self.old) × ((k : ℕ) → AreFree self.old count k → ⊥)) (λ first. (self.new ≡ put self.old first (replicate count true)) × IsFirstRun self.old count first) }
+        ensures run { MatchOption result ((self.new ≡ self.old) × ((k : ℕ) → AreFree self.old count k → ⊥)) (λ first. (self.new ≡ put self.old first (replicate count true)) × IsFirstRun self.old count first) }
+        ensures frames { length self.new ≡ length self.old }
     {
         match self.find_run(count) {
             None => None,
@@ -108,8 +109,7 @@ impl FreeMap {
     // The lowest frame with which a run of so many free frames begins.
     fn find_run(&self, count: usize) -> Option<usize>
         requires { 0 < count }
-        ensures run { MatchOption result ((k : ℕ) → AreFree self.now count k → ⊥) (λ first. IsFirstRun self.now count first) }
-        ensures within { IfSome result (λ first. first + count ≤ length self.now) }
+        ensures { MatchOption result ((k : ℕ) → AreFree self.now count k → ⊥) (λ first. IsFirstRun self.now count first) }
     {
         let mut from = 0;
         while let Some(first) = next_bit(self.taken.as_bitslice(), from, false) {
@@ -122,11 +122,15 @@ impl FreeMap {
         None
     }
 
-    /// Gives `count` frames from `first` on back: they are free then, and no other frame changes. The
-    /// condition: they are frames of the map.
+    /// Gives `count` frames from `first` on back: they are free then, and no other frame changes. Where
+    /// they were taken out of a map in which they were free, that map is there again. The condition: they
+    /// are frames of the map.
+    #[tactic(auto, using(crate::proofs::Frames::marked_length))]
     pub fn give_back(&mut self, first: usize, count: usize)
         requires { first + count ≤ length self.old }
-        ensures { self.new ≡ put self.old first (replicate count false) }
+        ensures list { self.new ≡ put self.old first (replicate count false) }
+        ensures frames { length self.new ≡ length self.old }
+        ensures restores { (before : List Bool) → AreFree before count first → self.old ≡ put before first (replicate count true) → self.new ≡ before }
     {
         self.mark(first, count, false);
     }
@@ -136,7 +140,7 @@ impl FreeMap {
         requires { first + count ≤ length self.old }
         ensures { self.new ≡ put self.old first (replicate count taken) }
     {
-        let from = self.taken.head() + first;
+        let from = self.taken.as_bitslice().head() + first;
         let upto = from + count;
         fill_bits::<usize, Lsb0>(self.taken.as_raw_mut_slice(), from, upto, taken);
     }

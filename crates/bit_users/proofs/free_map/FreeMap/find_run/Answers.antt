@@ -1,4 +1,4 @@
-use Rattle.std.proofs.Common.{◌≡◌, ◌∙◌, ◌≢◌, ◌≤◌, ℕ, Some, false, true, slice_get, length, sym, ap, arith, subst}
+use Rattle.std.proofs.Common.{◌≡◌, ◌∙◌, ◌≢◌, ◌≤◌, Some, false, true, slice_get, length, sym, ap, arith, subst}
 use Rattle.std.specs.Option.{MatchOption, unwrap_or}
 use Rattle.std.proofs.lemmas.Option.{slice_get_within}
 use Rattle.bit_slice.specs.BitSlice.{list_of}

@@ -1,6 +1,5 @@
-use Rattle.std.proofs.Common.{◌≡◌, not, map, length, sym, ◌∙◌, ap, subst}
+use Rattle.std.proofs.Common.{not, map, sym, ◌∙◌, ap, subst}
 use Rattle.std.specs.Prelude.{◌↔◌}
-use Rattle.std.proofs.lemmas.List.{length-map}
 use Rattle.bit_slice.specs.Operators.{and_of}
 use Rattle.bit_users.specs.Table.{IsIn}
 use Rattle.bit_users.proofs.Members.{in_difference}

@@ -1,0 +1,5 @@
+pub mod Fields
+pub mod Frames
+pub mod Members
+pub mod Searching
+pub mod Sieve

@@ -1,0 +1,4 @@
+pub mod FreeMap
+pub mod Search
+pub mod Table
+pub mod Wire

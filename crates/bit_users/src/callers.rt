@@ -1,0 +1,55 @@
+//! What the authors of such things rely on, as callers that need no proof of their own.
+ghost use Rattle.std.specs.Prelude.{◌≡◌, ◌≢◌, ◌<◌, ◌↔◌, IfOk, IsTrue, Some, length};
+ghost use Rattle.bit_users.specs.Table.{IsIn, IsPrime};
+ghost use Rattle.bit_users.specs.Wire.{Fits};
+
+use crate::{FreeMap, Header, NumberSet};
+use bit_addressing::GrowError;
+use std::alloc::Global;
+
+/// What is written is read back.
+pub fn read_back(header: Header, alloc: Global) -> Result<Option<Header>, GrowError>
+    requires { Fits header }
+    ensures { IfOk result (λ read. read ≡ Some header) }
+{
+    let bytes = header.to_bytes(alloc)?;
+    Ok(Header::read(&bytes))
+}
+
+/// A number that was put into a set is in it.
+pub fn inserted(set: &mut NumberSet, number: usize) -> bool
+    requires { number < length set.old }
+    ensures { IsTrue result }
+{
+    set.insert(number);
+    set.contains(number)
+}
+
+/// Another number is in a set exactly where it was.
+pub fn others_stay(set: &mut NumberSet, number: usize, other: usize) -> bool
+    requires below { number < length set.old }
+    requires apart { other ≢ number }
+    ensures { IsTrue result ↔ IsIn set.old other }
+{
+    set.remove(number);
+    set.contains(other)
+}
+
+/// Whether a number is prime, by the sieve.
+pub fn is_prime(alloc: Global, number: usize) -> Result<bool, GrowError>
+    requires { number < 1000000 }
+    ensures { IfOk result (λ prime. IsTrue prime ↔ IsPrime number) }
+{
+    let primes = NumberSet::primes(alloc, number + 1)?;
+    Ok(primes.contains(number))
+}
+
+/// A run of frames that is given back at once leaves the map as it was.
+pub fn given_back(frames: &mut FreeMap, count: usize) -> Option<usize>
+    requires { 0 < count }
+    ensures { frames.new ≡ frames.old }
+{
+    let first = frames.take_run(count)?;
+    frames.give_back(first, count);
+    Some(first)
+}

@@ -1,0 +1,147 @@
+//! An allocator's map of frames, one bit each.
+ghost use Rattle.std.specs.Prelude.{◌≡◌, ◌+◌, ◌≤◌, ◌<◌, ◌↔◌, ℕ, Bool, List, false, true, not, Err, IfOk, IsTrue, MatchOption, Some, length, replicate, set, slice_get};
+ghost use Rattle.std.specs.List.{count_by};
+ghost use Rattle.bit_addressing.specs.declared.errors.GrowError.TheVariants as errors;
+ghost use Rattle.bit_addressing.specs.declared.length.TheConstants.{MAX_BITS};
+ghost use Rattle.bit_addressing.specs.Row.{put};
+ghost use Rattle.bit_users.specs.FreeMap.{AreFree, IsFirstRun};
+ghost use Rattle.bit_users.specs.Search.{IsNext, NoneFrom};
+
+use crate::search::next_bit;
+use bit_addressing::{GrowError, Lsb0, fill_bits};
+use bit_containers::BitVec;
+use std::alloc::Global;
+use std::marker::Model;
+
+/// Which of an allocator's frames are taken.
+///
+/// In contracts a map is a list of truth values: item `k` says whether frame `k` is taken.
+///
+/// ```text
+/// let mut frames = FreeMap::new(alloc, 1024)?;
+/// frames.take()               // Some(0)
+/// frames.take_run(16)         // Some(1)
+/// frames.give_back(0, 1);
+/// frames.count_free()         // 1008
+/// ```
+#[derive(Drop)]
+pub struct FreeMap {
+    taken: BitVec<usize, Lsb0>,
+}
+
+impl Model for FreeMap {
+    ghost use Rattle.std.specs.Prelude.{◌≤◌, Bool, List, length};
+    ghost use Rattle.std.specs.Coded.{coded_list, coded_bool};
+    ghost use Rattle.bit_addressing.specs.declared.length.TheConstants.{MAX_BITS};
+
+    ghost Value = { List Bool };
+
+    ghost coded = { coded_list coded_bool };
+
+    ghost view = { λ m. m.taken.list };
+
+    ghost invariant = { λ m. length m.taken.list ≤ MAX_BITS };
+}
+
+impl FreeMap {
+    /// So many frames, all free. `TooLong` exactly where they pass `MAX_BITS`.
+    pub fn new(alloc: Global, frames: usize) -> Result<Self, GrowError>
+        ensures free { IfOk result (λ m. m ≡ replicate frames false) }
+        ensures too_long { (result ≡ Err errors.TooLong) ↔ (MAX_BITS < frames) }
+    {
+        let taken = BitVec::repeat(alloc, false, frames)?;
+        Ok(FreeMap { taken })
+    }
+
+    /// How many frames there are.
+    pub fn frames(&self) -> usize
+        ensures { result ≡ length self.now }
+    {
+        self.taken.len()
+    }
+
+    /// Whether a frame is taken. The condition: it is one of the map's.
+    pub fn is_taken(&self, frame: usize) -> bool
+        requires { frame < length self.now }
+        ensures { slice_get self.now frame ≡ Some result }
+    {
+        self.taken[frame]
+    }
+
+    /// How many frames are free, counted by words.
+    pub fn count_free(&self) -> usize
+        ensures { result ≡ count_by not self.now }
+    {
+        self.taken.count_zeros()
+    }
+
+    /// Takes the lowest free frame, which is found by words. None exactly where no frame is free, and then
+    /// nothing changes.
+    pub fn take(&mut self) -> Option<usize>
+        ensures { MatchOption result ((self.new ≡ self.old) × NoneFrom false self.old 0) (λ frame. (self.new ≡ set self.old frame true) × IsNext false self.old 0 frame) }
+    {
+        match next_bit(self.taken.as_bitslice(), 0, false) {
+            None => None,
+            Some(frame) => {
+                self.taken.set(frame, true);
+                Some(frame)
+            }
+        }
+    }
+
+    /// Takes the lowest `count` free frames in a row, which are found by words. None exactly where there is
+    /// no such run, and then nothing changes. The condition: `count` is at least 1.
+    #[tactic(auto, using(crate::proofs::Frames::marked_length))]
+    pub fn take_run(&mut self, count: usize) -> Option<usize>
+        requires { 0 < count }
+        ensures run { MatchOption result ((self.new ≡ self.old) × ((k : ℕ) → AreFree self.old count k → ⊥)) (λ first. (self.new ≡ put self.old first (replicate count true)) × IsFirstRun self.old count first) }
+        ensures frames { length self.new ≡ length self.old }
+    {
+        match self.find_run(count) {
+            None => None,
+            Some(first) => {
+                self.mark(first, count, true);
+                Some(first)
+            }
+        }
+    }
+
+    // The lowest frame with which a run of so many free frames begins.
+    fn find_run(&self, count: usize) -> Option<usize>
+        requires { 0 < count }
+        ensures { MatchOption result ((k : ℕ) → AreFree self.now count k → ⊥) (λ first. IsFirstRun self.now count first) }
+    {
+        let mut from = 0;
+        while let Some(first) = next_bit(self.taken.as_bitslice(), from, false) {
+            let end = next_bit(self.taken.as_bitslice(), first, true).unwrap_or(self.taken.len());
+            if end - first >= count {
+                return Some(first);
+            }
+            from = end;
+        }
+        None
+    }
+
+    /// Gives `count` frames from `first` on back: they are free then, and no other frame changes. Where
+    /// they were taken out of a map in which they were free, that map is there again. The condition: they
+    /// are frames of the map.
+    #[tactic(auto, using(crate::proofs::Frames::marked_length))]
+    pub fn give_back(&mut self, first: usize, count: usize)
+        requires { first + count ≤ length self.old }
+        ensures list { self.new ≡ put self.old first (replicate count false) }
+        ensures frames { length self.new ≡ length self.old }
+        ensures restores { (before : List Bool) → AreFree before count first → self.old ≡ put before first (replicate count true) → self.new ≡ before }
+    {
+        self.mark(first, count, false);
+    }
+
+    // Marks `count` frames from `first` on, by words.
+    fn mark(&mut self, first: usize, count: usize, taken: bool)
+        requires { first + count ≤ length self.old }
+        ensures { self.new ≡ put self.old first (replicate count taken) }
+    {
+        let from = self.taken.as_bitslice().head() + first;
+        let upto = from + count;
+        fill_bits::<usize, Lsb0>(self.taken.as_raw_mut_slice(), from, upto, taken);
+    }
+}

@@ -1,0 +1,15 @@
+//! Users of bit containers, each with the one fact that its author relies on: a wire format, a set of
+//! numbers, and an allocator's map of frames.
+#![tactic(auto)]
+
+mod callers;
+mod free_map;
+mod search;
+mod table;
+#[cfg(test)]
+mod tests;
+mod wire;
+
+pub use free_map::FreeMap;
+pub use table::NumberSet;
+pub use wire::Header;

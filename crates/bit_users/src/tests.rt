@@ -1,0 +1,123 @@
+//! The users on real data, each call once.
+use crate::{FreeMap, Header, NumberSet};
+use bit_addressing::GrowError;
+use std::test::Fail;
+
+// A header of a packet with a payload of 95 bytes, sent by UDP from 192.168.0.1 to 192.168.0.199.
+const BYTES: [u8; 20] = [
+    0x45, 0x00, 0x00, 0x73, 0x00, 0x00, 0x40, 0x00, 0x40, 0x11, 0xb8, 0x61, 0xc0, 0xa8, 0x00, 0x01,
+    0xc0, 0xa8, 0x00, 0xc7,
+];
+
+#[test]
+fn a_header_is_read(rt: HostRuntime) {
+    let header = Header::read(BYTES.as_slice()).unwrap();
+    assert_eq!(rt; header.version, 4);
+    assert_eq!(rt; header.header_words, 5);
+    assert_eq!(rt; header.service, 0);
+    assert_eq!(rt; header.congestion, 0);
+    assert_eq!(rt; header.total_length, 115);
+    assert_eq!(rt; header.identification, 0);
+    assert_eq!(rt; header.flags, 2);
+    assert_eq!(rt; header.fragment_offset, 0);
+    assert_eq!(rt; header.time_to_live, 64);
+    assert_eq!(rt; header.protocol, 17);
+    assert_eq!(rt; header.checksum, 0xb861);
+    assert_eq!(rt; header.source, 0xc0a80001);
+    assert_eq!(rt; header.destination, 0xc0a800c7);
+    assert!(rt; Header::read(&BYTES[..19]).is_none());
+}
+
+#[test]
+fn a_header_is_written(rt: HostRuntime) -> Result<(), Fail> {
+    let header = Header::read(BYTES.as_slice()).unwrap();
+    let bytes = header.to_bytes(rt.alloc())?;
+    assert_eq!(rt; bytes.as_slice(), BYTES.as_slice());
+    assert_eq!(rt; header.to_bits(rt.alloc())?.len(), 160);
+    assert!(rt; Header::read(&bytes) == Some(header));
+    Ok(())
+}
+
+#[test]
+fn sets_of_numbers(rt: HostRuntime) -> Result<(), Fail> {
+    let mut small = NumberSet::new(rt.alloc(), 200)?;
+    let mut even = NumberSet::new(rt.alloc(), 200)?;
+    small.insert(3);
+    small.insert(64);
+    small.insert(65);
+    small.insert(199);
+    even.insert(0);
+    even.insert(64);
+    even.insert(128);
+    assert!(rt; small.contains(64) && !small.contains(0) && !small.contains(200));
+    assert_eq!(rt; small.count(), 4);
+    assert_eq!(rt; small.next_from(66), Some(199));
+    assert_eq!(rt; even.next_from(129), None);
+    small.remove(3);
+    assert_eq!(rt;
+        small.members(rt.alloc())?.as_slice(),
+        [64, 65, 199].as_slice()
+    );
+    assert_eq!(rt; small.bound(), 200);
+    let both = small.union(even);
+    assert_eq!(rt;
+        both.members(rt.alloc())?.as_slice(),
+        [0, 64, 65, 128, 199].as_slice()
+    );
+    let mut few = NumberSet::new(rt.alloc(), 200)?;
+    few.insert(65);
+    few.insert(66);
+    let rest = both.difference(few);
+    assert_eq!(rt;
+        rest.members(rt.alloc())?.as_slice(),
+        [0, 64, 128, 199].as_slice()
+    );
+    let mut last = NumberSet::new(rt.alloc(), 200)?;
+    last.insert(199);
+    last.insert(1);
+    let common = rest.intersection(last);
+    assert_eq!(rt; common.members(rt.alloc())?.as_slice(), [199].as_slice());
+    Ok(())
+}
+
+#[test]
+fn primes(rt: HostRuntime) -> Result<(), Fail> {
+    let primes = NumberSet::primes(rt.alloc(), 30)?;
+    assert_eq!(rt;
+        primes.members(rt.alloc())?.as_slice(),
+        [2, 3, 5, 7, 11, 13, 17, 19, 23, 29].as_slice()
+    );
+    assert_eq!(rt; NumberSet::primes(rt.alloc(), 1000)?.count(), 168);
+    for bound in [0usize, 1, 2] {
+        assert_eq!(rt; NumberSet::primes(rt.alloc(), bound)?.count(), 0);
+    }
+    Ok(())
+}
+
+#[test]
+fn frames(rt: HostRuntime) -> Result<(), Fail> {
+    let mut map = FreeMap::new(rt.alloc(), 130)?;
+    assert_eq!(rt; map.frames(), 130);
+    assert_eq!(rt; map.take(), Some(0));
+    assert_eq!(rt; map.take_run(100), Some(1));
+    assert!(rt; map.is_taken(100) && !map.is_taken(101));
+    assert_eq!(rt; map.take_run(30), None);
+    assert_eq!(rt; map.take_run(29), Some(101));
+    assert_eq!(rt; map.take(), None);
+    map.give_back(60, 8);
+    map.give_back(70, 5);
+    assert_eq!(rt; map.count_free(), 13);
+    assert_eq!(rt; map.take(), Some(60));
+    assert_eq!(rt; map.take_run(8), None);
+    assert_eq!(rt; map.take_run(5), Some(61));
+    assert_eq!(rt; map.take_run(5), Some(70));
+    assert_eq!(rt; map.count_free(), 2);
+    Ok(())
+}
+
+#[test]
+fn too_many(rt: HostRuntime) {
+    let most = usize::MAX;
+    assert!(rt; matches!(NumberSet::new(rt.alloc(), most), Err(GrowError::TooLong)));
+    assert!(rt; matches!(FreeMap::new(rt.alloc(), most), Err(GrowError::TooLong)));
+}

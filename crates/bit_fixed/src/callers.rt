@@ -7,8 +7,8 @@ use bit_addressing::{BitOrder, BitStore};
 use bit_array::{BitArray, BitViewSized};
 use bit_boxed::BitBox;
 
-/// Two runs of the same commands from the same list reply alike, and leave the same list, whatever the words,
-/// orders and heads, where neither stops.
+/// From one list the same commands have the same replies and leave one list, whatever the words, orders and
+/// heads, where neither run stops.
 pub fn alike<A: Bits, B: Bits>(
     a: &mut A,
     b: &mut B,

@@ -5,11 +5,13 @@
 mod callers;
 mod free_map;
 mod search;
+mod sequence;
 mod table;
 #[cfg(test)]
 mod tests;
 mod wire;
 
 pub use free_map::FreeMap;
+pub use sequence::{Fault, from_bytes, to_bytes};
 pub use table::NumberSet;
 pub use wire::Header;

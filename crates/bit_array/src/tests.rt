@@ -1,4 +1,7 @@
 //! Examples, and each public call once.
+mod orders;
+mod sweeps;
+
 use crate::{BitArray, BitViewSized, BitWords, IntoIter, TryFromBitSliceError, run_mut};
 use bit_addressing::{BitOrder, Lsb0, Msb0};
 use bit_slice::BitSlice;

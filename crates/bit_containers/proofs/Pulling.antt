@@ -10,7 +10,6 @@ use Rattle.bit_addressing.specs.Row.{words_for, number_bits, row_of}
 use Rattle.bit_addressing.specs.Typed.{row}
 use Rattle.bit_addressing.proofs.Rows.{row_append, length-row_of, get_or-row_one}
 use Rattle.bit_containers.specs.BitVec.{Held, Grew}
-use Rattle.bit_slice.specs.Pulls.{GivesFirst}
 use Rattle.bit_addressing.proofs.Binary.{length-number_bits}
 use Rattle.bit_containers.proofs.Growing.{grew_twice}
 

@@ -339,7 +339,7 @@ fn taken<T: BitStore, O: BitOrder>(
     Ok(())
 }
 
-/// The digits of a list by groups of so many bits, the first bit of a group the most significant.
+/// The digits of a list, one for each group of so many bits, where the bit that comes first weighs most.
 fn digits_of<T: BitStore, O: BitOrder>(
     alloc: Global,
     b: &BitBox<T, O>,

@@ -67,7 +67,7 @@ impl<T: BitStore, O: BitOrder> BitVec<T, O> {
         xor_in_vec::<T, O, U, P>(&mut self.words, head, len, other);
     }
 
-    /// Flips every bit of the words, dead bits included. Takes no memory.
+    /// Flips the whole row: the bits of the list, and the dead ones too. Takes no memory.
     #[tactic(auto, using(crate::proofs::Vectors::shown_length, bit_addressing::proofs::lists::Shown::shows_map))]
     pub fn flip_all(&mut self)
         ensures list { self.new.list ≡ map not self.old.list }
@@ -83,7 +83,7 @@ impl<T: BitStore, O: BitOrder> Not for BitVec<T, O> {
 
     ghost not_gives = { λ a b. (b.list ≡ map not a.list) × (b.row ≡ map not a.row) × Stayed a b };
 
-    /// Every bit of the words flipped, dead bits included.
+    /// The whole row flipped: the bits of the list, and the dead ones too.
     fn not(mut self) -> Self {
         self.flip_all();
         self

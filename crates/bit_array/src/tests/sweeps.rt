@@ -1,0 +1,149 @@
+//! Arrays of one to three words, by four orders, beside plain loops over lists.
+use crate::tests::orders::{Scramble, Xor4};
+use crate::{BitArray, BitViewSized};
+use bit_addressing::{BitIdx, BitOrder, BitStore, Lsb0, Msb0};
+use std::alloc::{AllocError, Global};
+use std::process::Abort;
+use std::test::Fail;
+
+/// The bits of the words, one by one.
+fn list_of<A: BitViewSized, O: BitOrder>(
+    alloc: Global,
+    a: &BitArray<A, O>,
+) -> Result<Vec<bool>, AllocError> {
+    let mut bits = Vec::new(alloc);
+    for word in a.as_raw_slice() {
+        for i in 0..A::Store::BITS {
+            bits.push(word.bit(O::at(BitIdx::<A::Store>::new_unchecked(i)).into_inner()))?;
+        }
+    }
+    Ok(bits)
+}
+
+/// Whether every call that reads says that the array has these bits.
+fn shows<A: BitViewSized, O: BitOrder>(a: &BitArray<A, O>, list: &[bool]) -> bool {
+    let mut same = a.len() == list.len() && a.is_empty() == list.is_empty() && a.head() == 0;
+    let (mut ones, mut left) = (0usize, a.iter());
+    for (i, bit) in list.iter().enumerate() {
+        ones = ones.wrapping_add(*bit as usize);
+        same = same && a.get(i) == Some(*bit) && left.next() == Some(*bit);
+        same = same && i < a.len() && a[i] == *bit;
+    }
+    same = same && left.next().is_none() && a.get(list.len()).is_none();
+    same && a.count_ones() == ones
+        && a.first() == list.first().copied()
+        && a.last() == list.last().copied()
+}
+
+/// One bit written, all bits, and all flipped.
+fn written<A: BitViewSized, O: BitOrder>(
+    rt: &(impl Abort + AllocGlobal),
+    a: &BitArray<A, O>,
+) -> Result<(), Fail> {
+    let mut a = a.clone()?;
+    let mut list = list_of(rt.alloc(), &a)?;
+    assert!(rt; shows(&a, &list));
+    for i in 0..a.len() {
+        for bit in [false, true] {
+            if i < a.len() {
+                a.set(i, bit);
+            }
+            if let Some(item) = list.get_mut(i) {
+                *item = bit;
+            }
+            assert!(rt; list_of(rt.alloc(), &a)? == list);
+        }
+    }
+    assert!(rt; shows(&a, &list));
+    a.fill(false);
+    assert!(rt; a.count_ones() == 0);
+    a.flip_all();
+    assert!(rt; a.count_ones() == a.len());
+    Ok(())
+}
+
+/// Each range of at most five bits copied to each place.
+fn moved<A: BitViewSized, O: BitOrder>(
+    rt: &(impl Abort + AllocGlobal),
+    a: &BitArray<A, O>,
+) -> Result<(), Fail> {
+    let before = list_of(rt.alloc(), a)?;
+    let len = a.len();
+    for from in 0..len {
+        for count in 0..6.min(len - from + 1) {
+            for dest in 0..len - count + 1 {
+                let mut a = a.clone()?;
+                assert!(rt; from + count <= a.len() && dest + count <= a.len());
+                a.copy_within(from..from + count, dest);
+                let after = list_of(rt.alloc(), &a)?;
+                assert!(rt; is_moved(&before, &after, from, count, dest));
+            }
+        }
+    }
+    Ok(())
+}
+
+/// Whether `after` is `before` with the `count` items from `from` on at the places from `dest` on.
+fn is_moved(before: &[bool], after: &[bool], from: usize, count: usize, dest: usize) -> bool {
+    let mut same = before.len() == after.len();
+    for (j, bit) in after.iter().enumerate() {
+        let wanted = if dest <= j && j - dest < count {
+            from.checked_add(j - dest).and_then(|k| before.get(k))
+        } else {
+            before.get(j)
+        };
+        same = same && wanted == Some(bit);
+    }
+    same
+}
+
+/// The operators, item by item.
+fn combined<A: BitViewSized, O: BitOrder>(
+    rt: &(impl Abort + AllocGlobal),
+    a: &BitArray<A, O>,
+    b: &BitArray<A, O>,
+) -> Result<(), Fail> {
+    let both = list_of(rt.alloc(), &(a.clone()? & b.clone()?))?;
+    let some = list_of(rt.alloc(), &(a.clone()? | b.clone()?))?;
+    let one = list_of(rt.alloc(), &(a.clone()? ^ b.clone()?))?;
+    let none = list_of(rt.alloc(), &!a.clone()?)?;
+    for i in 0..a.len() {
+        let (x, y) = (a.get(i) == Some(true), b.get(i) == Some(true));
+        assert!(rt; both.get(i).copied() == Some(x && y));
+        assert!(rt; some.get(i).copied() == Some(x || y));
+        assert!(rt; one.get(i).copied() == Some(x != y));
+        assert!(rt; none.get(i).copied() == Some(!x));
+    }
+    Ok(())
+}
+
+/// All of it, over two arrays.
+fn every_call<A: BitViewSized, O: BitOrder>(
+    rt: &(impl Abort + AllocGlobal),
+    a: &BitArray<A, O>,
+    b: &BitArray<A, O>,
+) -> Result<(), Fail> {
+    written(rt, a)?;
+    moved(rt, b)?;
+    combined(rt, a, b)
+}
+
+#[test]
+fn each_order(rt: HostRuntime) -> Result<(), Fail> {
+    every_call(
+        &rt,
+        &BitArray::<[u8; 3], Msb0>::new([0xb1, 0x6d, 0x02]),
+        &BitArray::new([0x5a, 0xc3, 0xf0]),
+    )?;
+    every_call(
+        &rt,
+        &BitArray::<[u16; 2], Xor4>::new([0xb16d, 0x02f1]),
+        &BitArray::new([0x5ac3, 0xf00d]),
+    )?;
+    every_call(
+        &rt,
+        &BitArray::<u32, Scramble>::new(0xb16d_02f1),
+        &BitArray::new(0x5ac3_f00d),
+    )?;
+    every_call(&rt, &BitArray::<[u8; 0], Lsb0>::new([]), &BitArray::new([]))
+}

@@ -1,10 +1,12 @@
 //! What the authors of such things rely on, as callers that need no proof of their own.
-ghost use Rattle.std.specs.Prelude.{◌≡◌, ◌≢◌, ◌<◌, ◌↔◌, IfOk, IsTrue, Some, length};
+ghost use Rattle.std.specs.Prelude.{◌≡◌, ◌≢◌, ◌<◌, ◌≤◌, ◌↔◌, IfOk, IsTrue, Some, length};
+ghost use Rattle.bit_addressing.specs.declared.length.TheConstants.{MAX_BITS};
 ghost use Rattle.bit_users.specs.Table.{IsIn, IsPrime};
 ghost use Rattle.bit_users.specs.Wire.{Fits};
 
-use crate::{FreeMap, Header, NumberSet};
-use bit_addressing::GrowError;
+use crate::{Fault, FreeMap, Header, NumberSet, from_bytes, to_bytes};
+use bit_addressing::{BitOrder, BitStore, GrowError, Msb0};
+use bit_containers::BitVec;
 use std::alloc::Global;
 
 /// What is written is read back.
@@ -52,4 +54,18 @@ pub fn given_back(frames: &mut FreeMap, count: usize) -> Option<usize>
     let first = frames.take_run(count)?;
     frames.give_back(first, count);
     Some(first)
+}
+
+/// A list that was written as bytes is read back.
+pub fn written_and_read<T: BitStore, O: BitOrder>(
+    alloc: Global,
+    bits: &BitVec<T, O>,
+) -> Result<BitVec<u8, Msb0>, Fault>
+    requires { length bits.now.list ≤ MAX_BITS }
+    ensures { IfOk result (λ read. read.list ≡ bits.now.list) }
+{
+    match to_bytes(alloc, bits) {
+        Ok(bytes) => from_bytes(alloc, &bytes),
+        Err(_) => Err(Fault::OutOfMemory),
+    }
 }

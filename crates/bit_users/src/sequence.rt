@@ -1,6 +1,7 @@
 //! A list of truth values as bytes, and back.
-ghost use Rattle.std.specs.Prelude.{◌≡◌, IfOk, IfErr, Err};
-ghost use Rattle.bit_users.specs.Sequence.{bytes_for, IsSequence};
+ghost use Rattle.std.specs.Prelude.{◌≡◌, ◌≤◌, Bool, List, Err, IfOk, length};
+ghost use Rattle.bit_addressing.specs.declared.length.TheConstants.{MAX_BITS};
+ghost use Rattle.bit_users.specs.Sequence.{AreBytesOf};
 ghost use Rattle.bit_users.specs.declared.sequence.Fault.TheVariants as faults;
 
 use bit_addressing::{BitOrder, BitStore, GrowError, MAX_BITS, Msb0, elts, find_bit};
@@ -11,8 +12,8 @@ use std::alloc::Global;
 /// Why bytes are not read as a list.
 #[derive(Clone, Copy, PartialEq, Eq, Debug)]
 pub enum Fault {
-    /// They don't stand for a list: they are too few for a length, the length is past `MAX_BITS`, they are
-    /// not as many as it takes, or a bit behind the last of the list is set.
+    /// They are the bytes of no list: too few for a length, with a length past `MAX_BITS`, not as many as it
+    /// takes, or with a bit behind the last of the list.
     Broken,
     /// Memory was refused.
     OutOfMemory,
@@ -20,18 +21,23 @@ pub enum Fault {
 
 /// The bytes of a list: its length in eight, and then its bits, eight in a byte. Equal lists have equal
 /// bytes, and no others have, whatever words and heads they stand in. Takes memory.
+///
+/// ```text
+/// let bytes = to_bytes(alloc, &bits)?;
+/// from_bytes(alloc, &bytes)?           // the same list
+/// ```
 pub fn to_bytes<T: BitStore, O: BitOrder>(
     alloc: Global,
     bits: &BitVec<T, O>,
 ) -> Result<Vec<u8>, GrowError>
-    ensures { IfOk result (λ bytes. bytes.items ≡ bytes_for bits.now.list) }
+    ensures { IfOk result (λ bytes. AreBytesOf bits.now.list bytes.items) }
 {
     let mut copy = BitVec::<u8, Msb0>::new(alloc);
     copy.extend_from_bitslice(bits.as_bitslice())?;
     let words = copy.into_vec();
-    let length = (bits.len() as u64).to_le_bytes();
+    let front = (bits.len() as u64).to_le_bytes();
     let mut bytes = Vec::new(alloc);
-    let Ok(()) = bytes.extend_from_slice(length.as_slice()) else {
+    let Ok(()) = bytes.extend_from_slice(front.as_slice()) else {
         return Err(GrowError::OutOfMemory);
     };
     let Ok(()) = bytes.extend_from_slice(words.as_slice()) else {
@@ -40,19 +46,19 @@ pub fn to_bytes<T: BitStore, O: BitOrder>(
     Ok(bytes)
 }
 
-/// The list that these bytes stand for, as `to_bytes` writes them. They are `Broken` exactly where no list
-/// has them. Takes memory.
+/// The list whose bytes these are. They are `Broken` exactly where they are those of no list of at most
+/// `MAX_BITS` bits. Takes memory.
 pub fn from_bytes(alloc: Global, bytes: &[u8]) -> Result<BitVec<u8, Msb0>, Fault>
-    ensures read { IfOk result (λ bits. bytes.now ≡ bytes_for bits.list) }
-    ensures broken { result ≡ Err faults.Broken → IsSequence bytes.now → ⊥ }
+    ensures read { IfOk result (λ bits. AreBytesOf bits.list bytes.now) }
+    ensures list { IfOk result (λ read. (bits : List Bool) → length bits ≤ MAX_BITS → AreBytesOf bits bytes.now → read.list ≡ bits) }
+    ensures broken { result ≡ Err faults.Broken → (bits : List Bool) → length bits ≤ MAX_BITS → AreBytesOf bits bytes.now → ⊥ }
 {
     if bytes.len() < 8 {
         return Err(Fault::Broken);
     }
-    let length = [
-        bytes[0], bytes[1], bytes[2], bytes[3], bytes[4], bytes[5], bytes[6], bytes[7],
-    ];
-    let len = u64::from_le_bytes(length) as usize;
+    let mut front = [0u8; 8];
+    front.copy_from_slice(&bytes[..8]);
+    let len = u64::from_le_bytes(front) as usize;
     let words = &bytes[8..];
     if len > MAX_BITS || words.len() != elts::<u8>(len) {
         return Err(Fault::Broken);

@@ -1,6 +1,8 @@
 //! The users on real data, each call once.
-use crate::{FreeMap, Header, NumberSet};
-use bit_addressing::GrowError;
+use crate::{Fault, FreeMap, Header, NumberSet, from_bytes, to_bytes};
+use bit_addressing::{GrowError, Lsb0, Msb0};
+use bit_containers::BitVec;
+use std::alloc::Global;
 use std::test::Fail;
 
 // A header of a packet with a payload of 95 bytes, sent by UDP from 192.168.0.1 to 192.168.0.199.
@@ -120,4 +122,38 @@ fn too_many(rt: HostRuntime) {
     let most = usize::MAX;
     assert!(rt; matches!(NumberSet::new(rt.alloc(), most), Err(GrowError::TooLong)));
     assert!(rt; matches!(FreeMap::new(rt.alloc(), most), Err(GrowError::TooLong)));
+}
+
+#[test]
+fn lists_as_bytes(rt: HostRuntime) -> Result<(), Fail> {
+    let mut bits = BitVec::<u16, Lsb0>::repeat(rt.alloc(), true, 10)?;
+    bits.set(1, false);
+    let bytes = to_bytes(rt.alloc(), &bits)?;
+    assert_eq!(rt;
+        bytes.as_slice(),
+        [10, 0, 0, 0, 0, 0, 0, 0, 0xbf, 0xc0].as_slice()
+    );
+    let read = from_bytes(rt.alloc(), &bytes)?;
+    assert!(rt; read.eq_bits(bits.as_bitslice()));
+    let empty = to_bytes(rt.alloc(), &BitVec::<u8, Msb0>::new(rt.alloc()))?;
+    assert_eq!(rt; empty.as_slice(), [0; 8].as_slice());
+    Ok(())
+}
+
+#[test]
+fn bytes_of_no_list(rt: HostRuntime) {
+    let few = [10u8, 0, 0, 0, 0, 0, 0];
+    let short = [10u8, 0, 0, 0, 0, 0, 0, 0, 0xbf];
+    let long = [10u8, 0, 0, 0, 0, 0, 0, 0, 0xbf, 0xc0, 0];
+    let stray = [10u8, 0, 0, 0, 0, 0, 0, 0, 0xbf, 0xc1];
+    let most = [0xffu8; 9];
+    assert!(rt; is_broken(rt.alloc(), few.as_slice()));
+    assert!(rt; is_broken(rt.alloc(), short.as_slice()));
+    assert!(rt; is_broken(rt.alloc(), long.as_slice()));
+    assert!(rt; is_broken(rt.alloc(), stray.as_slice()));
+    assert!(rt; is_broken(rt.alloc(), most.as_slice()));
+}
+
+fn is_broken(alloc: Global, bytes: &[u8]) -> bool {
+    matches!(from_bytes(alloc, bytes), Err(Fault::Broken))
 }

@@ -1,5 +1,5 @@
 //! Users of bit containers, each with the one fact that its author relies on: a wire format, a set of
-//! numbers, and an allocator's map of frames.
+//! numbers, an allocator's map of frames, and a list as bytes.
 #![tactic(auto)]
 
 mod callers;

@@ -1,6 +1,8 @@
 //! The texts that are written.
-ghost use Rattle.std.specs.Prelude.{◌≡◌, ℕ, ◌+◌, ◌<◌, ◌^◌, List, ◌∷◌, ◌++◌, OnOk, OnErr, decimal};
+ghost use Rattle.std.specs.Prelude.{◌≡◌, ℕ, ◌/◌, ◌<◌, List, ◌++◌, false, map, OnOk, OnErr, decimal};
+ghost use Rattle.std.specs.Fmt.{digit_glyph};
 ghost use Rattle.bitrun.specs.Script.{reply_text, with_line_feed, Extends};
+ghost use Rattle.bitrun.specs.Words.{hex_digits, words_text};
 
 use bit_containers::{BitStore, Reply};
 use std::alloc::AllocError;
@@ -75,42 +77,50 @@ pub fn append_reply(out: &mut Vec<u8>, reply: Reply) -> Result<(), AllocError>
     }
 }
 
-/// The four bits of a word from a place on, as a hexadecimal digit.
-fn digit_at<T: BitStore>(word: T, place: u8) -> u8
-    requires within { place + 3 < T.BITS }
-    requires short { place + 3 < 2 ^ 8 }
+/// A hexadecimal digit in lower case.
+fn hex_digit(digit: u64) -> u8
+    requires { digit < 16 }
+    ensures { result ≡ digit_glyph false digit }
 {
-    let high = word.bit(place + 3) as usize * 8 + word.bit(place + 2) as usize * 4;
-    let low = word.bit(place + 1) as usize * 2 + word.bit(place) as usize;
-    b"0123456789abcdef"[high + low]
+    if digit < 10 {
+        b'0' + digit as u8
+    } else {
+        b'a' + (digit - 10) as u8
+    }
 }
 
-/// Joins a word's hexadecimal digits, all of them.
+/// Joins a word's hexadecimal digits, all of them; where memory is refused, some may have been joined.
 fn append_word<T: BitStore>(out: &mut Vec<u8>, word: T) -> Result<(), AllocError>
-    ensures { Extends out.old.items out.new.items }
+    ensures ok { OnOk result (out.new.items ≡ out.old.items ++ hex_digits (T.BITS / 4) (T.value word)) }
+    ensures kept { Extends out.old.items out.new.items }
 {
-    for k in (0..T::BITS / 4).rev() {
-        out.push(digit_at(word, 4 * k))?;
+    let number = word.to_u64();
+    let digits = T::BITS / 4;
+    for i in 0..digits {
+        let place = 4 * (digits - 1 - i);
+        out.push(hex_digit((number >> place) % 16))?;
     }
     Ok(())
 }
 
-/// Joins words with a space between them.
+/// Joins words with a space between them; where memory is refused, some may have been joined.
 fn append_row<T: BitStore>(out: &mut Vec<u8>, words: &[T]) -> Result<(), AllocError>
-    ensures { Extends out.old.items out.new.items }
+    ensures ok { OnOk result (out.new.items ≡ out.old.items ++ words_text T.BITS (map T.value words.now)) }
+    ensures kept { Extends out.old.items out.new.items }
 {
-    let mut separator = b"".as_slice();
-    for word in words {
-        out.extend_from_slice(separator)?;
-        append_word(out, *word)?;
-        separator = b" ".as_slice();
+    for i in 0..words.len() {
+        if i > 0 {
+            out.push(b' ')?;
+        }
+        append_word(out, words[i])?;
     }
     Ok(())
 }
 
 /// Joins the line that shows words, or nothing.
 pub fn append_words<T: BitStore>(out: &mut Vec<u8>, words: &[T]) -> Result<(), AllocError>
-    ensures ok { OnOk result ((text : List ℕ) × (out.new.items ≡ out.old.items ++ with_line_feed text)) }
+    ensures words { OnOk result (out.new.items ≡ out.old.items ++ with_line_feed (words_text T.BITS (map T.value words.now))) }
+    ensures line { OnOk result ((text : List ℕ) × (out.new.items ≡ out.old.items ++ with_line_feed text)) }
     ensures err { OnErr result (out.new.items ≡ out.old.items) }
 {
     let start = out.len();

@@ -1,6 +1,7 @@
 //! Records on small inputs, and each call once.
 use crate::Records;
-use bit_containers::{Lsb0, Msb0};
+use bit_containers::{GrowError, Lsb0, Msb0};
+use std::alloc::AllocError;
 use std::test::Fail;
 
 #[test]
@@ -68,4 +69,26 @@ fn equal_words(rt: HostRuntime) -> Result<(), Fail> {
     assert_eq!(rt; left.as_raw_slice(), right.as_raw_slice());
     assert_eq!(rt; records.get(0), others.get(0));
     Ok(())
+}
+
+// Where a request for memory is refused, the records are as they were.
+#[test]
+fn refused(rt: HostRuntime) {
+    let mut records = Records::<u8, Msb0>::new(rt.alloc(), 33).unwrap();
+    for number in [8589934591u64, 5, 0, 4294967296] {
+        assert!(rt; records.width() == 33 && number < 8589934592);
+        let (len, first) = (records.len(), records.get(0));
+        match records.push(number) {
+            Ok(()) => assert_eq!(rt; records.get(len), Some(number)),
+            Err(why) => {
+                assert!(rt; why == GrowError::OutOfMemory && records.len() == len);
+                assert_eq!(rt; records.get(0), first);
+            }
+        }
+        let copied: Result<Records<u8, Msb0>, AllocError> = records.clone();
+        match copied {
+            Ok(copy) => assert!(rt; copy.len() == records.len() && copy.get(0) == records.get(0)),
+            Err(_) => assert!(rt; records.len() > 0 && records.get(0) == Some(8589934591)),
+        }
+    }
 }

@@ -1,5 +1,5 @@
 -- Numbers written in binary one behind the other, and the bytes that they make.
-use Rattle.std.proofs.Common.{zero, suc, ◌≡◌, ℕ, ◌+◌, ◌-◌, ◌*◌, ◌/◌, ◌%◌, ◌^◌, ◌<◌, ◌≤◌, Bool, false, List, [], ◌∷◌, ◌++◌, map, length, get_or, slice_range, refl, sym, ◌∙◌, ap, inl, inr, arith, append_assoc}
+use Rattle.std.proofs.Common.{zero, suc, ◌≡◌, ℕ, ◌+◌, ◌-◌, ◌*◌, ◌/◌, ◌%◌, ◌^◌, ◌<◌, ◌≤◌, Bool, false, List, [], ◌∷◌, ◌++◌, map, length, slice_range, refl, sym, ◌∙◌, ap, inl, inr, arith, append_assoc}
 use Rattle.std.specs.Prelude.{⊤}
 use Rattle.std.proofs.lemmas.Bool.{cases_lt}
 use Rattle.std.proofs.lemmas.List.{append-nil, ext_get_or, length-append, get_or_append_left, get_or-append_right}
@@ -12,7 +12,7 @@ use Rattle.bit_slice.proofs.Writing.{runs_joined}
 use Rattle.bit_addressing.proofs.Binary.{length-binary, get_or-binary}
 use Rattle.bit_addressing.proofs.lists.Sized.{sized_same}
 use Rattle.bit_addressing.proofs.Rows.{length-row_of, row_of_none, row_append, get_or-row_one}
-use Rattle.bit_addressing.proofs.Words.{has_low, has_shr_low, same_word}
+use Rattle.bit_addressing.proofs.Words.{has_low, has_shr_low}
 use Rattle.std.proofs.Math.Pow.{high, low}
 use Rattle.bit_users.specs.declared.wire.Header.{Header}
 use Rattle.bit_users.specs.Wire.{written_fields, bits_of, bytes_of, Fits}
@@ -37,13 +37,6 @@ binary_parted n m x =
           get_or-binary (n + m) x i (omega arith) ∙ ap (has_bit x) back ∙ sym (has_low x m (m - 1 - (i - n)) (omega arith)) ∙ sym (get_or-binary m (x % 2 ^ m) (i - n) (omega arith))
           ∙ sym (get_or-append_right a b n i false la (omega arith))
     ])
-
--- a number of n digits is known from them
-pub same_digits : (n x y : ℕ) → x < 2 ^ n → y < 2 ^ n → binary n x ≡ binary n y → x ≡ y
-same_digits n x y low_x low_y same = same_word n x y low_x low_y
-    (λ p h.
-    let back : n - 1 - (n - 1 - p) ≡ p = omega arith in
-    sym (get_or-binary n x (n - 1 - p) (omega arith) ∙ ap (has_bit x) back) ∙ ap (λ l. get_or l (n - 1 - p) false) same ∙ (get_or-binary n y (n - 1 - p) (omega arith) ∙ ap (has_bit y) back))
 
 -- one byte's digits
 byte_row : (b : ℕ) → row_of (λ w i. w - 1 - i) 8 (b ∷ []) ≡ binary 8 b

@@ -1,7 +1,8 @@
 //! The texts of a list of bits, written many digits at a time, and what a hasher is fed of it.
-ghost use Rattle.std.specs.Prelude.{◌≡◌, ℕ, ◌+◌, ◌*◌, ◌<◌, ◌≤◌, [], ◌∷◌, ◌++◌, length, slice_range};
+ghost use Rattle.std.specs.Prelude.{◌≡◌, ℕ, ◌+◌, ◌*◌, ◌<◌, ◌≤◌, [], ◌∷◌, ◌++◌, length, take, slice_range};
 ghost use Rattle.std.specs.Fmt.{WritesStyledOnOk, digit_glyph};
 ghost use Rattle.std.specs.List.{fold};
+ghost use Rattle.std.specs.Str.{IsAscii};
 ghost use Rattle.bit_addressing.specs.Row.{number_bits, words_for};
 ghost use Rattle.bit_addressing.specs.Text.{list_text, digit_of};
 ghost use Rattle.bit_addressing.specs.Bits.{has_bit};
@@ -13,51 +14,27 @@ use crate::slice::BitSlice;
 use bit_addressing::{BitOrder, BitStore, read_chunk};
 use std::fmt;
 use std::hash::{Hash, Hasher};
-use std::marker::Model;
 
-// Up to 96 ASCII characters that are collected for one call of the writer.
-#[derive(Drop)]
-struct Piece {
-    bytes: [u8; 96],
-    len: usize,
+// How many ASCII characters are collected for one call of the writer.
+const PIECE: usize = 96;
+
+// Puts a character behind the first `at`. The condition: there is room, and it is ASCII.
+fn put(piece: &mut [u8; PIECE], at: usize, byte: u8)
+    requires room { at < PIECE }
+    requires ascii { byte < 128 }
+    ensures text { take (at + 1) piece.new ≡ take at piece.old ++ byte ∷ [] }
+    ensures ascii { IsAscii (take at piece.old) → IsAscii (take (at + 1) piece.new) }
+{
+    piece[at] = byte;
 }
 
-impl Model for Piece {
-    ghost use Rattle.std.specs.Prelude.{ℕ, ◌≤◌, List, length, take};
-    ghost use Rattle.std.specs.Str.{IsAscii};
-
-    ghost Value = { List ℕ };
-
-    ghost view = { λ p. take p.len p.bytes };
-
-    ghost invariant = { λ p. (p.len ≤ length p.bytes) × IsAscii (take p.len p.bytes) };
-}
-
-impl Piece {
-    fn new() -> Self
-        ensures { result ≡ [] }
-    {
-        Piece {
-            bytes: [0; 96],
-            len: 0,
-        }
-    }
-
-    // Joins a character. The condition: there is room, and it is ASCII.
-    fn push(&mut self, byte: u8)
-        requires room { length self.old < 96 }
-        requires ascii { byte < 128 }
-        ensures { self.new ≡ self.old ++ byte ∷ [] }
-    {
-        self.bytes[self.len] = byte;
-        self.len += 1;
-    }
-
-    fn as_str(&self) -> &str
-        ensures { result.now ≡ self.now }
-    {
-        unsafe { std::str::from_utf8_unchecked(&self.bytes[..self.len]) }
-    }
+// The first `n` characters as text.
+fn text_of(piece: &[u8; PIECE], n: usize) -> &str
+    requires within { n ≤ PIECE }
+    requires ascii { IsAscii (take n piece.now) }
+    ensures { result.now ≡ take n piece.now }
+{
+    unsafe { std::str::from_utf8_unchecked(&piece[..n]) }
 }
 
 // The digit of bit `k` of a number.
@@ -81,13 +58,14 @@ fn write_more<T: BitStore, O: BitOrder, W: fmt::Write>(
     ensures { WritesStyledOnOk W.write_str_gives f.old result (spaced (slice_range (list_of view.entry) from (from + n))) f.new }
 {
     let chunk = read_chunk::<T, O>(view.as_raw_slice(), view.head() + from, n);
-    let mut piece = Piece::new();
+    let mut piece = [0; PIECE];
     for k in 0..n {
-        piece.push(b',');
-        piece.push(b' ');
-        piece.push(digit_at(chunk, k));
+        let at = k as usize * 3;
+        put(&mut piece, at, b',');
+        put(&mut piece, at + 1, b' ');
+        put(&mut piece, at + 2, digit_at(chunk, k));
     }
-    f.write_str(piece.as_str())
+    f.write_str(text_of(&piece, n as usize * 3))
 }
 
 /// Writes the list of a view: `[`, its digits joined by `, `, and `]`, 32 bits at each call of the writer.
@@ -148,13 +126,14 @@ fn write_groups<T: BitStore, O: BitOrder, W: fmt::Write>(
     ensures { WritesStyledOnOk W.write_str_gives f.old result (digits_from size upper (words_for size n) (slice_range (list_of view.entry) from (from + n))) f.new }
 {
     let chunk = read_chunk::<T, O>(view.as_raw_slice(), view.head() + from, n);
-    let mut piece = Piece::new();
-    for i in 0..(n + (size - 1)) / size {
+    let digits = (n + (size - 1)) / size;
+    let mut piece = [0; PIECE];
+    for i in 0..digits {
         let first = i * size;
         let last = (first + size).min(n);
-        piece.push(digit_of_bits(chunk, first, last, upper));
+        put(&mut piece, i as usize, digit_of_bits(chunk, first, last, upper));
     }
-    f.write_str(piece.as_str())
+    f.write_str(text_of(&piece, digits as usize))
 }
 
 /// Writes the list of a view as digits between brackets: each stands for the next `size` bits from the front on,

@@ -1,4 +1,4 @@
-use Rattle.std.proofs.Common.{◌≡◌, ◌+◌, ◌*◌, ◌<◌, Bool, List, [], ◌∷◌, ◌++◌, length, min, take, drop, slice_range, sym, ◌∙◌, ap, arith}
+use Rattle.std.proofs.Common.{◌≡◌, ◌+◌, ◌-◌, ◌*◌, ◌/◌, ◌<◌, Bool, List, [], ◌∷◌, ◌++◌, length, min, take, drop, slice_range, sym, ◌∙◌, ap, arith}
 use Rattle.std.proofs.Output.{has_written_styled_of_eq}
 use Rattle.std.specs.Fmt.{digit_glyph}
 use Rattle.bit_addressing.specs.Row.{number_bits, number_of, words_for}
@@ -8,7 +8,7 @@ use Rattle.bit_slice.specs.Texts.{digits_from, number_behind}
 use Rattle.bit_slice.proofs.Writing.{chunk_of_list}
 use Rattle.bit_slice.proofs.Parts.{in_row}
 use Rattle.bit_addressing.proofs.lists.Shown.{length-between}
-use Rattle.bit_slice.proofs.Digits.{digits_more, group_at, group_begins, length-digits, groups_are}
+use Rattle.bit_slice.proofs.Digits.{digits_more, group_at, group_begins, groups_are}
 use Rattle.bit_slice.proofs.texts.write_groups.Goals as goal
 
 pub loop-i-preserved : goal.loop-i-preserved
@@ -28,13 +28,16 @@ loop-i-preserved g c =
     let digit : c.digit_of_bits.result ≡ digit_glyph c.args.upper (number_behind 0 (take s (drop (i * s) bits))) =
     c.digit_of_bits.ensures.value ∙ ap (λ x. digit_glyph c.args.upper (number_behind 0 (slice_range (number_bits x 64) (i * s) c.min-last.result))) chunk
     ∙ ap (λ l. digit_glyph c.args.upper (number_behind 0 l)) (group_at bits (i * s) s c.min-last.result (omega arith) (omega (arith, c.requires.few)) (c.min-last.ensures ∙ ap (min (i * s + s)) (sym all))) in
-    let text : c.push.new.self ≡ digits_from s c.args.upper (i + 1) bits =
-    c.push.ensures ∙ ap (λ t. t ++ c.digit_of_bits.result ∷ []) c.loop-i.invariant.text ∙ ap (λ d. digits_from s c.args.upper i bits ++ d ∷ []) digit ∙ sym (digits_more s c.args.upper i bits) in
-    record { text = text; length_is = ap length text ∙ length-digits s c.args.upper (i + 1) bits }
+    record {
+      text = c.put.ensures.text ∙ ap (λ t. t ++ c.digit_of_bits.result ∷ []) c.loop-i.invariant.text ∙ ap (λ d. digits_from s c.args.upper i bits ++ d ∷ []) digit ∙ sym (digits_more s c.args.upper i bits);
+      ascii = c.put.ensures.ascii c.loop-i.invariant.ascii;
+    }
 
 pub returns : goal.returns
 returns g c flush ok =
     let s = c.args.size in
+    let n = c.args.n in
     let bits : List Bool = slice_range (list_of c.args.view) c.args.from (c.args.from + c.args.n) in
-    let end : c.loop-i.i ≡ words_for s c.args.n = omega (arith, c.loop-i-test.false, c.loop-i.auto.i-end, groups_are s c.args.n c.requires.some) in
-    has_written_styled_of_eq _ _ _ _ _ (c.as_str.ensures ∙ c.loop-i.invariant.text ∙ ap (λ k. digits_from s c.args.upper k bits) end) (c.write_str.ensures.styled flush ok)
+    let all : c.loop-i.i ≡ (n + (s - 1)) / s = omega (arith, c.loop-i-test.false, c.loop-i.auto.i-end) in
+    let end : c.loop-i.i ≡ words_for s n = all ∙ sym (groups_are s n c.requires.some) in
+    has_written_styled_of_eq _ _ _ _ _ (c.text_of.ensures ∙ ap (λ k. take k c.loop-i.piece) (sym all) ∙ c.loop-i.invariant.text ∙ ap (λ k. digits_from s c.args.upper k bits) end) (c.write_str.ensures.styled flush ok)

@@ -1,19 +1,20 @@
-use Rattle.std.proofs.Common.{◌≡◌, ◌+◌, ◌*◌, Bool, List, [], ◌∷◌, ◌++◌, length, slice_range, sym, ◌∙◌, ap, arith}
+use Rattle.std.proofs.Common.{◌≡◌, ◌+◌, ◌*◌, Bool, List, [], ◌∷◌, ◌++◌, length, take, slice_range, subst, sym, ◌∙◌, ap, arith}
 use Rattle.std.proofs.Output.{has_written_styled_of_eq}
+use Rattle.std.specs.Str.{IsAscii}
 use Rattle.bit_addressing.specs.Row.{number_bits, number_of}
 use Rattle.bit_addressing.specs.Typed.{row}
 use Rattle.bit_slice.specs.BitSlice.{list_of}
 use Rattle.bit_slice.specs.Texts.{spaced}
 use Rattle.bit_slice.proofs.Parts.{in_row}
 use Rattle.bit_addressing.proofs.lists.Shown.{length-between}
-use Rattle.bit_addressing.proofs.Binary.{length-number_bits, number_bits_none}
-use Rattle.bit_slice.proofs.Writing.{chunk_of_list, bits_of_number, length-spaced, spaced_more}
+use Rattle.bit_addressing.proofs.Binary.{number_bits_none}
+use Rattle.bit_slice.proofs.Writing.{chunk_of_list, bits_of_number, spaced_more}
 use Rattle.bit_slice.proofs.texts.write_more.Goals as goal
 
 pub loop-k-init : goal.loop-k-init
 loop-k-init g c = record {
-  text = c.new-piece.ensures ∙ ap spaced (sym (number_bits_none c.read_chunk-chunk.result));
-  size = ap length c.new-piece.ensures;
+  text = ap spaced (sym (number_bits_none c.read_chunk-chunk.result));
+  ascii = λ _. omega arith;
 }
 
 pub loop-k-preserved : goal.loop-k-preserved
@@ -21,11 +22,19 @@ loop-k-preserved g c =
     let x = c.read_chunk-chunk.result in
     let k = c.loop-k.k in
     let d = c.digit_at.result in
-    let text : c.push-in-loop-k-2.new.self ≡ spaced (number_bits x (k + 1)) =
-    c.push-in-loop-k-2.ensures ∙ ap (λ t. t ++ d ∷ []) (c.push-in-loop-k.ensures ∙ ap (λ t. t ++ 32 ∷ []) c.push.ensures) ∙ spaced_more x k c.loop-k.piece d c.loop-k.invariant.text c.digit_at.ensures.value in
+    let at = k * 3 in
+    let second : at + 1 + 1 ≡ at + 2 = omega arith in
+    let third : at + 2 + 1 ≡ (k + 1) * 3 = omega arith in
+    let comma = c.put.ensures.text in
+    let space = c.put-in-loop-k.ensures.text in
+    let last = c.put-in-loop-k-2.ensures.text in
+    let text : take ((k + 1) * 3) c.put-in-loop-k-2.new.piece ≡ spaced (number_bits x (k + 1)) =
+    ap (λ n. take n c.put-in-loop-k-2.new.piece) (sym third) ∙ last
+    ∙ ap (λ t. t ++ d ∷ []) (ap (λ n. take n c.put-in-loop-k.new.piece) (sym second) ∙ space ∙ ap (λ t. t ++ 32 ∷ []) comma)
+    ∙ spaced_more x k (take at c.loop-k.piece) d c.loop-k.invariant.text c.digit_at.ensures.value in
     record {
       text = text;
-      size = ap length text ∙ length-spaced (number_bits x (k + 1)) ∙ ap (λ n. 3 * n) (length-number_bits x (k + 1));
+      ascii = subst (λ n. IsAscii (take n c.put-in-loop-k-2.new.piece)) third (c.put-in-loop-k-2.ensures.ascii (subst (λ n. IsAscii (take n c.put-in-loop-k.new.piece)) second (c.put-in-loop-k.ensures.ascii (c.put.ensures.ascii c.loop-k.invariant.ascii))));
     }
 
 pub returns : goal.returns
@@ -42,6 +51,6 @@ returns g c flush ok =
     ∙ ap (λ h. number_of (slice_range bits (h + c.args.from) (h + c.args.from + c.args.n))) c.head.ensures.value
     ∙ ap number_of (chunk_of_list g.T.BitStore g.O.BitOrder v c.args.from c.args.n c.requires.within) in
     has_written_styled_of_eq _ _ _ _ _
-    (c.as_str.ensures ∙ c.loop-k.invariant.text ∙ ap (λ k. spaced (number_bits c.read_chunk-chunk.result k)) end
+    (c.text_of.ensures ∙ ap (λ k. take (k * 3) c.loop-k.piece) (sym end) ∙ c.loop-k.invariant.text ∙ ap (λ k. spaced (number_bits c.read_chunk-chunk.result k)) end
     ∙ ap (λ x. spaced (number_bits x c.args.n)) chunk ∙ ap spaced (bits_of_number run c.args.n size))
     (c.write_str.ensures.styled flush ok)

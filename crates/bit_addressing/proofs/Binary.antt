@@ -1,14 +1,15 @@
 -- Numbers written in binary, the most significant digit first, out of chunks and into them.
-use Rattle.std.proofs.Common.{[], ◌≡◌, ℕ, ◌+◌, ◌-◌, ◌*◌, ◌/◌, ◌^◌, ◌<◌, ◌≤◌, Bool, false, List, length, get_or, slice_range, refl, sym, ◌∙◌, ap, subst, arith}
+use Rattle.std.proofs.Common.{[], ◌≡◌, ℕ, ◌+◌, ◌-◌, ◌*◌, ◌/◌, ◌%◌, ◌^◌, ◌<◌, ◌≤◌, Bool, false, List, ◌++◌, length, get_or, slice_range, refl, sym, ◌∙◌, ap, subst, inl, inr, arith}
+use Rattle.std.proofs.lemmas.Bool.{cases_lt}
 use Rattle.std.proofs.Math.Nat.{div-lt_iff_lt-mul}
 use Rattle.std.proofs.lemmas.Nat.{pow-add}
 use Rattle.std.proofs.Math.Pow.{pow_pos}
-use Rattle.std.proofs.lemmas.List.{ext_get_or}
+use Rattle.std.proofs.lemmas.List.{ext_get_or, length-append, get_or_append_left, get_or-append_right}
 use Rattle.std.proofs.lemmas.List.FromFn.{length-map-range_with_len, get_or-map-range_with_len}
 use Rattle.bit_addressing.specs.Bits.{has_bit}
 use Rattle.bit_addressing.specs.Row.{binary, number_bits, number_of, put}
 use Rattle.bit_addressing.proofs.Chunks.{has_number}
-use Rattle.bit_addressing.proofs.Words.{has_shr_low}
+use Rattle.bit_addressing.proofs.Words.{has_low, has_shr_low}
 use Rattle.bit_addressing.proofs.lists.Put.{put_none}
 
 pub length-number_bits : (x n : ℕ) → length (number_bits x n) ≡ n
@@ -66,3 +67,24 @@ no_digits_of ms at n none = let e : at + n - at ≡ 0 = omega arith in rw (e, no
 pub no_digits : (xs : List Bool) (at n x : ℕ) → n ≡ 0 → xs ≡ put xs at (binary n x)
 unfolding binary
 no_digits xs at n x none = rw none (sym (put_none xs at))
+
+-- the digits of a number are those of its upper part, and then those of its lower one
+pub binary_parted : (n m x : ℕ) → binary (n + m) x ≡ binary n (x / 2 ^ m) ++ binary m (x % 2 ^ m)
+binary_parted n m x =
+    let a : List Bool = binary n (x / 2 ^ m) in
+    let b : List Bool = binary m (x % 2 ^ m) in
+    let la : length a ≡ n = length-binary n (x / 2 ^ m) in
+    let lb : length b ≡ m = length-binary m (x % 2 ^ m) in
+    let lc = length-append a b in
+    let lz = length-binary (n + m) x in
+    ext_get_or false (binary (n + m) x) (a ++ b) (omega arith)
+    (λ i h. elim (cases_lt i n) [
+      | inl l ↦
+          let back : n + m - 1 - i ≡ (n - 1 - i) + m = omega arith in
+          get_or-binary (n + m) x i (omega arith) ∙ ap (has_bit x) back ∙ sym (has_shr_low x m (n - 1 - i)) ∙ sym (get_or-binary n (x / 2 ^ m) i l)
+          ∙ sym (get_or_append_left a b false i (omega arith))
+      | inr l ↦
+          let back : n + m - 1 - i ≡ m - 1 - (i - n) = omega arith in
+          get_or-binary (n + m) x i (omega arith) ∙ ap (has_bit x) back ∙ sym (has_low x m (m - 1 - (i - n)) (omega arith)) ∙ sym (get_or-binary m (x % 2 ^ m) (i - n) (omega arith))
+          ∙ sym (get_or-append_right a b n i false la (omega arith))
+    ])

@@ -1,5 +1,6 @@
 -- Runs of bits as numbers.
-use Rattle.std.proofs.Common.{◌≡◌, ℕ, ◌+◌, ◌-◌, ◌*◌, ◌/◌, ◌%◌, ◌^◌, ◌<◌, ◌≤◌, Bool, true, false, ◌||◌, ◌&&◌, cond, eqb, List, [], ◌∷◌, map, length, get_or, drop, slice_range, refl, sym, ◌∙◌, ap, subst, inl, inr, arith, bit_or, bit_and, lit<}
+use Rattle.std.proofs.Common.{◌≡◌, ℕ, ◌+◌, ◌-◌, ◌*◌, ◌/◌, ◌%◌, ◌^◌, ◌<◌, ◌≤◌, Bool, true, false, ◌&&◌, cond, eqb, List, [], ◌∷◌, map, length, get_or, drop, slice_range, refl, sym, ◌∙◌, ap, subst, inl, inr, arith, bit_or, bit_and, lit<}
+use Rattle.std.proofs.Math.Bool.{and-true, and-false, or-false}
 use Rattle.std.proofs.lemmas.Bool.{cases_lt}
 use Rattle.std.proofs.lemmas.List.{ext_get_or, take_all, get_or_past, get_or-take, get_or-drop, length-take, length-drop}
 use Rattle.std.proofs.lemmas.Nat.{div-add-mod', div-mul-add, mod-mul-add, mul-add-lt}
@@ -14,18 +15,6 @@ use Rattle.bit_addressing.proofs.Words.{has_and, has_or, has_above, has_shr_low,
 use Rattle.bit_addressing.proofs.Rows.{length-row_of, get_or-row_one, word_below}
 use Rattle.bit_addressing.proofs.Typed.{row_read}
 use Rattle.bit_addressing.proofs.lists.Sized.{one_more_word}
-
-and_true : (b : Bool) → (b && true) ≡ b
-and_true true = refl
-and_true false = refl
-
-and_false : (b : Bool) → (b && false) ≡ false
-and_false true = refl
-and_false false = refl
-
-or_false : (b : Bool) → (b || false) ≡ b
-or_false true = refl
-or_false false = refl
 
 one_if : (b : Bool) → eqb (cond b 1 0) 1 ≡ b
 one_if true = refl
@@ -73,11 +62,11 @@ read_done ms at n got x so_far some enough few fits =
     (λ i h. has_and x ((2 ^ 64 - 1) / 2 ^ (64 - n)) i ∙ ap (λ m. has_bit x i && has_bit m i) mask ∙ elim (cases_lt i n) [
       | inl l ↦
           let one : has_bit (2 ^ n - 1) i ≡ true = ap (λ m. eqb m 1) (bit_at_ones n i l) in
-          rw one (and_true (has_bit x i) ∙ so_far.shown i (omega arith) h
+          rw one (and-true (has_bit x i) ∙ so_far.shown i (omega arith) h
           ∙ sym (get_or-take (at + n - at) (drop at ms) i false (omega arith) ∙ get_or-drop at ms i false))
       | inr l ↦
           let none : has_bit (2 ^ n - 1) i ≡ false = ap (λ m. eqb m 1) (bit_at_ones_above n i l) in
-          rw none (and_false (has_bit x i) ∙ sym (get_or_past (slice_range ms at (at + n)) i false (omega arith)))
+          rw none (and-false (has_bit x i) ∙ sym (get_or_past (slice_range ms at (at + n)) i false (omega arith)))
     ])
 
 module _ {X : Type 0} (value : X → ℕ) (place : ℕ → ℕ → ℕ) (w : ℕ) (positive : 0 < w) (ws : List X) where
@@ -109,7 +98,7 @@ module _ {X : Type 0} (value : X → ℕ) (place : ℕ → ℕ → ℕ) (w : ℕ
   pub read_next : (at k got x y : ℕ) (word : X) → IsRead (row_of place w (map value ws)) at got x → at + got ≡ k * w → got < 64 → k < length ws → word ≡ get_or ws k word → y ≡ number_of (row_of place w (value word ∷ [])) → IsRead (row_of place w (map value ws)) at (got + w) (bit_or x (y * 2 ^ got % 2 ^ 64))
   read_next at k got x y word so_far split low here read is = record {
     shown = λ i h q. has_or x (y * 2 ^ got % 2 ^ 64) i ∙ elim (cases_lt i got) [
-      | inl l ↦ rw (has_shl_low 64 y got i l low) (or_false (has_bit x i) ∙ so_far.shown i l q)
+      | inl l ↦ rw (has_shl_low 64 y got i l low) (or-false (has_bit x i) ∙ so_far.shown i l q)
       | inr l ↦
           let next : k * w + (i - got) ≡ at + i = omega arith in
           rw (so_far.clear i l, has_shl_high 64 y got i l q) (word_shown k (i - got) y word here (omega arith) read is ∙ ap (λ n. get_or (row_of place w (map value ws)) n false) next)

@@ -1,5 +1,6 @@
 -- Words of 64 bits packed out of narrower ones.
-use Rattle.std.proofs.Common.{◌≡◌, ℕ, ◌+◌, ◌-◌, ◌*◌, ◌/◌, ◌%◌, ◌^◌, ◌<◌, ◌≤◌, Bool, true, false, ◌||◌, List, [], ◌∷◌, map, length, get_or, slice_range, refl, sym, ◌∙◌, ap, inl, inr, arith, bit_or}
+use Rattle.std.proofs.Common.{◌≡◌, ℕ, ◌+◌, ◌-◌, ◌*◌, ◌/◌, ◌%◌, ◌^◌, ◌<◌, ◌≤◌, Bool, false, List, [], ◌∷◌, map, length, get_or, slice_range, refl, sym, ◌∙◌, ap, inl, inr, arith, bit_or}
+use Rattle.std.proofs.Math.Bool.{or-false}
 use Rattle.std.proofs.lemmas.Bool.{cases_lt}
 use Rattle.std.proofs.lemmas.List.{ext_get_or}
 use Rattle.std.proofs.lemmas.Nat.{div-add-mod'}
@@ -12,10 +13,6 @@ use Rattle.bit_addressing.proofs.Runs.{mul_mono}
 use Rattle.bit_addressing.proofs.lists.Sized.{one_more_word}
 use Rattle.bit_addressing.proofs.Wholes.{bit_is}
 use Rattle.bit_addressing.proofs.Words.{has_none, has_or, has_shl_low, has_shl_high}
-
-or_false : (b : Bool) → (b || false) ≡ b
-or_false true = refl
-or_false false = refl
 
 -- the words of 64 bits
 pub pack_fills : (w : ℕ) → IsWidth w → 64 / w * w ≡ 64
@@ -66,7 +63,7 @@ module _ {X : Type 0} (value : X → ℕ) (w : ℕ) (positive : 0 < w) (ws : Lis
         shown = λ i h q. has_or x (y * 2 ^ back % 2 ^ 64) (63 - i) ∙ elim (cases_lt i got) [
           | inl l ↦
               let none : has_bit (y * 2 ^ back % 2 ^ 64) (63 - i) ≡ false = has_shl_high 64 y back (63 - i) (omega arith) (omega arith) ∙ high (63 - i - back) (omega arith) in
-              rw none (or_false (has_bit x (63 - i)) ∙ so_far.shown i l q)
+              rw none (or-false (has_bit x (63 - i)) ∙ so_far.shown i l q)
           | inr l ↦
               let next : k * w + (i - got) ≡ at + i = omega arith in
               let spot : 63 - i - back ≡ w - 1 - (i - got) = omega arith in

@@ -1,9 +1,8 @@
 -- A word reversed by steps, each of which makes the bits of pairs of places change places.
 use Rattle.std.proofs.Common.{◌≡◌, ℕ, ◌+◌, ◌-◌, ◌*◌, ◌/◌, ◌%◌, ◌^◌, ◌<◌, ◌≤◌, Bool, true, false, not, ◌&&◌, ◌||◌, if◌then◌else◌, eqb, leb, ltb, List, [], ◌∷◌, refl, ◌∙◌, ap, subst, inl, inr, bit_and, bit_or}
 use Rattle.std.proofs.lemmas.Bool.{cases_lt, ltb-true, leb-true, eqb-true, le-ltb}
-use Rattle.std.proofs.lemmas.Bool.Decides.{Decides-below_and}
 use Rattle.bit_addressing.specs.Bits.{has_bit}
-use Rattle.bit_addressing.specs.Order.{all_below}
+use Rattle.bit_addressing.specs.Order.{all_below, below_tells}
 use Rattle.bit_addressing.proofs.Words.{has_and, has_or, has_shr_low, has_shl_low, has_shl_high}
 
 -- how far apart the places of a pair are, and the lower places of the pairs
@@ -95,9 +94,6 @@ all_steps w [] x p h = refl
 all_steps w (s ∷ steps) x p h =
     let t = both_true (paired w s (origin steps p)) (all_paired w steps p) h in
     all_steps w steps (swapped w s x) p t.1 ∙ one_step w s x (origin steps p) (has_bit s.lower (origin steps p)) refl t.0
-
-below_tells : (p : ℕ → Bool) (n : ℕ) → all_below p n ≡ true → (k : ℕ) → k < n → p k ≡ true
-below_tells p n = (Decides-below_and p (λ k. p k ≡ true) (all_below p) (λ k. (λ e. e, λ e. e)) refl (λ _. refl) n).0
 
 -- steps that pass the test reverse each word
 pub reversed_by : (w : ℕ) (steps : List Swap) (x : ℕ) → reverses w steps ≡ true → (p : ℕ) → p < w → has_bit (swapped_by w steps x) p ≡ has_bit x (w - 1 - p)

@@ -52,7 +52,8 @@ behind_word w j k positive h =
 none_times : (w : ℕ) → w * 0 ≡ 0
 none_times w = grind arith
 
-same_lists_none : (xs : List Bool) → length xs ≡ 0 → xs ≡ []
+-- a list with no item
+pub same_lists_none : (xs : List Bool) → length xs ≡ 0 → xs ≡ []
 same_lists_none [] h = refl
 same_lists_none (x ∷ xs) h = cc
 

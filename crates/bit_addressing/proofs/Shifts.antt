@@ -13,12 +13,9 @@ use Rattle.bit_addressing.proofs.lists.Sized.{one_more_word}
 use Rattle.bit_addressing.proofs.Windows.{first_of_two, second_of_two}
 use Rattle.bit_addressing.proofs.Rows.{length-row_of, get_or-row_of, get_or-row_one, row_part}
 use Rattle.bit_addressing.proofs.Moves.{source_below, source_none}
-use Rattle.bit_addressing.proofs.lists.Moved.{length-moved, get_or-moved, get_or-shows}
+use Rattle.bit_addressing.proofs.lists.Moved.{length-moved, get_or-moved, get_or-shows, source_inside}
 
 -- ---- a move is a move of one part, and then of the other
-
-source_in : (s d n j : ℕ) → d ≤ j → j < d + n → source_of s d n j ≡ (s + j) - d
-source_in s d n j h k = grind (arith, nat_tests)
 
 source_out : (s d n j : ℕ) → (j < d) ⊎ (d + n ≤ j) → source_of s d n j ≡ j
 source_out s d n j h = grind (arith, nat_tests)
@@ -28,11 +25,11 @@ source_on : (s d a b j : ℕ) → d ≤ s → source_of s d a (source_of (s + a)
 source_on s d a b j h = elim (cases_lt j d) [
   | inl k ↦ ap (source_of s d a) (source_out (s + a) (d + a) b j (inl (omega arith))) ∙ source_out s d a j (inl k) ∙ sym (source_out s d (a + b) j (inl k))
   | inr k ↦ elim (cases_lt j (d + a)) [
-    | inl l ↦ ap (source_of s d a) (source_out (s + a) (d + a) b j (inl l)) ∙ source_in s d a j k l ∙ sym (source_in s d (a + b) j k (omega arith))
+    | inl l ↦ ap (source_of s d a) (source_out (s + a) (d + a) b j (inl l)) ∙ source_inside s d a j k l ∙ sym (source_inside s d (a + b) j k (omega arith))
     | inr l ↦ elim (cases_lt j (d + a + b)) [
       | inl m ↦
           let same : (s + a + j) - (d + a) ≡ (s + j) - d = omega arith in
-          ap (source_of s d a) (source_in (s + a) (d + a) b j l m) ∙ source_out s d a ((s + a + j) - (d + a)) (inr (omega arith)) ∙ same ∙ sym (source_in s d (a + b) j k (omega arith))
+          ap (source_of s d a) (source_inside (s + a) (d + a) b j l m) ∙ source_out s d a ((s + a + j) - (d + a)) (inr (omega arith)) ∙ same ∙ sym (source_inside s d (a + b) j k (omega arith))
       | inr m ↦ ap (source_of s d a) (source_out (s + a) (d + a) b j (inr m)) ∙ source_out s d a j (inr l) ∙ sym (source_out s d (a + b) j (inr (omega arith)))
     ]
   ]
@@ -43,11 +40,11 @@ source_back : (s d a b j : ℕ) → s ≤ d → source_of (s + a) (d + a) b (sou
 source_back s d a b j h = elim (cases_lt j d) [
   | inl k ↦ ap (source_of (s + a) (d + a) b) (source_out s d a j (inl k)) ∙ source_out (s + a) (d + a) b j (inl (omega arith)) ∙ sym (source_out s d (a + b) j (inl k))
   | inr k ↦ elim (cases_lt j (d + a)) [
-    | inl l ↦ ap (source_of (s + a) (d + a) b) (source_in s d a j k l) ∙ source_out (s + a) (d + a) b ((s + j) - d) (inl (omega arith)) ∙ sym (source_in s d (a + b) j k (omega arith))
+    | inl l ↦ ap (source_of (s + a) (d + a) b) (source_inside s d a j k l) ∙ source_out (s + a) (d + a) b ((s + j) - d) (inl (omega arith)) ∙ sym (source_inside s d (a + b) j k (omega arith))
     | inr l ↦ elim (cases_lt j (d + a + b)) [
       | inl m ↦
           let same : (s + a + j) - (d + a) ≡ (s + j) - d = omega arith in
-          ap (source_of (s + a) (d + a) b) (source_out s d a j (inr l)) ∙ source_in (s + a) (d + a) b j l m ∙ same ∙ sym (source_in s d (a + b) j k (omega arith))
+          ap (source_of (s + a) (d + a) b) (source_out s d a j (inr l)) ∙ source_inside (s + a) (d + a) b j l m ∙ same ∙ sym (source_inside s d (a + b) j k (omega arith))
       | inr m ↦ ap (source_of (s + a) (d + a) b) (source_out s d a j (inr l)) ∙ source_out (s + a) (d + a) b j (inr m) ∙ sym (source_out s d (a + b) j (inr (omega arith)))
     ]
   ]
@@ -106,7 +103,7 @@ put_moved xs s d n from to =
         | inl l ↦
             let at : s + (j - d) ≡ (s + j) - d = omega arith in
             put_inside xs ys d j false (omega arith) k (omega arith) ∙ get_or-shows xs s n (j - d) (omega arith) ∙ ap (λ m. get_or xs m false) at
-            ∙ sym (get_or-moved xs s d n j below ∙ ap (λ m. get_or xs m false) (source_in s d n j k l))
+            ∙ sym (get_or-moved xs s d n j below ∙ ap (λ m. get_or xs m false) (source_inside s d n j k l))
         | inr l ↦ put_behind xs ys d j false (omega arith) (omega arith) ∙ sym (get_or-moved xs s d n j below ∙ ap (λ m. get_or xs m false) (source_out s d n j (inr l)))
       ]
     ])

@@ -1,5 +1,6 @@
 -- The bits of two words one after the other.
-use Rattle.std.proofs.Common.{◌≡◌, ℕ, ◌+◌, ◌-◌, ◌*◌, ◌/◌, ◌%◌, ◌<◌, ◌≤◌, Bool, true, false, ◌||◌, [], ◌∷◌, get_or, refl, sym, ◌∙◌, ap, inl, inr, arith}
+use Rattle.std.proofs.Common.{◌≡◌, ℕ, ◌+◌, ◌-◌, ◌*◌, ◌/◌, ◌%◌, ◌<◌, ◌≤◌, false, ◌||◌, [], ◌∷◌, get_or, sym, ◌∙◌, ap, inl, inr, arith}
+use Rattle.std.proofs.Math.Bool.{or-false}
 use Rattle.std.proofs.lemmas.Bool.{cases_lt}
 use Rattle.std.proofs.lemmas.Nat.{div-mul-add, mod-mul-add}
 use Rattle.bit_addressing.specs.Bits.{has_bit}
@@ -21,10 +22,6 @@ second_of_two place w low high j h k =
     let m : j % w ≡ j - w = ap (λ n. n % w) is ∙ mod-mul-add 1 w (j - w) below in
     ap (λ q. has_bit (get_or (low ∷ high ∷ []) q 0) (place w (j % w))) d ∙ ap (λ r. has_bit high (place w r)) m
 
-or_false : (b : Bool) → (b || false) ≡ b
-or_false true = refl
-or_false false = refl
-
 -- the high places of the first word and the low places of the second, counted from the lowest place
 pub window_up : (w at back low high down up out i : ℕ) → at < w → back ≡ w - at → i < w
     → ((q : ℕ) → q + at < w → has_bit down q ≡ has_bit low (q + at)) → ((q : ℕ) → w ≤ q + at → has_bit down q ≡ false)
@@ -34,7 +31,7 @@ pub window_up : (w at back low high down up out i : ℕ) → at < w → back ≡
 window_up w at back low high down up out i within is h inside past below above both = both i h ∙ elim (cases_lt (at + i) w) [
   | inl k ↦
       let e : i + at ≡ at + i = omega arith in
-      rw (inside i (omega arith), below i (omega arith)) (or_false (has_bit low (i + at)) ∙ ap (has_bit low) e ∙ sym (first_of_two (λ v j. j) w low high (at + i) k))
+      rw (inside i (omega arith), below i (omega arith)) (or-false (has_bit low (i + at)) ∙ ap (has_bit low) e ∙ sym (first_of_two (λ v j. j) w low high (at + i) k))
   | inr k ↦
       let e : i - back ≡ at + i - w = omega arith in
       rw (past i (omega arith), above i (omega arith) h) (ap (has_bit high) e ∙ sym (second_of_two (λ v j. j) w low high (at + i) k (omega arith)))
@@ -49,7 +46,7 @@ pub window_down : (w at back low high up down out i : ℕ) → at < w → back �
 window_down w at back low high up down out i within is h below above inside past both = both (w - 1 - i) (omega arith) ∙ elim (cases_lt (at + i) w) [
   | inl k ↦
       let e : w - 1 - i - at ≡ w - 1 - (at + i) = omega arith in
-      rw (above (w - 1 - i) (omega arith) (omega arith), past (w - 1 - i) (omega arith)) (or_false (has_bit low (w - 1 - i - at)) ∙ ap (has_bit low) e ∙ sym (first_of_two (λ v j. v - 1 - j) w low high (at + i) k))
+      rw (above (w - 1 - i) (omega arith) (omega arith), past (w - 1 - i) (omega arith)) (or-false (has_bit low (w - 1 - i - at)) ∙ ap (has_bit low) e ∙ sym (first_of_two (λ v j. v - 1 - j) w low high (at + i) k))
   | inr k ↦
       let e : w - 1 - i + back ≡ w - 1 - (at + i - w) = omega arith in
       rw (below (w - 1 - i) (omega arith), inside (w - 1 - i) (omega arith)) (ap (has_bit high) e ∙ sym (second_of_two (λ v j. v - 1 - j) w low high (at + i) k (omega arith)))

@@ -34,7 +34,8 @@ apart_at place i j = eqb i j || not (eqb (place i) (place j))
 abbrev pub permutes : ℕ → (ℕ → ℕ) → Bool
 permutes w place = all_below (λ i. ltb (place i) w) w && all_below (λ i. all_below (apart_at place i) w) w
 
-below_tells : (p : ℕ → Bool) (n : ℕ) → all_below p n ≡ true → (k : ℕ) → k < n → p k ≡ true
+-- a test that holds of each number below n
+pub below_tells : (p : ℕ → Bool) (n : ℕ) → all_below p n ≡ true → (k : ℕ) → k < n → p k ≡ true
 below_tells p n = (Decides-below_and p (λ k. p k ≡ true) (all_below p) (λ k. (λ e. e, λ e. e)) refl (λ _. refl) n).0
 
 apart_tells : (place : ℕ → ℕ) (i j : ℕ) → apart_at place i j ≡ true → place i ≡ place j → i ≡ j

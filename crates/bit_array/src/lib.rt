@@ -5,12 +5,10 @@ mod array;
 #[cfg(test)]
 mod callers;
 mod errors;
-mod run;
 mod sized;
 #[cfg(test)]
 mod tests;
 
 pub use array::{BitArray, IntoIter};
 pub use errors::TryFromBitSliceError;
-pub use run::run_mut;
 pub use sized::{BitViewSized, BitWords, OneWord};

@@ -2,7 +2,7 @@
 mod orders;
 mod sweeps;
 
-use crate::{BitArray, BitViewSized, BitWords, IntoIter, TryFromBitSliceError, run_mut};
+use crate::{BitArray, BitViewSized, BitWords, IntoIter, TryFromBitSliceError};
 use bit_addressing::{BitOrder, Lsb0, Msb0};
 use bit_slice::BitSlice;
 use std::cmp::Ordering;
@@ -67,9 +67,6 @@ fn written(rt: HostRuntime) {
     a.as_mut_slice().set(1, false);
     assert_eq!(rt; a.as_slice().count_ones(), 10);
     assert_eq!(rt; a.as_bitslice().count_zeros(), 6);
-    let mut words = [0xff_u8, 0xff];
-    run_mut::<u8, Lsb0>(&mut words, 3, 11).fill(false);
-    assert_eq!(rt; words.as_slice(), [0x07, 0xf8].as_slice());
 }
 
 #[test]

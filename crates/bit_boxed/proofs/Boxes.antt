@@ -15,24 +15,16 @@ use Rattle.bit_addressing.proofs.lists.Shown.{length-run, shows_sized}
 use Rattle.bit_addressing.proofs.Rows.{width_positive}
 use Rattle.bit_addressing.proofs.Shifts.{put_moved}
 use Rattle.bit_addressing.proofs.Typed.{length_row, row_kept}
-use Rattle.bit_slice.proofs.Shown.{shown_filled}
+use Rattle.bit_slice.proofs.Parts.{in_row, shown_length}
 use Rattle.bit_boxed.specs.BitBox.{IsBox}
 
 module _ {X Y : Type 0} (W : store.Ghosts X) (P : order.Ghosts Y) where
-  -- the list stands in the row
-  pub shown : (ws : List X) (head len : ℕ) → head + len ≤ W.BITS * length ws → head + len ≤ length (row W P ws)
-  shown ws head len fits = rw (length_row W.value P.place W.BITS ws) fits
-
-  -- as many bits are shown as the length says
-  pub shown_length : (ws : List X) (head len : ℕ) → head + len ≤ W.BITS * length ws → length (slice_range (row W P ws) head (head + len)) ≡ len
-  shown_length ws head len fits = length-run (row W P ws) head len (shown ws head len fits)
-
   -- other words, as many, are a box with the same head and length
   pub refilled : {size : ℕ} (old new : List X) (head len : ℕ) → length new ≡ length old → IsBox W.BITS (length old) head len size → IsBox W.BITS (length new) head len (length (slice_range (row W P new) head (head + len)))
   refilled old new head len same b =
       let fits : head + len ≤ W.BITS * length new = rw same b.fits in
       let few : W.BITS * length new ≤ MAX_BITS + 2 * W.BITS = rw same b.few in
-      record { head_below = b.head_below; len_small = b.len_small; fits = fits; few = few; shows = shown_length new head len fits }
+      record { head_below = b.head_below; len_small = b.len_small; fits = fits; few = few; shows = shown_length W P new head len fits }
 
   -- words that are exactly as many as it takes are a box
   pub exactly : (ws : List X) (head len : ℕ) → IsWidth W.BITS → head < W.BITS → len ≤ MAX_BITS → length ws ≡ words_for W.BITS (head + len) → IsBox W.BITS (length ws) head len (length (slice_range (row W P ws) head (head + len)))
@@ -40,7 +32,7 @@ module _ {X Y : Type 0} (W : store.Ghosts X) (P : order.Ghosts Y) where
       let positive = width_positive W.BITS width in
       let r = (room W.BITS (head + len) positive).0 in
       let fits : head + len ≤ W.BITS * length ws = subst (λ n. head + len ≤ W.BITS * n) (sym count) r in
-      record { head_below = low; len_small = small; fits = fits; few = few_words W.BITS (length ws) head len MAX_BITS positive low small count; shows = shown_length ws head len fits }
+      record { head_below = low; len_small = small; fits = fits; few = few_words W.BITS (length ws) head len MAX_BITS positive low small count; shows = shown_length W P ws head len fits }
 
   -- the visible words are there
   pub visible : {size : ℕ} (ws : List X) (head len : ℕ) → IsWidth W.BITS → IsBox W.BITS (length ws) head len size → words_for W.BITS (head + len) ≤ length ws
@@ -52,13 +44,7 @@ module _ {X Y : Type 0} (W : store.Ghosts X) (P : order.Ghosts Y) where
       let positive = width_positive W.BITS width in
       let n = words_for W.BITS (head + len) in
       ap (λ r. slice_range r head (head + len)) (row_kept W.value P.place W.BITS ws (head + len) n positive refl (visible ws head len width b))
-      ∙ shows_sized W.BITS (row W P ws) (head + len) head (head + len) positive (omega arith) (shown ws head len b.fits) (omega arith)
-
--- what stands where a run was moved to
-pub moved_lands : (xs : List Bool) (s d n : ℕ) → s + n ≤ length xs → d + n ≤ length xs → slice_range (moved xs s d n) d (d + n) ≡ slice_range xs s (s + n)
-moved_lands xs s d n from to =
-    let ys : List Bool = slice_range xs s (s + n) in
-    ap (λ l. slice_range l d (d + n)) (sym (put_moved xs s d n from to)) ∙ shown_filled xs ys d n (sym (length-run xs s n from)) to
+      ∙ shows_sized W.BITS (row W P ws) (head + len) head (head + len) positive (omega arith) (in_row W P ws (head + len) b.fits) (omega arith)
 
 -- bits that are put before words of zero
 pub put_blank : (w : ℕ) (xs ys : List Bool) (n : ℕ) → 0 < w → length xs ≡ 0 → length ys ≡ n → put (sized w xs n) 0 ys ≡ sized w ys n

@@ -239,7 +239,8 @@ impl<T: BitStore, O: BitOrder> BitBox<T, O> {
 
     /// The bits that an iterator gives before its first None, from head 0 on: the words are canonical. It pulls
     /// nothing after that None. It answers `TooLong` at the first bit with which the length would pass `MAX_BITS`,
-    /// and `OutOfMemory` only where there is a bit; then it pulls no more. What was pulled is gone.
+    /// and `OutOfMemory` only where there is a bit, and no more than `MAX_BITS` were pulled; then it pulls no more.
+    /// What was pulled is gone.
     pub fn from_bits<I: IntoIterator<Item = bool>>(
         alloc: Global,
         iter: I,
@@ -249,7 +250,7 @@ impl<T: BitStore, O: BitOrder> BitBox<T, O> {
         ensures runs { IfOk result (λ b. RunsThrough I.into_iter_gives I.IntoIter.next_gives iter (λ bits. b.list ≡ bits)) }
         ensures clean { IfOk result (λ b. IsClean T.BITS b) }
         ensures too_long { result ≡ Err GrowError.TooLong → GivesFirst I.into_iter_gives I.IntoIter.next_gives iter (λ bits. MAX_BITS < length bits) }
-        ensures memory { result ≡ Err GrowError.OutOfMemory → GivesFirst I.into_iter_gives I.IntoIter.next_gives iter (λ bits. 0 < length bits) }
+        ensures memory { result ≡ Err GrowError.OutOfMemory → GivesFirst I.into_iter_gives I.IntoIter.next_gives iter (λ bits. (0 < length bits) × (length bits ≤ MAX_BITS)) }
     {
         let mut words = Vec::new(alloc);
         let mut len = 0;
@@ -277,7 +278,7 @@ impl<T: BitStore, O: BitOrder> BitBox<T, O> {
 
     /// Makes the head 0: the list moves to the beginning of the words, by one counted move. The words stay as
     /// many. Takes no memory.
-    #[tactic(auto, using(crate::proofs::Boxes::shown_length))]
+    #[tactic(auto, using(bit_slice::proofs::Parts::shown_length))]
     pub fn force_align(&mut self)
         ensures head { self.new.head ≡ 0 }
         ensures list { self.new.list ≡ self.old.list }
@@ -289,7 +290,7 @@ impl<T: BitStore, O: BitOrder> BitBox<T, O> {
     }
 
     /// Makes every dead bit of all the words `bit`, and changes no bit of the list. Takes no memory.
-    #[tactic(auto, using(crate::proofs::Boxes::shown_length))]
+    #[tactic(auto, using(bit_slice::proofs::Parts::shown_length))]
     pub fn fill_uninitialized(&mut self, bit: bool)
         ensures list { self.new.list ≡ self.old.list }
         ensures row { self.new.row ≡ filled self.old.row self.old.head (length self.old.list) bit }

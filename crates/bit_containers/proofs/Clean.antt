@@ -13,7 +13,7 @@ use Rattle.bit_addressing.proofs.lists.Shown.{sized_joined, length-run, shows_si
 use Rattle.bit_addressing.proofs.lists.Put.{put_one, length-put}
 use Rattle.bit_addressing.proofs.lists.Moved.{length-moved, get_or-moved, inserted}
 use Rattle.bit_addressing.proofs.Shifts.{put_moved}
-use Rattle.bit_slice.proofs.Shown.{put_all, shown_filled}
+use Rattle.bit_slice.proofs.Shown.{put_all}
 use Rattle.bit_addressing.proofs.Rows.{width_positive}
 use Rattle.bit_containers.specs.BitVec.{Held}
 use Rattle.bit_containers.specs.BitVec.{IsClean}
@@ -174,12 +174,6 @@ clean_aligned w old new head list row clean =
 pub clean_all : (w n : ℕ) (bits list : List Bool) → 0 < w → length bits ≡ w * n → list ≡ bits → bits ≡ sized w list (length list)
 clean_all w n bits list positive size is =
     sym (sized_same w bits (length bits) (size ∙ ap (λ m. w * m) (words_for_all w n positive ∙ ap (words_for w) (sym size)))) ∙ ap (λ l. sized w l (length l)) (sym is)
-
--- what stands where a run was moved to
-pub moved_lands : (xs : List Bool) (s d n : ℕ) → s + n ≤ length xs → d + n ≤ length xs → slice_range (moved xs s d n) d (d + n) ≡ slice_range xs s (s + n)
-moved_lands xs s d n from to =
-    let ys : List Bool = slice_range xs s (s + n) in
-    ap (λ l. slice_range l d (d + n)) (sym (put_moved xs s d n from to)) ∙ shown_filled xs ys d n (sym (length-run xs s n from)) to
 
 -- the words of a clean vector are those for its list
 pub clean_words : {X Y : Type 0} (W : store.Ghosts X) (P : order.Ghosts Y) (v : Held X) (items : List X) → IsWidth W.BITS → items ≡ words_from W P v.row → IsClean W.BITS v → items ≡ words_for_list W P v.list

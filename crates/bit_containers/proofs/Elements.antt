@@ -1,5 +1,5 @@
 -- Vectors made of words that are there.
-use Rattle.std.proofs.Common.{◌≡◌, ℕ, zero, suc, ◌+◌, ◌*◌, ◌<◌, ◌≤◌, List, [], ◌∷◌, ◌++◌, length, replicate, drop, set, slice_range, Bool, true, false, not, map, refl, ap, ◌∙◌, subst, sym, arith}
+use Rattle.std.proofs.Common.{◌≡◌, ℕ, zero, suc, ◌+◌, ◌*◌, ◌<◌, ◌≤◌, List, [], ◌∷◌, ◌++◌, length, replicate, drop, set, slice_range, refl, ap, ◌∙◌, subst, sym, arith}
 use Rattle.bit_addressing.specs.Bits.{IsWidth}
 use Rattle.bit_addressing.specs.declared.store.BitStore as store
 use Rattle.bit_addressing.specs.declared.order.BitOrder as order
@@ -11,7 +11,7 @@ use Rattle.bit_addressing.proofs.lists.Sized.{room}
 use Rattle.bit_addressing.proofs.lists.Shown.{shows_sized}
 use Rattle.bit_addressing.proofs.Typed.{length_row}
 use Rattle.bit_containers.specs.BitVec.{IsVector}
-use Rattle.bit_containers.proofs.Vectors.{shown_length}
+use Rattle.bit_slice.proofs.Parts.{shown_length}
 
 -- words that are exactly as many as it takes are a vector
 pub exactly : {X Y : Type 0} (W : store.Ghosts X) (P : order.Ghosts Y) (ws : List X) (head len : ℕ) → IsWidth W.BITS → head < W.BITS → len ≤ MAX_BITS → length ws ≡ words_for W.BITS (head + len) → IsVector W.BITS (length ws) head len (length (slice_range (row W P ws) head (head + len)))
@@ -36,12 +36,3 @@ pub set_one_more : {X : Type 0} (ws : List X) (k : ℕ) (word : X) → k < lengt
 set_one_more ws k word h =
     let next : suc k ≡ k + 1 = omega arith in
     set_next ws k word h ∙ ap (λ n. replicate n word ++ drop n ws) next
-
-not_twice : (b : Bool) → not (not b) ≡ b
-not_twice true = refl
-not_twice false = refl
-
--- bits flipped twice are as before
-pub flipped_twice : (bits : List Bool) → map not (map not bits) ≡ bits
-flipped_twice [] = refl
-flipped_twice (b ∷ bits) = rw (not_twice b, flipped_twice bits) refl

@@ -12,7 +12,11 @@ use Rattle.bit_addressing.proofs.lists.Sized.{room, words_for_mono, words_for_le
 use Rattle.bit_addressing.proofs.lists.Put.{length-put, put_joined, put_none}
 use Rattle.bit_addressing.proofs.lists.Shown.{length-run, shown_part, shows_sized, grown_shows}
 use Rattle.bit_addressing.proofs.Shifts.{put_moved}
-use Rattle.bit_containers.specs.BitVec.{Held, Grew}
+use Rattle.std.proofs.Common.{Result, Err, ◌≢◌}
+use Rattle.bit_addressing.specs.declared.errors.GrowError.{GrowError}
+use Rattle.bit_addressing.specs.declared.errors.GrowError.TheVariants.{TooLong, OutOfMemory}
+use Rattle.bit_addressing.specs.declared.length.TheConstants.{MAX_BITS}
+use Rattle.bit_containers.specs.BitVec.{Held, Grew, RefusesOnly}
 
 -- a part of what is shown moved behind it
 pub part_moved : (w : ℕ) (xs : List Bool) (head len s n : ℕ) → 0 < w → s + n ≤ len → head + len ≤ length xs
@@ -124,3 +128,13 @@ number_bits_next x y n b few change =
       | inl e ↦ rw (e.0, e.1) (sym (get_or-append_right xs (b ∷ []) n n false size (omega arith) ∙ ap (λ k. get_or (b ∷ []) k false) gone))
       | inr e ↦ rw e.0 (sym (get_or_append_left xs (b ∷ []) false i (omega (arith, e.1)) ∙ get_or-map-range_with_len (has_bit x) 0 n i i false (omega (arith, e.1)) (omega arith)))
     ])
+
+one_error : {A : Type 0} (result : Result A GrowError) → result ≡ Err TooLong → result ≢ Err OutOfMemory
+one_error result is other = cc
+
+-- memory is wanting only for a length that a vector may have
+pub wanted_fits : {X A : Type 0} (result : Result A GrowError) (wanted : ℕ) (old new : Held X) → RefusesOnly result wanted old new → result ≡ Err OutOfMemory → wanted ≤ MAX_BITS
+wanted_fits result wanted old new r out = elim (cases_lt MAX_BITS wanted) [
+  | inl past ↦ absurd (one_error result (r.too_long.1 past) out)
+  | inr few ↦ few
+]

@@ -1,9 +1,8 @@
 -- Items pulled out of an iterator, one after another.
-use Rattle.std.proofs.Common.{map, false, ◌≡◌, ℕ, ◌+◌, ◌*◌, ◌<◌, Bool, List, [], ◌∷◌, ◌++◌, length, Option, Some, refl, subst, sym, ◌∙◌, ap, arith, append_assoc}
+use Rattle.std.proofs.Common.{map, false, ◌≡◌, ℕ, ◌+◌, ◌*◌, ◌<◌, Bool, List, [], ◌∷◌, ◌++◌, length, subst, sym, ◌∙◌, ap, arith, append_assoc}
 use Rattle.std.proofs.lemmas.List.{length-append, map-append, ext_get_or}
 use Rattle.std.proofs.lemmas.List.FromFn.{length-map-range_with_len, get_or-map-range_with_len}
 use Rattle.bit_addressing.specs.Bits.{has_bit}
-use Rattle.std.specs.Iterator.{Yields}
 use Rattle.bit_addressing.specs.declared.store.BitStore as store
 use Rattle.bit_addressing.specs.declared.order.BitOrder as order
 use Rattle.bit_addressing.specs.Row.{words_for, number_bits, row_of}
@@ -12,11 +11,6 @@ use Rattle.bit_addressing.proofs.Rows.{row_append, length-row_of, get_or-row_one
 use Rattle.bit_containers.specs.BitVec.{Held, Grew}
 use Rattle.bit_addressing.proofs.Binary.{length-number_bits}
 use Rattle.bit_containers.proofs.Growing.{grew_twice}
-
--- one item more
-pub yields_more : {S A : Type 0} (steps : S → Option A → S → Type 0) (s : S) (items : List A) (t : S) (x : A) (u : S) → Yields steps s items t → steps t (Some x) u → Yields steps s (items ++ x ∷ []) u
-yields_more steps s [] t x u run step = (u, subst (λ j. steps j (Some x) u) (sym run) step, refl)
-yields_more steps s (y ∷ items) t x u run step = (run.0, run.1, yields_more steps run.0 items t x u run.2 step)
 
 -- of the bits that were pulled the last are still in a number
 abbrev pub Gathers : {X : Type 0} → ℕ → Held X → Held X → ℕ → ℕ → List Bool → Type 0

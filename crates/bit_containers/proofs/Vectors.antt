@@ -14,6 +14,7 @@ use Rattle.bit_addressing.proofs.lists.Sized.{few_words as few, room}
 use Rattle.bit_addressing.proofs.Rows.{width_positive}
 use Rattle.bit_addressing.proofs.Typed.{length_row}
 use Rattle.bit_addressing.specs.declared.length.TheConstants.{MAX_BITS}
+use Rattle.bit_slice.proofs.Parts.{in_row, shown_length}
 use Rattle.bit_containers.specs.BitVec.{IsVector, bits_in}
 use Rattle.bit_containers.specs.BitVec.{IsKept}
 
@@ -25,7 +26,7 @@ pub in_words : (w n head len size : ℕ) → IsWidth w → IsVector w n head len
 in_words w n head len size width v = v.fits
 
 pub shown : {X Y : Type 0} {size : ℕ} (W : store.Ghosts X) (P : order.Ghosts Y) (ws : List X) (head len : ℕ) → IsWidth W.BITS → IsVector W.BITS (length ws) head len size → head + len ≤ length (row W P ws)
-shown W P ws head len width v = rw (length_row W.value P.place W.BITS ws) v.fits
+shown W P ws head len width v = in_row W P ws (head + len) v.fits
 
 -- a capacity below the words for so many bits has no room for them
 pub no_room : (w words head wanted : ℕ) → 0 < w → 0 < wanted → words < words_for w (head + wanted) → bits_in w words head < wanted
@@ -54,10 +55,6 @@ pub canonical : {X Y : Type 0} {size : ℕ} (W : store.Ghosts X) (P : order.Ghos
 canonical {size} W P old new head len b width v same is none clear =
     subst (λ h. IsCanonical P.place W.BITS (map W.value new) (slice_range (row W P new) h (h + len))) (sym none)
     (canonical_0 W P old new len width (subst (λ h. IsVector W.BITS (length old) h len size) none v) same (is ∙ ap (λ h. filled (row W P old) h len b) none ∙ ap (filled (row W P old) 0 len) clear))
-
--- as many bits are shown as the length says
-pub shown_length : {X Y : Type 0} (W : store.Ghosts X) (P : order.Ghosts Y) (ws : List X) (head len : ℕ) → head + len ≤ W.BITS * length ws → length (slice_range (row W P ws) head (head + len)) ≡ len
-shown_length W P ws head len fits = length-run (row W P ws) head len (rw (length_row W.value P.place W.BITS ws) fits)
 
 -- other words, as many, are a vector with the same head and length
 pub refilled : {X Y : Type 0} {size : ℕ} (W : store.Ghosts X) (P : order.Ghosts Y) (old new : List X) (head len : ℕ) → length new ≡ length old → IsVector W.BITS (length old) head len size → IsVector W.BITS (length new) head len (length (slice_range (row W P new) head (head + len)))

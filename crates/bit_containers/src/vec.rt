@@ -252,7 +252,7 @@ impl<T: BitStore, O: BitOrder> BitVec<T, O> {
 
     /// The bits of a view: its head is kept, its words are copied, and their dead bits are false. Takes
     /// memory where the view has a word, and is refused only then.
-    #[tactic(auto, using(crate::proofs::Vectors::shown_length))]
+    #[tactic(auto, using(bit_slice::proofs::Parts::shown_length))]
     pub fn from_bitslice_headed(alloc: Global, view: BitSlice<'_, T, O>) -> Result<Self, AllocError>
         ensures head { IfOk result (λ v. v.head ≡ head_of view.entry) }
         ensures list { IfOk result (λ v. v.list ≡ list_of view.entry) }
@@ -288,7 +288,7 @@ impl<T: BitStore, O: BitOrder> BitVec<T, O> {
 
     /// Makes the head 0: the list moves to the beginning of the words, by one counted move, and the words
     /// are cut to the visible ones. Takes no memory.
-    #[tactic(auto, using(crate::proofs::Vectors::shown_length))]
+    #[tactic(auto, using(bit_slice::proofs::Parts::shown_length))]
     pub fn force_align(&mut self)
         ensures head { self.new.head ≡ 0 }
         ensures list { self.new.list ≡ self.old.list }
@@ -303,7 +303,7 @@ impl<T: BitStore, O: BitOrder> BitVec<T, O> {
 
     /// Makes every dead bit `bit`, and changes no bit of the list. Takes no memory. Where the head is 0 and
     /// `bit` is false, the words are canonical: those of the list and then false.
-    #[tactic(auto, using(crate::proofs::Vectors::shown_length))]
+    #[tactic(auto, using(bit_slice::proofs::Parts::shown_length))]
     pub fn set_uninitialized(&mut self, bit: bool)
         ensures list { self.new.list ≡ self.old.list }
         ensures row { self.new.row ≡ filled self.old.row self.old.head (length self.old.list) bit }

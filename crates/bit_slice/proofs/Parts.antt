@@ -9,6 +9,7 @@ use Rattle.bit_addressing.specs.declared.order.BitOrder as order
 use Rattle.bit_addressing.specs.Typed.{row}
 use Rattle.bit_addressing.specs.Row.{row_of, words_for}
 use Rattle.bit_addressing.specs.declared.length.TheConstants.{MAX_BITS}
+use Rattle.bit_addressing.proofs.lists.Shown.{length-run}
 use Rattle.bit_addressing.proofs.lists.Sized.{few_words, room, words_for_all, words_for_le}
 use Rattle.bit_addressing.proofs.Rows.{mul_add, width_positive, row_append, row_take, length-row_of}
 use Rattle.bit_addressing.proofs.Typed.{length_row}
@@ -94,3 +95,7 @@ module _ {X Y : Type 0} (W : store.Ghosts X) (P : order.Ghosts Y) where
   -- a place in the words is in their row
   pub in_row : (ws : List X) (n : ℕ) → n ≤ W.BITS * length ws → n ≤ length (row W P ws)
   in_row ws n h = let e = row_size ws in omega arith
+
+  -- as many bits are shown as the length says
+  pub shown_length : (ws : List X) (head len : ℕ) → head + len ≤ W.BITS * length ws → length (slice_range (row W P ws) head (head + len)) ≡ len
+  shown_length ws head len fits = length-run (row W P ws) head len (in_row ws (head + len) fits)

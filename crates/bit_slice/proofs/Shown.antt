@@ -3,9 +3,10 @@ use Rattle.std.proofs.Common.{◌≡◌, ℕ, suc, ◌+◌, ◌-◌, ◌<◌, �
 use Rattle.std.proofs.lemmas.List.{drop_more, take_all, length-set, get_or-take, get_or-drop}
 use Rattle.std.proofs.lemmas.List.Edits.{between_more, swap_is}
 use Rattle.std.proofs.lemmas.List.Sums.{sum_by-cons}
-use Rattle.bit_addressing.specs.Row.{put}
+use Rattle.bit_addressing.specs.Row.{put, moved}
 use Rattle.bit_addressing.proofs.lists.Shown.{shows_put, shows_set}
-use Rattle.bit_addressing.proofs.lists.Shown.{length-between}
+use Rattle.bit_addressing.proofs.lists.Shown.{length-between, length-run}
+use Rattle.bit_addressing.proofs.Shifts.{put_moved}
 use Rattle.bit_addressing.proofs.lists.Put.{length-put}
 
 -- ---- what an iterator has left
@@ -74,3 +75,9 @@ pub put_all : (xs ys : List Bool) (d : ℕ) → d ≡ 0 → length ys ≡ length
 put_all xs ys d z e =
     let in_all : 0 + length ys ≤ length xs = omega (arith, e) in
     ap (λ k. put xs k ys) z ∙ sym (shown_all (put xs 0 ys) (length ys) (e ∙ sym (length-put xs ys 0 in_all))) ∙ shown_filled xs ys 0 (length ys) refl in_all
+
+-- what stands where a run was moved to
+pub moved_lands : (xs : List Bool) (s d n : ℕ) → s + n ≤ length xs → d + n ≤ length xs → slice_range (moved xs s d n) d (d + n) ≡ slice_range xs s (s + n)
+moved_lands xs s d n from to =
+    let ys : List Bool = slice_range xs s (s + n) in
+    ap (λ l. slice_range l d (d + n)) (sym (put_moved xs s d n from to)) ∙ shown_filled xs ys d n (sym (length-run xs s n from)) to

@@ -75,11 +75,6 @@ text_whole (x ∷ ys) d n from upto some is at one more end =
     ∙ ap (λ l. 91 ∷ digit_of x ∷ l) (ap (λ l. l ++ 93 ∷ []) behind)
     ∙ ap (λ l. 91 ∷ l ++ 93 ∷ []) (sym (joined_spaced x ys))
 
--- a list of no bits
-pub no_bits : (xs : List Bool) → length xs ≡ 0 → xs ≡ []
-no_bits [] e = refl
-no_bits (x ∷ xs) e = let size : length (x ∷ xs) ≡ suc (length xs) = refl in absurd (omega arith)
-
 -- a run of a view's list stands in the row of its words
 module _ {X Y : Type 0} (W : store.Ghosts X) (P : order.Ghosts Y) (v : BitSlice X Y W P) where
   pub chunk_of_list : (from n : ℕ) → from + n ≤ v.len → slice_range (row W P v.words.now) (v.head + from) (v.head + from + n) ≡ slice_range (list_of v) from (from + n)

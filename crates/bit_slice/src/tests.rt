@@ -8,7 +8,7 @@ ghost use Rattle.bit_slice.specs.BitSlice.{len_of as len_seen};
 ghost use Rattle.bit_slice.specs.BitSliceMut.{head_of, len_of, row_of, list_of, loan_of};
 ghost use Rattle.bit_addressing.specs.declared.length.TheConstants.{MAX_BITS};
 
-use crate::{BitSlice, BitSliceMut, Counted, CountedMut};
+use crate::{BitSlice, BitSliceMut, Counted, CountedMut, run_mut};
 use bit_addressing::{BitIdx, BitOrder, BitPos, BitStore, Lsb0, MAX_BITS, Msb0};
 use std::cmp::Ordering;
 use std::process::Abort;
@@ -96,6 +96,9 @@ fn parts_of_a_word(rt: HostRuntime) -> Result<(), Fail> {
 
 #[test]
 fn writes_to_a_word(rt: HostRuntime) {
+    let mut words = [0xff_u8, 0xff];
+    run_mut::<u8, Lsb0>(&mut words, 3, 11).fill(false);
+    assert_eq!(rt; words.as_slice(), [0x07, 0xf8].as_slice());
     let mut words = [0x1234_u16];
     BitSliceMut::<u16, Msb0>::from_slice_mut(&mut words).set(4, true);
     assert_eq!(rt; words[0], 0x1a34);

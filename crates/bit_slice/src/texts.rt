@@ -131,7 +131,11 @@ fn write_groups<T: BitStore, O: BitOrder, W: fmt::Write>(
     for i in 0..digits {
         let first = i * size;
         let last = (first + size).min(n);
-        put(&mut piece, i as usize, digit_of_bits(chunk, first, last, upper));
+        put(
+            &mut piece,
+            i as usize,
+            digit_of_bits(chunk, first, last, upper),
+        );
     }
     f.write_str(text_of(&piece, digits as usize))
 }

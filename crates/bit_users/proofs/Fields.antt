@@ -9,34 +9,13 @@ use Rattle.bit_addressing.specs.Order.{msb0_lawful}
 use Rattle.bit_addressing.specs.Row.{binary, packed, row_of, sized, words_for, AreWords}
 use Rattle.bit_addressing.proofs.Canon.{packed_row, words_from_row}
 use Rattle.bit_slice.proofs.Writing.{runs_joined}
-use Rattle.bit_addressing.proofs.Binary.{length-binary, get_or-binary}
+use Rattle.bit_addressing.proofs.Binary.{length-binary, get_or-binary, binary_parted}
 use Rattle.bit_addressing.proofs.lists.Sized.{sized_same}
 use Rattle.bit_addressing.proofs.Rows.{length-row_of, row_of_none, row_append, get_or-row_one}
 use Rattle.bit_addressing.proofs.Words.{has_low, has_shr_low}
 use Rattle.std.proofs.Math.Pow.{high, low}
 use Rattle.bit_users.specs.declared.wire.Header.{Header}
 use Rattle.bit_users.specs.Wire.{written_fields, bits_of, bytes_of, Fits}
-
--- the digits of a number are those of its upper part, and then those of its lower one
-pub binary_parted : (n m x : ℕ) → binary (n + m) x ≡ binary n (x / 2 ^ m) ++ binary m (x % 2 ^ m)
-binary_parted n m x =
-    let a : List Bool = binary n (x / 2 ^ m) in
-    let b : List Bool = binary m (x % 2 ^ m) in
-    let la : length a ≡ n = length-binary n (x / 2 ^ m) in
-    let lb : length b ≡ m = length-binary m (x % 2 ^ m) in
-    let lc = length-append a b in
-    let lz = length-binary (n + m) x in
-    ext_get_or false (binary (n + m) x) (a ++ b) (omega arith)
-    (λ i h. elim (cases_lt i n) [
-      | inl l ↦
-          let back : n + m - 1 - i ≡ (n - 1 - i) + m = omega arith in
-          get_or-binary (n + m) x i (omega arith) ∙ ap (has_bit x) back ∙ sym (has_shr_low x m (n - 1 - i)) ∙ sym (get_or-binary n (x / 2 ^ m) i l)
-          ∙ sym (get_or_append_left a b false i (omega arith))
-      | inr l ↦
-          let back : n + m - 1 - i ≡ m - 1 - (i - n) = omega arith in
-          get_or-binary (n + m) x i (omega arith) ∙ ap (has_bit x) back ∙ sym (has_low x m (m - 1 - (i - n)) (omega arith)) ∙ sym (get_or-binary m (x % 2 ^ m) (i - n) (omega arith))
-          ∙ sym (get_or-append_right a b n i false la (omega arith))
-    ])
 
 -- one byte's digits
 byte_row : (b : ℕ) → row_of (λ w i. w - 1 - i) 8 (b ∷ []) ≡ binary 8 b

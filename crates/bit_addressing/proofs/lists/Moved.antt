@@ -42,7 +42,8 @@ shows_moved xs head len s d n from to fits =
 source_before : (s d n j : ℕ) → j < d → source_of s d n j ≡ j
 source_before s d n j h = grind (arith, nat_tests)
 
-source_inside : (s d n j : ℕ) → d ≤ j → j < d + n → source_of s d n j ≡ (s + j) - d
+-- inside the target of a move
+pub source_inside : (s d n j : ℕ) → d ≤ j → j < d + n → source_of s d n j ≡ (s + j) - d
 source_inside s d n j h k = grind (arith, nat_tests)
 
 -- one item is joined, the rest moves up behind it, and the item is written

@@ -10,10 +10,9 @@ ghost use Rattle.bit_slice.specs.Iter.{rest_of as rest_lent};
 ghost use Rattle.bit_slice.specs.Owned.{rest_of, GivesInOrder, GivesInReverse};
 
 use crate::array::BitArray;
-use crate::run::run_mut;
 use crate::sized::{BitViewSized, BitWords};
 use bit_addressing::{BitOrder, BitStore, read_bit};
-use bit_slice::{BitSlice, BitSliceMut, Iter, write_list};
+use bit_slice::{BitSlice, BitSliceMut, Iter, run_mut, write_list};
 use std::alloc::AllocError;
 use std::fmt;
 use std::iter::{DoubleEndedIterator, ExactSizeIterator, FusedIterator, Iterator};

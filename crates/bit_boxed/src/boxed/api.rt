@@ -64,7 +64,7 @@ impl<T: BitStore, O: BitOrder> BitBox<T, O> {
     }
 
     /// Writes the bit at `i`, and no other bit. The condition: `i` is below the length.
-    #[tactic(auto, using(crate::proofs::Boxes::shown_length))]
+    #[tactic(auto, using(bit_slice::proofs::Parts::shown_length))]
     pub fn set(&mut self, i: usize, bit: bool)
         requires { i < length self.old.list }
         ensures list { self.new.list ≡ set self.old.list i bit }
@@ -75,7 +75,7 @@ impl<T: BitStore, O: BitOrder> BitBox<T, O> {
     }
 
     /// Makes every bit of the list `bit`, and changes no dead bit.
-    #[tactic(auto, using(crate::proofs::Boxes::shown_length))]
+    #[tactic(auto, using(bit_slice::proofs::Parts::shown_length))]
     pub fn fill(&mut self, bit: bool)
         ensures list { self.new.list ≡ replicate (length self.old.list) bit }
         ensures row { self.new.row ≡ put self.old.row self.old.head (replicate (length self.old.list) bit) }
@@ -88,7 +88,7 @@ impl<T: BitStore, O: BitOrder> BitBox<T, O> {
     /// Copies the range's bits to the places from `dest` on, as if they were copied out first. No other bit
     /// changes, dead bits included. It is one counted move of the words. The condition: the range lies in the
     /// length, and its bits have room from `dest` on.
-    #[tactic(auto, using(crate::proofs::Boxes::shown_length))]
+    #[tactic(auto, using(bit_slice::proofs::Parts::shown_length))]
     pub fn copy_within<R: RangeExt>(&mut self, range: R, dest: usize)
         requires lies { LiesIn (R.start_of range) (R.end_of range (length self.old.list)) (length self.old.list) }
         requires room { dest + (R.end_of range (length self.old.list) - R.start_of range) ≤ length self.old.list }

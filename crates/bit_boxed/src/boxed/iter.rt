@@ -12,8 +12,7 @@ ghost use Rattle.bit_slice.specs.Owned.{rest_of, GivesInOrder, GivesInReverse};
 
 use crate::boxed::BitBox;
 use bit_addressing::{BitOrder, BitStore, Lsb0};
-use bit_array::run_mut;
-use bit_slice::{BitSlice, BitSliceMut, Iter, write_list};
+use bit_slice::{BitSlice, BitSliceMut, Iter, run_mut, write_list};
 use std::alloc::AllocError;
 use std::fmt;
 use std::iter::{DoubleEndedIterator, ExactSizeIterator, FusedIterator, Iterator};

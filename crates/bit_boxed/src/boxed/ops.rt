@@ -26,7 +26,7 @@ impl<T: BitStore, O: BitOrder> Index<usize> for BitBox<T, O> {
 
 impl<T: BitStore, O: BitOrder> BitBox<T, O> {
     /// Flips every bit of all the words, dead bits included.
-    #[tactic(auto, using(crate::proofs::Boxes::shown_length))]
+    #[tactic(auto, using(bit_slice::proofs::Parts::shown_length))]
     pub fn flip_all(&mut self)
         ensures list { self.new.list ≡ map not self.old.list }
         ensures row { self.new.row ≡ map not self.old.row }
@@ -52,7 +52,7 @@ impl<T: BitStore, O: BitOrder> BitAndAssign for BitBox<T, O> {
     ghost bitand_assign_gives = { λ a b c. (c.list ≡ and_of a.list b.list) × (c.row ≡ put a.row a.head (and_of a.list b.list)) × Stayed a c };
 
     /// Clears each bit that is false in the right side, or that it is too short for. No dead bit changes.
-    #[tactic(auto, using(crate::proofs::Boxes::shown_length))]
+    #[tactic(auto, using(bit_slice::proofs::Parts::shown_length))]
     fn bitand_assign(&mut self, rhs: Self) {
         let (head, len) = (self.head, self.len);
         let other = rhs.as_bitslice();
@@ -76,7 +76,7 @@ impl<T: BitStore, O: BitOrder> BitOrAssign for BitBox<T, O> {
     ghost bitor_assign_gives = { λ a b c. (c.list ≡ or_of a.list b.list) × (c.row ≡ put a.row a.head (or_of a.list b.list)) × Stayed a c };
 
     /// Sets each bit that is true in the right side. No dead bit changes.
-    #[tactic(auto, using(crate::proofs::Boxes::shown_length))]
+    #[tactic(auto, using(bit_slice::proofs::Parts::shown_length))]
     fn bitor_assign(&mut self, rhs: Self) {
         let (head, len) = (self.head, self.len);
         let other = rhs.as_bitslice();
@@ -100,7 +100,7 @@ impl<T: BitStore, O: BitOrder> BitXorAssign for BitBox<T, O> {
     ghost bitxor_assign_gives = { λ a b c. (c.list ≡ xor_of a.list b.list) × (c.row ≡ put a.row a.head (xor_of a.list b.list)) × Stayed a c };
 
     /// Flips each bit that is true in the right side. No dead bit changes.
-    #[tactic(auto, using(crate::proofs::Boxes::shown_length))]
+    #[tactic(auto, using(bit_slice::proofs::Parts::shown_length))]
     fn bitxor_assign(&mut self, rhs: Self) {
         let (head, len) = (self.head, self.len);
         let other = rhs.as_bitslice();

@@ -52,7 +52,7 @@ pub fn cut_and_joined<T: BitStore, O: BitOrder>(
 }
 
 /// A vector flipped twice has the same words, dead bits included.
-#[tactic(auto, using(crate::proofs::Elements::flipped_twice))]
+#[tactic(auto, using(bit_addressing::proofs::lists::Shown::flipped_twice))]
 pub fn flipped_twice<T: BitStore, O: BitOrder>(v: BitVec<T, O>) -> Vec<T>
     ensures { result.items ≡ v.words }
 {

@@ -37,7 +37,7 @@ impl<T: BitStore, O: BitOrder> BitVec<T, O> {
     /// Joins a bit at the end. Where the visible words are full a word of zero comes first, and no other
     /// dead bit changes. It answers `TooLong` exactly where the length would pass `MAX_BITS`, and
     /// `OutOfMemory` only where it would pass the capacity. A refusal leaves the vector.
-    #[tactic(auto, using(crate::proofs::Vectors::shown_length))]
+    #[tactic(auto, using(bit_slice::proofs::Parts::shown_length))]
     pub fn push(&mut self, bit: bool) -> Result<(), GrowError>
         ensures list { OnOk result (self.new.list ≡ self.old.list ++ bit ∷ []) }
         ensures row { OnOk result (Grew T.BITS self.old self.new (bit ∷ [])) }
@@ -61,7 +61,7 @@ impl<T: BitStore, O: BitOrder> BitVec<T, O> {
     /// Takes the last bit. None exactly where the vector is empty. A word that is left with no bit of the
     /// vector is dropped, and nothing is written. Takes no memory. The bit can be put back: as many bits as
     /// before fit, with no new memory.
-    #[tactic(auto, using(crate::proofs::Vectors::shown_length))]
+    #[tactic(auto, using(bit_slice::proofs::Parts::shown_length))]
     pub fn pop(&mut self) -> Option<bool>
         ensures answer { MatchOption result (length self.old.list ≡ 0) (λ bit. self.old.list ≡ self.new.list ++ bit ∷ []) }
         ensures value { result ≡ slice_get self.old.list (length self.old.list - 1) }
@@ -84,7 +84,7 @@ impl<T: BitStore, O: BitOrder> BitVec<T, O> {
 
     /// Keeps the first `n` bits, or all where there are no more. The words are cut to the visible ones, and
     /// nothing is written. The capacity stays. Takes no memory.
-    #[tactic(auto, using(crate::proofs::Vectors::shown_length))]
+    #[tactic(auto, using(bit_slice::proofs::Parts::shown_length))]
     pub fn truncate(&mut self, n: usize)
         ensures list { self.new.list ≡ take n self.old.list }
         ensures row { Shrank T.BITS self.old self.new (min n (length self.old.list)) }
@@ -98,7 +98,7 @@ impl<T: BitStore, O: BitOrder> BitVec<T, O> {
     /// Puts a bit before the one at `i`, or at the end where `i` is the length; the rest moves up behind it,
     /// by one counted move. It is refused as `push` is, and a refusal leaves the vector. The condition: `i`
     /// is at most the length. What becomes of dead bits is open.
-    #[tactic(auto, using(crate::proofs::Vectors::shown_length))]
+    #[tactic(auto, using(bit_slice::proofs::Parts::shown_length))]
     pub fn insert(&mut self, i: usize, bit: bool) -> Result<(), GrowError>
         requires { i ≤ length self.old.list }
         ensures list { OnOk result (self.new.list ≡ insert self.old.list i bit) }
@@ -118,7 +118,7 @@ impl<T: BitStore, O: BitOrder> BitVec<T, O> {
 
     /// Takes the bit at `i`; those behind it move down, by one counted move. Takes no memory. The condition: `i` is
     /// below the length. What becomes of dead bits is open.
-    #[tactic(auto, using(crate::proofs::Vectors::shown_length))]
+    #[tactic(auto, using(bit_slice::proofs::Parts::shown_length))]
     pub fn remove(&mut self, i: usize) -> bool
         requires { i < length self.old.list }
         ensures answer { slice_get self.old.list i ≡ Some result }
@@ -138,7 +138,7 @@ impl<T: BitStore, O: BitOrder> BitVec<T, O> {
 
     /// Takes the bit at `i`, and puts the last one in its place. Nothing moves, and no memory is taken. The
     /// condition: `i` is below the length. What becomes of dead bits is open.
-    #[tactic(auto, using(crate::proofs::Vectors::shown_length))]
+    #[tactic(auto, using(bit_slice::proofs::Parts::shown_length))]
     pub fn swap_remove(&mut self, i: usize) -> bool
         requires { i < length self.old.list }
         ensures answer { slice_get self.old.list i ≡ Some result }

@@ -90,7 +90,7 @@ impl<T: BitStore, O: BitOrder> BitVec<T, O> {
     }
 
     // Writes the `n` lowest bits of a number at the indices from `at` on. The condition: they lie in the length.
-    #[tactic(auto, using(crate::proofs::Vectors::shown_length))]
+    #[tactic(auto, using(bit_slice::proofs::Parts::shown_length))]
     fn write_number(&mut self, at: usize, n: u8, number: u64)
         requires few { n ≤ 64 }
         requires within { at + n ≤ length self.old.list }

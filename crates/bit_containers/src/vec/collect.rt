@@ -22,8 +22,9 @@ pub(crate) fn with_next(number: u64, got: u8, bit: bool) -> u64
 
 impl<T: BitStore, O: BitOrder> BitVec<T, O> {
     /// Joins what an iterator gives before its first None, a word at a time, and pulls nothing after that None. It
-    /// answers `TooLong` at the first bit with which the length would pass `MAX_BITS`, and `OutOfMemory` only for
-    /// bits that would pass the capacity; then it pulls no more, and leaves the list. What was pulled is gone.
+    /// answers `TooLong` at the first bit with which the length would pass `MAX_BITS`, and `OutOfMemory` only where the
+    /// length would pass the capacity and not `MAX_BITS`; then it pulls no more, and leaves the list. What was pulled
+    /// is gone.
     pub fn extend<I: IntoIterator<Item = bool>>(&mut self, iter: I) -> Result<(), GrowError>
         requires { IsFiniteIterable I.into_iter_gives I.IntoIter.can_next I.IntoIter.remaining iter }
         ensures joined { OnOk result (GivesAll I.into_iter_gives I.IntoIter.next_gives iter (λ bits. (self.new.list ≡ self.old.list ++ bits) × Grew T.BITS self.old self.new bits)) }
@@ -31,7 +32,7 @@ impl<T: BitStore, O: BitOrder> BitVec<T, O> {
         ensures clean { OnOk result (IsClean T.BITS self.old → IsClean T.BITS self.new) }
         ensures few { length self.new.list ≤ MAX_BITS }
         ensures too_long { result ≡ Err GrowError.TooLong → GivesFirst I.into_iter_gives I.IntoIter.next_gives iter (λ bits. MAX_BITS < length self.old.list + length bits) }
-        ensures memory { result ≡ Err GrowError.OutOfMemory → GivesFirst I.into_iter_gives I.IntoIter.next_gives iter (λ bits. self.old.capacity < length self.old.list + length bits) }
+        ensures memory { result ≡ Err GrowError.OutOfMemory → GivesFirst I.into_iter_gives I.IntoIter.next_gives iter (λ bits. (self.old.capacity < length self.old.list + length bits) × (length self.old.list + length bits ≤ MAX_BITS)) }
         ensures unchanged { OnErr result (self.new.list ≡ self.old.list) }
         ensures head { self.new.head ≡ self.old.head }
         ensures capacity { self.old.capacity ≤ self.new.capacity }
@@ -45,7 +46,7 @@ impl<T: BitStore, O: BitOrder> BitVec<T, O> {
         ensures joined { OnOk result (GivesAll I.into_iter_gives I.IntoIter.next_gives iter (λ bits. (self.new.list ≡ self.old.list ++ bits) × Grew T.BITS self.old self.new bits)) }
         ensures few { length self.new.list ≤ MAX_BITS }
         ensures too_long { result ≡ Err GrowError.TooLong → GivesFirst I.into_iter_gives I.IntoIter.next_gives iter (λ bits. MAX_BITS < length self.old.list + length bits) }
-        ensures memory { result ≡ Err GrowError.OutOfMemory → GivesFirst I.into_iter_gives I.IntoIter.next_gives iter (λ bits. self.old.capacity < length self.old.list + length bits) }
+        ensures memory { result ≡ Err GrowError.OutOfMemory → GivesFirst I.into_iter_gives I.IntoIter.next_gives iter (λ bits. (self.old.capacity < length self.old.list + length bits) × (length self.old.list + length bits ≤ MAX_BITS)) }
         ensures unchanged { OnErr result (self.new.list ≡ self.old.list) }
         ensures head { self.new.head ≡ self.old.head }
         ensures capacity { self.old.capacity ≤ self.new.capacity }
@@ -114,7 +115,7 @@ impl<T: BitStore, O: BitOrder> BitVec<T, O> {
         ensures clean { IfOk result (λ v. IsClean T.BITS v) }
         ensures few { IfOk result (λ v. length v.list ≤ MAX_BITS) }
         ensures too_long { result ≡ Err GrowError.TooLong → GivesFirst I.into_iter_gives I.IntoIter.next_gives iter (λ bits. MAX_BITS < length bits) }
-        ensures memory { result ≡ Err GrowError.OutOfMemory → GivesFirst I.into_iter_gives I.IntoIter.next_gives iter (λ bits. 0 < length bits) }
+        ensures memory { result ≡ Err GrowError.OutOfMemory → GivesFirst I.into_iter_gives I.IntoIter.next_gives iter (λ bits. (0 < length bits) × (length bits ≤ MAX_BITS)) }
     {
         let mut v = Self::new(alloc);
         match v.extend(iter) {
@@ -132,7 +133,7 @@ impl<T: BitStore, O: BitOrder> BitVec<T, O> {
         ensures clean { OnOk result (IsClean T.BITS self.old → IsClean T.BITS self.new) }
         ensures few { length self.new.list ≤ MAX_BITS }
         ensures too_long { result ≡ Err GrowError.TooLong → GivesFirst I.into_iter_gives I.IntoIter.next_gives iter (λ words. MAX_BITS < length self.old.list + T.BITS * length words) }
-        ensures memory { result ≡ Err GrowError.OutOfMemory → GivesFirst I.into_iter_gives I.IntoIter.next_gives iter (λ words. self.old.capacity < length self.old.list + T.BITS * length words) }
+        ensures memory { result ≡ Err GrowError.OutOfMemory → GivesFirst I.into_iter_gives I.IntoIter.next_gives iter (λ words. (self.old.capacity < length self.old.list + T.BITS * length words) × (length self.old.list + T.BITS * length words ≤ MAX_BITS)) }
         ensures unchanged { OnErr result (self.new.list ≡ self.old.list) }
         ensures head { self.new.head ≡ self.old.head }
         ensures capacity { self.old.capacity ≤ self.new.capacity }
@@ -156,7 +157,7 @@ impl<T: BitStore, O: BitOrder> BitVec<T, O> {
         ensures joined { OnOk result (GivesAll I.into_iter_gives I.IntoIter.next_gives iter (λ words. (self.new.list ≡ self.old.list ++ row T.BitStore O.BitOrder words) × Grew T.BITS self.old self.new (row T.BitStore O.BitOrder words))) }
         ensures few { length self.new.list ≤ MAX_BITS }
         ensures too_long { result ≡ Err GrowError.TooLong → GivesFirst I.into_iter_gives I.IntoIter.next_gives iter (λ words. MAX_BITS < length self.old.list + T.BITS * length words) }
-        ensures memory { result ≡ Err GrowError.OutOfMemory → GivesFirst I.into_iter_gives I.IntoIter.next_gives iter (λ words. self.old.capacity < length self.old.list + T.BITS * length words) }
+        ensures memory { result ≡ Err GrowError.OutOfMemory → GivesFirst I.into_iter_gives I.IntoIter.next_gives iter (λ words. (self.old.capacity < length self.old.list + T.BITS * length words) × (length self.old.list + T.BITS * length words ≤ MAX_BITS)) }
         ensures unchanged { OnErr result (self.new.list ≡ self.old.list) }
         ensures head { self.new.head ≡ self.old.head }
         ensures capacity { self.old.capacity ≤ self.new.capacity }
@@ -183,7 +184,7 @@ impl<T: BitStore, O: BitOrder> BitVec<T, O> {
         ensures list { IfOk result (λ v. v.list ≡ row T.BitStore O.BitOrder v.words) }
         ensures clean { IfOk result (λ v. IsClean T.BITS v) }
         ensures too_long { result ≡ Err GrowError.TooLong → GivesFirst I.into_iter_gives I.IntoIter.next_gives iter (λ words. MAX_BITS < T.BITS * length words) }
-        ensures memory { result ≡ Err GrowError.OutOfMemory → GivesFirst I.into_iter_gives I.IntoIter.next_gives iter (λ words. 0 < length words) }
+        ensures memory { result ≡ Err GrowError.OutOfMemory → GivesFirst I.into_iter_gives I.IntoIter.next_gives iter (λ words. (0 < length words) × (T.BITS * length words ≤ MAX_BITS)) }
     {
         let mut words = Vec::new(alloc);
         for word in iter {

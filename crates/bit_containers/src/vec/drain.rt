@@ -142,7 +142,7 @@ impl<T: BitStore, O: BitOrder> BitVec<T, O> {
     }
 
     // Takes the bits from `start` up to `end` out, by one move of what is behind them.
-    #[tactic(auto, using(crate::proofs::Vectors::shown_length))]
+    #[tactic(auto, using(bit_slice::proofs::Parts::shown_length))]
     pub(crate) fn remove_range(&mut self, start: usize, end: usize)
         requires ordered { start ≤ end }
         requires within { end ≤ length self.old.list }

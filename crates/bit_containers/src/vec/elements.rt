@@ -27,7 +27,7 @@ fn set_words_in_vec<T: BitStore>(words: &mut Vec<T>, word: T)
 
 impl<T: BitStore, O: BitOrder> BitVec<T, O> {
     /// Makes every visible word `word`: live bits are written too, and dead ones. Takes no memory.
-    #[tactic(auto, using(crate::proofs::Vectors::shown_length))]
+    #[tactic(auto, using(bit_slice::proofs::Parts::shown_length))]
     pub fn set_elements(&mut self, word: T)
         ensures words { self.new.words ≡ replicate (length self.old.words) word }
         ensures row { self.new.row ≡ row T.BitStore O.BitOrder (replicate (length self.old.words) word) }
@@ -40,7 +40,7 @@ impl<T: BitStore, O: BitOrder> BitVec<T, O> {
     /// Makes the length `n`: bits of the visible words that become live are those that stood there, and nothing
     /// is written. Takes no memory. The condition: the visible words have `n` bits from the head on, and they
     /// are at most `MAX_BITS`.
-    #[tactic(auto, using(crate::proofs::Vectors::shown_length, crate::proofs::Elements::run_kept))]
+    #[tactic(auto, using(bit_slice::proofs::Parts::shown_length, crate::proofs::Elements::run_kept))]
     pub fn set_len(&mut self, n: usize)
         requires visible { self.old.head + n ≤ T.BITS * length self.old.words }
         requires few { n ≤ MAX_BITS }

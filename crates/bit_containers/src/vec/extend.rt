@@ -17,7 +17,7 @@ impl<T: BitStore, O: BitOrder> BitVec<T, O> {
     /// Joins the bits of a view at the end, by whole words; the view may be by other words and another order.
     /// Words of zero come first, as many as the visible ones lack. It answers `TooLong` exactly where the length would pass
     /// `MAX_BITS`, and `OutOfMemory` only where it would pass the capacity. A refusal leaves the vector.
-    #[tactic(auto, using(crate::proofs::Vectors::shown_length))]
+    #[tactic(auto, using(bit_slice::proofs::Parts::shown_length))]
     pub fn extend_from_bitslice<U: BitStore, P: BitOrder>(
         &mut self,
         view: BitSlice<'_, U, P>,
@@ -78,7 +78,7 @@ impl<T: BitStore, O: BitOrder> BitVec<T, O> {
 
     /// Keeps the first `n` bits, or fills the list up to `n` with `bit`, by whole words. Where it grows it is
     /// refused as `push` is, and a refusal leaves the vector. Where it shrinks it is as `truncate`.
-    #[tactic(auto, using(crate::proofs::Vectors::shown_length))]
+    #[tactic(auto, using(bit_slice::proofs::Parts::shown_length))]
     pub fn resize(&mut self, n: usize, bit: bool) -> Result<(), GrowError>
         ensures list { OnOk result (self.new.list ≡ take n self.old.list ++ replicate (n - length self.old.list) bit) }
         ensures len { OnOk result (length self.new.list ≡ n) }
@@ -120,7 +120,7 @@ impl<T: BitStore, O: BitOrder> BitVec<T, O> {
 
     /// Joins the bits at a range of indices once more, by one move of whole words. It is refused as
     /// `extend_from_bitslice` is. The condition: the range lies in the length.
-    #[tactic(auto, using(crate::proofs::Vectors::shown_length))]
+    #[tactic(auto, using(bit_slice::proofs::Parts::shown_length))]
     pub fn extend_from_within<R: RangeExt>(&mut self, range: R) -> Result<(), GrowError>
         requires lies { LiesIn (R.start_of range) (R.end_of range (length self.old.list)) (length self.old.list) }
         ensures list { OnOk result (self.new.list ≡ self.old.list ++ slice_range self.old.list (R.start_of range) (R.end_of range (length self.old.list))) }
@@ -145,7 +145,7 @@ impl<T: BitStore, O: BitOrder> BitVec<T, O> {
 
     /// Joins the `n` lowest bits of a number, that of place 0 first. It is refused as `extend_from_bitslice` is.
     /// The condition: `n` is at most 64.
-    #[tactic(auto, using(crate::proofs::Vectors::shown_length))]
+    #[tactic(auto, using(bit_slice::proofs::Parts::shown_length))]
     pub(crate) fn extend_from_number(&mut self, number: u64, n: u8) -> Result<(), GrowError>
         requires { n ≤ 64 }
         ensures list { OnOk result (self.new.list ≡ self.old.list ++ number_bits number n) }

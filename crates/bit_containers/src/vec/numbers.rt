@@ -16,7 +16,7 @@ impl<T: BitStore, O: BitOrder> BitVec<T, O> {
     /// ```text
     /// of the bits 0, 1, 1, 0:  v.read_binary(1, 3) == 6
     /// ```
-    #[tactic(auto, using(crate::proofs::Vectors::shown_length))]
+    #[tactic(auto, using(bit_slice::proofs::Parts::shown_length))]
     pub fn read_binary(&self, at: usize, n: u8) -> u64
         requires few { n ≤ 64 }
         requires within { at + n ≤ length self.now.list }
@@ -29,7 +29,7 @@ impl<T: BitStore, O: BitOrder> BitVec<T, O> {
     /// Writes a number in binary over the `n` bits from `at` on, the most significant digit first, and
     /// changes no other bit; digits above the `n` lowest are left out. Takes no memory. The condition:
     /// `n` is at most 64, and the bits lie in the length.
-    #[tactic(auto, using(crate::proofs::Vectors::shown_length))]
+    #[tactic(auto, using(bit_slice::proofs::Parts::shown_length))]
     pub fn write_binary(&mut self, at: usize, n: u8, number: u64)
         requires few { n ≤ 64 }
         requires within { at + n ≤ length self.old.list }
@@ -44,7 +44,7 @@ impl<T: BitStore, O: BitOrder> BitVec<T, O> {
     /// Joins a number in binary by `n` digits, the most significant first; digits above the `n` lowest are left
     /// out. It answers `TooLong` exactly where the length would pass `MAX_BITS`, and `OutOfMemory` only where
     /// it would pass the capacity. A refusal leaves the vector. The condition: `n` is at most 64.
-    #[tactic(auto, using(crate::proofs::Vectors::shown_length))]
+    #[tactic(auto, using(bit_slice::proofs::Parts::shown_length))]
     pub fn push_binary(&mut self, n: u8, number: u64) -> Result<(), GrowError>
         requires { n ≤ 64 }
         ensures list { OnOk result (self.new.list ≡ self.old.list ++ binary n number) }

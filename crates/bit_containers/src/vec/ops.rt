@@ -30,7 +30,7 @@ impl<T: BitStore, O: BitOrder> BitVec<T, O> {
 
     /// Clears each bit that is false in a view, or that the view is too short for. No dead bit changes. Takes
     /// no memory.
-    #[tactic(auto, using(crate::proofs::Vectors::shown_length))]
+    #[tactic(auto, using(bit_slice::proofs::Parts::shown_length))]
     pub fn and_bits<U: BitStore, P: BitOrder>(&mut self, other: BitSlice<'_, U, P>)
         ensures list { self.new.list ≡ and_of self.old.list (list_of other.entry) }
         ensures row { self.new.row ≡ put self.old.row self.old.head (and_of self.old.list (list_of other.entry)) }
@@ -43,7 +43,7 @@ impl<T: BitStore, O: BitOrder> BitVec<T, O> {
 
     /// Sets each bit that is true in a view; what the view has behind the length doesn't count. No dead bit
     /// changes. Takes no memory.
-    #[tactic(auto, using(crate::proofs::Vectors::shown_length))]
+    #[tactic(auto, using(bit_slice::proofs::Parts::shown_length))]
     pub fn or_bits<U: BitStore, P: BitOrder>(&mut self, other: BitSlice<'_, U, P>)
         ensures list { self.new.list ≡ or_of self.old.list (list_of other.entry) }
         ensures row { self.new.row ≡ put self.old.row self.old.head (or_of self.old.list (list_of other.entry)) }
@@ -56,7 +56,7 @@ impl<T: BitStore, O: BitOrder> BitVec<T, O> {
 
     /// Flips each bit that is true in a view; what the view has behind the length doesn't count. No dead bit
     /// changes. Takes no memory.
-    #[tactic(auto, using(crate::proofs::Vectors::shown_length))]
+    #[tactic(auto, using(bit_slice::proofs::Parts::shown_length))]
     pub fn xor_bits<U: BitStore, P: BitOrder>(&mut self, other: BitSlice<'_, U, P>)
         ensures list { self.new.list ≡ xor_of self.old.list (list_of other.entry) }
         ensures row { self.new.row ≡ put self.old.row self.old.head (xor_of self.old.list (list_of other.entry)) }
@@ -68,7 +68,7 @@ impl<T: BitStore, O: BitOrder> BitVec<T, O> {
     }
 
     /// Flips the whole row: the bits of the list, and the dead ones too. Takes no memory.
-    #[tactic(auto, using(crate::proofs::Vectors::shown_length, bit_addressing::proofs::lists::Shown::shows_map))]
+    #[tactic(auto, using(bit_slice::proofs::Parts::shown_length, bit_addressing::proofs::lists::Shown::shows_map))]
     pub fn flip_all(&mut self)
         ensures list { self.new.list ≡ map not self.old.list }
         ensures row { self.new.row ≡ map not self.old.row }

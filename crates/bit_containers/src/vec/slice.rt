@@ -72,7 +72,7 @@ impl<T: BitStore, O: BitOrder> BitVec<T, O> {
     }
 
     /// Writes the bit at `i`, and no other bit. Takes no memory. The condition: `i` is below the length.
-    #[tactic(auto, using(crate::proofs::Vectors::shown_length))]
+    #[tactic(auto, using(bit_slice::proofs::Parts::shown_length))]
     pub fn set(&mut self, i: usize, bit: bool)
         requires { i < length self.old.list }
         ensures list { self.new.list ≡ set self.old.list i bit }
@@ -99,7 +99,7 @@ impl<T: BitStore, O: BitOrder> BitVec<T, O> {
     }
 
     /// Has the bits at `i` and `j` change places. Takes no memory. The condition: both are below the length.
-    #[tactic(auto, using(crate::proofs::Vectors::shown_length))]
+    #[tactic(auto, using(bit_slice::proofs::Parts::shown_length))]
     pub fn swap(&mut self, i: usize, j: usize)
         requires first { i < length self.old.list }
         requires second { j < length self.old.list }
@@ -115,7 +115,7 @@ impl<T: BitStore, O: BitOrder> BitVec<T, O> {
     }
 
     /// Makes every bit of the list `bit`, and changes no dead bit. Takes no memory.
-    #[tactic(auto, using(crate::proofs::Vectors::shown_length))]
+    #[tactic(auto, using(bit_slice::proofs::Parts::shown_length))]
     pub fn fill(&mut self, bit: bool)
         ensures list { self.new.list ≡ replicate (length self.old.list) bit }
         ensures row { self.new.row ≡ put self.old.row self.old.head (replicate (length self.old.list) bit) }
@@ -129,7 +129,7 @@ impl<T: BitStore, O: BitOrder> BitVec<T, O> {
     /// Copies the range's bits to the places from `dest` on, as if they were copied out first. No other bit
     /// changes, dead bits included. It is one counted move of the words. Takes no memory. The condition:
     /// the range lies in the length, and its bits have room from `dest` on.
-    #[tactic(auto, using(crate::proofs::Vectors::shown_length))]
+    #[tactic(auto, using(bit_slice::proofs::Parts::shown_length))]
     pub fn copy_within<R: RangeExt>(&mut self, range: R, dest: usize)
         requires lies { LiesIn (R.start_of range) (R.end_of range (length self.old.list)) (length self.old.list) }
         requires room { dest + (R.end_of range (length self.old.list) - R.start_of range) ≤ length self.old.list }
@@ -147,7 +147,7 @@ impl<T: BitStore, O: BitOrder> BitVec<T, O> {
 
     /// Writes the bits of a view, by whatever words and order, over those of the list. No dead bit changes.
     /// Takes no memory. The condition: the view has as many bits as the vector.
-    #[tactic(auto, using(crate::proofs::Vectors::shown_length))]
+    #[tactic(auto, using(bit_slice::proofs::Parts::shown_length))]
     pub fn clone_from_bitslice<U: BitStore, P: BitOrder>(&mut self, source: BitSlice<'_, U, P>)
         requires { len_of source ≡ length self.old.list }
         ensures list { self.new.list ≡ list_of source.entry }

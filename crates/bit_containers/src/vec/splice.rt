@@ -95,7 +95,7 @@ impl<T: BitStore, O: BitOrder> BitVec<T, O> {
     }
 
     // Writes the bits of a view at the indices from `at` on. The condition: they lie in the length.
-    #[tactic(auto, using(crate::proofs::Vectors::shown_length))]
+    #[tactic(auto, using(bit_slice::proofs::Parts::shown_length))]
     fn write_bits(&mut self, at: usize, view: BitSlice<'_, T, O>)
         requires { at + len_of view ≤ length self.old.list }
         ensures list { self.new.list ≡ put self.old.list at (list_of view.entry) }
@@ -177,7 +177,7 @@ impl<T: BitStore, O: BitOrder> BitVec<T, O> {
         ensures list { IfOk result (λ v. Drains I.next_gives iter v.list) }
         ensures few { IfOk result (λ v. length v.list ≤ most) }
         ensures too_long { result ≡ Err GrowError.TooLong → (bits : List Bool) × (rest : I) × Yields I.next_gives iter bits rest × (most < length bits) }
-        ensures memory { result ≡ Err GrowError.OutOfMemory → (bits : List Bool) × (rest : I) × Yields I.next_gives iter bits rest × (0 < length bits) }
+        ensures memory { result ≡ Err GrowError.OutOfMemory → (bits : List Bool) × (rest : I) × Yields I.next_gives iter bits rest × (0 < length bits) × (length bits ≤ most) }
     {
         let mut v = Self::new(alloc);
         for bit in iter {
@@ -202,7 +202,7 @@ impl<T: BitStore, O: BitOrder> BitVec<T, O> {
         ensures list { OnOk result ((bits : List Bool) × Drains I.next_gives replacement bits × (self.new.list ≡ splice self.old.list start end bits)) }
         ensures head { self.new.head ≡ self.old.head }
         ensures too_long { result ≡ Err GrowError.TooLong → (bits : List Bool) × (rest : I) × Yields I.next_gives replacement bits rest × (MAX_BITS < length self.old.list - (end - start) + length bits) }
-        ensures memory { result ≡ Err GrowError.OutOfMemory → (bits : List Bool) × (rest : I) × Yields I.next_gives replacement bits rest × (0 < length bits) }
+        ensures memory { result ≡ Err GrowError.OutOfMemory → (bits : List Bool) × (rest : I) × Yields I.next_gives replacement bits rest × (0 < length bits) × (length self.old.list - (end - start) + length bits ≤ MAX_BITS) }
         ensures unchanged { OnErr result (self.new.list ≡ self.old.list) }
         ensures capacity { self.old.capacity ≤ self.new.capacity }
     {
@@ -307,8 +307,8 @@ impl<'a, T: BitStore, O: BitOrder, I: Iterator<Item = bool>> Splice<'a, T, O, I>
     }
 
     /// Pulls the whole replacement, and puts it in place of the range: what is behind moves once. It answers `TooLong` at
-    /// the first bit with which the length would pass `MAX_BITS`, and `OutOfMemory` only where there is a bit to put; a
-    /// refusal pulls no more, and leaves the vector. What becomes of dead bits is open.
+    /// the first bit with which the length would pass `MAX_BITS`, and `OutOfMemory` only where there is a bit to put and
+    /// the length would not; a refusal pulls no more, and leaves the vector. What becomes of dead bits is open.
     pub fn finish(self) -> Result<(), GrowError>
         requires ready { SpliceIsReady self }
         requires ends { I.can_next self.replacement × IsFinite (I.remaining self.replacement) }
@@ -316,7 +316,7 @@ impl<'a, T: BitStore, O: BitOrder, I: Iterator<Item = bool>> Splice<'a, T, O, I>
         ensures runs { OnOk result (WholeRun I.next_gives self.entry.replacement (λ p. self.exit.0.now.list ≡ splice self.entry.vec.now.list self.entry.start self.entry.end p.items)) }
         ensures head { self.exit.0.now.head ≡ self.entry.vec.now.head }
         ensures too_long { result ≡ Err GrowError.TooLong → (bits : List Bool) × (rest : I) × Yields I.next_gives self.entry.replacement bits rest × (MAX_BITS < length self.entry.vec.now.list - (self.entry.end - self.entry.start) + length bits) }
-        ensures memory { result ≡ Err GrowError.OutOfMemory → (bits : List Bool) × (rest : I) × Yields I.next_gives self.entry.replacement bits rest × (0 < length bits) }
+        ensures memory { result ≡ Err GrowError.OutOfMemory → (bits : List Bool) × (rest : I) × Yields I.next_gives self.entry.replacement bits rest × (0 < length bits) × (length self.entry.vec.now.list - (self.entry.end - self.entry.start) + length bits ≤ MAX_BITS) }
         ensures unchanged { OnErr result (self.exit.0.now.list ≡ self.entry.vec.now.list) }
         ensures capacity { self.entry.vec.now.capacity ≤ self.exit.0.now.capacity }
     {

@@ -3,7 +3,8 @@ use Rattle.std.proofs.Output.{has_written_styled_append, has_written_styled_of_e
 use Rattle.bit_addressing.specs.Text.{digit_of, list_text}
 use Rattle.bit_slice.specs.BitSlice.{list_of}
 use Rattle.bit_slice.specs.Texts.{spaced}
-use Rattle.bit_slice.proofs.Writing.{spaced_runs, text_whole, no_bits}
+use Rattle.bit_slice.proofs.Writing.{spaced_runs, text_whole}
+use Rattle.bit_addressing.proofs.Rows.{same_lists_none}
 use Rattle.bit_slice.proofs.texts.write_list.Goals.{then-bit, else-bit}
 use Rattle.bit_slice.proofs.texts.write_list.Goals as goal
 
@@ -11,7 +12,7 @@ pub returns-then-len-eq0 : goal.returns-then-len-eq0
 returns-then-len-eq0 g c flush ok =
     let start = c.in_ok-write_str.ensures.styled flush refl in
     let end = c.write_str-then-len-eq0.ensures.styled start.flush ok in
-    let none : list_of c.args.view ≡ [] = no_bits (list_of c.args.view) (sym c.len.ensures.list ∙ c.if-len-eq0.true) in
+    let none : list_of c.args.view ≡ [] = same_lists_none (list_of c.args.view) (sym c.len.ensures.list ∙ c.if-len-eq0.true) in
     has_written_styled_of_eq _ _ _ _ _ (ap list_text (sym none)) (has_written_styled_append _ _ _ _ _ _ start end)
 
 pub loop-t-preserved : goal.loop-t-preserved

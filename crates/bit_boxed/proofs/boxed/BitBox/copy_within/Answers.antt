@@ -2,14 +2,14 @@ use Rattle.std.proofs.Common.{◌≡◌, ◌+◌, ◌-◌, length, slice_range, 
 use Rattle.bit_addressing.specs.Row.{moved}
 use Rattle.bit_addressing.specs.Typed.{row}
 use Rattle.bit_addressing.proofs.lists.Moved.{shows_moved}
-use Rattle.bit_boxed.proofs.Boxes.{shown}
+use Rattle.bit_slice.proofs.Parts.{in_row}
 use Rattle.bit_boxed.proofs.boxed.BitBox.copy_within.Goals as goal
 
 pub returns-clause-list : goal.returns-clause-list
 returns-clause-list g c =
     let i = c.self.inside in
     let bits = row g.T.BitStore g.O.BitOrder i.words.items in
-    let fits = shown g.T.BitStore g.O.BitOrder i.words.items i.head i.len c.self.invariant.fits in
+    let fits = in_row g.T.BitStore g.O.BitOrder i.words.items (i.head + i.len) c.self.invariant.fits in
     let from = c.normalize-range.result.start in
     let upto = c.normalize-range.result.end in
     let start = c.normalize-range.ensures.start in

@@ -3,14 +3,14 @@ use Rattle.std.proofs.lemmas.List.{length-replicate}
 use Rattle.bit_addressing.specs.Row.{put}
 use Rattle.bit_addressing.specs.Typed.{row}
 use Rattle.bit_slice.proofs.Shown.{shown_filled}
-use Rattle.bit_boxed.proofs.Boxes.{shown}
+use Rattle.bit_slice.proofs.Parts.{in_row}
 use Rattle.bit_boxed.proofs.boxed.BitBox.fill.Goals as goal
 
 pub returns-clause-list : goal.returns-clause-list
 returns-clause-list g c =
     let i = c.self.inside in
     let bits = row g.T.BitStore g.O.BitOrder i.words.items in
-    let fits = shown g.T.BitStore g.O.BitOrder i.words.items i.head i.len c.self.invariant.fits in
+    let fits = in_row g.T.BitStore g.O.BitOrder i.words.items (i.head + i.len) c.self.invariant.fits in
     let size : i.head + i.len - i.head ≡ i.len = omega arith in
     ap (λ r. slice_range r i.head (i.head + i.len)) (c.fill_bits_in_vec.ensures.bits ∙ ap (λ n. put bits i.head (replicate n c.args.bit)) size)
     ∙ shown_filled bits (replicate i.len c.args.bit) i.head i.len (sym (length-replicate i.len c.args.bit)) fits

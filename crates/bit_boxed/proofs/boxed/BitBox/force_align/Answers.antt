@@ -1,14 +1,15 @@
 use Rattle.std.proofs.Common.{◌≡◌, ◌+◌, ◌*◌, ◌≤◌, length, slice_range, ◌∙◌, ap, arith}
 use Rattle.bit_addressing.specs.Typed.{row}
 use Rattle.bit_addressing.proofs.Rows.{width_positive}
-use Rattle.bit_boxed.proofs.Boxes.{shown, shown_length, moved_lands}
+use Rattle.bit_slice.proofs.Parts.{in_row, shown_length}
+use Rattle.bit_slice.proofs.Shown.{moved_lands}
 use Rattle.bit_boxed.proofs.boxed.BitBox.force_align.Goals as goal
 
 pub returns-clause-list : goal.returns-clause-list
 returns-clause-list g c =
     let i = c.self.inside in
     let bits = row g.T.BitStore g.O.BitOrder i.words.items in
-    let fits = shown g.T.BitStore g.O.BitOrder i.words.items i.head i.len c.self.invariant.fits in
+    let fits = in_row g.T.BitStore g.O.BitOrder i.words.items (i.head + i.len) c.self.invariant.fits in
     ap (λ r. slice_range r 0 (0 + i.len)) c.move_bits_in_vec.ensures.bits
     ∙ moved_lands bits i.head 0 i.len fits (omega arith)
     ∙ ap (λ v. v.list) c.self.view_is

@@ -44,7 +44,7 @@ returns-in_default-clause-memory g c is =
       c.next.new.self,
       c.into_iter-bit-iterator.ensures.into_iter_gives,
       yields_more g.I.IntoIter.Iterator.next_gives c.into_iter-bit-iterator.result at.yielded at.bit-iterator c.in-Some.bit c.next.new.self at.yielded_by c.in-Some.ensures.steps,
-      omega (arith, more),
+      (omega (arith, more), omega (arith, more, at.invariant.size, at.invariant.few, c.if-len-eq-MAX_BITS.false)),
     )
 
 pub loop-bit-preserved : goal.loop-bit-preserved

@@ -3,7 +3,7 @@ use Rattle.std.proofs.lemmas.List.{take_all}
 use Rattle.bit_addressing.specs.Typed.{row}
 use Rattle.bit_addressing.proofs.Rows.{width_positive}
 use Rattle.bit_addressing.proofs.Typed.{length_row}
-use Rattle.bit_boxed.proofs.Boxes.{shown_length}
+use Rattle.bit_slice.proofs.Parts.{shown_length}
 use Rattle.bit_boxed.proofs.boxed.BitBox.of_words.Goals as goal
 
 pub invariant_of-result : goal.invariant_of-result

@@ -1,13 +1,13 @@
 use Rattle.std.proofs.Common.{◌≡◌, ◌+◌, set, length, slice_range, sym, ◌∙◌, ap, arith}
 use Rattle.bit_addressing.specs.Typed.{row}
 use Rattle.bit_addressing.proofs.lists.Shown.{shows_set}
-use Rattle.bit_boxed.proofs.Boxes.{shown}
+use Rattle.bit_slice.proofs.Parts.{in_row}
 use Rattle.bit_boxed.proofs.boxed.BitBox.set.Goals as goal
 
 pub returns-clause-list : goal.returns-clause-list
 returns-clause-list g c =
     let i = c.self.inside in
-    let fits = shown g.T.BitStore g.O.BitOrder i.words.items i.head i.len c.self.invariant.fits in
+    let fits = in_row g.T.BitStore g.O.BitOrder i.words.items (i.head + i.len) c.self.invariant.fits in
     let len : i.len ≡ length c.args.self.now.list = sym c.self.invariant.shows ∙ ap (λ v. length v.list) c.self.view_is in
     ap (λ r. slice_range r i.head (i.head + i.len)) c.write_bit_in_vec.ensures.bits
     ∙ shows_set (row g.T.BitStore g.O.BitOrder i.words.items) i.head i.len c.args.i c.args.bit (omega arith) fits

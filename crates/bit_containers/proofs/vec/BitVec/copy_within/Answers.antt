@@ -4,7 +4,8 @@ use Rattle.bit_addressing.specs.Typed.{row}
 use Rattle.bit_addressing.proofs.Rows.{width_positive}
 use Rattle.bit_addressing.proofs.lists.Moved.{shows_moved}
 use Rattle.bit_containers.proofs.Vectors.{few_words, shown}
-use Rattle.bit_containers.proofs.Clean.{clean_moved, moved_lands}
+use Rattle.bit_slice.proofs.Shown.{moved_lands}
+use Rattle.bit_containers.proofs.Clean.{clean_moved}
 use Rattle.bit_containers.proofs.vec.BitVec.copy_within.Goals as goal
 
 pub move_bits_in_vec-requires-clause-room : goal.move_bits_in_vec-requires-clause-room

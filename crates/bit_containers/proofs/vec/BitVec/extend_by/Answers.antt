@@ -3,7 +3,9 @@ use Rattle.std.proofs.lemmas.List.{length_push}
 use Rattle.bit_addressing.proofs.Rows.{width_positive}
 use Rattle.bit_addressing.proofs.Binary.{number_bits_none}
 use Rattle.bit_containers.proofs.Growing.{grew_none}
-use Rattle.bit_containers.proofs.Pulling.{yields_more, gathers_more, gathers_all, gathers_length}
+use Rattle.bit_containers.proofs.Growing.{wanted_fits}
+use Rattle.bit_boxed.proofs.Pulling.{yields_more}
+use Rattle.bit_containers.proofs.Pulling.{gathers_more, gathers_all, gathers_length}
 use Rattle.bit_containers.proofs.vec.BitVec.extend_by.Goals as goal
 
 pub loop-bit-init : goal.loop-bit-init
@@ -54,13 +56,14 @@ returns-in-Err-clause-memory g c is =
     let size = gathers_length g.T.BitStore.BITS c.args.self.now at.self at.number at.got at.yielded at.invariant.joined in
     let more = length_push at.yielded c.in-Some.bit in
     let past = c.in-Err.ensures.refusal.memory (search rules) in
+    let few = wanted_fits _ _ _ _ c.in-Err.ensures.refusal (search rules) in
     let kept = at.invariant.capacity in (
       c.into_iter-bit-iterator.result,
       at.yielded ++ c.in-Some.bit ∷ [],
       c.next.new.self,
       c.into_iter-bit-iterator.ensures.into_iter_gives,
       yields_more g.I.IntoIter.Iterator.next_gives c.into_iter-bit-iterator.result at.yielded at.bit-iterator c.in-Some.bit c.next.new.self at.yielded_by c.in-Some.ensures.steps,
-      omega arith,
+      (omega arith, omega arith),
     )
 
 pub returns-in-Err-extend_from_number-clause-memory : goal.returns-in-Err-extend_from_number-clause-memory
@@ -68,13 +71,14 @@ returns-in-Err-extend_from_number-clause-memory g c is =
     let at = c.loop-bit in
     let size = gathers_length g.T.BitStore.BITS c.args.self.now at.self at.number at.got at.yielded at.invariant.joined in
     let past = c.in-Err-extend_from_number.ensures.refusal.memory (search rules) in
+    let few = wanted_fits _ _ _ _ c.in-Err-extend_from_number.ensures.refusal (search rules) in
     let kept = at.invariant.capacity in (
       c.into_iter-bit-iterator.result,
       at.yielded,
       at.bit-iterator,
       c.into_iter-bit-iterator.ensures.into_iter_gives,
       at.yielded_by,
-      omega arith,
+      (omega arith, omega arith),
     )
 
 pub returns-clause-joined : goal.returns-clause-joined

@@ -5,7 +5,9 @@ use Rattle.bit_addressing.proofs.Typed.{length_row}
 use Rattle.bit_addressing.proofs.Rows.{width_positive, row_of_none}
 use Rattle.bit_containers.specs.BitVec.{Grew}
 use Rattle.bit_containers.proofs.Growing.{grew_none, grew_twice}
-use Rattle.bit_containers.proofs.Pulling.{yields_more, row_more, words_more}
+use Rattle.bit_containers.proofs.Growing.{wanted_fits}
+use Rattle.bit_boxed.proofs.Pulling.{yields_more}
+use Rattle.bit_containers.proofs.Pulling.{row_more, words_more}
 use Rattle.bit_containers.proofs.vec.BitVec.extend_by_words.Goals as goal
 
 pub loop-word-init : goal.loop-word-init
@@ -60,11 +62,12 @@ returns-in-Err-clause-memory g c is =
     let so_far : length at.self.list ≡ length c.args.self.now.list + w * length at.yielded = at.invariant.grew.len ∙ ap (λ n. length c.args.self.now.list + n) (length_row g.T.BitStore.value g.O.BitOrder.place w at.yielded) in
     let more = words_more w (length at.yielded) (length (at.yielded ++ c.in-Some.word ∷ [])) (length_push at.yielded c.in-Some.word) in
     let past = c.in-Err.ensures.refusal.memory (search rules) in
+    let few = wanted_fits _ _ _ _ c.in-Err.ensures.refusal (search rules) in
     let kept = at.invariant.capacity in (
       c.into_iter-word-iterator.result,
       at.yielded ++ c.in-Some.word ∷ [],
       c.next.new.self,
       c.into_iter-word-iterator.ensures.into_iter_gives,
       yields_more g.I.IntoIter.Iterator.next_gives c.into_iter-word-iterator.result at.yielded at.word-iterator c.in-Some.word c.next.new.self at.yielded_by c.in-Some.ensures.steps,
-      omega arith,
+      (omega arith, omega arith),
     )

@@ -3,7 +3,8 @@ use Rattle.bit_addressing.specs.Row.{moved, sized}
 use Rattle.bit_addressing.specs.Typed.{row}
 use Rattle.bit_addressing.proofs.Rows.{width_positive}
 use Rattle.bit_addressing.proofs.lists.Moved.{aligned_shows}
-use Rattle.bit_containers.proofs.Vectors.{few_words, shown, shown_length}
+use Rattle.bit_slice.proofs.Parts.{shown_length}
+use Rattle.bit_containers.proofs.Vectors.{few_words, shown}
 use Rattle.bit_containers.proofs.Clean.{clean_aligned}
 use Rattle.bit_containers.proofs.vec.BitVec.force_align.Goals as goal
 

@@ -1,8 +1,8 @@
-use Rattle.std.proofs.Common.{◌≡◌, ◌+◌, ◌*◌, ◌<◌, [], ◌∷◌, ◌++◌, length, sym, ◌∙◌, ap, arith, rules}
+use Rattle.std.proofs.Common.{◌≡◌, ◌+◌, ◌*◌, ◌<◌, ◌≤◌, [], ◌∷◌, ◌++◌, length, sym, ◌∙◌, ap, arith, rules}
 use Rattle.std.proofs.lemmas.List.{length_push}
 use Rattle.bit_addressing.specs.declared.length.TheConstants.{MAX_BITS}
 use Rattle.std.proofs.iter.runs.Consumers.{total_runs}
-use Rattle.bit_containers.proofs.Pulling.{yields_more}
+use Rattle.bit_boxed.proofs.Pulling.{yields_more}
 use Rattle.bit_containers.proofs.vec.BitVec.from_words.Goals as goal
 
 pub returns-then-not-fits-clause-too_long : goal.returns-then-not-fits-clause-too_long
@@ -23,13 +23,16 @@ returns-then-not-fits-clause-too_long g c is =
 pub returns-in_default-clause-memory : goal.returns-in_default-clause-memory
 returns-in_default-clause-memory g c is =
     let at = c.loop-word in
-    let size = length_push at.yielded c.in-Some.word in (
+    let w = g.T.BitStore.BITS in
+    let size : length (at.yielded ++ c.in-Some.word ∷ []) ≡ c.len.result + 1 = length_push at.yielded c.in-Some.word ∙ ap (λ n. n + 1) (sym (ap length at.invariant.words)) ∙ search rules in
+    let bits : w * length (at.yielded ++ c.in-Some.word ∷ []) ≡ w * (c.len.result + 1) = ap (λ n. w * n) size in
+    let few : w * (c.len.result + 1) ≤ MAX_BITS = search rules in (
       c.into_iter-word-iterator.result,
       at.yielded ++ c.in-Some.word ∷ [],
       c.next.new.self,
       c.into_iter-word-iterator.ensures.into_iter_gives,
       yields_more g.I.IntoIter.Iterator.next_gives c.into_iter-word-iterator.result at.yielded at.word-iterator c.in-Some.word c.next.new.self at.yielded_by c.in-Some.ensures.steps,
-      omega arith,
+      (omega arith, omega arith),
     )
 
 pub returns-clause-runs : goal.returns-clause-runs

@@ -2,7 +2,7 @@ use Rattle.std.proofs.Common.{◌+◌, refl, sym, ◌∙◌, ap, arith}
 use Rattle.bit_addressing.specs.Typed.{row}
 use Rattle.bit_addressing.proofs.lists.Sized.{words_for_le}
 use Rattle.bit_addressing.proofs.Rows.{width_positive, row_of_none, sized_none}
-use Rattle.bit_containers.proofs.Vectors.{shown_length}
+use Rattle.bit_slice.proofs.Parts.{shown_length}
 use Rattle.bit_containers.proofs.vec.BitVec.new.Goals as goal
 
 pub invariant_of-result : goal.invariant_of-result

@@ -7,7 +7,8 @@ use Rattle.bit_addressing.proofs.lists.Sized.{room}
 use Rattle.bit_addressing.proofs.Rows.{width_positive, width_small}
 use Rattle.bit_addressing.proofs.Typed.{length_row}
 use Rattle.bit_slice.proofs.Shown.{put_all}
-use Rattle.bit_containers.proofs.Vectors.{shown_length, few_words_for}
+use Rattle.bit_slice.proofs.Parts.{shown_length}
+use Rattle.bit_containers.proofs.Vectors.{few_words_for}
 use Rattle.bit_containers.proofs.Growing.{some_bits, sized_false}
 use Rattle.bit_containers.proofs.vec.BitVec.repeat.Goals as goal
 

@@ -5,7 +5,8 @@ use Rattle.bit_addressing.specs.Row.{put, sized}
 use Rattle.bit_addressing.specs.Typed.{row}
 use Rattle.bit_addressing.proofs.lists.Shown.{resized_shows}
 use Rattle.bit_addressing.proofs.Rows.{width_positive}
-use Rattle.bit_containers.proofs.Vectors.{kept, shown, shown_length, no_room_for}
+use Rattle.bit_slice.proofs.Parts.{shown_length}
+use Rattle.bit_containers.proofs.Vectors.{kept, shown, no_room_for}
 use Rattle.bit_containers.proofs.Clean.{clean_grown}
 use Rattle.bit_containers.proofs.vec.BitVec.resize.Goals as goal
 

@@ -3,7 +3,8 @@ use Rattle.std.specs.List.{refill, length_refill}
 use Rattle.bit_addressing.specs.Typed.{row}
 use Rattle.bit_addressing.proofs.lists.Shown.{length-between}
 use Rattle.bit_slice.proofs.Parts.{run_in_run}
-use Rattle.bit_boxed.proofs.Boxes.{refilled, shown}
+use Rattle.bit_slice.proofs.Parts.{in_row}
+use Rattle.bit_boxed.proofs.Boxes.{refilled}
 use Rattle.bit_boxed.proofs.boxed.iter.IntoIter.as_mut_bitslice.Goals as goal
 
 pub invariant_of-self-inside-lent : goal.invariant_of-self-inside-lent
@@ -31,6 +32,6 @@ returns g c =
     let room : i.head + upto ≤ i.head + i.len = omega arith in
     record {
       list = c.run_mut.ensures.list ∙ ap (λ l. slice_range (bits l) (i.head + from) (i.head + upto)) c.as_mut_slice.ensures.value
-          ∙ sym (run_in_run (bits ws) i.head (i.head + i.len) from upto room (shown g.T.BitStore g.O.BitOrder ws i.head i.len inv.fits) ordered) ∙ seen;
+          ∙ sym (run_in_run (bits ws) i.head (i.head + i.len) from upto room (in_row g.T.BitStore g.O.BitOrder ws (i.head + i.len) inv.fits) ordered) ∙ seen;
       len = c.run_mut.ensures.len ∙ (let e : i.head + upto - (i.head + from) ≡ upto - from = omega arith in e) ∙ sym (length-between list from upto (omega (arith, inv.shows))) ∙ ap length seen;
     }

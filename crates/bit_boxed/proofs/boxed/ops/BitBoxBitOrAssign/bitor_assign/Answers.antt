@@ -4,7 +4,7 @@ use Rattle.bit_addressing.specs.Typed.{row}
 use Rattle.bit_slice.specs.Operators.{or_of}
 use Rattle.bit_slice.proofs.Combining.{length-combined}
 use Rattle.bit_slice.proofs.Shown.{shown_filled}
-use Rattle.bit_boxed.proofs.Boxes.{shown, shown_length}
+use Rattle.bit_slice.proofs.Parts.{in_row, shown_length}
 use Rattle.bit_boxed.proofs.boxed.ops.BitBoxBitOrAssign.bitor_assign.Goals as goal
 
 pub returns : goal.returns
@@ -16,7 +16,7 @@ returns g c =
     let made : List Bool = or_of (slice_range bits i.head (i.head + i.len)) c.args.rhs.list in
     let is : row g.T.BitStore g.O.BitOrder ws ≡ put bits i.head made = c.or_in_vec.ensures.bits ∙ ap (λ l. put bits i.head (or_of (slice_range bits i.head (i.head + i.len)) l)) c.as_bitslice-other.ensures.list in
     let long : length made ≡ i.len = length-combined (λ x y. x || y) (slice_range bits i.head (i.head + i.len)) c.args.rhs.list ∙ shown_length g.T.BitStore g.O.BitOrder i.words.items i.head i.len c.self.invariant.fits in
-    let list : slice_range (row g.T.BitStore g.O.BitOrder ws) i.head (i.head + i.len) ≡ made = ap (λ r. slice_range r i.head (i.head + i.len)) is ∙ shown_filled bits made i.head i.len (sym long) (shown g.T.BitStore g.O.BitOrder i.words.items i.head i.len c.self.invariant.fits) in
+    let list : slice_range (row g.T.BitStore g.O.BitOrder ws) i.head (i.head + i.len) ≡ made = ap (λ r. slice_range r i.head (i.head + i.len)) is ∙ shown_filled bits made i.head i.len (sym long) (in_row g.T.BitStore g.O.BitOrder i.words.items (i.head + i.len) c.self.invariant.fits) in
     record {
       after = (
         list ∙ ap (λ v. or_of v.list c.args.rhs.list) c.self.view_is,

@@ -7,7 +7,7 @@ use Rattle.bit_addressing.proofs.Typed.{length_row}
 use Rattle.std.proofs.lemmas.Nat.{div-add-mod'}
 use Rattle.bit_slice.proofs.Parts.{part_room, part_shows, words_cut}
 use Rattle.bit_slice.proofs.Shown.{shown_all}
-use Rattle.bit_array.proofs.run.run_mut.Goals as goal
+use Rattle.bit_slice.proofs.run.run_mut.Goals as goal
 
 pub words_at-requires : goal.words_at-requires
 words_at-requires g c =

@@ -4,8 +4,8 @@ ghost use Rattle.bit_addressing.specs.declared.length.TheConstants.{MAX_BITS};
 ghost use Rattle.bit_addressing.specs.Typed.{row};
 ghost use Rattle.bit_slice.specs.BitSliceMut.{head_of, len_of, list_of};
 
+use crate::slice_mut::BitSliceMut;
 use bit_addressing::{BitOrder, BitStore, elts};
-use bit_slice::BitSliceMut;
 
 /// The view of the bits from index `from` up to index `upto` of the words' row, for writing: what is written
 /// lands in the words. The condition: `from..upto` is a range of the row, and has at most `MAX_BITS` bits.

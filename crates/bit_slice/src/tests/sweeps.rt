@@ -1,0 +1,240 @@
+//! Each call of a view at every head of a byte and every length up to 17 bits, beside plain loops over lists.
+ghost use Rattle.std.specs.Prelude.{◌+◌, ◌≤◌};
+
+use crate::tests::orders::{Scramble, Xor4};
+use crate::{BitSlice, run_mut};
+use bit_addressing::{BitIdx, BitOrder, BitStore, Lsb0, Msb0};
+use std::cmp::Ordering;
+use std::process::Abort;
+
+/// The bits of three words, one by one.
+fn bits_of<O: BitOrder>(words: [u8; 3]) -> [bool; 24] {
+    let mut bits = [false; 24];
+    for (k, word) in words.iter().enumerate() {
+        for i in 0..8 {
+            if let Some(bit) = bits.get_mut(k * 8 + i as usize) {
+                *bit = word.bit(O::at(BitIdx::<u8>::new_unchecked(i)).into_inner());
+            }
+        }
+    }
+    bits
+}
+
+/// The calls that read one bit after another.
+fn items<O: BitOrder>(rt: &impl Abort, words: [u8; 3], head: usize, len: usize)
+    requires { head + len ≤ 24 }
+{
+    let bits = bits_of::<O>(words);
+    let view = BitSlice::<u8, O>::from_slice(&words).get_range(head..head + len);
+    let (mut forward, mut backward) = (view.iter(), view.iter());
+    for i in 0..len {
+        let (bit, last) = (bits[head + i], bits[head + len - 1 - i]);
+        assert_eq!(rt; forward.len(), len - i);
+        assert_eq!(rt; (view[i], view.get(i)), (bit, Some(bit)));
+        assert_eq!(rt;
+            (forward.next(), backward.next_back()),
+            (Some(bit), Some(last))
+        );
+    }
+    assert_eq!(rt; (forward.next(), backward.next_back()), (None, None));
+    assert_eq!(rt; view.get(len), None);
+}
+
+/// The calls that read all bits at once.
+fn totals<O: BitOrder>(rt: &impl Abort, words: [u8; 3], head: usize, len: usize)
+    requires { head + len ≤ 24 }
+{
+    let bits = bits_of::<O>(words);
+    let view = BitSlice::<u8, O>::from_slice(&words).get_range(head..head + len);
+    let (mut ones, mut zeros) = (0usize, 0usize);
+    for i in head..head + len {
+        if bits[i] {
+            ones = ones.wrapping_add(1);
+        } else {
+            zeros = zeros.wrapping_add(1);
+        }
+    }
+    assert_eq!(rt; (view.len(), view.is_empty()), (len, len == 0));
+    assert_eq!(rt; (view.count_ones(), view.count_zeros()), (ones, zeros));
+    assert_eq!(rt; (view.any(), view.all()), (ones != 0, zeros == 0));
+    assert_eq!(rt; view.counted().count_ones_counted(), ones);
+    let (first, last) = if len == 0 {
+        (None, None)
+    } else {
+        (Some(bits[head]), Some(bits[head + len - 1]))
+    };
+    assert_eq!(rt; (view.first(), view.last()), (first, last));
+}
+
+/// Two views of words of two kinds, compared as lists are.
+fn compared<O: BitOrder, P: BitOrder>(
+    rt: &impl Abort,
+    words: [u8; 3],
+    head: usize,
+    len: usize,
+    from: usize,
+    n: usize,
+)
+    requires left { head + len ≤ 24 }
+    requires right { from + n ≤ 24 }
+{
+    let (left, right) = (bits_of::<O>(words), bits_of::<P>(words));
+    let mut order = len.cmp(&n);
+    let mut apart = false;
+    for i in 0..len.min(n) {
+        let (x, y) = (left[head + i], right[from + i]);
+        if !apart && x != y {
+            apart = true;
+            order = if x { Ordering::Greater } else { Ordering::Less };
+        }
+    }
+    let left = BitSlice::<u8, O>::from_slice(&words).get_range(head..head + len);
+    let right = BitSlice::<u8, P>::from_slice(&words).get_range(from..from + n);
+    assert_eq!(rt; left.cmp_bits(right), order);
+    assert_eq!(rt; left.eq_bits(right), order == Ordering::Equal);
+}
+
+/// One bit written, read as it is written over, or exchanged with another.
+fn written<O: BitOrder>(rt: &impl Abort, words: [u8; 3], head: usize, len: usize)
+    requires { head + len ≤ 24 }
+{
+    let before = bits_of::<O>(words);
+    for i in 0..len {
+        let mut wanted = before;
+        wanted[head + i] = !before[head + i];
+        let mut now = words;
+        run_mut::<u8, O>(&mut now, head, head + len).set(i, !before[head + i]);
+        assert!(rt; bits_of::<O>(now) == wanted);
+        let mut now = words;
+        let old = run_mut::<u8, O>(&mut now, head, head + len).replace(i, !before[head + i]);
+        assert!(rt; old == before[head + i] && bits_of::<O>(now) == wanted);
+        for j in 0..len {
+            let mut wanted = before;
+            wanted[head + i] = before[head + j];
+            wanted[head + j] = before[head + i];
+            let mut now = words;
+            run_mut::<u8, O>(&mut now, head, head + len).swap(i, j);
+            assert!(rt; bits_of::<O>(now) == wanted);
+        }
+    }
+}
+
+/// Each run of bits copied to each place.
+fn copied_within<O: BitOrder>(rt: &impl Abort, words: [u8; 3], head: usize, len: usize)
+    requires { head + len ≤ 24 }
+{
+    let before = bits_of::<O>(words);
+    for n in 0..=len {
+        for src in 0..=len - n {
+            for dest in 0..=len - n {
+                let mut wanted = before;
+                for k in 0..n {
+                    wanted[head + dest + k] = before[head + src + k];
+                }
+                let mut now = words;
+                let mut view = run_mut::<u8, O>(&mut now, head, head + len);
+                view.copy_within(src..src + n, dest);
+                assert!(rt; bits_of::<O>(now) == wanted);
+                let mut now = words;
+                let mut view = run_mut::<u8, O>(&mut now, head, head + len);
+                view.counted_mut().copy_within_counted(src..src + n, dest);
+                assert!(rt; bits_of::<O>(now) == wanted);
+            }
+        }
+    }
+}
+
+/// All bits written: by one bit, and by those of a view of other words, of which `n` are there.
+fn combined<O: BitOrder, P: BitOrder>(
+    rt: &impl Abort,
+    words: [u8; 3],
+    head: usize,
+    len: usize,
+    from: usize,
+    n: usize,
+)
+    requires left { head + len ≤ 24 }
+    requires right { from + n ≤ 24 }
+{
+    let others = [0x6b, 0x1d, 0xa4];
+    let (before, right) = (bits_of::<O>(words), bits_of::<P>(others));
+    let view = BitSlice::<u8, P>::from_slice(&others).get_range(from..from + n);
+    let (mut all, mut both, mut either, mut one) = (before, before, before, before);
+    for i in 0..len {
+        let there = i < n && right[from + i];
+        all[head + i] = true;
+        both[head + i] = before[head + i] && there;
+        either[head + i] = before[head + i] || there;
+        one[head + i] = before[head + i] != there;
+    }
+    let mut now = words;
+    run_mut::<u8, O>(&mut now, head, head + len).fill(true);
+    assert!(rt; bits_of::<O>(now) == all);
+    let mut now = words;
+    run_mut::<u8, O>(&mut now, head, head + len).and_bits(view);
+    assert!(rt; bits_of::<O>(now) == both);
+    let mut now = words;
+    run_mut::<u8, O>(&mut now, head, head + len).or_bits(view);
+    assert!(rt; bits_of::<O>(now) == either);
+    let mut now = words;
+    run_mut::<u8, O>(&mut now, head, head + len).xor_bits(view);
+    assert!(rt; bits_of::<O>(now) == one);
+}
+
+/// All bits written over by those of a view of other words.
+fn cloned<O: BitOrder, P: BitOrder>(
+    rt: &impl Abort,
+    words: [u8; 3],
+    head: usize,
+    len: usize,
+    from: usize,
+)
+    requires left { head + len ≤ 24 }
+    requires right { from + len ≤ 24 }
+{
+    let others = [0x6b, 0x1d, 0xa4];
+    let right = bits_of::<P>(others);
+    let view = BitSlice::<u8, P>::from_slice(&others).get_range(from..from + len);
+    let mut wanted = bits_of::<O>(words);
+    for i in 0..len {
+        wanted[head + i] = right[from + i];
+    }
+    let mut now = words;
+    run_mut::<u8, O>(&mut now, head, head + len).clone_from_bitslice(view);
+    assert!(rt; bits_of::<O>(now) == wanted);
+}
+
+fn sweep<O: BitOrder, P: BitOrder>(rt: &impl Abort) {
+    let words = [0xb1, 0x6d, 0x2e];
+    for head in 0..8 {
+        for len in 0..18 {
+            items::<O>(rt, words, head, len);
+            totals::<O>(rt, words, head, len);
+            written::<O>(rt, words, head, len);
+            copied_within::<O>(rt, words, head, len);
+        }
+    }
+    for head in 0..8 {
+        for from in 0..8 {
+            for len in 0..18 {
+                cloned::<O, P>(rt, words, head, len, from);
+                for n in 0..18 {
+                    compared::<O, P>(rt, words, head, len, from, n);
+                    combined::<O, P>(rt, words, head, len, from, n);
+                }
+            }
+        }
+    }
+}
+
+#[test]
+fn by_the_two_orders(rt: HostRuntime) {
+    sweep::<Lsb0, Msb0>(&rt);
+    sweep::<Msb0, Msb0>(&rt);
+}
+
+#[test]
+fn by_orders_of_a_user(rt: HostRuntime) {
+    sweep::<Xor4, Lsb0>(&rt);
+    sweep::<Scramble, Xor4>(&rt);
+}

@@ -1,5 +1,6 @@
 //! How much room the vector has.
-ghost use Rattle.std.specs.Prelude.{◌≡◌, ◌+◌, ◌≤◌, length, OnOk, IsOk};
+ghost use Rattle.std.specs.Prelude.{◌≡◌, ◌+◌, ◌-◌, ◌≤◌, ◌↔◌, length, Err, IfOk, OnOk, OnErr, IsOk};
+ghost use Rattle.bit_addressing.specs.Row.{words_for};
 ghost use Rattle.bit_addressing.specs.declared.length.TheConstants.{MAX_BITS};
 ghost use Rattle.bit_containers.specs.BitVec.{IsKept, RefusesOnly};
 
@@ -18,6 +19,19 @@ impl<T: BitStore, O: BitOrder> BitVec<T, O> {
         all - self.head
     }
 
+    // How many words more it takes to hold `more` bits more.
+    fn words_to_add(&self, more: usize) -> Result<usize, GrowError>
+        ensures words { IfOk result (λ n. n ≡ words_for T.BITS (self.now.head + (length self.now.list + more)) - length self.now.words) }
+        ensures fits { IsOk result ↔ (length self.now.list + more ≤ MAX_BITS) }
+        ensures refusal { OnErr result (result ≡ Err GrowError.TooLong) }
+    {
+        if more > MAX_BITS - self.len {
+            return Err(GrowError::TooLong);
+        }
+        let wanted = elts::<T>(self.head + (self.len + more));
+        Ok(wanted.saturating_sub(self.words.len()))
+    }
+
     /// Makes room for `more` bits more, and for some beyond them where memory is taken. Words and list stay.
     /// It answers `TooLong` exactly where the length would pass `MAX_BITS`, and `OutOfMemory` only where it
     /// would pass the capacity.
@@ -28,11 +42,8 @@ impl<T: BitStore, O: BitOrder> BitVec<T, O> {
         ensures refusal { RefusesOnly result (length self.old.list + more) self.old self.new }
         ensures capacity { self.old.capacity ≤ self.new.capacity }
     {
-        if more > MAX_BITS - self.len {
-            return Err(GrowError::TooLong);
-        }
-        let wanted = elts::<T>(self.head + (self.len + more));
-        let Ok(()) = self.words.reserve(wanted.saturating_sub(self.words.len())) else {
+        let words = self.words_to_add(more)?;
+        let Ok(()) = self.words.reserve(words) else {
             return Err(GrowError::OutOfMemory);
         };
         Ok(())
@@ -46,14 +57,8 @@ impl<T: BitStore, O: BitOrder> BitVec<T, O> {
         ensures refusal { RefusesOnly result (length self.old.list + more) self.old self.new }
         ensures capacity { self.old.capacity ≤ self.new.capacity }
     {
-        if more > MAX_BITS - self.len {
-            return Err(GrowError::TooLong);
-        }
-        let wanted = elts::<T>(self.head + (self.len + more));
-        let Ok(()) = self
-            .words
-            .reserve_exact(wanted.saturating_sub(self.words.len()))
-        else {
+        let words = self.words_to_add(more)?;
+        let Ok(()) = self.words.reserve_exact(words) else {
             return Err(GrowError::OutOfMemory);
         };
         Ok(())

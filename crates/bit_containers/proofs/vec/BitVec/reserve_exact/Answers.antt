@@ -1,4 +1,4 @@
-use Rattle.std.proofs.Common.{◌+◌, ◌<◌, ◌≤◌, length, arith, rules}
+use Rattle.std.proofs.Common.{◌≡◌, ◌+◌, ◌-◌, ◌<◌, ◌≤◌, length, refl, ◌∙◌, arith, rules}
 use Rattle.std.proofs.Common.{vec_capacity}
 use Rattle.bit_addressing.specs.Row.{words_for}
 use Rattle.bit_addressing.proofs.Rows.{width_positive, width_small}
@@ -11,9 +11,12 @@ returns-in_default-clause-refusal g c =
     let w = g.T.BitStore.BITS in
     let more = c.args.more in
     let least : length i.words.items ≤ vec_capacity i.words = search rules in
-    let short : vec_capacity i.words < words_for w (i.head + (i.len + more)) = omega (arith, c.elts-wanted.ensures, c.len.ensures, c.saturating_sub.ensures, i.words.ok.0, c.in_default.ensures.full) in
+    let words : c.in_ok-words.words ≡ words_for w (i.head + (i.len + more)) - length i.words.items = c.in_ok-words.ensures.words ∙ rw (← c.self.view_is, c.self.invariant.shows) refl in
+    let size : length c.args.self.now.list ≡ i.len = rw (← c.self.view_is) c.self.invariant.shows in
+    let fits = c.in_ok-words.ensures.fits.0 refl in
+    let short : vec_capacity i.words < words_for w (i.head + (i.len + more)) = omega (arith, words, least, i.words.ok.0, c.in_default.ensures.full) in
     rw (← c.self.view_is, c.self.invariant.shows) (record {
-      too_long = ((λ e. cc), (λ h. absurd (omega (arith, c.self.invariant.len_small, c.if-more-self.false))));
+      too_long = ((λ e. cc), (λ h. absurd (omega (arith, size, fits))));
       memory = λ _. no_room_for w (length i.words.items) (vec_capacity i.words) i.head i.len (i.len + more) (width_positive w g.met.T.BitStore.width) c.self.invariant least (omega arith) short;
       unchanged = kept g.T.BitStore g.O.BitOrder i.words.items c.reserve_exact.new.self.items i.head i.len _ _ c.in_default.ensures.items;
     })
@@ -25,6 +28,8 @@ returns-clause-room g c =
     let more = c.args.more in
     let low = width_small w g.met.T.BitStore.width in
     let below = c.self.invariant.head_below in
-    let few = c.self.invariant.len_small in
-    let enough : words_for w (i.head + (i.len + more)) ≤ vec_capacity c.reserve_exact.new.self = omega (arith, c.elts-wanted.ensures, c.len.ensures, c.saturating_sub.ensures, c.in-Ok.ensures.len, c.in-Ok.ensures.ok) in
-    rw (← c.self.view_is, c.self.invariant.shows) (has_room w (vec_capacity c.reserve_exact.new.self) i.head (i.len + more) (width_positive w g.met.T.BitStore.width) (omega (arith, c.if-more-self.false)) enough)
+    let words : c.in_ok-words.words ≡ words_for w (i.head + (i.len + more)) - length i.words.items = c.in_ok-words.ensures.words ∙ rw (← c.self.view_is, c.self.invariant.shows) refl in
+    let size : length c.args.self.now.list ≡ i.len = rw (← c.self.view_is) c.self.invariant.shows in
+    let fits = c.in_ok-words.ensures.fits.0 refl in
+    let enough : words_for w (i.head + (i.len + more)) ≤ vec_capacity c.reserve_exact.new.self = omega (arith, words, c.in-Ok.ensures.len, c.in-Ok.ensures.ok) in
+    rw (← c.self.view_is, c.self.invariant.shows) (has_room w (vec_capacity c.reserve_exact.new.self) i.head (i.len + more) (width_positive w g.met.T.BitStore.width) (omega (arith, size, fits, low, below)) enough)

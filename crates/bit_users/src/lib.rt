@@ -4,6 +4,7 @@
 
 mod callers;
 mod free_map;
+mod matrix;
 mod search;
 mod sequence;
 mod table;
@@ -12,6 +13,7 @@ mod tests;
 mod wire;
 
 pub use free_map::FreeMap;
+pub use matrix::Matrix;
 pub use sequence::{Fault, from_bytes, to_bytes};
 pub use table::NumberSet;
 pub use wire::Header;

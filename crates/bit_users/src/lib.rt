@@ -14,6 +14,6 @@ mod wire;
 
 pub use free_map::FreeMap;
 pub use matrix::Matrix;
-pub use sequence::{Fault, from_bytes, to_bytes};
+pub use sequence::{Fault, are_of_one_list, from_bytes, to_bytes};
 pub use table::NumberSet;
 pub use wire::Header;

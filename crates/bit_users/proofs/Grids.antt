@@ -1,7 +1,7 @@
 -- Where the bits of a matrix lie, and what becomes of them.
 use Rattle.std.proofs.Common.{◌≡◌, ◌≢◌, ℕ, ◌+◌, ◌-◌, ◌*◌, ◌<◌, ◌≤◌, Bool, true, false, ◌||◌, List, length, set, get_or, slice_range, bit_or, refl, sym, ◌∙◌, ap, subst, inl, inr, arith}
 use Rattle.std.specs.Prelude.{◌⊎◌, ◌↔◌}
-use Rattle.std.proofs.lemmas.Bool.{cases_lt, cases_eq}
+use Rattle.std.proofs.lemmas.Bool.{cases_lt, cases_eq, true≢false}
 use Rattle.std.proofs.lemmas.Bool.Decides.{nat_tests}
 use Rattle.std.proofs.lemmas.List.{get_or-set_other}
 use Rattle.std.proofs.Math.Nat.{mul-le-mul_right}
@@ -12,7 +12,8 @@ use Rattle.bit_addressing.proofs.Words.{has_or}
 use Rattle.bit_addressing.proofs.lists.Moved.{get_or-moved}
 use Rattle.bit_addressing.proofs.lists.Put.{length-put, put_before, put_behind, put_inside}
 use Rattle.bit_addressing.proofs.lists.Shown.{get_or-run}
-use Rattle.bit_users.specs.Matrix.{Grid, AreAlike, IsOred, IsSet, item}
+use Rattle.bit_users.specs.Matrix.{Grid, AreAlike, IsOred, IsPath, IsSet, item}
+use Rattle.bit_users.proofs.Paths.{ArePathsBelow, all_paths}
 
 -- a row ends before the next one begins
 pub row_ends : (i a columns : ℕ) → i < a → i * columns + columns ≤ a * columns
@@ -147,6 +148,20 @@ row_sets old new into from inside within alike row others i j =
         | inr t ↦ (higher (subst (λ k. k < old.rows) (sym t.0) inside), wider t.1.1, now t.0 t.1.1 ∙ second (item old into j) (item old from j) t.1.2)
       ],
     )
+
+-- a row that has an edge to a node, and to which the edges from there were joined; and one that has none
+pub row_leads : (old new : Grid) (row k : ℕ) → row < old.rows → k < old.rows → IsSet old row k → AreAlike new old → ((j : ℕ) → j < old.columns → item new row j ≡ (item old row j || item old k j)) → ((i j : ℕ) → i < old.rows → j < old.columns → i ≢ row → item new i j ≡ item old i j)
+    → (i j : ℕ) → IsSet new i j ↔ (IsSet old i j ⊎ ((i ≡ row) × IsSet old row k × IsSet old k j))
+row_leads old new row k inside node leads alike ored others i j =
+    let sets = row_sets old new row k inside node alike ored others i j in
+    (λ s. elim (sets.0 s) [ inl o ↦ inl o | inr t ↦ inr (t.0, leads, t.1) ], λ w. sets.1 (elim w [ inl o ↦ inl o | inr t ↦ inr (t.0, t.2) ]))
+
+pub row_leads_not : (old : Grid) (row k : ℕ) → item old row k ≡ false → (i j : ℕ) → IsSet old i j ↔ (IsSet old i j ⊎ ((i ≡ row) × IsSet old row k × IsSet old k j))
+row_leads_not old row k none i j = (λ s. inl s, λ w. elim w [ inl o ↦ o | inr t ↦ absurd (true≢false (sym t.1.2 ∙ none)) ])
+
+-- a graph whose edges are the paths over all nodes of another is its transitive closure
+pub closed : (old now : Grid) (n : ℕ) → old.rows ≤ n → ArePathsBelow (IsSet old) (IsSet now) n → (i j : ℕ) → IsSet now i j ↔ IsPath (IsSet old) i j
+closed old now n past are = all_paths (IsSet old) (IsSet now) n (λ x y e. (let h = e.0 in omega arith)) are
 
 -- the bits that a write at another place leaves
 pub set_elsewhere : (xs : List Bool) (columns i j a b : ℕ) (bit : Bool) → j < columns → b < columns → (i ≢ a) ⊎ (j ≢ b) → get_or (set xs (a * columns + b) bit) (i * columns + j) false ≡ get_or xs (i * columns + j) false

@@ -13,6 +13,10 @@ AreBelow k (x ∷ xs) = (x < k) × AreBelow k xs
 abbrev pub IsPathBelow : (ℕ → ℕ → Type 0) → ℕ → ℕ → ℕ → Type 0
 IsPathBelow edge k i j = (between : List ℕ) × (AreBelow k between × IsWalk edge i between j)
 
+-- `now` says of each two nodes whether a path leads from one to the other over nodes below k
+pub record ArePathsBelow (edge now : ℕ → ℕ → Type 0) (k : ℕ) : Type 0 where
+  pub paths : (i j : ℕ) → now i j ↔ IsPathBelow edge k i j
+
 -- two walks, one behind the other
 walks_joined : (edge : ℕ → ℕ → Type 0) (i : ℕ) (before : List ℕ) (k : ℕ) (behind : List ℕ) (j : ℕ) → IsWalk edge i before k → IsWalk edge k behind j → IsWalk edge i (before ++ k ∷ behind) j
 walks_joined edge i [] k behind j to from = (to, from)
@@ -46,33 +50,35 @@ walk_cut edge k i (x ∷ xs) j low walk =
     ]
 
 -- Warshall's step: where `old` are the paths over nodes below k, and `new` those and the ones that lead on at k, `new` are the paths over nodes up to k
-pub one_node_more : (edge old new : ℕ → ℕ → Type 0) (k : ℕ) → ((i j : ℕ) → old i j ↔ IsPathBelow edge k i j) → ((i j : ℕ) → new i j ↔ (old i j ⊎ (old i k × old k j))) → (i j : ℕ) → new i j ↔ IsPathBelow edge (k + 1) i j
-one_node_more edge old new k was is i j = (
-  λ here. elim ((is i j).0 here) [
-    | inl o ↦ (let p = (was i j).0 o in (p.0, (raised k p.0 p.1.0, p.1.1)))
-    | inr o ↦
-        let to = (was i k).0 o.0 in
-        let from = (was k j).0 o.1 in (
-          to.0 ++ k ∷ from.0,
-          (
-            below_joined (k + 1) to.0 (k ∷ from.0) (raised k to.0 to.1.0) (omega arith, raised k from.0 from.1.0),
-            walks_joined edge i to.0 k from.0 j to.1.1 from.1.1,
-          ),
-        )
-  ],
-  λ path. (is i j).1 (elim (walk_cut edge k i path.0 j path.1.0 path.1.1) [
-    | inl p ↦ inl ((was i j).1 p)
-    | inr p ↦ inr ((was i k).1 p.0, (was k j).1 p.1)
-  ]),
-)
+pub one_node_more : (edge old new : ℕ → ℕ → Type 0) (k : ℕ) → ArePathsBelow edge old k → ((i j : ℕ) → new i j ↔ (old i j ⊎ (old i k × old k j))) → ArePathsBelow edge new (k + 1)
+one_node_more edge old new k was is = record {
+  paths = λ i j. (
+    λ here. elim ((is i j).0 here) [
+      | inl o ↦ (let p = (was.paths i j).0 o in (p.0, (raised k p.0 p.1.0, p.1.1)))
+      | inr o ↦
+          let to = (was.paths i k).0 o.0 in
+          let from = (was.paths k j).0 o.1 in (
+            to.0 ++ k ∷ from.0,
+            (
+              below_joined (k + 1) to.0 (k ∷ from.0) (raised k to.0 to.1.0) (omega arith, raised k from.0 from.1.0),
+              walks_joined edge i to.0 k from.0 j to.1.1 from.1.1,
+            ),
+          )
+    ],
+    λ path. (is i j).1 (elim (walk_cut edge k i path.0 j path.1.0 path.1.1) [
+      | inl p ↦ inl ((was.paths i j).1 p)
+      | inr p ↦ inr ((was.paths i k).1 p.0, (was.paths k j).1 p.1)
+    ]),
+  );
+}
 
 -- a path over no node is an edge
-pub edge_alone : (edge : ℕ → ℕ → Type 0) (i j : ℕ) → edge i j ↔ IsPathBelow edge 0 i j
-edge_alone edge i j = (λ e. ([], (tt, e)), λ path. none_between path.0 path.1.0 path.1.1)
+pub edge_alone : (edge : ℕ → ℕ → Type 0) → ArePathsBelow edge edge 0
+edge_alone edge = record { paths = λ i j. (λ e. ([], (tt, e)), λ path. none_between i path.0 j path.1.0 path.1.1) }
   where
-    none_between : (between : List ℕ) → AreBelow 0 between → IsWalk edge i between j → edge i j
-    none_between [] low walk = walk
-    none_between (x ∷ xs) low walk = absurd (let h = low.0 in omega arith)
+    none_between : (i : ℕ) (between : List ℕ) (j : ℕ) → AreBelow 0 between → IsWalk edge i between j → edge i j
+    none_between i [] j low walk = walk
+    none_between i (x ∷ xs) j low walk = absurd (let h = low.0 in omega arith)
 
 all_inside : (edge : ℕ → ℕ → Type 0) (n : ℕ) → ((x y : ℕ) → edge x y → x < n) → (i : ℕ) (between : List ℕ) (j : ℕ) → IsWalk edge i between j → AreBelow n between
 all_inside edge n inside i [] j walk = tt
@@ -83,53 +89,43 @@ all_inside edge n inside i (x ∷ xs) j walk = (begins x xs walk.1, all_inside e
     begins x (y ∷ ys) w = inside x y w.0
 
 -- where edges begin below n alone, the paths over nodes below n are all paths
-pub all_paths : (edge now : ℕ → ℕ → Type 0) (n : ℕ) → ((x y : ℕ) → edge x y → x < n) → ((i j : ℕ) → now i j ↔ IsPathBelow edge n i j) → (i j : ℕ) → now i j ↔ IsPath edge i j
-all_paths edge now n inside is i j = (λ here. (let p = (is i j).0 here in (p.0, p.1.1)), λ path. (is i j).1 (path.0, (all_inside edge n inside i path.0 j path.1, path.1)))
+pub all_paths : (edge now : ℕ → ℕ → Type 0) (n : ℕ) → ((x y : ℕ) → edge x y → x < n) → ArePathsBelow edge now n → (i j : ℕ) → now i j ↔ IsPath edge i j
+all_paths edge now n inside is i j = (λ here. (let p = (is.paths i j).0 here in (p.0, p.1.1)), λ path. (is.paths i j).1 (path.0, (all_inside edge n inside i path.0 j path.1, path.1)))
 
 -- ---- a round: the rows below r have been led on at k
 
-abbrev pub AreLed : (ℕ → ℕ → Type 0) → (ℕ → ℕ → Type 0) → ℕ → ℕ → Type 0
-AreLed old now k r = (i j : ℕ) → now i j ↔ (old i j ⊎ ((i < r) × old i k × old k j))
+pub record AreLed (old now : ℕ → ℕ → Type 0) (k r : ℕ) : Type 0 where
+  pub led : (i j : ℕ) → now i j ↔ (old i j ⊎ ((i < r) × old i k × old k j))
 
 pub none_led : (edge : ℕ → ℕ → Type 0) (k : ℕ) → AreLed edge edge k 0
-none_led edge k i j = (λ e. inl e, λ w. elim w [ inl e ↦ e | inr t ↦ absurd (let h = t.0 in omega arith) ])
+none_led edge k = record { led = λ i j. (λ e. inl e, λ w. elim w [ inl e ↦ e | inr t ↦ absurd (let h = t.0 in omega arith) ]) }
 
--- row r has an edge to k, and the edges from there are joined to it
-pub row_led : (old now new : ℕ → ℕ → Type 0) (k r : ℕ) → AreLed old now k r → now r k → ((i j : ℕ) → new i j ↔ (now i j ⊎ ((i ≡ r) × now k j))) → AreLed old new k (r + 1)
-row_led old now new k r was leads is i j =
-    let from : (x : ℕ) → now k x → old k x = λ x e. elim ((was k x).0 e) [ inl o ↦ o | inr t ↦ t.2 ] in
-    let to : old r k = elim ((was r k).0 leads) [ inl o ↦ o | inr t ↦ t.1 ] in (
-      λ e. elim ((is i j).0 e) [
-        | inl n ↦ elim ((was i j).0 n) [ inl o ↦ inl o | inr t ↦ inr ((let h = t.0 in omega arith), t.1, t.2) ]
-        | inr t ↦ inr ((let h = t.0 in omega arith), subst (λ x. old x k) (sym t.0) to, from j t.1)
-      ],
-      λ w. (is i j).1 (elim w [
-        | inl o ↦ inl ((was i j).1 (inl o))
-        | inr t ↦ elim (cases_lt i r) [
-          | inl less ↦ inl ((was i j).1 (inr (less, t.1, t.2)))
-          | inr up ↦ inr ((let h = t.0 in omega arith), (was k j).1 (inl t.2))
-        ]
-      ]),
-    )
-
--- row r has no edge to k, and stays
-pub row_kept : (old now : ℕ → ℕ → Type 0) (k r : ℕ) → AreLed old now k r → (now r k → ⊥) → AreLed old now k (r + 1)
-row_kept old now k r was apart i j = (
-  λ e. elim ((was i j).0 e) [ inl o ↦ inl o | inr t ↦ inr ((let h = t.0 in omega arith), t.1, t.2) ],
-  λ w. elim w [
-    | inl o ↦ (was i j).1 (inl o)
-    | inr t ↦ elim (cases_lt i r) [
-      | inl less ↦ (was i j).1 (inr (less, t.1, t.2))
-      | inr up ↦
-          let is : i ≡ r = (let h = t.0 in omega arith) in
-          absurd (apart ((was r k).1 (inl (subst (λ x. old x k) is t.1))))
-    ]
-  ],
-)
+-- row r, where it has an edge to k, is led on too
+pub row_more : (old now new : ℕ → ℕ → Type 0) (k r : ℕ) → AreLed old now k r → ((i j : ℕ) → new i j ↔ (now i j ⊎ ((i ≡ r) × now r k × now k j))) → AreLed old new k (r + 1)
+row_more old now new k r was is =
+    let from : (x : ℕ) → now k x → old k x = λ x e. elim ((was.led k x).0 e) [ inl o ↦ o | inr t ↦ t.2 ] in
+    let to : now r k → old r k = λ e. elim ((was.led r k).0 e) [ inl o ↦ o | inr t ↦ t.1 ] in
+    record {
+      led = λ i j. (
+        λ e. elim ((is i j).0 e) [
+          | inl n ↦ elim ((was.led i j).0 n) [ inl o ↦ inl o | inr t ↦ inr ((let h = t.0 in omega arith), t.1, t.2) ]
+          | inr t ↦ inr ((let h = t.0 in omega arith), subst (λ x. old x k) (sym t.0) (to t.1), from j t.2)
+        ],
+        λ w. (is i j).1 (elim w [
+          | inl o ↦ inl ((was.led i j).1 (inl o))
+          | inr t ↦ elim (cases_lt i r) [
+            | inl less ↦ inl ((was.led i j).1 (inr (less, t.1, t.2)))
+            | inr up ↦
+                let here : i ≡ r = (let h = t.0 in omega arith) in
+                inr (here, (was.led r k).1 (inl (subst (λ x. old x k) here t.1)), (was.led k j).1 (inl t.2))
+          ]
+        ]),
+      );
+    }
 
 -- all rows have been led on
 pub all_led : (old now : ℕ → ℕ → Type 0) (k r n : ℕ) → ((x y : ℕ) → old x y → x < n) → n ≤ r → AreLed old now k r → (i j : ℕ) → now i j ↔ (old i j ⊎ (old i k × old k j))
 all_led old now k r n inside past was i j = (
-  λ e. elim ((was i j).0 e) [ inl o ↦ inl o | inr t ↦ inr (t.1, t.2) ],
-  λ w. (was i j).1 (elim w [ inl o ↦ inl o | inr t ↦ inr ((let h = inside i k t.0 in omega arith), t.0, t.1) ]),
+  λ e. elim ((was.led i j).0 e) [ inl o ↦ inl o | inr t ↦ inr (t.1, t.2) ],
+  λ w. (was.led i j).1 (elim w [ inl o ↦ inl o | inr t ↦ inr ((let h = inside i k t.0 in omega arith), t.0, t.1) ]),
 )

@@ -1,6 +1,7 @@
 -- Bytes that stand for a list of truth values.
 use Rattle.std.proofs.Common.{◌≡◌, ℕ, ◌+◌, ◌-◌, ◌*◌, ◌^◌, ◌<◌, ◌≤◌, Bool, true, false, List, ◌++◌, map, length, take, drop, replicate, get_or, slice_range, Option, Some, None, is_some, refl, sym, ◌∙◌, ap, subst, inl, inr, arith}
 use Rattle.std.specs.Int.{w64, from_le_bytes, to_le_bytes}
+use Rattle.std.specs.Prelude.{◌↔◌}
 use Rattle.std.specs.Option.{MatchOption}
 use Rattle.std.proofs.lemmas.Bool.{cases_lt, true≢false}
 use Rattle.std.proofs.lemmas.List.{get_or-append_right, get_or-replicate, get_or-take, get_or_past, get_or-drop, length-drop, length-map, length-replicate, length-take, length-take-le, map-id, take-append-drop, take_all}
@@ -142,3 +143,8 @@ shown_small row list len is few =
     let size : length list ≡ length (take len row) = ap length (is ∙ ap (slice_range row 0) none ∙ between_from_start row len) in
     let cut = length-take len row in
     omega arith
+
+-- bytes of lists are equal exactly where the lists are
+pub bytes_exact : (a b : List Bool) (xs ys : List ℕ) → length a ≤ 2305843009213693951 → length b ≤ 2305843009213693951 → AreWords 8 xs → AreWords 8 ys → AreBytesOf a xs → AreBytesOf b ys → (xs ≡ ys) ↔ (a ≡ b)
+bytes_exact a b xs ys few_a few_b low_x low_y of_a of_b =
+    (λ same. one_list a b ys (small (length a) few_a) (small (length b) few_b) (subst (λ l. AreBytesOf a l) same of_a) of_b, λ same. one_sequence b xs ys low_x low_y (subst (λ l. AreBytesOf l xs) same of_a) of_b)

@@ -1,13 +1,13 @@
 //! What the authors of such things rely on, as callers that need no proof of their own.
-ghost use Rattle.std.specs.Prelude.{◌≡◌, ◌≢◌, ◌<◌, ◌≤◌, ◌↔◌, IfOk, IsTrue, Some, length};
-ghost use Rattle.bit_addressing.specs.declared.length.TheConstants.{MAX_BITS};
+ghost use Rattle.std.specs.Prelude.{◌≡◌, ◌≢◌, ◌<◌, ◌≤◌, ◌⊎◌, ◌↔◌, ℕ, IfOk, IsTrue, Some, length};
+ghost use Rattle.bit_users.specs.Matrix.{IsPath, IsSet, item};
 ghost use Rattle.bit_users.specs.Table.{IsIn, IsPrime};
 ghost use Rattle.bit_users.specs.Wire.{Fits};
 
-use crate::{Fault, FreeMap, Header, NumberSet, from_bytes, to_bytes};
+use crate::{Fault, FreeMap, Header, Matrix, NumberSet, are_of_one_list, from_bytes, to_bytes};
 use bit_addressing::{BitOrder, BitStore, GrowError, Msb0};
 use bit_containers::BitVec;
-use std::alloc::Global;
+use std::alloc::{AllocError, Global};
 
 /// What is written is read back.
 pub fn read_back(header: Header, alloc: Global) -> Result<Option<Header>, GrowError>
@@ -61,11 +61,53 @@ pub fn written_and_read<T: BitStore, O: BitOrder>(
     alloc: Global,
     bits: &BitVec<T, O>,
 ) -> Result<BitVec<u8, Msb0>, Fault>
-    requires { length bits.now.list ≤ MAX_BITS }
     ensures { IfOk result (λ read. read.list ≡ bits.now.list) }
 {
     match to_bytes(alloc, bits) {
         Ok(bytes) => from_bytes(alloc, &bytes),
         Err(_) => Err(Fault::OutOfMemory),
     }
+}
+
+/// Lists are equal exactly where their bytes are.
+pub fn have_equal_bytes<T: BitStore, O: BitOrder, U: BitStore, P: BitOrder>(
+    alloc: Global,
+    bits: &BitVec<T, O>,
+    others: &BitVec<U, P>,
+) -> Result<bool, GrowError>
+    ensures { IfOk result (λ same. IsTrue same ↔ (bits.now.list ≡ others.now.list)) }
+{
+    let bytes = to_bytes(alloc, bits)?;
+    let other_bytes = to_bytes(alloc, others)?;
+    Ok(are_of_one_list(&bytes, &other_bytes))
+}
+
+/// Whether a path leads from one node of a graph to another. The graph becomes its transitive closure.
+pub fn path_leads(graph: &mut Matrix, from: usize, to: usize) -> bool
+    requires square { graph.old.rows ≡ graph.old.columns }
+    requires from { from < graph.old.rows }
+    requires to { to < graph.old.columns }
+    ensures { IsTrue result ↔ IsPath (IsSet graph.old) from to }
+{
+    graph.close();
+    graph.get(from, to)
+}
+
+/// A matrix that is turned twice has its bits again.
+pub fn turned_twice(alloc: Global, matrix: &Matrix) -> Result<Matrix, AllocError>
+    ensures { IfOk result (λ again. (i j : ℕ) → i < matrix.now.rows → j < matrix.now.columns → item again i j ≡ item matrix.now i j) }
+{
+    let turned = matrix.transpose(alloc)?;
+    turned.transpose(alloc)
+}
+
+/// What is or-ed into a row is set in it, and what was set there stays set.
+pub fn joined(matrix: &mut Matrix, into: usize, from: usize, column: usize) -> bool
+    requires into { into < matrix.old.rows }
+    requires from { from < matrix.old.rows }
+    requires column { column < matrix.old.columns }
+    ensures { IsTrue result ↔ (IsSet matrix.old into column ⊎ IsSet matrix.old from column) }
+{
+    matrix.or_row(into, from);
+    matrix.get(into, column)
 }

@@ -1,9 +1,11 @@
 //! Users of bit containers, each with the one fact that its author relies on: a wire format, a set of
-//! numbers, an allocator's map of frames, and a list as bytes.
+//! numbers, an allocator's map of frames, a list as bytes, and a matrix, whose set bits are the edges of a
+//! graph.
 #![tactic(auto)]
 
 mod callers;
 mod free_map;
+mod matrix;
 mod search;
 mod sequence;
 mod table;
@@ -12,6 +14,7 @@ mod tests;
 mod wire;
 
 pub use free_map::FreeMap;
-pub use sequence::{Fault, from_bytes, to_bytes};
+pub use matrix::Matrix;
+pub use sequence::{Fault, are_of_one_list, from_bytes, to_bytes};
 pub use table::NumberSet;
 pub use wire::Header;

@@ -1,5 +1,5 @@
 //! A list of truth values as bytes, and back.
-ghost use Rattle.std.specs.Prelude.{◌≡◌, ◌≤◌, Bool, List, Err, IfOk, length};
+ghost use Rattle.std.specs.Prelude.{◌≡◌, ◌≤◌, ◌↔◌, Bool, List, Err, IfOk, IsTrue, length};
 ghost use Rattle.bit_addressing.specs.declared.length.TheConstants.{MAX_BITS};
 ghost use Rattle.bit_users.specs.Sequence.{AreBytesOf};
 ghost use Rattle.bit_users.specs.declared.sequence.Fault.TheVariants as faults;
@@ -30,7 +30,8 @@ pub fn to_bytes<T: BitStore, O: BitOrder>(
     alloc: Global,
     bits: &BitVec<T, O>,
 ) -> Result<Vec<u8>, GrowError>
-    ensures { IfOk result (λ bytes. AreBytesOf bits.now.list bytes.items) }
+    ensures bytes { IfOk result (λ bytes. AreBytesOf bits.now.list bytes.items) }
+    ensures few { IfOk result (λ bytes. length bits.now.list ≤ MAX_BITS) }
 {
     let mut copy = BitVec::<u8, Msb0>::new(alloc);
     copy.extend_from_bitslice(bits.as_bitslice())?;
@@ -44,6 +45,20 @@ pub fn to_bytes<T: BitStore, O: BitOrder>(
         return Err(GrowError::OutOfMemory);
     };
     Ok(bytes)
+}
+
+/// Whether two lists are equal, by their bytes alone: they are exactly where the bytes are. So a list's bytes
+/// can stand for it, as in a key. Takes no memory.
+///
+/// ```text
+/// are_of_one_list(&to_bytes(alloc, &a)?, &to_bytes(alloc, &b)?)    // a.eq_bits(b.as_bitslice())
+/// ```
+pub fn are_of_one_list(left: &[u8], right: &[u8]) -> bool
+    ensures { (a b : List Bool) → length a ≤ MAX_BITS → length b ≤ MAX_BITS → AreBytesOf a left.now → AreBytesOf b right.now → (IsTrue result ↔ (a ≡ b)) }
+{
+    u8::are_words(left);
+    u8::are_words(right);
+    left == right
 }
 
 /// The list whose bytes these are. They are `Broken` exactly where they are those of no list of at most

@@ -1,8 +1,8 @@
 //! The users on real data, each call once.
-use crate::{Fault, FreeMap, Header, NumberSet, from_bytes, to_bytes};
+use crate::{Fault, FreeMap, Header, Matrix, NumberSet, are_of_one_list, from_bytes, to_bytes};
 use bit_addressing::{GrowError, Lsb0, Msb0};
 use bit_containers::BitVec;
-use std::alloc::Global;
+use std::alloc::{AllocError, Global};
 use std::test::Fail;
 
 // A header of a packet with a payload of 95 bytes, sent by UDP from 192.168.0.1 to 192.168.0.199.
@@ -122,6 +122,13 @@ fn too_many(rt: HostRuntime) {
     let most = usize::MAX;
     assert!(rt; matches!(NumberSet::new(rt.alloc(), most), Err(GrowError::TooLong)));
     assert!(rt; matches!(FreeMap::new(rt.alloc(), most), Err(GrowError::TooLong)));
+    assert!(rt; matches!(Matrix::new(rt.alloc(), most, 3), Err(GrowError::TooLong)));
+    assert!(rt;
+        matches!(
+            Matrix::new(rt.alloc(), 1 << 31, 1 << 30),
+            Err(GrowError::TooLong)
+        )
+    );
 }
 
 #[test]
@@ -135,7 +142,9 @@ fn lists_as_bytes(rt: HostRuntime) -> Result<(), Fail> {
     );
     let read = from_bytes(rt.alloc(), &bytes)?;
     assert!(rt; read.eq_bits(bits.as_bitslice()));
+    assert!(rt; are_of_one_list(&bytes, &to_bytes(rt.alloc(), &read)?));
     let empty = to_bytes(rt.alloc(), &BitVec::<u8, Msb0>::new(rt.alloc()))?;
+    assert!(rt; !are_of_one_list(&bytes, &empty));
     assert_eq!(rt; empty.as_slice(), [0; 8].as_slice());
     Ok(())
 }
@@ -156,4 +165,135 @@ fn bytes_of_no_list(rt: HostRuntime) {
 
 fn is_broken(alloc: Global, bytes: &[u8]) -> bool {
     matches!(from_bytes(alloc, bytes), Err(Fault::Broken))
+}
+
+// A graph of ten nodes: a circle over 0, 1 and 2, a way from it over 3 and 4 to the circle of 5 and 6, node 7, which
+// leads into that way, node 8, which leads to itself, and node 9 alone.
+const EDGES: [(usize, usize); 10] = [
+    (0, 1),
+    (1, 2),
+    (2, 0),
+    (2, 3),
+    (3, 4),
+    (4, 5),
+    (5, 6),
+    (6, 5),
+    (7, 4),
+    (8, 8),
+];
+
+// Where its paths lead, found by hand: digit `to` from the right of number `from`.
+const PATHS: [u16; 10] = [
+    0b0001111111,
+    0b0001111111,
+    0b0001111111,
+    0b0001110000,
+    0b0001100000,
+    0b0001100000,
+    0b0001100000,
+    0b0001110000,
+    0b0100000000,
+    0b0000000000,
+];
+
+// Where paths from a node lead, by a search in depth that takes each node up once.
+fn reached_from(alloc: Global, start: usize) -> Result<[bool; 10], AllocError> {
+    let mut reached = [false; 10];
+    let mut open = Vec::new(alloc);
+    open.push(start)?;
+    for _ in 0..=reached.len() {
+        let Some(node) = open.pop() else {
+            return Ok(reached);
+        };
+        for (from, to) in EDGES {
+            if from == node
+                && let Some(place) = reached.get_mut(to)
+                && !*place
+            {
+                *place = true;
+                open.push(to)?;
+            }
+        }
+    }
+    Ok(reached)
+}
+
+#[test]
+fn paths_of_a_graph(rt: HostRuntime) -> Result<(), Fail> {
+    let mut graph = Matrix::new(rt.alloc(), 10, 10)?;
+    for (from, to) in EDGES {
+        assert!(rt; from < graph.rows() && to < graph.columns());
+        graph.set(from, to, true);
+    }
+    assert!(rt; graph.rows() == 10 && graph.columns() == 10);
+    graph.close();
+    for from in 0..10 {
+        let reached = reached_from(rt.alloc(), from)?;
+        for to in 0..10 {
+            assert_eq!(rt; graph.get(from, to), reached[to], "{from} to {to}");
+            assert_eq!(rt;
+                graph.get(from, to),
+                PATHS[from] >> to & 1 == 1,
+                "{from} to {to}"
+            );
+        }
+    }
+    Ok(())
+}
+
+// In a line of a hundred nodes, whose rows begin anywhere in a word, a path leads to each later node.
+#[test]
+fn paths_of_a_line(rt: HostRuntime) -> Result<(), Fail> {
+    let mut line = Matrix::new(rt.alloc(), 100, 100)?;
+    for node in 1..100 {
+        assert!(rt; node < line.rows() && node < line.columns());
+        line.set(node - 1, node, true);
+    }
+    assert!(rt; line.rows() == 100 && line.columns() == 100);
+    line.close();
+    for from in 0..100 {
+        for to in 0..100 {
+            assert_eq!(rt; line.get(from, to), from < to, "{from} to {to}");
+        }
+    }
+    Ok(())
+}
+
+#[test]
+fn rows_of_a_matrix(rt: HostRuntime) -> Result<(), Fail> {
+    let mut matrix = Matrix::new(rt.alloc(), 3, 70)?;
+    matrix.set(0, 2, true);
+    matrix.set(0, 69, true);
+    matrix.set(2, 0, true);
+    matrix.set(2, 69, true);
+    matrix.or_row(2, 0);
+    matrix.copy_row(2, 1);
+    matrix.set(2, 2, false);
+    let turned = matrix.transpose(rt.alloc())?;
+    assert!(rt; turned.rows() == 70 && turned.columns() == 3);
+    for column in 0..70 {
+        let expected = [
+            column == 2 || column == 69,
+            column == 0 || column == 2 || column == 69,
+            column == 0 || column == 69,
+        ];
+        for row in 0..3 {
+            assert_eq!(rt;
+                turned.get(column, row),
+                expected[row],
+                "row {row}, column {column}"
+            );
+        }
+    }
+    Ok(())
+}
+
+#[test]
+fn no_rows_or_columns(rt: HostRuntime) -> Result<(), Fail> {
+    let mut none = Matrix::new(rt.alloc(), 0, 0)?;
+    none.close();
+    assert_eq!(rt; none.rows(), 0);
+    let turned = Matrix::new(rt.alloc(), 5, 0)?.transpose(rt.alloc())?;
+    assert!(rt; turned.rows() == 0 && turned.columns() == 5);
+    Ok(())
 }

@@ -83,8 +83,33 @@ fn combine_part<F: BitOperator, T: BitStore, O: BitOrder>(
 }
 
 /// Makes each bit of the words `first..last` into the bit that `F` makes of it and of the bit of `source`
-/// that stands as far behind `from`. The condition: the words are there, and the run lies in `source`,
-/// which has one bit more.
+/// that stands as far behind index `skip` of word `begin`. The condition: the words are there, and the run lies in
+/// `source`, which has one bit more.
+#[inline(always)]
+fn combine_behind<F: BitOperator, T: BitStore, O: BitOrder, U: BitStore, P: BitOrder>(
+    words: &mut [T],
+    first: usize,
+    last: usize,
+    source: &[U],
+    begin: usize,
+    skip: u8,
+)
+    requires ordered { first ≤ last }
+    requires target { last ≤ length words.old }
+    requires within { skip < U.BITS }
+    requires source { begin * U.BITS + skip + (last - first) * T.BITS < U.BITS * length source.now }
+    requires source_fits { begin * U.BITS + skip + (last - first) * T.BITS < 2 ^ 64 }
+    ensures bits { row T.BitStore O.BitOrder words.new ≡ put (row T.BitStore O.BitOrder words.old) (first * T.BITS) (zip2 F.made (slice_range (row T.BitStore O.BitOrder words.old) (first * T.BITS) (last * T.BITS)) (slice_range (row U.BitStore P.BitOrder source.now) (begin * U.BITS + skip) (begin * U.BITS + skip + (last - first) * T.BITS))) }
+    ensures size { length words.new ≡ length words.old }
+{
+    for k in first..last {
+        let new = word_behind::<T, O, U, P>(source, begin, skip, k - first);
+        words[k] = F::apply(words[k], new);
+    }
+}
+
+/// The same, of the bits that stand as far behind bit `from` of the row. Where that is a word's first bit no word
+/// has to be shifted, so the compiler is shown this case by itself.
 fn combine_whole<F: BitOperator, T: BitStore, O: BitOrder, U: BitStore, P: BitOrder>(
     words: &mut [T],
     first: usize,
@@ -102,9 +127,10 @@ fn combine_whole<F: BitOperator, T: BitStore, O: BitOrder, U: BitStore, P: BitOr
     let width = U::BITS as usize;
     let begin = from / width;
     let skip = (from % width) as u8;
-    for k in first..last {
-        let new = word_behind::<T, O, U, P>(source, begin, skip, k - first);
-        words[k] = F::apply(words[k], new);
+    if skip == 0 {
+        combine_behind::<F, T, O, U, P>(words, first, last, source, begin, 0);
+    } else {
+        combine_behind::<F, T, O, U, P>(words, first, last, source, begin, skip);
     }
 }
 

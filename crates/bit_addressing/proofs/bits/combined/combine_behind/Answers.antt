@@ -1,16 +1,15 @@
-use Rattle.std.proofs.Common.{◌≡◌, ℕ, ◌+◌, ◌-◌, ◌*◌, ◌/◌, ◌%◌, [], ◌∷◌, length, slice_range, refl, sym, ◌∙◌, ap, arith, rules}
+use Rattle.std.proofs.Common.{◌≡◌, ℕ, ◌+◌, ◌-◌, ◌*◌, [], ◌∷◌, length, slice_range, refl, ◌∙◌, ap, arith, rules}
 use Rattle.std.specs.Simd.Lanes.{zip2}
-use Rattle.std.proofs.lemmas.Nat.{div-add-mod'}
 use Rattle.bit_addressing.specs.Typed.{row}
 use Rattle.bit_addressing.proofs.Combined.{word_combined, combined_whole_none, combined_more}
 use Rattle.bit_addressing.proofs.Runs.{mul_mono}
 use Rattle.bit_addressing.proofs.lists.Sized.{one_more_word}
 use Rattle.bit_addressing.proofs.Rows.{width_positive}
 use Rattle.bit_addressing.proofs.Typed.{length_row, row_replaced, row_whole}
-use Rattle.bit_addressing.proofs.bits.combined.combine_whole.Goals as goal
+use Rattle.bit_addressing.proofs.bits.combined.combine_behind.Goals as goal
 
 pub loop-k-init : goal.loop-k-init
-loop-k-init g c = record { bits = combined_whole_none g.F.BitOperator.made (row g.T.BitStore g.O.BitOrder c.args.words.now) (row g.U.BitStore g.P.BitOrder c.args.source.now) g.T.BitStore.BITS c.args.from c.args.first; size = refl }
+loop-k-init g c = record { bits = combined_whole_none g.F.BitOperator.made (row g.T.BitStore g.O.BitOrder c.args.words.now) (row g.U.BitStore g.P.BitOrder c.args.source.now) g.T.BitStore.BITS (c.args.begin * g.U.BitStore.BITS + c.args.skip) c.args.first; size = refl }
 
 pub loop-k-preserved : goal.loop-k-preserved
 loop-k-preserved g c =
@@ -19,9 +18,8 @@ loop-k-preserved g c =
     let value = g.T.BitStore.value in
     let place = g.O.BitOrder.place in
     let f = g.F.BitOperator.made in
-    let b = c.BITS-width.result in
     let first = c.args.first in
-    let from = c.args.from in
+    let from : ℕ = c.args.begin * u + c.args.skip in
     let k = c.loop-k.k in
     let words = c.args.words.now in
     let source = c.args.source.now in
@@ -34,12 +32,10 @@ loop-k-preserved g c =
     let inside = mul_mono (k + 1) (length words) w (omega arith) in
     let behind = mul_mono (k + 1 - first) (c.args.last - first) w (omega arith) in
     let more = one_more_word k w in
-    let split : from / b * b + from % b ≡ from = div-add-mod' from b in
-    let at : from / b * u + from % b ≡ from = ap (λ n. from / b * n + from % b) (sym c.BITS-width.ensures) ∙ split in
-    let a : ℕ = from / b * u + from % b + (k - first) * w in
+    let a : ℕ = from + (k - first) * w in
     record {
       bits = row_replaced value place w c.loop-k.words k c.apply.result positive (omega arith)
-          ∙ combined_more f old cur zs (row g.T.BitStore g.O.BitOrder (c.apply.result ∷ [])) w first k from a (from + (k + 1 - first) * w) c.loop-k.auto.k (omega arith) (ap (λ n. n + (k - first) * w) at) refl (omega arith) c.loop-k.invariant.bits
+          ∙ combined_more f old cur zs (row g.T.BitStore g.O.BitOrder (c.apply.result ∷ [])) w first k from a (from + (k + 1 - first) * w) c.loop-k.auto.k (omega arith) refl refl (omega arith) c.loop-k.invariant.bits
           (word_combined f place w (value c.index-words-k.result) (value c.word_behind-new.result) (value c.apply.result) positive (g.met.O.BitOrder.lawful w g.met.T.BitStore.width) c.apply.ensures
           ∙ ap (λ l. zip2 f l (row g.T.BitStore g.O.BitOrder (c.word_behind-new.result ∷ []))) (row_whole value place w c.loop-k.words k (k * w) (k * w + w) c.index-words-k.result positive (omega arith) c.index-words-k.is refl refl)
           ∙ ap (zip2 f (slice_range cur (k * w) (k * w + w))) c.word_behind-new.ensures);

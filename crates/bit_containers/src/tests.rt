@@ -4,11 +4,16 @@ mod converting;
 mod copies;
 mod edits;
 mod growing;
+mod limits;
+mod memory;
 mod moves;
 mod numbers;
 mod operators;
+mod orders;
+mod pulling;
 mod reading;
 mod removing;
+mod sweeps;
 mod text;
 mod words;
 

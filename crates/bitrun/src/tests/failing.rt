@@ -212,6 +212,41 @@ fn flushed_writes(rt: HostRuntime) -> Result<(), Fail> {
     Ok(())
 }
 
+const GROWING: &[u8] =
+    b"push 1\nresize 200 1\nsplitoff 120\nsplice 3 5 0 400\nwithin 0 100\nreserve 2000\n\
+insert 0 0\ndrain 5 10\nlen\n";
+
+/// Where a request for memory is refused, what is written is a beginning of all replies, in whole lines, and then the
+/// refusal; whichever request `rt try --test --fail-alloc N` refuses.
+#[test]
+fn refused_memory(rt: HostRuntime) {
+    let all = b"ok\nok\n80\nok\nok\nok\nok\n0\n614\n".as_slice();
+    let alloc = rt.alloc();
+    let mut words = Vec::new(alloc);
+    for word in ["u8", "msb0"] {
+        let Ok(word) = String::from_str(alloc, word) else {
+            return;
+        };
+        if words.push(word).is_err() {
+            return;
+        }
+    }
+    let Ok(mut output) = Vec::with_capacity(alloc, 100) else {
+        return;
+    };
+    let status = start(alloc, words.as_slice(), GROWING, &mut output);
+    if status == 0 {
+        assert_eq!(rt; output.as_slice(), all);
+        return;
+    }
+    assert_eq!(rt; status, 1);
+    let Some(front) = output.as_slice().strip_suffix(b"no memory\n".as_slice()) else {
+        panic!(rt; "the refusal is told");
+    };
+    assert!(rt; front.len() < all.len() && all.starts_with(front));
+    assert!(rt; front.is_empty() || front.ends_with(b"\n".as_slice()));
+}
+
 #[test]
 fn usage_to_a_full_writer(rt: HostRuntime) -> Result<(), Fail> {
     let alloc = rt.alloc();

@@ -1,0 +1,66 @@
+//! Lengths at their limit, reached by what is asked for alone.
+use crate::tests::{holds, of};
+use crate::{BitVec, Command, GrowError, Lsb0, Msb0, Reply, Stop, run};
+use std::test::Fail;
+
+const LIMIT: usize = 2305843009213693951;
+
+const PAST: usize = 2305843009213693952;
+
+#[test]
+fn reserving_at_the_limit(rt: HostRuntime) -> Result<(), Fail> {
+    let mut v = of::<u8, Lsb0>(rt.alloc(), b"1")?;
+    for (more, too_long) in [(LIMIT - 1, false), (LIMIT, true), (usize::MAX, true)] {
+        let answers = [v.reserve(more), v.reserve_exact(more)];
+        for answer in answers {
+            assert_eq!(rt; answer == Err(GrowError::TooLong), too_long, "for {more}");
+        }
+        holds(&rt, &v, b"1");
+    }
+    for n in [PAST, usize::MAX] {
+        let answers = [v.resize(n, true), v.resize_with(n, |_| true)];
+        for answer in answers {
+            assert_eq!(rt; answer, Err(GrowError::TooLong));
+        }
+        holds(&rt, &v, b"1");
+    }
+    Ok(())
+}
+
+#[test]
+fn makers_at_the_limit(rt: HostRuntime) {
+    for (n, too_long) in [(LIMIT, false), (PAST, true), (usize::MAX, true)] {
+        let made = BitVec::<u8, Lsb0>::repeat(rt.alloc(), false, n);
+        assert_eq!(rt;
+            matches!(made, Err(GrowError::TooLong)),
+            too_long,
+            "for {n}"
+        );
+        let made = BitVec::<u64, Msb0>::with_capacity(rt.alloc(), n);
+        assert_eq!(rt;
+            matches!(made, Err(GrowError::TooLong)),
+            too_long,
+            "for {n}"
+        );
+    }
+}
+
+/// A run stops at the command that passes the limit, and what came before it stays done.
+#[test]
+fn runs_at_the_limit(rt: HostRuntime) -> Result<(), Fail> {
+    for command in [
+        Command::Reserve(LIMIT),
+        Command::Splice(0, 1, false, PAST),
+        Command::Resize(PAST, true),
+    ] {
+        let commands = [Command::Push(true), command, Command::Push(false)];
+        let mut v = BitVec::<u8, Lsb0>::new(rt.alloc());
+        let mut replies = Vec::new(rt.alloc());
+        let stop = run(&mut v, &commands, &mut replies);
+        let why = GrowError::TooLong;
+        assert_eq!(rt; stop, Err(Stop { done: 1, why }));
+        assert_eq!(rt; replies.as_slice(), [Reply::Done].as_slice());
+        holds(&rt, &v, b"1");
+    }
+    Ok(())
+}

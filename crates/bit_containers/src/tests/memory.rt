@@ -1,0 +1,254 @@
+//! Each request for memory refused: what is answered then, and what stays.
+//!
+//! The tests pass with ample memory, and whichever request `rt try --test --fail-alloc N` refuses.
+use crate::array::BitArray;
+use crate::tests::holds;
+use crate::{
+    BitOrder, BitSlice, BitStore, BitVec, Command, GrowError, IntoBitVec, Lsb0, Msb0, Reply, run,
+};
+use std::alloc::AllocError;
+use std::process::Abort;
+
+/// That an answer is the vector of these digits, or that memory is wanting.
+fn made<T: BitStore, O: BitOrder>(
+    rt: &impl Abort,
+    answer: Result<BitVec<T, O>, AllocError>,
+    digits: &[u8],
+) {
+    if let Ok(v) = answer {
+        holds(rt, &v, digits);
+    }
+}
+
+/// That an answer is the vector of these digits, or that memory is wanting, and never that it would be too long.
+fn grown<T: BitStore, O: BitOrder>(
+    rt: &impl Abort,
+    answer: Result<BitVec<T, O>, GrowError>,
+    digits: &[u8],
+) {
+    match answer {
+        Ok(v) => holds(rt, &v, digits),
+        Err(why) => assert!(rt; why == GrowError::OutOfMemory),
+    }
+}
+
+#[test]
+fn makers_refused(rt: HostRuntime) {
+    let words = [0xa8_u8, 0x07];
+    let view = BitSlice::<u8, Lsb0>::from_slice(&words).get_range(3..11);
+    let all = b"0001010111100000";
+    made(&rt, BitVec::from_bitslice(rt.alloc(), view), b"10101111");
+    made(
+        &rt,
+        BitVec::from_bitslice_headed(rt.alloc(), view),
+        b"10101111",
+    );
+    made(
+        &rt,
+        BitVec::from_bitarray(rt.alloc(), BitArray::<[u8; 2], Lsb0>::new(words)),
+        all,
+    );
+    made(
+        &rt,
+        BitVec::<u8, Msb0>::from_element(rt.alloc(), 0x05),
+        b"00000101",
+    );
+    made(&rt, BitVec::<u8, Lsb0>::from_slice(rt.alloc(), &words), all);
+    grown(
+        &rt,
+        BitVec::<u8, Lsb0>::try_from_slice(rt.alloc(), &words),
+        all,
+    );
+    grown(&rt, BitVec::<u8, Lsb0>::from_words(rt.alloc(), words), all);
+    let bits = [true, false, true];
+    grown(&rt, BitVec::<u8, Lsb0>::from_bits(rt.alloc(), bits), b"101");
+    grown(
+        &rt,
+        BitVec::<u8, Lsb0>::repeat(rt.alloc(), true, 5),
+        b"11111",
+    );
+    grown(&rt, BitVec::<u8, Lsb0>::with_capacity(rt.alloc(), 100), b"");
+}
+
+#[test]
+fn makers_that_take_none(rt: HostRuntime) {
+    let words = [0xff_u8];
+    let view = BitSlice::<u8, Lsb0>::from_slice(&words).get_range(5..5);
+    let none = BitArray::<[u8; 0], Lsb0>::new([]);
+    assert!(rt; BitVec::from_bitslice(rt.alloc(), view).is_ok());
+    assert!(rt; BitVec::from_bitarray(rt.alloc(), none).is_ok());
+    assert!(rt; BitVec::<u8, Lsb0>::from_slice(rt.alloc(), &[]).is_ok());
+    assert!(rt; BitVec::<u8, Lsb0>::from_bits(rt.alloc(), None).is_ok());
+    assert!(rt; BitVec::<u8, Lsb0>::from_words(rt.alloc(), None).is_ok());
+    assert!(rt; BitVec::<u8, Lsb0>::repeat(rt.alloc(), true, 0).is_ok());
+    assert!(rt; BitVec::<u8, Lsb0>::with_capacity(rt.alloc(), 0).is_ok());
+    let mut v = BitVec::<u8, Lsb0>::new(rt.alloc());
+    assert!(rt; v.clone().is_ok() && v.split_off(0).is_ok() && v.reserve(0).is_ok());
+    assert!(rt; v.splice(.., None).finish().is_ok() && v.shrink_to_fit().is_ok());
+    assert!(rt; v.into_boxed_bitslice().is_ok());
+}
+
+/// That a vector has 96 ones behind its eight bits, or, where it was refused, those bits alone.
+fn stands(rt: &impl Abort, v: &BitVec<u8, Lsb0>, answer: Result<(), GrowError>) {
+    match answer {
+        Ok(()) => {
+            assert!(rt; v.len() == 104 && v.count_ones() == 102);
+            assert!(rt; v.get(1) == Some(false) && v.get(3) == Some(false));
+        }
+        Err(why) => {
+            assert!(rt; why == GrowError::OutOfMemory);
+            holds(rt, v, b"10101111");
+        }
+    }
+}
+
+#[test]
+fn growing_refused(rt: HostRuntime) {
+    let words = [0xa8_u8, 0x07];
+    let view = BitSlice::<u8, Lsb0>::from_slice(&words).get_range(3..11);
+    let ones = [0xff_u8; 12];
+    let more = BitSlice::<u8, Lsb0>::from_slice(&ones);
+    for way in 0..9u8 {
+        let Ok(mut v) = BitVec::from_bitslice_headed(rt.alloc(), view) else {
+            return;
+        };
+        assert!(rt; v.len() == 8 && v.head() == 3);
+        let mut calls = 0_u8;
+        let answer = match way {
+            0 => v.resize(104, true),
+            1 => v.resize_with(104, |_| {
+                calls = calls.wrapping_add(1);
+                true
+            }),
+            2 => v.extend_from_bitslice(more),
+            3 => v.extend_from_slice(more),
+            4 => v.extend_from_raw_slice(&ones),
+            5 => v.extend((0..96).map(|_| true)),
+            6 => v.extend_words(ones),
+            7 => v.splice(8..8, [true; 96]).finish(),
+            _ => v.splice(5..6, [true; 97]).finish(),
+        };
+        let called = if way == 1 && answer.is_ok() { 96 } else { 0 };
+        assert_eq!(rt; calls, called);
+        stands(&rt, &v, answer);
+        assert_eq!(rt; v.head(), 3);
+    }
+}
+
+/// Both sides are looked at.
+#[test]
+fn appending_refused(rt: HostRuntime) {
+    let words = [0xa8_u8, 0x07];
+    let view = BitSlice::<u8, Lsb0>::from_slice(&words).get_range(3..11);
+    let Ok(mut v) = BitVec::from_bitslice_headed(rt.alloc(), view) else {
+        return;
+    };
+    let Ok(mut other) = BitVec::<u32, Msb0>::repeat(rt.alloc(), true, 96) else {
+        return;
+    };
+    let answer = v.append(&mut other);
+    assert!(rt; other.len() == if answer.is_ok() { 0 } else { 96 });
+    assert!(rt; other.count_ones() == other.len());
+    stands(&rt, &v, answer);
+}
+
+/// Bits one by one, room, and a range joined once more: each refusal leaves what stood before it.
+#[test]
+fn one_by_one_refused(rt: HostRuntime) {
+    let mut v = BitVec::<u8, Msb0>::new(rt.alloc());
+    for turn in 0..70usize {
+        let (len, ones, first) = (v.len(), v.count_ones(), v.first());
+        assert!(rt; len < 1000);
+        let (answer, more) = match turn % 5 {
+            0 => (v.push(true), 1),
+            1 => (v.insert(0, true), 1),
+            2 => (v.extend_from_within(..), len),
+            3 => (v.reserve(100), 0),
+            _ => (v.reserve_exact(200), 0),
+        };
+        match answer {
+            Ok(()) => assert!(rt; v.len() == len + more && v.count_ones() == v.len()),
+            Err(why) => {
+                assert!(rt; why == GrowError::OutOfMemory);
+                assert!(rt; v.len() == len && v.count_ones() == ones && v.first() == first);
+            }
+        }
+        v.truncate(60);
+    }
+}
+
+#[test]
+fn copies_refused(rt: HostRuntime) {
+    let words = [0xa8_u8, 0x07];
+    let view = BitSlice::<u8, Lsb0>::from_slice(&words).get_range(3..11);
+    let Ok(mut v) = BitVec::from_bitslice_headed(rt.alloc(), view) else {
+        return;
+    };
+    made(&rt, v.clone(), b"10101111");
+    holds(&rt, &v, b"10101111");
+    assert!(rt; v.len() == 8);
+    match v.split_off(3) {
+        Ok(rest) => {
+            holds(&rt, &rest, b"01111");
+            holds(&rt, &v, b"101");
+        }
+        Err(_) => holds(&rt, &v, b"10101111"),
+    }
+    let digits = if v.len() == 3 {
+        b"101".as_slice()
+    } else {
+        b"10101111".as_slice()
+    };
+    assert!(rt; v.reserve(100).is_err() || v.capacity() >= 103);
+    assert!(rt; v.shrink_to_fit().is_ok());
+    holds(&rt, &v, digits);
+    let Ok(boxed) = v.into_boxed_bitslice() else {
+        panic!(rt; "the words are kept");
+    };
+    let Ok(v) = boxed.into_bitvec() else {
+        panic!(rt; "the words are kept");
+    };
+    holds(&rt, &v, digits);
+}
+
+/// A run that is stopped has done the commands before that one, and no more.
+#[test]
+fn runs_refused(rt: HostRuntime) {
+    let commands = [
+        Command::Push(true),
+        Command::Resize(100, true),
+        Command::Push(false),
+        Command::SplitOff(50),
+        Command::Splice(0, 1, false, 300),
+        Command::Insert(0, true),
+        Command::ExtendWithin(0, 350),
+        Command::Len,
+    ];
+    let wanted = [
+        (Reply::Done, 1, 1),
+        (Reply::Done, 100, 100),
+        (Reply::Done, 101, 100),
+        (Reply::Number(51), 50, 50),
+        (Reply::Done, 349, 49),
+        (Reply::Done, 350, 50),
+        (Reply::Done, 700, 100),
+        (Reply::Number(700), 700, 100),
+    ];
+    let mut v = BitVec::<u16, Msb0>::new(rt.alloc());
+    let mut replies = Vec::new(rt.alloc());
+    let done = match run(&mut v, &commands, &mut replies) {
+        Ok(()) => commands.len(),
+        Err(stop) => {
+            assert!(rt; stop.why == GrowError::OutOfMemory);
+            stop.done
+        }
+    };
+    assert_eq!(rt; replies.len(), done);
+    let (mut len, mut ones) = (0usize, 0usize);
+    for (reply, want) in replies.iter().zip(wanted) {
+        assert_eq!(rt; *reply, want.0);
+        (len, ones) = (want.1, want.2);
+    }
+    assert!(rt; v.len() == len && v.count_ones() == ones);
+    assert!(rt; done < 5 || v.get(if done == 5 { 0 } else { 1 }) == Some(false));
+}

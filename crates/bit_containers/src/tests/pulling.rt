@@ -1,0 +1,190 @@
+//! Iterators of a caller's own, with loose hints, whose calls are counted; what is left early.
+ghost use Rattle.std.specs.Iterator.{at_most};
+
+use crate::tests::{holds, of};
+use crate::{BitVec, GrowError, Lsb0, Msb0};
+use std::alloc::Global;
+use std::process::Abort;
+use std::test::Fail;
+
+/// One item or the other, the first of them at each third place from the end, under a hint that says nothing, or as
+/// good as nothing. It counts the calls, and those that found none; behind the first None there are more items.
+#[derive(Drop)]
+struct Loose<X: Copy> {
+    left: usize,
+    items: (X, X),
+    bounded: bool,
+    calls: usize,
+    nones: usize,
+}
+
+impl<X: Copy> Loose<X> {
+    fn of(left: usize, items: (X, X), bounded: bool) -> Self {
+        Loose {
+            left,
+            items,
+            bounded,
+            calls: 0,
+            nones: 0,
+        }
+    }
+}
+
+impl<X: Copy> Iterator for Loose<X> {
+    type Item = X;
+
+    ghost remaining = { λ items. at_most items.left };
+
+    fn next(&mut self) -> Option<X> {
+        self.calls = self.calls.wrapping_add(1);
+        if self.left == 0 {
+            self.nones = self.nones.wrapping_add(1);
+            self.left = 3;
+            return None;
+        }
+        self.left -= 1;
+        Some(if self.left % 3 == 0 {
+            self.items.0
+        } else {
+            self.items.1
+        })
+    }
+
+    fn size_hint(&self) -> (usize, Option<usize>) {
+        let upper = usize::MAX.max(self.left);
+        (0, if self.bounded { Some(upper) } else { None })
+    }
+}
+
+const BITS: (bool, bool) = (true, false);
+
+const WORDS: (u8, u8) = (0xa5, 0x0f);
+
+/// The bits that come from so many, in a list.
+fn bits(alloc: Global, n: usize) -> Result<Vec<bool>, Fail> {
+    let mut list = Vec::new(alloc);
+    for i in 0..n {
+        list.push((n - 1 - i) % 3 == 0)?;
+    }
+    Ok(list)
+}
+
+/// That a vector holds two bits and then those that come from so many.
+fn ends_with(rt: &impl Abort, v: &BitVec<u8, Lsb0>, n: usize) {
+    assert!(rt; n < 2000 && v.len() == n + 2);
+    assert!(rt; v.get(0) == Some(false) && v.get(1) == Some(true));
+    for i in 0..n {
+        assert_eq!(rt; v.get(2 + i), Some((n - 1 - i) % 3 == 0));
+    }
+}
+
+#[test]
+fn loose_hints(rt: HostRuntime) -> Result<(), Fail> {
+    for n in [0usize, 1, 7, 8, 63, 64, 65, 200] {
+        for bounded in [false, true] {
+            let mut v = of::<u8, Lsb0>(rt.alloc(), b"01")?;
+            v.extend(Loose::of(n, BITS, bounded))?;
+            ends_with(&rt, &v, n);
+            let mut v = of::<u8, Lsb0>(rt.alloc(), b"0110")?;
+            assert!(rt; v.len() == 4);
+            v.splice(2.., Loose::of(n, BITS, bounded)).finish()?;
+            ends_with(&rt, &v, n);
+            let made = BitVec::<u8, Lsb0>::from_bits(rt.alloc(), Loose::of(n, BITS, bounded))?;
+            let exact = BitVec::<u8, Lsb0>::from_bits(rt.alloc(), bits(rt.alloc(), n)?)?;
+            assert!(rt; made == exact);
+            assert_eq!(rt; made.as_raw_slice(), exact.as_raw_slice());
+            let words = Loose::of(n, WORDS, bounded);
+            let made = BitVec::<u8, Msb0>::from_words(rt.alloc(), words)?;
+            let mut v = BitVec::<u8, Msb0>::new(rt.alloc());
+            let words = Loose::of(n, WORDS, bounded);
+            v.extend_words(words)?;
+            assert!(rt; made == v && v.len() / 8 == n);
+            for (i, bit) in bits(rt.alloc(), n)?.iter().enumerate() {
+                let word = if *bit { 0xa5 } else { 0x0f };
+                assert_eq!(rt; v.as_raw_slice().get(i), Some(&word));
+            }
+        }
+    }
+    Ok(())
+}
+
+/// No call follows the first None, behind which there would be more.
+#[test]
+fn calls_counted(rt: HostRuntime) -> Result<(), Fail> {
+    for n in [0usize, 1, 63, 64, 65, 200] {
+        for way in 0..2u8 {
+            let mut bits = Loose::of(n, BITS, way == 0);
+            if way == 0 {
+                let mut v = of::<u8, Lsb0>(rt.alloc(), b"01")?;
+                v.extend(bits.by_ref())?;
+                ends_with(&rt, &v, n);
+            } else {
+                let v = BitVec::<u16, Msb0>::from_bits(rt.alloc(), bits.by_ref())?;
+                assert_eq!(rt; v.len(), n);
+            }
+            assert!(rt; bits.nones == 1 && bits.calls.wrapping_sub(1) == n);
+            let mut words = Loose::of(n, WORDS, way == 0);
+            let mut v = BitVec::<u8, Lsb0>::new(rt.alloc());
+            if way == 0 {
+                v.extend_words(words.by_ref())?;
+            } else {
+                v = BitVec::from_words(rt.alloc(), words.by_ref())?;
+            }
+            assert!(rt; v.len() / 8 == n);
+            assert!(rt; words.nones == 1 && words.calls.wrapping_sub(1) == n);
+        }
+    }
+    Ok(())
+}
+
+/// Where a request for memory is refused, no more is pulled, and the list stays; whichever request
+/// `rt try --test --fail-alloc N` refuses.
+#[test]
+fn pulled_until_refused(rt: HostRuntime) {
+    for way in 0..3u8 {
+        let mut bits = Loose::of(1000, BITS, way % 2 == 0);
+        let mut words = Loose::of(1000, WORDS, way % 2 == 0);
+        let Ok(mut v) = BitVec::<u8, Lsb0>::from_bits(rt.alloc(), [false, true]) else {
+            return;
+        };
+        let answer = match way {
+            0 => v.extend(bits.by_ref()),
+            1 => v.extend_words(words.by_ref()),
+            _ => BitVec::<u8, Msb0>::from_bits(rt.alloc(), bits.by_ref()).map(|_| ()),
+        };
+        let (calls, nones) = if way == 1 {
+            (words.calls, words.nones)
+        } else {
+            (bits.calls, bits.nones)
+        };
+        match answer {
+            Ok(()) => assert!(rt; nones == 1 && calls == 1001),
+            Err(why) => {
+                assert!(rt; why == GrowError::OutOfMemory && nones == 0 && calls < 1000);
+                holds(&rt, &v, b"01");
+            }
+        }
+    }
+}
+
+/// Splices finished after none of their bits, one from either end, all, and past the end.
+#[test]
+fn splices_left_early(rt: HostRuntime) -> Result<(), Fail> {
+    for way in 0..7u8 {
+        let mut v = of::<u16, Msb0>(rt.alloc(), b"0110100")?;
+        assert!(rt; v.len() == 7);
+        let mut splice = v.splice(1..5, [true, false]);
+        match way {
+            0 => assert_eq!(rt; splice.len(), 4),
+            1 => assert_eq!(rt; splice.next(), Some(true)),
+            2 => assert_eq!(rt; splice.next_back(), Some(true)),
+            3 => assert_eq!(rt; splice.items().filter(|bit| *bit).count(), 3),
+            4 => assert_eq!(rt; splice.items().rev().filter(|bit| !*bit).count(), 1),
+            5 => assert!(rt; splice.nth(4).is_none() && splice.next_back().is_none()),
+            _ => assert!(rt; splice.nth_back(4).is_none() && splice.next().is_none()),
+        }
+        splice.finish()?;
+        holds(&rt, &v, b"01000");
+    }
+    Ok(())
+}

@@ -1,0 +1,237 @@
+//! Ranges drained, replaced, split off, copied and kept by a function.
+ghost use Rattle.std.specs.Prelude.{◌<◌, ◌≤◌, length};
+
+use crate::tests::orders::{Scramble, Xor4};
+use crate::tests::sweeps::{Case, again, behind, part, replaced, same, shows};
+use crate::{BitOrder, BitStore, BitVec, Lsb0, Msb0};
+use std::process::Abort;
+use std::test::Fail;
+
+const SEED: u64 = 0x8a5c_36d9_e174_b20f;
+
+const OTHER: u64 = 0x0fed_cba9_8765_4321;
+
+/// How much of some bits is taken before they are left.
+#[derive(Clone, Copy)]
+enum Left {
+    AtOnce,
+    AfterTheFirst,
+    AfterTheLast,
+    AfterAll,
+    AfterAllFromTheEnd,
+    PastTheEnd,
+    PastTheBeginning,
+}
+
+const WAYS: [Left; 7] = [
+    Left::AtOnce,
+    Left::AfterTheFirst,
+    Left::AfterTheLast,
+    Left::AfterAll,
+    Left::AfterAllFromTheEnd,
+    Left::PastTheEnd,
+    Left::PastTheBeginning,
+];
+
+/// Whether a drain gives the bits of its range, as far as it is asked for them.
+fn drains<T: BitStore, O: BitOrder>(
+    v: &mut BitVec<T, O>,
+    from: usize,
+    upto: usize,
+    bits: &[bool],
+    left: Left,
+) -> bool
+    requires ordered { from ≤ upto }
+    requires within { upto ≤ length v.old.list }
+{
+    let mut drain = v.drain(from..upto);
+    let mut right = drain.len() == bits.len();
+    match left {
+        Left::AtOnce => {}
+        Left::AfterTheFirst => right = right && drain.next() == bits.first().copied(),
+        Left::AfterTheLast => right = right && drain.next_back() == bits.last().copied(),
+        Left::AfterAll => {
+            for (i, bit) in drain.enumerate() {
+                right = right && bits.get(i) == Some(&bit);
+            }
+        }
+        Left::AfterAllFromTheEnd => {
+            for (i, bit) in drain.rev().enumerate() {
+                let last = bits.len().checked_sub(i.wrapping_add(1));
+                right = right && last.and_then(|at| bits.get(at)) == Some(&bit);
+            }
+        }
+        Left::PastTheEnd => {
+            right = right && drain.nth(bits.len()).is_none() && drain.next_back().is_none();
+        }
+        Left::PastTheBeginning => {
+            right = right && drain.nth_back(bits.len()).is_none() && drain.next().is_none();
+        }
+    }
+    right
+}
+
+/// Each range drained, in turn as far as each way goes.
+fn drained<T: BitStore, O: BitOrder>(
+    rt: &(impl Abort + AllocGlobal),
+    head: usize,
+    len: usize,
+) -> Result<(), Fail>
+    requires head { head < 8 }
+    requires len { len < 18 }
+{
+    let Case { v: first, list, .. } = behind::<T, O>(rt, SEED, head, len)?;
+    for from in 0..len + 1 {
+        for upto in from..len + 1 {
+            let bits = part(rt.alloc(), &list, from, upto)?;
+            let wanted = replaced(rt.alloc(), &list, from, upto, &[])?;
+            for (turn, left) in WAYS.iter().enumerate() {
+                if turn % 2 == (head + from + upto) % 2 {
+                    let mut v = again(rt.alloc(), &first)?;
+                    assert!(rt; upto <= v.len());
+                    assert!(rt; drains(&mut v, from, upto, &bits, *left));
+                    assert!(rt; same(&v, head, &wanted));
+                }
+            }
+        }
+    }
+    Ok(())
+}
+
+/// Each range replaced by lists of several lengths.
+fn spliced<T: BitStore, O: BitOrder>(
+    rt: &(impl Abort + AllocGlobal),
+    head: usize,
+    len: usize,
+) -> Result<(), Fail>
+    requires head { head < 8 }
+    requires len { len < 18 }
+{
+    let Case { v: first, list, .. } = behind::<T, O>(rt, SEED, head, len)?;
+    for more in [0usize, 1, 2, 7, 17] {
+        let other = behind::<u16, Msb0>(rt, OTHER, head, more)?.list;
+        for from in 0..len + 1 {
+            for upto in from..len + 1 {
+                let mut v = again(rt.alloc(), &first)?;
+                let wanted = replaced(rt.alloc(), &list, from, upto, &other)?;
+                assert!(rt; upto <= v.len());
+                v.splice(from..upto, other.clone()?).finish()?;
+                assert!(rt; same(&v, head, &wanted));
+            }
+        }
+    }
+    Ok(())
+}
+
+/// The list cut in two at each place: what is behind begins at head 0, and is clean.
+fn split<T: BitStore, O: BitOrder>(
+    rt: &(impl Abort + AllocGlobal),
+    head: usize,
+    len: usize,
+) -> Result<(), Fail>
+    requires head { head < 8 }
+    requires len { len < 18 }
+{
+    for at in 0..len + 1 {
+        let Case { mut v, list, row } = behind::<T, O>(rt, SEED, head, len)?;
+        assert!(rt; at <= v.len());
+        let rest = v.split_off(at)?;
+        let wanted = part(rt.alloc(), &list, at, len)?;
+        assert!(rt; shows(rt.alloc(), &rest, 0, &wanted, &[])?);
+        let wanted = part(rt.alloc(), &list, 0, at)?;
+        assert!(rt; shows(rt.alloc(), &v, head, &wanted, &row)?);
+    }
+    Ok(())
+}
+
+/// Each range copied to each place that has room for it.
+fn moved<T: BitStore, O: BitOrder>(
+    rt: &(impl Abort + AllocGlobal),
+    head: usize,
+    len: usize,
+) -> Result<(), Fail>
+    requires head { head < 8 }
+    requires len { len < 18 }
+{
+    let Case { v: first, list, .. } = behind::<T, O>(rt, SEED, head, len)?;
+    for from in 0..len + 1 {
+        for upto in from..len + 1 {
+            let bits = part(rt.alloc(), &list, from, upto)?;
+            for dest in 0..len - (upto - from) + 1 {
+                let mut v = again(rt.alloc(), &first)?;
+                assert!(rt; upto <= v.len() && dest <= v.len() - (upto - from));
+                v.copy_within(from..upto, dest);
+                let end = dest + (upto - from);
+                let wanted = replaced(rt.alloc(), &list, dest, end, &bits)?;
+                assert!(rt; shows(rt.alloc(), &v, head, &wanted, &[true; 40])?);
+            }
+        }
+    }
+    Ok(())
+}
+
+/// Items kept by their index and their bit; the function is called at each in turn.
+fn retained<T: BitStore, O: BitOrder>(
+    rt: &(impl Abort + AllocGlobal),
+    head: usize,
+    len: usize,
+) -> Result<(), Fail>
+    requires head { head < 8 }
+    requires len { len < 18 }
+{
+    for pattern in [
+        0x0000_0000_u32,
+        0xffff_ffff,
+        0x5555_5555,
+        0x0000_ff0f,
+        0x9249_2492,
+    ] {
+        let Case { mut v, list, .. } = behind::<T, O>(rt, SEED, head, len)?;
+        let mut wanted = Vec::new(rt.alloc());
+        for (i, bit) in list.iter().enumerate() {
+            if *bit == (pattern.wrapping_shr((i % 32) as u32) % 2 == 1) {
+                wanted.push(*bit)?;
+            }
+        }
+        let (mut next, mut ordered) = (0usize, true);
+        v.retain(|i, bit| {
+            ordered = ordered && i == next;
+            next = next.wrapping_add(1);
+            *bit == (pattern.wrapping_shr((i % 32) as u32) % 2 == 1)
+        });
+        assert!(rt; ordered && next == len && same(&v, head, &wanted));
+    }
+    Ok(())
+}
+
+#[test]
+fn ranges_behind_each_head(rt: HostRuntime) -> Result<(), Fail> {
+    for head in 0..8usize {
+        for len in 0..18usize {
+            drained::<u8, Lsb0>(&rt, head, len)?;
+            drained::<u16, Msb0>(&rt, head, len)?;
+            spliced::<u8, Lsb0>(&rt, head, len)?;
+            spliced::<u8, Msb0>(&rt, head, len)?;
+            spliced::<u8, Scramble>(&rt, head, len)?;
+            split::<u8, Lsb0>(&rt, head, len)?;
+            split::<u8, Xor4>(&rt, head, len)?;
+            split::<u16, Msb0>(&rt, head, len)?;
+        }
+    }
+    Ok(())
+}
+
+#[test]
+fn moves_behind_each_head(rt: HostRuntime) -> Result<(), Fail> {
+    for head in 0..8usize {
+        for len in 0..18usize {
+            moved::<u8, Lsb0>(&rt, head, len)?;
+            moved::<u8, Msb0>(&rt, head, len)?;
+            moved::<u16, Scramble>(&rt, head, len)?;
+            retained::<u8, Lsb0>(&rt, head, len)?;
+            retained::<u8, Msb0>(&rt, head, len)?;
+            retained::<u16, Xor4>(&rt, head, len)?;
+        }
+    }
+    Ok(())
+}

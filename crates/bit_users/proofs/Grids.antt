@@ -27,7 +27,7 @@ use Rattle.bit_users.specs.Matrix.{Grid, AreAlike, IsOred, IsPath, IsSet, item}
 use Rattle.bit_users.proofs.Paths.{ArePathsBelow, all_paths}
 
 -- a row ends before the next one begins
-pub row_ends : (i a columns : ℕ) → i < a → i * columns + columns ≤ a * columns
+row_ends : (i a columns : ℕ) → i < a → i * columns + columns ≤ a * columns
 row_ends i a columns less =
     let up : (i + 1) * columns ≤ a * columns = mul-le-mul_right columns (let h : i + 1 ≤ a = omega arith in h) in
     omega arith
@@ -42,14 +42,14 @@ pub row_inside : (rows columns i : ℕ) → i < rows → i * columns + columns �
 row_inside rows columns i row = row_ends i rows columns row
 
 -- two rows lie apart
-pub rows_apart : (i a columns : ℕ) → i ≢ a → (i * columns + columns ≤ a * columns) ⊎ (a * columns + columns ≤ i * columns)
+rows_apart : (i a columns : ℕ) → i ≢ a → (i * columns + columns ≤ a * columns) ⊎ (a * columns + columns ≤ i * columns)
 rows_apart i a columns differ = elim (cases_lt i a) [
   | inl less ↦ inl (row_ends i a columns less)
   | inr up ↦ inr (row_ends a i columns (omega arith))
 ]
 
 -- another row or another column is another place
-pub other_place : (i j a b columns : ℕ) → j < columns → b < columns → (i ≢ a) ⊎ (j ≢ b) → i * columns + j ≢ a * columns + b
+other_place : (i j a b columns : ℕ) → j < columns → b < columns → (i ≢ a) ⊎ (j ≢ b) → i * columns + j ≢ a * columns + b
 other_place i j a b columns inside within differ same = elim (cases_lt i a) [
   | inl less ↦ (let up = row_ends i a columns less in absurd (omega arith))
   | inr l ↦ elim (cases_lt a i) [
@@ -102,17 +102,11 @@ ored_more old now new into from done w count apart fits was more = record {
       ];
 }
 
-source_in : (s d n t : ℕ) → t < n → source_of s d n (d + t) ≡ s + t
-source_in s d n t h = grind (arith, nat_tests)
-
 source_out : (s d n j : ℕ) → (j < d) ⊎ (d + n ≤ j) → source_of s d n j ≡ j
 source_out s d n j out = grind (arith, nat_tests)
 
--- a bit of a run that was moved, and one that lies elsewhere
-pub bit_moved : (xs : List Bool) (s d n t : ℕ) → d + n ≤ length xs → t < n → get_or (moved xs s d n) (d + t) false ≡ get_or xs (s + t) false
-bit_moved xs s d n t fits h = get_or-moved xs s d n (d + t) (omega arith) ∙ ap (λ k. get_or xs k false) (source_in s d n t h)
-
-pub bit_left : (xs : List Bool) (s d n j : ℕ) → j < length xs → (j < d) ⊎ (d + n ≤ j) → get_or (moved xs s d n) j false ≡ get_or xs j false
+-- a bit outside a run that was moved
+bit_left : (xs : List Bool) (s d n j : ℕ) → j < length xs → (j < d) ⊎ (d + n ≤ j) → get_or (moved xs s d n) j false ≡ get_or xs j false
 bit_left xs s d n j inside out = get_or-moved xs s d n j inside ∙ ap (λ k. get_or xs k false) (source_out s d n j out)
 
 -- a row begins no later than another, or behind its end
@@ -135,7 +129,7 @@ second true b is = refl
 second false b is = is
 
 -- the bits that are set where a row is or-ed into another
-pub row_sets : (old new : Grid) (into from : ℕ) → into < old.rows → from < old.rows → AreAlike new old → ((j : ℕ) → j < old.columns → item new into j ≡ (item old into j || item old from j)) → ((i j : ℕ) → i < old.rows → j < old.columns → i ≢ into → item new i j ≡ item old i j)
+row_sets : (old new : Grid) (into from : ℕ) → into < old.rows → from < old.rows → AreAlike new old → ((j : ℕ) → j < old.columns → item new into j ≡ (item old into j || item old from j)) → ((i j : ℕ) → i < old.rows → j < old.columns → i ≢ into → item new i j ≡ item old i j)
     → (i j : ℕ) → IsSet new i j ↔ (IsSet old i j ⊎ ((i ≡ into) × IsSet old from j))
 row_sets old new into from inside within alike row others i j =
     let here : i ≡ into → (k : ℕ) → item old i k ≡ item old into k = (λ e k. ap (λ r. item old r k) e) in
@@ -202,7 +196,7 @@ module _ (front back : List Bool) where
       get_or-zip2 (λ x y. x || y) (slice_range xs a (a + n)) (slice_range ys b (b + n)) t false false false (omega arith) (omega arith)
       ∙ ap (λ c. c || get_or (slice_range ys b (b + n)) t false) (get_or-run xs a n t h) ∙ ap (λ c. get_or xs (a + t) false || c) (get_or-run ys b n t h)
 
-  pub ored_in_front : (new : List Bool) (into from n : ℕ) → into + n ≤ length front → from + n ≤ length back → new ≡ put front into (zip2 (λ x y. x || y) (slice_range front into (into + n)) (slice_range back from (from + n))) → IsOred (front ++ back) (new ++ back) into (length front + from) n
+  ored_in_front : (new : List Bool) (into from n : ℕ) → into + n ≤ length front → from + n ≤ length back → new ≡ put front into (zip2 (λ x y. x || y) (slice_range front into (into + n)) (slice_range back from (from + n))) → IsOred (front ++ back) (new ++ back) into (length front + from) n
   ored_in_front new into from n fits inside made =
       let ored : List Bool = zip2 (λ x y. x || y) (slice_range front into (into + n)) (slice_range back from (from + n)) in
       let one = length-run front into n fits in
@@ -226,7 +220,7 @@ module _ (front back : List Bool) where
         ];
       }
 
-  pub ored_in_back : (new : List Bool) (into from n : ℕ) → into + n ≤ length back → from + n ≤ length front → new ≡ put back into (zip2 (λ x y. x || y) (slice_range back into (into + n)) (slice_range front from (from + n))) → IsOred (front ++ back) (front ++ new) (length front + into) from n
+  ored_in_back : (new : List Bool) (into from n : ℕ) → into + n ≤ length back → from + n ≤ length front → new ≡ put back into (zip2 (λ x y. x || y) (slice_range back into (into + n)) (slice_range front from (from + n))) → IsOred (front ++ back) (front ++ new) (length front + into) from n
   ored_in_back new into from n fits inside made =
       let ored : List Bool = zip2 (λ x y. x || y) (slice_range back into (into + n)) (slice_range front from (from + n)) in
       let one = length-run back into n fits in

@@ -205,7 +205,7 @@ impl Matrix {
 
 // Or-s `count` bits from `from` on into those from `into` on. The condition: both runs lie in the vector, and
 // they are one run, or lie apart.
-#[tactic(auto, using(crate::proofs::Grids::ored_alone))]
+#[tactic(auto, using(crate::proofs::Ored::ored_alone))]
 fn or_run(bits: &mut BitVec<usize, Lsb0>, into: usize, from: usize, count: usize)
     requires few { length bits.old.list ≤ MAX_BITS }
     requires into { into + count ≤ length bits.old.list }
@@ -236,7 +236,7 @@ fn or_whole(bits: &mut BitVec<usize, Lsb0>, into: usize, from: usize, count: usi
 
 // The same in words, which are split before the word in which the later run begins: the bits of the earlier one
 // up to there.
-#[tactic(auto, using(crate::proofs::Grids::ored_none))]
+#[tactic(auto, using(crate::proofs::Ored::ored_none))]
 fn or_words(words: &mut [usize], into: usize, from: usize, count: usize) -> usize
     requires fits { 64 * length words.old < 2 ^ 63 }
     requires into { into + count ≤ 64 * length words.old }

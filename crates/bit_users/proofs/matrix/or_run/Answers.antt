@@ -1,7 +1,7 @@
 use Rattle.std.proofs.Common.{◌≡◌, ◌≤◌, ◌+◌, ◌-◌, inl, inr, subst, arith}
 use Rattle.std.specs.Prelude.{◌⊎◌}
 use Rattle.bit_users.specs.Matrix.{IsOred}
-use Rattle.bit_users.proofs.Grids.{ored_more}
+use Rattle.bit_users.proofs.Ored.{ored_more}
 use Rattle.bit_users.proofs.matrix.or_run.Goals as goal
 
 pub returns : goal.returns

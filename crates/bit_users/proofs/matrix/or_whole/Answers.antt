@@ -3,7 +3,7 @@ use Rattle.std.proofs.lemmas.List.{map-id}
 use Rattle.bit_addressing.specs.Row.{row_of}
 use Rattle.bit_addressing.proofs.lists.Sized.{room}
 use Rattle.bit_users.specs.Matrix.{IsOred}
-use Rattle.bit_users.proofs.Grids.{landed_ored}
+use Rattle.bit_users.proofs.Ored.{landed_ored}
 use Rattle.bit_users.proofs.matrix.or_whole.Goals as goal
 
 pub or_words-requires-clause-fits : goal.or_words-requires-clause-fits

@@ -1,5 +1,5 @@
 use Rattle.std.proofs.Common.{◌-◌, ◌*◌, ◌/◌, arith}
-use Rattle.bit_users.proofs.Grids.{words_ored_front, words_ored_back}
+use Rattle.bit_users.proofs.Ored.{words_ored_front, words_ored_back}
 use Rattle.bit_users.proofs.matrix.or_words.Goals as goal
 
 pub returns-then-into-from-clause-ored : goal.returns-then-into-from-clause-ored

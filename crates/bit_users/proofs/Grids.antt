@@ -7,7 +7,6 @@ use Rattle.std.proofs.lemmas.List.{get_or-set_other}
 use Rattle.std.proofs.Math.Nat.{mul-le-mul_right}
 use Rattle.bit_addressing.specs.Row.{moved, source_of}
 use Rattle.bit_addressing.proofs.lists.Moved.{get_or-moved}
-use Rattle.bit_addressing.specs.Typed.{row}
 use Rattle.bit_users.specs.Matrix.{Grid, AreAlike, IsPath, IsSet, item}
 use Rattle.bit_users.proofs.Paths.{ArePathsBelow, all_paths}
 

@@ -51,6 +51,12 @@ pub kept : {X : Type 0} (xs ws : List X) (n : ℕ) → length ws ≡ n → refil
 kept xs ws n size = take_at ws (drop (length ws) xs) n size
 
 module _ {X Y : Type 0} {W : store.Ghosts X} {P : order.Ghosts Y} (view : BitSlice X Y W P) where
+  -- the list that a view shows, in the row of the words
+  pub shown_list : (words : List X) (list : List Bool) (head n : ℕ) → words_of view ≡ words → head_of view ≡ head → len_of view ≡ n → list_of view ≡ list → slice_range (row W P words) head (head + n) ≡ list
+  shown_list words list head n words_are is_head is_len is_list =
+      ap (λ ws. slice_range (row W P ws) head (head + n)) (sym words_are) ∙ ap (λ k. slice_range (row_of view) k (k + n)) (sym is_head)
+      ∙ ap (λ m. slice_range (row_of view) (head_of view) (head_of view + m)) (sym is_len) ∙ is_list
+
   -- what is written over a part of the row stands in the list that a view of it showed
   pub landed : (words raw new : List X) (list : List Bool) (head first n from count : ℕ) (taken : Bool) → words_of view ≡ words → head_of view ≡ head → len_of view ≡ length list → list_of view ≡ list → n ≡ length list → first + count ≤ n
       → raw ≡ words → length new ≡ length raw → from ≡ head + first → row W P new ≡ put (row W P raw) from (replicate (from + count - from) taken)
@@ -59,9 +65,7 @@ module _ {X Y : Type 0} {W : store.Ghosts X} {P : order.Ghosts Y} (view : BitSli
       let marks : List Bool = replicate count taken in
       let many : length marks ≡ count = length-replicate count taken in
       let ends : len_of view ≡ n = is_len ∙ sym size in
-      let shows : slice_range (row W P words) head (head + n) ≡ list =
-      ap (λ ws. slice_range (row W P ws) head (head + n)) (sym words_are) ∙ ap (λ k. slice_range (row_of view) k (k + n)) (sym is_head)
-      ∙ ap (λ m. slice_range (row_of view) (head_of view) (head_of view + m)) (sym ends) ∙ is_list in
+      let shows : slice_range (row W P words) head (head + n) ≡ list = shown_list words list head n words_are is_head ends is_list in
       let long : length (row W P words) ≡ W.BITS * length words = length_row W.value P.place W.BITS words in
       let fewer : W.BITS * length view.words.now ≡ W.BITS * length words = ap (λ ws. W.BITS * length ws) words_are in
       let fits = view.fits.room in

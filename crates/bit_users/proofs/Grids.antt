@@ -1,22 +1,17 @@
 -- Where the bits of a matrix lie, and what becomes of them.
-use Rattle.std.proofs.Common.{◌≡◌, ◌≢◌, ℕ, ◌+◌, ◌-◌, ◌*◌, ◌<◌, ◌≤◌, Bool, true, false, ◌||◌, List, length, set, get_or, slice_range, bit_or, refl, sym, ◌∙◌, ap, subst, inl, inr, arith}
+use Rattle.std.proofs.Common.{◌≡◌, ◌≢◌, ℕ, ◌+◌, ◌*◌, ◌<◌, ◌≤◌, Bool, true, false, ◌||◌, List, length, set, get_or, refl, sym, ◌∙◌, ap, subst, inl, inr, arith}
 use Rattle.std.specs.Prelude.{◌⊎◌, ◌↔◌}
 use Rattle.std.proofs.lemmas.Bool.{cases_lt, cases_eq, true≢false}
 use Rattle.std.proofs.lemmas.Bool.Decides.{nat_tests}
 use Rattle.std.proofs.lemmas.List.{get_or-set_other}
 use Rattle.std.proofs.Math.Nat.{mul-le-mul_right}
-use Rattle.bit_addressing.specs.Bits.{has_bit}
-use Rattle.bit_addressing.specs.Row.{binary, put, moved, source_of}
-use Rattle.bit_addressing.proofs.Binary.{length-binary, get_or-binary}
-use Rattle.bit_addressing.proofs.Words.{has_or}
+use Rattle.bit_addressing.specs.Row.{moved, source_of}
 use Rattle.bit_addressing.proofs.lists.Moved.{get_or-moved}
-use Rattle.bit_addressing.proofs.lists.Put.{length-put, put_before, put_behind, put_inside}
-use Rattle.bit_addressing.proofs.lists.Shown.{get_or-run}
-use Rattle.bit_users.specs.Matrix.{Grid, AreAlike, IsOred, IsPath, IsSet, item}
+use Rattle.bit_users.specs.Matrix.{Grid, AreAlike, IsPath, IsSet, item}
 use Rattle.bit_users.proofs.Paths.{ArePathsBelow, all_paths}
 
 -- a row ends before the next one begins
-pub row_ends : (i a columns : ℕ) → i < a → i * columns + columns ≤ a * columns
+row_ends : (i a columns : ℕ) → i < a → i * columns + columns ≤ a * columns
 row_ends i a columns less =
     let up : (i + 1) * columns ≤ a * columns = mul-le-mul_right columns (let h : i + 1 ≤ a = omega arith in h) in
     omega arith
@@ -31,14 +26,14 @@ pub row_inside : (rows columns i : ℕ) → i < rows → i * columns + columns �
 row_inside rows columns i row = row_ends i rows columns row
 
 -- two rows lie apart
-pub rows_apart : (i a columns : ℕ) → i ≢ a → (i * columns + columns ≤ a * columns) ⊎ (a * columns + columns ≤ i * columns)
+rows_apart : (i a columns : ℕ) → i ≢ a → (i * columns + columns ≤ a * columns) ⊎ (a * columns + columns ≤ i * columns)
 rows_apart i a columns differ = elim (cases_lt i a) [
   | inl less ↦ inl (row_ends i a columns less)
   | inr up ↦ inr (row_ends a i columns (omega arith))
 ]
 
 -- another row or another column is another place
-pub other_place : (i j a b columns : ℕ) → j < columns → b < columns → (i ≢ a) ⊎ (j ≢ b) → i * columns + j ≢ a * columns + b
+other_place : (i j a b columns : ℕ) → j < columns → b < columns → (i ≢ a) ⊎ (j ≢ b) → i * columns + j ≢ a * columns + b
 other_place i j a b columns inside within differ same = elim (cases_lt i a) [
   | inl less ↦ (let up = row_ends i a columns less in absurd (omega arith))
   | inr l ↦ elim (cases_lt a i) [
@@ -50,61 +45,14 @@ other_place i j a b columns inside within differ same = elim (cases_lt i a) [
   ]
 ]
 
--- numbers of w digits that are or-ed are their digits or-ed
-pub numbers_ored : (old new : List Bool) (into from w a b number : ℕ) → into + w ≤ length old → from + w ≤ length old → binary w a ≡ slice_range old into (into + w) → binary w b ≡ slice_range old from (from + w)
-    → number ≡ bit_or a b → new ≡ put old into (binary w number) → IsOred old new into from w
-numbers_ored old new into from w a b number inside within is_a is_b is made =
-    let digits = length-binary w number in
-    let read : (x at : ℕ) → at + w ≤ length old → binary w x ≡ slice_range old at (at + w) → (t : ℕ) → t < w → has_bit x (w - 1 - t) ≡ get_or old (at + t) false =
-    (λ x at fits seen t h. sym (get_or-binary w x t h) ∙ ap (λ l. get_or l t false) seen ∙ get_or-run old at w t h) in
-    record {
-      size = ap length made ∙ length-put old (binary w number) into (omega arith);
-      run = λ t h.
-          let back : into + t - into ≡ t = omega arith in
-          ap (λ l. get_or l (into + t) false) made ∙ put_inside old (binary w number) into (into + t) false (omega arith) (omega arith) (omega arith)
-          ∙ ap (λ k. get_or (binary w number) k false) back ∙ get_or-binary w number t h ∙ ap (λ n. has_bit n (w - 1 - t)) is ∙ has_or a b (w - 1 - t)
-          ∙ ap (λ c. c || has_bit b (w - 1 - t)) (read a into inside is_a t h) ∙ ap (λ c. get_or old (into + t) false || c) (read b from within is_b t h);
-      others = λ x out. ap (λ l. get_or l x false) made ∙ elim out [
-        | inl low ↦ put_before old (binary w number) into x false (omega arith) low
-        | inr high ↦ put_behind old (binary w number) into x false (omega arith) (omega arith)
-      ];
-    }
-
--- more bits are or-ed behind those that were
-pub ored_more : (old now new : List Bool) (into from done w count : ℕ) → (into ≤ from) ⊎ (from + count ≤ into) → done + w ≤ count → IsOred old now into from done → IsOred now new (into + done) (from + done) w → IsOred old new into from (done + w)
-ored_more old now new into from done w count apart fits was more = record {
-  size = more.size ∙ was.size;
-  run = λ t h. elim (cases_lt t done) [
-    | inl low ↦ more.others (into + t) (inl (omega arith)) ∙ was.run t low
-    | inr up ↦
-        let at : into + done + (t - done) ≡ into + t = omega arith in
-        let from_at : from + done + (t - done) ≡ from + t = omega arith in
-        let here : get_or now (into + t) false ≡ get_or old (into + t) false = was.others (into + t) (inr (omega arith)) in
-        let there : get_or now (from + t) false ≡ get_or old (from + t) false = was.others (from + t) (elim apart [ inl l ↦ inr (omega arith) | inr l ↦ inl (omega arith) ]) in
-        ap (λ k. get_or new k false) (sym at) ∙ more.run (t - done) (omega arith) ∙ ap (λ k. get_or now k false || get_or now (from + done + (t - done)) false) at ∙ ap (λ k. get_or now (into + t) false || get_or now k false) from_at
-        ∙ ap (λ c. c || get_or now (from + t) false) here ∙ ap (λ c. get_or old (into + t) false || c) there
-  ];
-  others = λ x out.
-      elim out [
-        | inl low ↦ more.others x (inl (omega arith)) ∙ was.others x (inl low)
-        | inr high ↦ more.others x (inr (omega arith)) ∙ was.others x (inr (omega arith))
-      ];
-}
-
-source_in : (s d n t : ℕ) → t < n → source_of s d n (d + t) ≡ s + t
-source_in s d n t h = grind (arith, nat_tests)
-
 source_out : (s d n j : ℕ) → (j < d) ⊎ (d + n ≤ j) → source_of s d n j ≡ j
 source_out s d n j out = grind (arith, nat_tests)
 
--- a bit of a run that was moved, and one that lies elsewhere
-pub bit_moved : (xs : List Bool) (s d n t : ℕ) → d + n ≤ length xs → t < n → get_or (moved xs s d n) (d + t) false ≡ get_or xs (s + t) false
-bit_moved xs s d n t fits h = get_or-moved xs s d n (d + t) (omega arith) ∙ ap (λ k. get_or xs k false) (source_in s d n t h)
-
-pub bit_left : (xs : List Bool) (s d n j : ℕ) → j < length xs → (j < d) ⊎ (d + n ≤ j) → get_or (moved xs s d n) j false ≡ get_or xs j false
+-- a bit outside a run that was moved
+bit_left : (xs : List Bool) (s d n j : ℕ) → j < length xs → (j < d) ⊎ (d + n ≤ j) → get_or (moved xs s d n) j false ≡ get_or xs j false
 bit_left xs s d n j inside out = get_or-moved xs s d n j inside ∙ ap (λ k. get_or xs k false) (source_out s d n j out)
 
--- the row that is written doesn't begin inside the one that is read
+-- a row begins no later than another, or behind its end
 pub rows_in_order : (i a columns : ℕ) → (i * columns ≤ a * columns) ⊎ (a * columns + columns ≤ i * columns)
 rows_in_order i a columns = elim (cases_lt a i) [
   | inl less ↦ inr (row_ends a i columns less)
@@ -124,7 +72,7 @@ second true b is = refl
 second false b is = is
 
 -- the bits that are set where a row is or-ed into another
-pub row_sets : (old new : Grid) (into from : ℕ) → into < old.rows → from < old.rows → AreAlike new old → ((j : ℕ) → j < old.columns → item new into j ≡ (item old into j || item old from j)) → ((i j : ℕ) → i < old.rows → j < old.columns → i ≢ into → item new i j ≡ item old i j)
+row_sets : (old new : Grid) (into from : ℕ) → into < old.rows → from < old.rows → AreAlike new old → ((j : ℕ) → j < old.columns → item new into j ≡ (item old into j || item old from j)) → ((i j : ℕ) → i < old.rows → j < old.columns → i ≢ into → item new i j ≡ item old i j)
     → (i j : ℕ) → IsSet new i j ↔ (IsSet old i j ⊎ ((i ≡ into) × IsSet old from j))
 row_sets old new into from inside within alike row others i j =
     let here : i ≡ into → (k : ℕ) → item old i k ≡ item old into k = (λ e k. ap (λ r. item old r k) e) in

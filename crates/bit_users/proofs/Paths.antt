@@ -97,9 +97,6 @@ all_paths edge now n inside is i j = (λ here. (let p = (is.paths i j).0 here in
 pub record AreLed (old now : ℕ → ℕ → Type 0) (k r : ℕ) : Type 0 where
   pub led : (i j : ℕ) → now i j ↔ (old i j ⊎ ((i < r) × old i k × old k j))
 
-pub none_led : (edge : ℕ → ℕ → Type 0) (k : ℕ) → AreLed edge edge k 0
-none_led edge k = record { led = λ i j. (λ e. inl e, λ w. elim w [ inl e ↦ e | inr t ↦ absurd (let h = t.0 in omega arith) ]) }
-
 -- row r, where it has an edge to k, is led on too
 pub row_more : (old now new : ℕ → ℕ → Type 0) (k r : ℕ) → AreLed old now k r → ((i j : ℕ) → new i j ↔ (now i j ⊎ ((i ≡ r) × now r k × now k j))) → AreLed old new k (r + 1)
 row_more old now new k r was is =

@@ -1,10 +1,11 @@
 //! A matrix of truth values, one bit each, and where paths lead in the graph that it stands for.
-ghost use Rattle.std.specs.Prelude.{◌≡◌, ◌≢◌, ◌+◌, ◌*◌, ◌<◌, ◌≤◌, ◌⊎◌, ◌↔◌, ◌||◌, ℕ, false, Err, IfOk, IsTrue, OnErr, length, replicate, set};
+ghost use Rattle.std.specs.Prelude.{◌≡◌, ◌≢◌, ◌+◌, ◌*◌, ◌^◌, ◌<◌, ◌≤◌, ◌⊎◌, ◌↔◌, ◌||◌, ℕ, false, Err, IfOk, IsTrue, OnErr, length, replicate, set};
 ghost use Rattle.bit_addressing.specs.declared.errors.GrowError.TheVariants as errors;
 ghost use Rattle.bit_addressing.specs.declared.length.TheConstants.{MAX_BITS};
+ghost use Rattle.bit_addressing.specs.Row.{row_of};
 ghost use Rattle.bit_users.specs.Matrix.{AreAlike, IsOred, IsPath, IsSet, item, zeros};
 
-use bit_addressing::{GrowError, Lsb0};
+use bit_addressing::{GrowError, Lsb0, Or, combine_bits};
 use bit_containers::BitVec;
 use std::alloc::{AllocError, Global};
 use std::marker::Model;
@@ -32,6 +33,7 @@ pub struct Matrix {
 
 impl Model for Matrix {
     ghost use Rattle.std.specs.Prelude.{length};
+    ghost use Rattle.bit_addressing.specs.Row.{row_of};
     ghost use Rattle.bit_users.specs.Matrix.{Grid, IsGrid, grid_code};
 
     ghost Value = { Grid };
@@ -100,8 +102,8 @@ impl Matrix {
         self.bits.set(row * self.columns + column, bit);
     }
 
-    /// Sets each bit of a row whose column has a bit set in another row, up to 64 of them at a time. The
-    /// condition: the matrix has both rows.
+    /// Sets each bit of a row whose column has a bit set in another row, by whole words. The condition: the
+    /// matrix has both rows.
     #[tactic(auto, using(crate::proofs::Grids::row_inside, crate::proofs::Grids::rows_in_order, crate::proofs::Grids::place_apart))]
     pub fn or_row(&mut self, into: usize, from: usize)
         requires into { into < self.old.rows }
@@ -202,20 +204,61 @@ impl Matrix {
 }
 
 // Or-s `count` bits from `from` on into those from `into` on. The condition: both runs lie in the vector, and
-// the one that is written doesn't begin inside the other.
+// they are one run, or lie apart.
+#[tactic(auto, using(crate::proofs::Ored::ored_alone))]
 fn or_run(bits: &mut BitVec<usize, Lsb0>, into: usize, from: usize, count: usize)
     requires few { length bits.old.list ≤ MAX_BITS }
     requires into { into + count ≤ length bits.old.list }
     requires from { from + count ≤ length bits.old.list }
-    requires apart { (into ≤ from) ⊎ (from + count ≤ into) }
+    requires apart { (into ≡ from) ⊎ ((into + count ≤ from) ⊎ (from + count ≤ into)) }
     ensures { IsOred bits.old.list bits.new.list into from count }
 {
-    let mut done = 0;
-    while done < count {
-        let width = (count - done).min(64);
-        or_chunk(bits, into + done, from + done, width as u8);
-        done += width;
+    if into == from {
+        return;
     }
+    let whole = or_whole(bits, into, from, count);
+    or_chunk(bits, into + whole, from + whole, (count - whole) as u8);
+}
+
+// The same for the bits that can be or-ed by whole words. It answers how many: all but at most 64. The condition:
+// both runs lie in the vector, apart.
+fn or_whole(bits: &mut BitVec<usize, Lsb0>, into: usize, from: usize, count: usize) -> usize
+    requires few { length bits.old.list ≤ MAX_BITS }
+    requires into { into + count ≤ length bits.old.list }
+    requires from { from + count ≤ length bits.old.list }
+    requires apart { (into + count ≤ from) ⊎ (from + count ≤ into) }
+    ensures most { (result ≤ count) × (count ≤ result + 64) }
+    ensures ored { IsOred bits.old.list bits.new.list into from result }
+{
+    let head = bits.as_bitslice().head();
+    or_words(bits.as_raw_mut_slice(), head + into, head + from, count)
+}
+
+// The same in words, which are split before the word in which the later run begins: the bits of the earlier one
+// up to there.
+#[tactic(auto, using(crate::proofs::Ored::ored_none))]
+fn or_words(words: &mut [usize], into: usize, from: usize, count: usize) -> usize
+    requires fits { 64 * length words.old < 2 ^ 63 }
+    requires into { into + count ≤ 64 * length words.old }
+    requires from { from + count ≤ 64 * length words.old }
+    requires apart { (into + count ≤ from) ⊎ (from + count ≤ into) }
+    ensures size { length words.new ≡ length words.old }
+    ensures most { (result ≤ count) × (count ≤ result + 64) }
+    ensures ored { IsOred (row_of (λ w i. i) 64 words.old) (row_of (λ w i. i) 64 words.new) into from result }
+{
+    let cut = into.max(from) / 64;
+    let (edge, start) = (cut * 64, into.min(from));
+    if edge <= start {
+        return 0;
+    }
+    let whole = (edge - start).min(count);
+    let (front, back) = words.split_at_mut(cut);
+    if into < from {
+        combine_bits::<Or, usize, Lsb0, usize, Lsb0>(front, into, back, from - edge, whole);
+    } else {
+        combine_bits::<Or, usize, Lsb0, usize, Lsb0>(back, into - edge, front, from, whole);
+    }
+    whole
 }
 
 // Or-s up to 64 bits from `from` on into those from `into` on, as numbers. The condition: both lie in the vector.

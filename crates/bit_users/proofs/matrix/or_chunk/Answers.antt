@@ -1,5 +1,5 @@
 use Rattle.std.proofs.Common.{refl}
-use Rattle.bit_users.proofs.Grids.{numbers_ored}
+use Rattle.bit_users.proofs.Ored.{numbers_ored}
 use Rattle.bit_users.proofs.matrix.or_chunk.Goals as goal
 
 pub returns : goal.returns

@@ -37,3 +37,22 @@ fn over_another(rt: HostRuntime) -> Result<(), Fail> {
     holds(&rt, &v, b"");
     Ok(())
 }
+
+/// No bit behind a head of 5, in a word of its own.
+#[test]
+fn empty_behind_a_head(rt: HostRuntime) -> Result<(), Fail> {
+    let words = [0xff];
+    let view = BitSlice::<u8, Lsb0>::from_slice(&words).get_range(5..5);
+    let mut v = BitVec::from_bitslice_headed(rt.alloc(), view)?;
+    v.set_uninitialized(true);
+    assert_eq!(rt; v.as_raw_slice(), [0xff].as_slice());
+    let v = !BitVec::from_bitslice_headed(rt.alloc(), view)?;
+    assert_eq!(rt; v.as_raw_slice(), [0xff].as_slice());
+    let mut v = BitVec::from_bitslice_headed(rt.alloc(), view)?;
+    v.push(true)?;
+    assert_eq!(rt; v.as_raw_slice(), [0x20].as_slice());
+    let mut v = BitVec::from_bitslice_headed(rt.alloc(), view)?;
+    v.force_align();
+    assert!(rt; v.as_raw_slice().is_empty() && v.head() == 0);
+    Ok(())
+}

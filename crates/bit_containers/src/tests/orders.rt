@@ -2,7 +2,9 @@
 ghost use Rattle.std.specs.Prelude.{◌+◌, ◌*◌, ◌%◌, bit_xor, refl};
 ghost use Rattle.bit_addressing.specs.Order.{lawful_by_test};
 
+use crate::tests::of;
 use bit_addressing::{BitIdx, BitOrder, BitPos, BitStore};
+use std::test::Fail;
 
 /// The order whose halves of each byte change places.
 pub(crate) struct Xor4;
@@ -28,4 +30,18 @@ impl BitOrder for Scramble {
     fn at<T: BitStore>(i: BitIdx<T>) -> BitPos<T> {
         BitPos::new_unchecked(((5 * i.into_inner() as u16 + 3) % T::BITS as u16) as u8)
     }
+}
+
+#[test]
+fn words_by_orders_of_a_user(rt: HostRuntime) -> Result<(), Fail> {
+    let v = of::<u8, Scramble>(rt.alloc(), b"11001")?;
+    assert_eq!(rt; v.as_raw_slice(), [0x89].as_slice());
+    let v = of::<u16, Scramble>(rt.alloc(), b"11001")?;
+    assert_eq!(rt; v.as_raw_slice(), [0x0188].as_slice());
+    let mut v = of::<u8, Xor4>(rt.alloc(), b"1101100001101011")?;
+    assert_eq!(rt; v.as_raw_slice(), [0xb1, 0x6d].as_slice());
+    assert!(rt; v.len() == 16);
+    v.copy_within(1..12, 3);
+    assert_eq!(rt; v.as_raw_slice(), [0xb6, 0x8d].as_slice());
+    Ok(())
 }

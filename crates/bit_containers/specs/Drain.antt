@@ -1,5 +1,5 @@
 -- What a contract sees of a `Drain`.
-use Rattle.std.specs.Prelude.{◌≡◌, ℕ, ◌≤◌, Bool, List, [], length, slice_range, Option}
+use Rattle.std.specs.Prelude.{◌≡◌, ℕ, ◌-◌, ◌≤◌, Bool, List, [], length, slice_range, Option}
 use Rattle.std.specs.List.{splice}
 use Rattle.std.specs.Borrow.{GName}
 use Rattle.std.specs.Iterator.{YieldsFirst, YieldsLast, Yields}
@@ -11,6 +11,10 @@ module _ {X Y : Type 0} {W : store.Ghosts X} {P : order.Ghosts Y} where
   -- the bits that are still to come
   abbrev pub drain_rest : Drain X Y W P → List Bool
   drain_rest d = slice_range d.vec.now.list d.front d.back
+
+  -- how many they are
+  abbrev pub drain_left : Drain X Y W P → ℕ
+  drain_left d = d.back - d.front
 
   -- the bits that the vector has once the `Drain` ends
   abbrev pub drain_kept : Drain X Y W P → List Bool

@@ -49,7 +49,10 @@ impl<'a, T: BitStore, O: BitOrder> Drop for Drain<'a, T, O> {
 }
 
 impl<'a, T: BitStore, O: BitOrder> Iterator for Drain<'a, T, O> {
-    ghost use Rattle.bit_containers.specs.Drain.{DrainCanStep, DrainSteps};
+    ghost use Rattle.std.specs.Prelude.{IfSome, Some};
+    ghost use Rattle.std.specs.Iterator.{UpTo};
+    ghost use Rattle.std.specs.Iterator.SizeHint.{IsWithinCount};
+    ghost use Rattle.bit_containers.specs.Drain.{DrainCanStep, DrainSteps, drain_left};
 
     type Item = bool;
 
@@ -57,7 +60,7 @@ impl<'a, T: BitStore, O: BitOrder> Iterator for Drain<'a, T, O> {
 
     ghost next_gives = { DrainSteps };
 
-    ghost remaining = { λ d. at_most (d.back - d.front) };
+    ghost remaining = { λ d. at_most (drain_left d) };
 
     fn next(&mut self) -> Option<bool> {
         if self.front == self.back {
@@ -68,7 +71,11 @@ impl<'a, T: BitStore, O: BitOrder> Iterator for Drain<'a, T, O> {
         Some(bit)
     }
 
-    fn size_hint(&self) -> (usize, Option<usize>) {
+    fn size_hint(&self) -> (usize, Option<usize>)
+        ensures lower { IsWithinCount result.0 (at_most (drain_left self.now)) }
+        ensures upper { IfSome result.1 (UpTo (at_most (drain_left self.now))) }
+        ensures value { result ≡ (drain_left self.now, Some (drain_left self.now)) }
+    {
         let len = self.len();
         (len, Some(len))
     }

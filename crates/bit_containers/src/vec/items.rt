@@ -26,7 +26,9 @@ impl<'b, T: BitStore, O: BitOrder> Items<'b, T, O> {
 }
 
 impl<'b, T: BitStore, O: BitOrder> Iterator for Items<'b, T, O> {
-    ghost use Rattle.std.specs.Iterator.{YieldsFirst, item_count};
+    ghost use Rattle.std.specs.Prelude.{◌≡◌, IfSome, Some, length};
+    ghost use Rattle.std.specs.Iterator.{YieldsFirst, UpTo, at_most, item_count};
+    ghost use Rattle.std.specs.Iterator.SizeHint.{IsWithinCount};
     ghost use Rattle.bit_containers.specs.Items.{items_rest};
 
     type Item = bool;
@@ -41,7 +43,11 @@ impl<'b, T: BitStore, O: BitOrder> Iterator for Items<'b, T, O> {
     }
 
     /// How many bits are left, twice.
-    fn size_hint(&self) -> (usize, Option<usize>) {
+    fn size_hint(&self) -> (usize, Option<usize>)
+        ensures lower { IsWithinCount result.0 (at_most (length (items_rest self.now))) }
+        ensures upper { IfSome result.1 (UpTo (at_most (length (items_rest self.now)))) }
+        ensures value { result ≡ (length (items_rest self.now), Some (length (items_rest self.now))) }
+    {
         let count = self.inner.len();
         (count, Some(count))
     }

@@ -110,12 +110,6 @@ module _ (s : ℕ) (u : Bool) where
       ap (λ l. digit_glyph u (number_behind 0 l) ∷ digits a (drop s (take k bits))) first
       ∙ ap (λ l. digit_glyph u (number_behind 0 (take s bits)) ∷ l) (ap (digits a) rest ∙ digits_cut a (k - s) (drop s bits) (omega arith))
 
-  pub length-digits : (a : ℕ) (bits : List Bool) → length (digits a bits) ≡ a
-  length-digits zero bits = refl
-  length-digits (suc a) bits =
-      let size : length (digits (suc a) bits) ≡ suc (length (digits a (drop s bits))) = refl in
-      omega (arith, length-digits a (drop s bits))
-
 -- the bits of a group within the number of all
 pub group_read : (ms : List Bool) (at m : ℕ) → at + m ≤ length ms → length ms ≤ 64 → slice_range (number_bits (number_of ms) 64) at (at + m) ≡ slice_range ms at (at + m)
 group_read ms at m h few =

@@ -1,5 +1,5 @@
 -- How the texts of a list of bits grow.
-use Rattle.std.proofs.Common.{◌≡◌, ℕ, suc, ◌+◌, ◌-◌, ◌*◌, ◌<◌, ◌≤◌, Bool, false, List, [], ◌∷◌, ◌++◌, length, get_or, slice_range, refl, ap, sym, ◌∙◌, arith, rules}
+use Rattle.std.proofs.Common.{◌≡◌, ℕ, suc, ◌+◌, ◌-◌, ◌<◌, ◌≤◌, Bool, false, List, [], ◌∷◌, ◌++◌, length, get_or, slice_range, refl, ap, sym, ◌∙◌, arith, rules}
 use Rattle.std.proofs.lemmas.List.{append_assoc, same_lists, places, ext_get_or, take_all}
 use Rattle.std.proofs.lemmas.List.FromFn.{length-map-range_with_len, get_or-map-range_with_len, map-range_with_len_more}
 use Rattle.bit_addressing.specs.Bits.{has_bit}
@@ -31,13 +31,6 @@ number_bits_more x n = map-range_with_len_more (has_bit x) 0 n n (omega arith)
 pub spaced-append : (xs ys : List Bool) → spaced (xs ++ ys) ≡ spaced xs ++ spaced ys
 spaced-append [] ys = refl
 spaced-append (x ∷ xs) ys = ap (λ l. 44 ∷ 32 ∷ digit_of x ∷ l) (spaced-append xs ys)
-
-pub length-spaced : (xs : List Bool) → length (spaced xs) ≡ 3 * length xs
-length-spaced [] = refl
-length-spaced (x ∷ xs) =
-    let more : length (spaced (x ∷ xs)) ≡ suc (suc (suc (length (spaced xs)))) = refl in
-    let size : length (x ∷ xs) ≡ suc (length xs) = refl in
-    omega (arith, length-spaced xs)
 
 -- one digit more
 pub spaced_more : (x k : ℕ) (text : List ℕ) (d : ℕ) → text ≡ spaced (number_bits x k) → d ≡ digit_of (has_bit x k) → ((text ++ 44 ∷ []) ++ 32 ∷ []) ++ d ∷ [] ≡ spaced (number_bits x (k + 1))

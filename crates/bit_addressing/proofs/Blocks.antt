@@ -1,8 +1,7 @@
 -- Blocks of 64 bits out of two that follow each other.
-use Rattle.std.proofs.Common.{◌≡◌, ℕ, ◌+◌, ◌-◌, ◌*◌, ◌/◌, ◌%◌, ◌<◌, ◌≤◌, Bool, false, List, [], ◌∷◌, length, get_or, slice_range, sym, ◌∙◌, ap, inl, inr, arith}
+use Rattle.std.proofs.Common.{◌≡◌, ℕ, ◌+◌, ◌-◌, ◌*◌, ◌<◌, ◌≤◌, Bool, false, List, [], ◌∷◌, length, get_or, slice_range, sym, ◌∙◌, ap, inl, inr, arith}
 use Rattle.std.proofs.lemmas.Bool.{cases_lt}
 use Rattle.std.proofs.lemmas.List.{ext_get_or}
-use Rattle.std.proofs.lemmas.Nat.{div-add-mod'}
 use Rattle.bit_addressing.specs.Bits.{has_bit}
 use Rattle.bit_addressing.specs.Row.{row_bit, row_of}
 use Rattle.bit_addressing.proofs.lists.Shown.{get_or-run}
@@ -38,11 +37,10 @@ block_as_word place w v block is same inside =
     let below : i < w = omega arith in
     get_or-row_one place w v i (omega arith) below ∙ same (place w i) (inside i below) ∙ ap (λ n. has_bit block (place n i)) is ∙ sym (get_or-row_one place 64 block i (omega arith) (omega arith)))
 
--- where a block stands, some blocks behind a place
-pub block_from : (w each at t : ℕ) → each * w ≡ 64 → (at / w + t * each) * w + at % w ≡ at + t * 64
-block_from w each at t fills =
-    let split : at / w * w + at % w ≡ at = div-add-mod' at w in
-    let sum : (at / w + t * each) * w ≡ at / w * w + (t * each) * w = right_sum (at / w) (t * each) w in
+-- where a block stands, some blocks behind an index of a word
+pub block_from : (w each k skip t : ℕ) → each * w ≡ 64 → (k + t * each) * w + skip ≡ k * w + skip + t * 64
+block_from w each k skip t fills =
+    let sum : (k + t * each) * w ≡ k * w + (t * each) * w = right_sum k (t * each) w in
     let inner : (t * each) * w ≡ t * (each * w) = grind arith in
     let whole : t * (each * w) ≡ t * 64 = ap (λ n. t * n) fills in
     omega arith

@@ -4,7 +4,7 @@ ghost use Rattle.bit_addressing.specs.Bits.{has_bit};
 ghost use Rattle.bit_addressing.specs.Order.{IsLawful, lsb0_lawful, msb0_lawful};
 ghost use Rattle.bit_addressing.specs.Row.{row_bit, row_of, moved, touched};
 
-use crate::bits::single::blend;
+use crate::bits::single::{blend, shl_behind, shr_behind};
 use crate::index::{BitEnd, BitIdx, BitPos};
 use crate::move_run::{move_part, move_words};
 use crate::store::BitStore;
@@ -220,7 +220,7 @@ impl BitOrder for Lsb0 {
         if begin == 0 {
             return low;
         }
-        low.shr(begin).or(high.shl(T::BITS - begin))
+        low.shr(begin).or(shl_behind(high, begin))
     }
 
     fn window_lsb0<T: BitStore>(low: T, high: T, at: BitIdx<T>) -> T {
@@ -274,7 +274,7 @@ impl BitOrder for Msb0 {
         if begin == 0 {
             return low;
         }
-        low.shl(begin).or(high.shr(T::BITS - begin))
+        low.shl(begin).or(shr_behind(high, begin))
     }
 
     fn window_lsb0<T: BitStore>(low: T, high: T, at: BitIdx<T>) -> T {

@@ -72,25 +72,29 @@ fn blocks_behind<T: BitStore>(words: usize, k: usize) -> usize
     (words.saturating_sub(k) / each).saturating_sub(1)
 }
 
-/// The first place at which the `n` bits of the row of `a` from `i` on and the `n` of `b` from `j` on
-/// differ. None exactly where the two runs are equal. The condition: both runs lie in their words.
-pub fn differ_at<T: BitStore, O: BitOrder, U: BitStore, P: BitOrder>(
+/// As `differ_at`, from index `skip` of word `k` and index `over` of word `l` on. It is inlined, and compiled apart for
+/// runs that begin at a word's first bit.
+#[inline(always)]
+fn differ_from<T: BitStore, O: BitOrder, U: BitStore, P: BitOrder>(
     a: &[T],
-    i: usize,
+    k: usize,
+    skip: u8,
     b: &[U],
-    j: usize,
+    l: usize,
+    over: u8,
     n: usize,
 ) -> Option<usize>
-    requires first { i + n ≤ T.BITS * length a.now }
-    requires second { j + n ≤ U.BITS * length b.now }
-    requires first_fits { i + n < 2 ^ 64 }
-    requires second_fits { j + n < 2 ^ 64 }
-    ensures { MatchOption result (slice_range (row T.BitStore O.BitOrder a.now) i (i + n) ≡ slice_range (row U.BitStore P.BitOrder b.now) j (j + n)) (λ k. IsFirstDifference (slice_range (row T.BitStore O.BitOrder a.now) i (i + n)) (slice_range (row U.BitStore P.BitOrder b.now) j (j + n)) k) }
+    requires index { skip < T.BITS }
+    requires other_index { over < U.BITS }
+    requires first { k * T.BITS + skip + n ≤ T.BITS * length a.now }
+    requires second { l * U.BITS + over + n ≤ U.BITS * length b.now }
+    requires first_fits { k * T.BITS + skip + n < 2 ^ 64 }
+    requires second_fits { l * U.BITS + over + n < 2 ^ 64 }
+    ensures { MatchOption result (slice_range (row T.BitStore O.BitOrder a.now) (k * T.BITS + skip) (k * T.BITS + skip + n) ≡ slice_range (row U.BitStore P.BitOrder b.now) (l * U.BITS + over) (l * U.BITS + over + n)) (λ d. IsFirstDifference (slice_range (row T.BitStore O.BitOrder a.now) (k * T.BITS + skip) (k * T.BITS + skip + n)) (slice_range (row U.BitStore P.BitOrder b.now) (l * U.BITS + over) (l * U.BITS + over + n)) d) }
 {
-    let (width, other) = (T::BITS as usize, U::BITS as usize);
     let (each, others) = ((64 / T::BITS) as usize, (64 / U::BITS) as usize);
-    let (k, skip) = (i / width, (i % width) as u8);
-    let (l, over) = (j / other, (j % other) as u8);
+    let i = k * T::BITS as usize + skip as usize;
+    let j = l * U::BITS as usize + over as usize;
     let room = blocks_behind::<T>(a.len(), k).min(blocks_behind::<U>(b.len(), l));
     let blocks = room.min(n / 64);
     for t in 0..blocks {
@@ -120,6 +124,30 @@ pub fn differ_at<T: BitStore, O: BitOrder, U: BitStore, P: BitOrder>(
         return None;
     }
     Some(done + apart.trailing_zeros() as usize)
+}
+
+/// The first place at which the `n` bits of the row of `a` from `i` on and the `n` of `b` from `j` on
+/// differ. None exactly where the two runs are equal. The condition: both runs lie in their words.
+pub fn differ_at<T: BitStore, O: BitOrder, U: BitStore, P: BitOrder>(
+    a: &[T],
+    i: usize,
+    b: &[U],
+    j: usize,
+    n: usize,
+) -> Option<usize>
+    requires first { i + n ≤ T.BITS * length a.now }
+    requires second { j + n ≤ U.BITS * length b.now }
+    requires first_fits { i + n < 2 ^ 64 }
+    requires second_fits { j + n < 2 ^ 64 }
+    ensures { MatchOption result (slice_range (row T.BitStore O.BitOrder a.now) i (i + n) ≡ slice_range (row U.BitStore P.BitOrder b.now) j (j + n)) (λ k. IsFirstDifference (slice_range (row T.BitStore O.BitOrder a.now) i (i + n)) (slice_range (row U.BitStore P.BitOrder b.now) j (j + n)) k) }
+{
+    let (width, other) = (T::BITS as usize, U::BITS as usize);
+    let (k, skip) = (i / width, (i % width) as u8);
+    let (l, over) = (j / other, (j % other) as u8);
+    if skip == 0 && over == 0 {
+        return differ_from::<T, O, U, P>(a, k, 0, b, l, 0, n);
+    }
+    differ_from::<T, O, U, P>(a, k, skip, b, l, over, n)
 }
 
 /// The first of the places `from..upto` that has this bit, counted from `from`. None exactly where there

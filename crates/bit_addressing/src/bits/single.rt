@@ -44,6 +44,36 @@ pub(crate) fn blend<T: BitStore>(old: T, new: T, mask: T) -> T
     old.and(mask.not()).or(new.and(mask))
 }
 
+/// The word moved up until its lowest bit stands where those of a word moved down by `count` end. Words of 16 and 32
+/// bits go in two steps, of which the compiler makes a faster loop. The condition: `count` is
+/// above 0 and below `T::BITS`.
+#[inline(always)]
+pub(crate) fn shl_behind<T: BitStore>(word: T, count: u8) -> T
+    requires some { 0 < count }
+    requires within { count < T.BITS }
+    ensures low { (p : ℕ) → p < T.BITS - count → has_bit (T.value result) p ≡ false }
+    ensures high { (p : ℕ) → T.BITS - count ≤ p → p < T.BITS → has_bit (T.value result) p ≡ has_bit (T.value word) (p - (T.BITS - count)) }
+{
+    if T::BITS == 8 || T::BITS == 64 {
+        return word.shl(T::BITS - count);
+    }
+    word.shl(T::BITS - 1 - count).shl(1)
+}
+
+/// As `shl_behind`, downward: behind a word that was moved up by `count`.
+#[inline(always)]
+pub(crate) fn shr_behind<T: BitStore>(word: T, count: u8) -> T
+    requires some { 0 < count }
+    requires within { count < T.BITS }
+    ensures low { (p : ℕ) → p + (T.BITS - count) < T.BITS → has_bit (T.value result) p ≡ has_bit (T.value word) (p + (T.BITS - count)) }
+    ensures high { (p : ℕ) → T.BITS ≤ p + (T.BITS - count) → has_bit (T.value result) p ≡ false }
+{
+    if T::BITS == 8 || T::BITS == 64 {
+        return word.shr(T::BITS - count);
+    }
+    word.shr(T::BITS - 1 - count).shr(1)
+}
+
 /// The word whose bits are all `bit`.
 fn repeated<T: BitStore>(bit: bool) -> T
     ensures { (p : ℕ) → p < T.BITS → has_bit (T.value result) p ≡ bit }

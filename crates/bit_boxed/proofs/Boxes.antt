@@ -8,13 +8,12 @@ use Rattle.bit_addressing.specs.Bits.{IsWidth}
 use Rattle.bit_addressing.specs.declared.store.BitStore as store
 use Rattle.bit_addressing.specs.declared.order.BitOrder as order
 use Rattle.bit_addressing.specs.declared.length.TheConstants.{MAX_BITS}
-use Rattle.bit_addressing.specs.Row.{words_for, moved, put, sized}
+use Rattle.bit_addressing.specs.Row.{words_for, put, sized}
 use Rattle.bit_addressing.specs.Typed.{row}
 use Rattle.bit_addressing.proofs.lists.Sized.{few_words, words_for_le, room}
-use Rattle.bit_addressing.proofs.lists.Shown.{length-run, shows_sized}
+use Rattle.bit_addressing.proofs.lists.Shown.{shows_sized}
 use Rattle.bit_addressing.proofs.Rows.{width_positive}
-use Rattle.bit_addressing.proofs.Shifts.{put_moved}
-use Rattle.bit_addressing.proofs.Typed.{length_row, row_kept}
+use Rattle.bit_addressing.proofs.Typed.{row_kept}
 use Rattle.bit_slice.proofs.Parts.{in_row, shown_length}
 use Rattle.bit_boxed.specs.BitBox.{IsBox}
 

@@ -2,8 +2,6 @@
 //! `boxed`.
 #![tactic(auto)]
 
-#[cfg(test)]
-mod callers;
 mod machine;
 #[cfg(test)]
 mod tests;

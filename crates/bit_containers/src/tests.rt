@@ -4,16 +4,12 @@ mod converting;
 mod copies;
 mod edits;
 mod growing;
-mod limits;
-mod memory;
 mod moves;
 mod numbers;
 mod operators;
 mod orders;
-mod pulling;
 mod reading;
 mod removing;
-mod sweeps;
 mod text;
 mod words;
 
@@ -38,4 +34,13 @@ fn holds<T: BitStore, O: BitOrder>(rt: &impl Abort, v: &BitVec<T, O>, digits: &[
         assert_eq!(rt; v.get(i), Some(*digit == b'1'), "at {i}");
     }
     assert_eq!(rt; v.get(digits.len()), None);
+}
+
+/// That the words of the vector are these.
+fn shows<T: BitStore, O: BitOrder>(rt: &impl Abort, v: &BitVec<T, O>, words: &[T]) {
+    let kept = v.as_raw_slice();
+    assert_eq!(rt; kept.len(), words.len());
+    for (k, (word, want)) in kept.iter().zip(words).enumerate() {
+        assert_eq!(rt; word.to_u64(), want.to_u64(), "word {k}");
+    }
 }

@@ -1,11 +1,36 @@
 //! Runs of commands.
-use crate::{BitVec, Command, GrowError, Msb0, Reply, Stop, run};
+use crate::tests::shows;
+use crate::{BitOrder, BitStore, BitVec, Command, GrowError, Msb0, Reply, Stop, run};
+use std::process::Abort;
 use std::test::Fail;
+
+/// That a run of these commands goes to its end, and gives these replies.
+fn answers<T: BitStore, O: BitOrder>(
+    rt: &(impl Abort + AllocGlobal),
+    v: &mut BitVec<T, O>,
+    commands: &[Command],
+    want: &[Reply],
+) {
+    let mut replies = Vec::new(rt.alloc());
+    assert!(rt; run(v, commands, &mut replies).is_ok());
+    assert_eq!(rt; replies.as_slice(), want);
+}
+
+/// That a run of these commands stops at the second, by which the vector would be too long.
+fn stops<T: BitStore, O: BitOrder>(
+    rt: &(impl Abort + AllocGlobal),
+    v: &mut BitVec<T, O>,
+    commands: &[Command],
+) {
+    let mut replies = Vec::new(rt.alloc());
+    let why = GrowError::TooLong;
+    assert_eq!(rt; run(v, commands, &mut replies), Err(Stop { done: 1, why }));
+    assert_eq!(rt; replies.len(), 1);
+}
 
 #[test]
 fn runs_of_commands(rt: HostRuntime) -> Result<(), Fail> {
     let mut v = BitVec::<u8, Msb0>::new(rt.alloc());
-    let mut replies = Vec::new(rt.alloc());
     let commands = [
         Command::Push(false),
         Command::Push(true),
@@ -21,7 +46,6 @@ fn runs_of_commands(rt: HostRuntime) -> Result<(), Fail> {
         Command::Truncate(0),
         Command::Pop,
     ];
-    assert!(rt; run(&mut v, &commands, &mut replies).is_ok());
     let want = [
         Reply::Done,
         Reply::Done,
@@ -37,9 +61,9 @@ fn runs_of_commands(rt: HostRuntime) -> Result<(), Fail> {
         Reply::Done,
         Reply::Nothing,
     ];
-    assert_eq!(rt; replies.as_slice(), want.as_slice());
+    answers(&rt, &mut v, &commands, &want);
     assert!(rt; v.is_empty());
-    assert!(rt; run(&mut v, &[], &mut replies).is_ok());
+    answers(&rt, &mut v, &[], &[]);
     assert_ne!(rt; GrowError::TooLong, GrowError::OutOfMemory);
     Ok(())
 }
@@ -47,7 +71,6 @@ fn runs_of_commands(rt: HostRuntime) -> Result<(), Fail> {
 #[test]
 fn growing_commands(rt: HostRuntime) -> Result<(), Fail> {
     let mut v = BitVec::<u8, Msb0>::new(rt.alloc());
-    let mut replies = Vec::new(rt.alloc());
     let commands = [
         Command::Resize(3, true),
         Command::ExtendWithin(1, 3),
@@ -56,7 +79,6 @@ fn growing_commands(rt: HostRuntime) -> Result<(), Fail> {
         Command::Resize(4, false),
         Command::Len,
     ];
-    assert!(rt; run(&mut v, &commands, &mut replies).is_ok());
     let want = [
         Reply::Done,
         Reply::Done,
@@ -65,15 +87,13 @@ fn growing_commands(rt: HostRuntime) -> Result<(), Fail> {
         Reply::Done,
         Reply::Number(4),
     ];
-    assert_eq!(rt; replies.as_slice(), want.as_slice());
+    answers(&rt, &mut v, &commands, &want);
     let commands = [
         Command::Push(true),
         Command::Reserve(usize::MAX),
         Command::Pop,
     ];
-    let stop = run(&mut v, &commands, &mut replies);
-    let why = GrowError::TooLong;
-    assert_eq!(rt; stop, Err(Stop { done: 1, why }));
+    stops(&rt, &mut v, &commands);
     assert_eq!(rt; v.len(), 5);
     Ok(())
 }
@@ -81,7 +101,6 @@ fn growing_commands(rt: HostRuntime) -> Result<(), Fail> {
 #[test]
 fn commands_on_words(rt: HostRuntime) -> Result<(), Fail> {
     let mut v = BitVec::<u8, Msb0>::new(rt.alloc());
-    let mut replies = Vec::new(rt.alloc());
     let commands = [
         Command::Push(true),
         Command::Push(false),
@@ -90,7 +109,6 @@ fn commands_on_words(rt: HostRuntime) -> Result<(), Fail> {
         Command::Get(0),
         Command::Get(1),
     ];
-    assert!(rt; run(&mut v, &commands, &mut replies).is_ok());
     let want = [
         Reply::Done,
         Reply::Done,
@@ -99,15 +117,14 @@ fn commands_on_words(rt: HostRuntime) -> Result<(), Fail> {
         Reply::Bit(false),
         Reply::Bit(true),
     ];
-    assert_eq!(rt; replies.as_slice(), want.as_slice());
-    assert_eq!(rt; v.as_raw_slice(), [0x40].as_slice());
+    answers(&rt, &mut v, &commands, &want);
+    shows(&rt, &v, &[0x40]);
     Ok(())
 }
 
 #[test]
 fn removing_commands(rt: HostRuntime) -> Result<(), Fail> {
     let mut v = BitVec::<u16, Msb0>::new(rt.alloc());
-    let mut replies = Vec::new(rt.alloc());
     let commands = [
         Command::Resize(5, true),
         Command::Splice(1, 4, false, 1),
@@ -118,7 +135,6 @@ fn removing_commands(rt: HostRuntime) -> Result<(), Fail> {
         Command::Clear,
         Command::Len,
     ];
-    assert!(rt; run(&mut v, &commands, &mut replies).is_ok());
     let want = [
         Reply::Done,
         Reply::Done,
@@ -129,14 +145,12 @@ fn removing_commands(rt: HostRuntime) -> Result<(), Fail> {
         Reply::Done,
         Reply::Number(0),
     ];
-    assert_eq!(rt; replies.as_slice(), want.as_slice());
+    answers(&rt, &mut v, &commands, &want);
     let commands = [
         Command::Push(true),
         Command::Splice(0, 1, false, usize::MAX),
     ];
-    let stop = run(&mut v, &commands, &mut replies);
-    let why = GrowError::TooLong;
-    assert_eq!(rt; stop, Err(Stop { done: 1, why }));
+    stops(&rt, &mut v, &commands);
     assert_eq!(rt; v.len(), 1);
     Ok(())
 }

@@ -1,7 +1,7 @@
 //! Vectors made of arrays and boxes, and given up.
 use crate::array::BitArray;
 use crate::boxed::BitBox;
-use crate::tests::{holds, of};
+use crate::tests::{holds, of, shows};
 use crate::vec::IntoIter;
 use crate::{BitSlice, BitVec, IntoBitVec, Lsb0, Msb0};
 use std::alloc::AllocError;
@@ -16,7 +16,7 @@ fn vector_of<B: IntoBitVec>(b: B) -> Result<BitVec<B::Store, B::Order>, AllocErr
 fn of_an_array(rt: HostRuntime) -> Result<(), Fail> {
     let array = BitArray::<[u8; 2], Msb0>::new([0x80, 0x01]);
     let v = BitVec::from_bitarray(rt.alloc(), array)?;
-    assert_eq!(rt; v.as_raw_slice(), [0x80, 0x01].as_slice());
+    shows(&rt, &v, &[0x80, 0x01]);
     holds(&rt, &v, b"1000000000000001");
     Ok(())
 }
@@ -30,14 +30,14 @@ fn boxed(rt: HostRuntime) -> Result<(), Fail> {
     b.fill_uninitialized(false);
     assert_eq!(rt; b.as_raw_slice(), [0xf5, 0x00].as_slice());
     let v = vector_of(b)?;
-    assert_eq!(rt; v.as_raw_slice(), [0xf5].as_slice());
+    shows(&rt, &v, &[0xf5]);
     assert!(rt; v.head() == 0 && v.len() == 8);
     let v = BitVec::from_bitslice_headed(rt.alloc(), view)?;
     let b = v.into_boxed_bitslice()?;
     assert_eq!(rt; b.as_raw_slice(), [0xa8, 0x07].as_slice());
     assert_eq!(rt; b.head(), 3);
     let v = b.into_vec()?;
-    assert_eq!(rt; v.as_raw_slice(), [0xa8, 0x07].as_slice());
+    shows(&rt, &v, &[0xa8, 0x07]);
     assert_eq!(rt; v.head(), 3);
     holds(&rt, &v, b"10101111");
     assert_eq!(rt; v.into_boxed_slice()?.count_ones(), 6);

@@ -1,5 +1,5 @@
 //! Copies of views and of vectors.
-use crate::tests::{holds, of};
+use crate::tests::{holds, of, shows};
 use crate::{BitSlice, BitVec, Lsb0, Msb0};
 use std::test::Fail;
 
@@ -8,19 +8,19 @@ fn copies_of_views(rt: HostRuntime) -> Result<(), Fail> {
     let words = [0xaf, 0xff];
     let view = BitSlice::<u8, Lsb0>::from_slice(&words);
     let v = BitVec::from_bitslice_headed(rt.alloc(), view.get_range(3..11))?;
-    assert_eq!(rt; v.as_raw_slice(), [0xa8, 0x07].as_slice());
+    shows(&rt, &v, &[0xa8, 0x07]);
     assert_eq!(rt; v.head(), 3);
     let copy = v.clone()?;
-    assert_eq!(rt; copy.as_raw_slice(), [0xf5].as_slice());
+    shows(&rt, &copy, &[0xf5]);
     assert_eq!(rt; copy.head(), 0);
     holds(&rt, &copy, b"10101111");
     let copy = BitVec::from_bitslice(rt.alloc(), view.get_range(3..13))?;
-    assert_eq!(rt; copy.as_raw_slice(), [0xf5, 0x03].as_slice());
+    shows(&rt, &copy, &[0xf5, 0x03]);
     assert_eq!(rt; copy.head(), 0);
     let mut v = BitVec::from_bitslice_headed(rt.alloc(), view.get_range(3..13))?;
-    assert_eq!(rt; v.as_raw_slice(), [0xa8, 0x1f].as_slice());
+    shows(&rt, &v, &[0xa8, 0x1f]);
     v.force_align();
-    assert_eq!(rt; v.as_raw_slice(), [0xf5, 0x1f].as_slice());
+    shows(&rt, &v, &[0xf5, 0x1f]);
     assert_eq!(rt; v.head(), 0);
     assert_eq!(rt; v.len(), 10);
     Ok(())
@@ -45,12 +45,12 @@ fn empty_behind_a_head(rt: HostRuntime) -> Result<(), Fail> {
     let view = BitSlice::<u8, Lsb0>::from_slice(&words).get_range(5..5);
     let mut v = BitVec::from_bitslice_headed(rt.alloc(), view)?;
     v.set_uninitialized(true);
-    assert_eq!(rt; v.as_raw_slice(), [0xff].as_slice());
+    shows(&rt, &v, &[0xff]);
     let v = !BitVec::from_bitslice_headed(rt.alloc(), view)?;
-    assert_eq!(rt; v.as_raw_slice(), [0xff].as_slice());
+    shows(&rt, &v, &[0xff]);
     let mut v = BitVec::from_bitslice_headed(rt.alloc(), view)?;
     v.push(true)?;
-    assert_eq!(rt; v.as_raw_slice(), [0x20].as_slice());
+    shows(&rt, &v, &[0x20]);
     let mut v = BitVec::from_bitslice_headed(rt.alloc(), view)?;
     v.force_align();
     assert!(rt; v.as_raw_slice().is_empty() && v.head() == 0);

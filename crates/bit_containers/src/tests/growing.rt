@@ -1,5 +1,5 @@
 //! Making and growing.
-use crate::tests::{holds, of};
+use crate::tests::{holds, of, shows};
 use crate::{BitSlice, BitVec, GrowError, Lsb0, Msb0};
 use std::test::Fail;
 
@@ -9,7 +9,7 @@ fn joined(rt: HostRuntime) -> Result<(), Fail> {
     let mut other = of::<u16, Msb0>(rt.alloc(), b"0110011")?;
     v.extend_from_bitslice(other.as_bitslice())?;
     holds(&rt, &v, b"1010110011");
-    assert_eq!(rt; v.as_raw_slice(), [0x35, 0x03].as_slice());
+    shows(&rt, &v, &[0x35, 0x03]);
     v.append(&mut other)?;
     holds(&rt, &v, b"10101100110110011");
     assert!(rt; other.is_empty());
@@ -34,7 +34,7 @@ fn room(rt: HostRuntime) -> Result<(), Fail> {
     assert_eq!(rt; v.reserve(usize::MAX), Err(GrowError::TooLong));
     v.push(true)?;
     v.shrink_to_fit()?;
-    assert_eq!(rt; v.as_raw_slice(), [0x01].as_slice());
+    shows(&rt, &v, &[0x01]);
     Ok(())
 }
 
@@ -52,7 +52,7 @@ fn made(rt: HostRuntime) -> Result<(), Fail> {
     let words = [0xaf, 0xff];
     let view = BitSlice::<u8, Lsb0>::from_slice(&words).get_range(3..11);
     let v = BitVec::from_bitslice(rt.alloc(), view)?;
-    assert_eq!(rt; v.as_raw_slice(), [0xf5].as_slice());
+    shows(&rt, &v, &[0xf5]);
     Ok(())
 }
 
@@ -60,10 +60,10 @@ fn made(rt: HostRuntime) -> Result<(), Fail> {
 fn repeated(rt: HostRuntime) -> Result<(), Fail> {
     let v = BitVec::<u8, Lsb0>::repeat(rt.alloc(), true, 5)?;
     holds(&rt, &v, b"11111");
-    assert_eq!(rt; v.as_raw_slice(), [0xff].as_slice());
+    shows(&rt, &v, &[0xff]);
     let v = BitVec::<u16, Msb0>::repeat(rt.alloc(), false, 17)?;
     assert_eq!(rt; v.len(), 17);
-    assert_eq!(rt; v.as_raw_slice(), [0, 0].as_slice());
+    shows(&rt, &v, &[0, 0]);
     let refused = BitVec::<u8, Lsb0>::repeat(rt.alloc(), false, 2305843009213693952);
     assert!(rt; matches!(refused, Err(GrowError::TooLong)));
     Ok(())
@@ -80,7 +80,7 @@ fn joined_within(rt: HostRuntime) -> Result<(), Fail> {
     holds(&rt, &v, b"010110");
     v.extend_from_raw_slice(&[0xc3])?;
     holds(&rt, &v, b"01011011000011");
-    assert_eq!(rt; v.as_raw_slice(), [0x5b, 0x0c].as_slice());
+    shows(&rt, &v, &[0x5b, 0x0c]);
     Ok(())
 }
 
@@ -93,11 +93,11 @@ fn pulled(rt: HostRuntime) -> Result<(), Fail> {
     let words = [0x0f];
     let view = BitSlice::<u8, Lsb0>::from_slice(&words);
     v.extend_from_bitslice(view.get_range(..4))?;
-    assert_eq!(rt; v.as_raw_slice(), [0x43, 0xc0].as_slice());
+    shows(&rt, &v, &[0x43, 0xc0]);
     assert_eq!(rt; v.len(), 10);
     let mut v = of::<u8, Lsb0>(rt.alloc(), b"1")?;
     v.extend_words(vec![in rt.alloc(); 3]?)?;
-    assert_eq!(rt; v.as_raw_slice(), [0x07, 0x00].as_slice());
+    shows(&rt, &v, &[0x07, 0x00]);
     assert_eq!(rt; v.len(), 9);
     let v = BitVec::<u16, Msb0>::from_bits(rt.alloc(), (0..100).map(|i| i % 3 == 0))?;
     assert!(rt; v.len() == 100 && v.count_ones() == 34);
@@ -122,7 +122,7 @@ fn appended(rt: HostRuntime) -> Result<(), Fail> {
     let mut v = BitVec::<u16, Msb0>::repeat(rt.alloc(), false, 10)?;
     let mut other = BitVec::<u32, Lsb0>::repeat(rt.alloc(), true, 10)?;
     v.append(&mut other)?;
-    assert_eq!(rt; v.as_raw_slice(), [0x003f, 0xf000].as_slice());
+    shows(&rt, &v, &[0x003f, 0xf000]);
     assert_eq!(rt; v.len(), 20);
     assert!(rt; other.is_empty() && other.as_raw_slice().is_empty());
     Ok(())
@@ -134,21 +134,21 @@ fn room_behind_a_head(rt: HostRuntime) -> Result<(), Fail> {
     let words = [0xff];
     let view = BitSlice::<u8, Lsb0>::from_slice(&words);
     let mut v = BitVec::from_bitslice_headed(rt.alloc(), view.get_range(5..5))?;
-    assert_eq!(rt; v.as_raw_slice(), [0x00].as_slice());
+    shows(&rt, &v, &[0x00]);
     assert!(rt; v.head() == 5 && v.is_empty());
     v.reserve(3)?;
     v.push(true)?;
     v.push(true)?;
     v.push(true)?;
-    assert_eq!(rt; v.as_raw_slice(), [0xe0].as_slice());
+    shows(&rt, &v, &[0xe0]);
     v.push(true)?;
-    assert_eq!(rt; v.as_raw_slice(), [0xe0, 0x01].as_slice());
+    shows(&rt, &v, &[0xe0, 0x01]);
     let mut v = BitVec::from_bitslice(rt.alloc(), view.get_range(5..5))?;
     assert!(rt; v.head() == 0 && v.as_raw_slice().is_empty());
     v.reserve(3)?;
     v.extend(vec![in rt.alloc(); true, true, true]?)?;
-    assert_eq!(rt; v.as_raw_slice(), [0x07].as_slice());
+    shows(&rt, &v, &[0x07]);
     v.push(true)?;
-    assert_eq!(rt; v.as_raw_slice(), [0x0f].as_slice());
+    shows(&rt, &v, &[0x0f]);
     Ok(())
 }

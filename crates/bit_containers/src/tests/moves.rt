@@ -1,4 +1,5 @@
 //! Moves inside a vector.
+use crate::tests::shows;
 use crate::{BitVec, Lsb0};
 use std::test::Fail;
 
@@ -7,18 +8,18 @@ fn copying_and_aligning(rt: HostRuntime) -> Result<(), Fail> {
     let mut v = BitVec::<u8, Lsb0>::from_vec([0xb1, 0x6d].to_vec(rt.alloc())?);
     assert!(rt; v.len() == 16);
     v.copy_within(1..12, 3);
-    assert_eq!(rt; v.as_raw_slice(), [0xc1, 0x76].as_slice());
+    shows(&rt, &v, &[0xc1, 0x76]);
     let mut v = BitVec::<u8, Lsb0>::from_vec([0xb1, 0x6d].to_vec(rt.alloc())?);
     assert!(rt; v.len() == 16);
     v.copy_within(3..14, 1);
-    assert_eq!(rt; v.as_raw_slice(), [0x6d, 0x6b].as_slice());
+    shows(&rt, &v, &[0x6d, 0x6b]);
     v.force_align();
-    assert_eq!(rt; v.as_raw_slice(), [0x6d, 0x6b].as_slice());
+    shows(&rt, &v, &[0x6d, 0x6b]);
     let mut v = BitVec::<u8, Lsb0>::from_vec([0xb1, 0x6d].to_vec(rt.alloc())?);
     assert!(rt; v.len() == 16);
     v.as_mut_bitslice()
         .counted_mut()
         .copy_within_counted(1..12, 3);
-    assert_eq!(rt; v.as_raw_slice(), [0xc1, 0x76].as_slice());
+    shows(&rt, &v, &[0xc1, 0x76]);
     Ok(())
 }

@@ -1,4 +1,5 @@
 //! Numbers in binary, read, written over and joined.
+use crate::tests::shows;
 use crate::{BitVec, Lsb0, Msb0};
 use std::test::Fail;
 
@@ -8,11 +9,11 @@ fn numbers_of_five_digits(rt: HostRuntime) -> Result<(), Fail> {
     v.push_binary(5, 1)?;
     v.push_binary(5, 31)?;
     v.push_binary(5, 0)?;
-    assert_eq!(rt; v.as_raw_slice(), [0x0f, 0xc0].as_slice());
+    shows(&rt, &v, &[0x0f, 0xc0]);
     assert!(rt; v.len() == 15);
     assert_eq!(rt; v.read_binary(5, 5), 31);
     v.write_binary(5, 5, 0);
-    assert_eq!(rt; v.as_raw_slice(), [0x08, 0x00].as_slice());
+    shows(&rt, &v, &[0x08, 0x00]);
     Ok(())
 }
 
@@ -22,9 +23,9 @@ fn numbers_of_three_digits(rt: HostRuntime) -> Result<(), Fail> {
     v.push_binary(3, 5)?;
     v.push_binary(3, 3)?;
     v.push_binary(3, 6)?;
-    assert_eq!(rt; v.as_raw_slice(), [0xf5, 0x00].as_slice());
+    shows(&rt, &v, &[0xf5, 0x00]);
     assert!(rt; v.len() == 9);
     v.write_binary(3, 3, 0);
-    assert_eq!(rt; v.as_raw_slice(), [0xc5, 0x00].as_slice());
+    shows(&rt, &v, &[0xc5, 0x00]);
     Ok(())
 }

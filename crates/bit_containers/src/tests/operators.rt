@@ -1,5 +1,5 @@
 //! Vectors combined, flipped, compared and hashed.
-use crate::tests::{holds, of};
+use crate::tests::{holds, of, shows};
 use crate::{BitSlice, BitVec, Lsb0, Msb0};
 use std::cmp::Ordering;
 use std::hash::{DefaultHasher, Hash, Hasher};
@@ -28,11 +28,11 @@ fn flipped(rt: HostRuntime) -> Result<(), Fail> {
     let v = BitVec::<u8, Lsb0>::repeat(rt.alloc(), true, 5)?;
     let v = !v;
     holds(&rt, &v, b"00000");
-    assert_eq!(rt; v.as_raw_slice(), [0x00].as_slice());
+    shows(&rt, &v, &[0x00]);
     let mut v = !v;
-    assert_eq!(rt; v.as_raw_slice(), [0xff].as_slice());
+    shows(&rt, &v, &[0xff]);
     v.flip_all();
-    assert_eq!(rt; v.as_raw_slice(), [0x00].as_slice());
+    shows(&rt, &v, &[0x00]);
     Ok(())
 }
 
@@ -49,7 +49,7 @@ fn compared(rt: HostRuntime) -> Result<(), Fail> {
     assert_eq!(rt; one.finish(), other.finish());
     headed.force_align();
     headed.set_uninitialized(false);
-    assert_eq!(rt; headed.as_raw_slice(), [0xf5].as_slice());
+    shows(&rt, &headed, &[0xf5]);
     let short = of::<u8, Lsb0>(rt.alloc(), b"0")?;
     let long = of::<u8, Lsb0>(rt.alloc(), b"00")?;
     assert_eq!(rt; short.as_raw_slice(), long.as_raw_slice());

@@ -2,7 +2,7 @@
 ghost use Rattle.std.specs.Prelude.{◌+◌, ◌*◌, ◌%◌, bit_xor, refl};
 ghost use Rattle.bit_addressing.specs.Order.{lawful_by_test};
 
-use crate::tests::of;
+use crate::tests::{of, shows};
 use bit_addressing::{BitIdx, BitOrder, BitPos, BitStore};
 use std::test::Fail;
 
@@ -35,13 +35,13 @@ impl BitOrder for Scramble {
 #[test]
 fn words_by_orders_of_a_user(rt: HostRuntime) -> Result<(), Fail> {
     let v = of::<u8, Scramble>(rt.alloc(), b"11001")?;
-    assert_eq!(rt; v.as_raw_slice(), [0x89].as_slice());
+    shows(&rt, &v, &[0x89]);
     let v = of::<u16, Scramble>(rt.alloc(), b"11001")?;
-    assert_eq!(rt; v.as_raw_slice(), [0x0188].as_slice());
+    shows(&rt, &v, &[0x0188]);
     let mut v = of::<u8, Xor4>(rt.alloc(), b"1101100001101011")?;
-    assert_eq!(rt; v.as_raw_slice(), [0xb1, 0x6d].as_slice());
+    shows(&rt, &v, &[0xb1, 0x6d]);
     assert!(rt; v.len() == 16);
     v.copy_within(1..12, 3);
-    assert_eq!(rt; v.as_raw_slice(), [0xb6, 0x8d].as_slice());
+    shows(&rt, &v, &[0xb6, 0x8d]);
     Ok(())
 }

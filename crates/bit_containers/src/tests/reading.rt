@@ -1,5 +1,5 @@
 //! The calls that a vector has of a view.
-use crate::tests::{holds, of};
+use crate::tests::{holds, of, shows};
 use crate::{Lsb0, Msb0};
 use std::cmp::Ordering;
 use std::test::Fail;
@@ -21,7 +21,7 @@ fn calls_of_a_view(rt: HostRuntime) -> Result<(), Fail> {
     holds(&rt, &v, b"0000");
     v.fill(true);
     holds(&rt, &v, b"1111");
-    assert_eq!(rt; v.as_raw_slice(), [0xf000].as_slice());
+    shows(&rt, &v, &[0xf000]);
     Ok(())
 }
 
@@ -61,6 +61,6 @@ fn compared_and_combined(rt: HostRuntime) -> Result<(), Fail> {
     holds(&rt, &v, b"0100");
     v.xor_bits(long.as_bitslice());
     holds(&rt, &v, b"1011");
-    assert_eq!(rt; v.as_raw_slice(), [0x0d].as_slice());
+    shows(&rt, &v, &[0x0d]);
     Ok(())
 }

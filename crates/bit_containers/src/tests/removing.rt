@@ -1,5 +1,5 @@
 //! Bits taken out, and put in place of others.
-use crate::tests::{holds, of};
+use crate::tests::{holds, of, shows};
 use crate::{BitVec, Lsb0, Msb0};
 use std::test::Fail;
 
@@ -95,8 +95,8 @@ fn split(rt: HostRuntime) -> Result<(), Fail> {
     let rest = v.split_off(2)?;
     holds(&rt, &v, b"01");
     holds(&rt, &rest, b"001");
-    assert_eq!(rt; v.as_raw_slice(), [0x12].as_slice());
-    assert_eq!(rt; rest.as_raw_slice(), [0x04].as_slice());
+    shows(&rt, &v, &[0x12]);
+    shows(&rt, &rest, &[0x04]);
     assert_eq!(rt; rest.head(), 0);
     Ok(())
 }
@@ -109,7 +109,7 @@ fn spliced(rt: HostRuntime) -> Result<(), Fail> {
     v.splice(4..8, zeros).finish()?;
     holds(&rt, &v, b"1111000000001111111111111111");
     v.set_uninitialized(false);
-    assert_eq!(rt; v.as_raw_slice(), [0x0f, 0xf0, 0xff, 0x0f].as_slice());
+    shows(&rt, &v, &[0x0f, 0xf0, 0xff, 0x0f]);
     let mut v = of::<u8, Msb0>(rt.alloc(), b"01001")?;
     assert!(rt; v.len() == 5);
     v.splice(2.., None).finish()?;

@@ -19,7 +19,7 @@ fn text(rt: HostRuntime) -> Result<(), Fail> {
 
 /// How a vector is written in a radix.
 #[derive(Drop)]
-pub(crate) enum Radix {
+enum Radix {
     Binary,
     Octal,
     LowerHex,
@@ -28,7 +28,7 @@ pub(crate) enum Radix {
 
 /// A vector, in a radix.
 #[derive(Drop)]
-pub(crate) struct In<'a, T: BitStore, O: BitOrder>(pub(crate) &'a BitVec<T, O>, pub(crate) Radix);
+struct In<'a, T: BitStore, O: BitOrder>(&'a BitVec<T, O>, Radix);
 
 impl<T: BitStore, O: BitOrder> fmt::Display for In<'_, T, O> {
     fn fmt<W: fmt::Write>(&self, f: &mut fmt::Formatter<W>) -> fmt::Result {

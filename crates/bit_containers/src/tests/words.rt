@@ -1,5 +1,5 @@
 //! The words of a vector.
-use crate::tests::{holds, of};
+use crate::tests::{holds, of, shows};
 use crate::{BitVec, Lsb0, MAX_BITS, Msb0};
 use std::test::Fail;
 
@@ -31,19 +31,19 @@ fn limits(rt: HostRuntime) {
 fn both_orders(rt: HostRuntime) -> Result<(), Fail> {
     let mut v = of::<u8, Msb0>(rt.alloc(), b"01")?;
     assert!(rt; v.len() == 2 && v.capacity() >= 2);
-    assert_eq!(rt; v.as_raw_slice(), [0x40].as_slice());
+    shows(&rt, &v, &[0x40]);
     assert_eq!(rt; v.get(5), None);
     v.set(0, true);
     holds(&rt, &v, b"11");
     let v = of::<u16, Lsb0>(rt.alloc(), b"01000000000000001")?;
     assert_eq!(rt; v.head(), 0);
-    assert_eq!(rt; v.as_raw_slice(), [0x0002, 0x0001].as_slice());
+    shows(&rt, &v, &[0x0002, 0x0001]);
     let v = of::<u32, Msb0>(rt.alloc(), b"1")?;
-    assert_eq!(rt; v.as_raw_slice(), [0x8000_0000].as_slice());
+    shows(&rt, &v, &[0x8000_0000]);
     let v = of::<u64, Lsb0>(rt.alloc(), b"001")?;
-    assert_eq!(rt; v.as_raw_slice(), [4].as_slice());
+    shows(&rt, &v, &[4]);
     let v = of::<usize, Msb0>(rt.alloc(), b"01")?;
-    assert_eq!(rt; v.as_raw_slice(), [1 << 62].as_slice());
+    shows(&rt, &v, &[1 << 62]);
     Ok(())
 }
 
@@ -62,9 +62,9 @@ fn dead_bits(rt: HostRuntime) -> Result<(), Fail> {
     let mut v = BitVec::<u8, Lsb0>::from_vec(vec![in rt.alloc(); 0xdc]?);
     v.truncate(5);
     v.set_uninitialized(true);
-    assert_eq!(rt; v.as_raw_slice(), [0xfc].as_slice());
+    shows(&rt, &v, &[0xfc]);
     v.set_uninitialized(false);
-    assert_eq!(rt; v.as_raw_slice(), [0x1c].as_slice());
+    shows(&rt, &v, &[0x1c]);
     Ok(())
 }
 
@@ -72,18 +72,18 @@ fn dead_bits(rt: HostRuntime) -> Result<(), Fail> {
 fn words_and_lengths_set(rt: HostRuntime) -> Result<(), Fail> {
     let mut v = BitVec::<u8, Lsb0>::from_vec(vec![in rt.alloc(); 0xdc]?);
     v.truncate(4);
-    assert_eq!(rt; v.as_raw_slice(), [0xdc].as_slice());
+    shows(&rt, &v, &[0xdc]);
     v.set_len(8);
     holds(&rt, &v, b"00111011");
     v.truncate(4);
     holds(&rt, &v, b"0011");
     v.set_uninitialized(false);
-    assert_eq!(rt; v.as_raw_slice(), [0x0c].as_slice());
+    shows(&rt, &v, &[0x0c]);
     v.set_uninitialized(true);
-    assert_eq!(rt; v.as_raw_slice(), [0xfc].as_slice());
+    shows(&rt, &v, &[0xfc]);
     let mut v = BitVec::<u8, Msb0>::repeat(rt.alloc(), false, 20)?;
     v.set_elements(0xa5);
-    assert_eq!(rt; v.as_raw_slice(), [0xa5, 0xa5, 0xa5].as_slice());
+    shows(&rt, &v, &[0xa5, 0xa5, 0xa5]);
     assert!(rt; v.count_ones() == 10 && v.len() == 20);
     Ok(())
 }

@@ -2,7 +2,7 @@
 ghost use Rattle.std.specs.Prelude.{◌≡◌, ◌+◌, ◌-◌, ◌≤◌, ◌<◌, ◌++◌, map, not, true, false, [], ◌∷◌, take, replicate, length, IfOk, OnOk, OnErr, Ok, IsOk};
 ghost use Rattle.bit_addressing.specs.declared.length.TheConstants.{MAX_BITS};
 
-use crate::{BitOrder, BitStore, BitVec, GrowError, Lsb0, Msb0};
+use bit_containers::{BitOrder, BitStore, BitVec, GrowError, Lsb0, Msb0};
 use std::alloc::Global;
 
 /// Within the capacity no push is refused.

@@ -3,7 +3,7 @@ ghost use Rattle.std.specs.Prelude.{◌<◌};
 
 use crate::tests::orders::{Scramble, Xor4};
 use crate::tests::sweeps::{Case, behind, replaced, same, shows};
-use crate::{BitOrder, BitStore, Lsb0, Msb0};
+use bit_containers::{BitOrder, BitStore, Lsb0, Msb0};
 use std::process::Abort;
 use std::test::Fail;
 

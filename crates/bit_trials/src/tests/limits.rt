@@ -1,6 +1,6 @@
 //! Lengths at their limit, reached by what is asked for alone.
 use crate::tests::{holds, of};
-use crate::{BitVec, Command, GrowError, Lsb0, Msb0, Reply, Stop, run};
+use bit_containers::{BitVec, Command, GrowError, Lsb0, Msb0, Reply, Stop, run};
 use std::test::Fail;
 
 const LIMIT: usize = 2305843009213693951;

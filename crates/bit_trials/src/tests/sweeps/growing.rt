@@ -3,7 +3,7 @@ ghost use Rattle.std.specs.Prelude.{◌<◌};
 
 use crate::tests::orders::{Scramble, Xor4};
 use crate::tests::sweeps::{Case, behind, part, replaced, row_of, shows, words_of};
-use crate::{BitOrder, BitStore, Lsb0, Msb0};
+use bit_containers::{BitOrder, BitStore, Lsb0, Msb0};
 use std::process::Abort;
 use std::test::Fail;
 

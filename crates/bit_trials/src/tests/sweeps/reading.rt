@@ -2,9 +2,9 @@
 ghost use Rattle.std.specs.Prelude.{◌<◌};
 
 use crate::tests::orders::{Scramble, Xor4};
+use crate::tests::radix::{In, Radix};
 use crate::tests::sweeps::{Case, behind, part};
-use crate::tests::text::{In, Radix};
-use crate::{BitOrder, BitStore, BitVec, Lsb0, Msb0};
+use bit_containers::{BitOrder, BitStore, BitVec, Lsb0, Msb0};
 use std::alloc::{AllocError, Global};
 use std::process::Abort;
 use std::test::Fail;

@@ -2,7 +2,7 @@
 ghost use Rattle.std.specs.Prelude.{◌≡◌, true, false, [], ◌∷◌, if◌then◌else◌, IfOk};
 ghost use Rattle.bit_addressing.specs.Typed.{row};
 
-use crate::{BitOrder, BitStore, BitVec, GrowError, Lsb0, Msb0};
+use bit_containers::{BitOrder, BitStore, BitVec, GrowError, Lsb0, Msb0};
 use std::alloc::{AllocError, Global};
 
 pub fn permission_byte(alloc: Global, write: bool) -> Result<Vec<u8>, GrowError>

@@ -1,10 +1,10 @@
 //! Vectors made of views, lists, words and other containers.
 ghost use Rattle.std.specs.Prelude.{◌<◌};
 
-use crate::array::BitArray;
 use crate::tests::orders::{Scramble, Xor4};
 use crate::tests::sweeps::{Case, behind, part, row_of, shows, words_of};
-use crate::{BitOrder, BitStore, BitVec, Lsb0, Msb0};
+use bit_containers::array::BitArray;
+use bit_containers::{BitOrder, BitStore, BitVec, Lsb0, Msb0};
 use std::process::Abort;
 use std::test::Fail;
 

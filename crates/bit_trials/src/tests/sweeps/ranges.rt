@@ -3,7 +3,7 @@ ghost use Rattle.std.specs.Prelude.{◌<◌, ◌≤◌, length};
 
 use crate::tests::orders::{Scramble, Xor4};
 use crate::tests::sweeps::{Case, again, behind, part, replaced, same, shows};
-use crate::{BitOrder, BitStore, BitVec, Lsb0, Msb0};
+use bit_containers::{BitOrder, BitStore, BitVec, Lsb0, Msb0};
 use std::process::Abort;
 use std::test::Fail;
 

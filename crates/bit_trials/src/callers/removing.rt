@@ -3,7 +3,7 @@ ghost use Rattle.std.specs.Prelude.{◌≡◌, ◌+◌, ◌≤◌, ◌++◌, tru
 ghost use Rattle.std.specs.List.{splice};
 ghost use Rattle.bit_containers.specs.Closures.{keep_where};
 
-use crate::{BitOrder, BitStore, BitVec, GrowError, Lsb0, Msb0};
+use bit_containers::{BitOrder, BitStore, BitVec, GrowError, Lsb0, Msb0};
 use std::alloc::AllocError;
 
 /// A range is gone though nothing of it was asked for.

@@ -3,7 +3,7 @@ ghost use Rattle.std.specs.Prelude.{◌<◌};
 
 use crate::tests::orders::{Scramble, Xor4};
 use crate::tests::sweeps::{Case, behind, part, row_of, shows};
-use crate::{BitOrder, BitStore, BitVec, IntoBitVec, Lsb0, Msb0};
+use bit_containers::{BitOrder, BitStore, BitVec, IntoBitVec, Lsb0, Msb0};
 use std::process::Abort;
 use std::test::Fail;
 

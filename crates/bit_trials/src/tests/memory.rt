@@ -1,9 +1,9 @@
 //! Each request for memory refused: what is answered then, and what stays.
 //!
 //! The tests pass with ample memory, and whichever request `rt try --test --fail-alloc N` refuses.
-use crate::array::BitArray;
 use crate::tests::holds;
-use crate::{
+use bit_containers::array::BitArray;
+use bit_containers::{
     BitOrder, BitSlice, BitStore, BitVec, Command, GrowError, IntoBitVec, Lsb0, Msb0, Reply, run,
 };
 use std::alloc::AllocError;

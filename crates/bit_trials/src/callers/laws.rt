@@ -3,8 +3,8 @@ ghost use Rattle.std.specs.Prelude.{◌≡◌, ◌↔◌, ◌*◌, ◌≤◌, []
 ghost use Rattle.std.specs.declared.cmp.Ordering.TheVariants.{Equal};
 ghost use Rattle.bit_addressing.specs.declared.length.TheConstants.{MAX_BITS};
 
-use crate::vec::IntoIter;
-use crate::{BitOrder, BitStore, BitVec, GrowError, IntoBitVec};
+use bit_containers::vec::IntoIter;
+use bit_containers::{BitOrder, BitStore, BitVec, GrowError, IntoBitVec};
 use std::alloc::AllocError;
 use std::cmp::Ordering;
 

@@ -1,7 +1,7 @@
 //! Callers that go over the bits.
 ghost use Rattle.std.specs.Prelude.{◌≡◌, length, map, not, slice_get, count_by, reverse, IfOk};
 
-use crate::{BitOrder, BitStore, BitVec};
+use bit_containers::{BitOrder, BitStore, BitVec};
 use std::alloc::{AllocError, Global};
 
 pub fn how_many<T: BitStore, O: BitOrder>(v: &BitVec<T, O>) -> usize

@@ -9,7 +9,7 @@ mod ranges;
 mod reading;
 mod words;
 
-use crate::{BitIdx, BitOrder, BitSlice, BitStore, BitVec};
+use bit_containers::{BitIdx, BitOrder, BitSlice, BitStore, BitVec};
 use std::alloc::{AllocError, Global};
 use std::process::Abort;
 use std::test::Fail;

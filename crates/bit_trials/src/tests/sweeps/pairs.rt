@@ -3,7 +3,7 @@ ghost use Rattle.std.specs.Prelude.{◌<◌};
 
 use crate::tests::orders::{Scramble, Xor4};
 use crate::tests::sweeps::{Case, behind, part, replaced, shows};
-use crate::{BitOrder, BitStore, BitVec, Lsb0, Msb0};
+use bit_containers::{BitOrder, BitStore, BitVec, Lsb0, Msb0};
 use std::alloc::{AllocError, Global};
 use std::cmp::Ordering;
 use std::hash::{DefaultHasher, Hash, Hasher};

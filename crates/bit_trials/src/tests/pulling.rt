@@ -2,7 +2,7 @@
 ghost use Rattle.std.specs.Iterator.{at_most};
 
 use crate::tests::{holds, of};
-use crate::{BitVec, GrowError, Lsb0, Msb0};
+use bit_containers::{BitVec, GrowError, Lsb0, Msb0};
 use std::alloc::Global;
 use std::process::Abort;
 use std::test::Fail;

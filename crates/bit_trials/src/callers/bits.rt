@@ -139,7 +139,7 @@ pub fn through_words<T: BitStore, O: BitOrder>(v: &mut BitVec<T, O>, word: T)
     v.set(0, true);
 }
 
-#[tactic(auto, unfolding(crate::proofs::OnLiterals::words_on_literals))]
+#[tactic(auto, unfolding(bit_containers::proofs::OnLiterals::words_on_literals))]
 pub fn words_written(v: &mut BitVec<u8, Lsb0>)
     requires words { v.old.words ≡ 0 ∷ [] }
     requires head { v.old.head ≡ 0 }

@@ -55,7 +55,7 @@ pub fn replaced_by_a_vector(v: &mut BitVec<u8, Lsb0>, bits: Vec<bool>) -> Result
 }
 
 /// A function that counts its calls decides which bits stay.
-#[tactic(auto, using(crate::proofs::Calling::kept_where))]
+#[tactic(auto, using(bit_containers::proofs::Calling::kept_where))]
 pub fn counted_and_kept<T: BitStore, O: BitOrder>(v: &mut BitVec<T, O>) -> usize
     ensures { v.new.list ≡ keep_where (λ index bit. bit) 0 v.old.list }
 {

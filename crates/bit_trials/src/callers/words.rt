@@ -47,7 +47,7 @@ pub fn pushed_and_set(alloc: Global) -> Result<Vec<u8>, GrowError>
     Ok(v.into_vec())
 }
 
-#[tactic(auto, unfolding(crate::proofs::OnLiterals::words_on_literals))]
+#[tactic(auto, unfolding(bit_containers::proofs::OnLiterals::words_on_literals))]
 pub fn popped_and_set(words: Vec<u8>) -> Vec<u8>
     requires { words.items ≡ 0xdc ∷ [] }
     ensures { result.items ≡ 221 ∷ [] }
@@ -58,7 +58,7 @@ pub fn popped_and_set(words: Vec<u8>) -> Vec<u8>
     v.into_vec()
 }
 
-#[tactic(auto, unfolding(crate::proofs::OnLiterals::clean_on_literals))]
+#[tactic(auto, unfolding(bit_containers::proofs::OnLiterals::clean_on_literals))]
 pub fn cut_and_cleared(words: Vec<u8>) -> Vec<u8>
     requires { words.items ≡ 0xdc ∷ [] }
     ensures { result.items ≡ 0x1c ∷ [] }

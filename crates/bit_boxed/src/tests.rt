@@ -19,9 +19,26 @@ use std::test::Fail;
 fn holds<T: BitStore, O: BitOrder>(rt: &impl Abort, b: &BitBox<T, O>, digits: &[u8]) {
     assert_eq!(rt; b.len(), digits.len());
     for (i, digit) in digits.iter().enumerate() {
-        assert_eq!(rt; b.get(i), Some(*digit == b'1'), "at {i}");
+        assert!(rt; b.get(i) == Some(*digit == b'1'));
     }
     assert_eq!(rt; b.get(digits.len()), None);
+}
+
+/// That the words of the box are these.
+fn shows<T: BitStore, O: BitOrder>(rt: &impl Abort, b: &BitBox<T, O>, words: &[T]) {
+    let kept = b.as_raw_slice();
+    assert_eq!(rt; kept.len(), words.len());
+    for (word, want) in kept.iter().zip(words) {
+        assert!(rt; word.to_u64() == want.to_u64());
+    }
+}
+
+/// What a call answers that found memory.
+fn ok<V, E>(rt: &impl Abort, answer: Result<V, E>) -> V {
+    match answer {
+        Ok(value) => value,
+        Err(_) => panic!(rt; "memory is wanting"),
+    }
 }
 
 #[test]
@@ -29,18 +46,18 @@ fn copied_with_a_head(rt: HostRuntime) -> Result<(), Fail> {
     let words = [0xb5_u8];
     let view = BitSlice::<u8, Msb0>::from_slice(&words).get_range(2..6);
     let mut b = BitBox::from_bitslice_headed(rt.alloc(), view)?;
-    assert_eq!(rt; b.as_raw_slice(), [0x34].as_slice());
+    shows(&rt, &b, &[0x34]);
     assert_eq!(rt; b.head(), 2);
     holds(&rt, &b, b"1101");
     b.fill_uninitialized(true);
-    assert_eq!(rt; b.as_raw_slice(), [0xf7].as_slice());
+    shows(&rt, &b, &[0xf7]);
     let mut b = BitBox::from_bitslice_headed(rt.alloc(), view)?;
     b.force_align();
-    assert_eq!(rt; b.as_raw_slice(), [0xd4].as_slice());
+    shows(&rt, &b, &[0xd4]);
     assert_eq!(rt; b.head(), 0);
     holds(&rt, &b, b"1101");
     b.fill_uninitialized(false);
-    assert_eq!(rt; b.as_raw_slice(), [0xd0].as_slice());
+    shows(&rt, &b, &[0xd0]);
     Ok(())
 }
 
@@ -49,15 +66,15 @@ fn copied_from_the_beginning(rt: HostRuntime) -> Result<(), Fail> {
     let words = [0xb5_u8];
     let view = BitSlice::<u8, Msb0>::from_slice(&words).get_range(2..6);
     let mut b = BitBox::from_bitslice(rt.alloc(), view)?;
-    assert_eq!(rt; b.as_raw_slice(), [0xd0].as_slice());
+    shows(&rt, &b, &[0xd0]);
     assert_eq!(rt; b.head(), 0);
     b.fill_uninitialized(true);
-    assert_eq!(rt; b.as_raw_slice(), [0xdf].as_slice());
+    shows(&rt, &b, &[0xdf]);
     let copy = b.clone()?;
-    assert_eq!(rt; copy.as_raw_slice(), [0xd0].as_slice());
+    shows(&rt, &copy, &[0xd0]);
     assert!(rt; copy == b);
     b.force_align();
-    assert_eq!(rt; b.as_raw_slice(), [0xdf].as_slice());
+    shows(&rt, &b, &[0xdf]);
     Ok(())
 }
 
@@ -67,9 +84,9 @@ fn all_words_are_kept(rt: HostRuntime) -> Result<(), Fail> {
     let view = BitSlice::<u8, Lsb0>::from_slice(&words).get_range(3..11);
     let mut b = BitBox::from_bitslice_headed(rt.alloc(), view)?;
     b.force_align();
-    assert_eq!(rt; b.as_raw_slice(), [0xf5, 0x07].as_slice());
+    shows(&rt, &b, &[0xf5, 0x07]);
     b.fill_uninitialized(false);
-    assert_eq!(rt; b.as_raw_slice(), [0xf5, 0x00].as_slice());
+    shows(&rt, &b, &[0xf5, 0x00]);
     assert_eq!(rt; b.as_bitslice().as_raw_slice(), [0xf5].as_slice());
     assert_eq!(rt; b.len(), 8);
     b.as_mut_bitslice().set(1, true);
@@ -98,7 +115,7 @@ fn made_of_words(rt: HostRuntime) -> Result<(), Fail> {
     assert!(rt; b.first() == Some(true) && b.last() == Some(true) && b.len() == 16);
     let array = BitArray::<[u8; 2], Msb0>::new([0x80, 0x01]);
     let b = BitBox::from_bitarray(rt.alloc(), array)?;
-    assert_eq!(rt; b.as_raw_slice(), [0x80, 0x01].as_slice());
+    shows(&rt, &b, &[0x80, 0x01]);
     let none = BitBox::<u64, Lsb0>::empty(rt.alloc())?;
     assert!(rt; none.is_empty() && none.first().is_none() && none.last().is_none());
     let b = BitBox::<u8, Lsb0>::from_parts(vec![in rt.alloc(); 0xa8, 0x07]?, 3, 8)?;
@@ -110,7 +127,7 @@ fn made_of_words(rt: HostRuntime) -> Result<(), Fail> {
 fn pulled(rt: HostRuntime) -> Result<(), Fail> {
     let bits = [true, false, true, false, false, false, false, false, true];
     let b = BitBox::<u8, Lsb0>::from_bits(rt.alloc(), bits)?;
-    assert_eq!(rt; b.as_raw_slice(), [0x05, 0x01].as_slice());
+    shows(&rt, &b, &[0x05, 0x01]);
     assert!(rt; b.len() == 9 && b.head() == 0);
     Ok(())
 }
@@ -123,7 +140,7 @@ fn written(rt: HostRuntime) -> Result<(), Fail> {
     assert!(rt; b[1] && !b[0]);
     b.flip_all();
     b.copy_within(0..3, 5);
-    assert_eq!(rt; b.as_raw_slice(), [0xbd].as_slice());
+    shows(&rt, &b, &[0xbd]);
     b.fill(false);
     assert_eq!(rt; b.count_ones(), 0);
     b.as_raw_mut_slice()[0] = 0x0f;
@@ -156,8 +173,8 @@ fn combined(rt: HostRuntime) -> Result<(), Fail> {
     holds(&rt, &both, b"11");
     let flipped = !right;
     holds(&rt, &flipped, b"10");
-    assert_eq!(rt; flipped.as_raw_slice(), [0xfd].as_slice());
-    assert_eq!(rt; (!flipped).as_raw_slice(), [0x02].as_slice());
+    shows(&rt, &flipped, &[0xfd]);
+    shows(&rt, &!flipped, &[0x02]);
     Ok(())
 }
 
@@ -254,15 +271,15 @@ fn empty_behind_a_head(rt: HostRuntime) -> Result<(), Fail> {
     let words = [0xff_u8];
     let view = BitSlice::<u8, Lsb0>::from_slice(&words).get_range(5..5);
     let mut b = BitBox::from_bitslice_headed(rt.alloc(), view)?;
-    assert_eq!(rt; b.as_raw_slice(), [0].as_slice());
+    shows(&rt, &b, &[0]);
     b.fill_uninitialized(true);
-    assert_eq!(rt; b.as_raw_slice(), [0xff].as_slice());
+    shows(&rt, &b, &[0xff]);
     let b = !BitBox::from_bitslice_headed(rt.alloc(), view)?;
-    assert_eq!(rt; b.as_raw_slice(), [0xff].as_slice());
+    shows(&rt, &b, &[0xff]);
     let mut b = BitBox::from_bitslice_headed(rt.alloc(), view)?;
     b.force_align();
     assert_eq!(rt; b.head(), 0);
-    assert_eq!(rt; b.as_raw_slice(), [0].as_slice());
+    shows(&rt, &b, &[0]);
     assert_eq!(rt; b.as_bitslice().as_raw_slice(), [].as_slice());
     Ok(())
 }
@@ -275,13 +292,13 @@ fn by_orders_of_a_user(rt: HostRuntime) -> Result<(), Fail> {
     };
     assert_eq!(rt; b.len(), 16);
     b.copy_within(1..12, 3);
-    assert_eq!(rt; b.as_raw_slice(), [0xb6, 0x8d].as_slice());
+    shows(&rt, &b, &[0xb6, 0x8d]);
     let bits = [true, true, false, false, true];
     let b = BitBox::<u8, Xor4>::from_bits(rt.alloc(), bits)?;
-    assert_eq!(rt; b.as_raw_slice(), [0x31].as_slice());
+    shows(&rt, &b, &[0x31]);
     let b = BitBox::<u8, Scramble>::from_bits(rt.alloc(), bits)?;
-    assert_eq!(rt; b.as_raw_slice(), [0x89].as_slice());
+    shows(&rt, &b, &[0x89]);
     let b = BitBox::<u16, Scramble>::from_bits(rt.alloc(), bits)?;
-    assert_eq!(rt; b.as_raw_slice(), [0x0188].as_slice());
+    shows(&rt, &b, &[0x0188]);
     Ok(())
 }

@@ -1,7 +1,7 @@
 //! Each request for memory refused: what is answered then, and what stays.
 //!
 //! The tests pass with ample memory, and whichever request `rt try --test --fail-alloc N` refuses.
-use crate::tests::holds;
+use crate::tests::{holds, shows};
 use crate::{BitBox, IntoIter};
 use bit_addressing::{BitOrder, BitStore, GrowError, Lsb0, Msb0};
 use bit_array::BitArray;
@@ -81,7 +81,7 @@ fn copies_refused(rt: HostRuntime) -> Result<(), Fail> {
         return Ok(());
     };
     made(&rt, b.clone(), b"10101111");
-    assert_eq!(rt; b.as_raw_slice(), [0xa8, 0x07].as_slice());
+    shows(&rt, &b, &[0xa8, 0x07]);
     assert_eq!(rt; b.head(), 3);
     holds(&rt, &b, b"10101111");
     let mut bits = b.into_iter();

@@ -1,16 +1,14 @@
 //! Each call at every head of a byte and every length up to 17 bits, beside plain loops over lists.
-ghost use Rattle.std.specs.Prelude.{◌≡◌, ◌+◌, ◌<◌, IfOk, length};
+ghost use Rattle.std.specs.Prelude.{◌+◌, ◌<◌};
 
 use crate::tests::orders::{Scramble, Xor4};
-use crate::tests::{In, Radix};
+use crate::tests::{In, Radix, ok};
 use crate::{BitBox, IntoIter};
 use bit_addressing::{BitIdx, BitOrder, BitStore, Lsb0, Msb0};
 use bit_slice::BitSlice;
-use std::alloc::{AllocError, Global};
 use std::cmp::Ordering;
 use std::hash::{DefaultHasher, Hash, Hasher};
 use std::process::Abort;
-use std::test::Fail;
 
 /// What a call writes over the bits.
 #[derive(Clone, Copy)]
@@ -24,34 +22,35 @@ enum Made {
 }
 
 /// Four words whose bits are mixed, and differ by the seed.
-fn words_of<T: BitStore>(alloc: Global, seed: u64) -> Result<Vec<T>, AllocError>
-    ensures { IfOk result (λ words. length words.items ≡ 4) }
-{
-    let mut words = Vec::new(alloc);
-    words.push(T::from_u64(seed))?;
-    words.push(T::from_u64(seed.wrapping_mul(0x9e37_79b9_7f4a_7c15)))?;
-    words.push(T::from_u64(seed.wrapping_mul(0xbf58_476d_1ce4_e5b9) >> 7))?;
-    words.push(T::from_u64(seed.wrapping_mul(0x94d0_49bb_1331_11eb) >> 13))?;
-    Ok(words)
+fn words_of<T: BitStore>(rt: &(impl Abort + AllocGlobal), seed: u64) -> Vec<T> {
+    let mut words = Vec::new(rt.alloc());
+    for (factor, less) in [
+        (1u64, 0u32),
+        (0x9e37_79b9_7f4a_7c15, 0),
+        (0xbf58_476d_1ce4_e5b9, 7),
+        (0x94d0_49bb_1331_11eb, 13),
+    ] {
+        let mixed = seed.wrapping_mul(factor).wrapping_shr(less);
+        ok(rt, words.push(T::from_u64(mixed)));
+    }
+    words
 }
 
 /// The bits of these words, one by one.
-fn row_of<T: BitStore, O: BitOrder>(alloc: Global, words: &[T]) -> Result<Vec<bool>, AllocError> {
-    let mut bits = Vec::new(alloc);
+fn row_of<T: BitStore, O: BitOrder>(rt: &(impl Abort + AllocGlobal), words: &[T]) -> Vec<bool> {
+    let mut bits = Vec::new(rt.alloc());
     for word in words {
         for i in 0..T::BITS {
-            bits.push(word.bit(O::at(BitIdx::<T>::new_unchecked(i)).into_inner()))?;
+            let place = O::at(BitIdx::<T>::new_unchecked(i)).into_inner();
+            ok(rt, bits.push(word.bit(place)));
         }
     }
-    Ok(bits)
+    bits
 }
 
 /// All bits that a box owns, one by one.
-fn owned<T: BitStore, O: BitOrder>(
-    alloc: Global,
-    b: &BitBox<T, O>,
-) -> Result<Vec<bool>, AllocError> {
-    row_of::<T, O>(alloc, b.as_raw_slice())
+fn owned<T: BitStore, O: BitOrder>(rt: &(impl Abort + AllocGlobal), b: &BitBox<T, O>) -> Vec<bool> {
+    row_of::<T, O>(rt, b.as_raw_slice())
 }
 
 /// A box of `len` mixed bits that begin at this head.
@@ -60,13 +59,14 @@ fn boxed<T: BitStore, O: BitOrder>(
     seed: u64,
     head: usize,
     len: usize,
-) -> Result<BitBox<T, O>, Fail>
+) -> BitBox<T, O>
     requires { head + len < 100 }
 {
-    let words = words_of::<T>(rt.alloc(), seed)?;
-    let view = BitSlice::<T, O>::try_from_slice(words.as_slice())?;
+    let words = words_of::<T>(rt, seed);
+    let view = ok(rt, BitSlice::<T, O>::try_from_slice(words.as_slice()));
     assert!(rt; head + len <= view.len());
-    Ok(BitBox::from_bitslice_headed(rt.alloc(), view.get_range(head..head + len))?)
+    let bits = view.get_range(head..head + len);
+    ok(rt, BitBox::from_bitslice_headed(rt.alloc(), bits))
 }
 
 /// Whether every call that reads says that the box has the `len` bits of this row from `head` on.
@@ -135,99 +135,88 @@ fn is_filled(before: &[bool], after: &[bool], at: usize, n: usize, bit: bool) ->
 }
 
 /// One bit written, and all bits.
-fn written<T: BitStore, O: BitOrder>(
-    rt: &(impl Abort + AllocGlobal),
-    b: &mut BitBox<T, O>,
-) -> Result<(), Fail> {
+fn written<T: BitStore, O: BitOrder>(rt: &(impl Abort + AllocGlobal), b: &mut BitBox<T, O>) {
     let (head, len) = (b.head(), b.len());
     assert!(rt; head + len < 100);
     for i in 0..len {
         for bit in [false, true] {
-            let before = owned(rt.alloc(), b)?;
+            let before = owned(rt, b);
             assert!(rt; i < b.len());
             b.set(i, bit);
-            let after = owned(rt.alloc(), b)?;
+            let after = owned(rt, b);
             assert!(rt; is_made(&before, &after, head + i, 1, Made::Bit(bit)));
             assert!(rt; shows(b, &after, head, len));
         }
     }
     for bit in [true, false] {
-        let before = owned(rt.alloc(), b)?;
+        let before = owned(rt, b);
         b.fill(bit);
-        let after = owned(rt.alloc(), b)?;
+        let after = owned(rt, b);
         assert!(rt; is_made(&before, &after, head, len, Made::Bit(bit)));
         assert!(rt; shows(b, &after, head, len));
     }
-    Ok(())
 }
 
 /// Each range that has room at each place, copied there.
-fn moved<T: BitStore, O: BitOrder>(
-    rt: &(impl Abort + AllocGlobal),
-    b: &mut BitBox<T, O>,
-) -> Result<(), Fail> {
+fn moved<T: BitStore, O: BitOrder>(rt: &(impl Abort + AllocGlobal), b: &mut BitBox<T, O>) {
     let (head, len) = (b.head(), b.len());
     assert!(rt; head < 8 && len < 18);
     for from in 0..len + 1 {
         for upto in from..len + 1 {
             for dest in 0..len - (upto - from) + 1 {
-                let before = owned(rt.alloc(), b)?;
+                let before = owned(rt, b);
                 assert!(rt; upto <= b.len() && dest <= b.len() - (upto - from));
                 b.copy_within(from..upto, dest);
-                let after = owned(rt.alloc(), b)?;
+                let after = owned(rt, b);
                 let made = Made::Moved(head + from);
                 assert!(rt; is_made(&before, &after, head + dest, upto - from, made));
             }
         }
     }
-    let row = owned(rt.alloc(), b)?;
+    let row = owned(rt, b);
     assert!(rt; shows(b, &row, head, len));
-    Ok(())
 }
 
 /// All bits flipped, twice over; dead bits filled; the list moved to the beginning of the words.
 fn worked<T: BitStore, O: BitOrder>(
     rt: &(impl Abort + AllocGlobal),
     b: BitBox<T, O>,
-) -> Result<BitBox<T, O>, Fail> {
+) -> BitBox<T, O> {
     let mut b = b;
     let (head, len) = (b.head(), b.len());
     assert!(rt; head < 8 && len < 18);
-    let before = owned(rt.alloc(), &b)?;
+    let before = owned(rt, &b);
     assert!(rt; before.len() < 300);
     b.flip_all();
-    let after = owned(rt.alloc(), &b)?;
+    let after = owned(rt, &b);
     assert!(rt; before.len() == after.len());
     for (old, new) in before.iter().zip(after.iter()) {
         assert!(rt; old != new);
     }
     assert!(rt; shows(&b, &after, head, len));
     let mut b = !b;
-    assert!(rt; owned(rt.alloc(), &b)? == before);
+    assert!(rt; owned(rt, &b) == before);
     for bit in [true, false, true] {
-        let before = owned(rt.alloc(), &b)?;
+        let before = owned(rt, &b);
         b.fill_uninitialized(bit);
-        let after = owned(rt.alloc(), &b)?;
+        let after = owned(rt, &b);
         assert!(rt; is_filled(&before, &after, head, len, bit));
     }
-    let before = owned(rt.alloc(), &b)?;
+    let before = owned(rt, &b);
     b.force_align();
-    let after = owned(rt.alloc(), &b)?;
+    let after = owned(rt, &b);
     assert!(rt; is_made(&before, &after, 0, len, Made::Moved(head)));
     assert!(rt; shows(&b, &after, 0, len));
-    Ok(b)
+    b
 }
 
 /// What is written through a view, and through the words, stands in the box.
-fn lent<T: BitStore, O: BitOrder>(
-    rt: &(impl Abort + AllocGlobal),
-    b: &mut BitBox<T, O>,
-) -> Result<(), Fail> {
+fn lent<T: BitStore, O: BitOrder>(rt: &(impl Abort + AllocGlobal), b: &mut BitBox<T, O>) {
     let (head, len) = (b.head(), b.len());
     assert!(rt; head < 8 && len < 18);
-    let before = owned(rt.alloc(), b)?;
+    let before = owned(rt, b);
     b.as_mut_bitslice().fill(true);
-    let after = owned(rt.alloc(), b)?;
+    let after = owned(rt, b);
     assert!(rt; is_made(&before, &after, head, len, Made::Bit(true)));
     assert!(rt; shows(b, &after, head, len));
     let count = b.as_raw_slice().len();
@@ -236,14 +225,13 @@ fn lent<T: BitStore, O: BitOrder>(
         assert!(rt; at < words.len());
         words[at] = T::from_u64(0x5a5a_5a5a_5a5a_5a5a);
     }
-    let after = owned(rt.alloc(), b)?;
-    let five = words_of::<T>(rt.alloc(), 0x5a5a_5a5a_5a5a_5a5a)?;
-    let five = row_of::<T, O>(rt.alloc(), five.as_slice())?;
+    let after = owned(rt, b);
+    let five = words_of::<T>(rt, 0x5a5a_5a5a_5a5a_5a5a);
+    let five = row_of::<T, O>(rt, five.as_slice());
     for (j, bit) in after.iter().enumerate() {
         assert!(rt; five.get(j % T::BITS as usize) == Some(bit));
     }
     assert!(rt; shows(b, &after, head, len));
-    Ok(())
 }
 
 /// Whether the operators give, of two boxes, what they give bit by bit; each bit outside the left list stays.
@@ -251,13 +239,13 @@ fn combined<T: BitStore, O: BitOrder>(
     rt: &(impl Abort + AllocGlobal),
     a: &BitBox<T, O>,
     b: &BitBox<T, O>,
-) -> Result<(), Fail> {
+) {
     let head = a.head();
-    let before = owned(rt.alloc(), a)?;
-    let (both, some, one) = (copied(rt, a)?, copied(rt, a)?, copied(rt, a)?);
-    let both = owned(rt.alloc(), &(both & copied(rt, b)?))?;
-    let some = owned(rt.alloc(), &(some | copied(rt, b)?))?;
-    let one = owned(rt.alloc(), &(one ^ copied(rt, b)?))?;
+    let before = owned(rt, a);
+    let (both, some, one) = (copied(rt, a), copied(rt, a), copied(rt, a));
+    let both = owned(rt, &(both & copied(rt, b)));
+    let some = owned(rt, &(some | copied(rt, b)));
+    let one = owned(rt, &(one ^ copied(rt, b)));
     for (j, old) in before.iter().enumerate() {
         let inside = head <= j && j - head < a.len();
         let new = inside && b.get(j.wrapping_sub(head)).unwrap_or(false);
@@ -265,22 +253,24 @@ fn combined<T: BitStore, O: BitOrder>(
         assert!(rt; some.get(j).copied() == Some(*old || new));
         assert!(rt; one.get(j).copied() == Some(*old != new));
     }
-    Ok(())
 }
 
 /// A box with the same words, head and list: all its words, dead bits too.
 fn copied<T: BitStore, O: BitOrder>(
     rt: &(impl Abort + AllocGlobal),
     b: &BitBox<T, O>,
-) -> Result<BitBox<T, O>, Fail> {
-    let mut copy = BitBox::from_bitslice_headed(rt.alloc(), b.as_bitslice())?;
+) -> BitBox<T, O> {
+    let mut copy = ok(
+        rt,
+        BitBox::from_bitslice_headed(rt.alloc(), b.as_bitslice()),
+    );
     let words = copy.as_raw_mut_slice();
     for (i, word) in b.as_raw_slice().iter().enumerate() {
         if i < words.len() {
             words[i] = *word;
         }
     }
-    Ok(copy)
+    copy
 }
 
 /// Whether order, equality and hash of two boxes are those of their lists.
@@ -310,19 +300,16 @@ fn compared<T: BitStore, O: BitOrder>(a: &BitBox<T, O>, b: &BitBox<T, O>) -> boo
 }
 
 /// Copies, from head 0 on, of the list alone; the words given up and taken back.
-fn taken<T: BitStore, O: BitOrder>(
-    rt: &(impl Abort + AllocGlobal),
-    b: BitBox<T, O>,
-) -> Result<(), Fail> {
+fn taken<T: BitStore, O: BitOrder>(rt: &(impl Abort + AllocGlobal), b: BitBox<T, O>) {
     let (head, len) = (b.head(), b.len());
     assert!(rt; head < 8 && len < 18);
-    let row = owned(rt.alloc(), &b)?;
+    let row = owned(rt, &b);
     for copy in [
-        b.clone()?,
-        BitBox::from_bitslice(rt.alloc(), b.as_bitslice())?,
-        BitBox::from_bits(rt.alloc(), b.iter())?,
+        ok(rt, b.clone()),
+        ok(rt, BitBox::from_bitslice(rt.alloc(), b.as_bitslice())),
+        ok(rt, BitBox::from_bits(rt.alloc(), b.iter())),
     ] {
-        let clean = owned(rt.alloc(), &copy)?;
+        let clean = owned(rt, &copy);
         assert!(rt; shows(&copy, &clean, 0, len) && copy == b);
         assert!(rt; clean.len() < len + T::BITS as usize);
         for (j, bit) in clean.iter().enumerate() {
@@ -336,60 +323,61 @@ fn taken<T: BitStore, O: BitOrder>(
     };
     assert!(rt; back.len() < 100 && back.len() == row.len());
     assert!(rt; shows(&back, &row, 0, back.len()));
-    Ok(())
 }
 
 /// The digits of a list, one for each group of so many bits, where the bit that comes first weighs most.
 fn digits_of<T: BitStore, O: BitOrder>(
-    alloc: Global,
+    rt: &(impl Abort + AllocGlobal),
     b: &BitBox<T, O>,
     width: u8,
-    digits: &str,
-) -> Result<Vec<u8>, AllocError> {
-    let mut text = Vec::new(alloc);
-    text.push(b'[')?;
+    digits: &[u8],
+) -> Vec<u8> {
+    let mut text = Vec::new(rt.alloc());
+    ok(rt, text.push(b'['));
     let (mut value, mut held) = (0u8, 0u8);
     for bit in b.iter() {
         value = value.wrapping_mul(2).wrapping_add(bit as u8);
         held = held.wrapping_add(1);
         if held == width {
-            text.push(digits.as_bytes().get(value as usize).copied().unwrap_or(0))?;
+            ok(
+                rt,
+                text.push(digits.get(value as usize).copied().unwrap_or(0)),
+            );
             (value, held) = (0, 0);
         }
     }
     if held > 0 {
-        text.push(digits.as_bytes().get(value as usize).copied().unwrap_or(0))?;
+        ok(
+            rt,
+            text.push(digits.get(value as usize).copied().unwrap_or(0)),
+        );
     }
-    text.push(b']')?;
-    Ok(text)
+    ok(rt, text.push(b']'));
+    text
 }
 
 /// The text of a box, and its digits by one, three and four bits.
-fn told<T: BitStore, O: BitOrder>(
-    rt: &(impl Abort + AllocGlobal),
-    b: &BitBox<T, O>,
-) -> Result<(), Fail> {
+fn told<T: BitStore, O: BitOrder>(rt: &(impl Abort + AllocGlobal), b: &BitBox<T, O>) {
     let mut list = String::new(rt.alloc());
-    list.push_str("[")?;
+    ok(rt, list.push_str("["));
     for (i, bit) in b.iter().enumerate() {
-        list.push_str(if i > 0 { ", " } else { "" })?;
-        list.push_str(if bit { "1" } else { "0" })?;
+        ok(rt, list.push_str(if i > 0 { ", " } else { "" }));
+        ok(rt, list.push_str(if bit { "1" } else { "0" }));
     }
-    list.push_str("]")?;
-    let text = format!(in rt.alloc(); "{b}")?;
+    ok(rt, list.push_str("]"));
+    let text = ok(rt, format!(in rt.alloc(); "{b}"));
     assert_eq!(rt; text.as_str(), list.as_str());
     for (radix, width, digits) in [
-        (Radix::Binary, 1, "01"),
-        (Radix::Octal, 3, "01234567"),
-        (Radix::LowerHex, 4, "0123456789abcdef"),
-        (Radix::UpperHex, 4, "0123456789ABCDEF"),
+        (Radix::Binary, 1, b"01".as_slice()),
+        (Radix::Octal, 3, b"01234567"),
+        (Radix::LowerHex, 4, b"0123456789abcdef"),
+        (Radix::UpperHex, 4, b"0123456789ABCDEF"),
     ] {
-        let wanted = digits_of(rt.alloc(), b, width, digits)?;
+        let wanted = digits_of(rt, b, width, digits);
         let written = In(b, radix);
-        let text = format!(in rt.alloc(); "{written}")?;
+        let text = ok(rt, format!(in rt.alloc(); "{written}"));
         assert_eq!(rt; text.as_bytes(), wanted.as_slice());
     }
-    Ok(())
 }
 
 /// What is left of a list from one place up to another: read, copied, and written through the view of it.
@@ -397,10 +385,10 @@ fn left<T: BitStore, O: BitOrder>(
     rt: &(impl Abort + AllocGlobal),
     bits: IntoIter<T, O>,
     list: &[bool],
-) -> Result<(), Fail> {
+) {
     let mut bits = bits;
     assert!(rt; bits.len() == list.len() && bits.as_slice().len() == list.len());
-    let mut copy = bits.clone()?;
+    let mut copy = ok(rt, bits.clone());
     for (i, bit) in list.iter().enumerate() {
         assert!(rt; copy.next() == Some(*bit) && bits.as_bitslice().get(i) == Some(*bit));
         let mut view = bits.as_mut_bitslice();
@@ -413,24 +401,20 @@ fn left<T: BitStore, O: BitOrder>(
         assert!(rt; bits.next() == Some(!*bit));
     }
     assert!(rt; bits.next().is_none() && bits.next_back().is_none() && bits.len() == 0);
-    Ok(())
 }
 
 /// The bits one by one from both ends, past the end too.
-fn given<T: BitStore, O: BitOrder>(
-    rt: &(impl Abort + AllocGlobal),
-    b: &BitBox<T, O>,
-) -> Result<(), Fail> {
+fn given<T: BitStore, O: BitOrder>(rt: &(impl Abort + AllocGlobal), b: &BitBox<T, O>) {
     let len = b.len();
     assert!(rt; len < 18);
     let mut list = Vec::new(rt.alloc());
     for bit in b {
-        list.push(bit)?;
+        ok(rt, list.push(bit));
     }
     assert!(rt; list.len() == len);
     for front in 0..len + 2 {
         for back in 0..len + 2 {
-            let mut bits = copied(rt, b)?.into_iter();
+            let mut bits = copied(rt, b).into_iter();
             let from = len.min(front + 1);
             assert!(rt; bits.nth(front) == list.get(front).copied());
             let upto = if back < len - from {
@@ -445,78 +429,69 @@ fn given<T: BitStore, O: BitOrder>(
             };
             assert!(rt; bits.nth_back(back) == last);
             assert!(rt; from <= upto && upto <= list.len());
-            left(rt, bits, &list[from..upto])?;
+            left(rt, bits, &list[from..upto]);
         }
     }
-    Ok(())
 }
 
 /// Every call, at one head and one length, and once more on the aligned box, which keeps its words.
-fn every_call<T: BitStore, O: BitOrder>(
-    rt: &(impl Abort + AllocGlobal),
-    head: usize,
-    len: usize,
-) -> Result<(), Fail>
+fn every_call<T: BitStore, O: BitOrder>(rt: &(impl Abort + AllocGlobal), head: usize, len: usize)
     requires head { head < 8 }
     requires len { len < 18 }
 {
-    let mut b = boxed::<T, O>(rt, 0x0fed_cba9_8765_4321, head, len)?;
-    let row = owned(rt.alloc(), &b)?;
+    let mut b = boxed::<T, O>(rt, 0x0fed_cba9_8765_4321, head, len);
+    let row = owned(rt, &b);
     assert!(rt; shows(&b, &row, head, len));
-    given(rt, &b)?;
-    told(rt, &b)?;
-    written(rt, &mut copied(rt, &b)?)?;
-    moved(rt, &mut b)?;
-    lent(rt, &mut copied(rt, &b)?)?;
-    let mut b = worked(rt, b)?;
-    written(rt, &mut copied(rt, &b)?)?;
-    moved(rt, &mut b)?;
-    lent(rt, &mut b)?;
-    taken(rt, worked(rt, b)?)
+    given(rt, &b);
+    told(rt, &b);
+    written(rt, &mut copied(rt, &b));
+    moved(rt, &mut b);
+    lent(rt, &mut copied(rt, &b));
+    let mut b = worked(rt, b);
+    written(rt, &mut copied(rt, &b));
+    moved(rt, &mut b);
+    lent(rt, &mut b);
+    taken(rt, worked(rt, b));
 }
 
 /// Two boxes, at one head and length of the one and each length of the other, behind another head.
-fn pairs<T: BitStore, O: BitOrder>(
-    rt: &(impl Abort + AllocGlobal),
-    head: usize,
-    len: usize,
-) -> Result<(), Fail>
+fn pairs<T: BitStore, O: BitOrder>(rt: &(impl Abort + AllocGlobal), head: usize, len: usize)
     requires head { head < 8 }
     requires len { len < 18 }
 {
-    let a = boxed::<T, O>(rt, 0x1234_5678_9abc_def1, head, len)?;
+    let a = boxed::<T, O>(rt, 0x1234_5678_9abc_def1, head, len);
     let words = a.as_bitslice();
     for size in 0..18usize {
         let other = (3 * head + size) % 8;
-        let b = boxed::<T, O>(rt, 0x0fed_cba9_8765_4321, other, size)?;
-        combined(rt, &a, &b)?;
+        let b = boxed::<T, O>(rt, 0x0fed_cba9_8765_4321, other, size);
+        combined(rt, &a, &b);
         assert!(rt; compared(&a, &b));
         if size <= words.len() {
-            let part = BitBox::from_bitslice(rt.alloc(), words.get_range(0..size))?;
+            let part = ok(
+                rt,
+                BitBox::from_bitslice(rt.alloc(), words.get_range(0..size)),
+            );
             assert!(rt; compared(&a, &part) && compared(&part, &a));
         }
     }
-    Ok(())
 }
 
 #[test]
-fn both_orders(rt: HostRuntime) -> Result<(), Fail> {
+fn both_orders(rt: HostRuntime) {
     for head in 0..8usize {
         for len in 0..18usize {
-            every_call::<u8, Lsb0>(&rt, head, len)?;
-            every_call::<u16, Msb0>(&rt, head, len)?;
-            pairs::<u8, Msb0>(&rt, head, len)?;
+            every_call::<u8, Lsb0>(&rt, head, len);
+            every_call::<u16, Msb0>(&rt, head, len);
+            pairs::<u8, Msb0>(&rt, head, len);
         }
     }
-    Ok(())
 }
 
 #[test]
-fn orders_of_a_user(rt: HostRuntime) -> Result<(), Fail> {
+fn orders_of_a_user(rt: HostRuntime) {
     for len in 0..18usize {
-        every_call::<u8, Xor4>(&rt, len % 8, len)?;
-        every_call::<u8, Scramble>(&rt, 7 - len % 8, len)?;
-        pairs::<u16, Scramble>(&rt, len % 8, len)?;
+        every_call::<u8, Xor4>(&rt, len % 8, len);
+        every_call::<u8, Scramble>(&rt, 7 - len % 8, len);
+        pairs::<u16, Scramble>(&rt, len % 8, len);
     }
-    Ok(())
 }

@@ -1,4 +1,5 @@
 //! Vectors beside plain lists, with memory refused, and at the limits of lengths.
+mod calls;
 mod limits;
 mod memory;
 mod orders;
@@ -7,24 +8,29 @@ mod radix;
 mod sweeps;
 
 use bit_containers::{BitOrder, BitStore, BitVec};
-use std::alloc::Global;
 use std::process::Abort;
-use std::test::Fail;
+
+/// What a call answers that found memory.
+fn ok<V, E>(rt: &impl Abort, answer: Result<V, E>) -> V {
+    match answer {
+        Ok(value) => value,
+        Err(_) => panic!(rt; "memory is wanting"),
+    }
+}
 
 /// A vector of the bits that these digits write, joined one by one.
-fn of<T: BitStore, O: BitOrder>(alloc: Global, digits: &[u8]) -> Result<BitVec<T, O>, Fail> {
-    let mut v = BitVec::new(alloc);
+fn of<T: BitStore, O: BitOrder>(rt: &(impl Abort + AllocGlobal), digits: &[u8]) -> BitVec<T, O> {
+    let mut v = BitVec::new(rt.alloc());
     for digit in digits {
-        v.push(*digit == b'1')?;
+        ok(rt, v.push(*digit == b'1'));
     }
-    Ok(v)
+    v
 }
 
 /// That the vector holds these digits.
 fn holds<T: BitStore, O: BitOrder>(rt: &impl Abort, v: &BitVec<T, O>, digits: &[u8]) {
-    assert_eq!(rt; v.len(), digits.len());
+    assert!(rt; v.len() == digits.len() && v.get(digits.len()).is_none());
     for (i, digit) in digits.iter().enumerate() {
-        assert_eq!(rt; v.get(i), Some(*digit == b'1'), "at {i}");
+        assert!(rt; v.get(i) == Some(*digit == b'1'));
     }
-    assert_eq!(rt; v.get(digits.len()), None);
 }

@@ -2,7 +2,6 @@
 use crate::tests::shows;
 use crate::{BitOrder, BitStore, BitVec, Command, GrowError, Msb0, Reply, Stop, run};
 use std::process::Abort;
-use std::test::Fail;
 
 /// That a run of these commands goes to its end, and gives these replies.
 fn answers<T: BitStore, O: BitOrder>(
@@ -29,7 +28,7 @@ fn stops<T: BitStore, O: BitOrder>(
 }
 
 #[test]
-fn runs_of_commands(rt: HostRuntime) -> Result<(), Fail> {
+fn runs_of_commands(rt: HostRuntime) {
     let mut v = BitVec::<u8, Msb0>::new(rt.alloc());
     let commands = [
         Command::Push(false),
@@ -65,11 +64,10 @@ fn runs_of_commands(rt: HostRuntime) -> Result<(), Fail> {
     assert!(rt; v.is_empty());
     answers(&rt, &mut v, &[], &[]);
     assert_ne!(rt; GrowError::TooLong, GrowError::OutOfMemory);
-    Ok(())
 }
 
 #[test]
-fn growing_commands(rt: HostRuntime) -> Result<(), Fail> {
+fn growing_commands(rt: HostRuntime) {
     let mut v = BitVec::<u8, Msb0>::new(rt.alloc());
     let commands = [
         Command::Resize(3, true),
@@ -95,11 +93,10 @@ fn growing_commands(rt: HostRuntime) -> Result<(), Fail> {
     ];
     stops(&rt, &mut v, &commands);
     assert_eq!(rt; v.len(), 5);
-    Ok(())
 }
 
 #[test]
-fn commands_on_words(rt: HostRuntime) -> Result<(), Fail> {
+fn commands_on_words(rt: HostRuntime) {
     let mut v = BitVec::<u8, Msb0>::new(rt.alloc());
     let commands = [
         Command::Push(true),
@@ -119,11 +116,10 @@ fn commands_on_words(rt: HostRuntime) -> Result<(), Fail> {
     ];
     answers(&rt, &mut v, &commands, &want);
     shows(&rt, &v, &[0x40]);
-    Ok(())
 }
 
 #[test]
-fn removing_commands(rt: HostRuntime) -> Result<(), Fail> {
+fn removing_commands(rt: HostRuntime) {
     let mut v = BitVec::<u16, Msb0>::new(rt.alloc());
     let commands = [
         Command::Resize(5, true),
@@ -152,5 +148,4 @@ fn removing_commands(rt: HostRuntime) -> Result<(), Fail> {
     ];
     stops(&rt, &mut v, &commands);
     assert_eq!(rt; v.len(), 1);
-    Ok(())
 }

@@ -1,11 +1,9 @@
-//! Vectors made of arrays and boxes, and given up.
-use crate::array::BitArray;
+//! Vectors made of boxes, made boxes, and given up.
 use crate::boxed::BitBox;
-use crate::tests::{holds, of, shows};
+use crate::tests::{holds, of, ok, shows};
 use crate::vec::IntoIter;
 use crate::{BitSlice, BitVec, IntoBitVec, Lsb0, Msb0};
 use std::alloc::AllocError;
-use std::test::Fail;
 
 /// What becomes a vector, as one.
 fn vector_of<B: IntoBitVec>(b: B) -> Result<BitVec<B::Store, B::Order>, AllocError> {
@@ -13,40 +11,30 @@ fn vector_of<B: IntoBitVec>(b: B) -> Result<BitVec<B::Store, B::Order>, AllocErr
 }
 
 #[test]
-fn of_an_array(rt: HostRuntime) -> Result<(), Fail> {
-    let array = BitArray::<[u8; 2], Msb0>::new([0x80, 0x01]);
-    let v = BitVec::from_bitarray(rt.alloc(), array)?;
-    shows(&rt, &v, &[0x80, 0x01]);
-    holds(&rt, &v, b"1000000000000001");
-    Ok(())
-}
-
-#[test]
-fn boxed(rt: HostRuntime) -> Result<(), Fail> {
+fn boxed(rt: HostRuntime) {
     let words = [0xa8, 0x07];
     let view = BitSlice::<u8, Lsb0>::from_slice(&words).get_range(3..11);
-    let mut b = BitBox::from_bitslice_headed(rt.alloc(), view)?;
+    let mut b = ok(&rt, BitBox::from_bitslice_headed(rt.alloc(), view));
     b.force_align();
     b.fill_uninitialized(false);
     assert_eq!(rt; b.as_raw_slice(), [0xf5, 0x00].as_slice());
-    let v = vector_of(b)?;
+    let v = ok(&rt, vector_of(b));
     shows(&rt, &v, &[0xf5]);
     assert!(rt; v.head() == 0 && v.len() == 8);
-    let v = BitVec::from_bitslice_headed(rt.alloc(), view)?;
-    let b = v.into_boxed_bitslice()?;
+    let v = ok(&rt, BitVec::from_bitslice_headed(rt.alloc(), view));
+    let b = ok(&rt, v.into_boxed_bitslice());
     assert_eq!(rt; b.as_raw_slice(), [0xa8, 0x07].as_slice());
     assert_eq!(rt; b.head(), 3);
-    let v = b.into_vec()?;
+    let v = ok(&rt, b.into_vec());
     shows(&rt, &v, &[0xa8, 0x07]);
     assert_eq!(rt; v.head(), 3);
     holds(&rt, &v, b"10101111");
-    assert_eq!(rt; v.into_boxed_slice()?.count_ones(), 6);
-    Ok(())
+    assert_eq!(rt; ok(&rt, v.into_boxed_slice()).count_ones(), 6);
 }
 
 #[test]
-fn given_up(rt: HostRuntime) -> Result<(), Fail> {
-    let mut bits: IntoIter<u8, Lsb0> = of(rt.alloc(), b"011001")?.into_iter();
+fn given_up(rt: HostRuntime) {
+    let mut bits: IntoIter<u8, Lsb0> = of(&rt, b"011001").into_iter();
     assert!(rt; bits.len() == 6 && bits.next() == Some(false));
     assert_eq!(rt; bits.next_back(), Some(true));
     assert_eq!(rt; bits.nth(1), Some(true));
@@ -54,9 +42,8 @@ fn given_up(rt: HostRuntime) -> Result<(), Fail> {
     assert_eq!(rt; bits.next(), None);
     assert_eq!(rt; bits.next_back(), None);
     let mut ones = 0u8;
-    for bit in of::<u16, Msb0>(rt.alloc(), b"1101")? {
+    for bit in of::<u16, Msb0>(&rt, b"1101") {
         ones = ones.saturating_add(bit as u8);
     }
     assert_eq!(rt; ones, 3);
-    Ok(())
 }

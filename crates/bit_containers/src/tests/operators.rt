@@ -1,31 +1,37 @@
 //! Vectors combined, flipped, compared and hashed.
-use crate::tests::{holds, of, shows};
+use crate::tests::{holds, of, ok, shows};
 use crate::{BitSlice, BitVec, Lsb0, Msb0};
 use std::cmp::Ordering;
 use std::hash::{DefaultHasher, Hash, Hasher};
-use std::test::Fail;
 
 #[test]
-fn combined(rt: HostRuntime) -> Result<(), Fail> {
-    let left = of::<u8, Lsb0>(rt.alloc(), b"0011")?;
-    let right = of::<u8, Lsb0>(rt.alloc(), b"01")?;
-    holds(&rt, &(left.clone()? & right.clone()?), b"0000");
-    holds(&rt, &(left.clone()? | right.clone()?), b"0111");
-    holds(&rt, &(left ^ right.clone()?), b"0111");
-    let ones = of::<u8, Lsb0>(rt.alloc(), b"1111")?;
+fn combined(rt: HostRuntime) {
+    let left = of::<u8, Lsb0>(&rt, b"0011");
+    let right = of::<u8, Lsb0>(&rt, b"01");
+    holds(
+        &rt,
+        &(ok(&rt, left.clone()) & ok(&rt, right.clone())),
+        b"0000",
+    );
+    holds(
+        &rt,
+        &(ok(&rt, left.clone()) | ok(&rt, right.clone())),
+        b"0111",
+    );
+    holds(&rt, &(left ^ ok(&rt, right.clone())), b"0111");
+    let ones = of::<u8, Lsb0>(&rt, b"1111");
     let mut both = right;
-    both &= ones.clone()?;
+    both &= ok(&rt, ones.clone());
     holds(&rt, &both, b"01");
-    both ^= ones.clone()?;
+    both ^= ok(&rt, ones.clone());
     holds(&rt, &both, b"10");
     both |= ones;
     holds(&rt, &both, b"11");
-    Ok(())
 }
 
 #[test]
-fn flipped(rt: HostRuntime) -> Result<(), Fail> {
-    let v = BitVec::<u8, Lsb0>::repeat(rt.alloc(), true, 5)?;
+fn flipped(rt: HostRuntime) {
+    let v = ok(&rt, BitVec::<u8, Lsb0>::repeat(rt.alloc(), true, 5));
     let v = !v;
     holds(&rt, &v, b"00000");
     shows(&rt, &v, &[0x00]);
@@ -33,15 +39,14 @@ fn flipped(rt: HostRuntime) -> Result<(), Fail> {
     shows(&rt, &v, &[0xff]);
     v.flip_all();
     shows(&rt, &v, &[0x00]);
-    Ok(())
 }
 
 #[test]
-fn compared(rt: HostRuntime) -> Result<(), Fail> {
+fn compared(rt: HostRuntime) {
     let words = [0xa8, 0x07];
     let view = BitSlice::<u8, Lsb0>::from_slice(&words).get_range(3..11);
-    let mut headed = BitVec::from_bitslice_headed(rt.alloc(), view)?;
-    let aligned = BitVec::<u8, Lsb0>::from_element(rt.alloc(), 0xf5)?;
+    let mut headed = ok(&rt, BitVec::from_bitslice_headed(rt.alloc(), view));
+    let aligned = ok(&rt, BitVec::<u8, Lsb0>::from_element(rt.alloc(), 0xf5));
     assert!(rt; headed == aligned && headed.cmp(&aligned) == Ordering::Equal);
     let (mut one, mut other) = (DefaultHasher::new(), DefaultHasher::new());
     headed.hash(&mut one);
@@ -50,12 +55,11 @@ fn compared(rt: HostRuntime) -> Result<(), Fail> {
     headed.force_align();
     headed.set_uninitialized(false);
     shows(&rt, &headed, &[0xf5]);
-    let short = of::<u8, Lsb0>(rt.alloc(), b"0")?;
-    let long = of::<u8, Lsb0>(rt.alloc(), b"00")?;
+    let short = of::<u8, Lsb0>(&rt, b"0");
+    let long = of::<u8, Lsb0>(&rt, b"00");
     assert_eq!(rt; short.as_raw_slice(), long.as_raw_slice());
     assert!(rt; short != long && short < long);
-    let (low, high) = (of::<u8, Msb0>(rt.alloc(), b"01")?, of(rt.alloc(), b"1")?);
+    let (low, high) = (of::<u8, Msb0>(&rt, b"01"), of(&rt, b"1"));
     assert!(rt; low < high);
     assert_eq!(rt; high.partial_cmp(&low), Some(Ordering::Greater));
-    Ok(())
 }

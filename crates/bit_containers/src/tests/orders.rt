@@ -4,7 +4,6 @@ ghost use Rattle.bit_addressing.specs.Order.{lawful_by_test};
 
 use crate::tests::{of, shows};
 use bit_addressing::{BitIdx, BitOrder, BitPos, BitStore};
-use std::test::Fail;
 
 /// The order whose halves of each byte change places.
 pub(crate) struct Xor4;
@@ -33,15 +32,14 @@ impl BitOrder for Scramble {
 }
 
 #[test]
-fn words_by_orders_of_a_user(rt: HostRuntime) -> Result<(), Fail> {
-    let v = of::<u8, Scramble>(rt.alloc(), b"11001")?;
+fn words_by_orders_of_a_user(rt: HostRuntime) {
+    let v = of::<u8, Scramble>(&rt, b"11001");
     shows(&rt, &v, &[0x89]);
-    let v = of::<u16, Scramble>(rt.alloc(), b"11001")?;
+    let v = of::<u16, Scramble>(&rt, b"11001");
     shows(&rt, &v, &[0x0188]);
-    let mut v = of::<u8, Xor4>(rt.alloc(), b"1101100001101011")?;
+    let mut v = of::<u8, Xor4>(&rt, b"1101100001101011");
     shows(&rt, &v, &[0xb1, 0x6d]);
     assert!(rt; v.len() == 16);
     v.copy_within(1..12, 3);
     shows(&rt, &v, &[0xb6, 0x8d]);
-    Ok(())
 }

@@ -1,20 +1,21 @@
 //! The text of a vector.
-use crate::tests::of;
+use crate::tests::{of, ok};
 use crate::{BitOrder, BitSlice, BitStore, BitVec, Lsb0, Msb0};
 use std::fmt;
-use std::test::Fail;
 
 #[test]
-fn text(rt: HostRuntime) -> Result<(), Fail> {
-    let v = of::<u8, Lsb0>(rt.alloc(), b"11010")?;
-    assert_eq!(rt; format!(in rt.alloc(); "{v}")?.as_str(), "[1, 1, 0, 1, 0]");
+fn text(rt: HostRuntime) {
+    let v = of::<u8, Lsb0>(&rt, b"11010");
     assert_eq!(rt;
-        format!(in rt.alloc(); "{v:>20}")?.as_str(),
+        ok(&rt, format!(in rt.alloc(); "{v}")).as_str(),
+        "[1, 1, 0, 1, 0]"
+    );
+    assert_eq!(rt;
+        ok(&rt, format!(in rt.alloc(); "{v:>20}")).as_str(),
         "[1, 1, 0, 1, 0]"
     );
     let v = BitVec::<u64, Msb0>::new(rt.alloc());
-    assert_eq!(rt; format!(in rt.alloc(); "{v}")?.as_str(), "[]");
-    Ok(())
+    assert_eq!(rt; ok(&rt, format!(in rt.alloc(); "{v}")).as_str(), "[]");
 }
 
 /// How a vector is written in a radix.
@@ -42,31 +43,35 @@ impl<T: BitStore, O: BitOrder> fmt::Display for In<'_, T, O> {
 }
 
 #[test]
-fn digits(rt: HostRuntime) -> Result<(), Fail> {
-    let v = of::<u8, Lsb0>(rt.alloc(), b"11010")?;
+fn digits(rt: HostRuntime) {
+    let v = of::<u8, Lsb0>(&rt, b"11010");
     let (y, o, x, u) = (
         In(&v, Radix::Binary),
         In(&v, Radix::Octal),
         In(&v, Radix::LowerHex),
         In(&v, Radix::UpperHex),
     );
-    let text = format!(in rt.alloc(); "{y} {o} {x} {u}")?;
+    let text = ok(&rt, format!(in rt.alloc(); "{y} {o} {x} {u}"));
     assert_eq!(rt; text.as_str(), "[11010] [62] [d0] [D0]");
-    Ok(())
 }
 
 #[test]
-fn told_apart(rt: HostRuntime) -> Result<(), Fail> {
+fn told_apart(rt: HostRuntime) {
     let v = BitVec::<u8, Lsb0>::new(rt.alloc());
     assert_eq!(rt;
-        format!(in rt.alloc(); "{v:?}")?.as_str(),
+        ok(&rt, format!(in rt.alloc(); "{v:?}")).as_str(),
         "BitVec { head: 0, bits: 0, capacity: 0 } []"
     );
     let words = [0x0b];
     let view = BitSlice::<u8, Lsb0>::from_slice(&words).get_range(1..4);
-    let v = BitVec::from_bitslice_headed(rt.alloc(), view)?;
+    let v = ok(&rt, BitVec::from_bitslice_headed(rt.alloc(), view));
     let room = v.capacity();
-    let want = format!(in rt.alloc(); "BitVec {{ head: 1, bits: 3, capacity: {room} }} [1, 0, 1]")?;
-    assert_eq!(rt; format!(in rt.alloc(); "{v:?}")?.as_str(), want.as_str());
-    Ok(())
+    let want = ok(
+        &rt,
+        format!(in rt.alloc(); "BitVec {{ head: 1, bits: 3, capacity: {room} }} [1, 0, 1]"),
+    );
+    assert_eq!(rt;
+        ok(&rt, format!(in rt.alloc(); "{v:?}")).as_str(),
+        want.as_str()
+    );
 }

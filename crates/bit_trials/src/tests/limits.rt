@@ -1,15 +1,14 @@
 //! Lengths at their limit, reached by what is asked for alone.
 use crate::tests::{holds, of};
 use bit_containers::{BitVec, Command, GrowError, Lsb0, Msb0, Reply, Stop, run};
-use std::test::Fail;
 
 const LIMIT: usize = 2305843009213693951;
 
 const PAST: usize = 2305843009213693952;
 
 #[test]
-fn reserving_at_the_limit(rt: HostRuntime) -> Result<(), Fail> {
-    let mut v = of::<u8, Lsb0>(rt.alloc(), b"1")?;
+fn reserving_at_the_limit(rt: HostRuntime) {
+    let mut v = of::<u8, Lsb0>(&rt, b"1");
     for (more, too_long) in [(LIMIT - 1, false), (LIMIT, true), (usize::MAX, true)] {
         let answers = [v.reserve(more), v.reserve_exact(more)];
         for answer in answers {
@@ -24,7 +23,6 @@ fn reserving_at_the_limit(rt: HostRuntime) -> Result<(), Fail> {
         }
         holds(&rt, &v, b"1");
     }
-    Ok(())
 }
 
 #[test]
@@ -47,7 +45,7 @@ fn makers_at_the_limit(rt: HostRuntime) {
 
 /// A run stops at the command that passes the limit, and what came before it stays done.
 #[test]
-fn runs_at_the_limit(rt: HostRuntime) -> Result<(), Fail> {
+fn runs_at_the_limit(rt: HostRuntime) {
     for command in [
         Command::Reserve(LIMIT),
         Command::Splice(0, 1, false, PAST),
@@ -62,5 +60,4 @@ fn runs_at_the_limit(rt: HostRuntime) -> Result<(), Fail> {
         assert_eq!(rt; replies.as_slice(), [Reply::Done].as_slice());
         holds(&rt, &v, b"1");
     }
-    Ok(())
 }

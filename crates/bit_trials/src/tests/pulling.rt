@@ -1,11 +1,9 @@
 //! Iterators of a caller's own, with loose hints, whose calls are counted; what is left early.
 ghost use Rattle.std.specs.Iterator.{at_most};
 
-use crate::tests::{holds, of};
+use crate::tests::{holds, of, ok};
 use bit_containers::{BitVec, GrowError, Lsb0, Msb0};
-use std::alloc::Global;
 use std::process::Abort;
-use std::test::Fail;
 
 /// One item or the other, the first of them at each third place from the end, under a hint that says nothing, or as
 /// good as nothing. It counts the calls, and those that found none; behind the first None there are more items.
@@ -61,12 +59,12 @@ const BITS: (bool, bool) = (true, false);
 const WORDS: (u8, u8) = (0xa5, 0x0f);
 
 /// The bits that come from so many, in a list.
-fn bits(alloc: Global, n: usize) -> Result<Vec<bool>, Fail> {
-    let mut list = Vec::new(alloc);
+fn bits(rt: &(impl Abort + AllocGlobal), n: usize) -> Vec<bool> {
+    let mut list = Vec::new(rt.alloc());
     for i in 0..n {
-        list.push((n - 1 - i) % 3 == 0)?;
+        ok(rt, list.push((n - 1 - i) % 3 == 0));
     }
-    Ok(list)
+    list
 }
 
 /// That a vector holds two bits and then those that come from so many.
@@ -74,67 +72,94 @@ fn ends_with(rt: &impl Abort, v: &BitVec<u8, Lsb0>, n: usize) {
     assert!(rt; n < 2000 && v.len() == n + 2);
     assert!(rt; v.get(0) == Some(false) && v.get(1) == Some(true));
     for i in 0..n {
-        assert_eq!(rt; v.get(2 + i), Some((n - 1 - i) % 3 == 0));
+        assert!(rt; v.get(2 + i) == Some((n - 1 - i) % 3 == 0));
+    }
+}
+
+/// Bits joined, and put in place of others.
+fn joined(rt: &(impl Abort + AllocGlobal), n: usize, bounded: bool) {
+    let mut v = of::<u8, Lsb0>(rt, b"01");
+    ok(rt, v.extend(Loose::of(n, BITS, bounded)));
+    ends_with(rt, &v, n);
+    let mut v = of::<u8, Lsb0>(rt, b"0110");
+    assert!(rt; v.len() == 4);
+    ok(rt, v.splice(2.., Loose::of(n, BITS, bounded)).finish());
+    ends_with(rt, &v, n);
+}
+
+/// A vector made of bits, beside the one that is made of a list of them.
+fn made(rt: &(impl Abort + AllocGlobal), n: usize, bounded: bool) {
+    let loose = Loose::of(n, BITS, bounded);
+    let made = ok(rt, BitVec::<u8, Lsb0>::from_bits(rt.alloc(), loose));
+    let list = bits(rt, n);
+    let exact = ok(rt, BitVec::<u8, Lsb0>::from_bits(rt.alloc(), list));
+    assert!(rt; made == exact);
+    assert!(rt; made.as_raw_slice() == exact.as_raw_slice());
+}
+
+/// A vector made of words, and one that they are joined to.
+fn of_words(rt: &(impl Abort + AllocGlobal), n: usize, bounded: bool) {
+    let words = Loose::of(n, WORDS, bounded);
+    let made = ok(rt, BitVec::<u8, Msb0>::from_words(rt.alloc(), words));
+    let mut v = BitVec::<u8, Msb0>::new(rt.alloc());
+    ok(rt, v.extend_words(Loose::of(n, WORDS, bounded)));
+    assert!(rt; made == v && v.len() / 8 == n);
+    for (i, bit) in bits(rt, n).iter().enumerate() {
+        let word = if *bit { 0xa5 } else { 0x0f };
+        assert!(rt; v.as_raw_slice().get(i) == Some(&word));
     }
 }
 
 #[test]
-fn loose_hints(rt: HostRuntime) -> Result<(), Fail> {
+fn loose_hints(rt: HostRuntime) {
     for n in [0usize, 1, 7, 8, 63, 64, 65, 200] {
         for bounded in [false, true] {
-            let mut v = of::<u8, Lsb0>(rt.alloc(), b"01")?;
-            v.extend(Loose::of(n, BITS, bounded))?;
-            ends_with(&rt, &v, n);
-            let mut v = of::<u8, Lsb0>(rt.alloc(), b"0110")?;
-            assert!(rt; v.len() == 4);
-            v.splice(2.., Loose::of(n, BITS, bounded)).finish()?;
-            ends_with(&rt, &v, n);
-            let made = BitVec::<u8, Lsb0>::from_bits(rt.alloc(), Loose::of(n, BITS, bounded))?;
-            let exact = BitVec::<u8, Lsb0>::from_bits(rt.alloc(), bits(rt.alloc(), n)?)?;
-            assert!(rt; made == exact);
-            assert_eq!(rt; made.as_raw_slice(), exact.as_raw_slice());
-            let words = Loose::of(n, WORDS, bounded);
-            let made = BitVec::<u8, Msb0>::from_words(rt.alloc(), words)?;
-            let mut v = BitVec::<u8, Msb0>::new(rt.alloc());
-            let words = Loose::of(n, WORDS, bounded);
-            v.extend_words(words)?;
-            assert!(rt; made == v && v.len() / 8 == n);
-            for (i, bit) in bits(rt.alloc(), n)?.iter().enumerate() {
-                let word = if *bit { 0xa5 } else { 0x0f };
-                assert_eq!(rt; v.as_raw_slice().get(i), Some(&word));
-            }
+            joined(&rt, n, bounded);
+            made(&rt, n, bounded);
+            of_words(&rt, n, bounded);
         }
     }
-    Ok(())
+}
+
+/// Bits by reference: each call but the last one finds one.
+fn bits_counted(rt: &(impl Abort + AllocGlobal), n: usize, bounded: bool) {
+    let mut bits = Loose::of(n, BITS, bounded);
+    if bounded {
+        let mut v = of::<u8, Lsb0>(rt, b"01");
+        ok(rt, v.extend(bits.by_ref()));
+        ends_with(rt, &v, n);
+    } else {
+        let v = ok(
+            rt,
+            BitVec::<u16, Msb0>::from_bits(rt.alloc(), bits.by_ref()),
+        );
+        assert!(rt; v.len() == n);
+    }
+    assert!(rt; bits.nones == 1 && bits.calls.wrapping_sub(1) == n);
+}
+
+/// Words by reference, so too.
+fn words_counted(rt: &(impl Abort + AllocGlobal), n: usize, bounded: bool) {
+    let mut words = Loose::of(n, WORDS, bounded);
+    let mut v = BitVec::<u8, Lsb0>::new(rt.alloc());
+    if bounded {
+        ok(rt, v.extend_words(words.by_ref()));
+    } else {
+        v = ok(rt, BitVec::from_words(rt.alloc(), words.by_ref()));
+    }
+    assert!(rt; v.len() / 8 == n);
+    assert!(rt; words.nones == 1 && words.calls.wrapping_sub(1) == n);
 }
 
 /// No call follows the first None, behind which there would be more.
 #[test]
-fn calls_counted(rt: HostRuntime) -> Result<(), Fail> {
+fn calls_counted(rt: HostRuntime) {
     for n in [0usize, 1, 63, 64, 65, 200] {
-        for way in 0..2u8 {
-            let mut bits = Loose::of(n, BITS, way == 0);
-            if way == 0 {
-                let mut v = of::<u8, Lsb0>(rt.alloc(), b"01")?;
-                v.extend(bits.by_ref())?;
-                ends_with(&rt, &v, n);
-            } else {
-                let v = BitVec::<u16, Msb0>::from_bits(rt.alloc(), bits.by_ref())?;
-                assert_eq!(rt; v.len(), n);
-            }
-            assert!(rt; bits.nones == 1 && bits.calls.wrapping_sub(1) == n);
-            let mut words = Loose::of(n, WORDS, way == 0);
-            let mut v = BitVec::<u8, Lsb0>::new(rt.alloc());
-            if way == 0 {
-                v.extend_words(words.by_ref())?;
-            } else {
-                v = BitVec::from_words(rt.alloc(), words.by_ref())?;
-            }
-            assert!(rt; v.len() / 8 == n);
-            assert!(rt; words.nones == 1 && words.calls.wrapping_sub(1) == n);
+        for bounded in [false, true] {
+            bits_counted(&rt, n, bounded);
+            words_counted(&rt, n, bounded);
         }
     }
-    Ok(())
 }
 
 /// Where a request for memory is refused, no more is pulled, and the list stays; whichever request
@@ -169,9 +194,9 @@ fn pulled_until_refused(rt: HostRuntime) {
 
 /// Splices finished after none of their bits, one from either end, all, and past the end.
 #[test]
-fn splices_left_early(rt: HostRuntime) -> Result<(), Fail> {
+fn splices_left_early(rt: HostRuntime) {
     for way in 0..7u8 {
-        let mut v = of::<u16, Msb0>(rt.alloc(), b"0110100")?;
+        let mut v = of::<u16, Msb0>(&rt, b"0110100");
         assert!(rt; v.len() == 7);
         let mut splice = v.splice(1..5, [true, false]);
         match way {
@@ -183,8 +208,7 @@ fn splices_left_early(rt: HostRuntime) -> Result<(), Fail> {
             5 => assert!(rt; splice.nth(4).is_none() && splice.next_back().is_none()),
             _ => assert!(rt; splice.nth_back(4).is_none() && splice.next().is_none()),
         }
-        splice.finish()?;
+        ok(&rt, splice.finish());
         holds(&rt, &v, b"01000");
     }
-    Ok(())
 }

@@ -1,5 +1,5 @@
 //! Each call behind every head of a byte, at every length up to 17 bits, beside plain lists.
-ghost use Rattle.std.specs.Prelude.{◌≡◌, ◌+◌, ◌<◌, ◌≤◌, IfOk, length};
+ghost use Rattle.std.specs.Prelude.{◌+◌, ◌<◌};
 
 mod edits;
 mod growing;
@@ -9,10 +9,9 @@ mod ranges;
 mod reading;
 mod words;
 
+use crate::tests::ok;
 use bit_containers::{BitIdx, BitOrder, BitSlice, BitStore, BitVec};
-use std::alloc::{AllocError, Global};
 use std::process::Abort;
-use std::test::Fail;
 
 /// A vector, the list that it has to hold, and the bits of its words.
 #[derive(Drop)]
@@ -23,57 +22,61 @@ struct Case<T: BitStore, O: BitOrder> {
 }
 
 /// Four words whose bits are mixed, and differ by the seed.
-fn words_of<T: BitStore>(alloc: Global, seed: u64) -> Result<Vec<T>, AllocError>
-    ensures { IfOk result (λ words. length words.items ≡ 4) }
-{
-    let mut words = Vec::new(alloc);
-    words.push(T::from_u64(seed))?;
-    words.push(T::from_u64(seed.wrapping_mul(0x9e37_79b9_7f4a_7c15)))?;
-    words.push(T::from_u64(seed.wrapping_mul(0xbf58_476d_1ce4_e5b9) >> 7))?;
-    words.push(T::from_u64(seed.wrapping_mul(0x94d0_49bb_1331_11eb) >> 13))?;
-    Ok(words)
+fn words_of<T: BitStore>(rt: &(impl Abort + AllocGlobal), seed: u64) -> Vec<T> {
+    let mut words = Vec::new(rt.alloc());
+    for (factor, less) in [
+        (1u64, 0u32),
+        (0x9e37_79b9_7f4a_7c15, 0),
+        (0xbf58_476d_1ce4_e5b9, 7),
+        (0x94d0_49bb_1331_11eb, 13),
+    ] {
+        let mixed = seed.wrapping_mul(factor).wrapping_shr(less);
+        ok(rt, words.push(T::from_u64(mixed)));
+    }
+    words
 }
 
 /// The bits of these words, one by one.
-fn row_of<T: BitStore, O: BitOrder>(alloc: Global, words: &[T]) -> Result<Vec<bool>, AllocError> {
-    let mut bits = Vec::new(alloc);
+fn row_of<T: BitStore, O: BitOrder>(rt: &(impl Abort + AllocGlobal), words: &[T]) -> Vec<bool> {
+    let mut bits = Vec::new(rt.alloc());
     for word in words {
         for i in 0..T::BITS {
-            bits.push(word.bit(O::at(BitIdx::<T>::new_unchecked(i)).into_inner()))?;
+            let place = O::at(BitIdx::<T>::new_unchecked(i)).into_inner();
+            ok(rt, bits.push(word.bit(place)));
         }
     }
-    Ok(bits)
+    bits
 }
 
 /// The items of a list from one place up to another, as far as there are any.
-fn part(alloc: Global, list: &[bool], from: usize, upto: usize) -> Result<Vec<bool>, AllocError> {
-    let mut items = Vec::new(alloc);
+fn part(rt: &(impl Abort + AllocGlobal), list: &[bool], from: usize, upto: usize) -> Vec<bool> {
+    let mut items = Vec::new(rt.alloc());
     for (i, bit) in list.iter().enumerate() {
         if from <= i && i < upto {
-            items.push(*bit)?;
+            ok(rt, items.push(*bit));
         }
     }
-    Ok(items)
+    items
 }
 
 /// A list whose items from one place up to another are replaced by others.
 fn replaced(
-    alloc: Global,
+    rt: &(impl Abort + AllocGlobal),
     list: &[bool],
     from: usize,
     upto: usize,
     by: &[bool],
-) -> Result<Vec<bool>, AllocError> {
-    let mut items = part(alloc, list, 0, from)?;
+) -> Vec<bool> {
+    let mut items = part(rt, list, 0, from);
     for bit in by {
-        items.push(*bit)?;
+        ok(rt, items.push(*bit));
     }
     for (i, bit) in list.iter().enumerate() {
         if upto <= i {
-            items.push(*bit)?;
+            ok(rt, items.push(*bit));
         }
     }
-    Ok(items)
+    items
 }
 
 /// A vector of `len` mixed bits that begin at this head. Its dead bits are mixed too.
@@ -82,31 +85,35 @@ fn behind<T: BitStore, O: BitOrder>(
     seed: u64,
     head: usize,
     len: usize,
-) -> Result<Case<T, O>, Fail>
+) -> Case<T, O>
     requires { head + len < 100 }
 {
-    let words = words_of::<T>(rt.alloc(), seed)?;
-    let view = BitSlice::<T, O>::try_from_slice(words.as_slice())?;
+    let words = words_of::<T>(rt, seed);
+    let view = ok(rt, BitSlice::<T, O>::try_from_slice(words.as_slice()));
     assert!(rt; head + len <= view.len());
-    let mut v = BitVec::from_bitslice_headed(rt.alloc(), view.get_range(head..head + len))?;
-    let all = row_of::<T, O>(rt.alloc(), words.as_slice())?;
-    let list = part(rt.alloc(), &all, head, head + len)?;
+    let bits = view.get_range(head..head + len);
+    let mut v = ok(rt, BitVec::from_bitslice_headed(rt.alloc(), bits));
     for (word, mixed) in v.as_raw_mut_slice().iter_mut().zip(words.iter()) {
         *word = *mixed;
     }
+    let all = row_of::<T, O>(rt, words.as_slice());
+    let list = part(rt, &all, head, head + len);
     let shown = (head + len).div_ceil(T::BITS as usize);
-    let row = part(rt.alloc(), &all, 0, shown.wrapping_mul(T::BITS as usize))?;
-    Ok(Case { v, list, row })
+    let row = part(rt, &all, 0, shown.wrapping_mul(T::BITS as usize));
+    Case { v, list, row }
 }
 
 /// The same list behind the same head, with dead bits that are true.
 fn again<T: BitStore, O: BitOrder>(
-    alloc: Global,
+    rt: &(impl Abort + AllocGlobal),
     v: &BitVec<T, O>,
-) -> Result<BitVec<T, O>, AllocError> {
-    let mut copy = BitVec::from_bitslice_headed(alloc, v.as_bitslice())?;
+) -> BitVec<T, O> {
+    let mut copy = ok(
+        rt,
+        BitVec::from_bitslice_headed(rt.alloc(), v.as_bitslice()),
+    );
     copy.set_uninitialized(true);
-    Ok(copy)
+    copy
 }
 
 /// Whether a vector holds this list from this head on.
@@ -121,13 +128,13 @@ fn same<T: BitStore, O: BitOrder>(v: &BitVec<T, O>, head: usize, list: &[bool]) 
 /// Whether a vector holds this list from this head on, in exactly the words for it, whose dead bits are those of
 /// a row, or false past its end.
 fn shows<T: BitStore, O: BitOrder>(
-    alloc: Global,
+    rt: &(impl Abort + AllocGlobal),
     v: &BitVec<T, O>,
     head: usize,
     list: &[bool],
     row: &[bool],
-) -> Result<bool, AllocError> {
-    let now = row_of::<T, O>(alloc, v.as_raw_slice())?;
+) -> bool {
+    let now = row_of::<T, O>(rt, v.as_raw_slice());
     let wide = T::BITS as usize;
     let words = head.wrapping_add(list.len()).div_ceil(wide);
     let mut right = same(v, head, list) && now.len() == words.wrapping_mul(wide);
@@ -136,5 +143,5 @@ fn shows<T: BitStore, O: BitOrder>(
         let live = j.checked_sub(head).and_then(|i| list.get(i));
         right = right && *bit == live.copied().unwrap_or(old);
     }
-    Ok(right)
+    right
 }

@@ -1,166 +1,136 @@
 //! Single bits put in, taken out and written, and the list cut.
 ghost use Rattle.std.specs.Prelude.{◌<◌};
 
+use crate::tests::ok;
 use crate::tests::orders::{Scramble, Xor4};
 use crate::tests::sweeps::{Case, behind, replaced, same, shows};
 use bit_containers::{BitOrder, BitStore, Lsb0, Msb0};
 use std::process::Abort;
-use std::test::Fail;
 
 const SEED: u64 = 0x0fed_cba9_8765_4321;
 
 /// A bit joined at the end, and put before each item.
-fn joined<T: BitStore, O: BitOrder>(
-    rt: &(impl Abort + AllocGlobal),
-    head: usize,
-    len: usize,
-) -> Result<(), Fail>
+fn joined<T: BitStore, O: BitOrder>(rt: &(impl Abort + AllocGlobal), head: usize, len: usize)
     requires head { head < 8 }
     requires len { len < 18 }
 {
     for bit in [false, true] {
-        let Case { mut v, list, row } = behind::<T, O>(rt, SEED, head, len)?;
-        v.push(bit)?;
-        let wanted = replaced(rt.alloc(), &list, len, len, &[bit])?;
-        assert!(rt; shows(rt.alloc(), &v, head, &wanted, &row)?);
+        let Case { mut v, list, row } = behind::<T, O>(rt, SEED, head, len);
+        ok(rt, v.push(bit));
+        let wanted = replaced(rt, &list, len, len, &[bit]);
+        assert!(rt; shows(rt, &v, head, &wanted, &row));
         for at in 0..len + 1 {
-            let Case { mut v, list, .. } = behind::<T, O>(rt, SEED, head, len)?;
+            let Case { mut v, list, .. } = behind::<T, O>(rt, SEED, head, len);
             assert!(rt; at <= v.len());
-            v.insert(at, bit)?;
-            let wanted = replaced(rt.alloc(), &list, at, at, &[bit])?;
+            ok(rt, v.insert(at, bit));
+            let wanted = replaced(rt, &list, at, at, &[bit]);
             assert!(rt; same(&v, head, &wanted));
         }
     }
-    Ok(())
 }
 
 /// Each item taken out, in both ways, and the last one.
-fn taken<T: BitStore, O: BitOrder>(
-    rt: &(impl Abort + AllocGlobal),
-    head: usize,
-    len: usize,
-) -> Result<(), Fail>
+fn taken<T: BitStore, O: BitOrder>(rt: &(impl Abort + AllocGlobal), head: usize, len: usize)
     requires head { head < 8 }
     requires len { len < 18 }
 {
-    let Case { mut v, list, row } = behind::<T, O>(rt, SEED, head, len)?;
+    let Case { mut v, list, row } = behind::<T, O>(rt, SEED, head, len);
     let last = list.last().copied();
     assert!(rt; v.pop() == last);
     let front = len.saturating_sub(1);
-    let wanted = replaced(rt.alloc(), &list, front, len, &[])?;
-    assert!(rt; shows(rt.alloc(), &v, head, &wanted, &row)?);
+    let wanted = replaced(rt, &list, front, len, &[]);
+    assert!(rt; shows(rt, &v, head, &wanted, &row));
     for at in 0..len {
-        let Case { mut v, list, .. } = behind::<T, O>(rt, SEED, head, len)?;
+        let Case { mut v, list, .. } = behind::<T, O>(rt, SEED, head, len);
         assert!(rt; at < v.len());
         assert!(rt; Some(v.remove(at)) == list.get(at).copied());
-        let wanted = replaced(rt.alloc(), &list, at, at + 1, &[])?;
+        let wanted = replaced(rt, &list, at, at + 1, &[]);
         assert!(rt; same(&v, head, &wanted));
-        let Case { mut v, list, .. } = behind::<T, O>(rt, SEED, head, len)?;
+        let Case { mut v, list, .. } = behind::<T, O>(rt, SEED, head, len);
         assert!(rt; at < v.len());
         assert!(rt; Some(v.swap_remove(at)) == list.get(at).copied());
-        let wanted = replaced(rt.alloc(), &list, at, at + 1, &[last.unwrap_or(false)])?;
-        let wanted = replaced(rt.alloc(), &wanted, front, len, &[])?;
+        let wanted = replaced(rt, &list, at, at + 1, &[last.unwrap_or(false)]);
+        let wanted = replaced(rt, &wanted, front, len, &[]);
         assert!(rt; same(&v, head, &wanted));
     }
-    Ok(())
 }
 
 /// The list cut at each place, and past its end.
-fn cut<T: BitStore, O: BitOrder>(
-    rt: &(impl Abort + AllocGlobal),
-    head: usize,
-    len: usize,
-) -> Result<(), Fail>
+fn cut<T: BitStore, O: BitOrder>(rt: &(impl Abort + AllocGlobal), head: usize, len: usize)
     requires head { head < 8 }
     requires len { len < 18 }
 {
     for n in 0..len + 3 {
-        let Case { mut v, list, row } = behind::<T, O>(rt, SEED, head, len)?;
+        let Case { mut v, list, row } = behind::<T, O>(rt, SEED, head, len);
         let room = v.capacity();
         v.truncate(n);
-        let wanted = replaced(rt.alloc(), &list, n, len, &[])?;
-        assert!(rt; shows(rt.alloc(), &v, head, &wanted, &row)? && v.capacity() == room);
+        let wanted = replaced(rt, &list, n, len, &[]);
+        assert!(rt; shows(rt, &v, head, &wanted, &row) && v.capacity() == room);
     }
-    let Case { mut v, row, .. } = behind::<T, O>(rt, SEED, head, len)?;
+    let Case { mut v, row, .. } = behind::<T, O>(rt, SEED, head, len);
     v.clear();
-    assert!(rt; shows(rt.alloc(), &v, head, &[], &row)? && v.is_empty());
-    Ok(())
+    assert!(rt; shows(rt, &v, head, &[], &row) && v.is_empty());
 }
 
 /// Each item written, in both ways, and exchanged with each other one.
-fn written<T: BitStore, O: BitOrder>(
-    rt: &(impl Abort + AllocGlobal),
-    head: usize,
-    len: usize,
-) -> Result<(), Fail>
+fn written<T: BitStore, O: BitOrder>(rt: &(impl Abort + AllocGlobal), head: usize, len: usize)
     requires head { head < 8 }
     requires len { len < 18 }
 {
-    let Case { mut v, list, row } = behind::<T, O>(rt, SEED, head, len)?;
+    let Case { mut v, list, row } = behind::<T, O>(rt, SEED, head, len);
     let mut now = list;
     for at in 0..len {
         for bit in [true, false] {
-            let new = replaced(rt.alloc(), &now, at, at + 1, &[bit])?;
+            let new = replaced(rt, &now, at, at + 1, &[bit]);
             assert!(rt; at < v.len());
             assert!(rt; Some(v.replace(at, bit)) == now.get(at).copied());
-            assert!(rt; shows(rt.alloc(), &v, head, &new, &row)?);
-            now = replaced(rt.alloc(), &new, at, at + 1, &[!bit])?;
+            assert!(rt; shows(rt, &v, head, &new, &row));
+            now = replaced(rt, &new, at, at + 1, &[!bit]);
             assert!(rt; at < v.len());
             v.set(at, !bit);
-            assert!(rt; shows(rt.alloc(), &v, head, &now, &row)?);
+            assert!(rt; shows(rt, &v, head, &now, &row));
         }
     }
-    Ok(())
 }
 
 /// Each two items exchanged.
-fn exchanged<T: BitStore, O: BitOrder>(
-    rt: &(impl Abort + AllocGlobal),
-    head: usize,
-    len: usize,
-) -> Result<(), Fail>
+fn exchanged<T: BitStore, O: BitOrder>(rt: &(impl Abort + AllocGlobal), head: usize, len: usize)
     requires head { head < 8 }
     requires len { len < 18 }
 {
     for i in 0..len {
         for j in 0..len {
-            let Case { mut v, list, row } = behind::<T, O>(rt, SEED, head, len)?;
+            let Case { mut v, list, row } = behind::<T, O>(rt, SEED, head, len);
             assert!(rt; i < v.len() && j < v.len());
             v.swap(i, j);
             let (first, second) = (list.get(i).copied(), list.get(j).copied());
-            let wanted = replaced(rt.alloc(), &list, i, i + 1, &[second.unwrap_or(false)])?;
-            let wanted = replaced(rt.alloc(), &wanted, j, j + 1, &[first.unwrap_or(false)])?;
-            assert!(rt; shows(rt.alloc(), &v, head, &wanted, &row)?);
+            let wanted = replaced(rt, &list, i, i + 1, &[second.unwrap_or(false)]);
+            let wanted = replaced(rt, &wanted, j, j + 1, &[first.unwrap_or(false)]);
+            assert!(rt; shows(rt, &v, head, &wanted, &row));
         }
     }
-    Ok(())
 }
 
 /// All of it, behind one head and at one length.
-fn edited<T: BitStore, O: BitOrder>(
-    rt: &(impl Abort + AllocGlobal),
-    head: usize,
-    len: usize,
-) -> Result<(), Fail>
+fn edited<T: BitStore, O: BitOrder>(rt: &(impl Abort + AllocGlobal), head: usize, len: usize)
     requires head { head < 8 }
     requires len { len < 18 }
 {
-    joined::<T, O>(rt, head, len)?;
-    taken::<T, O>(rt, head, len)?;
-    cut::<T, O>(rt, head, len)?;
-    written::<T, O>(rt, head, len)?;
-    exchanged::<T, O>(rt, head, len)
+    joined::<T, O>(rt, head, len);
+    taken::<T, O>(rt, head, len);
+    cut::<T, O>(rt, head, len);
+    written::<T, O>(rt, head, len);
+    exchanged::<T, O>(rt, head, len);
 }
 
 #[test]
-fn edits_behind_each_head(rt: HostRuntime) -> Result<(), Fail> {
+fn edits_behind_each_head(rt: HostRuntime) {
     for head in 0..8usize {
         for len in 0..18usize {
-            edited::<u8, Lsb0>(&rt, head, len)?;
-            edited::<u8, Msb0>(&rt, head, len)?;
-            edited::<u8, Xor4>(&rt, head, len)?;
-            edited::<u16, Scramble>(&rt, head, len)?;
+            edited::<u8, Lsb0>(&rt, head, len);
+            edited::<u8, Msb0>(&rt, head, len);
+            edited::<u8, Xor4>(&rt, head, len);
+            edited::<u16, Scramble>(&rt, head, len);
         }
     }
-    Ok(())
 }

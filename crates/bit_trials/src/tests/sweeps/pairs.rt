@@ -1,14 +1,13 @@
 //! Two lists combined, compared and written over one another.
 ghost use Rattle.std.specs.Prelude.{◌<◌};
 
+use crate::tests::ok;
 use crate::tests::orders::{Scramble, Xor4};
 use crate::tests::sweeps::{Case, behind, part, replaced, shows};
 use bit_containers::{BitOrder, BitStore, BitVec, Lsb0, Msb0};
-use std::alloc::{AllocError, Global};
 use std::cmp::Ordering;
 use std::hash::{DefaultHasher, Hash, Hasher};
 use std::process::Abort;
-use std::test::Fail;
 
 const SEED: u64 = 0x1234_5678_9abc_def1;
 
@@ -23,25 +22,24 @@ enum By {
 }
 
 /// The left list, with each item combined with that of the right list, or with false past its end.
-fn combined(alloc: Global, left: &[bool], right: &[bool], by: By) -> Result<Vec<bool>, AllocError> {
-    let mut bits = Vec::new(alloc);
+fn combined(rt: &(impl Abort + AllocGlobal), left: &[bool], right: &[bool], by: By) -> Vec<bool> {
+    let mut bits = Vec::new(rt.alloc());
     for (i, bit) in left.iter().enumerate() {
         let other = right.get(i).copied().unwrap_or(false);
-        bits.push(match by {
-            By::And => *bit && other,
-            By::Or => *bit || other,
-            By::Xor => *bit != other,
-        })?;
+        ok(
+            rt,
+            bits.push(match by {
+                By::And => *bit && other,
+                By::Or => *bit || other,
+                By::Xor => *bit != other,
+            }),
+        );
     }
-    Ok(bits)
+    bits
 }
 
 /// Two vectors combined by the operators, and by the calls that take a view of any type.
-fn operated<T: BitStore, O: BitOrder>(
-    rt: &(impl Abort + AllocGlobal),
-    head: usize,
-    len: usize,
-) -> Result<(), Fail>
+fn operated<T: BitStore, O: BitOrder>(rt: &(impl Abort + AllocGlobal), head: usize, len: usize)
     requires head { head < 8 }
     requires len { len < 18 }
 {
@@ -49,9 +47,9 @@ fn operated<T: BitStore, O: BitOrder>(
         for by in [By::And, By::Or, By::Xor] {
             let other = (3 * head + size) % 8;
             for way in 0..3u8 {
-                let Case { mut v, list, row } = behind::<T, O>(rt, SEED, head, len)?;
-                let right = behind::<T, O>(rt, OTHER, other, size)?;
-                let wanted = combined(rt.alloc(), &list, &right.list, by)?;
+                let Case { mut v, list, row } = behind::<T, O>(rt, SEED, head, len);
+                let right = behind::<T, O>(rt, OTHER, other, size);
+                let wanted = combined(rt, &list, &right.list, by);
                 let view = right.v.as_bitslice();
                 match (way, by) {
                     (0, By::And) => v = v & right.v,
@@ -64,45 +62,39 @@ fn operated<T: BitStore, O: BitOrder>(
                     (_, By::Or) => v.or_bits(view),
                     (_, By::Xor) => v.xor_bits(view),
                 }
-                assert!(rt; shows(rt.alloc(), &v, head, &wanted, &row)?, "way {way}");
+                assert!(rt; shows(rt, &v, head, &wanted, &row), "way {way}");
             }
         }
     }
-    Ok(())
 }
 
 /// A list combined with, and written over by, a view by other words and another order.
-fn crossed<T: BitStore, O: BitOrder>(
-    rt: &(impl Abort + AllocGlobal),
-    head: usize,
-    len: usize,
-) -> Result<(), Fail>
+fn crossed<T: BitStore, O: BitOrder>(rt: &(impl Abort + AllocGlobal), head: usize, len: usize)
     requires head { head < 8 }
     requires len { len < 18 }
 {
     for size in 0..18usize {
-        let right = behind::<u16, Msb0>(rt, OTHER, (5 * head + size) % 16, size)?;
+        let right = behind::<u16, Msb0>(rt, OTHER, (5 * head + size) % 16, size);
         for by in [By::And, By::Or, By::Xor] {
-            let Case { mut v, list, row } = behind::<T, O>(rt, SEED, head, len)?;
+            let Case { mut v, list, row } = behind::<T, O>(rt, SEED, head, len);
             match by {
                 By::And => v.and_bits(right.v.as_bitslice()),
                 By::Or => v.or_bits(right.v.as_bitslice()),
                 By::Xor => v.xor_bits(right.v.as_bitslice()),
             }
-            let wanted = combined(rt.alloc(), &list, &right.list, by)?;
-            assert!(rt; shows(rt.alloc(), &v, head, &wanted, &row)?);
+            let wanted = combined(rt, &list, &right.list, by);
+            assert!(rt; shows(rt, &v, head, &wanted, &row));
         }
-        let Case { mut v, list, row } = behind::<T, O>(rt, SEED, head, len)?;
+        let Case { mut v, list, row } = behind::<T, O>(rt, SEED, head, len);
         let order = order_of(&list, &right.list);
         assert!(rt; v.cmp_bits(right.v.as_bitslice()) == order);
         assert!(rt; v.eq_bits(right.v.as_bitslice()) == (order == Ordering::Equal));
         if v.len() == right.v.len() {
             v.clone_from_bitslice(right.v.as_bitslice());
-            assert!(rt; shows(rt.alloc(), &v, head, &right.list, &row)?);
+            assert!(rt; shows(rt, &v, head, &right.list, &row));
             assert!(rt; v.eq_bits(right.v.as_bitslice()));
         }
     }
-    Ok(())
 }
 
 /// The order of two lists: at the first place where they differ the one with false is less, or the one that ends.
@@ -149,66 +141,59 @@ fn compared<T: BitStore, O: BitOrder>(
 
 /// A vector compared with others of each length: with mixed bits, with its own first bits, and with these and one
 /// of them flipped.
-fn ordered<T: BitStore, O: BitOrder>(
-    rt: &(impl Abort + AllocGlobal),
-    head: usize,
-    len: usize,
-) -> Result<(), Fail>
+fn ordered<T: BitStore, O: BitOrder>(rt: &(impl Abort + AllocGlobal), head: usize, len: usize)
     requires head { head < 8 }
     requires len { len < 18 }
 {
-    let a = behind::<T, O>(rt, SEED, head, len)?;
+    let a = behind::<T, O>(rt, SEED, head, len);
     for size in 0..18usize {
-        let b = behind::<T, O>(rt, OTHER, (3 * head + size) % 8, size)?;
+        let b = behind::<T, O>(rt, OTHER, (3 * head + size) % 8, size);
         assert!(rt;
             compared(&a.v, &b.v, &a.list, &b.list) && compared(&b.v, &a.v, &b.list, &a.list)
         );
-        let list = part(rt.alloc(), &a.list, 0, size)?;
-        let bits = part(rt.alloc(), &list, 0, size)?;
-        let mut first = BitVec::<T, O>::from_bits(rt.alloc(), bits)?;
+        let list = part(rt, &a.list, 0, size);
+        let bits = part(rt, &list, 0, size);
+        let mut first = ok(rt, BitVec::<T, O>::from_bits(rt.alloc(), bits));
         assert!(rt;
             compared(&a.v, &first, &a.list, &list) && compared(&first, &a.v, &list, &a.list)
         );
         if let Some(last) = first.pop() {
-            first.push(!last)?;
+            ok(rt, first.push(!last));
             let list = replaced(
-                rt.alloc(),
+                rt,
                 &list,
                 list.len().saturating_sub(1),
                 list.len(),
                 &[!last],
-            )?;
+            );
             assert!(rt;
                 compared(&a.v, &first, &a.list, &list) && compared(&first, &a.v, &list, &a.list)
             );
         }
     }
-    Ok(())
 }
 
 #[test]
-fn operators_behind_each_head(rt: HostRuntime) -> Result<(), Fail> {
+fn operators_behind_each_head(rt: HostRuntime) {
     for head in 0..8usize {
         for len in 0..18usize {
-            operated::<u8, Lsb0>(&rt, head, len)?;
-            operated::<u8, Msb0>(&rt, head, len)?;
-            operated::<u16, Scramble>(&rt, head, len)?;
-            crossed::<u8, Lsb0>(&rt, head, len)?;
-            crossed::<u8, Msb0>(&rt, head, len)?;
-            crossed::<u8, Xor4>(&rt, head, len)?;
+            operated::<u8, Lsb0>(&rt, head, len);
+            operated::<u8, Msb0>(&rt, head, len);
+            operated::<u16, Scramble>(&rt, head, len);
+            crossed::<u8, Lsb0>(&rt, head, len);
+            crossed::<u8, Msb0>(&rt, head, len);
+            crossed::<u8, Xor4>(&rt, head, len);
         }
     }
-    Ok(())
 }
 
 #[test]
-fn orders_behind_each_head(rt: HostRuntime) -> Result<(), Fail> {
+fn orders_behind_each_head(rt: HostRuntime) {
     for head in 0..8usize {
         for len in 0..18usize {
-            ordered::<u8, Lsb0>(&rt, head, len)?;
-            ordered::<u8, Msb0>(&rt, head, len)?;
-            ordered::<u16, Scramble>(&rt, head, len)?;
+            ordered::<u8, Lsb0>(&rt, head, len);
+            ordered::<u8, Msb0>(&rt, head, len);
+            ordered::<u16, Scramble>(&rt, head, len);
         }
     }
-    Ok(())
 }

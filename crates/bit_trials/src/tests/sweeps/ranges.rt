@@ -1,11 +1,11 @@
 //! Ranges drained, replaced, split off, copied and kept by a function.
 ghost use Rattle.std.specs.Prelude.{◌<◌, ◌≤◌, length};
 
+use crate::tests::ok;
 use crate::tests::orders::{Scramble, Xor4};
 use crate::tests::sweeps::{Case, again, behind, part, replaced, same, shows};
 use bit_containers::{BitOrder, BitStore, BitVec, Lsb0, Msb0};
 use std::process::Abort;
-use std::test::Fail;
 
 const SEED: u64 = 0x8a5c_36d9_e174_b20f;
 
@@ -72,22 +72,18 @@ fn drains<T: BitStore, O: BitOrder>(
 }
 
 /// Each range drained, in turn as far as each way goes.
-fn drained<T: BitStore, O: BitOrder>(
-    rt: &(impl Abort + AllocGlobal),
-    head: usize,
-    len: usize,
-) -> Result<(), Fail>
+fn drained<T: BitStore, O: BitOrder>(rt: &(impl Abort + AllocGlobal), head: usize, len: usize)
     requires head { head < 8 }
     requires len { len < 18 }
 {
-    let Case { v: first, list, .. } = behind::<T, O>(rt, SEED, head, len)?;
+    let Case { v: first, list, .. } = behind::<T, O>(rt, SEED, head, len);
     for from in 0..len + 1 {
         for upto in from..len + 1 {
-            let bits = part(rt.alloc(), &list, from, upto)?;
-            let wanted = replaced(rt.alloc(), &list, from, upto, &[])?;
+            let bits = part(rt, &list, from, upto);
+            let wanted = replaced(rt, &list, from, upto, &[]);
             for (turn, left) in WAYS.iter().enumerate() {
                 if turn % 2 == (head + from + upto) % 2 {
-                    let mut v = again(rt.alloc(), &first)?;
+                    let mut v = again(rt, &first);
                     assert!(rt; upto <= v.len());
                     assert!(rt; drains(&mut v, from, upto, &bits, *left));
                     assert!(rt; same(&v, head, &wanted));
@@ -95,87 +91,67 @@ fn drained<T: BitStore, O: BitOrder>(
             }
         }
     }
-    Ok(())
 }
 
 /// Each range replaced by lists of several lengths.
-fn spliced<T: BitStore, O: BitOrder>(
-    rt: &(impl Abort + AllocGlobal),
-    head: usize,
-    len: usize,
-) -> Result<(), Fail>
+fn spliced<T: BitStore, O: BitOrder>(rt: &(impl Abort + AllocGlobal), head: usize, len: usize)
     requires head { head < 8 }
     requires len { len < 18 }
 {
-    let Case { v: first, list, .. } = behind::<T, O>(rt, SEED, head, len)?;
+    let Case { v: first, list, .. } = behind::<T, O>(rt, SEED, head, len);
     for more in [0usize, 1, 2, 7, 17] {
-        let other = behind::<u16, Msb0>(rt, OTHER, head, more)?.list;
+        let other = behind::<u16, Msb0>(rt, OTHER, head, more).list;
         for from in 0..len + 1 {
             for upto in from..len + 1 {
-                let mut v = again(rt.alloc(), &first)?;
-                let wanted = replaced(rt.alloc(), &list, from, upto, &other)?;
+                let mut v = again(rt, &first);
+                let wanted = replaced(rt, &list, from, upto, &other);
                 assert!(rt; upto <= v.len());
-                v.splice(from..upto, other.clone()?).finish()?;
+                ok(rt, v.splice(from..upto, ok(rt, other.clone())).finish());
                 assert!(rt; same(&v, head, &wanted));
             }
         }
     }
-    Ok(())
 }
 
 /// The list cut in two at each place: what is behind begins at head 0, and is clean.
-fn split<T: BitStore, O: BitOrder>(
-    rt: &(impl Abort + AllocGlobal),
-    head: usize,
-    len: usize,
-) -> Result<(), Fail>
+fn split<T: BitStore, O: BitOrder>(rt: &(impl Abort + AllocGlobal), head: usize, len: usize)
     requires head { head < 8 }
     requires len { len < 18 }
 {
     for at in 0..len + 1 {
-        let Case { mut v, list, row } = behind::<T, O>(rt, SEED, head, len)?;
+        let Case { mut v, list, row } = behind::<T, O>(rt, SEED, head, len);
         assert!(rt; at <= v.len());
-        let rest = v.split_off(at)?;
-        let wanted = part(rt.alloc(), &list, at, len)?;
-        assert!(rt; shows(rt.alloc(), &rest, 0, &wanted, &[])?);
-        let wanted = part(rt.alloc(), &list, 0, at)?;
-        assert!(rt; shows(rt.alloc(), &v, head, &wanted, &row)?);
+        let rest = ok(rt, v.split_off(at));
+        let wanted = part(rt, &list, at, len);
+        assert!(rt; shows(rt, &rest, 0, &wanted, &[]));
+        let wanted = part(rt, &list, 0, at);
+        assert!(rt; shows(rt, &v, head, &wanted, &row));
     }
-    Ok(())
 }
 
 /// Each range copied to each place that has room for it.
-fn moved<T: BitStore, O: BitOrder>(
-    rt: &(impl Abort + AllocGlobal),
-    head: usize,
-    len: usize,
-) -> Result<(), Fail>
+fn moved<T: BitStore, O: BitOrder>(rt: &(impl Abort + AllocGlobal), head: usize, len: usize)
     requires head { head < 8 }
     requires len { len < 18 }
 {
-    let Case { v: first, list, .. } = behind::<T, O>(rt, SEED, head, len)?;
+    let Case { v: first, list, .. } = behind::<T, O>(rt, SEED, head, len);
     for from in 0..len + 1 {
         for upto in from..len + 1 {
-            let bits = part(rt.alloc(), &list, from, upto)?;
+            let bits = part(rt, &list, from, upto);
             for dest in 0..len - (upto - from) + 1 {
-                let mut v = again(rt.alloc(), &first)?;
+                let mut v = again(rt, &first);
                 assert!(rt; upto <= v.len() && dest <= v.len() - (upto - from));
                 v.copy_within(from..upto, dest);
                 let end = dest + (upto - from);
-                let wanted = replaced(rt.alloc(), &list, dest, end, &bits)?;
-                assert!(rt; shows(rt.alloc(), &v, head, &wanted, &[true; 40])?);
+                let wanted = replaced(rt, &list, dest, end, &bits);
+                assert!(rt; shows(rt, &v, head, &wanted, &[true; 40]));
             }
         }
     }
-    Ok(())
 }
 
 /// Items kept by their index and their bit; the function is called at each in turn.
-fn retained<T: BitStore, O: BitOrder>(
-    rt: &(impl Abort + AllocGlobal),
-    head: usize,
-    len: usize,
-) -> Result<(), Fail>
+fn retained<T: BitStore, O: BitOrder>(rt: &(impl Abort + AllocGlobal), head: usize, len: usize)
     requires head { head < 8 }
     requires len { len < 18 }
 {
@@ -186,11 +162,11 @@ fn retained<T: BitStore, O: BitOrder>(
         0x0000_ff0f,
         0x9249_2492,
     ] {
-        let Case { mut v, list, .. } = behind::<T, O>(rt, SEED, head, len)?;
+        let Case { mut v, list, .. } = behind::<T, O>(rt, SEED, head, len);
         let mut wanted = Vec::new(rt.alloc());
         for (i, bit) in list.iter().enumerate() {
             if *bit == (pattern.wrapping_shr((i % 32) as u32) % 2 == 1) {
-                wanted.push(*bit)?;
+                ok(rt, wanted.push(*bit));
             }
         }
         let (mut next, mut ordered) = (0usize, true);
@@ -201,37 +177,34 @@ fn retained<T: BitStore, O: BitOrder>(
         });
         assert!(rt; ordered && next == len && same(&v, head, &wanted));
     }
-    Ok(())
 }
 
 #[test]
-fn ranges_behind_each_head(rt: HostRuntime) -> Result<(), Fail> {
+fn ranges_behind_each_head(rt: HostRuntime) {
     for head in 0..8usize {
         for len in 0..18usize {
-            drained::<u8, Lsb0>(&rt, head, len)?;
-            drained::<u16, Msb0>(&rt, head, len)?;
-            spliced::<u8, Lsb0>(&rt, head, len)?;
-            spliced::<u8, Msb0>(&rt, head, len)?;
-            spliced::<u8, Scramble>(&rt, head, len)?;
-            split::<u8, Lsb0>(&rt, head, len)?;
-            split::<u8, Xor4>(&rt, head, len)?;
-            split::<u16, Msb0>(&rt, head, len)?;
+            drained::<u8, Lsb0>(&rt, head, len);
+            drained::<u16, Msb0>(&rt, head, len);
+            spliced::<u8, Lsb0>(&rt, head, len);
+            spliced::<u8, Msb0>(&rt, head, len);
+            spliced::<u8, Scramble>(&rt, head, len);
+            split::<u8, Lsb0>(&rt, head, len);
+            split::<u8, Xor4>(&rt, head, len);
+            split::<u16, Msb0>(&rt, head, len);
         }
     }
-    Ok(())
 }
 
 #[test]
-fn moves_behind_each_head(rt: HostRuntime) -> Result<(), Fail> {
+fn moves_behind_each_head(rt: HostRuntime) {
     for head in 0..8usize {
         for len in 0..18usize {
-            moved::<u8, Lsb0>(&rt, head, len)?;
-            moved::<u8, Msb0>(&rt, head, len)?;
-            moved::<u16, Scramble>(&rt, head, len)?;
-            retained::<u8, Lsb0>(&rt, head, len)?;
-            retained::<u8, Msb0>(&rt, head, len)?;
-            retained::<u16, Xor4>(&rt, head, len)?;
+            moved::<u8, Lsb0>(&rt, head, len);
+            moved::<u8, Msb0>(&rt, head, len);
+            moved::<u16, Scramble>(&rt, head, len);
+            retained::<u8, Lsb0>(&rt, head, len);
+            retained::<u8, Msb0>(&rt, head, len);
+            retained::<u16, Xor4>(&rt, head, len);
         }
     }
-    Ok(())
 }

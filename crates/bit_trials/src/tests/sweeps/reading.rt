@@ -1,13 +1,12 @@
 //! What is read of a list: items, counts, parts, iterators and texts.
 ghost use Rattle.std.specs.Prelude.{◌<◌};
 
+use crate::tests::ok;
 use crate::tests::orders::{Scramble, Xor4};
 use crate::tests::radix::{In, Radix};
 use crate::tests::sweeps::{Case, behind, part};
 use bit_containers::{BitOrder, BitStore, BitVec, Lsb0, Msb0};
-use std::alloc::{AllocError, Global};
 use std::process::Abort;
-use std::test::Fail;
 
 const SEED: u64 = 0x2f81_c6b4_09e7_d35a;
 
@@ -38,18 +37,14 @@ fn told<T: BitStore, O: BitOrder>(v: &BitVec<T, O>, list: &[bool]) -> bool {
 }
 
 /// Items passed over from both ends, past the end too, of the lent iterator and of the one that keeps the words.
-fn passed_over<T: BitStore, O: BitOrder>(
-    rt: &(impl Abort + AllocGlobal),
-    head: usize,
-    len: usize,
-) -> Result<(), Fail>
+fn passed_over<T: BitStore, O: BitOrder>(rt: &(impl Abort + AllocGlobal), head: usize, len: usize)
     requires head { head < 8 }
     requires len { len < 18 }
 {
     for front in 0..len + 2 {
         for back in 0..len + 2 {
-            let Case { v, list, .. } = behind::<T, O>(rt, SEED, head, len)?;
-            let rest = part(rt.alloc(), &list, front + 1, len)?;
+            let Case { v, list, .. } = behind::<T, O>(rt, SEED, head, len);
+            let rest = part(rt, &list, front + 1, len);
             let first = list.get(front).copied();
             let at = rest.len().checked_sub(back + 1);
             let last = at.and_then(|i| rest.get(i)).copied();
@@ -66,25 +61,20 @@ fn passed_over<T: BitStore, O: BitOrder>(
             assert!(rt; kept.next().is_none() && kept.next_back().is_none());
         }
     }
-    Ok(())
 }
 
 /// Each part of a list, as a view of it.
-fn parts<T: BitStore, O: BitOrder>(
-    rt: &(impl Abort + AllocGlobal),
-    head: usize,
-    len: usize,
-) -> Result<(), Fail>
+fn parts<T: BitStore, O: BitOrder>(rt: &(impl Abort + AllocGlobal), head: usize, len: usize)
     requires head { head < 8 }
     requires len { len < 18 }
 {
-    let Case { v, list, .. } = behind::<T, O>(rt, SEED, head, len)?;
+    let Case { v, list, .. } = behind::<T, O>(rt, SEED, head, len);
     assert!(rt; told(&v, &list));
     for from in 0..len + 1 {
         for upto in from..len + 1 {
             assert!(rt; upto <= v.len());
             let view = v.get_range(from..upto);
-            let bits = part(rt.alloc(), &list, from, upto)?;
+            let bits = part(rt, &list, from, upto);
             assert!(rt; view.len() == bits.len());
             assert!(rt; view.head() == (head + from) % T::BITS as usize);
             for (i, bit) in bits.iter().enumerate() {
@@ -92,47 +82,48 @@ fn parts<T: BitStore, O: BitOrder>(
             }
         }
     }
-    Ok(())
 }
 
 /// The digits of a list, one for each group of so many bits, where the bit that comes first weighs most.
-fn digits_of(alloc: Global, list: &[bool], width: u8, digits: &str) -> Result<Vec<u8>, AllocError> {
-    let mut text = Vec::new(alloc);
-    text.push(b'[')?;
+fn digits_of(rt: &(impl Abort + AllocGlobal), list: &[bool], width: u8, digits: &str) -> Vec<u8> {
+    let mut text = Vec::new(rt.alloc());
+    ok(rt, text.push(b'['));
     let (mut value, mut held) = (0u8, 0u8);
     for bit in list {
         value = value.wrapping_mul(2).wrapping_add(*bit as u8);
         held = held.wrapping_add(1);
         if held == width {
-            text.push(digits.as_bytes().get(value as usize).copied().unwrap_or(0))?;
+            ok(
+                rt,
+                text.push(digits.as_bytes().get(value as usize).copied().unwrap_or(0)),
+            );
             (value, held) = (0, 0);
         }
     }
     if held > 0 {
-        text.push(digits.as_bytes().get(value as usize).copied().unwrap_or(0))?;
+        ok(
+            rt,
+            text.push(digits.as_bytes().get(value as usize).copied().unwrap_or(0)),
+        );
     }
-    text.push(b']')?;
-    Ok(text)
+    ok(rt, text.push(b']'));
+    text
 }
 
 /// The text of a vector, and its digits by one, three and four bits.
-fn written<T: BitStore, O: BitOrder>(
-    rt: &(impl Abort + AllocGlobal),
-    head: usize,
-    len: usize,
-) -> Result<(), Fail>
+fn written<T: BitStore, O: BitOrder>(rt: &(impl Abort + AllocGlobal), head: usize, len: usize)
     requires head { head < 8 }
     requires len { len < 18 }
 {
-    let Case { v, list, .. } = behind::<T, O>(rt, SEED, head, len)?;
+    let Case { v, list, .. } = behind::<T, O>(rt, SEED, head, len);
     let mut wanted = String::new(rt.alloc());
-    wanted.push_str("[")?;
+    ok(rt, wanted.push_str("["));
     for (i, bit) in list.iter().enumerate() {
-        wanted.push_str(if i > 0 { ", " } else { "" })?;
-        wanted.push_str(if *bit { "1" } else { "0" })?;
+        ok(rt, wanted.push_str(if i > 0 { ", " } else { "" }));
+        ok(rt, wanted.push_str(if *bit { "1" } else { "0" }));
     }
-    wanted.push_str("]")?;
-    let text = format!(in rt.alloc(); "{v}")?;
+    ok(rt, wanted.push_str("]"));
+    let text = ok(rt, format!(in rt.alloc(); "{v}"));
     assert_eq!(rt; text.as_str(), wanted.as_str());
     for (radix, width, digits) in [
         (Radix::Binary, 1, "01"),
@@ -140,26 +131,24 @@ fn written<T: BitStore, O: BitOrder>(
         (Radix::LowerHex, 4, "0123456789abcdef"),
         (Radix::UpperHex, 4, "0123456789ABCDEF"),
     ] {
-        let wanted = digits_of(rt.alloc(), &list, width, digits)?;
+        let wanted = digits_of(rt, &list, width, digits);
         let digits = In(&v, radix);
-        let text = format!(in rt.alloc(); "{digits}")?;
+        let text = ok(rt, format!(in rt.alloc(); "{digits}"));
         assert_eq!(rt; text.as_bytes(), wanted.as_slice());
     }
-    Ok(())
 }
 
 #[test]
-fn reading_behind_each_head(rt: HostRuntime) -> Result<(), Fail> {
+fn reading_behind_each_head(rt: HostRuntime) {
     for head in 0..8usize {
         for len in 0..18usize {
-            parts::<u8, Lsb0>(&rt, head, len)?;
-            parts::<u8, Msb0>(&rt, head, len)?;
-            parts::<u8, Scramble>(&rt, head, len)?;
-            passed_over::<u8, Lsb0>(&rt, head, len)?;
-            passed_over::<u16, Xor4>(&rt, head, len)?;
-            written::<u8, Lsb0>(&rt, head, len)?;
-            written::<u8, Msb0>(&rt, head, len)?;
+            parts::<u8, Lsb0>(&rt, head, len);
+            parts::<u8, Msb0>(&rt, head, len);
+            parts::<u8, Scramble>(&rt, head, len);
+            passed_over::<u8, Lsb0>(&rt, head, len);
+            passed_over::<u16, Xor4>(&rt, head, len);
+            written::<u8, Lsb0>(&rt, head, len);
+            written::<u8, Msb0>(&rt, head, len);
         }
     }
-    Ok(())
 }

@@ -1,188 +1,153 @@
 //! The words as they are lent, written, filled, aligned and given up.
 ghost use Rattle.std.specs.Prelude.{◌<◌};
 
+use crate::tests::ok;
 use crate::tests::orders::{Scramble, Xor4};
 use crate::tests::sweeps::{Case, behind, part, row_of, shows};
 use bit_containers::{BitOrder, BitStore, BitVec, IntoBitVec, Lsb0, Msb0};
 use std::process::Abort;
-use std::test::Fail;
 
 const SEED: u64 = 0x6b3f_90d2_5ec8_71a4;
 
 const WORD: u64 = 0x9c9c_9c9c_9c9c_9ca6;
 
 /// All bits of the row flipped, dead ones too, and back.
-fn flipped<T: BitStore, O: BitOrder>(
-    rt: &(impl Abort + AllocGlobal),
-    head: usize,
-    len: usize,
-) -> Result<(), Fail>
+fn flipped<T: BitStore, O: BitOrder>(rt: &(impl Abort + AllocGlobal), head: usize, len: usize)
     requires head { head < 8 }
     requires len { len < 18 }
 {
-    let Case { mut v, list, row } = behind::<T, O>(rt, SEED, head, len)?;
+    let Case { mut v, list, row } = behind::<T, O>(rt, SEED, head, len);
     let mut other = Vec::new(rt.alloc());
     for bit in &row {
-        other.push(!*bit)?;
+        ok(rt, other.push(!*bit));
     }
-    let not = part(rt.alloc(), &other, head, head + len)?;
+    let not = part(rt, &other, head, head + len);
     v.flip_all();
-    assert!(rt; shows(rt.alloc(), &v, head, &not, &other)?);
+    assert!(rt; shows(rt, &v, head, &not, &other));
     let v = !v;
-    assert!(rt; shows(rt.alloc(), &v, head, &list, &row)?);
-    Ok(())
+    assert!(rt; shows(rt, &v, head, &list, &row));
 }
 
 /// The list filled, and the dead bits filled, each with both bits.
-fn filled<T: BitStore, O: BitOrder>(
-    rt: &(impl Abort + AllocGlobal),
-    head: usize,
-    len: usize,
-) -> Result<(), Fail>
+fn filled<T: BitStore, O: BitOrder>(rt: &(impl Abort + AllocGlobal), head: usize, len: usize)
     requires head { head < 8 }
     requires len { len < 18 }
 {
     for bit in [true, false] {
-        let Case { mut v, list, row } = behind::<T, O>(rt, SEED, head, len)?;
+        let Case { mut v, list, row } = behind::<T, O>(rt, SEED, head, len);
         let mut all = Vec::new(rt.alloc());
         for _ in &row {
-            all.push(bit)?;
+            ok(rt, all.push(bit));
         }
         v.set_uninitialized(bit);
-        assert!(rt; shows(rt.alloc(), &v, head, &list, &all)?);
+        assert!(rt; shows(rt, &v, head, &list, &all));
         v.set_uninitialized(!bit);
         v.fill(bit);
-        let list = part(rt.alloc(), &all, 0, len)?;
+        let list = part(rt, &all, 0, len);
         let mut dead = Vec::new(rt.alloc());
         for _ in &row {
-            dead.push(!bit)?;
+            ok(rt, dead.push(!bit));
         }
-        assert!(rt; shows(rt.alloc(), &v, head, &list, &dead)?);
+        assert!(rt; shows(rt, &v, head, &list, &dead));
         v.as_mut_bitslice().fill(!bit);
-        let list = part(rt.alloc(), &dead, 0, len)?;
-        assert!(rt; shows(rt.alloc(), &v, head, &list, &dead)?);
+        let list = part(rt, &dead, 0, len);
+        assert!(rt; shows(rt, &v, head, &list, &dead));
     }
-    Ok(())
 }
 
 /// The list moved to the beginning of its words.
-fn aligned<T: BitStore, O: BitOrder>(
-    rt: &(impl Abort + AllocGlobal),
-    head: usize,
-    len: usize,
-) -> Result<(), Fail>
+fn aligned<T: BitStore, O: BitOrder>(rt: &(impl Abort + AllocGlobal), head: usize, len: usize)
     requires head { head < 8 }
     requires len { len < 18 }
 {
-    let Case { mut v, list, row } = behind::<T, O>(rt, SEED, head, len)?;
+    let Case { mut v, list, row } = behind::<T, O>(rt, SEED, head, len);
     v.force_align();
-    assert!(rt; shows(rt.alloc(), &v, 0, &list, &row)?);
+    assert!(rt; shows(rt, &v, 0, &list, &row));
     v.set_uninitialized(false);
-    assert!(rt; shows(rt.alloc(), &v, 0, &list, &[])?);
+    assert!(rt; shows(rt, &v, 0, &list, &[]));
     v.force_align();
-    assert!(rt; shows(rt.alloc(), &v, 0, &list, &[])?);
-    Ok(())
+    assert!(rt; shows(rt, &v, 0, &list, &[]));
 }
 
 /// Each length that the words have room for: what becomes live stood there.
-fn measured<T: BitStore, O: BitOrder>(
-    rt: &(impl Abort + AllocGlobal),
-    head: usize,
-    len: usize,
-) -> Result<(), Fail>
+fn measured<T: BitStore, O: BitOrder>(rt: &(impl Abort + AllocGlobal), head: usize, len: usize)
     requires head { head < 8 }
     requires len { len < 18 }
 {
-    let Case { row, .. } = behind::<T, O>(rt, SEED, head, len)?;
+    let Case { row, .. } = behind::<T, O>(rt, SEED, head, len);
     assert!(rt; row.len() < 100);
     for n in 0..row.len() + 1 {
         if head + n <= row.len() {
-            let Case { mut v, row, .. } = behind::<T, O>(rt, SEED, head, len)?;
+            let Case { mut v, row, .. } = behind::<T, O>(rt, SEED, head, len);
             let words = v.as_raw_slice().len();
             assert!(rt; v.head() == head && words < 100);
             assert!(rt; head + n <= T::BITS as usize * words);
             v.set_len(n);
-            let list = part(rt.alloc(), &row, head, head + n)?;
-            assert!(rt; shows(rt.alloc(), &v, head, &list, &row)?);
+            let list = part(rt, &row, head, head + n);
+            assert!(rt; shows(rt, &v, head, &list, &row));
         }
     }
-    Ok(())
 }
 
 /// One word written over all, through the vector and through its words.
-fn stamped<T: BitStore, O: BitOrder>(
-    rt: &(impl Abort + AllocGlobal),
-    head: usize,
-    len: usize,
-) -> Result<(), Fail>
+fn stamped<T: BitStore, O: BitOrder>(rt: &(impl Abort + AllocGlobal), head: usize, len: usize)
     requires head { head < 8 }
     requires len { len < 18 }
 {
     let word = T::from_u64(WORD);
     let mut words = Vec::new(rt.alloc());
     for _ in 0..4u8 {
-        words.push(word)?;
+        ok(rt, words.push(word));
     }
-    let all = row_of::<T, O>(rt.alloc(), words.as_slice())?;
-    let list = part(rt.alloc(), &all, head, head + len)?;
-    let mut v = behind::<T, O>(rt, SEED, head, len)?.v;
+    let all = row_of::<T, O>(rt, words.as_slice());
+    let list = part(rt, &all, head, head + len);
+    let mut v = behind::<T, O>(rt, SEED, head, len).v;
     v.set_elements(word);
-    assert!(rt; shows(rt.alloc(), &v, head, &list, &all)?);
-    let mut v = behind::<T, O>(rt, SEED, head, len)?.v;
+    assert!(rt; shows(rt, &v, head, &list, &all));
+    let mut v = behind::<T, O>(rt, SEED, head, len).v;
     for slot in v.as_raw_mut_slice() {
         *slot = word;
     }
-    assert!(rt; shows(rt.alloc(), &v, head, &list, &all)?);
-    Ok(())
+    assert!(rt; shows(rt, &v, head, &list, &all));
 }
 
 /// The words given up and taken back, as a vector of words and as a box.
-fn given_up<T: BitStore, O: BitOrder>(
-    rt: &(impl Abort + AllocGlobal),
-    head: usize,
-    len: usize,
-) -> Result<(), Fail>
+fn given_up<T: BitStore, O: BitOrder>(rt: &(impl Abort + AllocGlobal), head: usize, len: usize)
     requires head { head < 8 }
     requires len { len < 18 }
 {
-    let Case { v, list, row } = behind::<T, O>(rt, SEED, head, len)?;
-    let boxed = v.into_boxed_bitslice()?;
+    let Case { v, list, row } = behind::<T, O>(rt, SEED, head, len);
+    let boxed = ok(rt, v.into_boxed_bitslice());
     assert!(rt; boxed.head() == head && boxed.len() == len);
-    let v = boxed.into_bitvec()?;
-    assert!(rt; shows(rt.alloc(), &v, head, &list, &row)?);
+    let v = ok(rt, boxed.into_bitvec());
+    assert!(rt; shows(rt, &v, head, &list, &row));
     let v = BitVec::<T, O>::try_from_vec(v.into_vec());
     assert!(rt; v.is_ok());
     let v = v.unwrap_or(BitVec::new(rt.alloc()));
-    assert!(rt; shows(rt.alloc(), &v, 0, &row, &[])?);
-    Ok(())
+    assert!(rt; shows(rt, &v, 0, &row, &[]));
 }
 
 /// All of it, behind one head and at one length.
-fn worked<T: BitStore, O: BitOrder>(
-    rt: &(impl Abort + AllocGlobal),
-    head: usize,
-    len: usize,
-) -> Result<(), Fail>
+fn worked<T: BitStore, O: BitOrder>(rt: &(impl Abort + AllocGlobal), head: usize, len: usize)
     requires head { head < 8 }
     requires len { len < 18 }
 {
-    flipped::<T, O>(rt, head, len)?;
-    filled::<T, O>(rt, head, len)?;
-    aligned::<T, O>(rt, head, len)?;
-    measured::<T, O>(rt, head, len)?;
-    stamped::<T, O>(rt, head, len)?;
-    given_up::<T, O>(rt, head, len)
+    flipped::<T, O>(rt, head, len);
+    filled::<T, O>(rt, head, len);
+    aligned::<T, O>(rt, head, len);
+    measured::<T, O>(rt, head, len);
+    stamped::<T, O>(rt, head, len);
+    given_up::<T, O>(rt, head, len);
 }
 
 #[test]
-fn words_behind_each_head(rt: HostRuntime) -> Result<(), Fail> {
+fn words_behind_each_head(rt: HostRuntime) {
     for head in 0..8usize {
         for len in 0..18usize {
-            worked::<u8, Lsb0>(&rt, head, len)?;
-            worked::<u8, Msb0>(&rt, head, len)?;
-            worked::<u8, Xor4>(&rt, head, len)?;
-            worked::<u16, Scramble>(&rt, head, len)?;
+            worked::<u8, Lsb0>(&rt, head, len);
+            worked::<u8, Msb0>(&rt, head, len);
+            worked::<u8, Xor4>(&rt, head, len);
+            worked::<u16, Scramble>(&rt, head, len);
         }
     }
-    Ok(())
 }

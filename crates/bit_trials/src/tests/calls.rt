@@ -1,0 +1,143 @@
+//! Calls that the sweeps leave out, once each.
+use crate::tests::{holds, of, ok};
+use bit_containers::{BitOrder, BitStore, BitVec, Lsb0, Msb0};
+use std::cmp::Ordering;
+use std::process::Abort;
+
+/// That the words of the vector are these.
+fn shows<T: BitStore, O: BitOrder>(rt: &impl Abort, v: &BitVec<T, O>, words: &[T]) {
+    let kept = v.as_raw_slice();
+    assert!(rt; kept.len() == words.len());
+    for (word, want) in kept.iter().zip(words) {
+        assert!(rt; word.to_u64() == want.to_u64());
+    }
+}
+
+#[test]
+fn each_word(rt: HostRuntime) {
+    let mut v = of::<u8, Msb0>(&rt, b"01");
+    assert!(rt; v.len() == 2 && v.capacity() >= 2);
+    shows(&rt, &v, &[0x40]);
+    assert_eq!(rt; v.get(5), None);
+    v.set(0, true);
+    holds(&rt, &v, b"11");
+    let v = of::<u16, Lsb0>(&rt, b"01000000000000001");
+    assert_eq!(rt; v.head(), 0);
+    shows(&rt, &v, &[0x0002, 0x0001]);
+    let v = of::<u32, Msb0>(&rt, b"1");
+    shows(&rt, &v, &[0x8000_0000]);
+    let v = of::<u64, Lsb0>(&rt, b"001");
+    shows(&rt, &v, &[4]);
+    let v = of::<usize, Msb0>(&rt, b"01");
+    shows(&rt, &v, &[1 << 62]);
+}
+
+#[test]
+fn calls_of_a_view(rt: HostRuntime) {
+    let mut v = of::<u16, Msb0>(&rt, b"0110");
+    assert!(rt; v.first() == Some(false) && v.last() == Some(false));
+    assert_eq!(rt; v.count_ones(), 2);
+    let mut ones = 0u8;
+    for bit in v.iter() {
+        ones = ones.saturating_add(bit as u8);
+    }
+    assert_eq!(rt; ones, 2);
+    assert!(rt; v.as_bitslice().len() == 4 && v.as_slice().len() == 4);
+    v.as_mut_bitslice().fill(true);
+    holds(&rt, &v, b"1111");
+    v.as_mut_slice().fill(false);
+    holds(&rt, &v, b"0000");
+    v.fill(true);
+    holds(&rt, &v, b"1111");
+    shows(&rt, &v, &[0xf000]);
+}
+
+#[test]
+fn parts_and_sums(rt: HostRuntime) {
+    let mut v = of::<u8, Lsb0>(&rt, b"0110100101");
+    assert!(rt; v.len() == 10);
+    assert_eq!(rt; v.get_range(2..9).count_ones(), 3);
+    assert_eq!(rt; v.count_zeros(), 5);
+    assert!(rt; v.any() && !v.all());
+    assert!(rt; v[9] && !v[8]);
+    assert!(rt; v.replace(9, false));
+    v.swap(0, 1);
+    holds(&rt, &v, b"1010100100");
+    let mut ones = 0u8;
+    for bit in &v {
+        ones = ones.saturating_add(bit as u8);
+    }
+    assert_eq!(rt; ones, 4);
+}
+
+#[test]
+fn compared_and_combined(rt: HostRuntime) {
+    let mut v = of::<u8, Lsb0>(&rt, b"0011");
+    let short = of::<u32, Msb0>(&rt, b"01");
+    let long = of::<u64, Lsb0>(&rt, b"1111111");
+    assert!(rt; v.len() == 4);
+    assert!(rt; !v.eq_bits(short.as_bitslice()));
+    assert!(rt; v.get_range(1..3).eq_bits(short.as_bitslice()) && short.eq_bits(v.get_range(1..3)));
+    let one = of::<u16, Msb0>(&rt, b"1");
+    assert_eq!(rt; short.cmp_bits(one.as_bitslice()), Ordering::Less);
+    assert_eq!(rt; one.cmp_bits(short.as_bitslice()), Ordering::Greater);
+    v.or_bits(short.as_bitslice());
+    holds(&rt, &v, b"0111");
+    v.and_bits(short.as_bitslice());
+    holds(&rt, &v, b"0100");
+    v.xor_bits(long.as_bitslice());
+    holds(&rt, &v, b"1011");
+    shows(&rt, &v, &[0x0d]);
+}
+
+#[test]
+fn handed_over(rt: HostRuntime) {
+    let mut v = of::<u8, Lsb0>(&rt, b"0110010");
+    assert!(rt; v.len() == 7);
+    let mut splice = v.splice(1..6, None);
+    assert_eq!(rt; splice.next(), Some(true));
+    let mut items = splice.items();
+    assert_eq!(rt; items.size_hint(), (4, Some(4)));
+    assert!(rt; items.next() == Some(true) && items.next_back() == Some(true));
+    assert!(rt; items.len() == 2 && items.nth(1) == Some(false));
+    assert!(rt; items.next().is_none() && items.next_back().is_none());
+    assert!(rt; splice.next().is_none() && splice.len() == 0);
+    ok(&rt, splice.finish());
+    holds(&rt, &v, b"00");
+}
+
+#[test]
+fn over_another(rt: HostRuntime) {
+    let source = of::<u64, Msb0>(&rt, b"10110");
+    let mut v = of::<u8, Lsb0>(&rt, b"00000");
+    assert!(rt; v.len() == 5 && source.len() == 5);
+    v.clone_from_bitslice(source.as_bitslice());
+    holds(&rt, &v, b"10110");
+    ok(&rt, v.clone_from(&BitVec::<u8, Lsb0>::new(rt.alloc())));
+    holds(&rt, &v, b"");
+}
+
+#[test]
+fn numbers_of_five_digits(rt: HostRuntime) {
+    let mut v = BitVec::<u8, Msb0>::new(rt.alloc());
+    ok(&rt, v.push_binary(5, 1));
+    ok(&rt, v.push_binary(5, 31));
+    ok(&rt, v.push_binary(5, 0));
+    shows(&rt, &v, &[0x0f, 0xc0]);
+    assert!(rt; v.len() == 15);
+    assert_eq!(rt; v.read_binary(5, 5), 31);
+    v.write_binary(5, 5, 0);
+    shows(&rt, &v, &[0x08, 0x00]);
+}
+
+#[test]
+fn numbers_of_three_digits(rt: HostRuntime) {
+    let mut v = BitVec::<u8, Lsb0>::new(rt.alloc());
+    ok(&rt, v.push_binary(3, 5));
+    ok(&rt, v.push_binary(3, 3));
+    ok(&rt, v.push_binary(3, 6));
+    shows(&rt, &v, &[0xf5, 0x00]);
+    assert!(rt; v.len() == 9);
+    v.write_binary(3, 3, 0);
+    shows(&rt, &v, &[0xc5, 0x00]);
+}

@@ -1,5 +1,6 @@
 //! Vectors beside plain lists, with memory refused, and at the limits of lengths.
 mod calls;
+mod commands;
 mod limits;
 mod memory;
 mod orders;
@@ -32,5 +33,14 @@ fn holds<T: BitStore, O: BitOrder>(rt: &impl Abort, v: &BitVec<T, O>, digits: &[
     assert!(rt; v.len() == digits.len() && v.get(digits.len()).is_none());
     for (i, digit) in digits.iter().enumerate() {
         assert!(rt; v.get(i) == Some(*digit == b'1'));
+    }
+}
+
+/// That the words of the vector are these.
+fn shows<T: BitStore, O: BitOrder>(rt: &impl Abort, v: &BitVec<T, O>, words: &[T]) {
+    let kept = v.as_raw_slice();
+    assert!(rt; kept.len() == words.len());
+    for (word, want) in kept.iter().zip(words) {
+        assert!(rt; word.to_u64() == want.to_u64());
     }
 }

@@ -2,7 +2,7 @@
 use crate::boxed::BitBox;
 use crate::tests::{holds, of, ok, shows};
 use crate::vec::IntoIter;
-use crate::{BitSlice, BitVec, IntoBitVec, Lsb0, Msb0};
+use crate::{BitSlice, BitVec, IntoBitVec, Lsb0};
 use std::alloc::AllocError;
 
 /// What becomes a vector, as one.
@@ -41,9 +41,4 @@ fn given_up(rt: HostRuntime) {
     assert_eq!(rt; bits.nth_back(1), Some(false));
     assert_eq!(rt; bits.next(), None);
     assert_eq!(rt; bits.next_back(), None);
-    let mut ones = 0u8;
-    for bit in of::<u16, Msb0>(&rt, b"1101") {
-        ones = ones.saturating_add(bit as u8);
-    }
-    assert_eq!(rt; ones, 3);
 }

@@ -31,17 +31,6 @@ fn pulled(rt: HostRuntime) {
     ok(&rt, v.extend_words([3]));
     shows(&rt, &v, &[0x07, 0x00]);
     assert_eq!(rt; v.len(), 9);
-    let v = ok(
-        &rt,
-        BitVec::<u16, Msb0>::from_bits(rt.alloc(), (0..100).map(|i| i % 3 == 0)),
-    );
-    assert!(rt; v.len() == 100 && v.count_ones() == 34);
-    assert!(rt; v.get(66) == Some(true) && v.get(65) == Some(false));
-    let v = ok(
-        &rt,
-        BitVec::<u8, Lsb0>::from_words(rt.alloc(), [0x41, 0x80]),
-    );
-    holds(&rt, &v, b"1000001000000001");
 }
 
 #[test]

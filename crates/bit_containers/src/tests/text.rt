@@ -1,6 +1,6 @@
 //! The text of a vector.
 use crate::tests::{of, ok};
-use crate::{BitOrder, BitSlice, BitStore, BitVec, Lsb0, Msb0};
+use crate::{BitOrder, BitStore, BitVec, Lsb0, Msb0};
 use std::fmt;
 
 #[test]
@@ -53,25 +53,4 @@ fn digits(rt: HostRuntime) {
     );
     let text = ok(&rt, format!(in rt.alloc(); "{y} {o} {x} {u}"));
     assert_eq!(rt; text.as_str(), "[11010] [62] [d0] [D0]");
-}
-
-#[test]
-fn told_apart(rt: HostRuntime) {
-    let v = BitVec::<u8, Lsb0>::new(rt.alloc());
-    assert_eq!(rt;
-        ok(&rt, format!(in rt.alloc(); "{v:?}")).as_str(),
-        "BitVec { head: 0, bits: 0, capacity: 0 } []"
-    );
-    let words = [0x0b];
-    let view = BitSlice::<u8, Lsb0>::from_slice(&words).get_range(1..4);
-    let v = ok(&rt, BitVec::from_bitslice_headed(rt.alloc(), view));
-    let room = v.capacity();
-    let want = ok(
-        &rt,
-        format!(in rt.alloc(); "BitVec {{ head: 1, bits: 3, capacity: {room} }} [1, 0, 1]"),
-    );
-    assert_eq!(rt;
-        ok(&rt, format!(in rt.alloc(); "{v:?}")).as_str(),
-        want.as_str()
-    );
 }

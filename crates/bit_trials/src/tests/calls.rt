@@ -1,17 +1,7 @@
 //! Calls that the sweeps leave out, once each.
-use crate::tests::{holds, of, ok};
-use bit_containers::{BitOrder, BitStore, BitVec, Lsb0, Msb0};
+use crate::tests::{holds, of, ok, shows};
+use bit_containers::{BitSlice, BitVec, Lsb0, Msb0};
 use std::cmp::Ordering;
-use std::process::Abort;
-
-/// That the words of the vector are these.
-fn shows<T: BitStore, O: BitOrder>(rt: &impl Abort, v: &BitVec<T, O>, words: &[T]) {
-    let kept = v.as_raw_slice();
-    assert!(rt; kept.len() == words.len());
-    for (word, want) in kept.iter().zip(words) {
-        assert!(rt; word.to_u64() == want.to_u64());
-    }
-}
 
 #[test]
 fn each_word(rt: HostRuntime) {
@@ -140,4 +130,60 @@ fn numbers_of_three_digits(rt: HostRuntime) {
     assert!(rt; v.len() == 9);
     v.write_binary(3, 3, 0);
     shows(&rt, &v, &[0xc5, 0x00]);
+}
+
+/// Words that become a vector, and are taken out of it, by the traits of conversions.
+#[test]
+fn words_converted(rt: HostRuntime) {
+    let words = ok(&rt, Vec::from_slice(rt.alloc(), &[0x41_u8, 0x80]));
+    let v = BitVec::<u8, Lsb0>::try_from(words);
+    assert!(rt; v.is_ok());
+    let v = v.unwrap_or(BitVec::new(rt.alloc()));
+    holds(&rt, &v, b"1000001000000001");
+    let words: Vec<u8> = v.into();
+    assert!(rt; words.as_slice() == [0x41, 0x80].as_slice());
+}
+
+#[test]
+fn told_apart(rt: HostRuntime) {
+    let v = BitVec::<u8, Lsb0>::new(rt.alloc());
+    assert_eq!(rt;
+        ok(&rt, format!(in rt.alloc(); "{v:?}")).as_str(),
+        "BitVec { head: 0, bits: 0, capacity: 0 } []"
+    );
+    let words = [0x0b];
+    let view = BitSlice::<u8, Lsb0>::from_slice(&words).get_range(1..4);
+    let v = ok(&rt, BitVec::from_bitslice_headed(rt.alloc(), view));
+    let room = v.capacity();
+    let want = ok(
+        &rt,
+        format!(in rt.alloc(); "BitVec {{ head: 1, bits: 3, capacity: {room} }} [1, 0, 1]"),
+    );
+    assert_eq!(rt;
+        ok(&rt, format!(in rt.alloc(); "{v:?}")).as_str(),
+        want.as_str()
+    );
+}
+
+/// Bits that are mapped, words, and every second bit of three hundred.
+#[test]
+fn longer_lists(rt: HostRuntime) {
+    let v = ok(
+        &rt,
+        BitVec::<u16, Msb0>::from_bits(rt.alloc(), (0..100).map(|i| i % 3 == 0)),
+    );
+    assert!(rt; v.len() == 100 && v.count_ones() == 34);
+    assert!(rt; v.get(66) == Some(true) && v.get(65) == Some(false));
+    let v = ok(
+        &rt,
+        BitVec::<u8, Lsb0>::from_words(rt.alloc(), [0x41, 0x80]),
+    );
+    holds(&rt, &v, b"1000001000000001");
+    let mut v = ok(
+        &rt,
+        BitVec::<u8, Lsb0>::from_bits(rt.alloc(), (0..300).map(|i| i % 3 == 0)),
+    );
+    v.retain(|i, _| i % 2 == 0);
+    assert!(rt; v.len() == 150 && v.count_ones() == 50);
+    assert!(rt; v.get(147) == Some(true) && v.get(148) == Some(false));
 }

@@ -1,7 +1,6 @@
-//! Examples, each public call once, and calls at every head of a byte beside plain lists.
+//! Examples, and each public call once.
 
 mod moves;
 mod orders;
 mod rows;
-mod sweeps;
 mod words;

@@ -1,7 +1,4 @@
 //! Examples, and each public call once.
-mod orders;
-mod sweeps;
-
 use crate::{BitArray, BitViewSized, BitWords, IntoIter, TryFromBitSliceError};
 use bit_addressing::{BitOrder, Lsb0, Msb0};
 use bit_slice::BitSlice;

@@ -1,9 +1,6 @@
 //! Examples, and each public call once.
 mod memory;
-mod orders;
-mod sweeps;
 
-use crate::tests::orders::{Scramble, Xor4};
 use crate::{BitBox, IntoIter};
 use bit_addressing::{BitOrder, BitStore, Lsb0, Msb0};
 use bit_array::BitArray;
@@ -42,47 +39,45 @@ fn ok<V, E>(rt: &impl Abort, answer: Result<V, E>) -> V {
 }
 
 #[test]
-fn copied_with_a_head(rt: HostRuntime) -> Result<(), Fail> {
+fn copied_with_a_head(rt: HostRuntime) {
     let words = [0xb5_u8];
     let view = BitSlice::<u8, Msb0>::from_slice(&words).get_range(2..6);
-    let mut b = BitBox::from_bitslice_headed(rt.alloc(), view)?;
+    let mut b = ok(&rt, BitBox::from_bitslice_headed(rt.alloc(), view));
     shows(&rt, &b, &[0x34]);
     assert_eq!(rt; b.head(), 2);
     holds(&rt, &b, b"1101");
     b.fill_uninitialized(true);
     shows(&rt, &b, &[0xf7]);
-    let mut b = BitBox::from_bitslice_headed(rt.alloc(), view)?;
+    let mut b = ok(&rt, BitBox::from_bitslice_headed(rt.alloc(), view));
     b.force_align();
     shows(&rt, &b, &[0xd4]);
     assert_eq!(rt; b.head(), 0);
     holds(&rt, &b, b"1101");
     b.fill_uninitialized(false);
     shows(&rt, &b, &[0xd0]);
-    Ok(())
 }
 
 #[test]
-fn copied_from_the_beginning(rt: HostRuntime) -> Result<(), Fail> {
+fn copied_from_the_beginning(rt: HostRuntime) {
     let words = [0xb5_u8];
     let view = BitSlice::<u8, Msb0>::from_slice(&words).get_range(2..6);
-    let mut b = BitBox::from_bitslice(rt.alloc(), view)?;
+    let mut b = ok(&rt, BitBox::from_bitslice(rt.alloc(), view));
     shows(&rt, &b, &[0xd0]);
     assert_eq!(rt; b.head(), 0);
     b.fill_uninitialized(true);
     shows(&rt, &b, &[0xdf]);
-    let copy = b.clone()?;
+    let copy = ok(&rt, b.clone());
     shows(&rt, &copy, &[0xd0]);
     assert!(rt; copy == b);
     b.force_align();
     shows(&rt, &b, &[0xdf]);
-    Ok(())
 }
 
 #[test]
-fn all_words_are_kept(rt: HostRuntime) -> Result<(), Fail> {
+fn all_words_are_kept(rt: HostRuntime) {
     let words = [0xa8_u8, 0x07];
     let view = BitSlice::<u8, Lsb0>::from_slice(&words).get_range(3..11);
-    let mut b = BitBox::from_bitslice_headed(rt.alloc(), view)?;
+    let mut b = ok(&rt, BitBox::from_bitslice_headed(rt.alloc(), view));
     b.force_align();
     shows(&rt, &b, &[0xf5, 0x07]);
     b.fill_uninitialized(false);
@@ -91,7 +86,6 @@ fn all_words_are_kept(rt: HostRuntime) -> Result<(), Fail> {
     assert_eq!(rt; b.len(), 8);
     b.as_mut_bitslice().set(1, true);
     assert_eq!(rt; b.into_boxed_slice().as_slice(), [0xf7, 0x00].as_slice());
-    Ok(())
 }
 
 #[test]
@@ -124,12 +118,11 @@ fn made_of_words(rt: HostRuntime) -> Result<(), Fail> {
 }
 
 #[test]
-fn pulled(rt: HostRuntime) -> Result<(), Fail> {
+fn pulled(rt: HostRuntime) {
     let bits = [true, false, true, false, false, false, false, false, true];
-    let b = BitBox::<u8, Lsb0>::from_bits(rt.alloc(), bits)?;
+    let b = ok(&rt, BitBox::<u8, Lsb0>::from_bits(rt.alloc(), bits));
     shows(&rt, &b, &[0x05, 0x01]);
     assert!(rt; b.len() == 9 && b.head() == 0);
-    Ok(())
 }
 
 #[test]
@@ -149,25 +142,40 @@ fn written(rt: HostRuntime) -> Result<(), Fail> {
 }
 
 #[test]
-fn combined(rt: HostRuntime) -> Result<(), Fail> {
+fn combined(rt: HostRuntime) {
     let long = [0xfc_u8, 0xff];
     let four = BitSlice::<u8, Lsb0>::from_slice(&long).get_range(0..4);
     let short = [0x02_u8];
     let two = BitSlice::<u8, Lsb0>::from_slice(&short).get_range(0..2);
-    let left = BitBox::from_bitslice(rt.alloc(), four)?;
-    let right = BitBox::from_bitslice(rt.alloc(), two)?;
-    holds(&rt, &(left.clone()? & right.clone()?), b"0000");
-    holds(&rt, &(left.clone()? | right.clone()?), b"0111");
-    holds(&rt, &(left.clone()? ^ right.clone()?), b"0111");
+    let left = ok(&rt, BitBox::from_bitslice(rt.alloc(), four));
+    let right = ok(&rt, BitBox::from_bitslice(rt.alloc(), two));
+    holds(
+        &rt,
+        &(ok(&rt, left.clone()) & ok(&rt, right.clone())),
+        b"0000",
+    );
+    holds(
+        &rt,
+        &(ok(&rt, left.clone()) | ok(&rt, right.clone())),
+        b"0111",
+    );
+    holds(
+        &rt,
+        &(ok(&rt, left.clone()) ^ ok(&rt, right.clone())),
+        b"0111",
+    );
     let ones = [0xff_u8];
-    let ones = BitBox::from_bitslice(
-        rt.alloc(),
-        BitSlice::<u8, Lsb0>::from_slice(&ones).get_range(3..7),
-    )?;
-    let mut both = right.clone()?;
-    both &= ones.clone()?;
+    let ones = ok(
+        &rt,
+        BitBox::from_bitslice(
+            rt.alloc(),
+            BitSlice::<u8, Lsb0>::from_slice(&ones).get_range(3..7),
+        ),
+    );
+    let mut both = ok(&rt, right.clone());
+    both &= ok(&rt, ones.clone());
     holds(&rt, &both, b"01");
-    both ^= ones.clone()?;
+    both ^= ok(&rt, ones.clone());
     holds(&rt, &both, b"10");
     both |= ones;
     holds(&rt, &both, b"11");
@@ -175,15 +183,20 @@ fn combined(rt: HostRuntime) -> Result<(), Fail> {
     holds(&rt, &flipped, b"10");
     shows(&rt, &flipped, &[0xfd]);
     shows(&rt, &!flipped, &[0x02]);
-    Ok(())
 }
 
 #[test]
-fn compared(rt: HostRuntime) -> Result<(), Fail> {
+fn compared(rt: HostRuntime) {
     let words = [0xa8_u8, 0x07];
     let view = BitSlice::<u8, Lsb0>::from_slice(&words);
-    let headed = BitBox::from_bitslice_headed(rt.alloc(), view.get_range(3..11))?;
-    let aligned = BitBox::<u8, Lsb0>::from_box(rt.alloc(), Box::new(rt.alloc(), 0xf5)?)?;
+    let headed = ok(
+        &rt,
+        BitBox::from_bitslice_headed(rt.alloc(), view.get_range(3..11)),
+    );
+    let aligned = ok(
+        &rt,
+        BitBox::<u8, Lsb0>::from_box(rt.alloc(), ok(&rt, Box::new(rt.alloc(), 0xf5))),
+    );
     assert!(rt; headed == aligned && headed.cmp(&aligned) == Ordering::Equal);
     let (mut one, mut other) = (DefaultHasher::new(), DefaultHasher::new());
     headed.hash(&mut one);
@@ -191,11 +204,10 @@ fn compared(rt: HostRuntime) -> Result<(), Fail> {
     assert_eq!(rt; one.finish(), other.finish());
     let zeros = [0x00_u8];
     let view = BitSlice::<u8, Lsb0>::from_slice(&zeros);
-    let short = BitBox::from_bitslice(rt.alloc(), view.get_range(0..1))?;
-    let long = BitBox::from_bitslice(rt.alloc(), view.get_range(0..2))?;
+    let short = ok(&rt, BitBox::from_bitslice(rt.alloc(), view.get_range(0..1)));
+    let long = ok(&rt, BitBox::from_bitslice(rt.alloc(), view.get_range(0..2)));
     assert!(rt; short != long && short < long);
     assert_eq!(rt; long.partial_cmp(&short), Some(Ordering::Greater));
-    Ok(())
 }
 
 /// How a box is written in a radix.
@@ -223,25 +235,27 @@ impl<T: BitStore, O: BitOrder> fmt::Display for In<'_, T, O> {
 }
 
 #[test]
-fn texts(rt: HostRuntime) -> Result<(), Fail> {
+fn texts(rt: HostRuntime) {
     let words = [0x0b_u8];
     let view = BitSlice::<u8, Lsb0>::from_slice(&words).get_range(0..5);
-    let b = BitBox::from_bitslice(rt.alloc(), view)?;
+    let b = ok(&rt, BitBox::from_bitslice(rt.alloc(), view));
     let (y, o, x, u) = (
         In(&b, Radix::Binary),
         In(&b, Radix::Octal),
         In(&b, Radix::LowerHex),
         In(&b, Radix::UpperHex),
     );
-    let text = format!(in rt.alloc(); "{b} {y} {o} {x} {u}")?;
+    let text = ok(&rt, format!(in rt.alloc(); "{b} {y} {o} {x} {u}"));
     assert_eq!(rt; text.as_str(), "[1, 1, 0, 1, 0] [11010] [62] [d0] [D0]");
-    let headed = BitBox::from_bitslice_headed(rt.alloc(), view.get_range(1..4))?;
-    let text = format!(in rt.alloc(); "{headed:?} {headed:>9}")?;
+    let headed = ok(
+        &rt,
+        BitBox::from_bitslice_headed(rt.alloc(), view.get_range(1..4)),
+    );
+    let text = ok(&rt, format!(in rt.alloc(); "{headed:?} {headed:>9}"));
     assert_eq!(rt;
         text.as_str(),
         "BitBox { head: 1, bits: 3 } [1, 0, 1] [1, 0, 1]"
     );
-    Ok(())
 }
 
 #[test]
@@ -249,15 +263,15 @@ fn texts(rt: HostRuntime) -> Result<(), Fail> {
 fn iterated(rt: HostRuntime) -> Result<(), Fail> {
     let words = [0x26_u8];
     let view = BitSlice::<u8, Lsb0>::from_slice(&words).get_range(0..6);
-    let b = BitBox::from_bitslice(rt.alloc(), view)?;
+    let b = ok(&rt, BitBox::from_bitslice(rt.alloc(), view));
     assert_eq!(rt; b.iter().rev().filter(|bit| *bit).count(), 3);
     assert_eq!(rt; (&b).into_iter().len(), 6);
     let mut bits = b.into_iter();
     assert!(rt; bits.next() == Some(false) && bits.next_back() == Some(true));
-    let text = format!(in rt.alloc(); "{bits:?}")?;
+    let text = ok(&rt, format!(in rt.alloc(); "{bits:?}"));
     assert_eq!(rt; text.as_str(), "IntoIter([1, 1, 0, 0])");
     assert!(rt; bits.as_bitslice().count_ones() == 2 && bits.as_slice().len() == 4);
-    let copy = bits.clone()?;
+    let copy = ok(&rt, bits.clone());
     assert_eq!(rt; copy.size_hint(), (4, Some(4)));
     assert!(rt; bits.nth(1) == Some(true) && bits.nth_back(1) == Some(false));
     assert!(rt; bits.next().is_none() && bits.next_back().is_none() && bits.len() == 0);
@@ -267,38 +281,18 @@ fn iterated(rt: HostRuntime) -> Result<(), Fail> {
 }
 
 #[test]
-fn empty_behind_a_head(rt: HostRuntime) -> Result<(), Fail> {
+fn empty_behind_a_head(rt: HostRuntime) {
     let words = [0xff_u8];
     let view = BitSlice::<u8, Lsb0>::from_slice(&words).get_range(5..5);
-    let mut b = BitBox::from_bitslice_headed(rt.alloc(), view)?;
+    let mut b = ok(&rt, BitBox::from_bitslice_headed(rt.alloc(), view));
     shows(&rt, &b, &[0]);
     b.fill_uninitialized(true);
     shows(&rt, &b, &[0xff]);
-    let b = !BitBox::from_bitslice_headed(rt.alloc(), view)?;
+    let b = !ok(&rt, BitBox::from_bitslice_headed(rt.alloc(), view));
     shows(&rt, &b, &[0xff]);
-    let mut b = BitBox::from_bitslice_headed(rt.alloc(), view)?;
+    let mut b = ok(&rt, BitBox::from_bitslice_headed(rt.alloc(), view));
     b.force_align();
     assert_eq!(rt; b.head(), 0);
     shows(&rt, &b, &[0]);
     assert_eq!(rt; b.as_bitslice().as_raw_slice(), [].as_slice());
-    Ok(())
-}
-
-#[test]
-fn by_orders_of_a_user(rt: HostRuntime) -> Result<(), Fail> {
-    let words: BoxedSlice<u8> = vec![in rt.alloc(); 0xb1, 0x6d]?.into_boxed_slice();
-    let Ok(mut b) = BitBox::<u8, Xor4>::try_from_boxed_slice(words) else {
-        panic!(rt; "two words have few bits");
-    };
-    assert_eq!(rt; b.len(), 16);
-    b.copy_within(1..12, 3);
-    shows(&rt, &b, &[0xb6, 0x8d]);
-    let bits = [true, true, false, false, true];
-    let b = BitBox::<u8, Xor4>::from_bits(rt.alloc(), bits)?;
-    shows(&rt, &b, &[0x31]);
-    let b = BitBox::<u8, Scramble>::from_bits(rt.alloc(), bits)?;
-    shows(&rt, &b, &[0x89]);
-    let b = BitBox::<u16, Scramble>::from_bits(rt.alloc(), bits)?;
-    shows(&rt, &b, &[0x0188]);
-    Ok(())
 }

@@ -6,7 +6,6 @@ mod edits;
 mod growing;
 mod moves;
 mod operators;
-mod orders;
 mod removing;
 mod text;
 mod words;

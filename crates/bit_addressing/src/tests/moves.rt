@@ -1,9 +1,8 @@
 //! Moves, whose reads and writes contracts count.
 ghost use Rattle.std.specs.Prelude.{◌≡◌, ◌+◌, ◌*◌, ◌≤◌, length};
 
-use crate::tests::orders::{Scramble, Xor4};
-use crate::{BitIdx, BitOrder, BitStore, Lsb0, Msb0, WordRead, WordRow, move_bits};
-use std::process::Abort;
+use crate::tests::orders::Xor4;
+use crate::{BitOrder, BitStore, Lsb0, Msb0, WordRead, WordRow, move_bits};
 
 // 11 bits over an edge touch two words.
 fn move_up(row: &mut WordRow<u8>)
@@ -136,55 +135,4 @@ fn read_thrice(words: &mut WordRead<u8>) -> u8
 fn counted_reads(rt: HostRuntime) {
     let mut words = WordRead::new(&[0xb1, 0x6d]);
     assert_eq!(rt; read_thrice(&mut words), 0x6d);
-}
-
-/// The 24 bits of three words, one by one.
-fn bits_of_three<O: BitOrder>(words: [u8; 3]) -> [bool; 24] {
-    let mut bits = [false; 24];
-    for (k, word) in words.iter().enumerate() {
-        for i in 0..8 {
-            if let Some(bit) = bits.get_mut(k * 8 + i as usize) {
-                *bit = word.bit(O::at(BitIdx::<u8>::new_unchecked(i)).into_inner());
-            }
-        }
-    }
-    bits
-}
-
-/// The bits after a run was moved, as a list is copied within.
-fn moved(before: [bool; 24], src: usize, dst: usize, n: usize) -> [bool; 24]
-    requires from { src + n ≤ 24 }
-    requires to { dst + n ≤ 24 }
-{
-    let mut after = before;
-    for k in 0..n {
-        after[dst + k] = before[src + k];
-    }
-    after
-}
-
-/// Makes each move within three words, by an order, and counts them.
-fn every_move<O: BitOrder>(rt: &impl Abort) -> usize {
-    let words = [0xb1, 0x6d, 0x2e];
-    let before = bits_of_three::<O>(words);
-    let mut count = 0usize;
-    for n in 0..=24 {
-        for src in 0..=24 - n {
-            for dst in 0..=24 - n {
-                let mut now = words;
-                move_bits::<u8, O>(&mut now, src, dst, n);
-                assert!(rt; bits_of_three::<O>(now) == moved(before, src, dst, n));
-                count = count.wrapping_add(1);
-            }
-        }
-    }
-    count
-}
-
-#[test]
-fn every_move_within_three_words(rt: HostRuntime) {
-    assert_eq!(rt; every_move::<Lsb0>(&rt), 5525);
-    assert_eq!(rt; every_move::<Msb0>(&rt), 5525);
-    assert_eq!(rt; every_move::<Xor4>(&rt), 5525);
-    assert_eq!(rt; every_move::<Scramble>(&rt), 5525);
 }

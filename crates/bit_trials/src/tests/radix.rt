@@ -1,8 +1,7 @@
-//! Vectors in a radix, as text.
-use bit_containers::{BitOrder, BitStore, BitVec};
+//! Containers in a radix, as text.
 use std::fmt;
 
-/// How a vector is written in a radix.
+/// How bits are written in a radix.
 #[derive(Drop)]
 pub(crate) enum Radix {
     Binary,
@@ -11,11 +10,11 @@ pub(crate) enum Radix {
     UpperHex,
 }
 
-/// A vector, in a radix.
+/// A container, in a radix.
 #[derive(Drop)]
-pub(crate) struct In<'a, T: BitStore, O: BitOrder>(pub(crate) &'a BitVec<T, O>, pub(crate) Radix);
+pub(crate) struct In<'a, D>(pub(crate) &'a D, pub(crate) Radix);
 
-impl<T: BitStore, O: BitOrder> fmt::Display for In<'_, T, O> {
+impl<D: fmt::Binary + fmt::Octal + fmt::LowerHex + fmt::UpperHex> fmt::Display for In<'_, D> {
     fn fmt<W: fmt::Write>(&self, f: &mut fmt::Formatter<W>) -> fmt::Result {
         match self.1 {
             Radix::Binary => fmt::Binary::fmt(self.0, f),

@@ -1,12 +1,17 @@
 //! Each call behind every head of a byte, at every length up to 17 bits, beside plain lists.
 ghost use Rattle.std.specs.Prelude.{◌+◌, ◌<◌};
 
+mod arrays;
+mod boxes;
 mod edits;
 mod growing;
 mod making;
+mod moves;
 mod pairs;
 mod ranges;
 mod reading;
+mod rows;
+mod views;
 mod words;
 
 use crate::tests::ok;
@@ -43,6 +48,19 @@ fn row_of<T: BitStore, O: BitOrder>(rt: &(impl Abort + AllocGlobal), words: &[T]
         for i in 0..T::BITS {
             let place = O::at(BitIdx::<T>::new_unchecked(i)).into_inner();
             ok(rt, bits.push(word.bit(place)));
+        }
+    }
+    bits
+}
+
+/// The bits of three bytes, one by one.
+fn bits_of<O: BitOrder>(words: [u8; 3]) -> [bool; 24] {
+    let mut bits = [false; 24];
+    for (k, word) in words.iter().enumerate() {
+        for i in 0..8 {
+            if let Some(bit) = bits.get_mut(k * 8 + i as usize) {
+                *bit = word.bit(O::at(BitIdx::<u8>::new_unchecked(i)).into_inner());
+            }
         }
     }
     bits

@@ -2,23 +2,11 @@
 ghost use Rattle.std.specs.Prelude.{◌+◌, ◌≤◌};
 
 use crate::tests::orders::{Scramble, Xor4};
-use crate::{BitSlice, run_mut};
-use bit_addressing::{BitIdx, BitOrder, BitStore, Lsb0, Msb0};
+use crate::tests::sweeps::bits_of;
+use bit_addressing::{BitOrder, Lsb0, Msb0};
+use bit_slice::{BitSlice, run_mut};
 use std::cmp::Ordering;
 use std::process::Abort;
-
-/// The bits of three words, one by one.
-fn bits_of<O: BitOrder>(words: [u8; 3]) -> [bool; 24] {
-    let mut bits = [false; 24];
-    for (k, word) in words.iter().enumerate() {
-        for i in 0..8 {
-            if let Some(bit) = bits.get_mut(k * 8 + i as usize) {
-                *bit = word.bit(O::at(BitIdx::<u8>::new_unchecked(i)).into_inner());
-            }
-        }
-    }
-    bits
-}
 
 /// The calls that read one bit after another.
 fn items<O: BitOrder>(rt: &impl Abort, words: [u8; 3], head: usize, len: usize)

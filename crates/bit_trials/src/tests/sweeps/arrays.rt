@@ -1,23 +1,17 @@
 //! Arrays of one to three words, by four orders, beside plain loops over lists.
+use crate::tests::ok;
 use crate::tests::orders::{Scramble, Xor4};
-use crate::{BitArray, BitViewSized};
-use bit_addressing::{BitIdx, BitOrder, BitStore, Lsb0, Msb0};
-use std::alloc::{AllocError, Global};
+use crate::tests::sweeps::row_of;
+use bit_addressing::{BitOrder, Lsb0, Msb0};
+use bit_array::{BitArray, BitViewSized};
 use std::process::Abort;
-use std::test::Fail;
 
 /// The bits of the words, one by one.
 fn list_of<A: BitViewSized, O: BitOrder>(
-    alloc: Global,
+    rt: &(impl Abort + AllocGlobal),
     a: &BitArray<A, O>,
-) -> Result<Vec<bool>, AllocError> {
-    let mut bits = Vec::new(alloc);
-    for word in a.as_raw_slice() {
-        for i in 0..A::Store::BITS {
-            bits.push(word.bit(O::at(BitIdx::<A::Store>::new_unchecked(i)).into_inner()))?;
-        }
-    }
-    Ok(bits)
+) -> Vec<bool> {
+    row_of::<A::Store, O>(rt, a.as_raw_slice())
 }
 
 /// Whether every call that reads says that the array has these bits.
@@ -36,12 +30,9 @@ fn shows<A: BitViewSized, O: BitOrder>(a: &BitArray<A, O>, list: &[bool]) -> boo
 }
 
 /// One bit written, all bits, and all flipped.
-fn written<A: BitViewSized, O: BitOrder>(
-    rt: &(impl Abort + AllocGlobal),
-    a: &BitArray<A, O>,
-) -> Result<(), Fail> {
-    let mut a = a.clone()?;
-    let mut list = list_of(rt.alloc(), &a)?;
+fn written<A: BitViewSized, O: BitOrder>(rt: &(impl Abort + AllocGlobal), a: &BitArray<A, O>) {
+    let mut a = ok(rt, a.clone());
+    let mut list = list_of(rt, &a);
     assert!(rt; shows(&a, &list));
     for i in 0..a.len() {
         for bit in [false, true] {
@@ -51,7 +42,7 @@ fn written<A: BitViewSized, O: BitOrder>(
             if let Some(item) = list.get_mut(i) {
                 *item = bit;
             }
-            assert!(rt; list_of(rt.alloc(), &a)? == list);
+            assert!(rt; list_of(rt, &a) == list);
         }
     }
     assert!(rt; shows(&a, &list));
@@ -59,28 +50,23 @@ fn written<A: BitViewSized, O: BitOrder>(
     assert!(rt; a.count_ones() == 0);
     a.flip_all();
     assert!(rt; a.count_ones() == a.len());
-    Ok(())
 }
 
 /// Each range of at most five bits copied to each place.
-fn moved<A: BitViewSized, O: BitOrder>(
-    rt: &(impl Abort + AllocGlobal),
-    a: &BitArray<A, O>,
-) -> Result<(), Fail> {
-    let before = list_of(rt.alloc(), a)?;
+fn moved<A: BitViewSized, O: BitOrder>(rt: &(impl Abort + AllocGlobal), a: &BitArray<A, O>) {
+    let before = list_of(rt, a);
     let len = a.len();
     for from in 0..len {
         for count in 0..6.min(len - from + 1) {
             for dest in 0..len - count + 1 {
-                let mut a = a.clone()?;
+                let mut a = ok(rt, a.clone());
                 assert!(rt; from + count <= a.len() && dest + count <= a.len());
                 a.copy_within(from..from + count, dest);
-                let after = list_of(rt.alloc(), &a)?;
+                let after = list_of(rt, &a);
                 assert!(rt; is_moved(&before, &after, from, count, dest));
             }
         }
     }
-    Ok(())
 }
 
 /// Whether `after` is `before` with the `count` items from `from` on at the places from `dest` on.
@@ -102,11 +88,11 @@ fn combined<A: BitViewSized, O: BitOrder>(
     rt: &(impl Abort + AllocGlobal),
     a: &BitArray<A, O>,
     b: &BitArray<A, O>,
-) -> Result<(), Fail> {
-    let both = list_of(rt.alloc(), &(a.clone()? & b.clone()?))?;
-    let some = list_of(rt.alloc(), &(a.clone()? | b.clone()?))?;
-    let one = list_of(rt.alloc(), &(a.clone()? ^ b.clone()?))?;
-    let none = list_of(rt.alloc(), &!a.clone()?)?;
+) {
+    let both = list_of(rt, &(ok(rt, a.clone()) & ok(rt, b.clone())));
+    let some = list_of(rt, &(ok(rt, a.clone()) | ok(rt, b.clone())));
+    let one = list_of(rt, &(ok(rt, a.clone()) ^ ok(rt, b.clone())));
+    let none = list_of(rt, &!ok(rt, a.clone()));
     for i in 0..a.len() {
         let (x, y) = (a.get(i) == Some(true), b.get(i) == Some(true));
         assert!(rt; both.get(i).copied() == Some(x && y));
@@ -114,7 +100,6 @@ fn combined<A: BitViewSized, O: BitOrder>(
         assert!(rt; one.get(i).copied() == Some(x != y));
         assert!(rt; none.get(i).copied() == Some(!x));
     }
-    Ok(())
 }
 
 /// All of it, over two arrays.
@@ -122,28 +107,28 @@ fn every_call<A: BitViewSized, O: BitOrder>(
     rt: &(impl Abort + AllocGlobal),
     a: &BitArray<A, O>,
     b: &BitArray<A, O>,
-) -> Result<(), Fail> {
-    written(rt, a)?;
-    moved(rt, b)?;
-    combined(rt, a, b)
+) {
+    written(rt, a);
+    moved(rt, b);
+    combined(rt, a, b);
 }
 
 #[test]
-fn each_order(rt: HostRuntime) -> Result<(), Fail> {
+fn each_order(rt: HostRuntime) {
     every_call(
         &rt,
         &BitArray::<[u8; 3], Msb0>::new([0xb1, 0x6d, 0x02]),
         &BitArray::new([0x5a, 0xc3, 0xf0]),
-    )?;
+    );
     every_call(
         &rt,
         &BitArray::<[u16; 2], Xor4>::new([0xb16d, 0x02f1]),
         &BitArray::new([0x5ac3, 0xf00d]),
-    )?;
+    );
     every_call(
         &rt,
         &BitArray::<u32, Scramble>::new(0xb16d_02f1),
         &BitArray::new(0x5ac3_f00d),
-    )?;
-    every_call(&rt, &BitArray::<[u8; 0], Lsb0>::new([]), &BitArray::new([]))
+    );
+    every_call(&rt, &BitArray::<[u8; 0], Lsb0>::new([]), &BitArray::new([]));
 }

@@ -1,0 +1,144 @@
+//! What a box gives: its bits from both ends, its text, its words, copies of it.
+ghost use Rattle.std.specs.Prelude.{◌+◌, ◌<◌};
+
+use crate::tests::ok;
+use crate::tests::radix::{In, Radix};
+use crate::tests::sweeps::boxes::{copied, owned, shows};
+use bit_addressing::{BitOrder, BitStore};
+use bit_boxed::{BitBox, IntoIter};
+use std::process::Abort;
+
+/// Copies, from head 0 on, of the list alone; the words given up and taken back.
+pub(crate) fn taken<T: BitStore, O: BitOrder>(rt: &(impl Abort + AllocGlobal), b: BitBox<T, O>) {
+    let (head, len) = (b.head(), b.len());
+    assert!(rt; head < 8 && len < 18);
+    let row = owned(rt, &b);
+    for copy in [
+        ok(rt, b.clone()),
+        ok(rt, BitBox::from_bitslice(rt.alloc(), b.as_bitslice())),
+        ok(rt, BitBox::from_bits(rt.alloc(), b.iter())),
+    ] {
+        let clean = owned(rt, &copy);
+        assert!(rt; shows(&copy, &clean, 0, len) && copy == b);
+        assert!(rt; clean.len() < len + T::BITS as usize);
+        for (j, bit) in clean.iter().enumerate() {
+            let wanted = j < len && row.get(head.wrapping_add(j)).copied().unwrap_or(false);
+            assert!(rt; *bit == wanted);
+        }
+    }
+    let words = b.into_boxed_slice();
+    let Ok(back) = BitBox::<T, O>::try_from_boxed_slice(words) else {
+        panic!(rt; "some words have few bits");
+    };
+    assert!(rt; back.len() < 100 && back.len() == row.len());
+    assert!(rt; shows(&back, &row, 0, back.len()));
+}
+
+/// The digits of a list, one for each group of so many bits, where the bit that comes first weighs most.
+fn digits_of<T: BitStore, O: BitOrder>(
+    rt: &(impl Abort + AllocGlobal),
+    b: &BitBox<T, O>,
+    width: u8,
+    digits: &[u8],
+) -> Vec<u8> {
+    let mut text = Vec::new(rt.alloc());
+    ok(rt, text.push(b'['));
+    let (mut value, mut held) = (0u8, 0u8);
+    for bit in b.iter() {
+        value = value.wrapping_mul(2).wrapping_add(bit as u8);
+        held = held.wrapping_add(1);
+        if held == width {
+            ok(
+                rt,
+                text.push(digits.get(value as usize).copied().unwrap_or(0)),
+            );
+            (value, held) = (0, 0);
+        }
+    }
+    if held > 0 {
+        ok(
+            rt,
+            text.push(digits.get(value as usize).copied().unwrap_or(0)),
+        );
+    }
+    ok(rt, text.push(b']'));
+    text
+}
+
+/// The text of a box, and its digits by one, three and four bits.
+pub(crate) fn told<T: BitStore, O: BitOrder>(rt: &(impl Abort + AllocGlobal), b: &BitBox<T, O>) {
+    let mut list = String::new(rt.alloc());
+    ok(rt, list.push_str("["));
+    for (i, bit) in b.iter().enumerate() {
+        ok(rt, list.push_str(if i > 0 { ", " } else { "" }));
+        ok(rt, list.push_str(if bit { "1" } else { "0" }));
+    }
+    ok(rt, list.push_str("]"));
+    let text = ok(rt, format!(in rt.alloc(); "{b}"));
+    assert_eq!(rt; text.as_str(), list.as_str());
+    for (radix, width, digits) in [
+        (Radix::Binary, 1, b"01".as_slice()),
+        (Radix::Octal, 3, b"01234567"),
+        (Radix::LowerHex, 4, b"0123456789abcdef"),
+        (Radix::UpperHex, 4, b"0123456789ABCDEF"),
+    ] {
+        let wanted = digits_of(rt, b, width, digits);
+        let written = In(b, radix);
+        let text = ok(rt, format!(in rt.alloc(); "{written}"));
+        assert_eq!(rt; text.as_bytes(), wanted.as_slice());
+    }
+}
+
+/// What is left of a list from one place up to another: read, copied, and written through the view of it.
+fn left<T: BitStore, O: BitOrder>(
+    rt: &(impl Abort + AllocGlobal),
+    bits: IntoIter<T, O>,
+    list: &[bool],
+) {
+    let mut bits = bits;
+    assert!(rt; bits.len() == list.len() && bits.as_slice().len() == list.len());
+    let mut copy = ok(rt, bits.clone());
+    for (i, bit) in list.iter().enumerate() {
+        assert!(rt; copy.next() == Some(*bit) && bits.as_bitslice().get(i) == Some(*bit));
+        let mut view = bits.as_mut_bitslice();
+        if i < view.len() {
+            view.set(i, !*bit);
+        }
+    }
+    assert!(rt; copy.next().is_none() && copy.next_back().is_none());
+    for bit in list {
+        assert!(rt; bits.next() == Some(!*bit));
+    }
+    assert!(rt; bits.next().is_none() && bits.next_back().is_none() && bits.len() == 0);
+}
+
+/// The bits one by one from both ends, past the end too.
+pub(crate) fn given<T: BitStore, O: BitOrder>(rt: &(impl Abort + AllocGlobal), b: &BitBox<T, O>) {
+    let len = b.len();
+    assert!(rt; len < 18);
+    let mut list = Vec::new(rt.alloc());
+    for bit in b {
+        ok(rt, list.push(bit));
+    }
+    assert!(rt; list.len() == len);
+    for front in 0..len + 2 {
+        for back in 0..len + 2 {
+            let mut bits = copied(rt, b).into_iter();
+            let from = len.min(front + 1);
+            assert!(rt; bits.nth(front) == list.get(front).copied());
+            let upto = if back < len - from {
+                len - 1 - back
+            } else {
+                from
+            };
+            let last = if back < len - from {
+                list.get(upto).copied()
+            } else {
+                None
+            };
+            assert!(rt; bits.nth_back(back) == last);
+            assert!(rt; from <= upto && upto <= list.len());
+            left(rt, bits, &list[from..upto]);
+        }
+    }
+}

@@ -5,6 +5,7 @@ ghost use Rattle.bit_addressing.specs.Row.{row_bit, row_of, moved};
 ghost use Rattle.bit_addressing.specs.declared.length.TheConstants.{MAX_BITS};
 ghost use Rattle.bit_addressing.specs.Typed.{row};
 
+use crate::bits::chunks::goes_by_shifts;
 use crate::index::{BitEnd, BitIdx};
 use crate::order::BitOrder;
 use crate::store::BitStore;
@@ -123,6 +124,68 @@ fn shift_up<T: BitStore, O: BitOrder>(
     }
 }
 
+/// Moves the bits from index `at` of word `begin` on to the `count` whole words from word `first` on. Each loop is
+/// inlined and compiled for its case: words that are neighbours, and words that are not.
+#[inline(always)]
+fn shift_words<T: BitStore, O: BitOrder>(
+    row: &mut WordRow<T>,
+    begin: usize,
+    at: u8,
+    first: usize,
+    count: usize,
+)
+    requires within { at < T.BITS }
+    requires target { first + count ≤ length row.old.words.now }
+    requires source { begin + count < length row.old.words.now }
+    ensures same_words { row.new.words.ghost_name ≡ row.old.words.ghost_name }
+    ensures size { length row.new.words.now ≡ length row.old.words.now }
+    ensures bits { row_of O.place T.BITS (map T.value row.new.words.now) ≡ moved (row_of O.place T.BITS (map T.value row.old.words.now)) (begin * T.BITS + at) (first * T.BITS) (count * T.BITS) }
+    ensures reads { row.new.meter.reads ≡ row.old.meter.reads + 2 * count }
+    ensures writes { row.new.meter.writes ≡ row.old.meter.writes + count }
+{
+    let index = BitIdx::<T>::new_unchecked(at);
+    if first < begin {
+        shift_down::<T, O>(row, begin, index, first, count);
+    } else if first == begin {
+        shift_down::<T, O>(row, first, index, first, count);
+    } else if begin + 1 < first {
+        shift_up::<T, O>(row, begin, index, first, count);
+    } else {
+        shift_up::<T, O>(row, first - 1, index, first, count);
+    }
+}
+
+/// As `shift_words`, of bytes. A processor shifts bytes side by side by a number that the compiler knows, so each
+/// index has loops of its own.
+fn shift_bytes<T: BitStore, O: BitOrder>(
+    row: &mut WordRow<T>,
+    begin: usize,
+    at: u8,
+    first: usize,
+    count: usize,
+)
+    requires width { T.BITS ≡ 8 }
+    requires within { at < T.BITS }
+    requires target { first + count ≤ length row.old.words.now }
+    requires source { begin + count < length row.old.words.now }
+    ensures same_words { row.new.words.ghost_name ≡ row.old.words.ghost_name }
+    ensures size { length row.new.words.now ≡ length row.old.words.now }
+    ensures bits { row_of O.place T.BITS (map T.value row.new.words.now) ≡ moved (row_of O.place T.BITS (map T.value row.old.words.now)) (begin * T.BITS + at) (first * T.BITS) (count * T.BITS) }
+    ensures reads { row.new.meter.reads ≡ row.old.meter.reads + 2 * count }
+    ensures writes { row.new.meter.writes ≡ row.old.meter.writes + count }
+{
+    match at {
+        1 => shift_words::<T, O>(row, begin, 1, first, count),
+        2 => shift_words::<T, O>(row, begin, 2, first, count),
+        3 => shift_words::<T, O>(row, begin, 3, first, count),
+        4 => shift_words::<T, O>(row, begin, 4, first, count),
+        5 => shift_words::<T, O>(row, begin, 5, first, count),
+        6 => shift_words::<T, O>(row, begin, 6, first, count),
+        7 => shift_words::<T, O>(row, begin, 7, first, count),
+        _ => shift_words::<T, O>(row, begin, 0, first, count),
+    }
+}
+
 /// Moves the bits from `from` on to the `count` whole words from word `first` on. The condition: the row
 /// has one bit more behind those that are moved.
 #[inline(always)]
@@ -143,26 +206,13 @@ pub(crate) fn move_words<T: BitStore, O: BitOrder>(
 {
     let width = T::BITS as usize;
     let begin = from / width;
-    let index = (from % width) as u8;
-    // Each loop is inlined and compiled for its case: whole words, or words that are neighbours.
-    if index == 0 {
-        let none = BitIdx::<T>::new_unchecked(0);
-        if first <= begin {
-            shift_down::<T, O>(row, begin, none, first, count);
-        } else {
-            shift_up::<T, O>(row, begin, none, first, count);
-        }
-        return;
-    }
-    let at = BitIdx::<T>::new_unchecked(index);
-    if first < begin {
-        shift_down::<T, O>(row, begin, at, first, count);
-    } else if first == begin {
-        shift_down::<T, O>(row, first, at, first, count);
-    } else if begin + 1 < first {
-        shift_up::<T, O>(row, begin, at, first, count);
+    let at = (from % width) as u8;
+    if T::BITS == 8 && goes_by_shifts::<O>() {
+        shift_bytes::<T, O>(row, begin, at, first, count);
+    } else if at == 0 {
+        shift_words::<T, O>(row, begin, 0, first, count);
     } else {
-        shift_up::<T, O>(row, first - 1, at, first, count);
+        shift_words::<T, O>(row, begin, at, first, count);
     }
 }
 

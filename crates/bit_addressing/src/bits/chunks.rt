@@ -119,7 +119,7 @@ fn word_of_window<T: BitStore, O: BitOrder, U: BitStore, P: BitOrder>(
 /// Whether the ends of a word lie in an order as in the two orders that go by shifts. It is a hint for speed
 /// alone: of another order, bits are cheaper taken one by one than by way of a number.
 #[inline(always)]
-fn goes_by_shifts<O: BitOrder>() -> bool {
+pub(crate) fn goes_by_shifts<O: BitOrder>() -> bool {
     let first = O::at(BitIdx::<u64>::new_unchecked(0)).into_inner();
     let last = O::at(BitIdx::<u64>::new_unchecked(63)).into_inner();
     (first == 0 && last == 63) || (first == 63 && last == 0)

@@ -5,7 +5,7 @@ ghost use Rattle.bit_addressing.specs.Bits.{has_bit};
 ghost use Rattle.bit_addressing.specs.Row.{put};
 ghost use Rattle.bit_addressing.specs.Typed.{row};
 
-use crate::bits::chunks::{word_behind, word_of_run};
+use crate::bits::chunks::{goes_by_shifts, word_behind, word_of_run};
 use crate::bits::single::write_part;
 use crate::order::BitOrder;
 use crate::store::BitStore;
@@ -108,6 +108,37 @@ fn combine_behind<F: BitOperator, T: BitStore, O: BitOrder, U: BitStore, P: BitO
     }
 }
 
+/// As `combine_behind`, of bytes. A processor shifts bytes side by side by a number that the compiler knows, so each
+/// index has a loop of its own.
+fn combine_bytes<F: BitOperator, T: BitStore, O: BitOrder, U: BitStore, P: BitOrder>(
+    words: &mut [T],
+    first: usize,
+    last: usize,
+    source: &[U],
+    begin: usize,
+    skip: u8,
+)
+    requires width { U.BITS ≡ 8 }
+    requires ordered { first ≤ last }
+    requires target { last ≤ length words.old }
+    requires within { skip < U.BITS }
+    requires source { begin * U.BITS + skip + (last - first) * T.BITS < U.BITS * length source.now }
+    requires source_fits { begin * U.BITS + skip + (last - first) * T.BITS < 2 ^ 64 }
+    ensures bits { row T.BitStore O.BitOrder words.new ≡ put (row T.BitStore O.BitOrder words.old) (first * T.BITS) (zip2 F.made (slice_range (row T.BitStore O.BitOrder words.old) (first * T.BITS) (last * T.BITS)) (slice_range (row U.BitStore P.BitOrder source.now) (begin * U.BITS + skip) (begin * U.BITS + skip + (last - first) * T.BITS))) }
+    ensures size { length words.new ≡ length words.old }
+{
+    match skip {
+        1 => combine_behind::<F, T, O, U, P>(words, first, last, source, begin, 1),
+        2 => combine_behind::<F, T, O, U, P>(words, first, last, source, begin, 2),
+        3 => combine_behind::<F, T, O, U, P>(words, first, last, source, begin, 3),
+        4 => combine_behind::<F, T, O, U, P>(words, first, last, source, begin, 4),
+        5 => combine_behind::<F, T, O, U, P>(words, first, last, source, begin, 5),
+        6 => combine_behind::<F, T, O, U, P>(words, first, last, source, begin, 6),
+        7 => combine_behind::<F, T, O, U, P>(words, first, last, source, begin, 7),
+        _ => combine_behind::<F, T, O, U, P>(words, first, last, source, begin, 0),
+    }
+}
+
 /// The same, of the bits that stand as far behind bit `from` of the row. Where that is a word's first bit no word
 /// has to be shifted, so the compiler is shown this case by itself.
 fn combine_whole<F: BitOperator, T: BitStore, O: BitOrder, U: BitStore, P: BitOrder>(
@@ -127,7 +158,9 @@ fn combine_whole<F: BitOperator, T: BitStore, O: BitOrder, U: BitStore, P: BitOr
     let width = U::BITS as usize;
     let begin = from / width;
     let skip = (from % width) as u8;
-    if skip == 0 {
+    if T::BITS == 8 && U::BITS == 8 && goes_by_shifts::<P>() {
+        combine_bytes::<F, T, O, U, P>(words, first, last, source, begin, skip);
+    } else if skip == 0 {
         combine_behind::<F, T, O, U, P>(words, first, last, source, begin, 0);
     } else {
         combine_behind::<F, T, O, U, P>(words, first, last, source, begin, skip);

@@ -3,6 +3,7 @@ ghost use Rattle.std.specs.Prelude.{◌≡◌, ℕ, ◌+◌, ◌-◌, ◌*◌, �
 ghost use Rattle.bit_addressing.specs.Row.{put, row_bit};
 ghost use Rattle.bit_addressing.specs.Typed.{row};
 
+use crate::bits::chunks::goes_by_shifts;
 use crate::bits::combined::{Second, combine_bits};
 use crate::index::{BitEnd, BitIdx};
 use crate::order::BitOrder;
@@ -65,7 +66,7 @@ fn copy_loop<T: BitStore, O: BitOrder>(
     first: usize,
     source: &[T],
     begin: usize,
-    at: BitIdx<T>,
+    at: u8,
     count: usize,
 )
     requires index { at < T.BITS }
@@ -74,10 +75,40 @@ fn copy_loop<T: BitStore, O: BitOrder>(
     ensures bits { row T.BitStore O.BitOrder words.new ≡ put (row T.BitStore O.BitOrder words.old) (first * T.BITS) (slice_range (row T.BitStore O.BitOrder source.now) (begin * T.BITS + at) (begin * T.BITS + at + count * T.BITS)) }
     ensures size { length words.new ≡ length words.old }
 {
+    let index = BitIdx::<T>::new_unchecked(at);
     for t in 0..count {
         let low = source[begin + t];
         let high = source[begin + t + 1];
-        words[first + t] = O::window(low, high, at);
+        words[first + t] = O::window(low, high, index);
+    }
+}
+
+/// As `copy_loop`, of bytes. A processor shifts bytes side by side by a number that the compiler knows, so each
+/// index has a loop of its own.
+fn copy_bytes<T: BitStore, O: BitOrder>(
+    words: &mut [T],
+    first: usize,
+    source: &[T],
+    begin: usize,
+    at: u8,
+    count: usize,
+)
+    requires width { T.BITS ≡ 8 }
+    requires index { at < T.BITS }
+    requires target { first + count ≤ length words.old }
+    requires source { begin + count < length source.now }
+    ensures bits { row T.BitStore O.BitOrder words.new ≡ put (row T.BitStore O.BitOrder words.old) (first * T.BITS) (slice_range (row T.BitStore O.BitOrder source.now) (begin * T.BITS + at) (begin * T.BITS + at + count * T.BITS)) }
+    ensures size { length words.new ≡ length words.old }
+{
+    match at {
+        1 => copy_loop::<T, O>(words, first, source, begin, 1, count),
+        2 => copy_loop::<T, O>(words, first, source, begin, 2, count),
+        3 => copy_loop::<T, O>(words, first, source, begin, 3, count),
+        4 => copy_loop::<T, O>(words, first, source, begin, 4, count),
+        5 => copy_loop::<T, O>(words, first, source, begin, 5, count),
+        6 => copy_loop::<T, O>(words, first, source, begin, 6, count),
+        7 => copy_loop::<T, O>(words, first, source, begin, 7, count),
+        _ => copy_loop::<T, O>(words, first, source, begin, 0, count),
     }
 }
 
@@ -87,7 +118,7 @@ fn copy_words<T: BitStore, O: BitOrder>(
     first: usize,
     source: &[T],
     begin: usize,
-    at: BitIdx<T>,
+    at: u8,
     count: usize,
 )
     requires index { at < T.BITS }
@@ -97,15 +128,10 @@ fn copy_words<T: BitStore, O: BitOrder>(
     ensures size { length words.new ≡ length words.old }
 {
     // The loop is compiled for whole words, and for others.
-    if at.into_inner() == 0 {
-        copy_loop::<T, O>(
-            words,
-            first,
-            source,
-            begin,
-            BitIdx::<T>::new_unchecked(0),
-            count,
-        );
+    if T::BITS == 8 && goes_by_shifts::<O>() {
+        copy_bytes::<T, O>(words, first, source, begin, at, count);
+    } else if at == 0 {
+        copy_loop::<T, O>(words, first, source, begin, 0, count);
     } else {
         copy_loop::<T, O>(words, first, source, begin, at, count);
     }
@@ -140,7 +166,7 @@ pub fn copy_bits_alike<T: BitStore, O: BitOrder>(
     }
     copy_part::<T, O>(words, first, low, width, source, from);
     let inner = from + (width - low);
-    let index = BitIdx::<T>::new_unchecked((inner % width) as u8);
+    let index = (inner % width) as u8;
     copy_words::<T, O>(
         words,
         first + 1,

@@ -33,9 +33,8 @@ returns-clause-bits g c =
     let wide : length xs ≡ w * length c.args.words.now = length_row value place w c.args.words.now in
     let inner = from + (width - at % width) in
     let split : inner / width * w + inner % width ≡ inner = subst (λ m. inner / width * m + inner % width ≡ inner) e (div-add-mod' inner width) in
-    let begin : inner / width * w + c.new_unchecked-index.result ≡ inner = ap (λ m. inner / width * w + m) c.new_unchecked-index.ensures ∙ split in
     run_copied xs ys us (row g.T.BitStore g.O.BitOrder c.copy_part-3.new.words) zs
     w at from n (at / width) (at % width) ((at + n - 1) / width) ((at + n - 1) % width + 1) (width - at % width) run c.if-first-last.false (ap (λ m. m - at % width) e) (subst (λ l. at + n ≤ l) (sym wide) c.requires.target) (subst (λ l. from + n ≤ l) (sym long) c.requires.source)
     c.copy_part-2.ensures.bits
-    (c.copy_words.ensures.bits ∙ ap (λ s. put ys ((at / width + 1) * w) (slice_range zs s (s + count * w))) begin)
+    (c.copy_words.ensures.bits ∙ ap (λ s. put ys ((at / width + 1) * w) (slice_range zs s (s + count * w))) split)
     c.copy_part-3.ensures.bits

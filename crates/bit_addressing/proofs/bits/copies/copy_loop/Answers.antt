@@ -69,7 +69,7 @@ loop-t-preserved g c =
           ∙ ap (put (put xs (first * w) (slice_range zs from (from + t * w))) ((first + t) * w)) (word_copied place w words v (from + t * w) positive fits
           (λ i h.
           let here : (begin + t) * w + at + i ≡ from + t * w + i = omega arith in
-          c.window.ensures i h ∙ pair_bit place w words (begin + t) (value low) (value high) at i within h read_low (λ past. read) ∙ ap (row_bit place w words) here))
+          c.window.ensures i h ∙ ap (λ n. row_bit place w (value low ∷ value high ∷ []) (n + i)) c.new_unchecked-index.ensures ∙ pair_bit place w words (begin + t) (value low) (value high) at i within h read_low (λ past. read) ∙ ap (row_bit place w words) here))
           ∙ ap (λ d. put (put xs (first * w) (slice_range zs from (from + t * w))) d (slice_range zs (from + t * w) (from + t * w + w))) spread
           ∙ put_on xs zs (first * w) from (t * w) w (omega arith) (omega arith)
           ∙ ap (λ n. put xs (first * w) (slice_range zs from (from + n))) sum;

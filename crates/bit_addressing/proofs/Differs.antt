@@ -1,12 +1,13 @@
 -- Where two runs of bits differ, found in the numbers of them.
-use Rattle.std.proofs.Common.{◌≡◌, ◌≢◌, ℕ, ◌+◌, ◌-◌, ◌^◌, ◌<◌, ◌≤◌, Bool, true, false, not, if◌then◌else◌, eqb, List, length, get_or, slice_range, refl, sym, ◌∙◌, ap, inl, inr, arith, bit_xor, w64}
+use Rattle.std.proofs.Common.{◌≡◌, ◌≢◌, ℕ, ◌+◌, ◌-◌, ◌*◌, ◌/◌, ◌%◌, ◌^◌, ◌<◌, ◌≤◌, Bool, true, false, not, if◌then◌else◌, eqb, List, length, get_or, slice_range, refl, sym, ◌∙◌, ap, inl, inr, arith, bit_xor, w64}
 use Rattle.std.specs.Int.{bit_at, trailing_zeros}
 use Rattle.std.proofs.lemmas.Bool.{cases_lt}
 use Rattle.std.proofs.lemmas.List.{ext_get_or, get_or_past}
 use Rattle.std.proofs.lemmas.Nat.Bits.{bit_at-trailing_zeros}
 use Rattle.bit_addressing.specs.Bits.{has_bit}
 use Rattle.bit_addressing.proofs.lists.Shown.{get_or-run, length-run}
-use Rattle.bit_addressing.specs.Row.{number_of, IsFirstDifference}
+use Rattle.bit_addressing.proofs.Rows.{get_or-row_of}
+use Rattle.bit_addressing.specs.Row.{number_of, row_of, IsFirstDifference}
 use Rattle.bit_addressing.proofs.Words.{has_xor, has_none}
 use Rattle.bit_addressing.proofs.Chunks.{has_number}
 
@@ -98,3 +99,30 @@ module _ (xs ys : List Bool) (i j : ℕ) where
           apart = λ e. apart_if (get_or xs (i + (k + z)) false) (get_or ys (j + (k + z)) false) (sym (xor_bit z inside) ∙ set)
               (sym (get_or-run xs i n (k + z) (omega arith)) ∙ e ∙ get_or-run ys j n (k + z) (omega arith));
         }
+
+-- a bit of a row of bytes, by its byte and its place
+bit_of_byte : (place : ℕ → ℕ → ℕ) (xs : List ℕ) (k d r : ℕ) → r < 8 → (k + d) * 8 + r < 8 * length xs → get_or (row_of place 8 xs) (k * 8 + (d * 8 + r)) false ≡ has_bit (get_or xs (k + d) 0) (place 8 r)
+bit_of_byte place xs k d r below h =
+    let j : ℕ = k * 8 + (d * 8 + r) in
+    let word : j / 8 ≡ k + d = omega arith in
+    let index : j % 8 ≡ r = omega arith in
+    get_or-row_of place 8 xs j (omega arith) ∙ ap (λ n. has_bit (get_or xs n 0) (place 8 (j % 8))) word ∙ ap (λ n. has_bit (get_or xs (k + d) 0) (place 8 n)) index
+
+-- bytes whose bits are the same by their places have the same in each order
+pub alike_in_order : (place other : ℕ → ℕ → ℕ) (xs ys : List ℕ) (k l n : ℕ) → ((i : ℕ) → i < 8 → place 8 i < 8) → ((i : ℕ) → i < 8 → place 8 i ≡ other 8 i) → k * 8 + n * 64 ≤ 8 * length xs → l * 8 + n * 64 ≤ 8 * length ys
+    → AreAlike (row_of (λ w i. i) 8 xs) (row_of (λ w i. i) 8 ys) (k * 8) (l * 8) (n * 64) → AreAlike (row_of place 8 xs) (row_of other 8 ys) (k * 8) (l * 8) (n * 64)
+alike_in_order place other xs ys k l n inside same left right alike q h =
+    let d : ℕ = q / 8 in
+    let r : ℕ = q % 8 in
+    let split : d * 8 + r ≡ q = omega arith in
+    let below : r < 8 = omega arith in
+    let p : ℕ = place 8 r in
+    let small : p < 8 = inside r below in
+    ap (λ m. get_or (row_of place 8 xs) (k * 8 + m) false) (sym split)
+    ∙ bit_of_byte place xs k d r below (omega arith)
+    ∙ sym (bit_of_byte (λ w i. i) xs k d p small (omega arith))
+    ∙ alike (d * 8 + p) (omega arith)
+    ∙ bit_of_byte (λ w i. i) ys l d p small (omega arith)
+    ∙ ap (has_bit (get_or ys (l + d) 0)) (same r below)
+    ∙ sym (bit_of_byte other ys l d r below (omega arith))
+    ∙ ap (λ m. get_or (row_of other 8 ys) (l * 8 + m) false) split

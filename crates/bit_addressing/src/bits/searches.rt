@@ -1,10 +1,11 @@
 //! Bits counted and compared, by whole words.
-ghost use Rattle.std.specs.Prelude.{◌≡◌, ℕ, ◌+◌, ◌-◌, ◌*◌, ◌/◌, ◌^◌, ◌<◌, ◌≤◌, length, slice_range, MatchOption, not, replicate};
+ghost use Rattle.std.specs.Prelude.{◌≡◌, ℕ, true, ◌+◌, ◌-◌, ◌*◌, ◌/◌, ◌^◌, ◌<◌, ◌≤◌, length, slice_range, MatchOption, not, replicate};
 ghost use Rattle.std.specs.List.{count_by};
 ghost use Rattle.bit_addressing.specs.Row.{IsFirst, IsFirstDifference};
 ghost use Rattle.bit_addressing.specs.Typed.{row};
 
 use crate::bits::chunks::{block_at, read_chunk, word_number};
+use crate::index::BitIdx;
 use crate::order::{BitOrder, Lsb0};
 use crate::store::BitStore;
 
@@ -72,6 +73,49 @@ fn blocks_behind<T: BitStore>(words: usize, k: usize) -> usize
     (words.saturating_sub(k) / each).saturating_sub(1)
 }
 
+/// Whether both kinds of words are bytes whose bits lie in one order.
+#[inline(always)]
+fn are_bytes_alike<T: BitStore, O: BitOrder, U: BitStore, P: BitOrder>() -> bool
+    ensures { result ≡ true → (T.BITS ≡ 8) × (U.BITS ≡ 8) × ((i : ℕ) → i < 8 → O.place 8 i ≡ P.place 8 i) }
+{
+    if T::BITS != 8 || U::BITS != 8 {
+        return false;
+    }
+    for i in 0..8u8 {
+        let place = O::at(BitIdx::<T>::new_unchecked(i)).into_inner();
+        if place != P::at(BitIdx::<U>::new_unchecked(i)).into_inner() {
+            return false;
+        }
+    }
+    true
+}
+
+/// How many blocks of 64 bits, of the first `blocks` from words `k` and `l` on, are equal up to one that is not. It tells
+/// so of bytes in one order, whose blocks need no turning round, and of others 0. The condition: both rows have the blocks.
+#[inline(always)]
+fn equal_blocks<T: BitStore, O: BitOrder, U: BitStore, P: BitOrder>(
+    a: &[T],
+    k: usize,
+    b: &[U],
+    l: usize,
+    blocks: usize,
+) -> usize
+    requires first { k * T.BITS + blocks * 64 ≤ T.BITS * length a.now }
+    requires second { l * U.BITS + blocks * 64 ≤ U.BITS * length b.now }
+    ensures most { result ≤ blocks }
+    ensures alike { slice_range (row T.BitStore O.BitOrder a.now) (k * T.BITS) (k * T.BITS + result * 64) ≡ slice_range (row U.BitStore P.BitOrder b.now) (l * U.BITS) (l * U.BITS + result * 64) }
+{
+    if !are_bytes_alike::<T, O, U, P>() {
+        return 0;
+    }
+    for t in 0..blocks {
+        if Lsb0::pack(a, k + t * 8) != Lsb0::pack(b, l + t * 8) {
+            return t;
+        }
+    }
+    blocks
+}
+
 /// As `differ_at`, from index `skip` of word `k` and index `over` of word `l` on. It is inlined, and compiled apart for
 /// runs that begin at a word's first bit.
 #[inline(always)]
@@ -97,7 +141,12 @@ fn differ_from<T: BitStore, O: BitOrder, U: BitStore, P: BitOrder>(
     let j = l * U::BITS as usize + over as usize;
     let room = blocks_behind::<T>(a.len(), k).min(blocks_behind::<U>(b.len(), l));
     let blocks = room.min(n / 64);
-    for t in 0..blocks {
+    let start = if skip == 0 && over == 0 {
+        equal_blocks::<T, O, U, P>(a, k, b, l, blocks)
+    } else {
+        0
+    };
+    for t in start..blocks {
         let left = block_at::<O, T, O>(a, k + t * each, skip);
         let right = block_at::<O, U, P>(b, l + t * others, over);
         if left != right {

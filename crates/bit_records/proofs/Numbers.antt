@@ -1,5 +1,5 @@
 -- Numbers out of bits and into them, and what a bit list written over or grown by one number has.
-use Rattle.std.proofs.Common.{◌≡◌, ◌≢◌, ℕ, zero, suc, ◌+◌, ◌-◌, ◌*◌, ◌/◌, ◌^◌, ◌<◌, ◌≤◌, Bool, false, List, [], ◌∷◌, ◌++◌, map, length, take, drop, set, reverse, get_or, slice_range, slice_get, Some, refl, sym, ◌∙◌, ap, subst, inl, inr, arith, rules}
+use Rattle.std.proofs.Common.{◌≡◌, ℕ, zero, suc, ◌+◌, ◌-◌, ◌*◌, ◌/◌, ◌^◌, ◌<◌, ◌≤◌, Bool, false, List, [], ◌∷◌, ◌++◌, map, length, drop, set, reverse, get_or, slice_range, slice_get, Some, sym, ◌∙◌, ap, subst, inl, inr, arith, rules}
 use Rattle.std.specs.List.{range_with_len}
 use Rattle.std.specs.Simd.Lanes.{mask_l}
 use Rattle.std.proofs.lemmas.Simd.{mask_l-lt}
@@ -13,10 +13,10 @@ use Rattle.std.proofs.lemmas.Nat.{div-mul-add}
 use Rattle.bit_addressing.specs.Bits.{has_bit}
 use Rattle.bit_addressing.specs.Row.{binary, number_of, put}
 use Rattle.bit_addressing.proofs.Binary.{length-binary, get_or-binary}
-use Rattle.bit_addressing.proofs.Chunks.{has_number, number-lt}
-use Rattle.bit_addressing.proofs.Words.{has_above, same_word}
-use Rattle.bit_addressing.proofs.lists.Put.{length-put, put_before, put_inside, put_behind}
-use Rattle.bit_addressing.proofs.lists.Shown.{get_or-run, length-run}
+use Rattle.bit_addressing.proofs.Chunks.{has_number}
+use Rattle.bit_addressing.proofs.Words.{same_word}
+use Rattle.bit_addressing.proofs.lists.Put.{length-put}
+use Rattle.bit_addressing.proofs.lists.Shown.{length-run}
 use Rattle.bit_addressing.proofs.lists.Sized.{one_more_word}
 use Rattle.bit_addressing.proofs.Runs.{mul_mono}
 use Rattle.bit_records.specs.Records.{written, numbers_in, joined}

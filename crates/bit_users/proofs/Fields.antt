@@ -1,9 +1,7 @@
 -- Numbers written in binary one behind the other, and the bytes that they make.
-use Rattle.std.proofs.Common.{zero, suc, ◌≡◌, ℕ, ◌+◌, ◌-◌, ◌*◌, ◌/◌, ◌%◌, ◌^◌, ◌<◌, ◌≤◌, Bool, false, List, [], ◌∷◌, ◌++◌, map, length, slice_range, refl, sym, ◌∙◌, ap, inl, inr, arith, append_assoc}
+use Rattle.std.proofs.Common.{zero, suc, ◌≡◌, ℕ, ◌+◌, ◌-◌, ◌*◌, ◌/◌, ◌%◌, ◌^◌, ◌<◌, ◌≤◌, Bool, false, List, [], ◌∷◌, ◌++◌, map, length, slice_range, refl, sym, ◌∙◌, ap, inl, arith, append_assoc}
 use Rattle.std.specs.Prelude.{⊤}
-use Rattle.std.proofs.lemmas.Bool.{cases_lt}
-use Rattle.std.proofs.lemmas.List.{append-nil, ext_get_or, length-append, get_or_append_left, get_or-append_right}
-use Rattle.bit_addressing.specs.Bits.{has_bit}
+use Rattle.std.proofs.lemmas.List.{append-nil, ext_get_or, length-append}
 use Rattle.std.proofs.lemmas.List.Edits.{between_none}
 use Rattle.bit_addressing.specs.Order.{msb0_lawful}
 use Rattle.bit_addressing.specs.Row.{binary, packed, row_of, sized, words_for, AreWords}
@@ -12,7 +10,6 @@ use Rattle.bit_slice.proofs.Writing.{runs_joined}
 use Rattle.bit_addressing.proofs.Binary.{length-binary, get_or-binary, binary_parted}
 use Rattle.bit_addressing.proofs.lists.Sized.{sized_same}
 use Rattle.bit_addressing.proofs.Rows.{length-row_of, row_of_none, row_append, get_or-row_one}
-use Rattle.bit_addressing.proofs.Words.{has_low, has_shr_low}
 use Rattle.std.proofs.Math.Pow.{high, low}
 use Rattle.bit_users.specs.declared.wire.Header.{Header}
 use Rattle.bit_users.specs.Wire.{written_fields, bits_of, bytes_of, Fits}

@@ -1,7 +1,5 @@
-use Rattle.std.proofs.Common.{◌≡◌, ◌+◌, ◌*◌, ◌≤◌, length, slice_get, sym, ◌∙◌, ap, arith}
+use Rattle.std.proofs.Common.{slice_get, sym, ◌∙◌, ap, arith}
 use Rattle.std.proofs.lemmas.Option.{slice_get_past}
-use Rattle.bit_addressing.specs.declared.length.TheConstants.{MAX_BITS}
-use Rattle.bit_records.specs.Records.{numbers_in}
 use Rattle.bit_records.proofs.Numbers.{count_of, number_is, place_inside}
 use Rattle.bit_records.proofs.records.Records.get.Goals as goal
 

@@ -1,4 +1,4 @@
-use Rattle.std.proofs.Common.{◌≡◌, refl, ap, ◌∙◌, [], arith}
+use Rattle.std.proofs.Common.{refl, ap, ◌∙◌, arith}
 use Rattle.bit_records.specs.Records.{numbers_in}
 use Rattle.bit_records.proofs.Numbers.{no_numbers}
 use Rattle.bit_records.proofs.records.Records.new.Goals as goal

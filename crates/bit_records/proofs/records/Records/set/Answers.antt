@@ -1,5 +1,4 @@
-use Rattle.std.proofs.Common.{◌≡◌, ◌+◌, ◌*◌, ◌^◌, ◌≤◌, ◌<◌, length, set, sym, subst, ◌∙◌, ap, arith}
-use Rattle.bit_addressing.specs.declared.length.TheConstants.{MAX_BITS}
+use Rattle.std.proofs.Common.{◌≡◌, ◌^◌, ◌<◌, length, set, sym, subst, ◌∙◌, ap, arith}
 use Rattle.bit_records.specs.Records.{numbers_in}
 use Rattle.bit_records.proofs.Numbers.{count_of, number_set, place_inside}
 use Rattle.bit_records.proofs.records.Records.set.Goals as goal

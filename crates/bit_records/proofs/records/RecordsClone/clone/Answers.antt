@@ -1,4 +1,4 @@
-use Rattle.std.proofs.Common.{◌≡◌, [], length, sym, ◌∙◌, ap}
+use Rattle.std.proofs.Common.{length, sym, ◌∙◌, ap}
 use Rattle.bit_records.proofs.Numbers.{count_of, no_bits}
 use Rattle.bit_records.proofs.records.RecordsClone.clone.Goals as goal
 

@@ -137,12 +137,15 @@ one_sequence bits xs ys low_x low_y of_x of_y =
     ∙ ap (λ l. take 8 ys ++ l) (same_bytes (drop 8 xs) (drop 8 ys) (later xs low_x) (later ys low_y) (words_count bits xs of_x ∙ sym (words_count bits ys of_y)) (of_x.rest ∙ sym of_y.rest))
     ∙ take-append-drop 8 ys
 
-pub shown_small : (row list : List Bool) (len : ℕ) → list ≡ slice_range row 0 (0 + len) → len ≤ 2305843009213693951 → length list < 2 ^ 64
-shown_small row list len is few =
+pub shown_few : (row list : List Bool) (len : ℕ) → list ≡ slice_range row 0 (0 + len) → len ≤ 2305843009213693951 → length list ≤ 2305843009213693951
+shown_few row list len is few =
     let none : 0 + len ≡ len = omega arith in
     let size : length list ≡ length (take len row) = ap length (is ∙ ap (slice_range row 0) none ∙ between_from_start row len) in
     let cut = length-take len row in
     omega arith
+
+pub shown_small : (row list : List Bool) (len : ℕ) → list ≡ slice_range row 0 (0 + len) → len ≤ 2305843009213693951 → length list < 2 ^ 64
+shown_small row list len is few = let most = shown_few row list len is few in omega arith
 
 -- bytes of lists are equal exactly where the lists are
 pub bytes_exact : (a b : List Bool) (xs ys : List ℕ) → length a ≤ 2305843009213693951 → length b ≤ 2305843009213693951 → AreWords 8 xs → AreWords 8 ys → AreBytesOf a xs → AreBytesOf b ys → (xs ≡ ys) ↔ (a ≡ b)

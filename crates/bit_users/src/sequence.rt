@@ -1,5 +1,6 @@
 //! A list of truth values as bytes, and back.
-ghost use Rattle.std.specs.Prelude.{◌≡◌, ◌≤◌, ◌↔◌, Bool, List, Err, IfOk, IsTrue, length};
+ghost use Rattle.std.specs.Prelude.{◌≡◌, ◌≤◌, ◌↔◌, Bool, List, Err, IfOk, IfErr, IsTrue, length};
+ghost use Rattle.bit_addressing.specs.declared.errors.GrowError.TheVariants.{OutOfMemory};
 ghost use Rattle.bit_addressing.specs.declared.length.TheConstants.{MAX_BITS};
 ghost use Rattle.bit_users.specs.Sequence.{AreBytesOf};
 ghost use Rattle.bit_users.specs.declared.sequence.Fault.TheVariants as faults;
@@ -20,7 +21,7 @@ pub enum Fault {
 }
 
 /// The bytes of a list: its length in eight, and then its bits, eight in a byte. Equal lists have equal
-/// bytes, and no others have, whatever words and heads they stand in. Takes memory.
+/// bytes, and no others have, whatever words and heads they stand in. Takes memory, and is refused only where that is.
 ///
 /// ```text
 /// let bytes = to_bytes(alloc, &bits)?;
@@ -32,6 +33,7 @@ pub fn to_bytes<T: BitStore, O: BitOrder>(
 ) -> Result<Vec<u8>, GrowError>
     ensures bytes { IfOk result (λ bytes. AreBytesOf bits.now.list bytes.items) }
     ensures few { IfOk result (λ bytes. length bits.now.list ≤ MAX_BITS) }
+    ensures refused { IfErr result (λ why. why ≡ OutOfMemory) }
 {
     let mut copy = BitVec::<u8, Msb0>::new(alloc);
     copy.extend_from_bitslice(bits.as_bitslice())?;
@@ -62,10 +64,11 @@ pub fn are_of_one_list(left: &[u8], right: &[u8]) -> bool
 }
 
 /// The list whose bytes these are. They are `Broken` exactly where they are those of no list of at most
-/// `MAX_BITS` bits. Takes memory.
+/// `MAX_BITS` bits, so memory is wanting only for a list that is there. Takes memory.
 pub fn from_bytes(alloc: Global, bytes: &[u8]) -> Result<BitVec<u8, Msb0>, Fault>
     ensures read { IfOk result (λ bits. AreBytesOf bits.list bytes.now) }
     ensures list { IfOk result (λ read. (bits : List Bool) → length bits ≤ MAX_BITS → AreBytesOf bits bytes.now → read.list ≡ bits) }
+    ensures memory { result ≡ Err faults.OutOfMemory → (bits : List Bool) × (length bits ≤ MAX_BITS) × AreBytesOf bits bytes.now }
     ensures broken { result ≡ Err faults.Broken → (bits : List Bool) → length bits ≤ MAX_BITS → AreBytesOf bits bytes.now → ⊥ }
 {
     if bytes.len() < 8 {

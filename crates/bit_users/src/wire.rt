@@ -1,5 +1,6 @@
 //! The header of an IPv4 packet: thirteen fields of unequal widths, and the 20 bytes that they make.
-ghost use Rattle.std.specs.Prelude.{◌≡◌, ◌+◌, ◌-◌, ◌*◌, ◌^◌, ◌<◌, ◌≤◌, IfOk, MatchOption, length, slice_range, take};
+ghost use Rattle.std.specs.Prelude.{◌≡◌, ◌+◌, ◌-◌, ◌*◌, ◌^◌, ◌<◌, ◌≤◌, IfOk, IfErr, MatchOption, length, slice_range, take};
+ghost use Rattle.bit_addressing.specs.declared.errors.GrowError.TheVariants.{OutOfMemory};
 ghost use Rattle.bit_addressing.specs.Row.{binary, row_of};
 ghost use Rattle.bit_containers.specs.BitVec.{IsClean};
 ghost use Rattle.bit_users.specs.Wire.{bits_of, bytes_of, Fits};
@@ -50,29 +51,20 @@ impl Header {
     pub fn to_bits(self, alloc: Global) -> Result<BitVec<u8, Msb0>, GrowError>
         ensures bits { IfOk result (λ v. v.list ≡ bits_of self) }
         ensures clean { IfOk result (λ v. IsClean 8 v) }
+        ensures refused { IfErr result (λ why. why ≡ OutOfMemory) }
     {
-        let mut bits = BitVec::with_capacity(alloc, 160)?;
-        bits.push_binary(4, self.version as u64)?;
-        bits.push_binary(4, self.header_words as u64)?;
-        bits.push_binary(6, self.service as u64)?;
-        bits.push_binary(2, self.congestion as u64)?;
-        bits.push_binary(16, self.total_length as u64)?;
-        bits.push_binary(16, self.identification as u64)?;
-        bits.push_binary(3, self.flags as u64)?;
-        bits.push_binary(13, self.fragment_offset as u64)?;
-        bits.push_binary(8, self.time_to_live as u64)?;
-        bits.push_binary(8, self.protocol as u64)?;
-        bits.push_binary(16, self.checksum as u64)?;
-        bits.push_binary(32, self.source as u64)?;
-        bits.push_binary(32, self.destination as u64)?;
-        Ok(bits)
+        match self.join_fields(alloc) {
+            Ok(bits) => Ok(bits),
+            Err(_) => Err(GrowError::OutOfMemory),
+        }
     }
 
     /// The header's 20 bytes. The condition: each field has room for its number. Takes memory, and is
     /// refused only where that is.
     pub fn to_bytes(self, alloc: Global) -> Result<Vec<u8>, GrowError>
         requires fits { Fits self }
-        ensures { IfOk result (λ bytes. bytes.items ≡ bytes_of self) }
+        ensures bytes { IfOk result (λ bytes. bytes.items ≡ bytes_of self) }
+        ensures refused { IfErr result (λ why. why ≡ OutOfMemory) }
     {
         Ok(self.to_bits(alloc)?.into_vec())
     }
@@ -99,6 +91,28 @@ impl Header {
             source: field(bytes, 96, 32) as u32,
             destination: field(bytes, 128, 32) as u32,
         })
+    }
+
+    // The fields' bits, joined.
+    fn join_fields(self, alloc: Global) -> Result<BitVec<u8, Msb0>, GrowError>
+        ensures bits { IfOk result (λ v. v.list ≡ bits_of self) }
+        ensures clean { IfOk result (λ v. IsClean 8 v) }
+    {
+        let mut bits = BitVec::with_capacity(alloc, 160)?;
+        bits.push_binary(4, self.version as u64)?;
+        bits.push_binary(4, self.header_words as u64)?;
+        bits.push_binary(6, self.service as u64)?;
+        bits.push_binary(2, self.congestion as u64)?;
+        bits.push_binary(16, self.total_length as u64)?;
+        bits.push_binary(16, self.identification as u64)?;
+        bits.push_binary(3, self.flags as u64)?;
+        bits.push_binary(13, self.fragment_offset as u64)?;
+        bits.push_binary(8, self.time_to_live as u64)?;
+        bits.push_binary(8, self.protocol as u64)?;
+        bits.push_binary(16, self.checksum as u64)?;
+        bits.push_binary(32, self.source as u64)?;
+        bits.push_binary(32, self.destination as u64)?;
+        Ok(bits)
     }
 }
 

@@ -1,8 +1,8 @@
-use Rattle.std.proofs.Common.{ℕ, ◌-◌, ◌*◌, ◌^◌, ◌<◌, length, take, drop, refl, sym, ◌∙◌, ap, arith}
+use Rattle.std.proofs.Common.{ℕ, ◌+◌, ◌-◌, ◌*◌, ◌^◌, ◌<◌, length, map, slice_range, take, drop, refl, sym, ◌∙◌, ap, arith}
 use Rattle.std.proofs.Math.Facts.{Fits-lt-pow, Fits-of_lt}
-use Rattle.bit_addressing.specs.Row.{words_for}
+use Rattle.bit_addressing.specs.Row.{row_of, words_for}
 use Rattle.bit_addressing.proofs.lists.Sized.{room}
-use Rattle.bit_users.proofs.Sequences.{all_words, length_read, no_stray, one_list, read_is, row_end, row_seen, shown_small, small, stray, not_longer, words_count}
+use Rattle.bit_users.proofs.Sequences.{all_words, length_read, no_stray, one_list, read_is, row_end, row_seen, shown_few, shown_small, small, stray, not_longer, words_count}
 use Rattle.bit_users.proofs.sequence.from_bytes.Goals.{then-len-gt-MAX_BITS-via-then-len-gt-MAX_BITS, then-len-gt-MAX_BITS-via-else-len-gt-MAX_BITS+then-words-elts}
 use Rattle.bit_users.proofs.sequence.from_bytes.Goals as goal
 
@@ -49,3 +49,14 @@ pub returns-in-Ok-clause-list : goal.returns-in-Ok-clause-list
 returns-in-Ok-clause-list c bits few are =
     let list = c.in-Ok.bits.list in
     one_list list bits c.args.bytes.now (shown_small _ list c.from_le_bytes-len.result (c.in-Ok.ensures.list ∙ c.from_parts.ensures.list) c.if-len-gt-MAX_BITS.false) (small (length bits) few) (returns-in-Ok-clause-read c) are
+
+pub returns-in-Err-clause-memory : goal.returns-in-Err-clause-memory
+returns-in-Err-clause-memory c refused =
+    let bytes = c.args.bytes.now in
+    let len = c.from_le_bytes-len.result in
+    let row = row_of (λ w i. w - 1 - i) 8 (map (λ x. x) (take (length bytes - 8) (drop 8 bytes))) in
+    let list = slice_range row 0 (0 + len) in
+    let end : ℕ = length (take (length bytes - 8) (drop 8 bytes)) * 8 in
+    let are = read_is bytes c.copy_from_slice.new.self list len end c.if-bytes-lt8.false (λ i. Fits-lt-pow (c.type_inv.bytes i)) c.copy_from_slice.ensures.after c.from_le_bytes-len.ensures (c.if-words-elts.false ∙ c.elts.ensures) refl
+    (no_stray _ len end c.find_bit.result c.find_bit.ensures (sym c.is_some.ensures ∙ c.if-is_some.false)) refl in
+    (list, shown_few row list len refl c.if-len-gt-MAX_BITS.false, are)

@@ -1,7 +1,7 @@
 use Rattle.std.proofs.Common.{◌++◌, ◌∙◌, ap}
 use Rattle.bit_users.specs.Wire.{fields_of, written_fields}
 use Rattle.bit_users.proofs.Fields.{joined_field, no_field}
-use Rattle.bit_users.proofs.wire.Header.to_bits.Goals as goal
+use Rattle.bit_users.proofs.wire.Header.join_fields.Goals as goal
 
 pub returns-clause-bits : goal.returns-clause-bits
 returns-clause-bits c =

@@ -1,11 +1,11 @@
 -- Blocks of 64 bits out of two that follow each other.
-use Rattle.std.proofs.Common.{◌≡◌, ℕ, ◌+◌, ◌-◌, ◌*◌, ◌<◌, ◌≤◌, Bool, false, List, [], ◌∷◌, length, get_or, slice_range, sym, ◌∙◌, ap, inl, inr, arith}
+use Rattle.std.proofs.Common.{◌≡◌, ℕ, ◌+◌, ◌-◌, ◌*◌, ◌/◌, ◌<◌, ◌≤◌, Bool, false, List, [], ◌∷◌, length, get_or, slice_range, sym, ◌∙◌, ap, inl, inr, arith}
 use Rattle.std.proofs.lemmas.Bool.{cases_lt}
 use Rattle.std.proofs.lemmas.List.{ext_get_or}
-use Rattle.bit_addressing.specs.Bits.{has_bit}
+use Rattle.bit_addressing.specs.Bits.{has_bit, IsWidth}
 use Rattle.bit_addressing.specs.Row.{row_bit, row_of}
 use Rattle.bit_addressing.proofs.lists.Shown.{get_or-run}
-use Rattle.bit_addressing.proofs.Packs.{row_from}
+use Rattle.bit_addressing.proofs.Packs.{pack_fills, row_from}
 use Rattle.bit_addressing.proofs.lists.Sized.{right_sum}
 use Rattle.bit_addressing.proofs.Rows.{length-row_of, get_or-row_one}
 use Rattle.bit_addressing.proofs.Windows.{first_of_two, second_of_two}
@@ -44,3 +44,7 @@ block_from w each k skip t fills =
     let inner : (t * each) * w ≡ t * (each * w) = grind arith in
     let whole : t * (each * w) ≡ t * 64 = ap (λ n. t * n) fills in
     omega arith
+
+-- where a block stands, its width written otherwise
+pub stands : (w each k skip t : ℕ) → IsWidth w → each ≡ w → (k + t * (64 / each)) * w + skip ≡ k * w + skip + t * 64
+stands w each k skip t is narrow = ap (λ n. (k + t * (64 / n)) * w + skip) narrow ∙ block_from w (64 / w) k skip t (pack_fills w is)

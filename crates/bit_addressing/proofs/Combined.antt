@@ -81,6 +81,27 @@ combined_whole_none f xs zs w from first =
     let none : first * w - first * w ≡ 0 = omega arith in
     rw none (sym (put_none xs (first * w)))
 
+-- the run that follows is made of two
+pub combined_next : (f : Bool → Bool → Bool) (xs cur zs one : List Bool) (at p q from a upto : ℕ) → at ≤ p → p ≤ q → q ≤ length xs → a ≡ from + (p - at) → upto ≡ from + (q - at) → upto ≤ length zs
+    → cur ≡ put xs at (zip2 f (slice_range xs at p) (slice_range zs from a))
+    → one ≡ zip2 f (slice_range cur p q) (slice_range zs a upto)
+    → put cur p one ≡ put xs at (zip2 f (slice_range xs at q) (slice_range zs from upto))
+combined_next f xs cur zs one at p q from a upto ordered further inside ea eu long so_far is =
+    let left : length (slice_range xs at p) ≡ p - at = length-between xs at p (omega arith) in
+    let right : length (slice_range zs from a) ≡ p - at = length-between zs from a (omega arith) ∙ omega arith in
+    let done : length (zip2 f (slice_range xs at p) (slice_range zs from a)) ≡ p - at = length-zip2 f (slice_range xs at p) (slice_range zs from a) (left ∙ sym right) ∙ left in
+    let here : slice_range cur p q ≡ slice_range xs p q = ap (λ l. slice_range l p q) so_far ∙ put_later xs (zip2 f (slice_range xs at p) (slice_range zs from a)) at p q (omega arith) (omega arith) further inside in
+    let piece : one ≡ zip2 f (slice_range xs p q) (slice_range zs a upto) = is ∙ ap (λ l. zip2 f l (slice_range zs a upto)) here in
+    let more_left : length (slice_range xs p q) ≡ q - p = length-between xs p q inside in
+    let more_right : length (slice_range zs a upto) ≡ q - p = length-between zs a upto long ∙ omega arith in
+    let added : length (zip2 f (slice_range xs p q) (slice_range zs a upto)) ≡ q - p = length-zip2 f (slice_range xs p q) (slice_range zs a upto) (more_left ∙ sym more_right) ∙ more_left in
+    ap (λ l. put l p one) so_far
+    ∙ ap (put (put xs at (zip2 f (slice_range xs at p) (slice_range zs from a))) p) piece
+    ∙ put_joined xs (zip2 f (slice_range xs at p) (slice_range zs from a)) (zip2 f (slice_range xs p q) (slice_range zs a upto)) at p (omega arith) (omega arith)
+    ∙ ap (put xs at) (sym (zip2-append f (slice_range xs at p) (slice_range xs p q) (slice_range zs from a) (slice_range zs a upto) (left ∙ sym right))
+    ∙ ap (λ l. zip2 f l (slice_range zs from a ++ slice_range zs a upto)) (slices_joined xs at p q ordered further inside)
+    ∙ ap (zip2 f (slice_range xs at q)) (slices_joined zs from a upto (omega arith) (omega arith) long))
+
 -- one whole word more is made of two
 pub combined_more : (f : Bool → Bool → Bool) (xs cur zs one : List Bool) (w first k from a upto : ℕ) → first ≤ k → (k + 1) * w ≤ length xs → a ≡ from + (k - first) * w → upto ≡ from + (k + 1 - first) * w → upto ≤ length zs
     → cur ≡ put xs (first * w) (zip2 f (slice_range xs (first * w) (k * w)) (slice_range zs from (from + (k - first) * w)))
@@ -91,24 +112,10 @@ combined_more f xs cur zs one w first k from a upto ordered inside ea eu long so
     let middle : k * w ≡ first * w + (k - first) * w = split_sum w first k ordered in
     let next : k + 1 - first ≡ (k - first) + 1 = omega arith in
     let step : (k + 1 - first) * w ≡ (k - first) * w + w = ap (λ n. n * w) next ∙ one_more_word (k - first) w in
-    let left : length (slice_range xs (first * w) (k * w)) ≡ (k - first) * w = length-between xs (first * w) (k * w) (omega arith) ∙ omega arith in
-    let right : length (slice_range zs from (from + (k - first) * w)) ≡ (k - first) * w = length-run zs from ((k - first) * w) (omega arith) in
-    let done : length (zip2 f (slice_range xs (first * w) (k * w)) (slice_range zs from (from + (k - first) * w))) ≡ (k - first) * w = length-zip2 f (slice_range xs (first * w) (k * w)) (slice_range zs from (from + (k - first) * w)) (left ∙ sym right) ∙ left in
-    let here : slice_range cur (k * w) (k * w + w) ≡ slice_range xs (k * w) ((k + 1) * w) =
-    ap (slice_range cur (k * w)) (sym more) ∙ ap (λ l. slice_range l (k * w) ((k + 1) * w)) so_far
-    ∙ put_later xs (zip2 f (slice_range xs (first * w) (k * w)) (slice_range zs from (from + (k - first) * w))) (first * w) (k * w) ((k + 1) * w) (omega arith) (omega arith) (omega arith) (omega arith) in
     let end : a + w ≡ upto = omega arith in
-    let there : slice_range zs a (a + w) ≡ slice_range zs (from + (k - first) * w) upto = ap (λ n. slice_range zs n (a + w)) ea ∙ ap (slice_range zs (from + (k - first) * w)) end in
-    let piece : one ≡ zip2 f (slice_range xs (k * w) ((k + 1) * w)) (slice_range zs (from + (k - first) * w) upto) = is ∙ ap (λ l. zip2 f l (slice_range zs a (a + w))) here ∙ ap (zip2 f (slice_range xs (k * w) ((k + 1) * w))) there in
-    let more_left : length (slice_range xs (k * w) ((k + 1) * w)) ≡ w = length-between xs (k * w) ((k + 1) * w) inside ∙ omega arith in
-    let more_right : length (slice_range zs (from + (k - first) * w) upto) ≡ w = length-between zs (from + (k - first) * w) upto long ∙ omega arith in
-    let added : length (zip2 f (slice_range xs (k * w) ((k + 1) * w)) (slice_range zs (from + (k - first) * w) upto)) ≡ w = length-zip2 f (slice_range xs (k * w) ((k + 1) * w)) (slice_range zs (from + (k - first) * w) upto) (more_left ∙ sym more_right) ∙ more_left in
-    ap (λ l. put l (k * w) one) so_far
-    ∙ ap (put (put xs (first * w) (zip2 f (slice_range xs (first * w) (k * w)) (slice_range zs from (from + (k - first) * w)))) (k * w)) piece
-    ∙ put_joined xs (zip2 f (slice_range xs (first * w) (k * w)) (slice_range zs from (from + (k - first) * w))) (zip2 f (slice_range xs (k * w) ((k + 1) * w)) (slice_range zs (from + (k - first) * w) upto)) (first * w) (k * w) (omega arith) (omega arith)
-    ∙ ap (put xs (first * w)) (sym (zip2-append f (slice_range xs (first * w) (k * w)) (slice_range xs (k * w) ((k + 1) * w)) (slice_range zs from (from + (k - first) * w)) (slice_range zs (from + (k - first) * w) upto) (left ∙ sym right))
-    ∙ ap (λ l. zip2 f l (slice_range zs from (from + (k - first) * w) ++ slice_range zs (from + (k - first) * w) upto)) (slices_joined xs (first * w) (k * w) ((k + 1) * w) (omega arith) (omega arith) inside)
-    ∙ ap (zip2 f (slice_range xs (first * w) ((k + 1) * w))) (slices_joined zs from (from + (k - first) * w) upto (omega arith) (omega arith) long))
+    combined_next f xs cur zs one (first * w) (k * w) ((k + 1) * w) from a upto (omega arith) (omega arith) inside (omega arith) (omega arith) long
+    (so_far ∙ ap (λ n. put xs (first * w) (zip2 f (slice_range xs (first * w) (k * w)) (slice_range zs from n))) (sym ea))
+    (is ∙ ap (λ n. zip2 f (slice_range cur (k * w) n) (slice_range zs a (a + w))) (sym more) ∙ ap (λ n. zip2 f (slice_range cur (k * w) ((k + 1) * w)) (slice_range zs a n)) end)
 
 -- the second bits alone
 pub second_bits : (xs ys : List Bool) → length xs ≡ length ys → zip2 (λ a b. b) xs ys ≡ ys

@@ -1,7 +1,7 @@
 //! Runs of up to 64 bits as numbers, whatever the words and the order that they lie in.
 //!
 //! Calls between words of two types or orders go through these numbers, 64 bits at a time.
-ghost use Rattle.std.specs.Prelude.{◌≡◌, ◌+◌, ◌*◌, ◌^◌, ◌<◌, ◌≤◌, [], ◌∷◌, length, slice_range};
+ghost use Rattle.std.specs.Prelude.{◌≡◌, ℕ, ◌+◌, ◌*◌, ◌/◌, ◌^◌, ◌<◌, ◌≤◌, [], ◌∷◌, length, slice_range};
 ghost use Rattle.bit_addressing.specs.Row.{binary, number_bits, number_of, put, row_of};
 ghost use Rattle.bit_addressing.specs.Typed.{row};
 
@@ -166,6 +166,14 @@ fn word_behind_by_bits<T: BitStore, O: BitOrder, U: BitStore, P: BitOrder>(
     }
     let at = begin * U::BITS as usize + skip as usize + t * T::BITS as usize;
     word_of_run::<T, O, U, P>(source, at, T::BITS, 0)
+}
+
+/// How many blocks of 64 bits from word `k` on have another block behind them, in so many words.
+pub(crate) fn blocks_behind<T: BitStore>(words: usize, k: usize) -> usize
+    ensures { (t : ℕ) → t < result → (k + t * (64 / T.BITS)) * T.BITS + 128 ≤ T.BITS * words }
+{
+    let each = (64 / T::BITS) as usize;
+    (words.saturating_sub(k) / each).saturating_sub(1)
 }
 
 /// The 64 bits of `source` from index `skip` of word `k` on, in the order `O`.

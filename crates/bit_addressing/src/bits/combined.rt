@@ -1,11 +1,11 @@
 //! Runs of bits combined with those of another row, by whole words of the target.
-ghost use Rattle.std.specs.Prelude.{◌≡◌, ℕ, ◌+◌, ◌-◌, ◌*◌, ◌^◌, ◌<◌, ◌≤◌, if◌then◌else◌, ◌&&◌, ◌||◌, Bool, not, [], ◌∷◌, length, slice_range};
+ghost use Rattle.std.specs.Prelude.{◌≡◌, ℕ, ◌+◌, ◌-◌, ◌*◌, ◌/◌, ◌^◌, ◌<◌, ◌≤◌, if◌then◌else◌, ◌&&◌, ◌||◌, Bool, not, [], ◌∷◌, length, slice_range};
 ghost use Rattle.std.specs.Simd.Lanes.{zip2};
 ghost use Rattle.bit_addressing.specs.Bits.{has_bit};
 ghost use Rattle.bit_addressing.specs.Row.{put};
 ghost use Rattle.bit_addressing.specs.Typed.{row};
 
-use crate::bits::chunks::{goes_by_shifts, word_behind, word_of_run};
+use crate::bits::chunks::{block_at, blocks_behind, goes_by_shifts, word_behind, word_of_run};
 use crate::bits::single::write_part;
 use crate::order::BitOrder;
 use crate::store::BitStore;
@@ -108,6 +108,55 @@ fn combine_behind<F: BitOperator, T: BitStore, O: BitOrder, U: BitStore, P: BitO
     }
 }
 
+/// As `combine_behind`, of so many blocks of 64 bits: each is made once, in the order of the words, and taken apart.
+/// The condition: the words are there, and each block has another behind it.
+#[inline(always)]
+fn combine_blocks<F: BitOperator, T: BitStore, O: BitOrder, U: BitStore, P: BitOrder>(
+    words: &mut [T],
+    first: usize,
+    source: &[U],
+    begin: usize,
+    skip: u8,
+    blocks: usize,
+)
+    requires target { (t : ℕ) → t < blocks → first + t * (64 / T.BITS) + 64 / T.BITS ≤ length words.old }
+    requires within { skip < U.BITS }
+    requires source { (t : ℕ) → t < blocks → (begin + t * (64 / U.BITS)) * U.BITS + 128 ≤ U.BITS * length source.now }
+    ensures bits { row T.BitStore O.BitOrder words.new ≡ put (row T.BitStore O.BitOrder words.old) (first * T.BITS) (zip2 F.made (slice_range (row T.BitStore O.BitOrder words.old) (first * T.BITS) (first * T.BITS + blocks * 64)) (slice_range (row U.BitStore P.BitOrder source.now) (begin * U.BITS + skip) (begin * U.BITS + skip + blocks * 64))) }
+    ensures size { length words.new ≡ length words.old }
+{
+    let (each, others) = ((64 / T::BITS) as usize, (64 / U::BITS) as usize);
+    for t in 0..blocks {
+        let block = block_at::<O, U, P>(source, begin + t * others, skip);
+        let k = first + t * each;
+        combine_behind::<F, T, O, u64, O>(words, k, k + each, &[block, block], 0, 0);
+    }
+}
+
+/// As `combine_behind`, into words narrower than those of `source`: by blocks of 64 bits, as far as they go.
+fn combine_narrower<F: BitOperator, T: BitStore, O: BitOrder, U: BitStore, P: BitOrder>(
+    words: &mut [T],
+    first: usize,
+    last: usize,
+    source: &[U],
+    begin: usize,
+    skip: u8,
+)
+    requires ordered { first ≤ last }
+    requires target { last ≤ length words.old }
+    requires within { skip < U.BITS }
+    requires source { begin * U.BITS + skip + (last - first) * T.BITS < U.BITS * length source.now }
+    requires source_fits { begin * U.BITS + skip + (last - first) * T.BITS < 2 ^ 64 }
+    ensures bits { row T.BitStore O.BitOrder words.new ≡ put (row T.BitStore O.BitOrder words.old) (first * T.BITS) (zip2 F.made (slice_range (row T.BitStore O.BitOrder words.old) (first * T.BITS) (last * T.BITS)) (slice_range (row U.BitStore P.BitOrder source.now) (begin * U.BITS + skip) (begin * U.BITS + skip + (last - first) * T.BITS))) }
+    ensures size { length words.new ≡ length words.old }
+{
+    let (each, others) = ((64 / T::BITS) as usize, (64 / U::BITS) as usize);
+    let blocks = blocks_behind::<U>(source.len(), begin).min((last - first) / each);
+    combine_blocks::<F, T, O, U, P>(words, first, source, begin, skip, blocks);
+    let (next, from) = (first + blocks * each, begin + blocks * others);
+    combine_behind::<F, T, O, U, P>(words, next, last, source, from, skip);
+}
+
 /// As `combine_behind`, of bytes. A processor shifts bytes side by side by a number that the compiler knows, so each
 /// index has a loop of its own.
 fn combine_bytes<F: BitOperator, T: BitStore, O: BitOrder, U: BitStore, P: BitOrder>(
@@ -158,7 +207,9 @@ fn combine_whole<F: BitOperator, T: BitStore, O: BitOrder, U: BitStore, P: BitOr
     let width = U::BITS as usize;
     let begin = from / width;
     let skip = (from % width) as u8;
-    if T::BITS == 8 && U::BITS == 8 && goes_by_shifts::<P>() {
+    if T::BITS < U::BITS && goes_by_shifts::<O>() && goes_by_shifts::<P>() {
+        combine_narrower::<F, T, O, U, P>(words, first, last, source, begin, skip);
+    } else if T::BITS == 8 && U::BITS == 8 && goes_by_shifts::<P>() {
         combine_bytes::<F, T, O, U, P>(words, first, last, source, begin, skip);
     } else if skip == 0 {
         combine_behind::<F, T, O, U, P>(words, first, last, source, begin, 0);

@@ -4,7 +4,7 @@ ghost use Rattle.std.specs.List.{count_by};
 ghost use Rattle.bit_addressing.specs.Row.{IsFirst, IsFirstDifference};
 ghost use Rattle.bit_addressing.specs.Typed.{row};
 
-use crate::bits::chunks::{block_at, read_chunk, word_number};
+use crate::bits::chunks::{block_at, blocks_behind, read_chunk, word_number};
 use crate::index::BitIdx;
 use crate::order::{BitOrder, Lsb0};
 use crate::store::BitStore;
@@ -63,14 +63,6 @@ pub fn count_bits<T: BitStore, O: BitOrder>(words: &[T], from: usize, upto: usiz
     let whole = count_in_order::<T, Lsb0>(words, (first + 1) * width, last * width);
     let tail = read_chunk::<T, O>(words, last * width, ((upto - 1) % width + 1) as u8);
     head.count_ones() as usize + whole + tail.count_ones() as usize
-}
-
-/// How many blocks of 64 bits from word `k` on have another block behind them, in so many words.
-fn blocks_behind<T: BitStore>(words: usize, k: usize) -> usize
-    ensures { (t : ℕ) → t < result → (k + t * (64 / T.BITS)) * T.BITS + 128 ≤ T.BITS * words }
-{
-    let each = (64 / T::BITS) as usize;
-    (words.saturating_sub(k) / each).saturating_sub(1)
 }
 
 /// Whether both kinds of words are bytes whose bits lie in one order.

@@ -6,16 +6,11 @@ use Rattle.bit_addressing.specs.Row.{number_of, row_of, IsFirstDifference}
 use Rattle.bit_addressing.specs.Typed.{row}
 use Rattle.bit_addressing.proofs.Differs.{AreAlike, alike_all, alike_more, alike_run, differ_here}
 use Rattle.bit_addressing.proofs.lists.Shown.{length-run}
-use Rattle.bit_addressing.proofs.Blocks.{block_from}
-use Rattle.bit_addressing.proofs.Packs.{pack_fills}
+use Rattle.bit_addressing.proofs.Blocks.{stands}
 use Rattle.bit_addressing.proofs.Typed.{length_row}
 use Rattle.bit_addressing.proofs.bits.searches.differ_from.Given as given
 use Rattle.bit_addressing.proofs.bits.searches.differ_from.Goals as goal
 use Rattle.bit_addressing.proofs.bits.searches.differ_from.Goals.{then-left-right+else-apart-ne0, else-left-right, then-skip-eq0+then-over-eq0, else-skip-eq0}
-
--- where a block stands, its width written otherwise
-stands : (w each k skip t : ℕ) → IsWidth w → each ≡ w → (k + t * (64 / each)) * w + skip ≡ k * w + skip + t * 64
-stands w each k skip t is narrow = ap (λ n. (k + t * (64 / n)) * w + skip) narrow ∙ block_from w (64 / w) k skip t (pack_fills w is)
 
 -- where a chunk stands, its width written otherwise
 starts : (width w k skip at : ℕ) → width ≡ w → k * width + skip + at ≡ k * w + skip + at

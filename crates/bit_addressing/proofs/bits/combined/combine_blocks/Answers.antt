@@ -1,0 +1,77 @@
+use Rattle.std.proofs.Common.{◌≡◌, ℕ, ◌+◌, ◌-◌, ◌*◌, ◌/◌, ◌≤◌, List, Bool, [], ◌∷◌, length, slice_range, refl, sym, ◌∙◌, ap, arith, rules, mul_comm}
+use Rattle.std.specs.Simd.Lanes.{zip2}
+use Rattle.bit_addressing.specs.Row.{put, row_of}
+use Rattle.bit_addressing.specs.Typed.{row}
+use Rattle.bit_addressing.proofs.Blocks.{stands}
+use Rattle.bit_addressing.proofs.Combined.{combined_next, combined_none}
+use Rattle.bit_addressing.proofs.Packs.{pack_fills}
+use Rattle.bit_addressing.proofs.Rows.{width_small}
+use Rattle.bit_addressing.proofs.Runs.{mul_mono}
+use Rattle.bit_addressing.proofs.Typed.{length_row, row_whole}
+use Rattle.bit_addressing.proofs.lists.Sized.{right_sum}
+use Rattle.bit_addressing.proofs.bits.combined.combine_blocks.Goals as goal
+
+pub loop-t-init : goal.loop-t-init
+loop-t-init g c = record {
+  bits = combined_none g.F.BitOperator.made (row g.T.BitStore g.O.BitOrder c.args.words.now) (row g.U.BitStore g.P.BitOrder c.args.source.now) (c.args.first * g.T.BitStore.BITS) (c.args.begin * g.U.BitStore.BITS + c.args.skip) 0 refl;
+  size = refl;
+}
+
+pub loop-t-preserved : goal.loop-t-preserved
+loop-t-preserved g c =
+    let w = g.T.BitStore.BITS in
+    let u = g.U.BitStore.BITS in
+    let f = g.F.BitOperator.made in
+    let place = g.O.BitOrder.place in
+    let first = c.args.first in
+    let begin = c.args.begin in
+    let skip = c.args.skip in
+    let t = c.loop-t.t in
+    let words = c.args.words.now in
+    let source = c.args.source.now in
+    let old = row g.T.BitStore g.O.BitOrder words in
+    let cur = row g.T.BitStore g.O.BitOrder c.loop-t.words in
+    let zs = row g.U.BitStore g.P.BitOrder source in
+    let block = c.block_at-block.result in
+    let two : List Bool = row_of place 64 (block ∷ block ∷ []) in
+    let each : ℕ = 64 / c.BITS.result in
+    let k : ℕ = first + t * each in
+    let at : ℕ = first * w in
+    let from : ℕ = begin * u + skip in
+    let p : ℕ = at + t * 64 in
+    let q : ℕ = at + (t + 1) * 64 in
+    let a : ℕ = from + t * 64 in
+    let upto : ℕ = from + (t + 1) * 64 in
+    let below = c.loop-t-test.true in
+    let same : each ≡ 64 / w = ap (λ n. 64 / n) c.BITS.ensures in
+    let fills : each * w ≡ 64 = ap (λ n. n * w) same ∙ pack_fills w g.met.T.BitStore.width in
+    let begins : k * w ≡ p = (let d = stands w c.BITS.result first 0 t g.met.T.BitStore.width c.BITS.ensures in omega arith) in
+    let ends : (k + each) * w ≡ q = (let d = right_sum k each w in omega arith) in
+    let wide : (k + each - k) * w ≡ 64 = (let d : k + each - k ≡ each = omega arith in ap (λ n. n * w) d ∙ fills) in
+    let end : 0 * 64 + 0 + (k + each - k) * w ≡ 64 = omega arith in
+    let size : length old ≡ w * length words = length_row g.T.BitStore.value place w words in
+    let long : length zs ≡ u * length source = length_row g.U.BitStore.value g.P.BitOrder.place u source in
+    let room = c.requires.target t below in
+    let held : first + t * (64 / w) + 64 / w ≡ k + each = ap (λ n. first + t * n + n) (sym same) in
+    let fit = mul_mono (k + each) (length words) w (omega arith) in
+    let turned = mul_comm (length words) w in
+    let lies : (begin + t * (64 / u)) * u + skip ≡ a = stands u u begin skip t g.met.U.BitStore.width refl in
+    let behind = c.requires.source t below in
+    let small = width_small u g.met.U.BitStore.width in
+    let within = c.requires.within in
+    let stood : (begin + t * (64 / c.BITS-2.result)) * u + skip ≡ a = stands u c.BITS-2.result begin skip t g.met.U.BitStore.width c.BITS-2.ensures in
+    let next : a + 64 ≡ upto = omega arith in
+    let one : List Bool = zip2 f (slice_range cur (k * w) ((k + each) * w)) (slice_range two (0 * 64 + 0) (0 * 64 + 0 + (k + each - k) * w)) in
+    let bits : slice_range two (0 * 64 + 0) (0 * 64 + 0 + (k + each - k) * w) ≡ slice_range zs a upto =
+    ap (slice_range two 0) end
+    ∙ sym (row_whole (λ (x : ℕ). x) place 64 (block ∷ block ∷ []) 0 0 64 block (omega arith) (omega arith) refl refl refl)
+    ∙ c.block_at-block.ensures
+    ∙ ap (λ n. slice_range zs n (n + 64)) stood
+    ∙ ap (slice_range zs a) next in
+    let is : one ≡ zip2 f (slice_range cur p q) (slice_range zs a upto) = ap (zip2 f (slice_range cur (k * w) ((k + each) * w))) bits ∙ ap (λ n. zip2 f (slice_range cur n ((k + each) * w)) (slice_range zs a upto)) begins ∙ ap (λ n. zip2 f (slice_range cur p n) (slice_range zs a upto)) ends in
+    record {
+      bits = c.combine_behind.ensures.bits
+          ∙ ap (λ d. put cur d one) begins
+          ∙ combined_next f old cur zs one at p q from a upto (omega arith) (omega arith) (omega arith) (omega arith) (omega arith) (omega arith) c.loop-t.invariant.bits is;
+      size = search rules;
+    }

@@ -11,7 +11,7 @@ use Rattle.bit_addressing.proofs.Runs.{ArePartsOf, slices_joined}
 use Rattle.bit_addressing.proofs.lists.Sized.{one_more_word}
 use Rattle.bit_addressing.proofs.Wholes.{split_sum}
 use Rattle.bit_addressing.proofs.Rows.{length-row_of, get_or-row_one}
-use Rattle.bit_addressing.proofs.lists.Shown.{length-between, length-run}
+use Rattle.bit_addressing.proofs.lists.Shown.{length-between}
 
 -- what f makes of the bits a .. b of xs, and of those of zs that stand as far behind `from` as they behind `at`
 abbrev pub combined : (Bool → Bool → Bool) → List Bool → List Bool → ℕ → ℕ → ℕ → ℕ → List Bool

@@ -128,6 +128,14 @@ pub trait BitOrder {
         word
     }
 
+    /// The word whose bits are the first of a word that may be wider. The condition: it is not narrower.
+    fn front<T: BitStore, U: BitStore>(word: U) -> T
+        requires { T.BITS ≤ U.BITS }
+        ensures { (i : ℕ) → i < T.BITS → has_bit (T.value result) (place T.BITS i) ≡ has_bit (U.value word) (place U.BITS i) }
+    {
+        Self::from_lsb0(T::from_u64(Self::to_lsb0(word).to_u64()))
+    }
+
     /// The 64 bits from word `k` on as one word, in the same order.
     /// The condition: the words hold them.
     fn pack<T: BitStore>(words: &[T], k: usize) -> u64
@@ -290,6 +298,10 @@ impl BitOrder for Msb0 {
         upto: BitEnd<T>,
     ) -> T {
         blend(old, Msb0::window(low, high, at), Msb0::mask(from, upto))
+    }
+
+    fn front<T: BitStore, U: BitStore>(word: U) -> T {
+        T::from_u64(word.shr(U::BITS - T::BITS).to_u64())
     }
 
     fn pack<T: BitStore>(words: &[T], k: usize) -> u64 {

@@ -194,6 +194,22 @@ pub(crate) fn block_at<O: BitOrder, U: BitStore, P: BitOrder>(
     O::from_lsb0(P::to_lsb0(word))
 }
 
+/// The word of the bits of `source` from place `at` on. The condition: the row has them.
+#[inline(always)]
+fn word_at<T: BitStore, O: BitOrder, U: BitStore, P: BitOrder>(source: &[U], at: usize) -> T
+    requires { at + T.BITS ≤ U.BITS * length source.now }
+    ensures { row T.BitStore O.BitOrder (result ∷ []) ≡ slice_range (row U.BitStore P.BitOrder source.now) at (at + T.BITS) }
+{
+    let width = U::BITS as usize;
+    let k = at / width;
+    if T::BITS < U::BITS && goes_by_shifts::<O>() && k + 1 < source.len() {
+        let begin = BitIdx::<U>::new_unchecked((at % width) as u8);
+        let word = P::window(source[k], source[k + 1], begin);
+        return O::front::<T, U>(O::from_lsb0(P::to_lsb0(word)));
+    }
+    word_of_run::<T, O, U, P>(source, at, T::BITS, 0)
+}
+
 /// The word of the bits of `source` that begin `t` words of type `T` behind index `skip` of word `begin`.
 /// The condition: `skip` is an index of the word, and the row has one bit more.
 #[inline(always)]
@@ -222,5 +238,5 @@ pub(crate) fn word_behind<T: BitStore, O: BitOrder, U: BitStore, P: BitOrder>(
         }
     }
     let at = begin * U::BITS as usize + skip as usize + t * T::BITS as usize;
-    word_of_run::<T, O, U, P>(source, at, T::BITS, 0)
+    word_at::<T, O, U, P>(source, at)
 }

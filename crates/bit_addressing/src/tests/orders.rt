@@ -106,3 +106,11 @@ fn indices(rt: HostRuntime) {
             && BitPos::<u16>::new(9) != BitPos::<u16>::new(8)
     );
 }
+
+#[test]
+fn fronts(rt: HostRuntime) {
+    assert_eq!(rt; Lsb0::front::<u8, u32>(0x1234_5678), 0x78);
+    assert_eq!(rt; Msb0::front::<u8, u32>(0x1234_5678), 0x12);
+    assert_eq!(rt; Msb0::front::<u64, u64>(7), 7);
+    assert_eq!(rt; Xor4::front::<u8, u16>(0xabcd), 0xcd);
+}

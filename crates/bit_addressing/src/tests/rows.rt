@@ -92,3 +92,25 @@ fn chunks(rt: HostRuntime) {
     assert_eq!(rt; word, [0x18]);
     assert_eq!(rt; read_binary::<u16, Lsb0>(&word, 3, 3), 6);
 }
+
+#[test]
+fn wide_words_taken_apart(rt: HostRuntime) {
+    let source = [0x0123_4567_89ab_cdef_u64, 0xfedc_ba98_7654_3210, 0xff];
+    let mut bytes = [0_u8; 17];
+    copy_bits::<u8, Msb0, u64, Msb0>(&mut bytes, 0, &source, 0, 128);
+    assert_eq!(rt;
+        bytes,
+        [
+            0x01, 0x23, 0x45, 0x67, 0x89, 0xab, 0xcd, 0xef, 0xfe, 0xdc, 0xba, 0x98, 0x76, 0x54,
+            0x32, 0x10, 0
+        ]
+    );
+    copy_bits::<u8, Msb0, u64, Lsb0>(&mut bytes, 0, &source, 0, 128);
+    assert_eq!(rt;
+        bytes,
+        [
+            0xf7, 0xb3, 0xd5, 0x91, 0xe6, 0xa2, 0xc4, 0x80, 0x08, 0x4c, 0x2a, 0x6e, 0x19, 0x5d,
+            0x3b, 0x7f, 0
+        ]
+    );
+}

@@ -1,7 +1,6 @@
 use Rattle.std.proofs.Common.{◌≡◌, ℕ, ◌+◌, ◌*◌, ◌/◌, slice_range, sym, ◌∙◌, ap, arith}
 use Rattle.bit_addressing.specs.Typed.{row}
 use Rattle.bit_addressing.proofs.Blocks.{block_as_word}
-use Rattle.bit_addressing.proofs.Chunks.{whole_is}
 use Rattle.bit_addressing.proofs.Packs.{pack_fills}
 use Rattle.bit_addressing.proofs.lists.Sized.{right_sum}
 use Rattle.bit_addressing.proofs.bits.chunks.word_behind.Goals as goal
@@ -40,5 +39,5 @@ returns g c =
     let t = c.args.t in
     let zs = row g.U.BitStore g.P.BitOrder c.args.source.now in
     let at : ℕ = begin * c.BITS-4.result + skip + t * c.BITS-5.result in
-    let from : begin * u + skip + t * w ≡ at = ap (λ n. begin * n + skip + t * w) (sym c.BITS-4.ensures) ∙ ap (λ n. begin * c.BITS-4.result + skip + t * n) (sym c.BITS-5.ensures) in
-    whole_is g.O.BitOrder.place w (g.T.BitStore.value c.word_of_run.result) zs c.BITS-6.result at (begin * u + skip + t * w) (begin * u + skip + t * w + w) c.BITS-6.ensures from (ap (λ n. n + w) from) c.word_of_run.ensures
+    let from : at ≡ begin * u + skip + t * w = ap (λ n. begin * n + skip + t * c.BITS-5.result) c.BITS-4.ensures ∙ ap (λ n. begin * u + skip + t * n) c.BITS-5.ensures in
+    c.word_at.ensures ∙ ap (λ n. slice_range zs n (n + w)) from

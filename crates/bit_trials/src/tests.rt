@@ -1,4 +1,4 @@
-//! Vectors beside plain lists, with memory refused, and at the limits of lengths.
+//! Rows, views, arrays, boxes and vectors beside plain lists; vectors with memory refused, and at the limits of lengths.
 mod calls;
 mod commands;
 mod limits;

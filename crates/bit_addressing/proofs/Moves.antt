@@ -1,6 +1,6 @@
 -- Where moved bits come from, a word that is collected bit by bit, and the words that a run touches.
 use Rattle.std.proofs.Common.{◌≡◌, ◌↔◌, ℕ, ◌+◌, ◌-◌, ◌*◌, ◌/◌, ◌<◌, ◌≤◌, Bool, if◌then◌else◌, ◌&&◌, eqb, leb, ltb, refl, sym, ◌∙◌, ap, inl, inr, arith, eq-eqb}
-use Rattle.std.proofs.lemmas.Nat.{le-div}
+use Rattle.std.proofs.lemmas.Nat.{le-div, div-mul-add}
 use Rattle.std.proofs.Math.Nat.{div-mul-le_self, div-lt_iff_lt-mul}
 use Rattle.std.proofs.lemmas.Bool.{ne_eqb, cases_lt, lt-leb, le-leb, lt-ltb, le-ltb}
 use Rattle.std.proofs.lemmas.Bool.Decides.{nat_tests, eqb_tells}
@@ -75,3 +75,21 @@ touched_are w d n k positive some =
 -- no word has a bit of an empty run
 pub touched_none : (w d : ℕ) → touched w d 0 ≡ 0
 touched_none w d = refl
+
+-- word k lies between those of the first and the last of the n bits from d on exactly if it has one of them
+pub holds_bit : (w d n k : ℕ) → 0 < w → 0 < n → ((d / w ≤ k) × (k < (d + n - 1) / w + 1)) ↔ ((i : ℕ) × (d ≤ i) × (i < d + n) × (i / w ≡ k))
+holds_bit w d n k positive some =
+    let first = div-lt_iff_lt-mul positive in
+    let whole = div-mul-le_self (d + n - 1) w in (
+      (λ h. elim (cases_lt (d / w) k) [
+        | inl l ↦
+            let m = mul_mono k ((d + n - 1) / w) w (omega (arith, h.1)) in
+            let low : d < k * w = first.0 l in
+            (k * w + 0, omega arith, omega arith, div-mul-add k w 0 positive)
+        | inr l ↦ (d, omega arith, omega arith, let e : d / w ≡ k = omega (arith, h.0) in e)
+      ]),
+      (λ h.
+          let low = div_mono d h.0 w positive h.1 in
+          let high = div_mono h.0 (d + n - 1) w positive (omega (arith, h.2)) in
+          (omega (arith, h.3), omega (arith, h.3))),
+    )

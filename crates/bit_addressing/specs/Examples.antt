@@ -2,6 +2,7 @@
 use Rattle.std.proofs.Common.{arith}
 use Rattle.std.specs.Prelude.{◌≡◌, ℕ, ◌+◌, ◌-◌, ◌*◌, ◌%◌, true, false, [], ◌∷◌, ◌++◌, replicate, refl, bit_xor}
 use Rattle.bit_addressing.specs.Order.{IsLawful, lawful_by_test}
+use Rattle.bit_addressing.specs.declared.length.TheConstants.{MAX_BITS}
 use Rattle.bit_addressing.specs.Row.{row_of, packed, words_for, put, sized, filled, moved, touched, number_of, number_bits, binary, IsFirst, IsFirstDifference}
 
 -- the word 1c (hexadecimal) from its lowest place, and from its highest
@@ -50,6 +51,12 @@ packed_highest_first = refl
 packed_scrambled : packed scramble_place 8 (true ∷ true ∷ false ∷ false ∷ true ∷ false ∷ false ∷ false ∷ []) ≡ 137 ∷ []
 unfolding packed
 packed_scrambled = refl
+
+the_most_bits : MAX_BITS ≡ 2305843009213693951
+the_most_bits = refl
+
+two_words_touched : touched 8 7 2 ≡ 2
+two_words_touched = refl
 
 no_words : words_for 8 0 ≡ 0
 unfolding words_for

@@ -2,6 +2,7 @@
 ghost use Rattle.std.specs.Prelude.{Some};
 ghost use Rattle.bit_addressing.specs.Errors.{grow_error_text};
 
+use std::alloc::AllocError;
 use std::error::Error;
 use std::fmt;
 
@@ -30,3 +31,15 @@ impl fmt::Display for GrowError {
 }
 
 impl Error for GrowError {}
+
+/// A refused request for memory is `OutOfMemory`.
+impl From<AllocError> for GrowError {
+    ghost use Rattle.std.specs.Prelude.{◌≡◌};
+    ghost use Rattle.bit_addressing.specs.declared.errors.GrowError.TheVariants.{OutOfMemory};
+
+    ghost from_gives = { λ _ e. e ≡ OutOfMemory };
+
+    fn from(_refused: AllocError) -> GrowError {
+        GrowError::OutOfMemory
+    }
+}

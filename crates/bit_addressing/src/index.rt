@@ -1,7 +1,9 @@
 //! Indices, ends and places of bits in a word.
 ghost use Rattle.std.specs.Prelude.{◌≡◌, ℕ, ◌<◌, ◌≤◌, MatchOption};
+ghost use Rattle.std.specs.Ordering.{nat_cmp};
 
 use crate::store::BitStore;
+use std::cmp::Ordering;
 use std::marker::{Model, PhantomData};
 
 /// The index of a bit in a word of type `T`: below `T::BITS`.
@@ -58,6 +60,13 @@ impl<T: BitStore> BitIdx<T> {
     {
         self.index
     }
+
+    /// Like `cmp`: compares the two as numbers.
+    pub fn order(self, other: Self) -> Ordering
+        ensures { result ≡ nat_cmp self other }
+    {
+        self.cmp(&other)
+    }
 }
 
 /// The end of a run of indices in a word of type `T`: at most `T::BITS`.
@@ -112,6 +121,13 @@ impl<T: BitStore> BitEnd<T> {
     {
         self.end
     }
+
+    /// Like `cmp`: compares the two as numbers.
+    pub fn order(self, other: Self) -> Ordering
+        ensures { result ≡ nat_cmp self other }
+    {
+        self.cmp(&other)
+    }
 }
 
 /// The place of a bit in a word of type `T`: below `T::BITS`, counted from the least significant bit.
@@ -165,5 +181,12 @@ impl<T: BitStore> BitPos<T> {
         ensures range { result < T.BITS }
     {
         self.place
+    }
+
+    /// Like `cmp`: compares the two as numbers.
+    pub fn order(self, other: Self) -> Ordering
+        ensures { result ≡ nat_cmp self other }
+    {
+        self.cmp(&other)
     }
 }

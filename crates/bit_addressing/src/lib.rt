@@ -22,14 +22,15 @@ pub use bits::growth::{cut_words_in_vec, push_bit_in_vec, resize_words_in_vec};
 pub use bits::searches::{count_bits, differ_at, find_bit};
 pub use bits::single::{exact_words, fill_bits, fill_outside, flip_bits, read_bit, write_bit};
 pub use bits::vectors::{
-    copy_bits_in_vec, fill_bits_in_vec, fill_outside_in_vec, flip_bits_in_vec, move_bits_in_vec,
-    write_binary_in_vec, write_bit_in_vec, write_chunk_in_vec,
+    copy_bits_in_vec, fill_bits_in_vec, fill_outside_in_vec, flip_bits_in_vec,
+    move_bits_counted_in_vec, move_bits_in_vec, write_binary_in_vec, write_bit_in_vec,
+    write_chunk_in_vec,
 };
 pub use errors::GrowError;
 pub use index::{BitEnd, BitIdx, BitPos};
-pub use length::{MAX_BITS, elts};
+pub use length::{MAX_BITS, elts, touched_words};
 pub use meter::Meter;
-pub use move_run::move_bits;
+pub use move_run::{move_bits, move_bits_counted};
 pub use order::{BitOrder, Lsb0, Msb0};
 pub use range::RangeExt;
 pub use store::{BitStore, BitStore as BitRegister};

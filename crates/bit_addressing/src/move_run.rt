@@ -1,12 +1,13 @@
 //! Moves of runs of bits in a row, a word at a time: two neighbours, shifted, give a word of the target.
 ghost use Rattle.std.specs.Prelude.{◌≡◌, ℕ, ◌+◌, ◌-◌, ◌*◌, ◌<◌, ◌≤◌, [], ◌∷◌, map, length};
 ghost use Rattle.bit_addressing.specs.Bits.{has_bit};
-ghost use Rattle.bit_addressing.specs.Row.{row_bit, row_of, moved};
+ghost use Rattle.bit_addressing.specs.Row.{row_bit, row_of, moved, touched};
 ghost use Rattle.bit_addressing.specs.declared.length.TheConstants.{MAX_BITS};
 ghost use Rattle.bit_addressing.specs.Typed.{row};
 
 use crate::bits::chunks::goes_by_shifts;
 use crate::index::{BitEnd, BitIdx};
+use crate::meter::Meter;
 use crate::order::BitOrder;
 use crate::store::BitStore;
 use crate::word_row::WordRow;
@@ -216,9 +217,8 @@ pub(crate) fn move_words<T: BitStore, O: BitOrder>(
     }
 }
 
-/// Moves the `n` bits from `src` on to the places from `dst` on, as if they were copied out first, by
-/// one `BitOrder::move_run` over these words. The condition: both runs lie in the words, which have at
-/// most `MAX_BITS + 2 * T::BITS` bits.
+/// Moves the `n` bits from index `src` to index `dst`, as if they were copied out first, by one `BitOrder::move_run` over
+/// these words. Requires that both runs lie in the words, which have at most `MAX_BITS + 2 * T::BITS` bits.
 pub fn move_bits<T: BitStore, O: BitOrder>(words: &mut [T], src: usize, dst: usize, n: usize)
     requires room { T.BITS * length words.old ≤ MAX_BITS + 2 * T.BITS }
     requires source { src + n ≤ T.BITS * length words.old }
@@ -226,6 +226,26 @@ pub fn move_bits<T: BitStore, O: BitOrder>(words: &mut [T], src: usize, dst: usi
     ensures bits { row T.BitStore O.BitOrder words.new ≡ moved (row T.BitStore O.BitOrder words.old) src dst n }
     ensures size { length words.new ≡ length words.old }
 {
+    let _meter = move_bits_counted::<T, O>(words, src, dst, n);
+}
+
+/// Like `move_bits`, but returns the meter of the words that were read and written: at most one write for each word that
+/// holds a bit of the target, and at most three reads for each.
+pub fn move_bits_counted<T: BitStore, O: BitOrder>(
+    words: &mut [T],
+    src: usize,
+    dst: usize,
+    n: usize,
+) -> Meter
+    requires room { T.BITS * length words.old ≤ MAX_BITS + 2 * T.BITS }
+    requires source { src + n ≤ T.BITS * length words.old }
+    requires target { dst + n ≤ T.BITS * length words.old }
+    ensures bits { row T.BitStore O.BitOrder words.new ≡ moved (row T.BitStore O.BitOrder words.old) src dst n }
+    ensures size { length words.new ≡ length words.old }
+    ensures writes { result.writes ≤ touched T.BITS dst n }
+    ensures reads { result.reads ≤ 3 * touched T.BITS dst n }
+{
     let mut row = WordRow::new(words);
     O::move_run(&mut row, src, dst, n);
+    row.into_meter()
 }

@@ -64,4 +64,13 @@ impl<'a, T: BitStore> WordRow<'a, T> {
         self.meter.count_write();
         self.words[k] = word;
     }
+
+    /// Ends the row, and returns its meter. The words stay as they are.
+    pub fn into_meter(self) -> Meter
+        ensures words { self.exit.0.now ≡ self.entry.words.now }
+        ensures reads { result.reads ≡ self.entry.meter.reads }
+        ensures writes { result.writes ≡ self.entry.meter.writes }
+    {
+        self.meter
+    }
 }

@@ -1,13 +1,14 @@
 //! The calls on words that lie in a vector, which keeps its capacity.
 ghost use Rattle.std.specs.Prelude.{◌≡◌, ◌+◌, ◌-◌, ◌*◌, ◌^◌, ◌<◌, ◌≤◌, not, map, length, replicate, slice_range, set, vec_capacity};
-ghost use Rattle.bit_addressing.specs.Row.{binary, filled, moved, number_bits, put};
+ghost use Rattle.bit_addressing.specs.Row.{binary, filled, moved, number_bits, put, touched};
 ghost use Rattle.bit_addressing.specs.declared.length.TheConstants.{MAX_BITS};
 ghost use Rattle.bit_addressing.specs.Typed.{row};
 
 use crate::bits::chunks::{write_binary, write_chunk};
 use crate::bits::copies::copy_bits;
 use crate::bits::single::{fill_bits, fill_outside, flip_bits, write_bit};
-use crate::move_run::move_bits;
+use crate::meter::Meter;
+use crate::move_run::move_bits_counted;
 use crate::order::BitOrder;
 use crate::store::BitStore;
 
@@ -81,7 +82,7 @@ pub fn copy_bits_in_vec<T: BitStore, O: BitOrder, U: BitStore, P: BitOrder>(
     copy_bits::<T, O, U, P>(words.as_mut_slice(), at, source, from, n);
 }
 
-/// As `move_bits`, in the words of a vector.
+/// Like `move_bits`, in the words of a vector.
 pub fn move_bits_in_vec<T: BitStore, O: BitOrder>(
     words: &mut Vec<T>,
     src: usize,
@@ -95,7 +96,26 @@ pub fn move_bits_in_vec<T: BitStore, O: BitOrder>(
     ensures size { length words.new.items ≡ length words.old.items }
     ensures capacity { vec_capacity words.new ≡ vec_capacity words.old }
 {
-    move_bits::<T, O>(words.as_mut_slice(), src, dst, n);
+    let _meter = move_bits_counted_in_vec::<T, O>(words, src, dst, n);
+}
+
+/// Like `move_bits_counted`, in the words of a vector.
+pub fn move_bits_counted_in_vec<T: BitStore, O: BitOrder>(
+    words: &mut Vec<T>,
+    src: usize,
+    dst: usize,
+    n: usize,
+) -> Meter
+    requires room { T.BITS * length words.old.items ≤ MAX_BITS + 2 * T.BITS }
+    requires source { src + n ≤ T.BITS * length words.old.items }
+    requires target { dst + n ≤ T.BITS * length words.old.items }
+    ensures bits { row T.BitStore O.BitOrder words.new.items ≡ moved (row T.BitStore O.BitOrder words.old.items) src dst n }
+    ensures size { length words.new.items ≡ length words.old.items }
+    ensures capacity { vec_capacity words.new ≡ vec_capacity words.old }
+    ensures writes { result.writes ≤ touched T.BITS dst n }
+    ensures reads { result.reads ≤ 3 * touched T.BITS dst n }
+{
+    move_bits_counted::<T, O>(words.as_mut_slice(), src, dst, n)
 }
 
 /// As `write_chunk`, in the words of a vector.

@@ -9,13 +9,13 @@ use Rattle.bit_slice.proofs.counted.ones_between.Goals as goal
 pub begin_of-from-requires : goal.begin_of-from-requires
 begin_of-from-requires g c =
     let w = g.T.BitStore.BITS in
-    let before = word_before w c.args.end c.loop-k.k (width_positive w g.met.T.BitStore.width) (omega (arith, c.loop-k-test.true, c.elts-k-end.ensures)) in
+    let before = word_before w c.args.end c.loop-k.k (width_positive w g.met.T.BitStore.width) (omega (arith, c.loop-k-test.true, c.elts-k-end.ensures.value)) in
     omega (arith, c.requires.fits)
 
 pub begin_of-upto-requires : goal.begin_of-upto-requires
 begin_of-upto-requires g c =
     let w = g.T.BitStore.BITS in
-    let before = next_before w c.args.end c.loop-k.k (width_positive w g.met.T.BitStore.width) (omega (arith, c.loop-k-test.true, c.elts-k-end.ensures)) in
+    let before = next_before w c.args.end c.loop-k.k (width_positive w g.met.T.BitStore.width) (omega (arith, c.loop-k-test.true, c.elts-k-end.ensures.value)) in
     omega (arith, c.requires.fits)
 
 pub loop-k-preserved : goal.loop-k-preserved
@@ -28,7 +28,7 @@ loop-k-preserved g c =
     let zs = row g.T.BitStore g.O.BitOrder ws in
     let from = c.begin_of-from.result in
     let upto = c.begin_of-upto.result in
-    let p : IsPiece w head end from upto = rw (c.begin_of-from.ensures, c.begin_of-upto.ensures) (piece w head end k (width_positive w g.met.T.BitStore.width) c.requires.in_word c.requires.ordered (omega (arith, c.loop-k-test.true, c.elts-k-end.ensures))) in
+    let p : IsPiece w head end from upto = rw (c.begin_of-from.ensures, c.begin_of-upto.ensures) (piece w head end k (width_positive w g.met.T.BitStore.width) c.requires.in_word c.requires.ordered (omega (arith, c.loop-k-test.true, c.elts-k-end.ensures.value))) in
     let back : from + (upto - from) ≡ upto = let o = p.ordered in omega arith in
     let before = c.loop-k.invariant.value ∙ ap (λ n. count_by (λ b. b) (slice_range zs head n)) (sym c.begin_of-from.ensures) in
     let here = c.ones_of_run-count.ensures.value ∙ ap (λ b. count_by (λ b. b) (slice_range (row g.T.BitStore g.O.BitOrder b.now) from (from + (upto - from)))) c.loop-k.invariant.words ∙ ap (λ n. count_by (λ b. b) (slice_range zs from n)) back in
@@ -45,5 +45,5 @@ pub returns-clause-value : goal.returns-clause-value
 returns-clause-value g c =
     let w = g.T.BitStore.BITS in
     let zs = row g.T.BitStore g.O.BitOrder c.args.words.now.words.now in
-    let all = begin_last w c.args.head c.args.end c.loop-k.k (width_positive w g.met.T.BitStore.width) c.requires.ordered (omega (arith, c.loop-k-test.false, c.loop-k.auto.k-end, c.elts-k-end.ensures)) in
+    let all = begin_last w c.args.head c.args.end c.loop-k.k (width_positive w g.met.T.BitStore.width) c.requires.ordered (omega (arith, c.loop-k-test.false, c.loop-k.auto.k-end, c.elts-k-end.ensures.value)) in
     c.loop-k.invariant.value ∙ ap (λ n. count_by (λ b. b) (slice_range zs c.args.head n)) all

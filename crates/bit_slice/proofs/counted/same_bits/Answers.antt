@@ -8,13 +8,13 @@ use Rattle.bit_slice.proofs.counted.same_bits.Goals as goal
 pub begin_of-from-requires : goal.begin_of-from-requires
 begin_of-from-requires g c =
     let w = g.T.BitStore.BITS in
-    let before = word_before w c.args.end c.loop-k.k (width_positive w g.met.T.BitStore.width) (omega (arith, c.loop-k-test.true, c.elts-k-end.ensures)) in
+    let before = word_before w c.args.end c.loop-k.k (width_positive w g.met.T.BitStore.width) (omega (arith, c.loop-k-test.true, c.elts-k-end.ensures.value)) in
     omega (arith, c.requires.fits)
 
 pub begin_of-upto-requires : goal.begin_of-upto-requires
 begin_of-upto-requires g c =
     let w = g.T.BitStore.BITS in
-    let before = next_before w c.args.end c.loop-k.k (width_positive w g.met.T.BitStore.width) (omega (arith, c.loop-k-test.true, c.elts-k-end.ensures)) in
+    let before = next_before w c.args.end c.loop-k.k (width_positive w g.met.T.BitStore.width) (omega (arith, c.loop-k-test.true, c.elts-k-end.ensures.value)) in
     omega (arith, c.requires.fits)
 
 pub returns-then-not-same_run-clause-value : goal.returns-then-not-same_run-clause-value
@@ -26,7 +26,7 @@ returns-then-not-same_run-clause-value g c =
     let ys = row g.T.BitStore g.O.BitOrder c.args.right.now.words.now in
     let from = c.begin_of-from.result in
     let upto = c.begin_of-upto.result in
-    let p : IsPiece w head end from upto = rw (c.begin_of-from.ensures, c.begin_of-upto.ensures) (piece w head end c.loop-k.k (width_positive w g.met.T.BitStore.width) c.requires.in_word c.requires.ordered (omega (arith, c.loop-k-test.true, c.elts-k-end.ensures))) in
+    let p : IsPiece w head end from upto = rw (c.begin_of-from.ensures, c.begin_of-upto.ensures) (piece w head end c.loop-k.k (width_positive w g.met.T.BitStore.width) c.requires.in_word c.requires.ordered (omega (arith, c.loop-k-test.true, c.elts-k-end.ensures.value))) in
     let run : IsRunOf head end c.args.begin from upto (c.args.begin + (from - head)) (upto - from) = record { begins = p.begins; ordered = p.ordered; ends = p.ends; place = refl; count = refl } in
     let left = in_row g.T.BitStore g.O.BitOrder c.args.left.now.words.now end c.requires.within_left in
     let right = in_row g.T.BitStore g.O.BitOrder c.args.right.now.words.now (c.args.begin + (end - head)) c.requires.within_right in
@@ -45,7 +45,7 @@ loop-k-preserved g c =
     let ys = row g.T.BitStore g.O.BitOrder c.args.right.now.words.now in
     let from = c.begin_of-from.result in
     let upto = c.begin_of-upto.result in
-    let p : IsPiece w head end from upto = rw (c.begin_of-from.ensures, c.begin_of-upto.ensures) (piece w head end k (width_positive w g.met.T.BitStore.width) c.requires.in_word c.requires.ordered (omega (arith, c.loop-k-test.true, c.elts-k-end.ensures))) in
+    let p : IsPiece w head end from upto = rw (c.begin_of-from.ensures, c.begin_of-upto.ensures) (piece w head end k (width_positive w g.met.T.BitStore.width) c.requires.in_word c.requires.ordered (omega (arith, c.loop-k-test.true, c.elts-k-end.ensures.value))) in
     let run : IsRunOf head end c.args.begin from upto (c.args.begin + (from - head)) (upto - from) = record { begins = p.begins; ordered = p.ordered; ends = p.ends; place = refl; count = refl } in
     let left = in_row g.T.BitStore g.O.BitOrder c.args.left.now.words.now end c.requires.within_left in
     let right = in_row g.T.BitStore g.O.BitOrder c.args.right.now.words.now (c.args.begin + (end - head)) c.requires.within_right in
@@ -74,5 +74,5 @@ returns-clause-value g c =
     let head = c.args.head in
     let xs = row g.T.BitStore g.O.BitOrder c.args.left.now.words.now in
     let ys = row g.T.BitStore g.O.BitOrder c.args.right.now.words.now in
-    let all = begin_last w head c.args.end c.loop-k.k (width_positive w g.met.T.BitStore.width) c.requires.ordered (omega (arith, c.loop-k-test.false, c.loop-k.auto.k-end, c.elts-k-end.ensures)) in
+    let all = begin_last w head c.args.end c.loop-k.k (width_positive w g.met.T.BitStore.width) c.requires.ordered (omega (arith, c.loop-k-test.false, c.loop-k.auto.k-end, c.elts-k-end.ensures.value)) in
     told_true _ (subst (λ n. slice_range xs head n ≡ slice_range ys c.args.begin (c.args.begin + (n - head))) all c.loop-k.invariant.same)

@@ -14,7 +14,7 @@ words_at-requires g c =
     let from = c.args.from in
     let upto = c.args.upto in
     let fits : from + (upto - from) ≤ g.T.BitStore.BITS * length c.args.words.now = omega (arith, c.requires.ordered, c.requires.inside) in
-    rw (c.elts-count.ensures, c.BITS-width.ensures) (part_room g.T.BitStore.BITS (length c.args.words.now) from (upto - from) (width_positive g.T.BitStore.BITS g.met.T.BitStore.width) fits)
+    rw (c.elts-count.ensures.value, c.BITS-width.ensures) (part_room g.T.BitStore.BITS (length c.args.words.now) from (upto - from) (width_positive g.T.BitStore.BITS g.met.T.BitStore.width) fits)
 
 pub from_parts_mut-requires-clause-exact : goal.from_parts_mut-requires-clause-exact
 from_parts_mut-requires-clause-exact g c =
@@ -22,8 +22,8 @@ from_parts_mut-requires-clause-exact g c =
     let upto = c.args.upto in
     let first : ℕ = from / c.BITS-width.result in
     let fits : from + (upto - from) ≤ g.T.BitStore.BITS * length c.args.words.now = omega (arith, c.requires.ordered, c.requires.inside) in
-    let there : first + c.elts-count.result ≤ length c.args.words.now = rw (c.elts-count.ensures, c.BITS-width.ensures) (part_room g.T.BitStore.BITS (length c.args.words.now) from (upto - from) (width_positive g.T.BitStore.BITS g.met.T.BitStore.width) fits) in
-    ap length c.words_at.ensures ∙ words_cut c.args.words.now first c.elts-count.result there ∙ c.elts-count.ensures
+    let there : first + c.elts-count.result ≤ length c.args.words.now = rw (c.elts-count.ensures.value, c.BITS-width.ensures) (part_room g.T.BitStore.BITS (length c.args.words.now) from (upto - from) (width_positive g.T.BitStore.BITS g.met.T.BitStore.width) fits) in
+    ap length c.words_at.ensures ∙ words_cut c.args.words.now first c.elts-count.result there ∙ c.elts-count.ensures.value
 
 pub returns-clause-list : goal.returns-clause-list
 returns-clause-list g c =
@@ -36,7 +36,7 @@ returns-clause-list g c =
     let width = c.BITS-width.result in
     let is : width ≡ w = c.BITS-width.ensures in
     let bits = row g.T.BitStore g.O.BitOrder in
-    let count : c.elts-count.result ≡ words_for w (from % w + len) = c.elts-count.ensures ∙ ap (λ n. words_for w (from % n + len)) is in
+    let count : c.elts-count.result ≡ words_for w (from % w + len) = c.elts-count.ensures.value ∙ ap (λ n. words_for w (from % n + len)) is in
     let fits : from + len ≤ w * length ws = omega (arith, c.requires.ordered, c.requires.inside) in
     let there = part_room w (length ws) from len positive fits in
     let all : 0 + w * length ws ≤ w * length ws = omega arith in

@@ -11,14 +11,14 @@ slice_bounds-from_parts_mut-end g c =
     let i = c.self.inside in
     let there = visible g.T.BitStore g.O.BitOrder i.words.items i.head i.len g.met.T.BitStore.width c.self.invariant in
     let all : length c.as_mut_slice.result.now ≡ length i.words.items = ap length c.as_mut_slice.ensures.value in
-    sym (length-take-le c.elts-count.result c.as_mut_slice.result.now (omega (arith, c.elts-count.ensures, there, all)))
+    sym (length-take-le c.elts-count.result c.as_mut_slice.result.now (omega (arith, c.elts-count.ensures.value, there, all)))
 
 pub from_parts_mut-requires-clause-exact : goal.from_parts_mut-requires-clause-exact
 from_parts_mut-requires-clause-exact g c =
     let i = c.self.inside in
     let there = visible g.T.BitStore g.O.BitOrder i.words.items i.head i.len g.met.T.BitStore.width c.self.invariant in
     let all : length c.as_mut_slice.result.now ≡ length i.words.items = ap length c.as_mut_slice.ensures.value in
-    length-take-le c.elts-count.result c.as_mut_slice.result.now (omega (arith, c.elts-count.ensures, there, all)) ∙ c.elts-count.ensures
+    length-take-le c.elts-count.result c.as_mut_slice.result.now (omega (arith, c.elts-count.ensures.value, there, all)) ∙ c.elts-count.ensures.value
 
 pub invariant_of-self-lent : goal.invariant_of-self-lent
 invariant_of-self-lent g c = λ w.
@@ -34,7 +34,7 @@ returns g c =
     let bits = row g.T.BitStore g.O.BitOrder in
     let len : i.len ≡ length now.list = sym c.self.invariant.shows ∙ ap (λ v. length v.list) c.self.view_is in
     let head : i.head ≡ now.head = ap (λ v. v.head) c.self.view_is in
-    let words : take c.elts-count.result c.as_mut_slice.result.now ≡ take (words_for w (i.head + i.len)) i.words.items = ap (λ n. take n c.as_mut_slice.result.now) c.elts-count.ensures ∙ ap (take (words_for w (i.head + i.len))) c.as_mut_slice.ensures.value in
+    let words : take c.elts-count.result c.as_mut_slice.result.now ≡ take (words_for w (i.head + i.len)) i.words.items = ap (λ n. take n c.as_mut_slice.result.now) c.elts-count.ensures.value ∙ ap (take (words_for w (i.head + i.len))) c.as_mut_slice.ensures.value in
     record {
       words = c.from_parts_mut.ensures.words ∙ words ∙ ap (λ v. take (words_for w (v.head + i.len)) v.words) c.self.view_is ∙ ap (λ n. take (words_for w (now.head + n)) now.words) len;
       head = c.from_parts_mut.ensures.head ∙ head;

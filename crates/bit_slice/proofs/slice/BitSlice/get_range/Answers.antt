@@ -14,7 +14,7 @@ words_at-requires g c =
     let from = c.normalize-part.result.start in
     let upto = c.normalize-part.result.end in
     let fits : v.head + from + (upto - from) ≤ g.T.BitStore.BITS * length v.words.now = omega (arith, c.normalize-part.ensures.start, c.normalize-part.ensures.end, c.requires.lies.0, c.requires.lies.1, v.fits.room) in
-    rw (c.elts-count.ensures, c.BITS-width.ensures) (part_room g.T.BitStore.BITS (length v.words.now) (v.head + from) (upto - from) (width_positive g.T.BitStore.BITS g.met.T.BitStore.width) fits)
+    rw (c.elts-count.ensures.value, c.BITS-width.ensures) (part_room g.T.BitStore.BITS (length v.words.now) (v.head + from) (upto - from) (width_positive g.T.BitStore.BITS g.met.T.BitStore.width) fits)
 
 pub from_parts-requires-clause-exact : goal.from_parts-requires-clause-exact
 from_parts-requires-clause-exact g c =
@@ -23,8 +23,8 @@ from_parts-requires-clause-exact g c =
     let from = c.normalize-part.result.start in
     let upto = c.normalize-part.result.end in
     let fits : v.head + from + (upto - from) ≤ g.T.BitStore.BITS * length v.words.now = omega (arith, c.normalize-part.ensures.start, c.normalize-part.ensures.end, c.requires.lies.0, c.requires.lies.1, v.fits.room) in
-    let there : first + c.elts-count.result ≤ length v.words.now = rw (c.elts-count.ensures, c.BITS-width.ensures) (part_room g.T.BitStore.BITS (length v.words.now) (v.head + from) (upto - from) (width_positive g.T.BitStore.BITS g.met.T.BitStore.width) fits) in
-    ap length c.words_at.ensures ∙ words_cut v.words.now first c.elts-count.result there ∙ c.elts-count.ensures
+    let there : first + c.elts-count.result ≤ length v.words.now = rw (c.elts-count.ensures.value, c.BITS-width.ensures) (part_room g.T.BitStore.BITS (length v.words.now) (v.head + from) (upto - from) (width_positive g.T.BitStore.BITS g.met.T.BitStore.width) fits) in
+    ap length c.words_at.ensures ∙ words_cut v.words.now first c.elts-count.result there ∙ c.elts-count.ensures.value
 
 pub returns-clause-list : goal.returns-clause-list
 returns-clause-list g c =
@@ -36,7 +36,7 @@ returns-clause-list g c =
     let at : ℕ = v.head + from in
     let width = c.BITS-width.result in
     let is : width ≡ w = c.BITS-width.ensures in
-    let count : c.elts-count.result ≡ words_for w (at % w + (upto - from)) = c.elts-count.ensures ∙ ap (λ n. words_for w (at % n + (upto - from))) is in
+    let count : c.elts-count.result ≡ words_for w (at % w + (upto - from)) = c.elts-count.ensures.value ∙ ap (λ n. words_for w (at % n + (upto - from))) is in
     let ordered : from ≤ upto = omega (arith, c.normalize-part.ensures.start, c.normalize-part.ensures.end, c.requires.lies.0) in
     let within : upto ≤ v.len = omega (arith, c.normalize-part.ensures.end, c.requires.lies.1) in
     let fits : at + (upto - from) ≤ w * length v.words.now = omega (arith, v.fits.room) in

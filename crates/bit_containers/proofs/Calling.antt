@@ -110,7 +110,7 @@ module _ {F : Type 0} (step : F → ℕ → Bor Bool → Bool → F → Type 0) 
       }
 
   -- after the last call
-  pub retains_all : (first : F) (old : List Bool) (f : F) (now : List Bool) (count number index : ℕ) → length old ≤ index → RetainsUpTo first old f now count number index → (answers : List Bool) × (last : F) × AnswersAtEach step first 0 old answers last × (staying now count number ≡ kept old answers)
+  pub retains_all : (first : F) (old : List Bool) (f : F) (now : List Bool) (count number index : ℕ) → length old ≤ index → RetainsUpTo first old f now count number index → (answers : List Bool) × AnswersAtEach step first 0 old answers f × (staying now count number ≡ kept old answers)
   retains_all first old f now count number index past was =
       let whole = take_all index old past in
-      (was.answers, f, rw whole at was.answered, rw whole at was.front)
+      (was.answers, rw whole at was.answered, rw whole at was.front)

@@ -1,7 +1,8 @@
 //! A view whose moves are counted.
-ghost use Rattle.std.specs.Prelude.{◌≡◌, ℕ, ◌+◌, ◌-◌, ◌*◌, ◌<◌, ◌≤◌, ◌↔◌, IsTrue, length};
+ghost use Rattle.std.specs.Prelude.{◌≡◌, ℕ, ◌+◌, ◌-◌, ◌*◌, ◌<◌, ◌≤◌, ◌↔◌, IsTrue, length, slice_range};
 ghost use Rattle.bit_addressing.specs.Range.{LiesIn};
 ghost use Rattle.bit_addressing.specs.Row.{moved, touched, words_for};
+ghost use Rattle.bit_addressing.specs.Typed.{row};
 ghost use Rattle.bit_addressing.specs.declared.length.TheConstants.{MAX_BITS};
 ghost use Rattle.bit_slice.specs.Fits.{IsView};
 
@@ -53,6 +54,7 @@ impl<'a, T: BitStore, O: BitOrder> CountedMut<'a, T, O> {
         ensures words { words_of result ≡ words.old }
         ensures head { head_of result ≡ head }
         ensures len { len_of result ≡ len }
+        ensures list { list_of result ≡ slice_range (row T.BitStore O.BitOrder words.old) head (head + len) }
         ensures reads { reads_of result ≡ 0 }
         ensures writes { writes_of result ≡ 0 }
     {
@@ -95,6 +97,8 @@ impl<'a, T: BitStore, O: BitOrder> CountedMut<'a, T, O> {
         ensures len { len_of self.new ≡ len_of self.old }
         ensures writes { writes_of self.new ≤ writes_of self.old + touched T.BITS (head_of self.old + dest) (R.end_of range (len_of self.old) - R.start_of range) }
         ensures reads { reads_of self.new ≤ reads_of self.old + 3 * touched T.BITS (head_of self.old + dest) (R.end_of range (len_of self.old) - R.start_of range) }
+        ensures writes_rise { writes_of self.old ≤ writes_of self.new }
+        ensures reads_rise { reads_of self.old ≤ reads_of self.new }
     {
         let run = range.normalize(self.len);
         let count = run.end - run.start;

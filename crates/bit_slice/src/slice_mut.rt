@@ -43,6 +43,7 @@ impl<'a, T: BitStore, O: BitOrder> BitSliceMut<'a, T, O> {
     ghost use Rattle.bit_slice.specs.BitSliceMut.{words_of, head_of, len_of, row_of, list_of, loan_of, Stays};
     ghost use Rattle.bit_slice.specs.Iter.{rest_of};
     ghost use Rattle.bit_slice.specs.Lends.{lends_words};
+    ghost use Rattle.bit_slice.specs.CountedMut.{list_of as list_counted};
 
     /// All bits of the words, with the head 0. The condition: they are at most `MAX_BITS` bits.
     pub fn from_slice_mut(words: &'a mut [T]) -> Self
@@ -119,6 +120,7 @@ impl<'a, T: BitStore, O: BitOrder> BitSliceMut<'a, T, O> {
         ensures len { result.len ≡ len_of self.old }
         ensures reads { result.row.meter.reads ≡ 0 }
         ensures writes { result.row.meter.writes ≡ 0 }
+        ensures list { list_counted result ≡ list_of self.old }
     {
         let head = self.head;
         let len = self.len;

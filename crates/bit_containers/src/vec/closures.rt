@@ -29,8 +29,9 @@ impl<T: BitStore, O: BitOrder> BitVec<T, O> {
         self.resize_by(n, &mut f)
     }
 
-    // As `resize_with`, with a function that is lent: where it shrinks or is refused, that one is as it was.
-    fn resize_by<F: FnMut(usize) -> bool>(&mut self, n: usize, f: &mut F) -> Result<(), GrowError>
+    /// As `resize_with`, with a function that is lent: it ends in the state that the last call left, and where the vector
+    /// shrinks or is refused, in the one that it had.
+    pub fn resize_by<F: FnMut(usize) -> bool>(&mut self, n: usize, f: &mut F) -> Result<(), GrowError>
         requires { F.IsAlwaysCallable f.old }
         ensures cut { n ≤ length self.old.list → OnOk result (self.new.list ≡ take n self.old.list) }
         ensures shrank { n ≤ length self.old.list → Shrank T.BITS self.old self.new n }
@@ -72,6 +73,17 @@ impl<T: BitStore, O: BitOrder> BitVec<T, O> {
     pub fn retain<F: FnMut(usize, &bool) -> bool>(&mut self, mut f: F)
         requires { F.IsAlwaysCallable f }
         ensures list { (answers : List Bool) × (last : F) × AnswersAtEach F.step f 0 self.old.list answers last × (self.new.list ≡ kept self.old.list answers) }
+        ensures head { self.new.head ≡ self.old.head }
+        ensures capacity { self.new.capacity ≡ self.old.capacity }
+    {
+        self.retain_by(&mut f)
+    }
+
+    /// As `retain`, with a function that is lent: it ends in the state that the last call left, and where there is no bit
+    /// in the one that it had.
+    pub fn retain_by<F: FnMut(usize, &bool) -> bool>(&mut self, f: &mut F)
+        requires { F.IsAlwaysCallable f.old }
+        ensures list { (answers : List Bool) × AnswersAtEach F.step f.old 0 self.old.list answers f.new × (self.new.list ≡ kept self.old.list answers) }
         ensures head { self.new.head ≡ self.old.head }
         ensures capacity { self.new.capacity ≡ self.old.capacity }
     {

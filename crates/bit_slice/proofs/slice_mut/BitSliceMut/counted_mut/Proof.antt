@@ -1,4 +1,4 @@
-use Rattle.std.proofs.Common.{◌≡◌, ℕ, ◌+◌, ◌*◌, ◌^◌, ◌<◌, sym, subst, List, [], ◌∷◌, length, refl, ap}
+use Rattle.std.proofs.Common.{◌≡◌, ℕ, ◌+◌, ◌*◌, ◌^◌, ◌<◌, sym, subst, List, [], ◌∷◌, length, slice_range, refl, ap, ◌∙◌}
 use Rattle.std.proofs.raw_atomic.Walks.{proved}
 use base.Fraction.{full_share}
 use base.Fml.{GName, ftrue, flft, fat}
@@ -35,6 +35,7 @@ use denote.Triple.Spec.{triple_of}
 use denote.Triple.Table.{framed}
 use denote.Triple.Walked.{Stays, walk_of, stay_dropped, Goes-spent_ref, ends_at}
 use borrow.Table.OneValue.{part_out_at, part_in_at}
+use Rattle.bit_addressing.specs.Typed.{row}
 use Rattle.bit_slice.specs.Fits.{IsView}
 use Rattle.bit_slice.specs.contracts.slice_mut.BitSliceMut.{the_row}
 use Rattle.bit_slice.specs.declared.counted_mut.CountedMut.{CountedMut}
@@ -123,7 +124,10 @@ counted_mut_spec 𝓤 𝓛 𝓜 𝓡 wired T₀ O₀ L₁ L₂ C₁ W Wd K Kd P 
     returns ! (look_at ! 0 refl) $ free_all ! refl $ move ! (1 ∷ []) $ split ! $ move ! (4 ∷ 1 ∷ []) $ join ! $ move ! (2 ∷ 1 ∷ 3 ∷ 0 ∷ []) $
     suffices ! _ (ends_at 𝓛 ended stayed c y (low.lowered u) u (tt, tt) (tt, tt)) $
     nothing ! $ nothing ! $ fjoin ! $ join ! $ move ! (1 ∷ 3 ∷ []) $ join ! $ join ! $ frame ! $
+    let list : slice_range (row W P u.row.words.now) u.head (u.head + u.len) ≡ slice_range (row W P h.now) d.head (d.head + d.len) =
+    ap (λ (ws : List T.Denot). slice_range (row W P ws) u.head (u.head + u.len)) words ∙ ap (λ (k : ℕ). slice_range (row W P h.now) k (k + u.len)) head ∙ ap (λ (k : ℕ). slice_range (row W P h.now) d.head (d.head + k)) len in
+    use0 𝓛 (raw (fact 𝓤 (slice_range (row W P u.row.words.now) u.head (u.head + u.len) ≡ slice_range (row W P h.now) d.head (d.head + d.len)))) (fact_i 𝓤 _ (emp 𝓤) list) $
     use0 𝓛 (raw (fact 𝓤 (u.row.meter.writes ≡ 0))) (fact_i 𝓤 _ (emp 𝓤) writes) $ use0 𝓛 (raw (fact 𝓤 (u.row.meter.reads ≡ 0))) (fact_i 𝓤 _ (emp 𝓤) reads) $ use0 𝓛 (raw (fact 𝓤 (u.len ≡ d.len))) (fact_i 𝓤 _ (emp 𝓤) len) $
     use0 𝓛 (raw (fact 𝓤 (u.head ≡ d.head))) (fact_i 𝓤 _ (emp 𝓤) head) $ use0 𝓛 (raw (fact 𝓤 (u.row.words.now ≡ h.now))) (fact_i 𝓤 _ (emp 𝓤) words) $
-    move ! (5 ∷ []) $ done !
+    move ! (6 ∷ []) $ done !
     )))))))))))))))))))))))))

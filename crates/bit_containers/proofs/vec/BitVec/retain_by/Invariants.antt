@@ -1,6 +1,6 @@
 use Rattle.std.proofs.Common.{◌≡◌}
 use Rattle.bit_containers.proofs.Calling.{RetainsUpTo}
-use Rattle.bit_containers.proofs.vec.BitVec.retain.Given as goal
+use Rattle.bit_containers.proofs.vec.BitVec.retain_by.Given as goal
 
 abbrev pub invariant-loop-index : goal.invariant-loop-index
 invariant-loop-index g l = record {

@@ -1,5 +1,12 @@
 -- Items pulled out of an iterator, one after another.
-use Rattle.std.proofs.Common.{map, false, ◌≡◌, ℕ, ◌+◌, ◌*◌, ◌<◌, Bool, List, [], ◌∷◌, ◌++◌, length, subst, sym, ◌∙◌, ap, arith, append_assoc}
+use Rattle.std.proofs.Common.{map, false, ◌≡◌, ℕ, ◌+◌, ◌*◌, ◌<◌, ◌≤◌, Bool, List, [], ◌∷◌, ◌++◌, length, subst, sym, ◌∙◌, ap, arith, append_assoc, refl}
+use Rattle.std.specs.Prelude.{Option, Result, Ok, Err, IsOk}
+use Rattle.std.specs.Iterator.Runs.{EachRunFrom}
+use Rattle.std.proofs.iter.runs.Made.{along_from_runs}
+use Rattle.bit_addressing.specs.declared.length.TheConstants.{MAX_BITS}
+use Rattle.bit_addressing.specs.declared.errors.GrowError.{GrowError}
+use Rattle.bit_addressing.specs.declared.errors.GrowError.TheVariants.{TooLong, OutOfMemory}
+use Rattle.bit_slice.specs.Pulls.{GivesFirst}
 use Rattle.std.proofs.lemmas.List.{length-append, map-append, ext_get_or}
 use Rattle.std.proofs.lemmas.List.FromFn.{length-map-range_with_len, get_or-map-range_with_len}
 use Rattle.bit_addressing.specs.Bits.{has_bit}
@@ -40,6 +47,21 @@ gathers_length w old now number got pulled was =
     let b = sym (ap length was.3) ∙ length-append was.0 (number_bits number got) in
     let s = length-number_bits number got in
     omega arith
+
+-- an iterator of which no run has more items than fit is not refused
+module _ {U S : Type 0} (becomes : U → S → Type 0) (steps : S → Option Bool → S → Type 0) (iter : U) (len capacity : ℕ) where
+  pub never_refused : (result : Result (Unit {0}) GrowError) → (result ≡ Err TooLong → GivesFirst becomes steps iter (λ bits. MAX_BITS < len + length bits))
+      → (result ≡ Err OutOfMemory → GivesFirst becomes steps iter (λ bits. (capacity < len + length bits) × (len + length bits ≤ MAX_BITS)))
+      → ((it : S) → becomes iter it → EachRunFrom steps it (λ run. (len + length run.items ≤ capacity) × (len + length run.items ≤ MAX_BITS))) → IsOk result
+  never_refused (Ok done) long wants fits = refl
+  never_refused (Err TooLong) long wants fits =
+      let gave = long refl in
+      let bound = along_from_runs steps gave.0 (λ items. (len + length items ≤ capacity) × (len + length items ≤ MAX_BITS)) (fits gave.0 gave.3) gave.1 gave.2 gave.4 in
+      absurd (omega (arith, gave.5, bound.1))
+  never_refused (Err OutOfMemory) long wants fits =
+      let gave = wants refl in
+      let bound = along_from_runs steps gave.0 (λ items. (len + length items ≤ capacity) × (len + length items ≤ MAX_BITS)) (fits gave.0 gave.3) gave.1 gave.2 gave.4 in
+      absurd (omega (arith, gave.5.0, bound.0))
 
 -- ---- words
 

@@ -1,5 +1,5 @@
 //! Runs of commands.
-ghost use Rattle.std.specs.Prelude.{◌⊎◌, Err, Some, slice_get, ◌≡◌, ◌≢◌, ◌+◌, ◌-◌, ◌<◌, ◌≤◌, ◌++◌, length, take, OnOk, OnErr, IfOk, IfErr};
+ghost use Rattle.std.specs.Prelude.{◌⊎◌, Err, Some, slice_get, ◌≡◌, ◌≢◌, ◌+◌, ◌-◌, ◌<◌, ◌≤◌, ◌++◌, length, take, vec_capacity, OnOk, OnErr, IfOk, IfErr};
 ghost use Rattle.bit_addressing.specs.declared.length.TheConstants.{MAX_BITS};
 ghost use Rattle.bit_containers.specs.Machine.{list_after_one, reply_to, list_after, replies_of, head_after_one, head_after, AllFit, IsRefusal, IsStopReason, new_length, CanWantMemory};
 
@@ -353,8 +353,9 @@ fn step<T: BitStore, O: BitOrder>(
 
 /// Does the commands in order, and appends a reply for each.
 ///
-/// Memory for all replies is taken first. A command whose index or range is out of range replies
-/// `OutOfRange` and the run goes on; a command that would grow the vector and is refused stops it.
+/// Memory for all replies is taken first: where it is refused, the run stops with `done` 0 and `OutOfMemory`, and the vector
+/// is as it was, dead bits too. A command whose index or range is out of range replies `OutOfRange`, and the run goes on. A
+/// command that would grow the vector and is refused stops it.
 pub fn run<T: BitStore, O: BitOrder>(
     v: &mut BitVec<T, O>,
     commands: &[Command],
@@ -364,7 +365,7 @@ pub fn run<T: BitStore, O: BitOrder>(
     ensures head { OnOk result (v.new.head ≡ head_after v.old.head commands.now) }
     ensures stopped_head { IfErr result (λ stop. v.new.head ≡ head_after v.old.head (take stop.done commands.now)) }
     ensures capacity { v.old.capacity ≤ v.new.capacity }
-    ensures memory { IfErr result (λ stop. stop.why ≡ GrowError.OutOfMemory → (stop.done ≡ 0) ⊎ ((command : Command) × (slice_get commands.now stop.done ≡ Some command) × CanWantMemory v.old.capacity v.new.list command)) }
+    ensures memory { IfErr result (λ stop. stop.why ≡ GrowError.OutOfMemory → ((stop.done ≡ 0) × (vec_capacity replies.old < length replies.old.items + length commands.now) × (v.new ≡ v.old)) ⊎ ((command : Command) × (slice_get commands.now stop.done ≡ Some command) × CanWantMemory v.old.capacity v.new.list command)) }
     ensures list { OnOk result (v.new.list ≡ list_after v.old.list commands.now) }
     ensures fit { OnOk result (AllFit v.old.list commands.now) }
     ensures stopped_replies { IfErr result (λ stop.

@@ -125,6 +125,7 @@ impl<T: BitStore, O: BitOrder> BitVec<T, O> {
     pub fn repeat(alloc: Global, bit: bool, n: usize) -> Result<Self, GrowError>
         ensures head { IfOk result (λ v. v.head ≡ 0) }
         ensures list { IfOk result (λ v. v.list ≡ replicate n bit) }
+        ensures len { IfOk result (λ v. length v.list ≡ n) }
         ensures row { IfOk result (λ v. v.row ≡ replicate (T.BITS * words_for T.BITS n) bit) }
         ensures clean { IfOk result (λ v. bit ≡ false → IsClean T.BITS v) }
         ensures too_long { (result ≡ Err GrowError.TooLong) ↔ (MAX_BITS < n) }
@@ -161,6 +162,7 @@ impl<T: BitStore, O: BitOrder> BitVec<T, O> {
         ensures head { result.head ≡ 0 }
         ensures row { result.row ≡ row T.BitStore O.BitOrder words.items }
         ensures list { result.list ≡ row T.BitStore O.BitOrder words.items }
+        ensures len { length result.list ≡ T.BITS * length words.items }
         ensures clean { IsClean T.BITS result }
         ensures capacity { result.capacity ≡ bits_in T.BITS (vec_capacity words) 0 }
     {
@@ -178,6 +180,8 @@ impl<T: BitStore, O: BitOrder> BitVec<T, O> {
         ensures words { IfOk result (λ v. v.words ≡ word ∷ []) }
         ensures head { IfOk result (λ v. v.head ≡ 0) }
         ensures list { IfOk result (λ v. v.list ≡ row T.BitStore O.BitOrder (word ∷ [])) }
+        ensures row { IfOk result (λ v. v.row ≡ row T.BitStore O.BitOrder (word ∷ [])) }
+        ensures len { IfOk result (λ v. length v.list ≡ T.BITS) }
         ensures clean { IfOk result (λ v. IsClean T.BITS v) }
     {
         let mut words = Vec::new(alloc);
@@ -192,6 +196,8 @@ impl<T: BitStore, O: BitOrder> BitVec<T, O> {
         ensures words { IfOk result (λ v. v.words ≡ words.now) }
         ensures head { IfOk result (λ v. v.head ≡ 0) }
         ensures list { IfOk result (λ v. v.list ≡ row T.BitStore O.BitOrder words.now) }
+        ensures row { IfOk result (λ v. v.row ≡ row T.BitStore O.BitOrder words.now) }
+        ensures len { IfOk result (λ v. length v.list ≡ T.BITS * length words.now) }
         ensures clean { IfOk result (λ v. IsClean T.BITS v) }
         ensures memory { OnErr result (0 < length words.now) }
     {
@@ -205,6 +211,8 @@ impl<T: BitStore, O: BitOrder> BitVec<T, O> {
         ensures words { IfOk result (λ v. v.words ≡ words.now) }
         ensures head { IfOk result (λ v. v.head ≡ 0) }
         ensures list { IfOk result (λ v. v.list ≡ row T.BitStore O.BitOrder words.now) }
+        ensures row { IfOk result (λ v. v.row ≡ row T.BitStore O.BitOrder words.now) }
+        ensures len { IfOk result (λ v. length v.list ≡ T.BITS * length words.now) }
         ensures clean { IfOk result (λ v. IsClean T.BITS v) }
         ensures too_long { (result ≡ Err GrowError.TooLong) ↔ (MAX_BITS < T.BITS * length words.now) }
         ensures memory { result ≡ Err GrowError.OutOfMemory → 0 < length words.now }
@@ -224,6 +232,9 @@ impl<T: BitStore, O: BitOrder> BitVec<T, O> {
         ensures words { IfOk result (λ v. v.words ≡ words.items) }
         ensures head { IfOk result (λ v. v.head ≡ 0) }
         ensures list { IfOk result (λ v. v.list ≡ row T.BitStore O.BitOrder words.items) }
+        ensures row { IfOk result (λ v. v.row ≡ row T.BitStore O.BitOrder words.items) }
+        ensures len { IfOk result (λ v. length v.list ≡ T.BITS * length words.items) }
+        ensures capacity { IfOk result (λ v. v.capacity ≡ bits_in T.BITS (vec_capacity words) 0) }
         ensures clean { IfOk result (λ v. IsClean T.BITS v) }
         ensures fits { IsOk result ↔ (T.BITS * length words.items ≤ MAX_BITS) }
         ensures back { IfErr result (λ back. back ≡ words) }
@@ -239,10 +250,12 @@ impl<T: BitStore, O: BitOrder> BitVec<T, O> {
     /// then false. Takes memory where the view has a bit, and is refused only then.
     pub fn from_bitslice(alloc: Global, view: BitSlice<'_, T, O>) -> Result<Self, AllocError>
         ensures list { IfOk result (λ v. v.list ≡ list_of view.entry) }
+        ensures len { IfOk result (λ v. length v.list ≡ len_of view.entry) }
         ensures clean { IfOk result (λ v. IsClean T.BITS v) }
         ensures memory { OnErr result (0 < len_of view.entry) }
     {
         let mut copy = Self::new(alloc);
+        let _len = view.len();
         match copy.extend_from_bitslice(view) {
             Ok(()) => Ok(copy),
             Err(GrowError::TooLong) => Err(AllocError),
@@ -256,6 +269,7 @@ impl<T: BitStore, O: BitOrder> BitVec<T, O> {
     pub fn from_bitslice_headed(alloc: Global, view: BitSlice<'_, T, O>) -> Result<Self, AllocError>
         ensures head { IfOk result (λ v. v.head ≡ head_of view.entry) }
         ensures list { IfOk result (λ v. v.list ≡ list_of view.entry) }
+        ensures len { IfOk result (λ v. length v.list ≡ len_of view.entry) }
         ensures row { IfOk result (λ v. v.row ≡ filled (row_of view.entry) (head_of view.entry) (len_of view.entry) false) }
         ensures clean { IfOk result (λ v. head_of view.entry ≡ 0 → IsClean T.BITS v) }
         ensures memory { OnErr result (0 < length (words_of view.entry)) }

@@ -1,5 +1,5 @@
 //! Growth and removal by the answers of a function.
-ghost use Rattle.std.specs.Prelude.{◌≡◌, ◌+◌, ◌-◌, ◌%◌, ◌<◌, ◌≤◌, Bool, List, [], ◌∷◌, ◌++◌, length, take, drop, OnOk, OnErr};
+ghost use Rattle.std.specs.Prelude.{◌≡◌, ◌+◌, ◌-◌, ◌%◌, ◌<◌, ◌≤◌, Bool, List, [], ◌∷◌, ◌++◌, length, take, drop, OnOk, OnErr, IsOk};
 ghost use Rattle.bit_addressing.specs.Row.{number_bits, put};
 ghost use Rattle.bit_addressing.specs.declared.length.TheConstants.{MAX_BITS};
 ghost use Rattle.bit_containers.specs.BitVec.{Grew, Shrank, Stayed, RefusesOnly};
@@ -23,6 +23,7 @@ impl<T: BitStore, O: BitOrder> BitVec<T, O> {
         ensures shrank { n ≤ length self.old.list → Shrank T.BITS self.old self.new n }
         ensures filled { length self.old.list < n → OnOk result ((answers : List Bool) × (last : F) × AnswersFrom F.step f (length self.old.list) answers last × (self.new.list ≡ self.old.list ++ answers) × Grew T.BITS self.old self.new answers) }
         ensures len { OnOk result (length self.new.list ≡ n) }
+        ensures succeeds { n ≤ length self.old.list → IsOk result }
         ensures refusal { RefusesOnly result n self.old self.new }
         ensures capacity { self.old.capacity ≤ self.new.capacity }
     {
@@ -31,7 +32,11 @@ impl<T: BitStore, O: BitOrder> BitVec<T, O> {
 
     /// As `resize_with`, with a function that is lent: it ends in the state that the last call left, and where the vector
     /// shrinks or is refused, in the one that it had.
-    pub fn resize_by<F: FnMut(usize) -> bool>(&mut self, n: usize, f: &mut F) -> Result<(), GrowError>
+    pub fn resize_by<F: FnMut(usize) -> bool>(
+        &mut self,
+        n: usize,
+        f: &mut F,
+    ) -> Result<(), GrowError>
         requires { F.IsAlwaysCallable f.old }
         ensures cut { n ≤ length self.old.list → OnOk result (self.new.list ≡ take n self.old.list) }
         ensures shrank { n ≤ length self.old.list → Shrank T.BITS self.old self.new n }
@@ -39,6 +44,7 @@ impl<T: BitStore, O: BitOrder> BitVec<T, O> {
         ensures uncalled_shrinking { n ≤ length self.old.list → f.new ≡ f.old }
         ensures uncalled_refused { OnErr result (f.new ≡ f.old) }
         ensures len { OnOk result (length self.new.list ≡ n) }
+        ensures succeeds { n ≤ length self.old.list → IsOk result }
         ensures refusal { RefusesOnly result n self.old self.new }
         ensures capacity { self.old.capacity ≤ self.new.capacity }
     {

@@ -1,6 +1,7 @@
 //! Bits and words that an iterator gives.
-ghost use Rattle.std.specs.Prelude.{◌≡◌, ◌+◌, ◌*◌, ◌<◌, ◌≤◌, Bool, List, [], ◌∷◌, ◌++◌, length, Err, IfOk, OnOk, OnErr};
+ghost use Rattle.std.specs.Prelude.{◌≡◌, ◌+◌, ◌*◌, ◌<◌, ◌≤◌, Bool, List, [], ◌∷◌, ◌++◌, length, Err, IfOk, IsOk, OnOk, OnErr};
 ghost use Rattle.std.specs.Iterator.{IsFiniteIterable};
+ghost use Rattle.std.specs.Iterator.Runs.{EachRunFrom};
 ghost use Rattle.bit_addressing.specs.Row.{number_bits, words_for};
 ghost use Rattle.bit_addressing.specs.Typed.{row};
 ghost use Rattle.bit_addressing.specs.declared.length.TheConstants.{MAX_BITS};
@@ -33,6 +34,7 @@ impl<T: BitStore, O: BitOrder> BitVec<T, O> {
         ensures few { length self.new.list ≤ MAX_BITS }
         ensures too_long { result ≡ Err GrowError.TooLong → GivesFirst I.into_iter_gives I.IntoIter.next_gives iter (λ bits. MAX_BITS < length self.old.list + length bits) }
         ensures memory { result ≡ Err GrowError.OutOfMemory → GivesFirst I.into_iter_gives I.IntoIter.next_gives iter (λ bits. (self.old.capacity < length self.old.list + length bits) × (length self.old.list + length bits ≤ MAX_BITS)) }
+        ensures fits { ((it : I.IntoIter) → I.into_iter_gives iter it → EachRunFrom I.IntoIter.next_gives it (λ run. (length self.old.list + length run.items ≤ self.old.capacity) × (length self.old.list + length run.items ≤ MAX_BITS))) → IsOk result }
         ensures unchanged { OnErr result (self.new.list ≡ self.old.list) }
         ensures head { self.new.head ≡ self.old.head }
         ensures capacity { self.old.capacity ≤ self.new.capacity }
@@ -182,6 +184,8 @@ impl<T: BitStore, O: BitOrder> BitVec<T, O> {
         ensures runs { IfOk result (λ v. RunsThrough I.into_iter_gives I.IntoIter.next_gives iter (λ words. v.words ≡ words)) }
         ensures head { IfOk result (λ v. v.head ≡ 0) }
         ensures list { IfOk result (λ v. v.list ≡ row T.BitStore O.BitOrder v.words) }
+        ensures row { IfOk result (λ v. v.row ≡ row T.BitStore O.BitOrder v.words) }
+        ensures len { IfOk result (λ v. length v.list ≡ T.BITS * length v.words) }
         ensures clean { IfOk result (λ v. IsClean T.BITS v) }
         ensures too_long { result ≡ Err GrowError.TooLong → GivesFirst I.into_iter_gives I.IntoIter.next_gives iter (λ words. MAX_BITS < T.BITS * length words) }
         ensures memory { result ≡ Err GrowError.OutOfMemory → GivesFirst I.into_iter_gives I.IntoIter.next_gives iter (λ words. (0 < length words) × (T.BITS * length words ≤ MAX_BITS)) }

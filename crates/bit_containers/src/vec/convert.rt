@@ -1,5 +1,5 @@
 //! The vector made of an array or a box, and made into a box.
-ghost use Rattle.std.specs.Prelude.{◌≡◌, ◌+◌, ◌<◌, ◌≤◌, IfOk, IsOk, OnErr, length, slice_range, take};
+ghost use Rattle.std.specs.Prelude.{◌≡◌, ◌+◌, ◌*◌, ◌<◌, ◌≤◌, IfOk, IsOk, OnErr, length, slice_range, take};
 ghost use Rattle.bit_addressing.specs.declared.length.TheConstants.{MAX_BITS};
 ghost use Rattle.bit_addressing.specs.Row.{words_for};
 ghost use Rattle.bit_addressing.specs.Typed.{row};
@@ -22,6 +22,8 @@ impl<T: BitStore, O: BitOrder> BitVec<T, O> {
         ensures words { IfOk result (λ v. v.words ≡ A.words array) }
         ensures head { IfOk result (λ v. v.head ≡ 0) }
         ensures list { IfOk result (λ v. v.list ≡ row T.BitStore O.BitOrder (A.words array)) }
+        ensures row { IfOk result (λ v. v.row ≡ row T.BitStore O.BitOrder (A.words array)) }
+        ensures len { IfOk result (λ v. length v.list ≡ T.BITS * A.count) }
         ensures clean { IfOk result (λ v. IsClean T.BITS v) }
         ensures memory { OnErr result (0 < A.count) }
     {

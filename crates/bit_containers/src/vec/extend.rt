@@ -1,5 +1,5 @@
 //! Growth by many bits at once.
-ghost use Rattle.std.specs.Prelude.{◌≡◌, ◌+◌, ◌-◌, ◌*◌, ◌^◌, ◌<◌, ◌≤◌, [], ◌++◌, length, take, replicate, slice_range, vec_capacity, OnOk, OnErr};
+ghost use Rattle.std.specs.Prelude.{◌≡◌, ◌+◌, ◌-◌, ◌*◌, ◌^◌, ◌<◌, ◌≤◌, [], ◌++◌, length, take, replicate, slice_range, vec_capacity, OnOk, OnErr, IsOk};
 ghost use Rattle.bit_addressing.specs.Range.{LiesIn};
 ghost use Rattle.bit_addressing.specs.Row.{number_bits, put};
 ghost use Rattle.bit_addressing.specs.Typed.{row};
@@ -82,6 +82,7 @@ impl<T: BitStore, O: BitOrder> BitVec<T, O> {
     pub fn resize(&mut self, n: usize, bit: bool) -> Result<(), GrowError>
         ensures list { OnOk result (self.new.list ≡ take n self.old.list ++ replicate (n - length self.old.list) bit) }
         ensures len { OnOk result (length self.new.list ≡ n) }
+        ensures succeeds { n ≤ length self.old.list → IsOk result }
         ensures grew { OnOk result (length self.old.list < n → Grew T.BITS self.old self.new (replicate (n - length self.old.list) bit)) }
         ensures shrank { n ≤ length self.old.list → Shrank T.BITS self.old self.new n }
         ensures clean { OnOk result (length self.old.list < n → IsClean T.BITS self.old → IsClean T.BITS self.new) }
@@ -104,8 +105,10 @@ impl<T: BitStore, O: BitOrder> BitVec<T, O> {
         Ok(())
     }
 
-    /// Joins all bits of these words. It is refused as `extend_from_bitslice` is.
+    /// Appends all bits of these words. It is refused like `extend_from_bitslice`.
+    #[tactic(auto, using(bit_slice::proofs::Parts::row_size))]
     pub fn extend_from_raw_slice(&mut self, words: &[T]) -> Result<(), GrowError>
+        ensures len { OnOk result (length self.new.list ≡ length self.old.list + T.BITS * length words.now) }
         ensures list { OnOk result (self.new.list ≡ self.old.list ++ row T.BitStore O.BitOrder words.now) }
         ensures row { OnOk result (Grew T.BITS self.old self.new (row T.BitStore O.BitOrder words.now)) }
         ensures clean { OnOk result (IsClean T.BITS self.old → IsClean T.BITS self.new) }

@@ -1,8 +1,9 @@
-use Rattle.std.proofs.Common.{◌≡◌, ◌++◌}
+use Rattle.std.proofs.Common.{◌≡◌, ◌++◌, length}
 use Rattle.std.proofs.lemmas.Result.{on_ok_weaker}
 use Rattle.std.proofs.iter.runs.Consumers.{total_runs}
 use Rattle.bit_addressing.proofs.Rows.{width_positive}
 use Rattle.bit_containers.proofs.Clean.{clean_grown}
+use Rattle.bit_containers.proofs.Pulling.{never_refused}
 use Rattle.bit_containers.proofs.vec.BitVec.extend.Goals as goal
 
 pub returns-clause-runs : goal.returns-clause-runs
@@ -16,3 +17,7 @@ returns-clause-clean g c =
     on_ok_weaker c.extend_by.result
     (λ h clean. clean_grown g.T.BitStore.BITS c.args.self.now _ h.1 (width_positive g.T.BitStore.BITS g.met.T.BitStore.width) h.4.1.head h.4.0 h.4.1.row clean)
     c.extend_by.ensures.joined
+
+pub returns-clause-fits : goal.returns-clause-fits
+returns-clause-fits g c =
+    never_refused g.I.IntoIterator.into_iter_gives g.I.IntoIter.Iterator.next_gives c.args.iter (length c.args.self.now.list) c.args.self.now.capacity c.extend_by.result c.extend_by.ensures.too_long c.extend_by.ensures.memory

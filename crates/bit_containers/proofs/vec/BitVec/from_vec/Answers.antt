@@ -23,6 +23,9 @@ returns-clause-list g c =
     let size : length bits ≡ g.T.BitStore.BITS * length c.args.words.items = length_row g.T.BitStore.value g.O.BitOrder.place g.T.BitStore.BITS c.args.words.items in
     take_all (0 + c.BITS.result * c.len.result - 0) bits (omega arith)
 
+pub returns-clause-len : goal.returns-clause-len
+returns-clause-len g c = ap length (returns-clause-list g c) ∙ length_row g.T.BitStore.value g.O.BitOrder.place g.T.BitStore.BITS c.args.words.items
+
 pub returns-clause-clean : goal.returns-clause-clean
 returns-clause-clean g c =
     let w = g.T.BitStore.BITS in

@@ -57,6 +57,9 @@ returns-clause-list g c =
     ap (λ r. slice_range r 0 (0 + c.args.n)) (returns-clause-row g c)
     ∙ run_of_one (w * words_for w c.args.n) 0 c.args.n c.args.bit (omega arith)
 
+pub returns-clause-len : goal.returns-clause-len
+returns-clause-len g c = ap length (returns-clause-list g c) ∙ length-replicate c.args.n c.args.bit
+
 pub returns-clause-clean : goal.returns-clause-clean
 returns-clause-clean g c clear =
     let w = g.T.BitStore.BITS in

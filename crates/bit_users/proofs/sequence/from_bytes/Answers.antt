@@ -12,14 +12,14 @@ returns-then-len-gt-MAX_BITS-clause-broken c fault bits few are =
     let read = length_read bits bytes c.copy_from_slice.new.self c.from_le_bytes-len.result (small (length bits) few) are c.copy_from_slice.ensures.after c.from_le_bytes-len.ensures in
     elim c.then-len-gt-MAX_BITS.branch [
       | then-len-gt-MAX_BITS-via-then-len-gt-MAX_BITS w ↦ not_longer c.from_le_bytes-len.result (length bits) read few w.if-len-gt-MAX_BITS.true
-      | then-len-gt-MAX_BITS-via-else-len-gt-MAX_BITS+then-words-elts w ↦ w.if-words-elts.true (ap length (all_words bytes) ∙ words_count bits bytes are ∙ ap (words_for 8) (sym read) ∙ sym w.elts.ensures)
+      | then-len-gt-MAX_BITS-via-else-len-gt-MAX_BITS+then-words-elts w ↦ w.if-words-elts.true (ap length (all_words bytes) ∙ words_count bits bytes are ∙ ap (words_for 8) (sym read) ∙ sym w.elts.ensures.value)
     ]
 
 pub overflow_mul-words : goal.overflow_mul-words
 overflow_mul-words c =
     let bytes = c.args.bytes.now in
     let r = (room 8 c.from_le_bytes-len.result (omega arith)).1 in
-    let e = c.if-words-elts.false ∙ c.elts.ensures in
+    let e = c.if-words-elts.false ∙ c.elts.ensures.value in
     let few = c.if-len-gt-MAX_BITS.false in
     let low : length (take (length bytes - 8) (drop 8 bytes)) * 8 < 2 ^ 64 = omega arith in
     Fits-of_lt low
@@ -27,7 +27,7 @@ overflow_mul-words c =
 pub find_bit-requires-clause-ordered : goal.find_bit-requires-clause-ordered
 find_bit-requires-clause-ordered c =
     let r = (room 8 c.from_le_bytes-len.result (omega arith)).0 in
-    let e = c.if-words-elts.false ∙ c.elts.ensures in
+    let e = c.if-words-elts.false ∙ c.elts.ensures.value in
     omega arith
 
 pub returns-then-is_some-clause-broken : goal.returns-then-is_some-clause-broken
@@ -35,14 +35,14 @@ returns-then-is_some-clause-broken c fault bits few are =
     let bytes = c.args.bytes.now in
     let read = length_read bits bytes c.copy_from_slice.new.self c.from_le_bytes-len.result (small (length bits) few) are c.copy_from_slice.ensures.after c.from_le_bytes-len.ensures in
     let r = (room 8 c.from_le_bytes-len.result (omega arith)).0 in
-    let e = c.if-words-elts.false ∙ c.elts.ensures in
+    let e = c.if-words-elts.false ∙ c.elts.ensures.value in
     stray _ bits c.from_le_bytes-len.result (length (take (length bytes - 8) (drop 8 bytes)) * 8) c.find_bit.result (row_seen bytes ∙ are.rest) read c.find_bit.ensures (sym c.is_some.ensures ∙ c.if-is_some.true) (omega arith) (row_end bytes)
 
 pub returns-in-Ok-clause-read : goal.returns-in-Ok-clause-read
 returns-in-Ok-clause-read c =
     let bytes = c.args.bytes.now in
     let end : ℕ = length (take (length bytes - 8) (drop 8 bytes)) * 8 in
-    read_is bytes c.copy_from_slice.new.self c.in-Ok.bits.list c.from_le_bytes-len.result end c.if-bytes-lt8.false (λ i. Fits-lt-pow (c.type_inv.bytes i)) c.copy_from_slice.ensures.after c.from_le_bytes-len.ensures (c.if-words-elts.false ∙ c.elts.ensures) refl
+    read_is bytes c.copy_from_slice.new.self c.in-Ok.bits.list c.from_le_bytes-len.result end c.if-bytes-lt8.false (λ i. Fits-lt-pow (c.type_inv.bytes i)) c.copy_from_slice.ensures.after c.from_le_bytes-len.ensures (c.if-words-elts.false ∙ c.elts.ensures.value) refl
     (no_stray _ c.from_le_bytes-len.result end c.find_bit.result c.find_bit.ensures (sym c.is_some.ensures ∙ c.if-is_some.false)) (c.in-Ok.ensures.list ∙ c.from_parts.ensures.list)
 
 pub returns-in-Ok-clause-list : goal.returns-in-Ok-clause-list
@@ -57,6 +57,6 @@ returns-in-Err-clause-memory c refused =
     let row = row_of (λ w i. w - 1 - i) 8 (map (λ x. x) (take (length bytes - 8) (drop 8 bytes))) in
     let list = slice_range row 0 (0 + len) in
     let end : ℕ = length (take (length bytes - 8) (drop 8 bytes)) * 8 in
-    let are = read_is bytes c.copy_from_slice.new.self list len end c.if-bytes-lt8.false (λ i. Fits-lt-pow (c.type_inv.bytes i)) c.copy_from_slice.ensures.after c.from_le_bytes-len.ensures (c.if-words-elts.false ∙ c.elts.ensures) refl
+    let are = read_is bytes c.copy_from_slice.new.self list len end c.if-bytes-lt8.false (λ i. Fits-lt-pow (c.type_inv.bytes i)) c.copy_from_slice.ensures.after c.from_le_bytes-len.ensures (c.if-words-elts.false ∙ c.elts.ensures.value) refl
     (no_stray _ len end c.find_bit.result c.find_bit.ensures (sym c.is_some.ensures ∙ c.if-is_some.false)) refl in
     (list, shown_few row list len refl c.if-len-gt-MAX_BITS.false, are)

@@ -1,11 +1,17 @@
 //! Callers that make calls one after another, and know what both together leave.
 ghost use Rattle.std.specs.Prelude.{◌≡◌, ◌↔◌, ◌*◌, ◌≤◌, [], IsTrue, IfOk, OnOk, None, length};
+ghost use Rattle.std.specs.Box.{boxed_slice_items};
+ghost use Rattle.bit_addressing.specs.Row.{moved};
 ghost use Rattle.std.specs.declared.cmp.Ordering.TheVariants.{Equal};
 ghost use Rattle.bit_addressing.specs.declared.length.TheConstants.{MAX_BITS};
 
 use bit_containers::vec::IntoIter;
-use bit_containers::{BitOrder, BitStore, BitVec, GrowError, IntoBitVec};
-use std::alloc::AllocError;
+use bit_containers::boxed::BitBox;
+use bit_containers::{
+    BitOrder, BitStore, BitVec, Command, GrowError, IntoBitVec, Meter, Reply, Stop, run,
+};
+use std::alloc::{AllocError, Global};
+use std::boxed::BoxedSlice;
 use std::cmp::Ordering;
 
 /// Aligned and cleared, vectors of one type have the same bits exactly where they are as long and have the
@@ -19,6 +25,76 @@ pub fn same_bytes<O: BitOrder>(a: BitVec<u8, O>, b: BitVec<u8, O>) -> bool
     b.force_align();
     b.set_uninitialized(false);
     a.len() == b.len() && a.as_raw_slice() == b.as_raw_slice()
+}
+
+/// Aligned and cleared, vectors of one type have the same list exactly where they have the same length and the same words.
+pub fn same_words<T: BitStore, O: BitOrder>(
+    a: BitVec<T, O>,
+    b: BitVec<T, O>,
+) -> ((usize, Vec<T>), (usize, Vec<T>))
+    ensures { ((result.0.0 ≡ result.1.0) × (result.0.1.items ≡ result.1.1.items)) ↔ (a.list ≡ b.list) }
+{
+    let (mut a, mut b) = (a, b);
+    a.force_align();
+    a.set_uninitialized(false);
+    b.force_align();
+    b.set_uninitialized(false);
+    ((a.len(), a.into_vec()), (b.len(), b.into_vec()))
+}
+
+/// Copies of vectors with the same list have the same words.
+pub fn copied_words<T: BitStore, O: BitOrder>(
+    a: &BitVec<T, O>,
+    b: &BitVec<T, O>,
+) -> Result<(Vec<T>, Vec<T>), AllocError>
+    requires { a.now.list ≡ b.now.list }
+    ensures { IfOk result (λ words. words.0.items ≡ words.1.items) }
+{
+    let (a, b) = (a.clone()?, b.clone()?);
+    Ok((a.into_vec(), b.into_vec()))
+}
+
+/// Copies of boxes with the same list have the same words.
+pub fn copied_box_words<T: BitStore, O: BitOrder>(
+    a: &BitBox<T, O>,
+    b: &BitBox<T, O>,
+) -> Result<(BoxedSlice<T>, BoxedSlice<T>), AllocError>
+    requires { a.now.list ≡ b.now.list }
+    ensures { IfOk result (λ words. boxed_slice_items words.0 ≡ boxed_slice_items words.1) }
+{
+    let (a, b) = (a.clone()?, b.clone()?);
+    Ok((a.into_boxed_slice(), b.into_boxed_slice()))
+}
+
+/// One list of commands over two vectors with the same list, of any words, orders and heads: the same replies, and the same
+/// list afterwards.
+pub fn replies_alike<T: BitStore, O: BitOrder, U: BitStore, P: BitOrder>(
+    a: &mut BitVec<T, O>,
+    b: &mut BitVec<U, P>,
+    commands: &[Command],
+    alloc: Global,
+) -> Result<(Vec<Reply>, Vec<Reply>), Stop>
+    requires { a.old.list ≡ b.old.list }
+    ensures replies { IfOk result (λ replies. replies.0.items ≡ replies.1.items) }
+    ensures lists { OnOk result (a.new.list ≡ b.new.list) }
+{
+    let mut first = Vec::new(alloc);
+    let mut second = Vec::new(alloc);
+    run(a, commands, &mut first)?;
+    run(b, commands, &mut second)?;
+    Ok((first, second))
+}
+
+/// The last two of three bytes moved to the front: two words are written at most, and six read.
+pub fn closed_up<O: BitOrder>(v: &mut BitVec<u8, O>) -> Meter
+    requires aligned { v.old.head ≡ 0 }
+    requires size { length v.old.list ≡ 24 }
+    ensures list { v.new.list ≡ moved v.old.list 8 0 16 }
+    ensures row { v.new.row ≡ moved v.old.row 8 0 16 }
+    ensures writes { result.writes ≤ 2 }
+    ensures reads { result.reads ≤ 6 }
+{
+    v.copy_within_counted(8..24, 0)
 }
 
 /// Words that are taken in come out again.

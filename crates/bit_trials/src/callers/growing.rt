@@ -111,3 +111,21 @@ pub fn five_times(alloc: Global, bit: bool) -> Result<BitVec<u16, Lsb0>, GrowErr
 {
     BitVec::repeat(alloc, bit, 5)
 }
+
+/// Bits that are known to fit are appended, and no call is refused.
+pub fn bits_that_fit<O: BitOrder>(v: &mut BitVec<u8, O>, bits: Vec<bool>) -> Result<(), GrowError>
+    requires room { length v.old.list + length bits.items ≤ v.old.capacity }
+    requires few { length v.old.list + length bits.items ≤ MAX_BITS }
+    ensures succeeds { IsOk result }
+    ensures list { OnOk result (v.new.list ≡ v.old.list ++ bits.items) }
+{
+    v.extend(bits)
+}
+
+/// A vector that is cut is never refused.
+pub fn cut<O: BitOrder>(v: &mut BitVec<u8, O>) -> Result<(), GrowError>
+    requires { 8 ≤ length v.old.list }
+    ensures { IsOk result }
+{
+    v.resize(8, false)
+}

@@ -20,11 +20,13 @@ pub use bits::combined::{And, BitOperator, Or, Xor, combine_bits};
 pub use bits::copies::{copy_bits, copy_bits_alike};
 pub use bits::growth::{cut_words_in_vec, push_bit_in_vec, resize_words_in_vec};
 pub use bits::searches::{count_bits, differ_at, find_bit};
-pub use bits::single::{exact_words, fill_bits, fill_outside, flip_bits, read_bit, write_bit};
+pub use bits::single::{
+    exact_words, fill_bits, fill_outside, flip_bits, read_bit, swap_bits, write_bit,
+};
 pub use bits::vectors::{
     copy_bits_in_vec, fill_bits_in_vec, fill_outside_in_vec, flip_bits_in_vec,
-    move_bits_counted_in_vec, move_bits_in_vec, write_binary_in_vec, write_bit_in_vec,
-    write_chunk_in_vec,
+    move_bits_counted_in_vec, move_bits_in_vec, swap_bits_in_vec, write_binary_in_vec,
+    write_bit_in_vec, write_chunk_in_vec,
 };
 pub use errors::GrowError;
 pub use index::{BitEnd, BitIdx, BitPos};

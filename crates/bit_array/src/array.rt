@@ -7,9 +7,9 @@ use crate::sized::{BitViewSized, BitWords};
 use bit_addressing::{BitOrder, BitStore, Lsb0, MAX_BITS};
 use std::marker::{Model, PhantomData};
 
-mod api;
 mod iter;
 mod ops;
+mod slice;
 mod traits;
 mod views;
 

@@ -1,4 +1,6 @@
 //! Examples, and each public call once.
+mod slice;
+
 use crate::{BitArray, BitViewSized, BitWords, IntoIter, TryFromBitSliceError};
 use bit_addressing::{BitOrder, Lsb0, Msb0};
 use bit_slice::BitSlice;

@@ -61,3 +61,7 @@ some_bits w n words positive h = elim (cases_lt 0 n) [
       let m : w * 1 ≤ w * words_for w n = mul-le-mul_left w (omega arith) in
       absurd (omega arith)
 ]
+
+-- a part of the first words is that part of all
+pub front_part : {X : Type 0} (ws : List X) (k first count : ℕ) → first + count ≤ k → slice_range (take k ws) first (first + count) ≡ slice_range ws first (first + count)
+front_part ws k first count h = same_lists _ _ (search (rules, places)) (λ i d below. grind (arith, places))

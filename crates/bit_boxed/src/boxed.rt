@@ -19,9 +19,9 @@ use std::alloc::{AllocError, Global};
 use std::boxed::BoxedSlice;
 use std::marker::{Model, PhantomData};
 
-mod api;
 mod iter;
 mod ops;
+mod slice;
 mod traits;
 mod views;
 

@@ -1,5 +1,6 @@
 //! Examples, and each public call once.
 mod memory;
+mod slice;
 
 use crate::{BitBox, IntoIter};
 use bit_addressing::{BitOrder, BitStore, Lsb0, Msb0};

@@ -14,7 +14,7 @@ use crate::counted_mut::CountedMut;
 use crate::iter::Iter;
 use crate::slice::BitSlice;
 use bit_addressing::{
-    BitOrder, BitStore, RangeExt, copy_bits, exact_words, fill_bits, move_bits, read_bit, write_bit,
+    BitOrder, BitStore, RangeExt, copy_bits, exact_words, fill_bits, move_bits, swap_bits, write_bit,
 };
 use std::marker::PhantomData;
 use std::ops::Index;
@@ -298,19 +298,6 @@ impl<'a, T: BitStore, O: BitOrder> BitSliceMut<'a, T, O> {
         let from = source.head();
         copy_bits::<T, O, U, P>(self.words, self.head, source.as_raw_slice(), from, self.len);
     }
-}
-
-/// Has the bits at two places of the words' row change places. The condition: both are in the words.
-fn swap_bits<T: BitStore, O: BitOrder>(words: &mut [T], i: usize, j: usize)
-    requires first { i < T.BITS * length words.old }
-    requires second { j < T.BITS * length words.old }
-    ensures bits { row T.BitStore O.BitOrder words.new ≡ swap (row T.BitStore O.BitOrder words.old) i j }
-    ensures size { length words.new ≡ length words.old }
-{
-    let first = read_bit::<T, O>(words, i);
-    let second = read_bit::<T, O>(words, j);
-    write_bit::<T, O>(words, i, second);
-    write_bit::<T, O>(words, j, first);
 }
 
 impl<'a, T: BitStore, O: BitOrder> Index<usize> for BitSliceMut<'a, T, O> {

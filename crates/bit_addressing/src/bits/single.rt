@@ -1,5 +1,5 @@
 //! Single bits and runs of one bit: read, written, filled and flipped.
-ghost use Rattle.std.specs.Prelude.{◌≡◌, ℕ, ◌+◌, ◌-◌, ◌*◌, ◌^◌, ◌<◌, ◌≤◌, if◌then◌else◌, false, not, [], ◌∷◌, map, length, replicate, slice_index_or, slice_range, set};
+ghost use Rattle.std.specs.Prelude.{◌≡◌, ℕ, ◌+◌, ◌-◌, ◌*◌, ◌^◌, ◌<◌, ◌≤◌, if◌then◌else◌, false, not, [], ◌∷◌, map, length, replicate, slice_index_or, slice_range, set, swap};
 ghost use Rattle.bit_addressing.specs.Bits.{has_bit};
 ghost use Rattle.bit_addressing.specs.Row.{put, filled};
 ghost use Rattle.bit_addressing.specs.Typed.{row, words_from};
@@ -35,6 +35,19 @@ pub fn write_bit<T: BitStore, O: BitOrder>(words: &mut [T], at: usize, bit: bool
     let place = O::at(BitIdx::<T>::new_unchecked((at % width) as u8)).into_inner();
     let word = words[at / width];
     words[at / width] = word.with_bit(place, bit);
+}
+
+/// Swaps the bits at `i` and `j` of the row, and changes no other bit. The condition: both are in the words.
+pub fn swap_bits<T: BitStore, O: BitOrder>(words: &mut [T], i: usize, j: usize)
+    requires first { i < T.BITS * length words.old }
+    requires second { j < T.BITS * length words.old }
+    ensures bits { row T.BitStore O.BitOrder words.new ≡ swap (row T.BitStore O.BitOrder words.old) i j }
+    ensures size { length words.new ≡ length words.old }
+{
+    let first = read_bit::<T, O>(words, i);
+    let second = read_bit::<T, O>(words, j);
+    write_bit::<T, O>(words, i, second);
+    write_bit::<T, O>(words, j, first);
 }
 
 /// The word with the bits of `new` where `mask` has one, and those of `old` elsewhere.

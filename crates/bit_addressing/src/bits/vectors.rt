@@ -1,12 +1,12 @@
 //! The calls on words that lie in a vector, which keeps its capacity.
-ghost use Rattle.std.specs.Prelude.{◌≡◌, ◌+◌, ◌-◌, ◌*◌, ◌^◌, ◌<◌, ◌≤◌, not, map, length, replicate, slice_range, set, vec_capacity};
+ghost use Rattle.std.specs.Prelude.{◌≡◌, ◌+◌, ◌-◌, ◌*◌, ◌^◌, ◌<◌, ◌≤◌, not, map, length, replicate, slice_range, set, swap, vec_capacity};
 ghost use Rattle.bit_addressing.specs.Row.{binary, filled, moved, number_bits, put, touched};
 ghost use Rattle.bit_addressing.specs.declared.length.TheConstants.{MAX_BITS};
 ghost use Rattle.bit_addressing.specs.Typed.{row};
 
 use crate::bits::chunks::{write_binary, write_chunk};
 use crate::bits::copies::copy_bits;
-use crate::bits::single::{fill_bits, fill_outside, flip_bits, write_bit};
+use crate::bits::single::{fill_bits, fill_outside, flip_bits, swap_bits, write_bit};
 use crate::meter::Meter;
 use crate::move_run::move_bits_counted;
 use crate::order::BitOrder;
@@ -20,6 +20,17 @@ pub fn write_bit_in_vec<T: BitStore, O: BitOrder>(words: &mut Vec<T>, at: usize,
     ensures capacity { vec_capacity words.new ≡ vec_capacity words.old }
 {
     write_bit::<T, O>(words.as_mut_slice(), at, bit);
+}
+
+/// Like `swap_bits`, in the words of a vector.
+pub fn swap_bits_in_vec<T: BitStore, O: BitOrder>(words: &mut Vec<T>, i: usize, j: usize)
+    requires first { i < T.BITS * length words.old.items }
+    requires second { j < T.BITS * length words.old.items }
+    ensures bits { row T.BitStore O.BitOrder words.new.items ≡ swap (row T.BitStore O.BitOrder words.old.items) i j }
+    ensures size { length words.new.items ≡ length words.old.items }
+    ensures capacity { vec_capacity words.new ≡ vec_capacity words.old }
+{
+    swap_bits::<T, O>(words.as_mut_slice(), i, j);
 }
 
 /// As `fill_bits`, in the words of a vector.

@@ -1,31 +1,59 @@
-//! The operators of the array: bits read, and whole arrays combined and flipped by words.
-ghost use Rattle.std.specs.Prelude.{◌≡◌, not, map};
+//! The array compared and combined with views, and its operators.
+ghost use Rattle.std.specs.Prelude.{◌≡◌, ◌↔◌, IsTrue, not, map};
 ghost use Rattle.bit_addressing.specs.Typed.{row};
-ghost use Rattle.bit_slice.specs.Operators.{and_of, or_of, xor_of};
+ghost use Rattle.bit_slice.specs.BitSlice.{list_of};
+ghost use Rattle.bit_slice.specs.Operators.{bits_cmp, and_of, or_of, xor_of};
 
 use crate::array::BitArray;
 use crate::sized::{BitViewSized, BitWords};
 use bit_addressing::{BitOrder, BitStore, flip_bits};
-use bit_slice::{and_words, or_words, xor_words};
+use bit_slice::{BitSlice, and_words, or_words, xor_words};
+use std::cmp::Ordering;
 use std::ops::{BitAnd, BitAndAssign, BitOr, BitOrAssign, BitXor, BitXorAssign, Index, Not};
 
-impl<A: BitWords, O: BitOrder> Index<usize> for BitArray<A, O> {
-    ghost use Rattle.std.specs.Prelude.{◌≡◌, ◌*◌, ◌<◌, Some, slice_get};
-    ghost use Rattle.bit_addressing.specs.Typed.{row};
+impl<A: BitWords, O: BitOrder> BitArray<A, O> {
+    /// Whether the array and a view, whose words and order may be others, have the same bits. The view's head
+    /// doesn't count.
+    pub fn eq_bits<U: BitStore, P: BitOrder>(&self, other: BitSlice<'_, U, P>) -> bool
+        ensures { IsTrue result ↔ (row A.Store.BitStore O.BitOrder (A.words self.now) ≡ list_of other.entry) }
+    {
+        self.as_bitslice().eq_bits(other)
+    }
 
-    type Output = bool;
-
-    ghost can_index = { λ a i. i < A.Store.BITS * A.count };
-
-    ghost index_gives = { λ a i bit. Some bit ≡ slice_get (row A.Store.BitStore O.BitOrder (A.words a)) i };
-
-    /// The bit at `i`. The condition: `i` is below the length.
-    fn index(&self, i: usize) -> &bool {
-        if self.as_bitslice()[i] { &true } else { &false }
+    /// How the bits of the array and those of a view are ordered: the first that differ decide, false before
+    /// true, and where none do the shorter comes first.
+    pub fn cmp_bits<U: BitStore, P: BitOrder>(&self, other: BitSlice<'_, U, P>) -> Ordering
+        ensures { result ≡ bits_cmp (row A.Store.BitStore O.BitOrder (A.words self.now)) (list_of other.entry) }
+    {
+        self.as_bitslice().cmp_bits(other)
     }
 }
 
 impl<A: BitViewSized, O: BitOrder> BitArray<A, O> {
+    /// Clears each bit that is false in a view, or that the view is too short for.
+    pub fn and_bits<U: BitStore, P: BitOrder>(&mut self, other: BitSlice<'_, U, P>)
+        ensures { row A.Store.BitStore O.BitOrder (A.words self.new) ≡ and_of (row A.Store.BitStore O.BitOrder (A.words self.old)) (list_of other.entry) }
+    {
+        let len = self.len();
+        and_words::<A::Store, O, U, P>(self.inner.as_raw_mut_slice(), 0, len, other);
+    }
+
+    /// Sets each bit that is true in a view; bits of the view past the length don't count.
+    pub fn or_bits<U: BitStore, P: BitOrder>(&mut self, other: BitSlice<'_, U, P>)
+        ensures { row A.Store.BitStore O.BitOrder (A.words self.new) ≡ or_of (row A.Store.BitStore O.BitOrder (A.words self.old)) (list_of other.entry) }
+    {
+        let len = self.len();
+        or_words::<A::Store, O, U, P>(self.inner.as_raw_mut_slice(), 0, len, other);
+    }
+
+    /// Flips each bit that is true in a view; bits of the view past the length don't count.
+    pub fn xor_bits<U: BitStore, P: BitOrder>(&mut self, other: BitSlice<'_, U, P>)
+        ensures { row A.Store.BitStore O.BitOrder (A.words self.new) ≡ xor_of (row A.Store.BitStore O.BitOrder (A.words self.old)) (list_of other.entry) }
+    {
+        let len = self.len();
+        xor_words::<A::Store, O, U, P>(self.inner.as_raw_mut_slice(), 0, len, other);
+    }
+
     /// Flips every bit.
     pub fn flip_all(&mut self)
         ensures { row A.Store.BitStore O.BitOrder (A.words self.new) ≡ map not (row A.Store.BitStore O.BitOrder (A.words self.old)) }
@@ -46,14 +74,28 @@ impl<A: BitViewSized, O: BitOrder> Not for BitArray<A, O> {
     }
 }
 
+impl<A: BitWords, O: BitOrder> Index<usize> for BitArray<A, O> {
+    ghost use Rattle.std.specs.Prelude.{◌≡◌, ◌*◌, ◌<◌, Some, slice_get};
+    ghost use Rattle.bit_addressing.specs.Typed.{row};
+
+    type Output = bool;
+
+    ghost can_index = { λ a i. i < A.Store.BITS * A.count };
+
+    ghost index_gives = { λ a i bit. Some bit ≡ slice_get (row A.Store.BitStore O.BitOrder (A.words a)) i };
+
+    /// The bit at `i`. The condition: `i` is below the length.
+    fn index(&self, i: usize) -> &bool {
+        if self.as_bitslice()[i] { &true } else { &false }
+    }
+}
+
 impl<A: BitViewSized, O: BitOrder> BitAndAssign for BitArray<A, O> {
     ghost bitand_assign_gives = { λ a b c. row A.Store.BitStore O.BitOrder (A.words c) ≡ and_of (row A.Store.BitStore O.BitOrder (A.words a)) (row A.Store.BitStore O.BitOrder (A.words b)) };
 
     /// Clears each bit that is false in the right side.
     fn bitand_assign(&mut self, rhs: Self) {
-        let len = self.len();
-        let other = rhs.as_bitslice();
-        and_words::<A::Store, O, A::Store, O>(self.inner.as_raw_mut_slice(), 0, len, other);
+        self.and_bits(rhs.as_bitslice());
     }
 }
 
@@ -74,9 +116,7 @@ impl<A: BitViewSized, O: BitOrder> BitOrAssign for BitArray<A, O> {
 
     /// Sets each bit that is true in the right side.
     fn bitor_assign(&mut self, rhs: Self) {
-        let len = self.len();
-        let other = rhs.as_bitslice();
-        or_words::<A::Store, O, A::Store, O>(self.inner.as_raw_mut_slice(), 0, len, other);
+        self.or_bits(rhs.as_bitslice());
     }
 }
 
@@ -97,9 +137,7 @@ impl<A: BitViewSized, O: BitOrder> BitXorAssign for BitArray<A, O> {
 
     /// Flips each bit that is true in the right side.
     fn bitxor_assign(&mut self, rhs: Self) {
-        let len = self.len();
-        let other = rhs.as_bitslice();
-        xor_words::<A::Store, O, A::Store, O>(self.inner.as_raw_mut_slice(), 0, len, other);
+        self.xor_bits(rhs.as_bitslice());
     }
 }
 

@@ -1,30 +1,72 @@
-//! The operators of the box: bits read, and whole boxes combined and flipped by words.
-ghost use Rattle.std.specs.Prelude.{◌≡◌, not, map};
+//! The box compared and combined with views, and its operators.
+ghost use Rattle.std.specs.Prelude.{◌≡◌, ◌↔◌, IsTrue, not, map};
 ghost use Rattle.bit_addressing.specs.Row.{put};
-ghost use Rattle.bit_slice.specs.Operators.{and_of, or_of, xor_of};
-ghost use Rattle.bit_boxed.specs.BitBox.{Stayed};
+ghost use Rattle.bit_boxed.specs.BitBox.{IsClean, Stayed};
+ghost use Rattle.bit_slice.specs.BitSlice.{list_of};
+ghost use Rattle.bit_slice.specs.Operators.{bits_cmp, and_of, or_of, xor_of};
 
 use crate::boxed::BitBox;
 use bit_addressing::{BitOrder, BitStore, flip_bits_in_vec};
-use bit_slice::{and_in_vec, or_in_vec, xor_in_vec};
+use bit_slice::{BitSlice, and_in_vec, or_in_vec, xor_in_vec};
+use std::cmp::Ordering;
 use std::ops::{BitAnd, BitAndAssign, BitOr, BitOrAssign, BitXor, BitXorAssign, Index, Not};
 
-impl<T: BitStore, O: BitOrder> Index<usize> for BitBox<T, O> {
-    ghost use Rattle.std.specs.Prelude.{◌≡◌, ◌<◌, Some, slice_get, length};
-
-    type Output = bool;
-
-    ghost can_index = { λ b i. i < length b.list };
-
-    ghost index_gives = { λ b i bit. Some bit ≡ slice_get b.list i };
-
-    /// The bit at `i`. The condition: `i` is below the length.
-    fn index(&self, i: usize) -> &bool {
-        if self.as_bitslice()[i] { &true } else { &false }
-    }
-}
-
 impl<T: BitStore, O: BitOrder> BitBox<T, O> {
+    /// Whether the box and a view, whose words and order may be others, have the same bits. Heads and dead
+    /// bits don't count.
+    pub fn eq_bits<U: BitStore, P: BitOrder>(&self, other: BitSlice<'_, U, P>) -> bool
+        ensures { IsTrue result ↔ (self.now.list ≡ list_of other.entry) }
+    {
+        self.as_bitslice().eq_bits(other)
+    }
+
+    /// How the bits of the box and those of a view are ordered: the first that differ decide, false before
+    /// true, and where none do the shorter comes first.
+    pub fn cmp_bits<U: BitStore, P: BitOrder>(&self, other: BitSlice<'_, U, P>) -> Ordering
+        ensures { result ≡ bits_cmp self.now.list (list_of other.entry) }
+    {
+        self.as_bitslice().cmp_bits(other)
+    }
+
+    /// Clears each bit that is false in a view, or that the view is too short for. No dead bit changes. Takes
+    /// no memory.
+    #[tactic(auto, using(bit_slice::proofs::Parts::shown_length))]
+    pub fn and_bits<U: BitStore, P: BitOrder>(&mut self, other: BitSlice<'_, U, P>)
+        ensures list { self.new.list ≡ and_of self.old.list (list_of other.entry) }
+        ensures row { self.new.row ≡ put self.old.row self.old.head (and_of self.old.list (list_of other.entry)) }
+        ensures clean { IsClean T.BITS self.old → IsClean T.BITS self.new }
+        ensures stayed { Stayed self.old self.new }
+    {
+        let (head, len) = (self.head, self.len);
+        and_in_vec::<T, O, U, P>(&mut self.words, head, len, other);
+    }
+
+    /// Sets each bit that is true in a view; bits of the view past the length don't count. No dead bit changes.
+    /// Takes no memory.
+    #[tactic(auto, using(bit_slice::proofs::Parts::shown_length))]
+    pub fn or_bits<U: BitStore, P: BitOrder>(&mut self, other: BitSlice<'_, U, P>)
+        ensures list { self.new.list ≡ or_of self.old.list (list_of other.entry) }
+        ensures row { self.new.row ≡ put self.old.row self.old.head (or_of self.old.list (list_of other.entry)) }
+        ensures clean { IsClean T.BITS self.old → IsClean T.BITS self.new }
+        ensures stayed { Stayed self.old self.new }
+    {
+        let (head, len) = (self.head, self.len);
+        or_in_vec::<T, O, U, P>(&mut self.words, head, len, other);
+    }
+
+    /// Flips each bit that is true in a view; bits of the view past the length don't count. No dead bit
+    /// changes. Takes no memory.
+    #[tactic(auto, using(bit_slice::proofs::Parts::shown_length))]
+    pub fn xor_bits<U: BitStore, P: BitOrder>(&mut self, other: BitSlice<'_, U, P>)
+        ensures list { self.new.list ≡ xor_of self.old.list (list_of other.entry) }
+        ensures row { self.new.row ≡ put self.old.row self.old.head (xor_of self.old.list (list_of other.entry)) }
+        ensures clean { IsClean T.BITS self.old → IsClean T.BITS self.new }
+        ensures stayed { Stayed self.old self.new }
+    {
+        let (head, len) = (self.head, self.len);
+        xor_in_vec::<T, O, U, P>(&mut self.words, head, len, other);
+    }
+
     /// Flips every bit of all the words, dead bits included.
     #[tactic(auto, using(bit_slice::proofs::Parts::shown_length))]
     pub fn flip_all(&mut self)
@@ -48,22 +90,34 @@ impl<T: BitStore, O: BitOrder> Not for BitBox<T, O> {
     }
 }
 
+impl<T: BitStore, O: BitOrder> Index<usize> for BitBox<T, O> {
+    ghost use Rattle.std.specs.Prelude.{◌≡◌, ◌<◌, Some, slice_get, length};
+
+    type Output = bool;
+
+    ghost can_index = { λ b i. i < length b.list };
+
+    ghost index_gives = { λ b i bit. Some bit ≡ slice_get b.list i };
+
+    /// The bit at `i`. The condition: `i` is below the length.
+    fn index(&self, i: usize) -> &bool {
+        if self.as_bitslice()[i] { &true } else { &false }
+    }
+}
+
 impl<T: BitStore, O: BitOrder> BitAndAssign for BitBox<T, O> {
-    ghost bitand_assign_gives = { λ a b c. (c.list ≡ and_of a.list b.list) × (c.row ≡ put a.row a.head (and_of a.list b.list)) × Stayed a c };
+    ghost bitand_assign_gives = { λ a b c. (c.list ≡ and_of a.list b.list) × (c.row ≡ put a.row a.head (and_of a.list b.list)) × Stayed a c × (IsClean T.BITS a → IsClean T.BITS c) };
 
     /// Clears each bit that is false in the right side, or that it is too short for. No dead bit changes.
-    #[tactic(auto, using(bit_slice::proofs::Parts::shown_length))]
     fn bitand_assign(&mut self, rhs: Self) {
-        let (head, len) = (self.head, self.len);
-        let other = rhs.as_bitslice();
-        and_in_vec::<T, O, T, O>(&mut self.words, head, len, other);
+        self.and_bits(rhs.as_bitslice());
     }
 }
 
 impl<T: BitStore, O: BitOrder> BitAnd for BitBox<T, O> {
     type Output = Self;
 
-    ghost bitand_gives = { λ a b c. (c.list ≡ and_of a.list b.list) × (c.row ≡ put a.row a.head (and_of a.list b.list)) × Stayed a c };
+    ghost bitand_gives = { λ a b c. (c.list ≡ and_of a.list b.list) × (c.row ≡ put a.row a.head (and_of a.list b.list)) × Stayed a c × (IsClean T.BITS a → IsClean T.BITS c) };
 
     /// The bits that are true in both; the left side's words.
     fn bitand(mut self, rhs: Self) -> Self {
@@ -73,21 +127,18 @@ impl<T: BitStore, O: BitOrder> BitAnd for BitBox<T, O> {
 }
 
 impl<T: BitStore, O: BitOrder> BitOrAssign for BitBox<T, O> {
-    ghost bitor_assign_gives = { λ a b c. (c.list ≡ or_of a.list b.list) × (c.row ≡ put a.row a.head (or_of a.list b.list)) × Stayed a c };
+    ghost bitor_assign_gives = { λ a b c. (c.list ≡ or_of a.list b.list) × (c.row ≡ put a.row a.head (or_of a.list b.list)) × Stayed a c × (IsClean T.BITS a → IsClean T.BITS c) };
 
     /// Sets each bit that is true in the right side. No dead bit changes.
-    #[tactic(auto, using(bit_slice::proofs::Parts::shown_length))]
     fn bitor_assign(&mut self, rhs: Self) {
-        let (head, len) = (self.head, self.len);
-        let other = rhs.as_bitslice();
-        or_in_vec::<T, O, T, O>(&mut self.words, head, len, other);
+        self.or_bits(rhs.as_bitslice());
     }
 }
 
 impl<T: BitStore, O: BitOrder> BitOr for BitBox<T, O> {
     type Output = Self;
 
-    ghost bitor_gives = { λ a b c. (c.list ≡ or_of a.list b.list) × (c.row ≡ put a.row a.head (or_of a.list b.list)) × Stayed a c };
+    ghost bitor_gives = { λ a b c. (c.list ≡ or_of a.list b.list) × (c.row ≡ put a.row a.head (or_of a.list b.list)) × Stayed a c × (IsClean T.BITS a → IsClean T.BITS c) };
 
     /// The bits that are true in one or in both; the left side's words.
     fn bitor(mut self, rhs: Self) -> Self {
@@ -97,21 +148,18 @@ impl<T: BitStore, O: BitOrder> BitOr for BitBox<T, O> {
 }
 
 impl<T: BitStore, O: BitOrder> BitXorAssign for BitBox<T, O> {
-    ghost bitxor_assign_gives = { λ a b c. (c.list ≡ xor_of a.list b.list) × (c.row ≡ put a.row a.head (xor_of a.list b.list)) × Stayed a c };
+    ghost bitxor_assign_gives = { λ a b c. (c.list ≡ xor_of a.list b.list) × (c.row ≡ put a.row a.head (xor_of a.list b.list)) × Stayed a c × (IsClean T.BITS a → IsClean T.BITS c) };
 
     /// Flips each bit that is true in the right side. No dead bit changes.
-    #[tactic(auto, using(bit_slice::proofs::Parts::shown_length))]
     fn bitxor_assign(&mut self, rhs: Self) {
-        let (head, len) = (self.head, self.len);
-        let other = rhs.as_bitslice();
-        xor_in_vec::<T, O, T, O>(&mut self.words, head, len, other);
+        self.xor_bits(rhs.as_bitslice());
     }
 }
 
 impl<T: BitStore, O: BitOrder> BitXor for BitBox<T, O> {
     type Output = Self;
 
-    ghost bitxor_gives = { λ a b c. (c.list ≡ xor_of a.list b.list) × (c.row ≡ put a.row a.head (xor_of a.list b.list)) × Stayed a c };
+    ghost bitxor_gives = { λ a b c. (c.list ≡ xor_of a.list b.list) × (c.row ≡ put a.row a.head (xor_of a.list b.list)) × Stayed a c × (IsClean T.BITS a → IsClean T.BITS c) };
 
     /// The bits that are true in one alone; the left side's words.
     fn bitxor(mut self, rhs: Self) -> Self {

@@ -2,7 +2,10 @@ use Rattle.std.proofs.Common.{◌≡◌, ◌+◌, ◌-◌, length, slice_range, 
 use Rattle.bit_addressing.specs.Row.{moved}
 use Rattle.bit_addressing.specs.Typed.{row}
 use Rattle.bit_addressing.proofs.lists.Moved.{shows_moved}
+use Rattle.bit_addressing.proofs.Rows.{width_positive}
+use Rattle.bit_slice.proofs.Clean.{clean_moved}
 use Rattle.bit_slice.proofs.Parts.{in_row}
+use Rattle.bit_slice.proofs.Shown.{moved_lands}
 use Rattle.bit_boxed.proofs.boxed.BitBox.copy_within.Goals as goal
 
 pub returns-clause-list : goal.returns-clause-list
@@ -20,3 +23,30 @@ returns-clause-list g c =
     ∙ ap (λ v. moved v.list from c.args.dest (upto - from)) c.self.view_is
     ∙ ap (λ s. moved c.args.self.now.list s c.args.dest (upto - s)) start
     ∙ ap (λ e. moved c.args.self.now.list (g.R.RangeExt.start_of c.args.range) c.args.dest (e - g.R.RangeExt.start_of c.args.range)) end
+
+pub returns-clause-landed : goal.returns-clause-landed
+returns-clause-landed g c =
+    let list = c.args.self.now.list in
+    let start = g.R.RangeExt.start_of c.args.range in
+    let n = g.R.RangeExt.end_of c.args.range (length list) - start in
+    let o = c.requires.lies.0 in
+    let h = c.requires.lies.1 in
+    ap (λ l. slice_range l c.args.dest (c.args.dest + n)) (returns-clause-list g c) ∙ moved_lands list start c.args.dest n (omega arith) c.requires.room
+
+pub returns-clause-clean : goal.returns-clause-clean
+returns-clause-clean g c =
+    let i = c.self.inside in
+    let now = c.args.self.now in
+    let w = g.T.BitStore.BITS in
+    let start = g.R.RangeExt.start_of c.args.range in
+    let n = g.R.RangeExt.end_of c.args.range (length now.list) - start in
+    let o = c.requires.lies.0 in
+    let h = c.requires.lies.1 in
+    let from = c.normalize-range.result.start in
+    let upto = c.normalize-range.result.end in
+    let len : i.len ≡ length now.list = sym c.self.invariant.shows ∙ ap (λ v. length v.list) c.self.view_is in
+    let end : upto ≡ g.R.RangeExt.end_of c.args.range (length now.list) = c.normalize-range.ensures.end ∙ ap (g.R.RangeExt.end_of c.args.range) len in
+    clean_moved w _ _ start c.args.dest n (width_positive w g.met.T.BitStore.width) (omega arith) c.requires.room (ap (λ v. v.head) c.self.view_is) (returns-clause-list g c)
+    (c.move_bits_in_vec.ensures.bits ∙ ap (λ v. moved v.row (v.head + from) (v.head + c.args.dest) (upto - from)) c.self.view_is
+    ∙ ap (λ s. moved now.row (now.head + s) (now.head + c.args.dest) (upto - s)) c.normalize-range.ensures.start
+    ∙ ap (λ e. moved now.row (now.head + start) (now.head + c.args.dest) (e - start)) end)

@@ -1,6 +1,8 @@
 use Rattle.std.proofs.Common.{◌≡◌, ◌+◌, set, length, slice_range, sym, ◌∙◌, ap, arith}
 use Rattle.bit_addressing.specs.Typed.{row}
 use Rattle.bit_addressing.proofs.lists.Shown.{shows_set}
+use Rattle.bit_addressing.proofs.Rows.{width_positive}
+use Rattle.bit_slice.proofs.Clean.{clean_set}
 use Rattle.bit_slice.proofs.Parts.{in_row}
 use Rattle.bit_boxed.proofs.boxed.BitBox.set.Goals as goal
 
@@ -12,3 +14,8 @@ returns-clause-list g c =
     ap (λ r. slice_range r i.head (i.head + i.len)) c.write_bit_in_vec.ensures.bits
     ∙ shows_set (row g.T.BitStore g.O.BitOrder i.words.items) i.head i.len c.args.i c.args.bit (omega arith) fits
     ∙ ap (λ v. set v.list c.args.i c.args.bit) c.self.view_is
+
+pub returns-clause-clean : goal.returns-clause-clean
+returns-clause-clean g c =
+    clean_set g.T.BitStore.BITS _ _ c.args.i c.args.bit (width_positive g.T.BitStore.BITS g.met.T.BitStore.width) c.requires (ap (λ v. v.head) c.self.view_is) (returns-clause-list g c)
+    (c.write_bit_in_vec.ensures.bits ∙ ap (λ v. set v.row (v.head + c.args.i) c.args.bit) c.self.view_is)

@@ -1,0 +1,191 @@
+//! The calls of a view that the box has itself.
+ghost use Rattle.std.specs.Prelude.{◌≡◌, ◌+◌, ◌-◌, ◌/◌, ◌%◌, ◌<◌, ◌≤◌, ◌↔◌, EachIndex, IsTrue, SomeIndex, length, not, replicate, count_by, set, slice_get, slice_range, swap, true};
+ghost use Rattle.std.specs.List.{list_any, list_all};
+ghost use Rattle.bit_addressing.specs.declared.length.TheConstants.{MAX_BITS};
+ghost use Rattle.bit_addressing.specs.Range.{LiesIn};
+ghost use Rattle.bit_addressing.specs.Row.{moved, put, words_for};
+ghost use Rattle.bit_boxed.specs.BitBox.{IsClean, Stayed};
+ghost use Rattle.bit_slice.specs.BitSlice.{words_of, head_of, len_of, list_of};
+
+use crate::boxed::BitBox;
+use bit_addressing::{
+    BitOrder, BitStore, RangeExt, copy_bits_in_vec, fill_bits_in_vec, move_bits_in_vec,
+    swap_bits_in_vec, write_bit_in_vec,
+};
+use bit_slice::BitSlice;
+
+impl<T: BitStore, O: BitOrder> BitBox<T, O> {
+    /// How many bits the box has.
+    pub fn len(&self) -> usize
+        ensures value { result ≡ length self.now.list }
+        ensures bound { result ≤ MAX_BITS }
+    {
+        self.len
+    }
+
+    /// The head: the index, in the first word, at which the list begins.
+    pub fn head(&self) -> usize
+        ensures value { result ≡ self.now.head }
+        ensures bound { result < T.BITS }
+    {
+        self.head
+    }
+
+    /// Whether there is no bit.
+    pub fn is_empty(&self) -> bool
+        ensures { IsTrue result ↔ (length self.now.list ≡ 0) }
+    {
+        self.len == 0
+    }
+
+    /// The bit at `i`. None exactly where `i` is the length or more.
+    pub fn get(&self, i: usize) -> Option<bool>
+        ensures { result ≡ slice_get self.now.list i }
+    {
+        self.as_bitslice().get(i)
+    }
+
+    /// The view of the bits at a range of indices, for reading. Requires that the range lies in the length.
+    pub fn get_range<R: RangeExt>(&self, range: R) -> BitSlice<'_, T, O>
+        requires lies { LiesIn (R.start_of range) (R.end_of range (length self.now.list)) (length self.now.list) }
+        ensures list { list_of result ≡ slice_range self.now.list (R.start_of range) (R.end_of range (length self.now.list)) }
+        ensures head { head_of result ≡ (self.now.head + R.start_of range) % T.BITS }
+        ensures len { len_of result ≡ R.end_of range (length self.now.list) - R.start_of range }
+        ensures words { let first = (self.now.head + R.start_of range) / T.BITS in words_of result ≡ slice_range self.now.words first (first + words_for T.BITS (head_of result + len_of result)) }
+    {
+        self.as_bitslice().get_range(range)
+    }
+
+    /// The first bit. None exactly where the box is empty.
+    pub fn first(&self) -> Option<bool>
+        ensures { result ≡ slice_get self.now.list 0 }
+    {
+        self.as_bitslice().first()
+    }
+
+    /// The last bit. None exactly where the box is empty.
+    pub fn last(&self) -> Option<bool>
+        ensures { result ≡ slice_get self.now.list (length self.now.list - 1) }
+    {
+        self.as_bitslice().last()
+    }
+
+    /// How many bits are true.
+    pub fn count_ones(&self) -> usize
+        ensures value { result ≡ count_by (λ bit. bit) self.now.list }
+        ensures few { result ≤ length self.now.list }
+    {
+        self.as_bitslice().count_ones()
+    }
+
+    /// How many bits are false.
+    pub fn count_zeros(&self) -> usize
+        ensures value { result ≡ count_by not self.now.list }
+        ensures few { result ≤ length self.now.list }
+    {
+        self.as_bitslice().count_zeros()
+    }
+
+    /// Whether some bit is true. Of an empty box it is false.
+    pub fn any(&self) -> bool
+        ensures value { result ≡ list_any (λ bit. bit) self.now.list }
+        ensures index { IsTrue result ↔ SomeIndex self.now.list (λ i. slice_get self.now.list i ≡ Some true) }
+    {
+        self.as_bitslice().any()
+    }
+
+    /// Whether every bit is true. Of an empty box it is true.
+    pub fn all(&self) -> bool
+        ensures value { result ≡ list_all (λ bit. bit) self.now.list }
+        ensures index { IsTrue result ↔ EachIndex self.now.list (λ i. slice_get self.now.list i ≡ Some true) }
+    {
+        self.as_bitslice().all()
+    }
+
+    /// Writes the bit at `i`, and no other bit. Takes no memory. Requires that `i` is below the length.
+    #[tactic(auto, using(bit_slice::proofs::Parts::shown_length))]
+    pub fn set(&mut self, i: usize, bit: bool)
+        requires { i < length self.old.list }
+        ensures list { self.new.list ≡ set self.old.list i bit }
+        ensures row { self.new.row ≡ set self.old.row (self.old.head + i) bit }
+        ensures clean { IsClean T.BITS self.old → IsClean T.BITS self.new }
+        ensures stayed { Stayed self.old self.new }
+    {
+        write_bit_in_vec::<T, O>(&mut self.words, self.head + i, bit);
+    }
+
+    /// Writes the bit at `i`, and returns the one that was there. Takes no memory. Requires that `i` is below
+    /// the length.
+    pub fn replace(&mut self, i: usize, bit: bool) -> bool
+        requires { i < length self.old.list }
+        ensures old { slice_get self.old.list i ≡ Some result }
+        ensures list { self.new.list ≡ set self.old.list i bit }
+        ensures row { self.new.row ≡ set self.old.row (self.old.head + i) bit }
+        ensures clean { IsClean T.BITS self.old → IsClean T.BITS self.new }
+        ensures stayed { Stayed self.old self.new }
+    {
+        let old = self[i];
+        self.set(i, bit);
+        old
+    }
+
+    /// Swaps the bits at `i` and `j`, and changes no other bit. Takes no memory. Requires that both are below
+    /// the length.
+    #[tactic(auto, using(bit_slice::proofs::Parts::shown_length))]
+    pub fn swap(&mut self, i: usize, j: usize)
+        requires first { i < length self.old.list }
+        requires second { j < length self.old.list }
+        ensures list { self.new.list ≡ swap self.old.list i j }
+        ensures row { self.new.row ≡ swap self.old.row (self.old.head + i) (self.old.head + j) }
+        ensures clean { IsClean T.BITS self.old → IsClean T.BITS self.new }
+        ensures stayed { Stayed self.old self.new }
+    {
+        let head = self.head;
+        swap_bits_in_vec::<T, O>(&mut self.words, head + i, head + j);
+    }
+
+    /// Makes every bit of the list `bit`, and changes no dead bit. Takes no memory.
+    #[tactic(auto, using(bit_slice::proofs::Parts::shown_length))]
+    pub fn fill(&mut self, bit: bool)
+        ensures list { self.new.list ≡ replicate (length self.old.list) bit }
+        ensures row { self.new.row ≡ put self.old.row self.old.head (replicate (length self.old.list) bit) }
+        ensures clean { IsClean T.BITS self.old → IsClean T.BITS self.new }
+        ensures stayed { Stayed self.old self.new }
+    {
+        let (head, len) = (self.head, self.len);
+        fill_bits_in_vec::<T, O>(&mut self.words, head, head + len, bit);
+    }
+
+    /// Copies the range's bits to the places from `dest` on, as if they were copied out first. No other bit
+    /// changes, dead bits included. It is one counted move of the words. Takes no memory. Requires that the
+    /// range lies in the length, and that its bits have room from `dest` on.
+    #[tactic(auto, using(bit_slice::proofs::Parts::shown_length))]
+    pub fn copy_within<R: RangeExt>(&mut self, range: R, dest: usize)
+        requires lies { LiesIn (R.start_of range) (R.end_of range (length self.old.list)) (length self.old.list) }
+        requires room { dest + (R.end_of range (length self.old.list) - R.start_of range) ≤ length self.old.list }
+        ensures list { self.new.list ≡ moved self.old.list (R.start_of range) dest (R.end_of range (length self.old.list) - R.start_of range) }
+        ensures row { self.new.row ≡ moved self.old.row (self.old.head + R.start_of range) (self.old.head + dest) (R.end_of range (length self.old.list) - R.start_of range) }
+        ensures landed { let n = R.end_of range (length self.old.list) - R.start_of range in slice_range self.new.list dest (dest + n) ≡ slice_range self.old.list (R.start_of range) (R.start_of range + n) }
+        ensures clean { IsClean T.BITS self.old → IsClean T.BITS self.new }
+        ensures stayed { Stayed self.old self.new }
+    {
+        let range = range.normalize(self.len);
+        let (from, to) = (self.head + range.start, self.head + dest);
+        move_bits_in_vec::<T, O>(&mut self.words, from, to, range.end - range.start);
+    }
+
+    /// Writes the bits of a view, of any word type and order, over those of the list. No dead bit changes.
+    /// Takes no memory. Requires that the view has as many bits as the box.
+    #[tactic(auto, using(bit_slice::proofs::Parts::shown_length))]
+    pub fn clone_from_bitslice<U: BitStore, P: BitOrder>(&mut self, source: BitSlice<'_, U, P>)
+        requires { len_of source ≡ length self.old.list }
+        ensures list { self.new.list ≡ list_of source.entry }
+        ensures row { self.new.row ≡ put self.old.row self.old.head (list_of source.entry) }
+        ensures clean { IsClean T.BITS self.old → IsClean T.BITS self.new }
+        ensures stayed { Stayed self.old self.new }
+    {
+        let (head, len) = (self.head, self.len);
+        let from = source.head();
+        copy_bits_in_vec::<T, O, U, P>(&mut self.words, head, source.as_raw_slice(), from, len);
+    }
+}

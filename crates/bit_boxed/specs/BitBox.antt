@@ -41,3 +41,12 @@ IsClean w b = IsCleanRow w b.head b.row b.list
 -- A copy: the same list, from head 0 on, and each dead bit is false.
 abbrev pub IsCopy : {X : Type 0} → ℕ → Held X → Held X → Type 0
 IsCopy w old new = IsCopiedRow w old.list new.head new.row new.list
+
+-- All bits of these words, whose row these are: the head is 0, no bit is dead.
+pub record IsWhole {X : Type 0} (w : ℕ) (ws : List X) (bits : List Bool) (b : Held X) : Type 0 where
+  pub words : b.words ≡ ws
+  pub row : b.row ≡ bits
+  pub head : b.head ≡ 0
+  pub list : b.list ≡ bits
+  pub len : length b.list ≡ w * length ws
+  pub clean : IsClean w b

@@ -72,6 +72,7 @@ impl<T: BitStore, O: BitOrder> BitBox<T, O> {
         ensures head { result.head ≡ 0 }
         ensures list { result.list ≡ row T.BitStore O.BitOrder words.items }
         ensures len { length result.list ≡ T.BITS * length words.items }
+        ensures clean { IsClean T.BITS result }
     {
         let len = T::BITS as usize * words.len();
         BitBox {
@@ -122,6 +123,7 @@ impl<T: BitStore, O: BitOrder> BitBox<T, O> {
         ensures words { IfOk result (λ b. b.words ≡ []) }
         ensures head { IfOk result (λ b. b.head ≡ 0) }
         ensures list { IfOk result (λ b. b.list ≡ []) }
+        ensures clean { IfOk result (λ b. IsClean T.BITS b) }
         ensures succeeds { IsOk result }
     {
         Ok(Self::of_words(Vec::new(alloc)))
@@ -153,6 +155,7 @@ impl<T: BitStore, O: BitOrder> BitBox<T, O> {
         ensures head { result.head ≡ 0 }
         ensures list { result.list ≡ row T.BitStore O.BitOrder (boxed_slice_items words) }
         ensures len { length result.list ≡ T.BITS * length (boxed_slice_items words) }
+        ensures clean { IsClean T.BITS result }
     {
         Self::of_words(words.into_vec())
     }
@@ -161,9 +164,11 @@ impl<T: BitStore, O: BitOrder> BitBox<T, O> {
     /// `MAX_BITS` bits. Takes no memory.
     pub fn try_from_boxed_slice(words: BoxedSlice<T>) -> Result<Self, BoxedSlice<T>>
         ensures words { IfOk result (λ b. b.words ≡ boxed_slice_items words) }
+        ensures row { IfOk result (λ b. b.row ≡ row T.BitStore O.BitOrder (boxed_slice_items words)) }
         ensures head { IfOk result (λ b. b.head ≡ 0) }
         ensures list { IfOk result (λ b. b.list ≡ row T.BitStore O.BitOrder (boxed_slice_items words)) }
         ensures len { IfOk result (λ b. length b.list ≡ T.BITS * length (boxed_slice_items words)) }
+        ensures clean { IfOk result (λ b. IsClean T.BITS b) }
         ensures fits { IsOk result ↔ (T.BITS * length (boxed_slice_items words) ≤ MAX_BITS) }
         ensures back { IfErr result (λ back. back ≡ words) }
     {
@@ -180,6 +185,7 @@ impl<T: BitStore, O: BitOrder> BitBox<T, O> {
         ensures head { IfOk result (λ b. b.head ≡ 0) }
         ensures list { IfOk result (λ b. b.list ≡ row T.BitStore O.BitOrder (word.value ∷ [])) }
         ensures len { IfOk result (λ b. length b.list ≡ T.BITS) }
+        ensures clean { IfOk result (λ b. IsClean T.BITS b) }
     {
         let word = Box::into_inner(word);
         let mut words = Vec::new(alloc);
@@ -197,6 +203,7 @@ impl<T: BitStore, O: BitOrder> BitBox<T, O> {
         ensures head { IfOk result (λ b. b.head ≡ 0) }
         ensures list { IfOk result (λ b. b.list ≡ row T.BitStore O.BitOrder (A.words array)) }
         ensures len { IfOk result (λ b. length b.list ≡ T.BITS * A.count) }
+        ensures clean { IfOk result (λ b. IsClean T.BITS b) }
         ensures memory { OnErr result (0 < A.count) }
     {
         let mut words = Vec::new(alloc);
@@ -283,6 +290,7 @@ impl<T: BitStore, O: BitOrder> BitBox<T, O> {
         ensures head { self.new.head ≡ 0 }
         ensures list { self.new.list ≡ self.old.list }
         ensures row { self.new.row ≡ moved self.old.row self.old.head 0 (length self.old.list) }
+        ensures clean { IsClean T.BITS self.old → IsClean T.BITS self.new }
         ensures size { length self.new.words ≡ length self.old.words }
     {
         move_bits_in_vec::<T, O>(&mut self.words, self.head, 0, self.len);

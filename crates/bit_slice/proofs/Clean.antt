@@ -1,11 +1,12 @@
 -- Which writes leave a clean row clean: the list stands in it from its beginning, and then comes false.
-use Rattle.std.proofs.Common.{[], ◌∷◌, false, get_or, set, swap, slice_range, ◌≡◌, ℕ, ◌+◌, ◌*◌, ◌<◌, ◌≤◌, List, Bool, length, sym, ◌∙◌, ap, refl, arith, rules}
-use Rattle.std.proofs.lemmas.List.{same_lists, places, length-set}
+use Rattle.std.proofs.Common.{[], ◌∷◌, true, false, leb, ltb, ◌&&◌, if◌then◌else◌, subst, get_or, set, swap, slice_range, ◌≡◌, ℕ, ◌+◌, ◌-◌, ◌*◌, ◌<◌, ◌≤◌, List, Bool, length, sym, ◌∙◌, ap, refl, arith, rules}
+use Rattle.std.proofs.lemmas.List.{same_lists, places, length-set, ext_get_or}
 use Rattle.std.proofs.lemmas.List.Edits.{swap_is}
-use Rattle.bit_addressing.specs.Row.{put, sized, moved, words_for}
-use Rattle.bit_addressing.proofs.lists.Sized.{room, length-sized}
+use Rattle.bit_addressing.specs.Row.{put, sized, moved, source_of, words_for}
+use Rattle.bit_addressing.proofs.lists.Sized.{room, length-sized, sized_same, words_for_all}
 use Rattle.bit_addressing.proofs.lists.Shown.{length-run, shows_sized}
 use Rattle.bit_addressing.proofs.lists.Put.{put_one, length-put}
+use Rattle.bit_addressing.proofs.lists.Moved.{length-moved, get_or-moved}
 use Rattle.bit_addressing.proofs.Shifts.{put_moved}
 use Rattle.bit_slice.specs.Clean.{IsCleanRow}
 use Rattle.bit_slice.proofs.Shown.{put_all}
@@ -98,3 +99,16 @@ clean_swapped w old new i j positive h k head list row clean =
     (list ∙ sym (swap_is old.list i j false h k))
     (row ∙ sym (swap_is old.row (old.head + i) (old.head + j) false (omega arith) (omega arith)) ∙ ap (λ b. set (set old.row (old.head + i) b) (old.head + j) (get_or old.row (old.head + i) false)) (stands j k) ∙ ap (set mid.row (old.head + j)) (stands i h))
     still
+
+-- all bits of words
+pub clean_all : (w n : ℕ) (bits list : List Bool) → 0 < w → length bits ≡ w * n → list ≡ bits → bits ≡ sized w list (length list)
+clean_all w n bits list positive size is =
+    sym (sized_same w bits (length bits) (size ∙ ap (λ m. w * m) (words_for_all w n positive ∙ ap (words_for w) (sym size)))) ∙ ap (λ l. sized w l (length l)) (sym is)
+
+-- ---- a list that is moved to where it stands
+
+source_same : (s n j : ℕ) → source_of s s n j ≡ j
+source_same s n j = elim (leb s j && ltb j (s + n)) as (λ b. (if b then (s + j) - s else j) ≡ j) [ true ↦ omega arith | false ↦ refl ]
+
+pub moved_nowhere : (xs : List Bool) (s n : ℕ) → moved xs s s n ≡ xs
+moved_nowhere xs s n = ext_get_or false (moved xs s s n) xs (length-moved xs s s n) (λ j h. get_or-moved xs s s n j (subst (λ l. j < l) (length-moved xs s s n) h) ∙ ap (λ k. get_or xs k false) (source_same s n j))

@@ -3,14 +3,15 @@ ghost use Rattle.std.specs.Prelude.{◌≡◌, ℕ, ◌+◌, ◌-◌, ◌*◌, �
 ghost use Rattle.std.specs.List.{list_any, list_all};
 ghost use Rattle.bit_addressing.specs.declared.length.TheConstants.{MAX_BITS};
 ghost use Rattle.bit_addressing.specs.Range.{LiesIn};
-ghost use Rattle.bit_addressing.specs.Row.{moved, words_for};
+ghost use Rattle.bit_addressing.specs.Row.{moved, touched, words_for};
 ghost use Rattle.bit_addressing.specs.Typed.{row};
 ghost use Rattle.bit_slice.specs.BitSlice.{words_of, head_of, len_of, list_of};
 
 use crate::array::BitArray;
 use crate::sized::{BitViewSized, BitWords};
 use bit_addressing::{
-    BitOrder, BitStore, RangeExt, copy_bits, fill_bits, move_bits, swap_bits, write_bit,
+    BitOrder, BitStore, Meter, RangeExt, copy_bits, fill_bits, move_bits_counted, swap_bits,
+    write_bit,
 };
 use bit_slice::BitSlice;
 
@@ -140,18 +141,35 @@ impl<A: BitViewSized, O: BitOrder> BitArray<A, O> {
         fill_bits::<A::Store, O>(self.inner.as_raw_mut_slice(), 0, len, bit);
     }
 
-    /// Copies the range's bits to the places from `dest` on, as if they were copied out first. No other bit
-    /// changes. It is one counted move of the words. Requires that the range lies in the length, and that its
-    /// bits have room from `dest` on.
+    /// Copies the bits of a range to index `dest`, as if they were copied out first. No other bit changes. Requires
+    /// that the range lies in the length and that its bits have room from `dest` on.
     pub fn copy_within<R: RangeExt>(&mut self, range: R, dest: usize)
         requires lies { LiesIn (R.start_of range) (R.end_of range (A.Store.BITS * A.count)) (A.Store.BITS * A.count) }
         requires room { dest + (R.end_of range (A.Store.BITS * A.count) - R.start_of range) ≤ A.Store.BITS * A.count }
         ensures list { row A.Store.BitStore O.BitOrder (A.words self.new) ≡ moved (row A.Store.BitStore O.BitOrder (A.words self.old)) (R.start_of range) dest (R.end_of range (A.Store.BITS * A.count) - R.start_of range) }
         ensures landed { let n = R.end_of range (A.Store.BITS * A.count) - R.start_of range in slice_range (row A.Store.BitStore O.BitOrder (A.words self.new)) dest (dest + n) ≡ slice_range (row A.Store.BitStore O.BitOrder (A.words self.old)) (R.start_of range) (R.start_of range + n) }
     {
+        let _meter = self.copy_within_counted(range, dest);
+    }
+
+    /// Like `copy_within`, but returns the meter of the words that were read and written: at most one write for each word
+    /// that holds a bit of the target, and at most three reads for each.
+    ///
+    /// ```text
+    /// let meter = a.copy_within_counted(0..9, 3);   // 12 bits in bytes: meter.writes ≤ 2, meter.reads ≤ 6
+    /// ```
+    pub fn copy_within_counted<R: RangeExt>(&mut self, range: R, dest: usize) -> Meter
+        requires lies { LiesIn (R.start_of range) (R.end_of range (A.Store.BITS * A.count)) (A.Store.BITS * A.count) }
+        requires room { dest + (R.end_of range (A.Store.BITS * A.count) - R.start_of range) ≤ A.Store.BITS * A.count }
+        ensures list { row A.Store.BitStore O.BitOrder (A.words self.new) ≡ moved (row A.Store.BitStore O.BitOrder (A.words self.old)) (R.start_of range) dest (R.end_of range (A.Store.BITS * A.count) - R.start_of range) }
+        ensures landed { let n = R.end_of range (A.Store.BITS * A.count) - R.start_of range in slice_range (row A.Store.BitStore O.BitOrder (A.words self.new)) dest (dest + n) ≡ slice_range (row A.Store.BitStore O.BitOrder (A.words self.old)) (R.start_of range) (R.start_of range + n) }
+        ensures writes { result.writes ≤ touched A.Store.BITS dest (R.end_of range (A.Store.BITS * A.count) - R.start_of range) }
+        ensures reads { result.reads ≤ 3 * touched A.Store.BITS dest (R.end_of range (A.Store.BITS * A.count) - R.start_of range) }
+    {
         let range = range.normalize(self.len());
         let count = range.end - range.start;
-        move_bits::<A::Store, O>(self.inner.as_raw_mut_slice(), range.start, dest, count);
+        let words = self.inner.as_raw_mut_slice();
+        move_bits_counted::<A::Store, O>(words, range.start, dest, count)
     }
 
     /// Writes the bits of a view, of any word type and order, over those of the array. Requires that the view

@@ -1,16 +1,16 @@
 //! The calls of a view that the box has itself.
-ghost use Rattle.std.specs.Prelude.{◌≡◌, ◌+◌, ◌-◌, ◌/◌, ◌%◌, ◌<◌, ◌≤◌, ◌↔◌, EachIndex, IsTrue, SomeIndex, length, not, replicate, count_by, set, slice_get, slice_range, swap, true};
+ghost use Rattle.std.specs.Prelude.{◌≡◌, ◌+◌, ◌-◌, ◌*◌, ◌/◌, ◌%◌, ◌<◌, ◌≤◌, ◌↔◌, EachIndex, IsTrue, SomeIndex, length, not, replicate, count_by, set, slice_get, slice_range, swap, true};
 ghost use Rattle.std.specs.List.{list_any, list_all};
 ghost use Rattle.bit_addressing.specs.declared.length.TheConstants.{MAX_BITS};
 ghost use Rattle.bit_addressing.specs.Range.{LiesIn};
-ghost use Rattle.bit_addressing.specs.Row.{moved, put, words_for};
+ghost use Rattle.bit_addressing.specs.Row.{moved, put, touched, words_for};
 ghost use Rattle.bit_boxed.specs.BitBox.{IsClean, Stayed};
 ghost use Rattle.bit_slice.specs.BitSlice.{words_of, head_of, len_of, list_of};
 
 use crate::boxed::BitBox;
 use bit_addressing::{
-    BitOrder, BitStore, RangeExt, copy_bits_in_vec, fill_bits_in_vec, move_bits_in_vec,
-    swap_bits_in_vec, write_bit_in_vec,
+    BitOrder, BitStore, Meter, RangeExt, copy_bits_in_vec, fill_bits_in_vec,
+    move_bits_counted_in_vec, swap_bits_in_vec, write_bit_in_vec,
 };
 use bit_slice::BitSlice;
 
@@ -156,10 +156,8 @@ impl<T: BitStore, O: BitOrder> BitBox<T, O> {
         fill_bits_in_vec::<T, O>(&mut self.words, head, head + len, bit);
     }
 
-    /// Copies the range's bits to the places from `dest` on, as if they were copied out first. No other bit
-    /// changes, dead bits included. It is one counted move of the words. Takes no memory. Requires that the
-    /// range lies in the length, and that its bits have room from `dest` on.
-    #[tactic(auto, using(bit_slice::proofs::Parts::shown_length))]
+    /// Copies the bits of a range to index `dest`, as if they were copied out first. No other bit changes, dead bits
+    /// included. Takes no memory. Requires that the range lies in the length and that its bits have room from `dest` on.
     pub fn copy_within<R: RangeExt>(&mut self, range: R, dest: usize)
         requires lies { LiesIn (R.start_of range) (R.end_of range (length self.old.list)) (length self.old.list) }
         requires room { dest + (R.end_of range (length self.old.list) - R.start_of range) ≤ length self.old.list }
@@ -169,9 +167,30 @@ impl<T: BitStore, O: BitOrder> BitBox<T, O> {
         ensures clean { IsClean T.BITS self.old → IsClean T.BITS self.new }
         ensures stayed { Stayed self.old self.new }
     {
+        let _meter = self.copy_within_counted(range, dest);
+    }
+
+    /// Like `copy_within`, but returns the meter of the words that were read and written: at most one write for each word
+    /// that holds a bit of the target, and at most three reads for each.
+    ///
+    /// ```text
+    /// let meter = b.copy_within_counted(0..9, 3);   // 12 bits in bytes: meter.writes ≤ 2, meter.reads ≤ 6
+    /// ```
+    #[tactic(auto, using(bit_slice::proofs::Parts::shown_length))]
+    pub fn copy_within_counted<R: RangeExt>(&mut self, range: R, dest: usize) -> Meter
+        requires lies { LiesIn (R.start_of range) (R.end_of range (length self.old.list)) (length self.old.list) }
+        requires room { dest + (R.end_of range (length self.old.list) - R.start_of range) ≤ length self.old.list }
+        ensures list { self.new.list ≡ moved self.old.list (R.start_of range) dest (R.end_of range (length self.old.list) - R.start_of range) }
+        ensures row { self.new.row ≡ moved self.old.row (self.old.head + R.start_of range) (self.old.head + dest) (R.end_of range (length self.old.list) - R.start_of range) }
+        ensures landed { let n = R.end_of range (length self.old.list) - R.start_of range in slice_range self.new.list dest (dest + n) ≡ slice_range self.old.list (R.start_of range) (R.start_of range + n) }
+        ensures clean { IsClean T.BITS self.old → IsClean T.BITS self.new }
+        ensures stayed { Stayed self.old self.new }
+        ensures writes { result.writes ≤ touched T.BITS (self.old.head + dest) (R.end_of range (length self.old.list) - R.start_of range) }
+        ensures reads { result.reads ≤ 3 * touched T.BITS (self.old.head + dest) (R.end_of range (length self.old.list) - R.start_of range) }
+    {
         let range = range.normalize(self.len);
         let (from, to) = (self.head + range.start, self.head + dest);
-        move_bits_in_vec::<T, O>(&mut self.words, from, to, range.end - range.start);
+        move_bits_counted_in_vec::<T, O>(&mut self.words, from, to, range.end - range.start)
     }
 
     /// Writes the bits of a view, of any word type and order, over those of the list. No dead bit changes.

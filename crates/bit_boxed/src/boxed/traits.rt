@@ -167,12 +167,14 @@ impl<T: BitStore, O: BitOrder> TryFrom<BoxedSlice<T>> for BitBox<T, O> {
     ghost use Rattle.std.specs.Prelude.{◌≡◌, ◌*◌, ◌≤◌, ◌↔◌, IsOk, MatchResult, length};
     ghost use Rattle.std.specs.Box.{boxed_slice_items};
     ghost use Rattle.bit_addressing.specs.declared.length.TheConstants.{MAX_BITS};
+    ghost use Rattle.bit_addressing.specs.Typed.{row};
+    ghost use Rattle.bit_boxed.specs.BitBox.{IsWhole};
 
     type Error = BoxedSlice<T>;
 
-    ghost try_from_gives = { λ words r. MatchResult r (λ b. (b.words ≡ boxed_slice_items words) × (b.head ≡ 0)) (λ back. back ≡ words) × (IsOk r ↔ (T.BITS * length (boxed_slice_items words) ≤ MAX_BITS)) };
+    ghost try_from_gives = { λ words r. MatchResult r (λ b. IsWhole T.BITS (boxed_slice_items words) (row T.BitStore O.BitOrder (boxed_slice_items words)) b) (λ back. back ≡ words) × (IsOk r ↔ (T.BITS * length (boxed_slice_items words) ≤ MAX_BITS)) };
 
-    /// As `BitBox::try_from_boxed_slice`.
+    /// Like `BitBox::try_from_boxed_slice`.
     fn try_from(words: BoxedSlice<T>) -> Result<Self, BoxedSlice<T>> {
         Self::try_from_boxed_slice(words)
     }
@@ -181,10 +183,11 @@ impl<T: BitStore, O: BitOrder> TryFrom<BoxedSlice<T>> for BitBox<T, O> {
 impl<T: BitStore, O: BitOrder> From<BitBox<T, O>> for BoxedSlice<T> {
     ghost use Rattle.std.specs.Prelude.{◌≡◌};
     ghost use Rattle.std.specs.Box.{boxed_slice_items};
+    ghost use Rattle.bit_addressing.specs.Typed.{row, words_from};
 
-    ghost from_gives = { λ b words. boxed_slice_items words ≡ b.words };
+    ghost from_gives = { λ b words. (boxed_slice_items words ≡ b.words) × (row T.BitStore O.BitOrder (boxed_slice_items words) ≡ b.row) × (boxed_slice_items words ≡ words_from T.BitStore O.BitOrder b.row) };
 
-    /// As `BitBox::into_boxed_slice`.
+    /// Like `BitBox::into_boxed_slice`.
     fn from(b: BitBox<T, O>) -> BoxedSlice<T> {
         b.into_boxed_slice()
     }

@@ -9,7 +9,7 @@ ghost use Rattle.bit_slice.specs.BitSlice.{len_of, list_of};
 use crate::vec::BitVec;
 use bit_addressing::{
     BitOrder, BitStore, Meter, RangeExt, copy_bits_in_vec, fill_bits_in_vec,
-    move_bits_counted_in_vec, read_bit, write_bit_in_vec,
+    move_bits_counted_in_vec, read_bit, swap_bits_in_vec, write_bit_in_vec,
 };
 use bit_slice::BitSlice;
 
@@ -98,7 +98,7 @@ impl<T: BitStore, O: BitOrder> BitVec<T, O> {
         old
     }
 
-    /// Has the bits at `i` and `j` change places. Takes no memory. The condition: both are below the length.
+    /// Swaps the bits at `i` and `j`, and changes no other bit. Takes no memory. Requires that both are below the length.
     #[tactic(auto, using(bit_slice::proofs::Parts::shown_length))]
     pub fn swap(&mut self, i: usize, j: usize)
         requires first { i < length self.old.list }
@@ -108,10 +108,8 @@ impl<T: BitStore, O: BitOrder> BitVec<T, O> {
         ensures clean { IsClean T.BITS self.old → IsClean T.BITS self.new }
         ensures stayed { Stayed self.old self.new }
     {
-        let first = read_bit::<T, O>(self.words.as_slice(), self.head + i);
-        let second = read_bit::<T, O>(self.words.as_slice(), self.head + j);
-        self.set(i, second);
-        self.set(j, first);
+        let head = self.head;
+        swap_bits_in_vec::<T, O>(&mut self.words, head + i, head + j);
     }
 
     /// Makes every bit of the list `bit`, and changes no dead bit. Takes no memory.

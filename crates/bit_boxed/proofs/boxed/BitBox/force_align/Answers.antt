@@ -1,6 +1,8 @@
-use Rattle.std.proofs.Common.{◌≡◌, ◌+◌, ◌*◌, ◌≤◌, length, slice_range, ◌∙◌, ap, arith}
+use Rattle.std.proofs.Common.{◌≡◌, ◌+◌, ◌*◌, ◌≤◌, length, slice_range, refl, sym, ◌∙◌, ap, arith}
+use Rattle.bit_addressing.specs.Row.{moved, sized}
 use Rattle.bit_addressing.specs.Typed.{row}
 use Rattle.bit_addressing.proofs.Rows.{width_positive}
+use Rattle.bit_slice.proofs.Clean.{moved_nowhere}
 use Rattle.bit_slice.proofs.Parts.{in_row, shown_length}
 use Rattle.bit_slice.proofs.Shown.{moved_lands}
 use Rattle.bit_boxed.proofs.boxed.BitBox.force_align.Goals as goal
@@ -29,3 +31,13 @@ invariant_of-self g c =
       few = omega (arith, c.self.invariant.few, all);
       shows = shown_length g.T.BitStore g.O.BitOrder ws 0 i.len fits;
     }
+
+pub returns-clause-clean : goal.returns-clause-clean
+returns-clause-clean g c clean =
+    let i = c.self.inside in
+    let now = c.args.self.now in
+    let len : i.len ≡ length now.list = sym c.self.invariant.shows ∙ ap (λ v. length v.list) c.self.view_is in
+    let list = returns-clause-list g c in
+    let row : row g.T.BitStore g.O.BitOrder c.move_bits_in_vec.new.words.items ≡ now.row =
+    c.move_bits_in_vec.ensures.bits ∙ ap (λ v. moved v.row v.head 0 i.len) c.self.view_is ∙ ap (moved now.row now.head 0) len ∙ ap (λ h. moved now.row h 0 (length now.list)) clean.head ∙ moved_nowhere now.row 0 (length now.list) in
+    record { head = refl; row = row ∙ clean.row ∙ ap (λ l. sized g.T.BitStore.BITS l (length l)) (sym list) }

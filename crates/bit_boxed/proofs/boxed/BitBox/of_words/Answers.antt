@@ -1,8 +1,9 @@
-use Rattle.std.proofs.Common.{◌≡◌, ◌+◌, ◌-◌, ◌*◌, length, ◌∙◌, ap, arith}
+use Rattle.std.proofs.Common.{◌≡◌, ◌+◌, ◌-◌, ◌*◌, length, refl, ◌∙◌, ap, arith}
 use Rattle.std.proofs.lemmas.List.{take_all}
 use Rattle.bit_addressing.specs.Typed.{row}
 use Rattle.bit_addressing.proofs.Rows.{width_positive}
 use Rattle.bit_addressing.proofs.Typed.{length_row}
+use Rattle.bit_slice.proofs.Clean.{clean_all}
 use Rattle.bit_slice.proofs.Parts.{shown_length}
 use Rattle.bit_boxed.proofs.boxed.BitBox.of_words.Goals as goal
 
@@ -21,3 +22,12 @@ returns-clause-list g c =
 
 pub returns-clause-len : goal.returns-clause-len
 returns-clause-len g c = ap length (returns-clause-list g c) ∙ length_row g.T.BitStore.value g.O.BitOrder.place g.T.BitStore.BITS c.args.words.items
+
+pub returns-clause-clean : goal.returns-clause-clean
+returns-clause-clean g c =
+    let w = g.T.BitStore.BITS in
+    let ws = c.args.words.items in
+    record {
+      head = refl;
+      row = clean_all w (length ws) (row g.T.BitStore g.O.BitOrder ws) _ (width_positive w g.met.T.BitStore.width) (length_row g.T.BitStore.value g.O.BitOrder.place w ws) (returns-clause-list g c);
+    }

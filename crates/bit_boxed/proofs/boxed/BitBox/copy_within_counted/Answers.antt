@@ -6,7 +6,7 @@ use Rattle.bit_addressing.proofs.Rows.{width_positive}
 use Rattle.bit_slice.proofs.Clean.{clean_moved}
 use Rattle.bit_slice.proofs.Parts.{in_row}
 use Rattle.bit_slice.proofs.Shown.{moved_lands}
-use Rattle.bit_boxed.proofs.boxed.BitBox.copy_within.Goals as goal
+use Rattle.bit_boxed.proofs.boxed.BitBox.copy_within_counted.Goals as goal
 
 pub returns-clause-list : goal.returns-clause-list
 returns-clause-list g c =
@@ -18,7 +18,7 @@ returns-clause-list g c =
     let start = c.normalize-range.ensures.start in
     let len : i.len ≡ length c.args.self.now.list = sym c.self.invariant.shows ∙ ap (λ v. length v.list) c.self.view_is in
     let end : upto ≡ g.R.RangeExt.end_of c.args.range (length c.args.self.now.list) = c.normalize-range.ensures.end ∙ ap (g.R.RangeExt.end_of c.args.range) len in
-    ap (λ r. slice_range r i.head (i.head + i.len)) c.move_bits_in_vec.ensures.bits
+    ap (λ r. slice_range r i.head (i.head + i.len)) c.move_bits_counted_in_vec.ensures.bits
     ∙ shows_moved bits i.head i.len from c.args.dest (upto - from) (omega arith) (omega arith) fits
     ∙ ap (λ v. moved v.list from c.args.dest (upto - from)) c.self.view_is
     ∙ ap (λ s. moved c.args.self.now.list s c.args.dest (upto - s)) start
@@ -47,6 +47,6 @@ returns-clause-clean g c =
     let len : i.len ≡ length now.list = sym c.self.invariant.shows ∙ ap (λ v. length v.list) c.self.view_is in
     let end : upto ≡ g.R.RangeExt.end_of c.args.range (length now.list) = c.normalize-range.ensures.end ∙ ap (g.R.RangeExt.end_of c.args.range) len in
     clean_moved w _ _ start c.args.dest n (width_positive w g.met.T.BitStore.width) (omega arith) c.requires.room (ap (λ v. v.head) c.self.view_is) (returns-clause-list g c)
-    (c.move_bits_in_vec.ensures.bits ∙ ap (λ v. moved v.row (v.head + from) (v.head + c.args.dest) (upto - from)) c.self.view_is
+    (c.move_bits_counted_in_vec.ensures.bits ∙ ap (λ v. moved v.row (v.head + from) (v.head + c.args.dest) (upto - from)) c.self.view_is
     ∙ ap (λ s. moved now.row (now.head + s) (now.head + c.args.dest) (upto - s)) c.normalize-range.ensures.start
     ∙ ap (λ e. moved now.row (now.head + start) (now.head + c.args.dest) (e - start)) end)

@@ -1,6 +1,9 @@
 -- Why a view is no array.
 use Rattle.std.specs.Prelude.{◌≡◌, ◌≢◌, ℕ, List, ◌++◌, codes}
 use Rattle.std.specs.Fmt.{decimal}
+use Rattle.std.specs.Ordering.{nat_cmp, ordering_then}
+use Rattle.std.specs.declared.cmp.Ordering.{Ordering}
+use Rattle.std.specs.declared.cmp.Ordering.TheVariants.{Less, Equal, Greater}
 use Rattle.bit_array.specs.declared.errors.Reason.{Reason}
 use Rattle.bit_array.specs.declared.errors.Reason.TheVariants as reasons
 use Rattle.bit_array.specs.declared.errors.TryFromBitSliceError.{TryFromBitSliceError}
@@ -24,3 +27,13 @@ reason_text reasons.Misaligned = codes "a bit-slice must begin at the front edge
 
 abbrev pub text_of : TryFromBitSliceError → List ℕ
 text_of error = reason_text error.reason
+
+-- which comes first: a fault of the length before one of the head, and of two of the length the one with the smaller actual length, then the one with the smaller expected length
+abbrev pub reason_order : Reason → Reason → Ordering
+reason_order (reasons.UnequalLen a n) (reasons.UnequalLen b m) = ordering_then (nat_cmp a b) (nat_cmp n m)
+reason_order (reasons.UnequalLen a n) reasons.Misaligned = Less
+reason_order reasons.Misaligned (reasons.UnequalLen b m) = Greater
+reason_order reasons.Misaligned reasons.Misaligned = Equal
+
+abbrev pub order_of : TryFromBitSliceError → TryFromBitSliceError → Ordering
+order_of error other = reason_order error.reason other.reason

@@ -2,6 +2,7 @@
 ghost use Rattle.std.specs.Prelude.{Some};
 ghost use Rattle.bit_array.specs.Errors.{text_of};
 
+use std::cmp::Ordering;
 use std::error::Error;
 use std::fmt;
 
@@ -27,7 +28,7 @@ pub struct TryFromBitSliceError {
 
 impl TryFromBitSliceError {
     ghost use Rattle.std.specs.Prelude.{◌≡◌};
-    ghost use Rattle.bit_array.specs.Errors.{UnequalLen, Misaligned};
+    ghost use Rattle.bit_array.specs.Errors.{UnequalLen, Misaligned, order_of};
 
     pub(crate) fn unequal(actual: usize, expected: usize) -> Self
         ensures { result ≡ UnequalLen actual expected }
@@ -43,6 +44,14 @@ impl TryFromBitSliceError {
         TryFromBitSliceError {
             reason: Reason::Misaligned,
         }
+    }
+
+    /// Like `cmp`: a fault of the length comes before one of the head, and faults of the length are compared by the
+    /// actual and then by the expected length.
+    pub fn order(self, other: Self) -> Ordering
+        ensures { result ≡ order_of self other }
+    {
+        self.cmp(&other)
     }
 }
 

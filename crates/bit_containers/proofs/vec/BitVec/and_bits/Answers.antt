@@ -7,7 +7,7 @@ use Rattle.bit_slice.proofs.Shown.{shown_filled}
 use Rattle.bit_slice.specs.BitSlice.{list_of}
 use Rattle.bit_slice.specs.Operators.{and_of}
 use Rattle.bit_containers.proofs.Vectors.{shown}
-use Rattle.bit_containers.proofs.Clean.{clean_whole}
+use Rattle.bit_slice.proofs.Clean.{clean_whole}
 use Rattle.bit_containers.proofs.vec.BitVec.and_bits.Goals as goal
 
 pub returns-clause-row : goal.returns-clause-row
@@ -30,4 +30,4 @@ pub returns-clause-clean : goal.returns-clause-clean
 returns-clause-clean g c =
     let now = c.args.self.now in
     let w = g.T.BitStore.BITS in
-    clean_whole w now _ (and_of now.list (list_of c.args.other)) (width_positive w g.met.T.BitStore.width) (length-combined (λ x y. x && y) now.list (list_of c.args.other)) (ap (λ v. v.head) c.self.view_is) (returns-clause-list g c) (returns-clause-row g c)
+    clean_whole w _ _ (and_of now.list (list_of c.args.other)) (width_positive w g.met.T.BitStore.width) (length-combined (λ x y. x && y) now.list (list_of c.args.other)) (ap (λ v. v.head) c.self.view_is) (returns-clause-list g c) (returns-clause-row g c)

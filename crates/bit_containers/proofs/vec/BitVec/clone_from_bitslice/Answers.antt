@@ -7,7 +7,7 @@ use Rattle.bit_slice.proofs.Parts.{in_row}
 use Rattle.bit_slice.proofs.Shown.{shown_filled}
 use Rattle.bit_slice.specs.BitSlice.{list_of}
 use Rattle.bit_containers.proofs.Vectors.{shown}
-use Rattle.bit_containers.proofs.Clean.{clean_whole}
+use Rattle.bit_slice.proofs.Clean.{clean_whole}
 use Rattle.bit_containers.proofs.vec.BitVec.clone_from_bitslice.Goals as goal
 
 pub returns-clause-row : goal.returns-clause-row
@@ -38,4 +38,4 @@ returns-clause-clean g c =
     let s = c.args.source in
     let w = g.T.BitStore.BITS in
     let size : length (list_of s) ≡ s.len = length-run (row g.U.BitStore g.P.BitOrder s.words.now) s.head s.len (in_row g.U.BitStore g.P.BitOrder s.words.now (s.head + s.len) s.fits.room) in
-    clean_whole w c.args.self.now _ (list_of s) (width_positive w g.met.T.BitStore.width) (size ∙ c.requires) (ap (λ v. v.head) c.self.view_is) (returns-clause-list g c) (returns-clause-row g c)
+    clean_whole w _ _ (list_of s) (width_positive w g.met.T.BitStore.width) (size ∙ c.requires) (ap (λ v. v.head) c.self.view_is) (returns-clause-list g c) (returns-clause-row g c)

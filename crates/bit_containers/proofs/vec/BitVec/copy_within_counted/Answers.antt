@@ -5,7 +5,7 @@ use Rattle.bit_addressing.proofs.Rows.{width_positive}
 use Rattle.bit_addressing.proofs.lists.Moved.{shows_moved}
 use Rattle.bit_containers.proofs.Vectors.{few_words, shown}
 use Rattle.bit_slice.proofs.Shown.{moved_lands}
-use Rattle.bit_containers.proofs.Clean.{clean_moved}
+use Rattle.bit_slice.proofs.Clean.{clean_moved}
 use Rattle.bit_containers.proofs.vec.BitVec.copy_within_counted.Goals as goal
 
 pub move_bits_counted_in_vec-requires-clause-room : goal.move_bits_counted_in_vec-requires-clause-room
@@ -49,7 +49,7 @@ returns-clause-clean g c =
     let upto = c.normalize-range.result.end in
     let len : i.len ≡ length now.list = sym c.self.invariant.shows ∙ ap (λ v. length v.list) c.self.view_is in
     let end : upto ≡ g.R.RangeExt.end_of c.args.range (length now.list) = c.normalize-range.ensures.end ∙ ap (g.R.RangeExt.end_of c.args.range) len in
-    clean_moved w now _ start c.args.dest n (width_positive w g.met.T.BitStore.width) (omega arith) c.requires.room (ap (λ v. v.head) c.self.view_is) (returns-clause-list g c)
+    clean_moved w _ _ start c.args.dest n (width_positive w g.met.T.BitStore.width) (omega arith) c.requires.room (ap (λ v. v.head) c.self.view_is) (returns-clause-list g c)
     (c.move_bits_counted_in_vec.ensures.bits ∙ ap (λ v. moved v.row (v.head + from) (v.head + c.args.dest) (upto - from)) c.self.view_is
     ∙ ap (λ s. moved now.row (now.head + s) (now.head + c.args.dest) (upto - s)) c.normalize-range.ensures.start
     ∙ ap (λ e. moved now.row (now.head + start) (now.head + c.args.dest) (e - start)) end)

@@ -5,7 +5,7 @@ use Rattle.bit_addressing.specs.Typed.{row}
 use Rattle.bit_slice.proofs.Shown.{shown_filled}
 use Rattle.bit_containers.proofs.Vectors.{shown}
 use Rattle.bit_addressing.proofs.Rows.{width_positive}
-use Rattle.bit_containers.proofs.Clean.{clean_whole}
+use Rattle.bit_slice.proofs.Clean.{clean_whole}
 use Rattle.bit_containers.proofs.vec.BitVec.fill.Goals as goal
 
 pub returns-clause-list : goal.returns-clause-list
@@ -24,5 +24,5 @@ returns-clause-clean g c =
     let now = c.args.self.now in
     let w = g.T.BitStore.BITS in
     let len : i.head + i.len - i.head ≡ length now.list = omega (arith, c.self.invariant.shows, ap (λ v. length v.list) c.self.view_is) in
-    clean_whole w now _ (replicate (length now.list) c.args.bit) (width_positive w g.met.T.BitStore.width) (length-replicate (length now.list) c.args.bit) (ap (λ v. v.head) c.self.view_is) (returns-clause-list g c)
+    clean_whole w _ _ (replicate (length now.list) c.args.bit) (width_positive w g.met.T.BitStore.width) (length-replicate (length now.list) c.args.bit) (ap (λ v. v.head) c.self.view_is) (returns-clause-list g c)
     (c.fill_bits_in_vec.ensures.bits ∙ ap (λ v. put v.row v.head (replicate (i.head + i.len - i.head) c.args.bit)) c.self.view_is ∙ ap (λ n. put now.row now.head (replicate n c.args.bit)) len)

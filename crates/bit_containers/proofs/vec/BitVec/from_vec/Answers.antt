@@ -6,7 +6,7 @@ use Rattle.std.proofs.lemmas.List.{take_all}
 use Rattle.bit_addressing.proofs.Rows.{width_positive}
 use Rattle.bit_addressing.proofs.Typed.{length_row}
 use Rattle.bit_slice.proofs.Parts.{shown_length}
-use Rattle.bit_containers.proofs.Clean.{clean_all}
+use Rattle.bit_slice.proofs.Clean.{clean_all}
 use Rattle.bit_containers.proofs.vec.BitVec.from_vec.Goals as goal
 
 pub invariant_of-result : goal.invariant_of-result

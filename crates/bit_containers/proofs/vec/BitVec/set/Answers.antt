@@ -3,7 +3,7 @@ use Rattle.bit_addressing.specs.Typed.{row}
 use Rattle.bit_addressing.proofs.lists.Shown.{shows_set}
 use Rattle.bit_addressing.proofs.Rows.{width_positive}
 use Rattle.bit_containers.proofs.Vectors.{shown}
-use Rattle.bit_containers.proofs.Clean.{clean_set}
+use Rattle.bit_slice.proofs.Clean.{clean_set}
 use Rattle.bit_containers.proofs.vec.BitVec.set.Goals as goal
 
 pub returns-clause-list : goal.returns-clause-list
@@ -18,5 +18,5 @@ returns-clause-list g c =
 pub returns-clause-clean : goal.returns-clause-clean
 returns-clause-clean g c =
     let w = g.T.BitStore.BITS in
-    clean_set w c.args.self.now _ c.args.i c.args.bit (width_positive w g.met.T.BitStore.width) c.requires (ap (λ v. v.head) c.self.view_is) (returns-clause-list g c)
+    clean_set w _ _ c.args.i c.args.bit (width_positive w g.met.T.BitStore.width) c.requires (ap (λ v. v.head) c.self.view_is) (returns-clause-list g c)
     (c.write_bit_in_vec.ensures.bits ∙ ap (λ v. set v.row (v.head + c.args.i) c.args.bit) c.self.view_is)

@@ -4,7 +4,7 @@ use Rattle.bit_addressing.specs.Typed.{row}
 use Rattle.bit_addressing.proofs.Binary.{length-binary}
 use Rattle.bit_addressing.proofs.Rows.{width_positive}
 use Rattle.bit_containers.proofs.Vectors.{shown}
-use Rattle.bit_containers.proofs.Clean.{clean_put}
+use Rattle.bit_slice.proofs.Clean.{clean_put}
 use Rattle.bit_addressing.proofs.lists.Shown.{shown_written}
 use Rattle.bit_containers.proofs.vec.BitVec.write_binary.Goals as goal
 
@@ -26,5 +26,5 @@ returns-clause-clean g c =
     let digits = length-binary c.args.n c.args.number in
     let now = c.args.self.now in
     let room : c.args.at + length bits ≤ length now.list = omega arith in
-    clean_put w now _ c.args.at bits (width_positive w g.met.T.BitStore.width) room (ap (λ v. v.head) c.self.view_is) (returns-clause-list g c)
+    clean_put w _ _ c.args.at bits (width_positive w g.met.T.BitStore.width) room (ap (λ v. v.head) c.self.view_is) (returns-clause-list g c)
     (c.write_binary_in_vec.ensures.bits ∙ ap (λ v. put v.row (v.head + c.args.at) bits) c.self.view_is)

@@ -194,6 +194,7 @@ fn views_taken(rt: HostRuntime) -> Result<(), Fail> {
     let none = BitArray::<[u8; 0], Lsb0>::try_from(view.get_range(3..3));
     assert!(rt; none.is_err_and(|e| e == off));
     assert!(rt; short < off && short != off && short.clone()? == short);
+    assert_eq!(rt; short.order(off), Ordering::Less);
     let all = BitArray::<[u8; 2], Lsb0>::try_from(view)?;
     assert_eq!(rt; all.into_inner().as_slice(), words.as_slice());
     Ok(())

@@ -40,4 +40,6 @@ fn combined_with_views(rt: HostRuntime) {
     let long = [1_u64];
     a.xor_bits(BitSlice::<u64, Lsb0>::from_slice(&long));
     assert_eq!(rt; a.as_raw_slice(), [0x60, 0x40].as_slice());
+    let _meter = a.copy_within_counted(1..3, 12);
+    assert_eq!(rt; a.as_raw_slice(), [0x60, 0x4c].as_slice());
 }

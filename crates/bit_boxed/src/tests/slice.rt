@@ -43,4 +43,6 @@ fn combined_with_views(rt: HostRuntime) {
     b.xor_bits(BitSlice::<u16, Msb0>::from_slice(&ends).get_range(0..8));
     shows(&rt, &b, &[0x30, 0x04]);
     holds(&rt, &b, b"01100001");
+    let _meter = b.copy_within_counted(1..3, 4);
+    shows(&rt, &b, &[0xb0, 0x05]);
 }

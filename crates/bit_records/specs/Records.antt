@@ -29,12 +29,13 @@ pub record Filed (X : Type 0) : Type 0 where
 abbrev pub filed_code : {X : Type 0} → Coded X → Coded (Filed X)
 filed_code {X} c = code_by (ℕ × (List ℕ × Held X)) (coded× coded_ℕ (coded× (coded_list coded_ℕ) (held_code c))) (λ v. (v.width, (v.list, v.bits))) (λ p. record { width = p.0; list = p.1.0; bits = p.1.1 }) (λ _. refl)
 
--- what always holds of records: a width of 1 to 64 digits, and the bits of so many whole numbers
-pub record AreRecords (width len bits : ℕ) : Type 0 where
+-- what always holds of records: a width of 1 to 64 digits, and the bits of `len` whole numbers, from head 0 on, with each dead bit false
+pub record AreRecords {X : Type 0} (w width len : ℕ) (bits : Held X) : Type 0 where
   pub some : 0 < width
   pub few : width ≤ 64
-  pub size : bits ≡ len * width
-  pub small : bits ≤ MAX_BITS
+  pub size : length bits.list ≡ len * width
+  pub small : length bits.list ≤ MAX_BITS
+  pub clean : IsClean w bits
 
 -- the same records after a call, but perhaps for their capacity
 pub record AreKept {X : Type 0} (old new : Filed X) : Type 0 where

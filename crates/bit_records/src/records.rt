@@ -1,7 +1,8 @@
-//! Numbers of one width, one behind the other in the bits of a vector.
-ghost use Rattle.std.specs.Prelude.{◌≡◌, ◌+◌, ◌*◌, ◌^◌, ◌<◌, ◌≤◌, ◌↔◌, ◌++◌, ◌||◌, [], ◌∷◌, Err, IfOk, IsTrue, MatchOption, OnErr, OnOk, eqb, length, ltb, set, slice_get};
+//! Numbers of one width, one after another in the bits of a vector.
+ghost use Rattle.std.specs.Prelude.{◌≡◌, ◌+◌, ◌*◌, ◌^◌, ◌<◌, ◌≤◌, ◌↔◌, ◌++◌, ◌||◌, [], ◌∷◌, Err, IfOk, IfSome, IsTrue, MatchOption, OnErr, OnOk, eqb, length, ltb, set, slice_get};
 ghost use Rattle.bit_addressing.specs.declared.errors.GrowError.{GrowError};
 ghost use Rattle.bit_addressing.specs.declared.length.TheConstants.{MAX_BITS};
+ghost use Rattle.bit_containers.specs.BitVec.{IsClean};
 ghost use Rattle.bit_records.specs.Records.{AreKept, joined};
 
 use bit_containers::{BitOrder, BitStore, BitVec, GrowError, Lsb0};
@@ -28,7 +29,6 @@ pub struct Records<T: BitStore = usize, O: BitOrder = Lsb0> {
 }
 
 impl<T: BitStore, O: BitOrder> Model for Records<T, O> {
-    ghost use Rattle.std.specs.Prelude.{length};
     ghost use Rattle.bit_records.specs.Records.{AreRecords, Filed, filed_code, numbers_in};
 
     ghost Value = { Filed T };
@@ -37,13 +37,14 @@ impl<T: BitStore, O: BitOrder> Model for Records<T, O> {
 
     ghost view = { λ r. record { width = r.width; list = numbers_in r.width r.bits.list; bits = r.bits } };
 
-    ghost invariant = { λ r. AreRecords r.width r.len (length r.bits.list) };
+    ghost invariant = { λ r. AreRecords T.BITS r.width r.len r.bits };
 }
 
 impl<T: BitStore, O: BitOrder> Records<T, O> {
     /// No number, of `width` digits each. None exactly where the width is 0 or above 64. Takes no memory.
     pub fn new(alloc: Global, width: u8) -> Option<Self>
-        ensures { MatchOption result (IsTrue (eqb width 0 || ltb 64 width)) (λ r. (r.width ≡ width) × ((r.list ≡ []) × (r.bits.capacity ≡ 0))) }
+        ensures made { MatchOption result (IsTrue (eqb width 0 || ltb 64 width)) (λ r. (r.width ≡ width) × ((r.list ≡ []) × (r.bits.capacity ≡ 0))) }
+        ensures clean { IfSome result (λ r. IsClean T.BITS r.bits) }
     {
         if width == 0 || width > 64 {
             return None;
@@ -55,9 +56,11 @@ impl<T: BitStore, O: BitOrder> Records<T, O> {
         })
     }
 
-    /// How many numbers there are.
+    /// How many numbers there are: their digits are at most `MAX_BITS`.
     pub fn len(&self) -> usize
-        ensures { result ≡ length self.now.list }
+        ensures value { result ≡ length self.now.list }
+        ensures digits { result * self.now.width ≤ MAX_BITS }
+        ensures few { result ≤ MAX_BITS }
     {
         self.len
     }
@@ -69,16 +72,19 @@ impl<T: BitStore, O: BitOrder> Records<T, O> {
         self.len() == 0
     }
 
-    /// How many digits each number has.
+    /// How many digits each number has: 1 to 64.
     pub fn width(&self) -> u8
-        ensures { result ≡ self.now.width }
+        ensures value { result ≡ self.now.width }
+        ensures some { 0 < result }
+        ensures few { result ≤ 64 }
     {
         self.width
     }
 
     /// The number at `i`. None exactly where `i` is at or past the length.
     pub fn get(&self, i: usize) -> Option<u64>
-        ensures { result ≡ slice_get self.now.list i }
+        ensures value { result ≡ slice_get self.now.list i }
+        ensures below { IfSome result (λ number. number < 2 ^ self.now.width) }
     {
         if i >= self.len {
             return None;
@@ -87,22 +93,23 @@ impl<T: BitStore, O: BitOrder> Records<T, O> {
         Some(self.bits.read_binary(i * width as usize, width))
     }
 
-    /// Writes the number at `i`, and no other. Takes no memory. The condition: `i` is below the length, and
+    /// Writes the number at `i`, and no other. Takes no memory. Requires that `i` is below the length, and that
     /// the number has at most as many digits as the width.
     pub fn set(&mut self, i: usize, number: u64)
         requires inside { i < length self.old.list }
         requires fits { number < 2 ^ self.old.width }
         ensures list { self.new.list ≡ set self.old.list i number }
         ensures width { self.new.width ≡ self.old.width }
+        ensures clean { IsClean T.BITS self.new.bits }
         ensures capacity { self.new.bits.capacity ≡ self.old.bits.capacity }
     {
         let width = self.width;
         self.bits.write_binary(i * width as usize, width, number);
     }
 
-    /// Joins a number at the end. It answers `TooLong` exactly where the bits with it would pass
-    /// `MAX_BITS`, and `OutOfMemory` only where they would pass the capacity. A refusal leaves the
-    /// records. The condition: the number has at most as many digits as the width.
+    /// Appends a number. Returns `TooLong` exactly where the bits with it would pass `MAX_BITS`, and
+    /// `OutOfMemory` only where they would pass the capacity. A refusal leaves the records. Requires that the
+    /// number has at most as many digits as the width.
     pub fn push(&mut self, number: u64) -> Result<(), GrowError>
         requires { number < 2 ^ self.old.width }
         ensures list { OnOk result (self.new.list ≡ self.old.list ++ number ∷ []) }
@@ -110,6 +117,7 @@ impl<T: BitStore, O: BitOrder> Records<T, O> {
         ensures too_long { (result ≡ Err GrowError.TooLong) ↔ (MAX_BITS < length self.old.list * self.old.width + self.old.width) }
         ensures memory { result ≡ Err GrowError.OutOfMemory → self.old.bits.capacity < length self.old.list * self.old.width + self.old.width }
         ensures unchanged { OnErr result (AreKept self.old self.new) }
+        ensures clean { IsClean T.BITS self.new.bits }
         ensures capacity { self.old.bits.capacity ≤ self.new.bits.capacity }
     {
         match self.bits.push_binary(self.width, number) {
@@ -121,10 +129,12 @@ impl<T: BitStore, O: BitOrder> Records<T, O> {
         }
     }
 
-    /// The bits of the numbers, one behind the other, each from its most significant digit on. Takes no memory.
+    /// The bits of the numbers, one after another, each from its most significant digit on: they begin at head 0, and
+    /// leave no dead bit true. Takes no memory.
     pub fn into_bits(self) -> BitVec<T, O>
         ensures bits { result ≡ self.bits }
         ensures list { result.list ≡ joined self.width self.list }
+        ensures clean { IsClean T.BITS result }
     {
         self.bits
     }

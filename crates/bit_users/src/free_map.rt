@@ -44,10 +44,12 @@ impl Model for FreeMap {
 }
 
 impl FreeMap {
-    /// So many frames, all free. `TooLong` exactly where they pass `MAX_BITS`.
+    /// A map of `frames` frames, all free. `TooLong` exactly where they pass `MAX_BITS`; takes no memory for no
+    /// frame.
     pub fn new(alloc: Global, frames: usize) -> Result<Self, GrowError>
         ensures free { IfOk result (λ m. m ≡ replicate frames false) }
         ensures too_long { (result ≡ Err errors.TooLong) ↔ (MAX_BITS < frames) }
+        ensures memory { result ≡ Err errors.OutOfMemory → 0 < frames }
     {
         let taken = BitVec::repeat(alloc, false, frames)?;
         Ok(FreeMap { taken })

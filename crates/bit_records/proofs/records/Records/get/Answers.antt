@@ -3,8 +3,8 @@ use Rattle.std.proofs.lemmas.Option.{slice_get_past}
 use Rattle.bit_records.proofs.Numbers.{count_of, number_is, place_inside}
 use Rattle.bit_records.proofs.records.Records.get.Goals as goal
 
-pub returns-then-i-self : goal.returns-then-i-self
-returns-then-i-self g c =
+pub returns-then-i-self-clause-value : goal.returns-then-i-self-clause-value
+returns-then-i-self-clause-value g c =
     let i = c.self.inside in
     let count = count_of i.width i.len i.bits.list c.self.invariant.some c.self.invariant.size in
     sym (slice_get_past c.args.self.now.list c.args.i (rw (← c.self.view_is) (omega arith)))
@@ -17,8 +17,8 @@ overflow_mul-i g c =
     let small = c.self.invariant.small in
     omega arith
 
-pub returns : goal.returns
-returns g c =
+pub returns-clause-value : goal.returns-clause-value
+returns-clause-value g c =
     let i = c.self.inside in
     let inv = c.self.invariant in
     sym (ap (λ v. slice_get v.list c.args.i) (sym c.self.view_is)

@@ -22,6 +22,7 @@ invariant_of-self g c =
     record {
       some = inv.some;
       few = inv.few;
+      clean = c.in-Ok.ensures.clean inv.clean;
       size = omega arith;
       small = elim (cases_lt MAX_BITS (length xs + i.width)) [
         | inl h ↦ absurd (let e = c.in-Ok.ensures.refusal.too_long.1 h in cc)

@@ -1,5 +1,5 @@
 //! The trait, and the three containers that have it.
-ghost use Rattle.std.specs.Prelude.{◌≡◌, ◌+◌, ◌-◌, ◌<◌, ◌≤◌, Bool, List, length, map, not, replicate, set, slice_get};
+ghost use Rattle.std.specs.Prelude.{◌≡◌, ◌+◌, ◌-◌, ◌<◌, ◌≤◌, ℕ, Bool, List, length, map, not, replicate, set, slice_get};
 ghost use Rattle.bit_addressing.specs.Row.{moved};
 ghost use Rattle.bit_addressing.specs.Typed.{row};
 
@@ -10,11 +10,14 @@ use bit_containers::BitVec;
 
 /// Bits that are read and written over, and stay as many.
 ///
-/// In contracts a value is the list of its bits; words, order and head are its own affair. No call takes
-/// memory.
+/// In contracts a value is the list of its bits, and how many bits it has room for; words, order and head are its
+/// own affair. No call takes memory, and none changes the room.
 pub trait Bits {
     // The bits, the first first.
     ghost list: { Self → List Bool };
+
+    // How many bits fit without new memory: of a container that never grows, as many as it has.
+    ghost capacity: { Self → ℕ };
 
     /// How many bits there are.
     fn len(&self) -> usize
@@ -24,33 +27,39 @@ pub trait Bits {
     fn get(&self, i: usize) -> Option<bool>
         ensures { result ≡ slice_get (list self.now) i };
 
-    /// Writes the bit at `i`, and no other bit. The condition: `i` is below the length.
+    /// Writes the bit at `i`, and no other bit. Requires that `i` is below the length.
     fn set(&mut self, i: usize, bit: bool)
         requires { i < length (list self.old) }
-        ensures { list self.new ≡ set (list self.old) i bit };
+        ensures list { list self.new ≡ set (list self.old) i bit }
+        ensures capacity { capacity self.new ≡ capacity self.old };
 
     /// Makes every bit `bit`.
     fn fill(&mut self, bit: bool)
-        ensures { list self.new ≡ replicate (length (list self.old)) bit };
+        ensures list { list self.new ≡ replicate (length (list self.old)) bit }
+        ensures capacity { capacity self.new ≡ capacity self.old };
 
     /// Flips every bit.
     fn flip_all(&mut self)
-        ensures { list self.new ≡ map not (list self.old) };
+        ensures list { list self.new ≡ map not (list self.old) }
+        ensures capacity { capacity self.new ≡ capacity self.old };
 
-    /// Copies the bits from index `a` up to index `b` to the places from `dest` on, as if they were copied
-    /// out first, and changes no other bit. The condition: `a..b` is a range of the list, and its bits have
-    /// room from `dest` on.
+    /// Copies the bits from index `a` up to index `b` to index `dest`, as if they were copied out first, and changes
+    /// no other bit. Requires that `a..b` is a range of the list and that its bits have room from `dest` on.
     fn copy_within(&mut self, a: usize, b: usize, dest: usize)
         requires ordered { a ≤ b }
         requires inside { b ≤ length (list self.old) }
         requires room { dest + (b - a) ≤ length (list self.old) }
-        ensures { list self.new ≡ moved (list self.old) a dest (b - a) };
+        ensures list { list self.new ≡ moved (list self.old) a dest (b - a) }
+        ensures capacity { capacity self.new ≡ capacity self.old };
 }
 
 impl<A: BitViewSized, O: BitOrder> Bits for BitArray<A, O> {
+    ghost use Rattle.std.specs.Prelude.{◌*◌};
     ghost use Rattle.bit_addressing.specs.Typed.{row};
 
     ghost list = { λ a. row A.Store.BitStore O.BitOrder (A.words a) };
+
+    ghost capacity = { λ _. A.Store.BITS * A.count };
 
     fn len(&self) -> usize {
         BitArray::len(self)
@@ -82,7 +91,11 @@ impl<A: BitViewSized, O: BitOrder> Bits for BitArray<A, O> {
 }
 
 impl<T: BitStore, O: BitOrder> Bits for BitBox<T, O> {
+    ghost use Rattle.std.specs.Prelude.{length};
+
     ghost list = { λ b. b.list };
+
+    ghost capacity = { λ b. length b.list };
 
     fn len(&self) -> usize {
         BitBox::len(self)
@@ -111,6 +124,8 @@ impl<T: BitStore, O: BitOrder> Bits for BitBox<T, O> {
 
 impl<T: BitStore, O: BitOrder> Bits for BitVec<T, O> {
     ghost list = { λ v. v.list };
+
+    ghost capacity = { λ v. v.capacity };
 
     fn len(&self) -> usize {
         BitVec::len(self)

@@ -6,6 +6,7 @@ use crate::{Bits, FixedCommand, Reply, Stop, run_fixed};
 use bit_addressing::{BitOrder, BitStore};
 use bit_array::{BitArray, BitViewSized};
 use bit_boxed::BitBox;
+use bit_containers::BitVec;
 
 /// From one list the same commands have the same replies and leave one list, whatever the words, orders and
 /// heads, where neither run stops.
@@ -70,4 +71,15 @@ pub fn array_and_box<O: BitOrder, T: BitStore, P: BitOrder>(
 {
     run_fixed(a, commands, first)?;
     run_fixed(b, commands, second)
+}
+
+/// A run over a vector leaves its capacity.
+pub fn with_the_same_room<T: BitStore, O: BitOrder>(
+    bits: &mut BitVec<T, O>,
+    commands: &[FixedCommand],
+    replies: &mut Vec<Reply>,
+) -> Result<(), Stop>
+    ensures { bits.new.capacity ≡ bits.old.capacity }
+{
+    run_fixed(bits, commands, replies)
 }

@@ -28,6 +28,7 @@ pub enum FixedCommand {
 fn set_at<B: Bits>(bits: &mut B, i: usize, bit: bool) -> Reply
     ensures reply { result ≡ reply_to (B.list bits.old) (FixedCommand.Set i bit) }
     ensures list { B.list bits.new ≡ list_after_one (B.list bits.old) (FixedCommand.Set i bit) }
+    ensures capacity { B.capacity bits.new ≡ B.capacity bits.old }
 {
     if i < bits.len() {
         bits.set(i, bit);
@@ -41,6 +42,7 @@ fn set_at<B: Bits>(bits: &mut B, i: usize, bit: bool) -> Reply
 fn copy_at<B: Bits>(bits: &mut B, from: usize, upto: usize, dest: usize) -> Reply
     ensures reply { result ≡ reply_to (B.list bits.old) (FixedCommand.CopyWithin from upto dest) }
     ensures list { B.list bits.new ≡ list_after_one (B.list bits.old) (FixedCommand.CopyWithin from upto dest) }
+    ensures capacity { B.capacity bits.new ≡ B.capacity bits.old }
 {
     let len = bits.len();
     if from <= upto && upto <= len && dest <= len - (upto - from) {
@@ -55,6 +57,7 @@ fn copy_at<B: Bits>(bits: &mut B, from: usize, upto: usize, dest: usize) -> Repl
 fn step<B: Bits>(bits: &mut B, command: FixedCommand) -> Reply
     ensures reply { result ≡ reply_to (B.list bits.old) command }
     ensures list { B.list bits.new ≡ list_after_one (B.list bits.old) command }
+    ensures capacity { B.capacity bits.new ≡ B.capacity bits.old }
 {
     match command {
         FixedCommand::Get(i) => bits.get(i).map_or(Reply::OutOfRange, Reply::Bit),
@@ -76,7 +79,7 @@ fn step<B: Bits>(bits: &mut B, command: FixedCommand) -> Reply
 ///
 /// Memory for all replies is taken first: where it is wanting the run stops with `done` 0 and `OutOfMemory`,
 /// and nothing is done. No command stops it: one whose index or range is out of range replies `OutOfRange`,
-/// and the list stays. A run without commands takes no memory and is Ok.
+/// and the list stays. A run without commands takes no memory and is Ok. The room of the container stays.
 pub fn run_fixed<B: Bits>(
     bits: &mut B,
     commands: &[FixedCommand],
@@ -84,6 +87,7 @@ pub fn run_fixed<B: Bits>(
 ) -> Result<(), Stop>
     ensures replies { OnOk result (replies.new.items ≡ replies.old.items ++ replies_of (B.list bits.old) commands.now) }
     ensures list { OnOk result (B.list bits.new ≡ list_after (B.list bits.old) commands.now) }
+    ensures capacity { B.capacity bits.new ≡ B.capacity bits.old }
     ensures done { IfErr result (λ stop. stop.done ≡ 0) }
     ensures why { IfErr result (λ stop. stop.why ≡ GrowError.OutOfMemory) }
     ensures some { OnErr result (0 < length commands.now) }

@@ -1,4 +1,4 @@
-use Rattle.std.proofs.Common.{rules, append_assoc}
+use Rattle.std.proofs.Common.{rules, append_assoc, ◌∙◌}
 use Rattle.bit_fixed.specs.declared.machine.FixedCommand.TheVariants.{Get}
 use Rattle.bit_fixed.proofs.Runs.{list_after-next, replies_of-next}
 use Rattle.bit_fixed.proofs.machine.run_fixed.Goals as goal
@@ -12,5 +12,6 @@ loop-command-preserved g c =
     record {
       replies = rw (replies, ← append_assoc, ← at.invariant.replies, ← at.invariant.list, ← c.step.ensures.reply) c.push_reserved.ensures.items;
       list = rw (lists, ← at.invariant.list) c.step.ensures.list;
+      capacity = c.step.ensures.capacity ∙ at.invariant.capacity;
       room = search rules;
     }

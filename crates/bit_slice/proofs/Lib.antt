@@ -10,3 +10,4 @@ pub mod Writing
 pub mod Digits
 pub mod Owned
 pub mod Clean
+pub mod Rules

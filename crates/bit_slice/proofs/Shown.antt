@@ -2,12 +2,12 @@
 use Rattle.std.proofs.Common.{◌≡◌, ℕ, suc, ◌+◌, ◌-◌, ◌<◌, ◌≤◌, Bool, true, false, not, List, [], ◌∷◌, ◌++◌, length, take, drop, set, get_or, slice_range, count_by, refl, sym, ◌∙◌, ap, arith, swap, cond}
 use Rattle.std.proofs.lemmas.List.{drop_more, take_all, length-set, get_or-take, get_or-drop}
 use Rattle.std.proofs.lemmas.List.Edits.{between_more, swap_is}
-use Rattle.std.proofs.lemmas.List.Sums.{sum_by-cons}
 use Rattle.bit_addressing.specs.Row.{put, moved}
 use Rattle.bit_addressing.proofs.lists.Shown.{shows_put, shows_set}
 use Rattle.bit_addressing.proofs.lists.Shown.{length-between, length-run}
 use Rattle.bit_addressing.proofs.Shifts.{put_moved}
 use Rattle.bit_addressing.proofs.lists.Put.{length-put}
+use Rattle.bit_slice.proofs.Rules.{zeros_and_ones}
 
 -- ---- what an iterator has left
 
@@ -53,22 +53,9 @@ shown_swapped xs head len i j h k room =
 
 -- ---- counts
 
-true_or_false : (xs : List Bool) → count_by (λ b. b) xs + count_by not xs ≡ length xs
-true_or_false [] = refl
-true_or_false (true ∷ xs) =
-    let ones : count_by (λ b. b) (true ∷ xs) ≡ 1 + count_by (λ b. b) xs = sum_by-cons (λ x. cond x 1 0) true xs in
-    let zeros : count_by not (true ∷ xs) ≡ 0 + count_by not xs = sum_by-cons (λ x. cond (not x) 1 0) true xs in
-    let size : length (true ∷ xs) ≡ suc (length xs) = refl in
-    omega (arith, true_or_false xs)
-true_or_false (false ∷ xs) =
-    let ones : count_by (λ b. b) (false ∷ xs) ≡ 0 + count_by (λ b. b) xs = sum_by-cons (λ x. cond x 1 0) false xs in
-    let zeros : count_by not (false ∷ xs) ≡ 1 + count_by not xs = sum_by-cons (λ x. cond (not x) 1 0) false xs in
-    let size : length (false ∷ xs) ≡ suc (length xs) = refl in
-    omega (arith, true_or_false xs)
-
 -- what isn't true is false
 pub count_by-not : (xs : List Bool) (n ones : ℕ) → n ≡ length xs → ones ≡ count_by (λ b. b) xs → n - ones ≡ count_by not xs
-count_by-not xs n ones is counted = omega (arith, true_or_false xs)
+count_by-not xs n ones is counted = omega (arith, zeros_and_ones xs)
 
 -- what is put over the whole of a list
 pub put_all : (xs ys : List Bool) (d : ℕ) → d ≡ 0 → length ys ≡ length xs → put xs d ys ≡ ys

@@ -226,6 +226,7 @@ impl<'a, T: BitStore, O: BitOrder> BitSlice<'a, T, O> {
     /// How many bits are false.
     pub fn count_zeros(self) -> usize
         ensures value { result ≡ count_by not (list_of self.entry) }
+        ensures with_ones { result + count_by (λ b. b) (list_of self.entry) ≡ length (list_of self.entry) }
         ensures few { result ≤ len_of self.entry }
     {
         self.len - self.count_ones()

@@ -14,7 +14,8 @@ use crate::counted_mut::CountedMut;
 use crate::iter::Iter;
 use crate::slice::BitSlice;
 use bit_addressing::{
-    BitOrder, BitStore, RangeExt, copy_bits, exact_words, fill_bits, move_bits, swap_bits, write_bit,
+    BitOrder, BitStore, RangeExt, copy_bits, exact_words, fill_bits, move_bits, swap_bits,
+    write_bit,
 };
 use std::marker::PhantomData;
 use std::ops::Index;
@@ -205,6 +206,7 @@ impl<'a, T: BitStore, O: BitOrder> BitSliceMut<'a, T, O> {
     /// How many bits are false.
     pub fn count_zeros(&self) -> usize
         ensures value { result ≡ count_by not (list_of self.now) }
+        ensures with_ones { result + count_by (λ b. b) (list_of self.now) ≡ length (list_of self.now) }
         ensures few { result ≤ len_of self.now }
     {
         self.as_bitslice().count_zeros()

@@ -1,4 +1,4 @@
-use Rattle.std.proofs.Common.{◌≡◌, ◌+◌, length, sym}
+use Rattle.std.proofs.Common.{◌≡◌, ◌+◌, length, sym, arith}
 use Rattle.bit_addressing.specs.Typed.{row}
 use Rattle.bit_slice.proofs.Parts.{in_row}
 use Rattle.bit_slice.proofs.Shown.{count_by-not}
@@ -11,3 +11,9 @@ returns-clause-value g c =
     let v = c.args.self in
     let size : length (list_of v) ≡ v.len = length-run (row g.T.BitStore g.O.BitOrder v.words.now) v.head v.len (in_row g.T.BitStore g.O.BitOrder v.words.now (v.head + v.len) v.fits.room) in
     count_by-not (list_of v) v.len c.count_ones.result (sym size) c.count_ones.ensures.value
+
+pub returns-clause-with_ones : goal.returns-clause-with_ones
+returns-clause-with_ones g c =
+    let v = c.args.self in
+    let size : length (list_of v) ≡ v.len = length-run (row g.T.BitStore g.O.BitOrder v.words.now) v.head v.len (in_row g.T.BitStore g.O.BitOrder v.words.now (v.head + v.len) v.fits.room) in
+    omega (arith, c.count_ones.ensures.value, c.count_ones.ensures.few, size)

@@ -9,3 +9,4 @@ pub mod Finding
 pub mod Writing
 pub mod Digits
 pub mod Owned
+pub mod Parting

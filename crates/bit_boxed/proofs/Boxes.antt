@@ -1,5 +1,5 @@
 -- What holds of each box.
-use Rattle.std.proofs.Common.{◌≡◌, ℕ, ◌+◌, ◌*◌, ◌<◌, ◌≤◌, Bool, List, length, take, slice_range, refl, sym, ◌∙◌, ap, subst, arith}
+use Rattle.std.proofs.Common.{◌≡◌, ℕ, ◌+◌, ◌*◌, ◌<◌, ◌≤◌, Bool, List, ◌++◌, length, take, drop, slice_range, refl, sym, ◌∙◌, ap, subst, arith}
 use Rattle.std.proofs.Common.{inl, inr, rules}
 use Rattle.std.proofs.lemmas.Bool.{cases_lt}
 use Rattle.std.proofs.Math.Nat.{mul-le-mul_left}
@@ -15,7 +15,10 @@ use Rattle.bit_addressing.proofs.lists.Shown.{shows_sized}
 use Rattle.bit_addressing.proofs.Rows.{width_positive}
 use Rattle.bit_addressing.proofs.Typed.{row_kept}
 use Rattle.bit_slice.proofs.Parts.{in_row, shown_length}
-use Rattle.bit_boxed.specs.BitBox.{IsBox}
+use Rattle.std.specs.List.{refill, length_refill}
+use Rattle.bit_slice.proofs.Parts.{refilled as over_all, refilled_front}
+use Rattle.bit_boxed.specs.BitBox.{Held, IsBox}
+use Rattle.bit_boxed.specs.Lends.{with_words}
 
 module _ {X Y : Type 0} (W : store.Ghosts X) (P : order.Ghosts Y) where
   -- other words, as many, are a box with the same head and length
@@ -44,6 +47,28 @@ module _ {X Y : Type 0} (W : store.Ghosts X) (P : order.Ghosts Y) where
       let n = words_for W.BITS (head + len) in
       ap (λ r. slice_range r head (head + len)) (row_kept W.value P.place W.BITS ws (head + len) n positive refl (visible ws head len width b))
       ∙ shows_sized W.BITS (row W P ws) (head + len) head (head + len) positive (omega arith) (in_row W P ws (head + len) b.fits) (omega arith)
+
+module _ {X Y : Type 0} (W : store.Ghosts X) (P : order.Ghosts Y) (head len : ℕ) where
+  -- a box of these words, where its invariant holds
+  abbrev shown : List X → Held X
+  shown ws = record { words = ws; row = row W P ws; head = head; list = slice_range (row W P ws) head (head + len) }
+
+  -- other words, as many
+  pub lands : {size : ℕ} (n : ℕ) (xs : List X) → n ≡ length xs → IsBox W.BITS (length xs) head len size → (ws : List X) → shown (refill n xs ws) ≡ with_words W P (shown xs) ws
+  lands n xs e b ws =
+      let now : List X = refill (length xs) xs ws in
+      let fits : head + len ≤ W.BITS * length now = subst (λ k. head + len ≤ W.BITS * k) (length_refill (length xs) xs ws refl) b.fits in
+      let old : List Bool = slice_range (row W P xs) head (head + len) in
+      let size : length old ≡ len = shown_length W P xs head len b.fits in
+      let seen : List Bool = slice_range (row W P now) head (head + len) in
+      let alike : length seen ≡ length old = shown_length W P now head len fits ∙ sym size in
+      ap (λ k. shown (refill k xs ws)) e
+      ∙ ap (λ l. record { words = now; row = row W P now; head = head; list = l })
+      (sym (ap (λ k. refill (length old) old (slice_range (row W P now) head (head + k))) size ∙ over_all (length old) old seen alike))
+
+  -- a front of the words is written over
+  pub front_lands : {size : ℕ} (n : ℕ) (xs : List X) → n ≡ length xs → IsBox W.BITS (length xs) head len size → (ws : List X) → shown (refill n xs (ws ++ drop (length ws) xs)) ≡ with_words W P (shown xs) ws
+  front_lands n xs e b ws = ap shown (refilled_front n xs ws e) ∙ lands n xs e b ws
 
 -- bits that are put before words of zero
 pub put_blank : (w : ℕ) (xs ys : List Bool) (n : ℕ) → 0 < w → length xs ≡ 0 → length ys ≡ n → put (sized w xs n) 0 ys ≡ sized w ys n

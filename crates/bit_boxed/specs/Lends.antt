@@ -1,6 +1,6 @@
 -- Where writes through lent words land.
-use Rattle.std.specs.Prelude.{◌+◌, List, length, slice_range}
-use Rattle.std.specs.Borrow.{Lends, Fml, RattleType, MutBor, Array}
+use Rattle.std.specs.Prelude.{ℕ, ◌+◌, List, ◌++◌, length, take, drop, slice_range}
+use Rattle.std.specs.Borrow.{Lends, follows, Fml, RattleType, MutBor, Array, GName}
 use Rattle.std.specs.List.{refill}
 use Rattle.bit_addressing.specs.declared.store.BitStore as store
 use Rattle.bit_addressing.specs.declared.order.BitOrder as order
@@ -13,7 +13,19 @@ abbrev pub with_words : {X Y : Type 0} → store.Ghosts X → order.Ghosts Y →
 with_words W P v ws =
     record { words = refill (length v.words) v.words ws; row = row W P (refill (length v.words) v.words ws); head = v.head; list = refill (length v.list) v.list (slice_range (row W P (refill (length v.words) v.words ws)) v.head (v.head + length v.list)) }
 
+-- words with others written over as many from word `first` on
+abbrev pub written_over : {X : Type 0} → List X → ℕ → List X → List X
+written_over xs first ws = take first xs ++ (ws ++ drop (length ws) (drop first xs))
+
 module _ (T O : RattleType) (W : store.Ghosts T.Denot) (P : order.Ghosts O.Denot) (v : MutBor (Held T.Denot)) where
   -- the box ends with the words that are left behind this slice
   abbrev pub lends_words : MutBor (List T.Denot) → Fml
   lends_words r = Lends (the_row T O W P) (Array T 0) v r (with_words W P v.now)
+
+  -- the same for words that are known by their ghost name alone, as those of a view: the words after them stay
+  abbrev pub lends_view : GName → Fml
+  lends_view n = follows (the_row T O W P) (Array T 0) v.ghost_name n (with_words W P v.now)
+
+  -- the same for words from word `first` on: those around them stay
+  abbrev pub lends_run : ℕ → GName → Fml
+  lends_run first n = follows (the_row T O W P) (Array T 0) v.ghost_name n (λ ws. with_words W P v.now (written_over v.now.words first ws))

@@ -1,2 +1,4 @@
 pub mod BitBox
+pub mod IntoIter
 pub mod Lends
+pub mod LendsLeft

@@ -35,10 +35,7 @@ use Rattle.bit_slice.specs.declared.slice_mut.BitSliceMut.{BitSliceMut}
 use Rattle.bit_slice.specs.contracts.slice_mut.BitSliceMut.{the_row, the_type, struct}
 use Rattle.bit_slice.proofs.slice_mut.BitSliceMut.TheLaws.{the_loose}
 use Rattle.bit_slice.specs.Lends.{with_words}
-
--- a whole list written over one of its length
-refilled : {X : Type 0} (n : ℕ) (xs ws : List X) → length ws ≡ n → refill n xs ws ≡ ws
-refilled n xs ws e = ap (λ (k : ℕ). take k (ws ++ drop_list (length ws) xs)) (sym e) ∙ take-append_seam ws (drop_list (length ws) xs)
+use Rattle.bit_slice.proofs.Parts.{refilled}
 
 module _ {M : Type 1} {𝓤 : Ura M} (𝓛 : Logic 𝓤) (T O : RattleType) (L : Laws T) (L' : Laws O) (W : store.Ghosts T.Denot) (P : order.Ghosts O.Denot) (a : NamedLft) (d : BitSliceMut T.Denot O.Denot W P) (b o : ℕ) where
   open 𝓛 use {H, A}

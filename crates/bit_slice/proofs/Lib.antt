@@ -11,3 +11,4 @@ pub mod Digits
 pub mod Owned
 pub mod Clean
 pub mod Rules
+pub mod Parting

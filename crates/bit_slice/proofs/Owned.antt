@@ -3,13 +3,14 @@ use Rattle.std.proofs.Common.{◌≡◌, suc, ◌<◌, Bool, List, [], ◌∷◌
 use Rattle.std.proofs.lemmas.List.{length_push}
 use Rattle.std.specs.Iterator.{YieldsFirst, YieldsLast}
 use Rattle.std.proofs.iter.runs.Sources.{from_front, from_back, as_is, as_is_back}
-use Rattle.bit_slice.specs.Owned.{rest_of, GivesInOrder, GivesInReverse}
+use Rattle.bit_slice.specs.Owned.{GivesInOrder, GivesInReverse}
 
-pub gives_in_order : GivesInOrder
-gives_in_order p s = as_is p (rest_of p.from) (from_front (YieldsFirst rest_of) (λ b. b) rest_of (λ s t h. ap length h.0) (λ s x t h. h) p s)
+module _ {S : Type 0} (rest : S → List Bool) where
+  pub gives_in_order : GivesInOrder rest
+  gives_in_order p s = as_is p (rest p.from) (from_front (YieldsFirst rest) (λ b. b) rest (λ s t h. ap length h.0) (λ s x t h. h) p s)
 
-pub gives_in_reverse : GivesInReverse
-gives_in_reverse p s = as_is_back p (rest_of p.from) (from_back (YieldsLast rest_of) (λ b. b) rest_of (λ s t h. ap length h.0) (λ s x t h. h) p s)
+  pub gives_in_reverse : GivesInReverse rest
+  gives_in_reverse p s = as_is_back p (rest p.from) (from_back (YieldsLast rest) (λ b. b) rest (λ s t h. ap length h.0) (λ s x t h. h) p s)
 
 -- a bit that is taken leaves fewer
 pub shorter_first : (old new : List Bool) (b : Bool) → old ≡ b ∷ new → length new < length old

@@ -1,6 +1,8 @@
 -- Words of a view, and of a part of it.
-use Rattle.std.proofs.Common.{◌≡◌, ℕ, ◌+◌, ◌-◌, ◌*◌, ◌/◌, ◌%◌, ◌<◌, ◌≤◌, Bool, List, map, length, take, drop, slice_range, sym, ◌∙◌, ap, subst, arith, rules, mul_comm}
-use Rattle.std.proofs.lemmas.List.{places, same_lists, drop_at, take-append-drop, length-take-le, take-map, drop-map, length-map, length-drop, length-take}
+use Rattle.std.proofs.Common.{◌≡◌, ℕ, ◌+◌, ◌-◌, ◌*◌, ◌/◌, ◌%◌, ◌<◌, ◌≤◌, Bool, List, ◌++◌, map, length, take, drop, slice_range, sym, ◌∙◌, ap, subst, arith, rules, mul_comm}
+use Rattle.std.specs.List.{refill}
+use Rattle.std.proofs.Math.Seq.{take-append_seam}
+use Rattle.std.proofs.lemmas.List.{places, same_lists, take-append-le, length-append, drop-take, take-take, drop_at, take-append-drop, length-take-le, take-map, drop-map, length-map, length-drop, length-take}
 use Rattle.std.proofs.Math.Nat.{mul-le-mul_left, le_of_mul-le-mul_left}
 use Rattle.std.proofs.lemmas.Nat.{div-add-mod'}
 use Rattle.bit_addressing.specs.Bits.{IsWidth}
@@ -99,3 +101,19 @@ module _ {X Y : Type 0} (W : store.Ghosts X) (P : order.Ghosts Y) where
   -- as many bits are shown as the length says
   pub shown_length : (ws : List X) (head len : ℕ) → head + len ≤ W.BITS * length ws → length (slice_range (row W P ws) head (head + len)) ≡ len
   shown_length ws head len fits = length-run (row W P ws) head len (in_row ws (head + len) fits)
+
+-- a whole list written over one of its length
+pub refilled : {X : Type 0} (n : ℕ) (xs ws : List X) → length ws ≡ n → refill n xs ws ≡ ws
+refilled n xs ws e = ap (λ (k : ℕ). take k (ws ++ drop (length ws) xs)) (sym e) ∙ take-append_seam ws (drop (length ws) xs)
+
+-- what comes after a front that is written over stays, said or unsaid
+pub refilled_front : {X : Type 0} (n : ℕ) (xs ws : List X) → n ≡ length xs → refill n xs (ws ++ drop (length ws) xs) ≡ refill n xs ws
+refilled_front {X = X} n xs ws e =
+    let front : List X = ws ++ drop (length ws) xs in
+    take-append-le n front (drop (length front) xs) (omega (arith, length-append ws (drop (length ws) xs), length-drop (length ws) xs))
+
+-- a part of a front is that part of the whole
+pub part_of_front : {X : Type 0} (n a b : ℕ) (xs : List X) → a ≤ b → b ≤ n → slice_range (take n xs) a b ≡ slice_range xs a b
+part_of_front n a b xs ordered inside =
+    let whole : n ≡ a + (n - a) = omega (arith, ordered, inside) in
+    ap (λ k. take (b - a) (drop a (take k xs))) whole ∙ ap (take (b - a)) (drop-take a (n - a) xs) ∙ take-take (b - a) (n - a) (drop a xs) (omega (arith, ordered, inside))

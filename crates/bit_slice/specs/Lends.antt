@@ -1,5 +1,5 @@
--- What becomes of a view whose words were lent on.
-use Rattle.std.specs.Prelude.{ℕ, List, [], length, refl}
+-- What becomes of a view whose words were lent on, and of words of which a part was lent on.
+use Rattle.std.specs.Prelude.{ℕ, ◌-◌, List, [], ◌++◌, length, take, drop, refl}
 use Rattle.std.specs.List.{refill, length_refill}
 use Rattle.std.specs.Borrow.{follows, Fml, RattleType, MutBor, Array, GName}
 use Rattle.std.proofs.Common.{subst}
@@ -25,3 +25,11 @@ module _ (T O : RattleType) (W : store.Ghosts T.Denot) (P : order.Ghosts O.Denot
   -- the view ends with the last words under a name
   abbrev pub lends_words : GName → Fml
   lends_words n = follows (the_row (record { mir = named 1; lft = [] }) T O W P) (Array T 0) v.ghost_name n (with_words W P v.now)
+
+-- words with others written over those from word `first` up to word `end`
+abbrev pub with_part : {X : Type 0} → List X → ℕ → ℕ → List X → List X
+with_part xs first end ws = take first xs ++ (ws ++ drop (end - first) (drop first xs))
+
+-- words of which this part is lent under a name: those around it stay
+abbrev pub lends_part : (T : RattleType) → MutBor (List T.Denot) → ℕ → ℕ → GName → Fml
+lends_part T v first end n = follows (Array T 0) (Array T 0) v.ghost_name n (with_part v.now first end)

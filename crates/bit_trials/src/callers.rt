@@ -4,5 +4,6 @@ mod bits;
 mod growing;
 mod iterating;
 mod laws;
+mod lending;
 mod removing;
 mod words;

@@ -58,8 +58,8 @@ impl<A: BitWords, O: BitOrder> IntoIter<A, O> {
     pub fn new(array: BitArray<A, O>) -> Self
         ensures list { result ≡ row A.Store.BitStore O.BitOrder (A.words array) }
         ensures few { length result ≤ MAX_BITS }
-        ensures runs { GivesInOrder }
-        ensures runs_back { GivesInReverse }
+        ensures runs { GivesInOrder rest_of }
+        ensures runs_back { GivesInReverse rest_of }
     {
         let upto = array.as_raw_slice().len() * A::Store::BITS as usize;
         IntoIter {
@@ -164,7 +164,7 @@ impl<A: BitWords, O: BitOrder> IntoIterator for BitArray<A, O> {
 
     type IntoIter = IntoIter<A, O>;
 
-    ghost into_iter_gives = { λ a r. (r ≡ row A.Store.BitStore O.BitOrder (A.words a)) × (length r ≤ MAX_BITS) × GivesInOrder × GivesInReverse };
+    ghost into_iter_gives = { λ a r. (r ≡ row A.Store.BitStore O.BitOrder (A.words a)) × (length r ≤ MAX_BITS) × GivesInOrder rest_of × GivesInReverse rest_of };
 
     /// The bits in order, from both ends; the array is given up.
     fn into_iter(self) -> IntoIter<A, O> {
@@ -177,7 +177,7 @@ impl<'a, A: BitWords, O: BitOrder> IntoIterator for &'a BitArray<A, O> {
 
     type IntoIter = IntoIter<A, O>;
 
-    ghost into_iter_gives = { λ a r. (r ≡ row A.Store.BitStore O.BitOrder (A.words a.now)) × (length r ≤ MAX_BITS) × GivesInOrder × GivesInReverse };
+    ghost into_iter_gives = { λ a r. (r ≡ row A.Store.BitStore O.BitOrder (A.words a.now)) × (length r ≤ MAX_BITS) × GivesInOrder rest_of × GivesInReverse rest_of };
 
     /// The bits in order, from both ends, of a copy of the words: `iter` lends them.
     fn into_iter(self) -> IntoIter<A, O> {

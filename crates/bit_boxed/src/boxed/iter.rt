@@ -1,18 +1,21 @@
 //! The bits of the box, one after another: lent, and given up with the box.
-ghost use Rattle.std.specs.Prelude.{◌≡◌, ℕ, ◌+◌, ◌*◌, ◌<◌, ◌≤◌, [], length, slice_range, IfSome, Some};
+ghost use Rattle.std.specs.Prelude.{◌≡◌, ℕ, ◌+◌, ◌*◌, ◌/◌, ◌%◌, ◌<◌, ◌≤◌, [], length, slice_range, IfSome, Some};
 ghost use Rattle.std.specs.Iterator.{YieldsFirst, YieldsLast};
 ghost use Rattle.std.specs.Iterator.Runs.{YieldsInOrder, YieldsInReverse};
 ghost use Rattle.bit_addressing.specs.Row.{words_for};
 ghost use Rattle.bit_addressing.specs.Typed.{row};
 ghost use Rattle.bit_addressing.specs.declared.length.TheConstants.{MAX_BITS};
-ghost use Rattle.bit_slice.specs.BitSlice.{len_of, list_of};
-ghost use Rattle.bit_slice.specs.BitSliceMut.{len_of as lent_len, list_of as lent_list};
+ghost use Rattle.std.specs.Borrow.{sem};
+ghost use Rattle.bit_slice.specs.BitSlice.{words_of, head_of, len_of, list_of};
+ghost use Rattle.bit_slice.specs.BitSliceMut.{words_of as lent_words, head_of as lent_head, len_of as lent_len, list_of as lent_list, loan_of};
 ghost use Rattle.bit_slice.specs.Iter.{rest_of as rest_lent};
-ghost use Rattle.bit_slice.specs.Owned.{rest_of, GivesInOrder, GivesInReverse};
+ghost use Rattle.bit_slice.specs.Owned.{GivesInOrder, GivesInReverse};
+ghost use Rattle.bit_boxed.specs.IntoIter.{rest_of};
+ghost use Rattle.bit_boxed.specs.LendsLeft.{lends_left};
 
 use crate::boxed::BitBox;
 use bit_addressing::{BitOrder, BitStore, Lsb0};
-use bit_slice::{BitSlice, BitSliceMut, Iter, run_mut, write_list};
+use bit_slice::{BitSlice, BitSliceMut, Iter, write_list};
 use std::alloc::AllocError;
 use std::fmt;
 use std::iter::{DoubleEndedIterator, ExactSizeIterator, FusedIterator, Iterator};
@@ -45,8 +48,9 @@ impl<'a, T: BitStore, O: BitOrder> IntoIterator for &'a BitBox<T, O> {
 
 /// The bits of a box that is given up, from both ends, each once.
 ///
-/// Its length is known, and after the first None there is no more. In contracts it is the list of the bits
-/// that it has left.
+/// Its length is known, and after the first None there is no more. In contracts an iterator `r` is all its words
+/// `r.words`, the place `r.head` in their row where the bits that are left begin, and the list `r.list` of those
+/// bits.
 #[derive(Drop)]
 pub struct IntoIter<T: BitStore = usize, O: BitOrder = Lsb0> {
     inner: BitBox<T, O>,
@@ -55,12 +59,15 @@ pub struct IntoIter<T: BitStore = usize, O: BitOrder = Lsb0> {
 }
 
 impl<T: BitStore, O: BitOrder> Model for IntoIter<T, O> {
-    ghost use Rattle.std.specs.Prelude.{◌≤◌, Bool, List, length, slice_range};
+    ghost use Rattle.std.specs.Prelude.{◌+◌, ◌≤◌, length, slice_range};
     ghost use Rattle.bit_addressing.specs.declared.length.TheConstants.{MAX_BITS};
+    ghost use Rattle.bit_boxed.specs.IntoIter.{Left, left_code};
 
-    ghost Value = { List Bool };
+    ghost Value = { Left T };
 
-    ghost view = { λ s. slice_range s.inner.list s.from s.upto };
+    ghost coded = { left_code T.code };
+
+    ghost view = { λ s. record { words = s.inner.words; head = s.inner.head + s.from; list = slice_range s.inner.list s.from s.upto } };
 
     ghost invariant = { λ s. (s.from ≤ s.upto) × (s.upto ≤ length s.inner.list) × (length s.inner.list ≤ MAX_BITS) };
 }
@@ -68,10 +75,12 @@ impl<T: BitStore, O: BitOrder> Model for IntoIter<T, O> {
 impl<T: BitStore, O: BitOrder> IntoIter<T, O> {
     // The bits of a box, in order.
     fn of(inner: BitBox<T, O>) -> Self
-        ensures list { result ≡ inner.list }
-        ensures few { length result ≤ MAX_BITS }
-        ensures runs { GivesInOrder }
-        ensures runs_back { GivesInReverse }
+        ensures words { result.words ≡ inner.words }
+        ensures head { result.head ≡ inner.head }
+        ensures list { result.list ≡ inner.list }
+        ensures few { length result.list ≤ MAX_BITS }
+        ensures runs { GivesInOrder (rest_of {X = T}) }
+        ensures runs_back { GivesInReverse (rest_of {X = T}) }
     {
         let upto = inner.len();
         IntoIter {
@@ -88,26 +97,32 @@ impl<T: BitStore, O: BitOrder> IntoIter<T, O> {
         requires in_word { head < T.BITS }
         requires few { len ≤ MAX_BITS }
         requires exact { length words.items ≡ words_for T.BITS (head + len) }
-        ensures list { result ≡ slice_range (row T.BitStore O.BitOrder words.items) head (head + len) }
-        ensures few { length result ≤ MAX_BITS }
-        ensures runs { GivesInOrder }
-        ensures runs_back { GivesInReverse }
+        ensures words { result.words ≡ words.items }
+        ensures head { result.head ≡ head }
+        ensures list { result.list ≡ slice_range (row T.BitStore O.BitOrder words.items) head (head + len) }
+        ensures few { length result.list ≤ MAX_BITS }
+        ensures runs { GivesInOrder (rest_of {X = T}) }
+        ensures runs_back { GivesInReverse (rest_of {X = T}) }
     {
         IntoIter::of(BitBox::kept(words, head, len))
     }
 
     /// The view of the bits that are left, for reading.
     pub fn as_bitslice(&self) -> BitSlice<'_, T, O>
-        ensures list { list_of result ≡ self.now }
-        ensures len { len_of result ≡ length self.now }
+        ensures list { list_of result ≡ self.now.list }
+        ensures len { len_of result ≡ length self.now.list }
+        ensures head { head_of result ≡ self.now.head % T.BITS }
+        ensures words { let first = self.now.head / T.BITS in words_of result ≡ slice_range self.now.words first (first + words_for T.BITS (head_of result + len_of result)) }
     {
         self.inner.as_bitslice().get_range(self.from..self.upto)
     }
 
     /// As `as_bitslice`.
     pub fn as_slice(&self) -> BitSlice<'_, T, O>
-        ensures list { list_of result ≡ self.now }
-        ensures len { len_of result ≡ length self.now }
+        ensures list { list_of result ≡ self.now.list }
+        ensures len { len_of result ≡ length self.now.list }
+        ensures head { head_of result ≡ self.now.head % T.BITS }
+        ensures words { let first = self.now.head / T.BITS in words_of result ≡ slice_range self.now.words first (first + words_for T.BITS (head_of result + len_of result)) }
     {
         self.as_bitslice()
     }
@@ -115,35 +130,46 @@ impl<T: BitStore, O: BitOrder> IntoIter<T, O> {
     /// The view of the bits that are left, for writing: what is written stands in the bits that are still to
     /// come.
     pub fn as_mut_bitslice(&mut self) -> BitSliceMut<'_, T, O>
-        ensures list { lent_list result ≡ self.old }
-        ensures len { lent_len result ≡ length self.old }
+        ensures* writes_back { sem 𝓛 (lends_left T.row O.row T.BitStore O.BitOrder self.entry (loan_of result)) }
+        ensures list { lent_list result ≡ self.old.list }
+        ensures len { lent_len result ≡ length self.old.list }
+        ensures head { lent_head result ≡ self.old.head % T.BITS }
+        ensures words { let first = self.old.head / T.BITS in lent_words result ≡ slice_range self.old.words first (first + words_for T.BITS (lent_head result + lent_len result)) }
     {
-        let head = self.inner.head;
-        let (from, upto) = (head + self.from, head + self.upto);
-        run_mut::<T, O>(self.inner.words.as_mut_slice(), from, upto)
+        let (from, upto) = (self.from, self.upto);
+        self.inner.run_mut(from, upto)
     }
 
     /// As `as_mut_bitslice`.
     pub fn as_mut_slice(&mut self) -> BitSliceMut<'_, T, O>
-        ensures list { lent_list result ≡ self.old }
-        ensures len { lent_len result ≡ length self.old }
+        ensures* writes_back { sem 𝓛 (lends_left T.row O.row T.BitStore O.BitOrder self.entry (loan_of result)) }
+        ensures list { lent_list result ≡ self.old.list }
+        ensures len { lent_len result ≡ length self.old.list }
+        ensures head { lent_head result ≡ self.old.head % T.BITS }
+        ensures words { let first = self.old.head / T.BITS in lent_words result ≡ slice_range self.old.words first (first + words_for T.BITS (lent_head result + lent_len result)) }
     {
         self.as_mut_bitslice()
     }
 }
 
 impl<T: BitStore, O: BitOrder> Iterator for IntoIter<T, O> {
-    ghost use Rattle.std.specs.Iterator.{YieldsFirst, UpTo, at_most, item_count};
+    ghost use Rattle.std.specs.Prelude.{⊤};
+    ghost use Rattle.std.specs.Iterator.{YieldsFirst, MakesProgress, UpTo, at_most, item_count};
     ghost use Rattle.std.specs.Iterator.SizeHint.{IsWithinCount};
 
     type Item = bool;
 
-    ghost next_gives = { YieldsFirst rest_of };
+    ghost next_gives = { YieldsFirst (rest_of {X = T}) };
 
-    ghost remaining = { item_count rest_of };
+    ghost remaining = { item_count (rest_of {X = T}) };
 
     /// The first bit that is left. None exactly where none is.
-    fn next(&mut self) -> Option<bool> {
+    fn next(&mut self) -> Option<bool>
+        ensures steps { YieldsFirst (rest_of {X = T}) self.old result self.new }
+        ensures goes { MakesProgress (λ _. ⊤) (item_count (rest_of {X = T})) self.old result self.new }
+        ensures words { self.new.words ≡ self.old.words }
+        ensures end { self.new.head + length self.new.list ≡ self.old.head + length self.old.list }
+    {
         if self.from == self.upto {
             return None;
         }
@@ -154,9 +180,9 @@ impl<T: BitStore, O: BitOrder> Iterator for IntoIter<T, O> {
 
     /// How many bits are left, twice.
     fn size_hint(&self) -> (usize, Option<usize>)
-        ensures lower { IsWithinCount result.0 (at_most (length self.now)) }
-        ensures upper { IfSome result.1 (UpTo (at_most (length self.now))) }
-        ensures value { result ≡ (length self.now, Some (length self.now)) }
+        ensures lower { IsWithinCount result.0 (at_most (length self.now.list)) }
+        ensures upper { IfSome result.1 (UpTo (at_most (length self.now.list))) }
+        ensures value { result ≡ (length self.now.list, Some (length self.now.list)) }
     {
         let count = self.len();
         (count, Some(count))
@@ -164,12 +190,18 @@ impl<T: BitStore, O: BitOrder> Iterator for IntoIter<T, O> {
 }
 
 impl<T: BitStore, O: BitOrder> DoubleEndedIterator for IntoIter<T, O> {
-    ghost use Rattle.std.specs.Iterator.{YieldsLast};
+    ghost use Rattle.std.specs.Prelude.{⊤};
+    ghost use Rattle.std.specs.Iterator.{YieldsLast, MakesProgress, item_count};
 
-    ghost next_back_gives = { YieldsLast rest_of };
+    ghost next_back_gives = { YieldsLast (rest_of {X = T}) };
 
     /// The last bit that is left. None exactly where none is.
-    fn next_back(&mut self) -> Option<bool> {
+    fn next_back(&mut self) -> Option<bool>
+        ensures steps { YieldsLast (rest_of {X = T}) self.old result self.new }
+        ensures goes { MakesProgress (λ _. ⊤) (item_count (rest_of {X = T})) self.old result self.new }
+        ensures words { self.new.words ≡ self.old.words }
+        ensures head { self.new.head ≡ self.old.head }
+    {
         if self.from == self.upto {
             return None;
         }
@@ -192,7 +224,7 @@ impl<T: BitStore, O: BitOrder> IntoIterator for BitBox<T, O> {
 
     type IntoIter = IntoIter<T, O>;
 
-    ghost into_iter_gives = { λ b r. (r ≡ b.list) × (length r ≤ MAX_BITS) × GivesInOrder × GivesInReverse };
+    ghost into_iter_gives = { λ b r. (r.words ≡ b.words) × (r.head ≡ b.head) × (r.list ≡ b.list) × (length r.list ≤ MAX_BITS) × GivesInOrder (rest_of {X = T}) × GivesInReverse (rest_of {X = T}) };
 
     /// The bits in order, from both ends; the box is given up, and its words are kept.
     fn into_iter(self) -> IntoIter<T, O> {
@@ -202,10 +234,11 @@ impl<T: BitStore, O: BitOrder> IntoIterator for BitBox<T, O> {
 
 impl<T: BitStore, O: BitOrder> Clone for IntoIter<T, O> {
     ghost use Rattle.std.specs.Prelude.{◌≡◌, []};
+    ghost use Rattle.bit_boxed.specs.IntoIter.{IsCopy};
 
-    ghost is_clone = { λ a b. b ≡ a };
+    ghost is_clone = { IsCopy T.BitStore O.BitOrder };
 
-    ghost is_infallible = { λ s. s ≡ [] };
+    ghost is_infallible = { λ s. s.list ≡ [] };
 
     /// An iterator over the same bits, in words of its own that begin with them. Takes memory where a bit is
     /// left.

@@ -1,11 +1,11 @@
 //! Views of the box, and its words.
-ghost use Rattle.std.specs.Prelude.{◌≡◌, ◌+◌, length, slice_range, take};
+ghost use Rattle.std.specs.Prelude.{◌≡◌, ◌+◌, ◌-◌, ◌*◌, ◌/◌, ◌%◌, ◌≤◌, length, slice_range, take};
 ghost use Rattle.std.specs.Borrow.{sem};
 ghost use Rattle.bit_addressing.specs.Row.{words_for};
 ghost use Rattle.bit_addressing.specs.Typed.{row, words_from};
 ghost use Rattle.bit_slice.specs.BitSlice.{words_of, head_of, len_of, list_of};
-ghost use Rattle.bit_slice.specs.BitSliceMut.{words_of as lent_words, head_of as lent_head, len_of as lent_len, list_of as lent_list};
-ghost use Rattle.bit_boxed.specs.Lends.{lends_words};
+ghost use Rattle.bit_slice.specs.BitSliceMut.{words_of as lent_words, head_of as lent_head, len_of as lent_len, list_of as lent_list, loan_of};
+ghost use Rattle.bit_boxed.specs.Lends.{lends_words, lends_view, lends_run};
 
 use crate::boxed::BitBox;
 use bit_addressing::{BitOrder, BitStore, elts, exact_words};
@@ -25,14 +25,45 @@ impl<T: BitStore, O: BitOrder> BitBox<T, O> {
 
     /// The view of the box's bits, for writing: what is written lands in the box.
     pub fn as_mut_bitslice(&mut self) -> BitSliceMut<'_, T, O>
+        ensures* writes_back { sem 𝓛 (lends_view T.row O.row T.BitStore O.BitOrder self.entry (loan_of result)) }
         ensures words { lent_words result ≡ take (words_for T.BITS (self.old.head + length self.old.list)) self.old.words }
         ensures head { lent_head result ≡ self.old.head }
         ensures len { lent_len result ≡ length self.old.list }
         ensures list { lent_list result ≡ self.old.list }
     {
         let (head, len) = (self.head, self.len);
+        BitSliceMut::from_parts_mut(self.visible_mut(), head, len)
+    }
+
+    // The visible words, for writing: what is written lands in the box, and the words after them stay.
+    fn visible_mut(&mut self) -> &mut [T]
+        ensures* writes_back { sem 𝓛 (lends_words T.row O.row T.BitStore O.BitOrder self.entry result) }
+        ensures words { result.now ≡ take (words_for T.BITS (self.old.head + length self.old.list)) self.old.words }
+        ensures exact { length result.now ≡ words_for T.BITS (self.old.head + length self.old.list) }
+        ensures shows { slice_range (row T.BitStore O.BitOrder result.now) self.old.head (self.old.head + length self.old.list) ≡ self.old.list }
+    {
+        let count = elts::<T>(self.head + self.len);
+        self.words.slice_mut(..count)
+    }
+
+    // The view of the bits from index `from` up to index `upto`, for writing: what is written lands in the box.
+    pub(crate) fn run_mut(&mut self, from: usize, upto: usize) -> BitSliceMut<'_, T, O>
+        requires ordered { from ≤ upto }
+        requires inside { upto ≤ length self.old.list }
+        ensures* writes_back { sem 𝓛 (lends_run T.row O.row T.BitStore O.BitOrder self.entry ((self.old.head + from) / T.BITS) (loan_of result)) }
+        ensures words { let first = (self.old.head + from) / T.BITS in lent_words result ≡ slice_range self.old.words first (first + words_for T.BITS (lent_head result + lent_len result)) }
+        ensures head { lent_head result ≡ (self.old.head + from) % T.BITS }
+        ensures len { lent_len result ≡ upto - from }
+        ensures list { lent_list result ≡ slice_range self.old.list from upto }
+        ensures fits { self.old.head + length self.old.list ≤ T.BITS * length self.old.words }
+        ensures shows { slice_range (row T.BitStore O.BitOrder self.old.words) self.old.head (self.old.head + length self.old.list) ≡ self.old.list }
+    {
+        let width = T::BITS as usize;
+        let at = self.head + from;
+        let (head, first) = (at % width, at / width);
+        let len = upto - from;
         let count = elts::<T>(head + len);
-        BitSliceMut::from_parts_mut(&mut self.words.as_mut_slice()[..count], head, len)
+        BitSliceMut::from_parts_mut(self.words.slice_mut(first..first + count), head, len)
     }
 
     /// All the words that the box owns.

@@ -140,10 +140,10 @@ pub fn flipped_twice<T: BitStore, O: BitOrder>(v: BitVec<T, O>) -> Vec<T>
 pub fn after_the_end<T: BitStore, O: BitOrder>(
     bits: &mut IntoIter<T, O>,
 ) -> (Option<bool>, Option<bool>)
-    requires { bits.old ≡ [] }
+    requires { bits.old.list ≡ [] }
     ensures first { result.0 ≡ None }
     ensures last { result.1 ≡ None }
-    ensures stays { bits.new ≡ [] }
+    ensures stays { bits.new.list ≡ [] }
 {
     (bits.next(), bits.next_back())
 }

@@ -2,14 +2,15 @@ use Rattle.std.proofs.Common.{◌≡◌, ◌*◌, ◌-◌, length, ◌∙◌, ap
 use Rattle.std.proofs.lemmas.List.{take_all}
 use Rattle.bit_addressing.specs.Typed.{row}
 use Rattle.bit_addressing.proofs.Typed.{length_row}
+use Rattle.bit_slice.specs.Owned.{rest_of}
 use Rattle.bit_slice.proofs.Owned.{gives_in_order, gives_in_reverse}
 use Rattle.bit_array.proofs.array.iter.IntoIter.new.Goals as goal
 
 pub returns-clause-runs : goal.returns-clause-runs
-returns-clause-runs g c = gives_in_order
+returns-clause-runs g c = gives_in_order rest_of
 
 pub returns-clause-runs_back : goal.returns-clause-runs_back
-returns-clause-runs_back g c = gives_in_reverse
+returns-clause-runs_back g c = gives_in_reverse rest_of
 
 pub returns-clause-list : goal.returns-clause-list
 returns-clause-list g c =

@@ -1,37 +1,34 @@
-use Rattle.std.proofs.Common.{◌≡◌, ◌+◌, ◌-◌, ◌≤◌, Bool, List, length, slice_range, sym, ◌∙◌, ap, rules, arith}
-use Rattle.std.specs.List.{refill, length_refill}
-use Rattle.bit_addressing.specs.Typed.{row}
+use Rattle.std.proofs.Common.{◌≡◌, ℕ, ◌+◌, ◌-◌, ◌*◌, ◌/◌, ◌%◌, ◌≤◌, List, length, slice_range, refl, sym, ◌∙◌, ap, arith}
+use Rattle.std.specs.List.{refill}
+use Rattle.bit_addressing.specs.Row.{words_for}
 use Rattle.bit_addressing.proofs.lists.Shown.{length-between}
-use Rattle.bit_slice.proofs.Parts.{run_in_run}
-use Rattle.bit_slice.proofs.Parts.{in_row}
-use Rattle.bit_boxed.proofs.Boxes.{refilled}
+use Rattle.bit_slice.specs.BitSliceMut.{head_of, len_of}
+use Rattle.bit_boxed.specs.Lends.{written_over}
+use Rattle.bit_boxed.specs.LendsLeft.{with_words}
+use Rattle.bit_boxed.proofs.Leaving.{left_lands}
 use Rattle.bit_boxed.proofs.boxed.iter.IntoIter.as_mut_bitslice.Goals as goal
-
-pub invariant_of-self-inside-lent : goal.invariant_of-self-inside-lent
-invariant_of-self-inside-lent g c = λ w.
-    let i = c.self-inside.inside.0.0 in
-    let n : i.words.len ≡ length i.words.items = search rules in
-    refilled g.T.BitStore g.O.BitOrder i.words.items (refill i.words.len i.words.items w) i.head i.len (sym (length_refill i.words.len i.words.items w n) ∙ n) c.self-inside.invariant
 
 pub returns : goal.returns
 returns g c =
-    let s = c.self-inside.inside.0 in
-    let i = s.0 in
-    let from = s.1.0 in
-    let upto = s.1.1.0 in
-    let ws = i.words.items in
-    let bits = row g.T.BitStore g.O.BitOrder in
-    let list : List Bool = slice_range (bits ws) i.head (i.head + i.len) in
-    let inv = c.self-inside.invariant in
-    let seen : slice_range list from upto ≡ c.args.self.now = ap (λ x. slice_range x.inner.list x.from x.upto) c.self-inside.view_is ∙ c.self.view_is in
-    let begin : from ≡ c.self.inside.from = ap (λ x. x.from) c.self-inside.view_is in
-    let end : upto ≡ c.self.inside.upto = ap (λ x. x.upto) c.self-inside.view_is in
-    let size : length list ≡ length c.self.inside.inner.list = ap (λ x. length x.inner.list) c.self-inside.view_is in
-    let ordered : from ≤ upto = omega (arith, c.self.invariant.0) in
-    let within : upto ≤ i.len = omega (arith, c.self.invariant.1, inv.shows) in
-    let room : i.head + upto ≤ i.head + i.len = omega arith in
-    record {
-      list = c.run_mut.ensures.list ∙ ap (λ l. slice_range (bits l) (i.head + from) (i.head + upto)) c.as_mut_slice.ensures.value
-          ∙ sym (run_in_run (bits ws) i.head (i.head + i.len) from upto room (in_row g.T.BitStore g.O.BitOrder ws (i.head + i.len) inv.fits) ordered) ∙ seen;
-      len = c.run_mut.ensures.len ∙ (let e : i.head + upto - (i.head + from) ≡ upto - from = omega arith in e) ∙ sym (length-between list from upto (omega (arith, inv.shows))) ∙ ap length seen;
-    }
+    let s = c.self.inside in
+    let b = s.inner in
+    let inv = c.self.invariant in
+    let W = g.T.BitStore in
+    let w = W.BITS in
+    let view = c.run_mut.result in
+    let made = c.run_mut.ensures in (
+      (
+        refl,
+        λ ws.
+            let over : List g.row.T.Denot = written_over b.words ((b.head + s.from) / w) ws in
+            ap (λ l. record { words = refill (length b.words) b.words over; head = b.head + s.from; list = l }) (left_lands W g.O.BitOrder b.words over b.list b.head s.from s.upto made.fits inv.0 inv.1)
+            ∙ ap (λ v. with_words W g.O.BitOrder v (written_over v.words (v.head / w) ws)) c.self.view_is,
+      ),
+      record {
+        writes_back = tt;
+        list = made.list ∙ ap (λ v. v.list) c.self.view_is;
+        len = made.len ∙ sym (length-between b.list s.from s.upto inv.1) ∙ ap (λ v. length v.list) c.self.view_is;
+        head = made.head ∙ ap (λ v. v.head % w) c.self.view_is;
+        words = made.words ∙ ap (λ v. slice_range v.words (v.head / w) (v.head / w + words_for w (head_of view + len_of view))) c.self.view_is;
+      },
+    )

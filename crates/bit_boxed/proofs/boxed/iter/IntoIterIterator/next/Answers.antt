@@ -1,4 +1,4 @@
-use Rattle.std.proofs.Common.{false, sym, ◌∙◌, arith}
+use Rattle.std.proofs.Common.{false, sym, ap, ◌∙◌, arith}
 use Rattle.std.proofs.lemmas.Option.{get_or_from_slice_get}
 use Rattle.bit_slice.proofs.Shown.{run_first}
 use Rattle.bit_boxed.proofs.boxed.iter.IntoIterIterator.next.Goals as goal
@@ -6,4 +6,4 @@ use Rattle.bit_boxed.proofs.boxed.iter.IntoIterIterator.next.Goals as goal
 pub returns-clause-steps : goal.returns-clause-steps
 returns-clause-steps g c =
     let s = c.self.inside in
-    sym c.self.view_is ∙ run_first s.inner.list s.from s.upto c.index-bit.result.now (omega (arith, c.self.invariant.0)) c.self.invariant.1 (sym (get_or_from_slice_get s.inner.list s.from c.index-bit.result.now false (sym c.index-bit.ensures)))
+    ap (λ v. v.list) (sym c.self.view_is) ∙ run_first s.inner.list s.from s.upto c.index-bit.result.now (omega (arith, c.self.invariant.0)) c.self.invariant.1 (sym (get_or_from_slice_get s.inner.list s.from c.index-bit.result.now false (sym c.index-bit.ensures)))

@@ -1,5 +1,5 @@
 //! What the array has of std's traits.
-ghost use Rattle.std.specs.Prelude.{map, refl, Some};
+ghost use Rattle.std.specs.Prelude.{◌≡◌, ◌↔◌, IsTrue, map, refl, Some};
 ghost use Rattle.std.specs.Cmp.{on_equiv, on_total, on_po, on_per, partial_equiv_from_equiv};
 ghost use Rattle.std.specs.Hash.{on_Alike};
 ghost use Rattle.bit_addressing.specs.Row.{row_of};
@@ -37,7 +37,11 @@ impl<A: BitWords, O: BitOrder> PartialEq for BitArray<A, O> {
     ghost laws = { on_per (λ a. row_of O.place A.Store.BITS (map A.Store.value (A.words a))) (partial_equiv_from_equiv bits_equiv) };
 
     /// Whether both have the same bits.
-    fn eq(&self, other: &Self) -> bool {
+    #[tactic(auto, using(bit_slice::specs::Comparisons::equal_lists, std::proofs::lemmas::Bool::Decides::same_from_decides))]
+    fn eq(&self, other: &Self) -> bool
+        ensures value { result ≡ bits_equal (row A.Store.BitStore O.BitOrder (A.words self.now)) (row A.Store.BitStore O.BitOrder (A.words other.now)) }
+        ensures lists { IsTrue result ↔ ((row A.Store.BitStore O.BitOrder (A.words self.now)) ≡ (row A.Store.BitStore O.BitOrder (A.words other.now))) }
+    {
         self.as_bitslice().eq_bits(other.as_bitslice())
     }
 }

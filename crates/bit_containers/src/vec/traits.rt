@@ -1,5 +1,5 @@
 //! What the vector has of std's traits.
-ghost use Rattle.std.specs.Prelude.{refl, Some};
+ghost use Rattle.std.specs.Prelude.{◌≡◌, ◌↔◌, IsTrue, refl, Some};
 ghost use Rattle.std.specs.Cmp.{on_equiv, on_total, on_po, on_per, partial_equiv_from_equiv};
 ghost use Rattle.std.specs.Hash.{on_Alike};
 ghost use Rattle.bit_addressing.specs.Text.{list_text};
@@ -37,7 +37,10 @@ impl<T: BitStore, O: BitOrder> PartialEq for BitVec<T, O> {
 
     /// Whether both have the same bits.
     #[tactic(auto, using(bit_slice::specs::Comparisons::equal_lists, std::proofs::lemmas::Bool::Decides::same_from_decides))]
-    fn eq(&self, other: &Self) -> bool {
+    fn eq(&self, other: &Self) -> bool
+        ensures value { result ≡ bits_equal self.now.list other.now.list }
+        ensures lists { IsTrue result ↔ (self.now.list ≡ other.now.list) }
+    {
         self.eq_bits(other.as_bitslice())
     }
 }

@@ -10,6 +10,7 @@ fn bits_and_parts(rt: HostRuntime) {
     let words = [0xa8_u8, 0x07];
     let view = BitSlice::<u8, Lsb0>::from_slice(&words).get_range(3..11);
     let mut b = ok(&rt, BitBox::from_bitslice_headed(rt.alloc(), view));
+    assert_eq!(rt; b.len(), 8);
     assert!(rt; !b.replace(1, true));
     shows(&rt, &b, &[0xb8, 0x07]);
     b.swap(0, 3);
@@ -29,6 +30,7 @@ fn combined_with_views(rt: HostRuntime) {
     let words = [0xa8_u8, 0x07];
     let view = BitSlice::<u8, Lsb0>::from_slice(&words).get_range(3..11);
     let mut b = ok(&rt, BitBox::from_bitslice_headed(rt.alloc(), view));
+    assert_eq!(rt; b.len(), 8);
     let wide = [0x1234_u16];
     b.clone_from_bitslice(BitSlice::<u16, Msb0>::from_slice(&wide).get_range(4..12));
     holds(&rt, &b, b"00100011");

@@ -235,6 +235,7 @@ impl<T: BitStore, O: BitOrder> BitBox<T, O> {
         ensures list { IfOk result (λ b. b.list ≡ list_of view.entry) }
         ensures len { IfOk result (λ b. length b.list ≡ len_of view.entry) }
         ensures row { IfOk result (λ b. b.row ≡ filled (row_of view.entry) (head_of view.entry) (len_of view.entry) false) }
+        ensures clean { IfOk result (λ b. head_of view.entry ≡ 0 → IsClean T.BITS b) }
         ensures memory { OnErr result (0 < length (words_of view.entry)) }
     {
         let (head, len) = (view.head(), view.len());

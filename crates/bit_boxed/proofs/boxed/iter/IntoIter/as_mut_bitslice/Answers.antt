@@ -1,4 +1,4 @@
-use Rattle.std.proofs.Common.{◌≡◌, ℕ, ◌+◌, ◌-◌, ◌*◌, ◌/◌, ◌%◌, ◌≤◌, List, length, slice_range, refl, sym, ◌∙◌, ap, arith}
+use Rattle.std.proofs.Common.{◌+◌, ◌/◌, ◌%◌, List, length, slice_range, refl, sym, ◌∙◌, ap}
 use Rattle.std.specs.List.{refill}
 use Rattle.bit_addressing.specs.Row.{words_for}
 use Rattle.bit_addressing.proofs.lists.Shown.{length-between}

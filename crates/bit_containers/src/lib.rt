@@ -8,8 +8,8 @@ mod tests;
 pub mod vec;
 
 pub use bit_addressing::{
-    BitEnd, BitIdx, BitOrder, BitPos, BitRegister, BitStore, GrowError, Lsb0, MAX_BITS, Meter, Msb0,
-    RangeExt, elts,
+    BitEnd, BitIdx, BitOrder, BitPos, BitRegister, BitStore, GrowError, Lsb0, MAX_BITS, Meter,
+    Msb0, RangeExt, elts,
 };
 pub use bit_array as array;
 pub use bit_boxed as boxed;

@@ -6,4 +6,5 @@ mod iterating;
 mod laws;
 mod lending;
 mod removing;
+mod rules;
 mod words;

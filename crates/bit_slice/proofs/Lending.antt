@@ -1,12 +1,10 @@
 -- A `&mut` to a view hands on the words that the view holds, for all the time that it has left: what is behind them in the end stands in the view.
-use Rattle.std.proofs.Common.{◌≡◌, ℕ, ◌+◌, List, [], ◌∷◌, ◌++◌, length, refl, sym, ap, subst, ◌∙◌, MutBor}
+use Rattle.std.proofs.Common.{◌≡◌, ℕ, ◌+◌, List, [], ◌∷◌, length, refl, sym, subst, MutBor}
 use Rattle.std.specs.List.{refill, length_refill}
 use base.Fraction.{full_share}
 use base.Fml.{Fml, GName, Lft, Share, Incl, fobs, fbor, flft, fsep}
 use base.Logic.{SProp, ent, sep, ex, guard}
 use base.Stored.{coded_list}
-use lib.Seq.{take-append_seam}
-use lib.ListN.{take, drop as drop_list}
 use mir.Syntax.{named}
 use mir.Val.{Val}
 use seplogic.Ra.Ura.{Ura}

@@ -1,14 +1,13 @@
 -- A borrowed run of words is lent on in part: what is behind the part in the end stands between the words around it.
 use Rattle.std.proofs.Common.{◌≡◌, ℕ, ◌+◌, List, [], ◌∷◌, ◌++◌, length, refl, sym, ap, ◌∙◌, arith}
-use base.Fml.{GName, Lft, Share, Incl, fobs, fbor, flft, fsep, feq}
+use base.Fml.{GName, Lft, Share, fobs, fbor, flft}
 use base.Logic.{SProp, ent, sep, ex}
 use base.Stored.{coded_list}
-use base.Fraction.{full_share}
 use lib.ListN.{length-append}
 use mir.Syntax.{Lifetime}
 use mir.Val.{Val}
 use seplogic.Ra.Ura.{Ura}
-use types.Kit.{Item, drop, ‵, ◌⊛◌, raw, ◌$◌, ◌∵◌, !, qed, move, fsplit, fsplit3, fjoin, fjoin3, updating, await, later, some, use1, use2, group, pick, show, done, split, split3, join, rewrite, feq_l, feq_i, now}
+use types.Kit.{Item, drop, ‵, ◌⊛◌, ◌$◌, ◌∵◌, !, qed, move, fsplit, fsplit3, fjoin, updating, await, later, some, use1, use2, group, pick, show, done, split, split3, join, rewrite, feq_l, feq_i, now}
 use types.Logic.{Logic, sem}
 use types.SemTy.{Body, Arr, cells}
 use types.Mut.{open_ref}

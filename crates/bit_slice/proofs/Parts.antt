@@ -3,7 +3,7 @@ use Rattle.std.proofs.Common.{◌≡◌, ℕ, ◌+◌, ◌-◌, ◌*◌, ◌/◌
 use Rattle.std.specs.List.{refill}
 use Rattle.std.proofs.Math.Seq.{take-append_seam}
 use Rattle.std.proofs.lemmas.List.{places, same_lists, take-append-le, length-append, drop-take, take-take, drop_at, take-append-drop, length-take-le, take-map, drop-map, length-map, length-drop, length-take}
-use Rattle.std.proofs.Math.Nat.{mul-le-mul_left, le_of_mul-le-mul_left}
+use Rattle.std.proofs.Math.Nat.{mul-le-mul_left, le_of_mul-le-mul_left, le-mul_of_pos_right, lt_of_mul-lt-mul_left}
 use Rattle.std.proofs.lemmas.Nat.{div-add-mod'}
 use Rattle.bit_addressing.specs.Bits.{IsWidth}
 use Rattle.bit_addressing.specs.declared.store.BitStore as store
@@ -117,3 +117,16 @@ pub part_of_front : {X : Type 0} (n a b : ℕ) (xs : List X) → a ≤ b → b �
 part_of_front n a b xs ordered inside =
     let whole : n ≡ a + (n - a) = omega (arith, ordered, inside) in
     ap (λ k. take (b - a) (drop a (take k xs))) whole ∙ ap (take (b - a)) (drop-take a (n - a) xs) ∙ take-take (b - a) (n - a) (drop a xs) (omega (arith, ordered, inside))
+
+-- the words of a run are no more than its end
+pub run_end : (w from upto : ℕ) → 0 < w → from ≤ upto → from / w + words_for w (from % w + (upto - from)) ≤ upto
+run_end w from upto positive ordered =
+    let n : ℕ = from / w + words_for w (from % w + (upto - from)) in
+    let d = div-add-mod' from w in
+    let m = mul_comm w (from / w) in
+    let most = (room w (from % w + (upto - from)) positive).1 in
+    let sum = mul_add w (from / w) (words_for w (from % w + (upto - from))) in
+    let wide : upto ≤ upto * w = le-mul_of_pos_right upto positive in
+    let below : w * n < w * (upto + 1) = omega (arith, d, m, most, sum, ordered, wide, mul_comm w upto, mul_add w upto 1) in
+    let few : n < upto + 1 = lt_of_mul-lt-mul_left w below in
+    omega (arith, few)

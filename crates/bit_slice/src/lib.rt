@@ -18,7 +18,7 @@ pub use counted::Counted;
 pub use counted_mut::CountedMut;
 pub use iter::Iter;
 pub use ops::{and_in_vec, and_words, or_in_vec, or_words, order_of_bits, xor_in_vec, xor_words};
-pub use run::{part_mut, run_mut};
+pub use run::run_mut;
 pub use slice::BitSlice;
 pub use slice_mut::BitSliceMut;
 pub use texts::{hash_bits, write_digits, write_list};

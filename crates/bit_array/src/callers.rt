@@ -2,10 +2,11 @@
 ghost use Rattle.std.specs.Prelude.{◌≡◌, ◌*◌, ◌≤◌, true, false, [], ◌∷◌, ◌++◌, Some, map, not, replicate, slice_get, IfOk, IsTrue, ◌↔◌};
 ghost use Rattle.bit_addressing.specs.declared.length.TheConstants.{MAX_BITS};
 ghost use Rattle.bit_addressing.specs.Typed.{row};
+ghost use Rattle.bit_slice.specs.BitSlice.{len_of};
 ghost use Rattle.bit_slice.specs.Operators.{and_of};
 
 use crate::{BitArray, BitViewSized, TryFromBitSliceError};
-use bit_addressing::{BitOrder, Lsb0, Msb0};
+use bit_addressing::{BitOrder, BitStore, Lsb0, Msb0};
 use bit_slice::BitSlice;
 
 #[tactic(auto, unfolding(bit_addressing::specs::Row::row_of))]
@@ -52,4 +53,15 @@ pub fn taken(
     view: BitSlice<'_, u8, Lsb0>,
 ) -> Result<BitArray<[u8; 2], Lsb0>, TryFromBitSliceError> {
     BitArray::try_from(view)
+}
+
+pub fn equal_once_copied<A: BitViewSized, O: BitOrder, U: BitStore, P: BitOrder>(
+    a: &mut BitArray<A, O>,
+    source: BitSlice<'_, U, P>,
+) -> bool
+    requires { len_of source ≡ A.Store.BITS * A.count }
+    ensures { IsTrue result }
+{
+    a.clone_from_bitslice(source);
+    a.eq_bits(source)
 }

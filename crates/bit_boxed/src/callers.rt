@@ -1,7 +1,9 @@
 //! Callers that know what they get from the contracts alone: none of them has a proof file.
-ghost use Rattle.std.specs.Prelude.{◌≡◌, ◌↔◌, ◌*◌, ◌≤◌, IfOk, IsTrue, length, set, true, ◌<◌};
+ghost use Rattle.std.specs.Prelude.{◌≡◌, ◌↔◌, ◌*◌, ◌≤◌, IfErr, IfOk, IsTrue, length, set, true, ◌<◌};
 ghost use Rattle.std.specs.Box.{boxed_slice_items};
 ghost use Rattle.bit_addressing.specs.declared.length.TheConstants.{MAX_BITS};
+ghost use Rattle.bit_addressing.specs.Typed.{row};
+ghost use Rattle.bit_boxed.specs.BitBox.{IsClean};
 ghost use Rattle.bit_slice.specs.BitSlice.{len_of, list_of};
 
 use crate::BitBox;
@@ -57,4 +59,25 @@ pub fn first_set<T: BitStore, O: BitOrder>(
     let mut b = BitBox::from_bitslice(alloc, view)?;
     b.set(0, true);
     Ok(b)
+}
+
+/// Words taken whole by std's trait.
+pub fn taken<T: BitStore, O: BitOrder>(words: BoxedSlice<T>) -> Result<BitBox<T, O>, BoxedSlice<T>>
+    ensures list { IfOk result (λ b. b.list ≡ row T.BitStore O.BitOrder (boxed_slice_items words)) }
+    ensures clean { IfOk result (λ b. IsClean T.BITS b) }
+    ensures back { IfErr result (λ back. back ≡ words) }
+{
+    BitBox::try_from(words)
+}
+
+/// A box that a view was written over equals the view, whatever the words and orders.
+pub fn equal_once_copied<T: BitStore, O: BitOrder, U: BitStore, P: BitOrder>(
+    b: &mut BitBox<T, O>,
+    source: BitSlice<'_, U, P>,
+) -> bool
+    requires { len_of source ≡ length b.old.list }
+    ensures { IsTrue result }
+{
+    b.clone_from_bitslice(source);
+    b.eq_bits(source)
 }

@@ -11,7 +11,8 @@ use crate::slice_mut::BitSliceMut;
 use bit_addressing::{BitOrder, BitStore, elts};
 
 /// The view of the bits from index `from` up to index `upto` of the words' row, for writing: what is written
-/// lands in the words, and the words around the run stay. The condition: `from..upto` is a range of the row, and has at most `MAX_BITS` bits.
+/// lands in the words, and those around the run stay. Requires that
+/// `from..upto` is a range of the row, of at most `MAX_BITS` bits.
 pub fn run_mut<T: BitStore, O: BitOrder>(
     words: &mut [T],
     from: usize,

@@ -76,7 +76,7 @@ impl<A: BitWords, O: BitOrder> IntoIter<A, O> {
         self.array.as_bitslice().get_range(self.from..self.upto)
     }
 
-    /// As `as_bitslice`.
+    /// Like `as_bitslice`.
     pub fn as_slice(&self) -> BitSlice<'_, A::Store, O>
         ensures { list_of result ≡ self.now }
     {
@@ -95,7 +95,7 @@ impl<A: BitViewSized, O: BitOrder> IntoIter<A, O> {
         run_mut::<A::Store, O>(self.array.as_raw_mut_slice(), from, upto)
     }
 
-    /// As `as_mut_bitslice`.
+    /// Like `as_mut_bitslice`.
     pub fn as_mut_slice(&mut self) -> BitSliceMut<'_, A::Store, O>
         ensures list { lent_list result ≡ self.old }
         ensures len { lent_len result ≡ length self.old }

@@ -40,7 +40,7 @@ impl<'a, T: BitStore, O: BitOrder> IntoIterator for &'a BitBox<T, O> {
 
     ghost into_iter_gives = { λ b r. (rest_lent r ≡ b.now.list) × (length (rest_lent r) ≤ MAX_BITS) × YieldsInOrder (YieldsFirst (rest_lent {X = T} {Y = O} {W = T.BitStore} {P = O.BitOrder})) rest_lent × YieldsInReverse (YieldsLast (rest_lent {X = T} {Y = O} {W = T.BitStore} {P = O.BitOrder})) rest_lent };
 
-    /// As `iter`: the items are truth values.
+    /// Like `iter`: the items are truth values.
     fn into_iter(self) -> Iter<'a, T, O> {
         self.iter()
     }
@@ -117,7 +117,7 @@ impl<T: BitStore, O: BitOrder> IntoIter<T, O> {
         self.inner.as_bitslice().get_range(self.from..self.upto)
     }
 
-    /// As `as_bitslice`.
+    /// Like `as_bitslice`.
     pub fn as_slice(&self) -> BitSlice<'_, T, O>
         ensures list { list_of result ≡ self.now.list }
         ensures len { len_of result ≡ length self.now.list }
@@ -140,7 +140,7 @@ impl<T: BitStore, O: BitOrder> IntoIter<T, O> {
         self.inner.run_mut(from, upto)
     }
 
-    /// As `as_mut_bitslice`.
+    /// Like `as_mut_bitslice`.
     pub fn as_mut_slice(&mut self) -> BitSliceMut<'_, T, O>
         ensures* writes_back { sem 𝓛 (lends_left T.row O.row T.BitStore O.BitOrder self.entry (loan_of result)) }
         ensures list { lent_list result ≡ self.old.list }

@@ -1,5 +1,5 @@
 -- Numbers written in binary, the most significant digit first, out of chunks and into them.
-use Rattle.std.proofs.Common.{[], ◌≡◌, ℕ, ◌+◌, ◌-◌, ◌*◌, ◌/◌, ◌%◌, ◌^◌, ◌<◌, ◌≤◌, Bool, false, List, ◌++◌, length, get_or, slice_range, refl, sym, ◌∙◌, ap, subst, inl, inr, arith}
+use Rattle.std.proofs.Common.{[], ◌∷◌, zero, suc, cond, ◌≡◌, ℕ, ◌+◌, ◌-◌, ◌*◌, ◌/◌, ◌%◌, ◌^◌, ◌<◌, ◌≤◌, Bool, false, List, ◌++◌, length, get_or, slice_range, refl, sym, ◌∙◌, ap, subst, inl, inr, arith}
 use Rattle.std.proofs.lemmas.Bool.{cases_lt}
 use Rattle.std.proofs.Math.Nat.{div-lt_iff_lt-mul}
 use Rattle.std.proofs.lemmas.Nat.{pow-add}
@@ -7,6 +7,7 @@ use Rattle.std.proofs.Math.Pow.{pow_pos}
 use Rattle.std.proofs.lemmas.List.{ext_get_or, length-append, get_or_append_left, get_or-append_right}
 use Rattle.std.proofs.lemmas.List.FromFn.{length-map-range_with_len, get_or-map-range_with_len}
 use Rattle.bit_addressing.specs.Bits.{has_bit}
+use Rattle.bit_addressing.specs.Binary.{value, value_after}
 use Rattle.bit_addressing.specs.Row.{binary, number_bits, number_of, put}
 use Rattle.bit_addressing.proofs.Chunks.{has_number}
 use Rattle.bit_addressing.proofs.Words.{has_low, has_shr_low}
@@ -88,3 +89,40 @@ binary_parted n m x =
           get_or-binary (n + m) x i (omega arith) ∙ ap (has_bit x) back ∙ sym (has_low x m (m - 1 - (i - n)) (omega arith)) ∙ sym (get_or-binary m (x % 2 ^ m) (i - n) (omega arith))
           ∙ sym (get_or-append_right a b n i false la (omega arith))
     ])
+
+-- ---- the number that digits write
+
+pub value_one_more : (n : ℕ) (xs : List Bool) (b : Bool) → value_after n (xs ++ b ∷ []) ≡ value_after n xs * 2 + cond b 1 0
+value_one_more n [] b = refl
+value_one_more n (x ∷ xs) b = value_one_more (n * 2 + cond x 1 0) xs b
+
+-- a number below 2 is its lowest bit
+lowest : (y : ℕ) → y < 2 → cond (has_bit y 0) 1 0 ≡ y
+lowest zero h = refl
+lowest (suc zero) h = refl
+lowest (suc (suc y)) h = absurd (omega arith)
+
+no_list : (x : ℕ) → binary 0 x ≡ []
+unfolding binary
+no_list x = refl
+
+one_digit : (y : ℕ) → binary 1 y ≡ has_bit y 0 ∷ []
+unfolding binary
+one_digit y = refl
+
+-- a number is that of its digits
+pub value_of_binary : (n x : ℕ) → x < 2 ^ n → value (binary n x) ≡ x
+value_of_binary zero x h = let e : 2 ^ 0 ≡ 1 = refl in let none : x ≡ 0 = omega arith in ap (λ l. value l) (no_list x) ∙ sym none
+value_of_binary (suc n) x h =
+    let count : suc n ≡ n + 1 = omega arith in
+    let split : 2 ^ (n + 1) ≡ 2 ^ n * 2 ^ 1 = pow-add 2 n 1 in
+    let size : x < 2 ^ n * 2 ^ 1 = subst (λ k. x < k) (ap (λ k. 2 ^ k) count ∙ split) h in
+    let upper : x / 2 ^ 1 < 2 ^ n = (div-lt_iff_lt-mul (pow_pos 1)).1 size in
+    let two : 2 ^ 1 ≡ 2 = refl in
+    let low : x % 2 ^ 1 < 2 = omega arith in
+    ap (λ k. value (binary k x)) count
+    ∙ ap value (binary_parted n 1 x ∙ ap (λ l. binary n (x / 2 ^ 1) ++ l) (one_digit (x % 2 ^ 1)))
+    ∙ value_one_more 0 (binary n (x / 2 ^ 1)) (has_bit (x % 2 ^ 1) 0)
+    ∙ ap (λ k. k * 2 + cond (has_bit (x % 2 ^ 1) 0) 1 0) (value_of_binary n (x / 2 ^ 1) upper)
+    ∙ ap (λ k. x / 2 ^ 1 * 2 + k) (lowest (x % 2 ^ 1) low)
+    ∙ (let whole : x / 2 ^ 1 * 2 + x % 2 ^ 1 ≡ x = omega arith in whole)

@@ -2,6 +2,7 @@ pub mod Bits
 pub mod Order
 pub mod Range
 pub mod Row
+pub mod Binary
 pub mod Typed
 pub mod Text
 pub mod Examples

@@ -89,6 +89,11 @@ pub drop_put : (xs ys : List Bool) (d n : ℕ) → n ≡ d + length ys → n ≤
 unfolding put
 drop_put xs ys d n is h = same_lists _ _ (search (rules, places)) (λ i e below. grind (arith, places))
 
+-- the front of a list, up to where it was written over
+pub take_before_put : (xs ys : List Bool) (d : ℕ) → d + length ys ≤ length xs → take d (put xs d ys) ≡ take d xs
+unfolding put
+take_before_put xs ys d h = same_lists _ _ (search (rules, places)) (λ i e below. grind (arith, places))
+
 -- ---- bits put in place of others
 
 -- fewer bits than they replace are written over them, and what is left of the range is taken out

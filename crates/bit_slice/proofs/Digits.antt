@@ -13,16 +13,14 @@ use Rattle.bit_addressing.specs.Text.{digit_of}
 use Rattle.bit_addressing.proofs.Chunks.{has_number}
 use Rattle.bit_addressing.proofs.lists.Shown.{get_or-run, length-run}
 use Rattle.bit_addressing.proofs.lists.Sized.{room}
-use Rattle.bit_slice.specs.Texts.{IsDigitSize, digits_from, number_behind}
+use Rattle.bit_slice.specs.Texts.{IsDigitSize, digits_from}
+use Rattle.bit_addressing.specs.Binary.{value_after}
+use Rattle.bit_addressing.proofs.Binary.{value_one_more}
 
 -- ---- the number of a group
 
-number_one_more : (n : ℕ) (xs : List Bool) (b : Bool) → number_behind n (xs ++ b ∷ []) ≡ number_behind n xs * 2 + cond b 1 0
-number_one_more n [] b = refl
-number_one_more n (x ∷ xs) b = number_one_more (n * 2 + cond x 1 0) xs b
-
 -- a group of at most three bits is a number below 8
-pub three_below : (xs : List Bool) → length xs ≤ 3 → number_behind 0 xs < 8
+pub three_below : (xs : List Bool) → length xs ≤ 3 → value_after 0 xs < 8
 three_below [] h = omega arith
 three_below (true ∷ []) h = omega arith
 three_below (false ∷ []) h = omega arith
@@ -61,14 +59,14 @@ size_of_run x from upto h =
     length-take (upto - from) (drop from (number_bits x 64)) ∙ ap (min (upto - from)) (length-drop from (number_bits x 64) ∙ ap (λ n. n - from) (size_64 x)) ∙ omega arith
 
 -- one bit more
-module _ (x from k v : ℕ) (begins : from ≤ k) (within : k < 64) (is : v ≡ number_behind 0 (slice_range (number_bits x 64) from k)) where
-  pub next_number : v * 2 + (digit_of (has_bit x k) - 48) ≡ number_behind 0 (slice_range (number_bits x 64) from (k + 1))
+module _ (x from k v : ℕ) (begins : from ≤ k) (within : k < 64) (is : v ≡ value_after 0 (slice_range (number_bits x 64) from k)) where
+  pub next_number : v * 2 + (digit_of (has_bit x k) - 48) ≡ value_after 0 (slice_range (number_bits x 64) from (k + 1))
   next_number =
       ap (λ m. m * 2 + (digit_of (has_bit x k) - 48)) is
-      ∙ ap (λ d. number_behind 0 (slice_range (number_bits x 64) from k) * 2 + d) (less_48 (has_bit x k))
-      ∙ sym (number_one_more 0 (slice_range (number_bits x 64) from k) (has_bit x k))
-      ∙ ap (λ b. number_behind 0 (slice_range (number_bits x 64) from k ++ b ∷ [])) (sym (bit_64 x k within))
-      ∙ ap (number_behind 0) (sym (between_more (number_bits x 64) from k false begins (omega (arith, size_64 x))))
+      ∙ ap (λ d. value_after 0 (slice_range (number_bits x 64) from k) * 2 + d) (less_48 (has_bit x k))
+      ∙ sym (value_one_more 0 (slice_range (number_bits x 64) from k) (has_bit x k))
+      ∙ ap (λ b. value_after 0 (slice_range (number_bits x 64) from k ++ b ∷ [])) (sym (bit_64 x k within))
+      ∙ ap (value_after 0) (sym (between_more (number_bits x 64) from k false begins (omega (arith, size_64 x))))
 
   pub small_number : k < from + 4 → v < 8
   small_number h = rw is (three_below (slice_range (number_bits x 64) from k) (omega (arith, size_of_run x from k (omega arith))))
@@ -92,10 +90,10 @@ module _ (s : ℕ) (u : Bool) where
       let next : suc a + b ≡ suc (a + b) = omega arith in
       let behind : s + a * s ≡ suc a * s = grind arith in
       ap (λ n. digits n bits) next
-      ∙ ap (λ l. digit_glyph u (number_behind 0 (take s bits)) ∷ l) (digits_joined a b (drop s bits) ∙ ap (λ l. digits a (drop s bits) ++ digits b l) (drop-drop (a * s) s bits ∙ ap (λ n. drop n bits) behind))
+      ∙ ap (λ l. digit_glyph u (value_after 0 (take s bits)) ∷ l) (digits_joined a b (drop s bits) ∙ ap (λ l. digits a (drop s bits) ++ digits b l) (drop-drop (a * s) s bits ∙ ap (λ n. drop n bits) behind))
 
   -- one group more
-  pub digits_more : (i : ℕ) (bits : List Bool) → digits (i + 1) bits ≡ digits i bits ++ digit_glyph u (number_behind 0 (take s (drop (i * s) bits))) ∷ []
+  pub digits_more : (i : ℕ) (bits : List Bool) → digits (i + 1) bits ≡ digits i bits ++ digit_glyph u (value_after 0 (take s (drop (i * s) bits))) ∷ []
   digits_more i bits = digits_joined i 1 bits
 
   -- groups of the first bits alone
@@ -107,8 +105,8 @@ module _ (s : ℕ) (u : Bool) where
       let first : take s (take k bits) ≡ take s bits = take-take s k bits fits in
       let whole : k ≡ s + (k - s) = omega (arith, fits) in
       let rest : drop s (take k bits) ≡ take (k - s) (drop s bits) = ap (λ n. drop s (take n bits)) whole ∙ drop-take s (k - s) bits in
-      ap (λ l. digit_glyph u (number_behind 0 l) ∷ digits a (drop s (take k bits))) first
-      ∙ ap (λ l. digit_glyph u (number_behind 0 (take s bits)) ∷ l) (ap (digits a) rest ∙ digits_cut a (k - s) (drop s bits) (omega arith))
+      ap (λ l. digit_glyph u (value_after 0 l) ∷ digits a (drop s (take k bits))) first
+      ∙ ap (λ l. digit_glyph u (value_after 0 (take s bits)) ∷ l) (ap (digits a) rest ∙ digits_cut a (k - s) (drop s bits) (omega arith))
 
 -- the bits of a group within the number of all
 pub group_read : (ms : List Bool) (at m : ℕ) → at + m ≤ length ms → length ms ≤ 64 → slice_range (number_bits (number_of ms) 64) at (at + m) ≡ slice_range ms at (at + m)

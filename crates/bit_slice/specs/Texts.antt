@@ -2,6 +2,7 @@
 use Rattle.std.specs.Prelude.{◌≡◌, ◌⊎◌, ℕ, zero, suc, ◌+◌, ◌*◌, Bool, true, false, cond, List, [], ◌∷◌, ◌++◌, length, take, drop, codes, refl}
 use Rattle.std.specs.Fmt.{digit_glyph}
 use Rattle.bit_addressing.specs.Row.{words_for}
+use Rattle.bit_addressing.specs.Binary.{value_after}
 use Rattle.bit_addressing.specs.Text.{digit_of}
 
 -- each digit behind a comma and a space
@@ -9,15 +10,10 @@ abbrev pub spaced : List Bool → List ℕ
 spaced [] = []
 spaced (b ∷ bits) = 44 ∷ 32 ∷ digit_of b ∷ spaced bits
 
--- the number that bits write behind a number, the first the most significant
-abbrev pub number_behind : ℕ → List Bool → ℕ
-number_behind n [] = n
-number_behind n (b ∷ bits) = number_behind (n * 2 + cond b 1 0) bits
-
 -- n groups of bits of one size, a digit each; the last group may be short
 abbrev pub digits_from : ℕ → Bool → ℕ → List Bool → List ℕ
 digits_from size upper zero bits = []
-digits_from size upper (suc n) bits = digit_glyph upper (number_behind 0 (take size bits)) ∷ digits_from size upper n (drop size bits)
+digits_from size upper (suc n) bits = digit_glyph upper (value_after 0 (take size bits)) ∷ digits_from size upper n (drop size bits)
 
 -- a list cut from its front in groups, as many as it takes, a digit each, between brackets
 abbrev pub digits_text : ℕ → Bool → List Bool → List ℕ

@@ -6,9 +6,10 @@ ghost use Rattle.std.specs.Str.{IsAscii};
 ghost use Rattle.bit_addressing.specs.Row.{number_bits, words_for};
 ghost use Rattle.bit_addressing.specs.Text.{list_text, digit_of};
 ghost use Rattle.bit_addressing.specs.Bits.{has_bit};
+ghost use Rattle.bit_addressing.specs.Binary.{value_after};
 ghost use Rattle.bit_slice.specs.BitSlice.{len_of, list_of};
 ghost use Rattle.bit_slice.specs.Comparisons.{bits_fed};
-ghost use Rattle.bit_slice.specs.Texts.{IsDigitSize, digits_from, digits_text, number_behind, spaced};
+ghost use Rattle.bit_slice.specs.Texts.{IsDigitSize, digits_from, digits_text, spaced};
 
 use crate::slice::BitSlice;
 use bit_addressing::{BitOrder, BitStore, read_chunk};
@@ -94,7 +95,7 @@ fn digit_of_bits(chunk: u64, from: u8, upto: u8, upper: bool) -> u8
     requires ordered { from ≤ upto }
     requires few { upto ≤ from + 4 }
     requires within { upto ≤ 64 }
-    ensures value { result ≡ digit_glyph upper (number_behind 0 (slice_range (number_bits chunk 64) from upto)) }
+    ensures value { result ≡ digit_glyph upper (value_after 0 (slice_range (number_bits chunk 64) from upto)) }
     ensures ascii { result < 128 }
 {
     let mut value = 0;

@@ -2,6 +2,7 @@
 //!
 //! Calls between words of two types or orders go through these numbers, 64 bits at a time.
 ghost use Rattle.std.specs.Prelude.{◌≡◌, ℕ, ◌+◌, ◌*◌, ◌/◌, ◌^◌, ◌<◌, ◌≤◌, [], ◌∷◌, length, slice_range};
+ghost use Rattle.bit_addressing.specs.Binary.{value};
 ghost use Rattle.bit_addressing.specs.Row.{binary, number_bits, number_of, put, row_of};
 ghost use Rattle.bit_addressing.specs.Typed.{row};
 
@@ -58,6 +59,7 @@ pub fn read_binary<T: BitStore, O: BitOrder>(words: &[T], at: usize, n: u8) -> u
     requires few { n ≤ 64 }
     requires within { at + n ≤ T.BITS * length words.now }
     ensures digits { binary n result ≡ slice_range (row T.BitStore O.BitOrder words.now) at (at + n) }
+    ensures value { result ≡ value (slice_range (row T.BitStore O.BitOrder words.now) at (at + n)) }
     ensures below { result < 2 ^ n }
 {
     if n == 0 {

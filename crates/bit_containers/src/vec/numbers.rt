@@ -1,5 +1,6 @@
 //! Numbers of up to 64 digits in the bits of a vector, the most significant digit first.
-ghost use Rattle.std.specs.Prelude.{◌≡◌, ◌+◌, ◌*◌, ◌^◌, ◌<◌, ◌≤◌, ◌++◌, IfOk, IsOk, OnErr, OnOk, length, slice_range, vec_capacity};
+ghost use Rattle.std.specs.Prelude.{◌≡◌, ◌+◌, ◌*◌, ◌^◌, ◌<◌, ◌≤◌, ◌++◌, IfOk, IsOk, OnErr, OnOk, drop, length, slice_range, take, vec_capacity};
+ghost use Rattle.bit_addressing.specs.Binary.{value};
 ghost use Rattle.bit_addressing.specs.Row.{binary, put};
 ghost use Rattle.bit_addressing.specs.Typed.{row};
 ghost use Rattle.bit_containers.specs.BitVec.{Grew, IsClean, RefusesOnly, Stayed};
@@ -10,8 +11,8 @@ use bit_addressing::{
 };
 
 impl<T: BitStore, O: BitOrder> BitVec<T, O> {
-    /// The number that the `n` bits from `at` on write in binary, the most significant digit first. Each
-    /// word is read once. The condition: `n` is at most 64, and the bits lie in the length.
+    /// Returns the number that the `n` bits from `at` on write in binary, the most significant digit first. Each word is
+    /// read once. Requires that `n` is at most 64 and that the bits lie in the length.
     ///
     /// ```text
     /// of the bits 0, 1, 1, 0:  v.read_binary(1, 3) == 6
@@ -20,20 +21,24 @@ impl<T: BitStore, O: BitOrder> BitVec<T, O> {
     pub fn read_binary(&self, at: usize, n: u8) -> u64
         requires few { n ≤ 64 }
         requires within { at + n ≤ length self.now.list }
+        ensures value { result ≡ value (slice_range self.now.list at (at + n)) }
         ensures digits { binary n result ≡ slice_range self.now.list at (at + n) }
         ensures below { result < 2 ^ n }
     {
         read_binary::<T, O>(self.words.as_slice(), self.head + at, n)
     }
 
-    /// Writes a number in binary over the `n` bits from `at` on, the most significant digit first, and
-    /// changes no other bit; digits above the `n` lowest are left out. Takes no memory. The condition:
-    /// `n` is at most 64, and the bits lie in the length.
+    /// Writes a number in binary over the `n` bits from `at` on, the most significant digit first, and changes no other
+    /// bit; digits above the `n` lowest are left out. Takes no memory. Requires that `n` is at most 64 and that the bits lie
+    /// in the length.
     #[tactic(auto, using(bit_slice::proofs::Parts::shown_length))]
     pub fn write_binary(&mut self, at: usize, n: u8, number: u64)
         requires few { n ≤ 64 }
         requires within { at + n ≤ length self.old.list }
         ensures list { self.new.list ≡ put self.old.list at (binary n number) }
+        ensures written { slice_range self.new.list at (at + n) ≡ binary n number }
+        ensures before { take at self.new.list ≡ take at self.old.list }
+        ensures after { drop (at + n) self.new.list ≡ drop (at + n) self.old.list }
         ensures row { self.new.row ≡ put self.old.row (self.old.head + at) (binary n number) }
         ensures clean { IsClean T.BITS self.old → IsClean T.BITS self.new }
         ensures stayed { Stayed self.old self.new }
@@ -41,13 +46,14 @@ impl<T: BitStore, O: BitOrder> BitVec<T, O> {
         write_binary_in_vec::<T, O>(&mut self.words, self.head + at, n, number);
     }
 
-    /// Joins a number in binary by `n` digits, the most significant first; digits above the `n` lowest are left
-    /// out. It answers `TooLong` exactly where the length would pass `MAX_BITS`, and `OutOfMemory` only where
-    /// it would pass the capacity. A refusal leaves the vector. The condition: `n` is at most 64.
+    /// Appends a number in binary by `n` digits, the most significant first; digits above the `n` lowest are left out. Returns
+    /// `TooLong` exactly where the length would pass `MAX_BITS`, and `OutOfMemory` only where it would pass the capacity; the
+    /// vector is as it was then. Requires that `n` is at most 64.
     #[tactic(auto, using(bit_slice::proofs::Parts::shown_length))]
     pub fn push_binary(&mut self, n: u8, number: u64) -> Result<(), GrowError>
         requires { n ≤ 64 }
         ensures list { OnOk result (self.new.list ≡ self.old.list ++ binary n number) }
+        ensures len { OnOk result (length self.new.list ≡ length self.old.list + n) }
         ensures row { OnOk result (Grew T.BITS self.old self.new (binary n number)) }
         ensures clean { OnOk result (IsClean T.BITS self.old → IsClean T.BITS self.new) }
         ensures refusal { RefusesOnly result (length self.old.list + n) self.old self.new }

@@ -4,12 +4,13 @@ use Rattle.std.specs.Fmt.{digit_glyph}
 use Rattle.bit_addressing.specs.Row.{number_bits, number_of, words_for}
 use Rattle.bit_addressing.specs.Typed.{row}
 use Rattle.bit_slice.specs.BitSlice.{list_of}
-use Rattle.bit_slice.specs.Texts.{digits_from, number_behind}
+use Rattle.bit_slice.specs.Texts.{digits_from}
 use Rattle.bit_slice.proofs.Writing.{chunk_of_list}
 use Rattle.bit_slice.proofs.Parts.{in_row}
 use Rattle.bit_addressing.proofs.lists.Shown.{length-between}
 use Rattle.bit_slice.proofs.Digits.{digits_more, group_at, group_begins, groups_are}
 use Rattle.bit_slice.proofs.texts.write_groups.Goals as goal
+use Rattle.bit_addressing.specs.Binary.{value_after}
 
 pub loop-i-preserved : goal.loop-i-preserved
 loop-i-preserved g c =
@@ -25,9 +26,9 @@ loop-i-preserved g c =
     ∙ ap (λ h. number_of (slice_range (row g.T.BitStore g.O.BitOrder v.words.now) (h + c.args.from) (h + c.args.from + n))) c.head.ensures.value
     ∙ ap number_of (chunk_of_list g.T.BitStore g.O.BitOrder v c.args.from n c.requires.within) in
     let begins : i * s < n = group_begins s n i c.requires.some (omega (arith, c.loop-i-test.true, c.loop-i.auto.i-end, groups_are s n c.requires.some)) in
-    let digit : c.digit_of_bits.result ≡ digit_glyph c.args.upper (number_behind 0 (take s (drop (i * s) bits))) =
-    c.digit_of_bits.ensures.value ∙ ap (λ x. digit_glyph c.args.upper (number_behind 0 (slice_range (number_bits x 64) (i * s) c.min-last.result))) chunk
-    ∙ ap (λ l. digit_glyph c.args.upper (number_behind 0 l)) (group_at bits (i * s) s c.min-last.result (omega arith) (omega (arith, c.requires.few)) (c.min-last.ensures ∙ ap (min (i * s + s)) (sym all))) in
+    let digit : c.digit_of_bits.result ≡ digit_glyph c.args.upper (value_after 0 (take s (drop (i * s) bits))) =
+    c.digit_of_bits.ensures.value ∙ ap (λ x. digit_glyph c.args.upper (value_after 0 (slice_range (number_bits x 64) (i * s) c.min-last.result))) chunk
+    ∙ ap (λ l. digit_glyph c.args.upper (value_after 0 l)) (group_at bits (i * s) s c.min-last.result (omega arith) (omega (arith, c.requires.few)) (c.min-last.ensures ∙ ap (min (i * s + s)) (sym all))) in
     record {
       text = c.put.ensures.text ∙ ap (λ t. t ++ c.digit_of_bits.result ∷ []) c.loop-i.invariant.text ∙ ap (λ d. digits_from s c.args.upper i bits ++ d ∷ []) digit ∙ sym (digits_more s c.args.upper i bits);
       ascii = c.put.ensures.ascii c.loop-i.invariant.ascii;

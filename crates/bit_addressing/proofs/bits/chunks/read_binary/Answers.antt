@@ -1,6 +1,8 @@
-use Rattle.std.proofs.Common.{◌≡◌, ◌+◌, ◌*◌, length, slice_range, arith}
+use Rattle.std.proofs.Common.{◌≡◌, ◌+◌, ◌*◌, length, slice_range, sym, ◌∙◌, ap, arith}
 use Rattle.bit_addressing.specs.Typed.{row}
-use Rattle.bit_addressing.proofs.Binary.{binary_of, digits_below, no_digits_of}
+use Rattle.bit_addressing.proofs.Binary.{binary_of, digits_below, no_digits_of, value_of_binary}
+use Rattle.bit_addressing.specs.Binary.{value}
+use Rattle.std.proofs.Math.Pow.{pow_pos}
 use Rattle.bit_addressing.proofs.Typed.{length_row}
 use Rattle.bit_addressing.proofs.lists.Shown.{length-run}
 use Rattle.bit_addressing.proofs.bits.chunks.read_binary.Goals as goal
@@ -16,3 +18,12 @@ returns-clause-digits g c =
 
 pub returns-clause-below : goal.returns-clause-below
 returns-clause-below g c = digits_below c.args.n c.read_chunk.result c.reverse.result (omega arith) c.requires.few c.reverse.ensures (omega arith)
+
+pub returns-then-n-eq0-clause-value : goal.returns-then-n-eq0-clause-value
+returns-then-n-eq0-clause-value g c =
+    let digits = returns-then-n-eq0-clause-digits g c in
+    let ms = row g.T.BitStore g.O.BitOrder c.args.words.now in
+    sym (ap value (sym digits) ∙ value_of_binary c.args.n 0 (pow_pos c.args.n))
+
+pub returns-clause-value : goal.returns-clause-value
+returns-clause-value g c = sym (ap value (sym (returns-clause-digits g c)) ∙ value_of_binary c.args.n _ (returns-clause-below g c))

@@ -54,3 +54,6 @@ pub returns-clause-clean : goal.returns-clause-clean
 returns-clause-clean g c =
     let w = g.T.BitStore.BITS in
     clean_grown w c.args.self.now _ (binary c.args.n c.args.number) (width_positive w g.met.T.BitStore.width) (returns-clause-row g c).head (returns-clause-list g c) (returns-clause-row g c).row
+
+pub returns-clause-len : goal.returns-clause-len
+returns-clause-len g c = let digits = length-binary c.args.n c.args.number in omega (arith, (returns-clause-row g c).len)

@@ -1,10 +1,12 @@
-use Rattle.std.proofs.Common.{◌≡◌, ◌+◌, ◌≤◌, length, slice_range, sym, ◌∙◌, ap, arith}
+use Rattle.std.proofs.Common.{◌≡◌, ◌+◌, ◌≤◌, length, take, drop, slice_range, sym, ◌∙◌, ap, arith}
 use Rattle.bit_addressing.specs.Row.{binary, put}
 use Rattle.bit_addressing.specs.Typed.{row}
 use Rattle.bit_addressing.proofs.Binary.{length-binary}
 use Rattle.bit_addressing.proofs.Rows.{width_positive}
 use Rattle.bit_containers.proofs.Vectors.{shown}
 use Rattle.bit_slice.proofs.Clean.{clean_put}
+use Rattle.bit_slice.proofs.Shown.{shown_filled}
+use Rattle.bit_containers.proofs.Removing.{take_before_put, drop_put}
 use Rattle.bit_addressing.proofs.lists.Shown.{shown_written}
 use Rattle.bit_containers.proofs.vec.BitVec.write_binary.Goals as goal
 
@@ -28,3 +30,20 @@ returns-clause-clean g c =
     let room : c.args.at + length bits ≤ length now.list = omega arith in
     clean_put w _ _ c.args.at bits (width_positive w g.met.T.BitStore.width) room (ap (λ v. v.head) c.self.view_is) (returns-clause-list g c)
     (c.write_binary_in_vec.ensures.bits ∙ ap (λ v. put v.row (v.head + c.args.at) bits) c.self.view_is)
+
+pub returns-clause-written : goal.returns-clause-written
+returns-clause-written g c =
+    let bits = binary c.args.n c.args.number in
+    let digits = length-binary c.args.n c.args.number in
+    ap (λ l. slice_range l c.args.at (c.args.at + c.args.n)) (returns-clause-list g c) ∙ shown_filled c.args.self.now.list bits c.args.at c.args.n (sym digits) c.requires.within
+
+pub returns-clause-before : goal.returns-clause-before
+returns-clause-before g c =
+    let digits = length-binary c.args.n c.args.number in
+    let room : c.args.at + length (binary c.args.n c.args.number) ≤ length c.args.self.now.list = omega (arith, c.requires.within) in
+    ap (take c.args.at) (returns-clause-list g c) ∙ take_before_put c.args.self.now.list (binary c.args.n c.args.number) c.args.at room
+
+pub returns-clause-after : goal.returns-clause-after
+returns-clause-after g c =
+    let digits = length-binary c.args.n c.args.number in
+    ap (drop (c.args.at + c.args.n)) (returns-clause-list g c) ∙ drop_put c.args.self.now.list (binary c.args.n c.args.number) c.args.at (c.args.at + c.args.n) (omega arith) c.requires.within

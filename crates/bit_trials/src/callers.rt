@@ -5,6 +5,7 @@ mod growing;
 mod iterating;
 mod laws;
 mod lending;
+mod numbers;
 mod removing;
 mod rules;
 mod words;

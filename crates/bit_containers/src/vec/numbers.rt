@@ -37,6 +37,7 @@ impl<T: BitStore, O: BitOrder> BitVec<T, O> {
         requires within { at + n ≤ length self.old.list }
         ensures list { self.new.list ≡ put self.old.list at (binary n number) }
         ensures written { slice_range self.new.list at (at + n) ≡ binary n number }
+        ensures read_back { number < 2 ^ n → value (slice_range self.new.list at (at + n)) ≡ number }
         ensures before { take at self.new.list ≡ take at self.old.list }
         ensures after { drop (at + n) self.new.list ≡ drop (at + n) self.old.list }
         ensures row { self.new.row ≡ put self.old.row (self.old.head + at) (binary n number) }

@@ -1,7 +1,8 @@
 use Rattle.std.proofs.Common.{◌≡◌, ◌+◌, ◌≤◌, length, take, drop, slice_range, sym, ◌∙◌, ap, arith}
+use Rattle.bit_addressing.specs.Binary.{value}
 use Rattle.bit_addressing.specs.Row.{binary, put}
 use Rattle.bit_addressing.specs.Typed.{row}
-use Rattle.bit_addressing.proofs.Binary.{length-binary}
+use Rattle.bit_addressing.proofs.Binary.{length-binary, value_of_binary}
 use Rattle.bit_addressing.proofs.Rows.{width_positive}
 use Rattle.bit_containers.proofs.Vectors.{shown}
 use Rattle.bit_slice.proofs.Clean.{clean_put}
@@ -47,3 +48,6 @@ pub returns-clause-after : goal.returns-clause-after
 returns-clause-after g c =
     let digits = length-binary c.args.n c.args.number in
     ap (drop (c.args.at + c.args.n)) (returns-clause-list g c) ∙ drop_put c.args.self.now.list (binary c.args.n c.args.number) c.args.at (c.args.at + c.args.n) (omega arith) c.requires.within
+
+pub returns-clause-read_back : goal.returns-clause-read_back
+returns-clause-read_back g c = λ fits. ap value (returns-clause-written g c) ∙ value_of_binary c.args.n c.args.number fits

@@ -195,6 +195,10 @@ fn views_taken(rt: HostRuntime) -> Result<(), Fail> {
     assert!(rt; none.is_err_and(|e| e == off));
     assert!(rt; short < off && short != off && short.clone()? == short);
     assert_eq!(rt; short.order(off), Ordering::Less);
+    let Err(longer) = BitArray::<[u8; 3], Lsb0>::try_from(view.get_range(0..2)) else {
+        panic!(rt; "two bits are no three bytes");
+    };
+    assert!(rt; short < longer && longer < off);
     let all = BitArray::<[u8; 2], Lsb0>::try_from(view)?;
     assert_eq!(rt; all.into_inner().as_slice(), words.as_slice());
     Ok(())

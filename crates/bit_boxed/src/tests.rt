@@ -58,6 +58,22 @@ fn copied_with_a_head(rt: HostRuntime) {
     shows(&rt, &b, &[0xd0]);
 }
 
+/// A copy begins at head 0, so aligning it changes nothing; aligning its source moves the list.
+#[test]
+fn aligned_after_copying(rt: HostRuntime) {
+    let words = [0xa8_u8, 0x07];
+    let view = BitSlice::<u8, Lsb0>::from_slice(&words).get_range(3..11);
+    let mut b = ok(&rt, BitBox::from_bitslice_headed(rt.alloc(), view));
+    let mut copy = ok(&rt, b.clone());
+    shows(&rt, &copy, &[0xf5]);
+    copy.force_align();
+    shows(&rt, &copy, &[0xf5]);
+    b.force_align();
+    shows(&rt, &b, &[0xf5, 0x07]);
+    holds(&rt, &b, b"10101111");
+    holds(&rt, &copy, b"10101111");
+}
+
 #[test]
 fn copied_from_the_beginning(rt: HostRuntime) {
     let words = [0xb5_u8];

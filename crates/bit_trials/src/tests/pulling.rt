@@ -2,6 +2,7 @@
 ghost use Rattle.std.specs.Iterator.{at_most};
 
 use crate::tests::{holds, of, ok};
+use bit_containers::boxed::BitBox;
 use bit_containers::{BitVec, GrowError, Lsb0, Msb0};
 use std::process::Abort;
 
@@ -95,6 +96,9 @@ fn made(rt: &(impl Abort + AllocGlobal), n: usize, bounded: bool) {
     let exact = ok(rt, BitVec::<u8, Lsb0>::from_bits(rt.alloc(), list));
     assert!(rt; made == exact);
     assert!(rt; made.as_raw_slice() == exact.as_raw_slice());
+    let loose = Loose::of(n, BITS, bounded);
+    let boxed = ok(rt, BitBox::<u8, Lsb0>::from_bits(rt.alloc(), loose));
+    assert!(rt; boxed.eq_bits(exact.as_bitslice()));
 }
 
 /// A vector made of words, and one that they are joined to.
@@ -138,6 +142,17 @@ fn bits_counted(rt: &(impl Abort + AllocGlobal), n: usize, bounded: bool) {
     assert!(rt; bits.nones == 1 && bits.calls.wrapping_sub(1) == n);
 }
 
+/// Bits by reference, into a box.
+fn boxed_counted(rt: &(impl Abort + AllocGlobal), n: usize, bounded: bool) {
+    let mut bits = Loose::of(n, BITS, bounded);
+    let b = ok(
+        rt,
+        BitBox::<u16, Msb0>::from_bits(rt.alloc(), bits.by_ref()),
+    );
+    assert!(rt; b.len() == n);
+    assert!(rt; bits.nones == 1 && bits.calls.wrapping_sub(1) == n);
+}
+
 /// Words by reference, so too.
 fn words_counted(rt: &(impl Abort + AllocGlobal), n: usize, bounded: bool) {
     let mut words = Loose::of(n, WORDS, bounded);
@@ -157,6 +172,7 @@ fn calls_counted(rt: HostRuntime) {
     for n in [0usize, 1, 63, 64, 65, 200] {
         for bounded in [false, true] {
             bits_counted(&rt, n, bounded);
+            boxed_counted(&rt, n, bounded);
             words_counted(&rt, n, bounded);
         }
     }
@@ -166,7 +182,7 @@ fn calls_counted(rt: HostRuntime) {
 /// `rt try --test --fail-alloc N` refuses.
 #[test]
 fn pulled_until_refused(rt: HostRuntime) {
-    for way in 0..3u8 {
+    for way in 0..5u8 {
         let mut bits = Loose::of(1000, BITS, way % 2 == 0);
         let mut words = Loose::of(1000, WORDS, way % 2 == 0);
         let Ok(mut v) = BitVec::<u8, Lsb0>::from_bits(rt.alloc(), [false, true]) else {
@@ -175,9 +191,11 @@ fn pulled_until_refused(rt: HostRuntime) {
         let answer = match way {
             0 => v.extend(bits.by_ref()),
             1 => v.extend_words(words.by_ref()),
-            _ => BitVec::<u8, Msb0>::from_bits(rt.alloc(), bits.by_ref()).map(|_| ()),
+            2 => BitVec::<u8, Msb0>::from_bits(rt.alloc(), bits.by_ref()).map(|_| ()),
+            3 => BitVec::<u8, Msb0>::from_words(rt.alloc(), words.by_ref()).map(|_| ()),
+            _ => BitBox::<u8, Msb0>::from_bits(rt.alloc(), bits.by_ref()).map(|_| ()),
         };
-        let (calls, nones) = if way == 1 {
+        let (calls, nones) = if way == 1 || way == 3 {
             (words.calls, words.nones)
         } else {
             (bits.calls, bits.nones)

@@ -221,9 +221,7 @@ impl<T: BitStore, O: BitOrder> BitBox<T, O> {
     {
         let (from, len) = (view.head(), view.len());
         let mut words = Vec::new(alloc);
-        let Ok(()) = resize_words_in_vec::<T, O>(&mut words, len) else {
-            return Err(AllocError);
-        };
+        resize_words_in_vec::<T, O>(&mut words, len)?;
         copy_bits_in_vec::<T, O, T, O>(&mut words, 0, view.as_raw_slice(), from, len);
         Ok(Self::of_parts(words, 0, len))
     }
@@ -266,9 +264,7 @@ impl<T: BitStore, O: BitOrder> BitBox<T, O> {
             if len == MAX_BITS {
                 return Err(GrowError::TooLong);
             }
-            let Ok(()) = push_bit_in_vec::<T, O>(&mut words, len, bit) else {
-                return Err(GrowError::OutOfMemory);
-            };
+            push_bit_in_vec::<T, O>(&mut words, len, bit)?;
             len += 1;
         }
         Ok(Self::of_parts(words, 0, len))

@@ -200,10 +200,8 @@ fn split_at<T: BitStore, O: BitOrder>(v: &mut BitVec<T, O>, at: usize) -> Result
 {
     v.in_words();
     if at <= v.len() {
-        match v.split_off(at) {
-            Ok(rest) => Ok(Reply::Number(rest.len())),
-            Err(_) => Err(GrowError::OutOfMemory),
-        }
+        let rest = v.split_off(at)?;
+        Ok(Reply::Number(rest.len()))
     } else {
         Ok(Reply::OutOfRange)
     }

@@ -135,9 +135,7 @@ impl<T: BitStore, O: BitOrder> BitVec<T, O> {
             return Err(GrowError::TooLong);
         }
         let mut words = Vec::new(alloc);
-        let Ok(()) = resize_words_in_vec::<T, O>(&mut words, n) else {
-            return Err(GrowError::OutOfMemory);
-        };
+        resize_words_in_vec::<T, O>(&mut words, n)?;
         let all = T::BITS as usize * words.len();
         fill_bits_in_vec::<T, O>(&mut words, 0, all, bit);
         Ok(BitVec {
@@ -220,10 +218,7 @@ impl<T: BitStore, O: BitOrder> BitVec<T, O> {
         if !Self::fits(words.len()) {
             return Err(GrowError::TooLong);
         }
-        match Self::from_slice(alloc, words) {
-            Ok(v) => Ok(v),
-            Err(_) => Err(GrowError::OutOfMemory),
-        }
+        Ok(Self::from_slice(alloc, words)?)
     }
 
     /// All bits of these words, as `from_vec`, with no condition: it hands the words back exactly where they

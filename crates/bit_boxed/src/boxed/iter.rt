@@ -244,10 +244,8 @@ impl<T: BitStore, O: BitOrder> Clone for IntoIter<T, O> {
     /// left.
     fn clone(&self) -> Result<Self, AllocError> {
         let alloc = self.inner.allocator();
-        match BitBox::from_bitslice(alloc, self.as_bitslice()) {
-            Ok(copy) => Ok(IntoIter::of(copy)),
-            Err(_) => Err(AllocError),
-        }
+        let copy = BitBox::from_bitslice(alloc, self.as_bitslice())?;
+        Ok(IntoIter::of(copy))
     }
 }
 

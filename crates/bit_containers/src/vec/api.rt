@@ -51,9 +51,7 @@ impl<T: BitStore, O: BitOrder> BitVec<T, O> {
             return Err(GrowError::TooLong);
         }
         let end = self.head + self.len;
-        let Ok(()) = push_bit_in_vec::<T, O>(&mut self.words, end, bit) else {
-            return Err(GrowError::OutOfMemory);
-        };
+        push_bit_in_vec::<T, O>(&mut self.words, end, bit)?;
         self.len += 1;
         Ok(())
     }

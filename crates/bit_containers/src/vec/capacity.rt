@@ -43,9 +43,7 @@ impl<T: BitStore, O: BitOrder> BitVec<T, O> {
         ensures capacity { self.old.capacity ≤ self.new.capacity }
     {
         let words = self.words_to_add(more)?;
-        let Ok(()) = self.words.reserve(words) else {
-            return Err(GrowError::OutOfMemory);
-        };
+        self.words.reserve(words)?;
         Ok(())
     }
 
@@ -58,9 +56,7 @@ impl<T: BitStore, O: BitOrder> BitVec<T, O> {
         ensures capacity { self.old.capacity ≤ self.new.capacity }
     {
         let words = self.words_to_add(more)?;
-        let Ok(()) = self.words.reserve_exact(words) else {
-            return Err(GrowError::OutOfMemory);
-        };
+        self.words.reserve_exact(words)?;
         Ok(())
     }
 

@@ -33,9 +33,7 @@ impl<T: BitStore, O: BitOrder> BitVec<T, O> {
             return Err(GrowError::TooLong);
         }
         let (end, len) = (self.head + self.len, self.len + more);
-        let Ok(()) = resize_words_in_vec::<T, O>(&mut self.words, self.head + len) else {
-            return Err(GrowError::OutOfMemory);
-        };
+        resize_words_in_vec::<T, O>(&mut self.words, self.head + len)?;
         let from = view.head();
         copy_bits_in_vec::<T, O, U, P>(&mut self.words, end, view.as_raw_slice(), from, more);
         self.len = len;
@@ -97,9 +95,7 @@ impl<T: BitStore, O: BitOrder> BitVec<T, O> {
             return Err(GrowError::TooLong);
         }
         let (end, upto) = (self.head + self.len, self.head + n);
-        let Ok(()) = resize_words_in_vec::<T, O>(&mut self.words, upto) else {
-            return Err(GrowError::OutOfMemory);
-        };
+        resize_words_in_vec::<T, O>(&mut self.words, upto)?;
         fill_bits_in_vec::<T, O>(&mut self.words, end, upto, bit);
         self.len = n;
         Ok(())
@@ -138,9 +134,7 @@ impl<T: BitStore, O: BitOrder> BitVec<T, O> {
             return Err(GrowError::TooLong);
         }
         let (end, len) = (self.head + self.len, self.len + more);
-        let Ok(()) = resize_words_in_vec::<T, O>(&mut self.words, self.head + len) else {
-            return Err(GrowError::OutOfMemory);
-        };
+        resize_words_in_vec::<T, O>(&mut self.words, self.head + len)?;
         move_bits_in_vec::<T, O>(&mut self.words, self.head + range.start, end, more);
         self.len = len;
         Ok(())
@@ -161,9 +155,7 @@ impl<T: BitStore, O: BitOrder> BitVec<T, O> {
             return Err(GrowError::TooLong);
         }
         let (end, len) = (self.head + self.len, self.len + more);
-        let Ok(()) = resize_words_in_vec::<T, O>(&mut self.words, self.head + len) else {
-            return Err(GrowError::OutOfMemory);
-        };
+        resize_words_in_vec::<T, O>(&mut self.words, self.head + len)?;
         write_chunk_in_vec::<T, O>(&mut self.words, end, n, number);
         self.len = len;
         Ok(())

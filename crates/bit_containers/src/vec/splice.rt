@@ -130,9 +130,7 @@ impl<T: BitStore, O: BitOrder> BitVec<T, O> {
             return Ok(());
         }
         let extra = more - (end - start);
-        let Ok(()) = self.resize(len + extra, false) else {
-            return Err(GrowError::OutOfMemory);
-        };
+        self.resize(len + extra, false)?;
         self.copy_within(end..len, end + extra);
         self.write_bits(start, view);
         Ok(())

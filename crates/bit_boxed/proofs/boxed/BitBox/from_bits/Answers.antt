@@ -35,8 +35,8 @@ returns-then-len-eq-MAX_BITS-clause-too_long g c is =
       omega (arith, more, at.invariant.size, c.if-len-eq-MAX_BITS.true),
     )
 
-pub returns-in_default-clause-memory : goal.returns-in_default-clause-memory
-returns-in_default-clause-memory g c is =
+pub returns-in_err-push_bit_in_vec-clause-memory : goal.returns-in_err-push_bit_in_vec-clause-memory
+returns-in_err-push_bit_in_vec-clause-memory g c is =
     let at = c.loop-bit in
     let more = length_push at.yielded c.in-Some.bit in (
       c.into_iter-bit-iterator.result,
@@ -54,8 +54,8 @@ loop-bit-preserved g c =
     record {
       can = search rules;
       finite = search rules;
-      count = c.in-Ok.ensures.size;
-      row = c.in-Ok.ensures.bits ∙ one_more w (row g.T.BitStore g.O.BitOrder at.words.items) at.yielded at.len c.in-Some.bit (width_positive w g.met.T.BitStore.width) at.invariant.size at.invariant.row;
+      count = c.in_ok-push_bit_in_vec.ensures.size;
+      row = c.in_ok-push_bit_in_vec.ensures.bits ∙ one_more w (row g.T.BitStore g.O.BitOrder at.words.items) at.yielded at.len c.in-Some.bit (width_positive w g.met.T.BitStore.width) at.invariant.size at.invariant.row;
       size = length_push at.yielded c.in-Some.bit ∙ ap (λ n. n + 1) at.invariant.size;
       few = omega (arith, at.invariant.few, c.if-len-eq-MAX_BITS.false);
     }

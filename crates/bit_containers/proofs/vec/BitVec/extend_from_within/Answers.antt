@@ -1,5 +1,6 @@
 use Rattle.std.proofs.Common.{◌≡◌, ◌+◌, ◌-◌, ◌≤◌, ◌++◌, length, slice_range, sym, ◌∙◌, ap, arith, rules}
 use Rattle.std.proofs.Common.{vec_capacity}
+use Rattle.std.proofs.lemmas.Result.{err_from_is_err_and}
 use Rattle.bit_addressing.specs.Row.{put, sized, moved}
 use Rattle.bit_addressing.specs.Typed.{row}
 use Rattle.bit_addressing.proofs.lists.Shown.{length-between}
@@ -9,8 +10,8 @@ use Rattle.bit_containers.proofs.Clean.{clean_grown}
 use Rattle.bit_containers.proofs.Growing.{part_moved, part_joined, grew_by}
 use Rattle.bit_containers.proofs.vec.BitVec.extend_from_within.Goals as goal
 
-pub returns-in_default-clause-refusal : goal.returns-in_default-clause-refusal
-returns-in_default-clause-refusal g c =
+pub returns-in_err-resize_words_in_vec-clause-refusal : goal.returns-in_err-resize_words_in_vec-clause-refusal
+returns-in_err-resize_words_in_vec-clause-refusal g c =
     let i = c.self.inside in
     let w = g.T.BitStore.BITS in
     let now = c.args.self.now in
@@ -20,17 +21,18 @@ returns-in_default-clause-refusal g c =
     let end : c.normalize-range.result.end ≡ g.R.RangeExt.end_of c.args.range (length now.list) = c.normalize-range.ensures.end ∙ ap (g.R.RangeExt.end_of c.args.range) len in
     let start = c.normalize-range.ensures.start in
     let wanted : length now.list + (g.R.RangeExt.end_of c.args.range (length now.list) - g.R.RangeExt.start_of c.args.range) ≡ i.len + more = omega arith in
-    rw (wanted, ← c.self.view_is) (record {
+    let p = err_from_is_err_and c.from_residual.result c.from_residual.ensures.1 in
+    rw (p.1, p.2, wanted, ← c.self.view_is) (record {
       too_long = ((λ e. cc), (λ h. absurd (omega (arith, c.self.invariant.len_small, c.if-more-self.false))));
-      memory = λ _. no_room_for w (length i.words.items) (vec_capacity i.words) i.head i.len (i.len + more) (width_positive w g.met.T.BitStore.width) c.self.invariant least (omega arith) c.in_default.ensures.full;
-      unchanged = kept g.T.BitStore g.O.BitOrder i.words.items c.resize_words_in_vec.new.words.items i.head i.len _ _ c.in_default.ensures.unchanged;
+      memory = λ _. no_room_for w (length i.words.items) (vec_capacity i.words) i.head i.len (i.len + more) (width_positive w g.met.T.BitStore.width) c.self.invariant least (omega arith) c.in_err-resize_words_in_vec.ensures.full;
+      unchanged = kept g.T.BitStore g.O.BitOrder i.words.items c.resize_words_in_vec.new.words.items i.head i.len _ _ c.in_err-resize_words_in_vec.ensures.unchanged;
     })
 
 pub move_bits_in_vec-requires-clause-room : goal.move_bits_in_vec-requires-clause-room
 move_bits_in_vec-requires-clause-room g c =
     let i = c.self.inside in
     let w = g.T.BitStore.BITS in
-    few_words_for w i.head (i.len + (c.normalize-range.result.end - c.normalize-range.result.start)) (length c.resize_words_in_vec.new.words.items) (width_positive w g.met.T.BitStore.width) c.self.invariant.head_below (omega (arith, c.self.invariant.len_small, c.if-more-self.false)) c.in-Ok.ensures.size
+    few_words_for w i.head (i.len + (c.normalize-range.result.end - c.normalize-range.result.start)) (length c.resize_words_in_vec.new.words.items) (width_positive w g.met.T.BitStore.width) c.self.invariant.head_below (omega (arith, c.self.invariant.len_small, c.if-more-self.false)) c.in_ok-resize_words_in_vec.ensures.size
 
 pub returns-clause-list : goal.returns-clause-list
 returns-clause-list g c =
@@ -47,7 +49,7 @@ returns-clause-list g c =
     let o = c.requires.lies.0 in
     let h = c.requires.lies.1 in
     let behind : from + (upto - from) ≡ upto = omega arith in
-    ap (λ r. slice_range r i.head (i.head + (i.len + (upto - from)))) (c.move_bits_in_vec.ensures.bits ∙ ap (λ r. moved r (i.head + from) (i.head + i.len) (upto - from)) c.in-Ok.ensures.bits)
+    ap (λ r. slice_range r i.head (i.head + (i.len + (upto - from)))) (c.move_bits_in_vec.ensures.bits ∙ ap (λ r. moved r (i.head + from) (i.head + i.len) (upto - from)) c.in_ok-resize_words_in_vec.ensures.bits)
     ∙ part_joined w bits i.head i.len from (upto - from) (width_positive w g.met.T.BitStore.width) (omega arith) fits
     ∙ ap (λ v. v.list ++ slice_range v.list from (from + (upto - from))) c.self.view_is
     ∙ ap (λ n. now.list ++ slice_range now.list from n) (behind ∙ end) ∙ ap (λ n. now.list ++ slice_range now.list n (g.R.RangeExt.end_of c.args.range (length now.list))) start
@@ -70,7 +72,7 @@ returns-clause-row g c =
     let size : length (slice_range now.list (g.R.RangeExt.start_of c.args.range) (g.R.RangeExt.end_of c.args.range (length now.list))) ≡ upto - from =
     length-between now.list (g.R.RangeExt.start_of c.args.range) (g.R.RangeExt.end_of c.args.range (length now.list)) h ∙ (omega arith) in
     grew_by w now _ (slice_range now.list (g.R.RangeExt.start_of c.args.range) (g.R.RangeExt.end_of c.args.range (length now.list))) (ap (λ v. v.head) c.self.view_is) (returns-clause-list g c)
-    (c.move_bits_in_vec.ensures.bits ∙ ap (λ r. moved r (i.head + from) (i.head + i.len) (upto - from)) c.in-Ok.ensures.bits
+    (c.move_bits_in_vec.ensures.bits ∙ ap (λ r. moved r (i.head + from) (i.head + i.len) (upto - from)) c.in_ok-resize_words_in_vec.ensures.bits
     ∙ part_moved w bits i.head i.len from (upto - from) (width_positive w g.met.T.BitStore.width) (omega arith) fits
     ∙ ap (λ v. put (sized w v.row (v.head + i.len + (upto - from))) (v.head + i.len) (slice_range v.list from (from + (upto - from)))) c.self.view_is
     ∙ ap (λ n. put (sized w now.row (now.head + n + (upto - from))) (now.head + n) (slice_range now.list from (from + (upto - from)))) len

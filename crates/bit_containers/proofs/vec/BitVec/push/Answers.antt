@@ -1,4 +1,5 @@
 use Rattle.std.proofs.Common.{◌≡◌, ◌+◌, ◌<◌, [], ◌∷◌, ◌++◌, length, slice_range, refl, sym, ◌∙◌, ap, subst, arith}
+use Rattle.std.proofs.lemmas.Result.{err_from_is_err_and}
 use Rattle.bit_addressing.specs.Row.{words_for, put, sized}
 use Rattle.bit_addressing.specs.Typed.{row}
 use Rattle.bit_addressing.proofs.lists.Shown.{grown_shows}
@@ -9,13 +10,14 @@ use Rattle.bit_containers.specs.BitVec.{bits_in}
 use Rattle.bit_containers.proofs.Clean.{clean_joined}
 use Rattle.bit_containers.proofs.vec.BitVec.push.Goals as goal
 
-pub returns-in_default-clause-refusal : goal.returns-in_default-clause-refusal
-returns-in_default-clause-refusal g c =
+pub returns-in_err-push_bit_in_vec-clause-refusal : goal.returns-in_err-push_bit_in_vec-clause-refusal
+returns-in_err-push_bit_in_vec-clause-refusal g c =
     let i = c.self.inside in
-    let same = c.in_default.ensures.unchanged in
-    rw (← c.self.view_is, c.self.invariant.shows) (record {
+    let same = c.in_err-push_bit_in_vec.ensures.unchanged in
+    let p = err_from_is_err_and c.from_residual.result c.from_residual.ensures.1 in
+    rw (p.1, p.2, ← c.self.view_is, c.self.invariant.shows) (record {
       too_long = ((λ e. cc), (λ h. absurd (omega (arith, c.self.invariant.len_small, c.if-self-eq-MAX_BITS.false))));
-      memory = λ _. no_room g.T.BitStore.BITS (vec_capacity i.words) i.head (i.len + 1) (width_positive _ g.met.T.BitStore.width) (omega arith) (subst (λ b. vec_capacity i.words < words_for g.T.BitStore.BITS b) (omega arith) c.in_default.ensures.full);
+      memory = λ _. no_room g.T.BitStore.BITS (vec_capacity i.words) i.head (i.len + 1) (width_positive _ g.met.T.BitStore.width) (omega arith) (subst (λ b. vec_capacity i.words < words_for g.T.BitStore.BITS b) (omega arith) c.in_err-push_bit_in_vec.ensures.full);
       unchanged = kept g.T.BitStore g.O.BitOrder i.words.items c.push_bit_in_vec.new.words.items i.head i.len _ _ same;
     })
 
@@ -25,7 +27,7 @@ returns-clause-list g c =
     let w = g.T.BitStore.BITS in
     let bits = row g.T.BitStore g.O.BitOrder i.words.items in
     let fits = shown g.T.BitStore g.O.BitOrder i.words.items i.head i.len g.met.T.BitStore.width c.self.invariant in
-    ap (λ r. slice_range r i.head (i.head + (i.len + 1))) c.in-Ok.ensures.bits
+    ap (λ r. slice_range r i.head (i.head + (i.len + 1))) c.in_ok-push_bit_in_vec.ensures.bits
     ∙ grown_shows w bits (c.args.bit ∷ []) i.head i.len 1 (width_positive w g.met.T.BitStore.width) fits refl
     ∙ ap (λ v. v.list ++ c.args.bit ∷ []) c.self.view_is
 
@@ -35,11 +37,11 @@ returns-clause-clean g c =
     let w = g.T.BitStore.BITS in
     let len : i.len ≡ length c.args.self.now.list = sym c.self.invariant.shows ∙ ap (λ v. length v.list) c.self.view_is in
     clean_joined w c.args.self.now _ c.args.bit (width_positive w g.met.T.BitStore.width) (ap (λ v. v.head) c.self.view_is) (returns-clause-list g c)
-    (c.in-Ok.ensures.bits ∙ ap (λ v. put (sized w v.row (v.head + i.len + 1)) (v.head + i.len) (c.args.bit ∷ [])) c.self.view_is
+    (c.in_ok-push_bit_in_vec.ensures.bits ∙ ap (λ v. put (sized w v.row (v.head + i.len + 1)) (v.head + i.len) (c.args.bit ∷ [])) c.self.view_is
     ∙ ap (λ n. put (sized w c.args.self.now.row (c.args.self.now.head + n + 1)) (c.args.self.now.head + n) (c.args.bit ∷ [])) len)
 
-pub returns-in_default-clause-no_memory : goal.returns-in_default-clause-no_memory
-returns-in_default-clause-no_memory g c = λ h.
+pub returns-in_err-push_bit_in_vec-clause-no_memory : goal.returns-in_err-push_bit_in_vec-clause-no_memory
+returns-in_err-push_bit_in_vec-clause-no_memory g c = λ h.
     let i = c.self.inside in
     let w = g.T.BitStore.BITS in
     let few = subst (λ n. n < bits_in w (vec_capacity i.words) i.head) c.self.invariant.shows (subst (λ v. length v.list < v.capacity) (sym c.self.view_is) h) in

@@ -12,17 +12,17 @@ use Rattle.bit_containers.proofs.Vectors.{few_words_for}
 use Rattle.bit_containers.proofs.Growing.{some_bits, sized_false}
 use Rattle.bit_containers.proofs.vec.BitVec.repeat.Goals as goal
 
-pub returns-in_default-clause-memory : goal.returns-in_default-clause-memory
-returns-in_default-clause-memory g c _ =
+pub returns-in_err-resize_words_in_vec-clause-memory : goal.returns-in_err-resize_words_in_vec-clause-memory
+returns-in_err-resize_words_in_vec-clause-memory g c _ =
     let w = g.T.BitStore.BITS in
-    some_bits w c.args.n (width_positive w g.met.T.BitStore.width) (omega (arith, c.in_default.ensures.full))
+    some_bits w c.args.n (width_positive w g.met.T.BitStore.width) (omega (arith, c.in_err-resize_words_in_vec.ensures.full))
 
 pub overflow_mul-all : goal.overflow_mul-all
 overflow_mul-all g c =
     let w = g.T.BitStore.BITS in
     let positive = width_positive w g.met.T.BitStore.width in
     let small = width_small w g.met.T.BitStore.width in
-    let few = few_words_for w 0 c.args.n (length c.resize_words_in_vec.new.words.items) positive positive (omega (arith, c.if-n-gt-MAX_BITS.false)) (c.in-Ok.ensures.size ∙ ap (words_for w) (omega arith)) in
+    let few = few_words_for w 0 c.args.n (length c.resize_words_in_vec.new.words.items) positive positive (omega (arith, c.if-n-gt-MAX_BITS.false)) (c.in_ok-resize_words_in_vec.ensures.size ∙ ap (words_for w) (omega arith)) in
     let is : c.BITS.result * c.len.result ≡ w * length c.resize_words_in_vec.new.words.items = cc in
     rw is (omega arith)
 
@@ -35,17 +35,17 @@ returns-clause-row g c =
     let none : all - 0 ≡ all = omega arith in
     c.fill_bits_in_vec.ensures.bits
     ∙ put_all old (replicate (all - 0) c.args.bit) 0 refl (length-replicate (all - 0) c.args.bit ∙ none ∙ is ∙ sym (length_row g.T.BitStore.value g.O.BitOrder.place w c.resize_words_in_vec.new.words.items))
-    ∙ ap (λ n. replicate n c.args.bit) (none ∙ is ∙ ap (λ n. w * n) c.in-Ok.ensures.size)
+    ∙ ap (λ n. replicate n c.args.bit) (none ∙ is ∙ ap (λ n. w * n) c.in_ok-resize_words_in_vec.ensures.size)
 
 pub invariant_of-result : goal.invariant_of-result
 invariant_of-result g c =
     let w = g.T.BitStore.BITS in
     let positive = width_positive w g.met.T.BitStore.width in
-    let fits : 0 + c.args.n ≤ w * length c.fill_bits_in_vec.new.words.items = rw (c.fill_bits_in_vec.ensures.size) (omega (arith, c.in-Ok.ensures.room)) in
+    let fits : 0 + c.args.n ≤ w * length c.fill_bits_in_vec.new.words.items = rw (c.fill_bits_in_vec.ensures.size) (omega (arith, c.in_ok-resize_words_in_vec.ensures.room)) in
     record {
       head_below = positive;
       len_small = omega (arith, c.if-n-gt-MAX_BITS.false);
-      count = c.fill_bits_in_vec.ensures.size ∙ c.in-Ok.ensures.size ∙ ap (words_for w) (omega arith);
+      count = c.fill_bits_in_vec.ensures.size ∙ c.in_ok-resize_words_in_vec.ensures.size ∙ ap (words_for w) (omega arith);
       fits = fits;
       shows = shown_length g.T.BitStore g.O.BitOrder c.fill_bits_in_vec.new.words.items 0 c.args.n fits;
     }

@@ -1,6 +1,7 @@
 use Rattle.std.proofs.Common.{◌≡◌, ◌+◌, ◌-◌, ◌≤◌, ◌++◌, length, replicate, take, sym, ◌∙◌, ap, arith, rules}
 use Rattle.std.proofs.Common.{vec_capacity}
 use Rattle.std.proofs.lemmas.List.{length-replicate, take_all}
+use Rattle.std.proofs.lemmas.Result.{err_from_is_err_and}
 use Rattle.bit_addressing.specs.Row.{put, sized}
 use Rattle.bit_addressing.specs.Typed.{row}
 use Rattle.bit_addressing.proofs.lists.Shown.{resized_shows}
@@ -10,15 +11,16 @@ use Rattle.bit_containers.proofs.Vectors.{kept, shown, no_room_for}
 use Rattle.bit_containers.proofs.Clean.{clean_grown}
 use Rattle.bit_containers.proofs.vec.BitVec.resize.Goals as goal
 
-pub returns-in_default-clause-refusal : goal.returns-in_default-clause-refusal
-returns-in_default-clause-refusal g c =
+pub returns-in_err-resize_words_in_vec-clause-refusal : goal.returns-in_err-resize_words_in_vec-clause-refusal
+returns-in_err-resize_words_in_vec-clause-refusal g c =
     let i = c.self.inside in
     let w = g.T.BitStore.BITS in
     let least : length i.words.items ≤ vec_capacity i.words = search rules in
-    rw (← c.self.view_is) (record {
+    let p = err_from_is_err_and c.from_residual.result c.from_residual.ensures.1 in
+    rw (p.1, p.2, ← c.self.view_is) (record {
       too_long = ((λ e. cc), (λ h. absurd (omega arith)));
-      memory = λ _. no_room_for w (length i.words.items) (vec_capacity i.words) i.head i.len c.args.n (width_positive w g.met.T.BitStore.width) c.self.invariant least (omega arith) c.in_default.ensures.full;
-      unchanged = kept g.T.BitStore g.O.BitOrder i.words.items c.resize_words_in_vec.new.words.items i.head i.len _ _ c.in_default.ensures.unchanged;
+      memory = λ _. no_room_for w (length i.words.items) (vec_capacity i.words) i.head i.len c.args.n (width_positive w g.met.T.BitStore.width) c.self.invariant least (omega arith) c.in_err-resize_words_in_vec.ensures.full;
+      unchanged = kept g.T.BitStore g.O.BitOrder i.words.items c.resize_words_in_vec.new.words.items i.head i.len _ _ c.in_err-resize_words_in_vec.ensures.unchanged;
     })
 
 pub returns-clause-list : goal.returns-clause-list
@@ -26,7 +28,7 @@ returns-clause-list g c =
     let i = c.self.inside in
     let w = g.T.BitStore.BITS in
     let fits = shown g.T.BitStore g.O.BitOrder i.words.items i.head i.len g.met.T.BitStore.width c.self.invariant in
-    rw (← c.self.view_is, c.self.invariant.shows, c.fill_bits_in_vec.ensures.bits, c.in-Ok.ensures.bits)
+    rw (← c.self.view_is, c.self.invariant.shows, c.fill_bits_in_vec.ensures.bits, c.in_ok-resize_words_in_vec.ensures.bits)
     (resized_shows w (row g.T.BitStore g.O.BitOrder i.words.items) i.head i.len c.args.n c.args.bit (width_positive w g.met.T.BitStore.width) fits (omega arith))
 
 pub returns-clause-grew : goal.returns-clause-grew
@@ -45,9 +47,9 @@ returns-clause-grew g c longer =
     let more : i.head + n - (i.head + i.len) ≡ n - length now.list = omega arith in
     record {
       head = head;
-      len = shown_length g.T.BitStore g.O.BitOrder c.fill_bits_in_vec.new.words.items i.head n (rw (c.fill_bits_in_vec.ensures.size) c.in-Ok.ensures.room) ∙ whole;
+      len = shown_length g.T.BitStore g.O.BitOrder c.fill_bits_in_vec.new.words.items i.head n (rw (c.fill_bits_in_vec.ensures.size) c.in_ok-resize_words_in_vec.ensures.room) ∙ whole;
       row = c.fill_bits_in_vec.ensures.bits
-          ∙ ap (λ r. put r (i.head + i.len) (replicate (i.head + n - (i.head + i.len)) c.args.bit)) c.in-Ok.ensures.bits
+          ∙ ap (λ r. put r (i.head + i.len) (replicate (i.head + n - (i.head + i.len)) c.args.bit)) c.in_ok-resize_words_in_vec.ensures.bits
           ∙ ap (λ m. put (sized w old (i.head + n)) (i.head + i.len) (replicate m c.args.bit)) more
           ∙ ap (λ v. put (sized w v.row (v.head + n)) (v.head + i.len) ys) c.self.view_is
           ∙ ap (λ m. put (sized w now.row (now.head + n)) (now.head + m) ys) len

@@ -40,12 +40,8 @@ pub fn to_bytes<T: BitStore, O: BitOrder>(
     let words = copy.into_vec();
     let front = (bits.len() as u64).to_le_bytes();
     let mut bytes = Vec::new(alloc);
-    let Ok(()) = bytes.extend_from_slice(front.as_slice()) else {
-        return Err(GrowError::OutOfMemory);
-    };
-    let Ok(()) = bytes.extend_from_slice(words.as_slice()) else {
-        return Err(GrowError::OutOfMemory);
-    };
+    bytes.extend_from_slice(front.as_slice())?;
+    bytes.extend_from_slice(words.as_slice())?;
     Ok(bytes)
 }
 

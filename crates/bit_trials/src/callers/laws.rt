@@ -1,12 +1,12 @@
 //! Callers that make calls one after another, and know what both together leave.
-ghost use Rattle.std.specs.Prelude.{◌≡◌, ◌↔◌, ◌*◌, ◌≤◌, [], IsTrue, IfOk, OnOk, None, length};
+ghost use Rattle.std.specs.Prelude.{◌≡◌, ◌↔◌, ◌*◌, ◌≤◌, ◌++◌, ◌∷◌, [], IsTrue, IfOk, OnOk, None, drop, length, take};
 ghost use Rattle.std.specs.Box.{boxed_slice_items};
 ghost use Rattle.bit_addressing.specs.Row.{moved};
 ghost use Rattle.std.specs.declared.cmp.Ordering.TheVariants.{Equal};
 ghost use Rattle.bit_addressing.specs.declared.length.TheConstants.{MAX_BITS};
 
-use bit_containers::vec::IntoIter;
 use bit_containers::boxed::BitBox;
+use bit_containers::vec::IntoIter;
 use bit_containers::{
     BitOrder, BitStore, BitVec, Command, GrowError, IntoBitVec, Meter, Reply, Stop, run,
 };
@@ -121,10 +121,25 @@ pub fn cut_and_joined<T: BitStore, O: BitOrder>(
     requires { at ≤ length v.old.list }
     ensures { OnOk result (v.new.list ≡ v.old.list) }
 {
-    match v.split_off(at) {
-        Ok(mut rest) => v.append(&mut rest),
-        Err(_) => Err(GrowError::OutOfMemory),
-    }
+    let mut rest = v.split_off(at)?;
+    v.append(&mut rest)
+}
+
+/// A copy cut in two: the first part with one more bit, the second part through a box. Calls that fail with
+/// `AllocError` and calls that fail with `GrowError` stand in one function.
+pub fn copied_and_cut<T: BitStore, O: BitOrder>(
+    v: &BitVec<T, O>,
+    at: usize,
+    bit: bool,
+) -> Result<(BitVec<T, O>, BitVec<T, O>), GrowError>
+    requires { at ≤ length v.now.list }
+    ensures first { IfOk result (λ parts. parts.0.list ≡ take at v.now.list ++ bit ∷ []) }
+    ensures second { IfOk result (λ parts. parts.1.list ≡ drop at v.now.list) }
+{
+    let mut first = v.clone()?;
+    let second = first.split_off(at)?.into_boxed_bitslice()?.into_bitvec()?;
+    first.push(bit)?;
+    Ok((first, second))
 }
 
 /// A vector flipped twice has the same words, dead bits included.

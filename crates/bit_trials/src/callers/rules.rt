@@ -1,20 +1,6 @@
 //! Callers that need a rule of lists: the line at the head of this module switches the rules on.
-#![tactic(auto, using(
-    bit_addressing::proofs::lists::Shown::flipped_twice,
-    bit_slice::proofs::Parts::row_size,
-    bit_slice::specs::Comparisons::equal_lists,
-    bit_slice::proofs::Rules::and_with_itself,
-    bit_slice::proofs::Rules::and_with_true,
-    bit_slice::proofs::Rules::or_with_false,
-    bit_slice::proofs::Rules::xor_with_itself,
-    bit_slice::proofs::Rules::xor_twice,
-    bit_slice::proofs::Rules::not_of_and,
-    bit_slice::proofs::Rules::not_of_or,
-    bit_slice::proofs::Rules::item_of_and,
-    bit_slice::proofs::Rules::item_of_or,
-    bit_slice::proofs::Rules::item_of_xor,
-    bit_slice::proofs::Rules::item_of_not
-))]
+#![tactic(auto, using(bit_addressing::proofs::lists::Shown::flipped_twice, bit_slice::proofs::Parts::row_size, bit_slice::specs::Comparisons::equal_lists, bit_slice::proofs::Rules::and_with_itself, bit_slice::proofs::Rules::and_with_true, bit_slice::proofs::Rules::or_with_false, bit_slice::proofs::Rules::xor_with_itself, bit_slice::proofs::Rules::xor_twice, bit_slice::proofs::Rules::not_of_and, bit_slice::proofs::Rules::not_of_or, bit_slice::proofs::Rules::item_of_and, bit_slice::proofs::Rules::item_of_or, bit_slice::proofs::Rules::item_of_xor, bit_slice::proofs::Rules::item_of_not))]
+
 ghost use Rattle.std.specs.Prelude.{◌≡◌, ◌↔◌, ◌+◌, ◌*◌, ◌<◌, ◌≤◌, IsTrue, IfOk, Some, true, false, not, map, length, replicate, count_by, slice_get};
 ghost use Rattle.bit_slice.specs.Operators.{and_of, or_of};
 

@@ -1,4 +1,4 @@
-//! Callers that know what they get from the contracts alone: none of them has a proof file.
+//! Callers that know what they get from the contracts alone: none of them has an answer, and one loop has an invariant.
 
 mod bits;
 mod growing;

@@ -4,8 +4,12 @@ use Rattle.std.specs.Fmt.{digits}
 use Rattle.bit_containers.specs.declared.machine.Command.TheVariants.{Get, Insert}
 use Rattle.bitrun.specs.declared.parsing.Line.TheVariants.{Run}
 use Rattle.bitrun.specs.declared.replying.Ending.TheVariants.{Finished, BadCommand, TooLong, NoMemory, ReadFailed}
+use Rattle.bitrun.specs.declared.parsing.TheConstants.{MAX_LINE}
 use Rattle.bitrun.specs.Line.{line_of}
 use Rattle.bitrun.specs.Script.{transcript, script_replies, script_ending, ending_at, ending_text, ending_status}
+
+longest_line : MAX_LINE ≡ 100
+longest_line = refl
 
 first_run : transcript (codes "push 0" ++ 10 ∷ codes "push 1" ++ 10 ∷ codes "get 5" ++ 10 ∷ codes "pop" ++ 10 ∷ [])
     ≡ codes "ok" ++ 10 ∷ codes "ok" ++ 10 ∷ codes "range" ++ 10 ∷ codes "1" ++ 10 ∷ []

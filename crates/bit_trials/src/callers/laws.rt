@@ -1,10 +1,12 @@
 //! Callers that make calls one after another, and know what both together leave.
 ghost use Rattle.std.specs.Prelude.{◌≡◌, ◌↔◌, ◌*◌, ◌≤◌, ◌++◌, ◌∷◌, [], IsTrue, IfOk, OnOk, None, drop, length, take};
 ghost use Rattle.std.specs.Box.{boxed_slice_items};
-ghost use Rattle.bit_addressing.specs.Row.{moved};
+ghost use Rattle.bit_addressing.specs.Row.{moved, touched};
+ghost use Rattle.bit_addressing.specs.Typed.{row};
 ghost use Rattle.std.specs.declared.cmp.Ordering.TheVariants.{Equal};
 ghost use Rattle.bit_addressing.specs.declared.length.TheConstants.{MAX_BITS};
 
+use bit_containers::array::{BitArray, BitViewSized};
 use bit_containers::boxed::BitBox;
 use bit_containers::vec::IntoIter;
 use bit_containers::{
@@ -95,6 +97,28 @@ pub fn closed_up<O: BitOrder>(v: &mut BitVec<u8, O>) -> Meter
     ensures reads { result.reads ≤ 6 }
 {
     v.copy_within_counted(8..24, 0)
+}
+
+/// Like `closed_up`, of a box.
+pub fn closed_up_in_a_box<O: BitOrder>(b: &mut BitBox<u8, O>) -> Meter
+    requires aligned { b.old.head ≡ 0 }
+    requires size { length b.old.list ≡ 24 }
+    ensures list { b.new.list ≡ moved b.old.list 8 0 16 }
+    ensures row { b.new.row ≡ moved b.old.row 8 0 16 }
+    ensures writes { result.writes ≤ 2 }
+    ensures reads { result.reads ≤ 6 }
+{
+    b.copy_within_counted(8..24, 0)
+}
+
+/// Like `closed_up`, of an array, whose row is its list.
+pub fn closed_up_in_an_array<A: BitViewSized, O: BitOrder>(a: &mut BitArray<A, O>) -> Meter
+    requires { 24 ≤ A.Store.BITS * A.count }
+    ensures list { row A.Store.BitStore O.BitOrder (A.words a.new) ≡ moved (row A.Store.BitStore O.BitOrder (A.words a.old)) 8 0 16 }
+    ensures writes { result.writes ≤ touched A.Store.BITS 0 16 }
+    ensures reads { result.reads ≤ 3 * touched A.Store.BITS 0 16 }
+{
+    a.copy_within_counted(8..24, 0)
 }
 
 /// Words that are taken in come out again.

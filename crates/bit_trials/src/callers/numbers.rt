@@ -1,5 +1,6 @@
 //! Callers that read and write numbers in binary: the line at the head of this module names what computes.
 #![tactic(auto, unfolding(bit_addressing::specs::Row::binary))]
+
 ghost use Rattle.std.specs.Prelude.{◌≡◌, ◌+◌, ◌≤◌, ◌<◌, ◌^◌, IfOk, OnOk, true, false, [], ◌∷◌, length};
 
 use bit_containers::{BitOrder, BitStore, BitVec, GrowError, Msb0};

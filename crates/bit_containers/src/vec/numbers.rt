@@ -65,9 +65,7 @@ impl<T: BitStore, O: BitOrder> BitVec<T, O> {
             return Err(GrowError::TooLong);
         }
         let (end, len) = (self.head + self.len, self.len + more);
-        let Ok(()) = resize_words_in_vec::<T, O>(&mut self.words, self.head + len) else {
-            return Err(GrowError::OutOfMemory);
-        };
+        resize_words_in_vec::<T, O>(&mut self.words, self.head + len)?;
         write_binary_in_vec::<T, O>(&mut self.words, end, n, number);
         self.len = len;
         Ok(())

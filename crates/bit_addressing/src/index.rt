@@ -42,7 +42,7 @@ impl<T: BitStore> BitIdx<T> {
         }
     }
 
-    /// The index `n`, without a test. The condition: `n` is below `T::BITS`.
+    /// The index `n`, without a test. Requires that `n` is below `T::BITS`.
     pub fn new_unchecked(n: u8) -> Self
         requires { n < T.BITS }
         ensures { result ≡ n }
@@ -103,7 +103,7 @@ impl<T: BitStore> BitEnd<T> {
         }
     }
 
-    /// The end `n`, without a test. The condition: `n` is at most `T::BITS`.
+    /// The end `n`, without a test. Requires that `n` is at most `T::BITS`.
     pub fn new_unchecked(n: u8) -> Self
         requires { n ≤ T.BITS }
         ensures { result ≡ n }
@@ -164,7 +164,7 @@ impl<T: BitStore> BitPos<T> {
         }
     }
 
-    /// The place `n`, without a test. The condition: `n` is below `T::BITS`.
+    /// The place `n`, without a test. Requires that `n` is below `T::BITS`.
     pub fn new_unchecked(n: u8) -> Self
         requires { n < T.BITS }
         ensures { result ≡ n }

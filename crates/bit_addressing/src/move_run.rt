@@ -99,7 +99,7 @@ fn shift_down<T: BitStore, O: BitOrder>(
     }
 }
 
-/// As `shift_down`, to words that lie higher: the last one goes first.
+/// Like `shift_down`, to words that lie higher: the last one goes first.
 #[inline(always)]
 fn shift_up<T: BitStore, O: BitOrder>(
     row: &mut WordRow<T>,
@@ -156,8 +156,8 @@ fn shift_words<T: BitStore, O: BitOrder>(
     }
 }
 
-/// As `shift_words`, of bytes. A processor shifts bytes side by side by a number that the compiler knows, so each
-/// index has loops of its own.
+/// Like `shift_words`, of bytes. A processor shifts bytes side by side by a number that the compiler knows, so
+/// each index has loops of its own.
 fn shift_bytes<T: BitStore, O: BitOrder>(
     row: &mut WordRow<T>,
     begin: usize,
@@ -187,8 +187,8 @@ fn shift_bytes<T: BitStore, O: BitOrder>(
     }
 }
 
-/// Moves the bits from `from` on to the `count` whole words from word `first` on. The condition: the row
-/// has one bit more behind those that are moved.
+/// Moves the bits from `from` on to the `count` whole words from word `first` on. Requires that the row
+/// has one bit more after those that are moved.
 #[inline(always)]
 pub(crate) fn move_words<T: BitStore, O: BitOrder>(
     row: &mut WordRow<T>,

@@ -32,7 +32,7 @@ pub trait BitOrder {
     fn at<T: BitStore>(i: BitIdx<T>) -> BitPos<T>
         ensures { result ≡ place T.BITS i };
 
-    /// The word whose set bits are those at the indices `from..upto`. The condition: `from` is at most `upto`.
+    /// The word whose set bits are those at the indices `from..upto`. Requires that `from` is at most `upto`.
     fn mask<T: BitStore>(from: BitIdx<T>, upto: BitEnd<T>) -> T
         requires { from ≤ upto }
         ensures { (i : ℕ) → i < T.BITS → has_bit (T.value result) (place T.BITS i) ≡ (leb from i && ltb i upto) }
@@ -69,7 +69,7 @@ pub trait BitOrder {
         made
     }
 
-    /// Bit `j` of two words one after the other. The condition: `j` is below twice `T::BITS`.
+    /// Bit `j` of two words one after the other. Requires that `j` is below twice `T::BITS`.
     #[inline(always)]
     fn bit_of_pair<T: BitStore>(low: T, high: T, j: u8) -> bool
         requires { j < 2 * T.BITS }
@@ -94,7 +94,7 @@ pub trait BitOrder {
         Self::with_run(T::ZERO, low, high, at, from, upto)
     }
 
-    /// As `window`, as a number: the word whose place `i` has bit `at + i` of the two words.
+    /// Like `window`, as a number: the word whose place `i` has bit `at + i` of the two words.
     fn window_lsb0<T: BitStore>(low: T, high: T, at: BitIdx<T>) -> T
         ensures { (i : ℕ) → i < T.BITS → has_bit (T.value result) i ≡ row_bit place T.BITS (T.value low ∷ T.value high ∷ []) (at + i) }
     {
@@ -107,7 +107,7 @@ pub trait BitOrder {
     }
 
     /// `old` with its bits at the indices `from..upto` replaced: that at index `i` is bit `at + i` of the
-    /// two words one after the other. The condition: `from` is at most `upto`.
+    /// two words one after the other. Requires that `from` is at most `upto`.
     fn with_run<T: BitStore>(
         old: T,
         low: T,
@@ -128,7 +128,7 @@ pub trait BitOrder {
         word
     }
 
-    /// The word whose bits are the first of a word that may be wider. The condition: it is not narrower.
+    /// The word whose bits are the first of a word that may be wider. Requires that it is not narrower.
     fn front<T: BitStore, U: BitStore>(word: U) -> T
         requires { T.BITS ≤ U.BITS }
         ensures { (i : ℕ) → i < T.BITS → has_bit (T.value result) (place T.BITS i) ≡ has_bit (U.value word) (place U.BITS i) }
@@ -136,8 +136,8 @@ pub trait BitOrder {
         Self::from_lsb0(T::from_u64(Self::to_lsb0(word).to_u64()))
     }
 
-    /// The 64 bits from word `k` on as one word, in the same order.
-    /// The condition: the words hold them.
+    /// The 64 bits from word `k` on as one word, in the same order. Requires that the words hold
+    /// them.
     fn pack<T: BitStore>(words: &[T], k: usize) -> u64
         requires { k * T.BITS + 64 ≤ T.BITS * length words.now }
         ensures { row_of place 64 (result ∷ []) ≡ slice_range (row_of place T.BITS (map T.value words.now)) (k * T.BITS) (k * T.BITS + 64) }
@@ -151,7 +151,7 @@ pub trait BitOrder {
 
     /// Moves the `n` bits from `src` on to the places from `dst` on, as if they were copied out first: the
     /// two runs may overlap. No other bit changes, and no more words are written than have a bit of the
-    /// target. The condition: both runs lie in the row.
+    /// target. Requires that both runs lie in the row.
     #[inline(always)]
     final fn move_run<T: BitStore>(row: &mut WordRow<T>, src: usize, dst: usize, n: usize)
         requires source { src + n ≤ T.BITS * length row.old.words.now }

@@ -17,14 +17,14 @@ pub trait RangeExt: Drop {
     // The first index.
     ghost start_of: { Self → ℕ };
 
-    // The index behind the last, in a list of a length.
+    // The index after the last, in a list of a length.
     ghost end_of: { Self → ℕ → ℕ };
 
     /// Whether the range's start is at most its end, and its end at most `len`.
     fn lies_in(&self, len: usize) -> bool
         ensures { IsTrue result ↔ LiesIn (start_of self.now) (end_of self.now len) len };
 
-    /// The range with both its ends. The condition: it lies in `len`.
+    /// The range with both its ends. Requires that it lies in `len`.
     fn normalize(self, len: usize) -> Range<usize>
         requires lies { LiesIn (start_of self) (end_of self len) len }
         ensures start { result.start ≡ start_of self }

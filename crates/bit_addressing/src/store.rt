@@ -46,24 +46,24 @@ pub trait BitStore: Copy + Drop {
     fn not(self) -> Self
         ensures { (p : ℕ) → p < BITS → has_bit (value result) p ≡ not (has_bit (value self) p) };
 
-    /// Moves the bits up by `count` places, and clears the places below. The condition: `count` is below `BITS`.
+    /// Moves the bits up by `count` places, and clears the places below. Requires that `count` is below `BITS`.
     fn shl(self, count: u8) -> Self
         requires { count < BITS }
         ensures low { (p : ℕ) → p < count → has_bit (value result) p ≡ false }
         ensures high { (p : ℕ) → count ≤ p → p < BITS → has_bit (value result) p ≡ has_bit (value self) (p - count) };
 
-    /// Moves the bits down by `count` places, and clears the places above. The condition: `count` is below `BITS`.
+    /// Moves the bits down by `count` places, and clears the places above. Requires that `count` is below `BITS`.
     fn shr(self, count: u8) -> Self
         requires { count < BITS }
         ensures low { (p : ℕ) → p + count < BITS → has_bit (value result) p ≡ has_bit (value self) (p + count) }
         ensures high { (p : ℕ) → BITS ≤ p + count → has_bit (value result) p ≡ false };
 
-    /// The bit at a place. The condition: `place` is below `BITS`.
+    /// The bit at a place. Requires that `place` is below `BITS`.
     fn bit(self, place: u8) -> bool
         requires { place < BITS }
         ensures { result ≡ has_bit (value self) place };
 
-    /// The word with `bit` written at a place, and its other bits kept. The condition: `place` is below `BITS`.
+    /// The word with `bit` written at a place, and its other bits kept. Requires that `place` is below `BITS`.
     fn with_bit(self, place: u8, bit: bool) -> Self
         requires { place < BITS }
         ensures { (p : ℕ) → p < BITS → has_bit (value result) p ≡ (if eqb p place then bit else has_bit (value self) p) };

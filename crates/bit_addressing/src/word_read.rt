@@ -7,7 +7,7 @@ use crate::store::BitStore;
 /// Words that are lent for reading, with a meter of its own that counts each word read.
 ///
 /// It is as a `WordRow` that cannot write. It is not `Clone`: a second one would have a meter of its
-/// own, and what it reads would not be counted on the first. In contracts it has its words behind
+/// own, and what it reads would not be counted on the first. In contracts it has its words in
 /// `words`, and the count `meter.reads`.
 #[derive(Drop)]
 pub struct WordRead<'a, T: BitStore> {
@@ -27,7 +27,7 @@ impl<'a, T: BitStore> WordRead<'a, T> {
         }
     }
 
-    /// Word `k`, and one read more. The condition: `k` is below the number of words.
+    /// Word `k`, and one read more. Requires that `k` is below the number of words.
     pub fn load(&mut self, k: usize) -> T
         requires { k < length self.old.words.now }
         ensures word { slice_get self.old.words.now k ≡ Some result }

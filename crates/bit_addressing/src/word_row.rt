@@ -8,8 +8,8 @@ use crate::store::BitStore;
 /// Words that are lent, with a meter of its own that counts each word read and written.
 ///
 /// Nothing else reaches the words while it lasts, and nothing else reaches the meter: so what a
-/// contract says of the counts holds of every access. In contracts a row has its words behind
-/// `words`, and the counts `meter.reads` and `meter.writes`.
+/// contract says of the counts holds of every access. In contracts a row has its words in `words`,
+/// and the counts `meter.reads` and `meter.writes`.
 #[derive(Drop)]
 pub struct WordRow<'a, T: BitStore> {
     words: &'a mut [T],
@@ -18,7 +18,7 @@ pub struct WordRow<'a, T: BitStore> {
 }
 
 impl<'a, T: BitStore> WordRow<'a, T> {
-    /// These words, with the meter at 0. The condition: they have at most `MAX_BITS + 2 * T::BITS` bits.
+    /// These words, with the meter at 0. Requires that they have at most `MAX_BITS + 2 * T::BITS` bits.
     pub fn new(words: &'a mut [T]) -> WordRow<'a, T>
         requires { T.BITS * length words.old ≤ MAX_BITS + 2 * T.BITS }
         ensures same_words { result.words.ghost_name ≡ words.entry.ghost_name }
@@ -39,7 +39,7 @@ impl<'a, T: BitStore> WordRow<'a, T> {
         T::BITS as usize * self.words.len()
     }
 
-    /// Word `k`, and one read more. The condition: `k` is below the number of words.
+    /// Word `k`, and one read more. Requires that `k` is below the number of words.
     pub fn load(&mut self, k: usize) -> T
         requires { k < length self.old.words.now }
         ensures word { slice_get self.old.words.now k ≡ Some result }
@@ -53,7 +53,7 @@ impl<'a, T: BitStore> WordRow<'a, T> {
         self.words[k]
     }
 
-    /// Makes word `k` this one, and one write more. The condition: `k` is below the number of words.
+    /// Makes word `k` this one, and one write more. Requires that `k` is below the number of words.
     pub fn store(&mut self, k: usize, word: T)
         requires { k < length self.old.words.now }
         ensures same_words { self.new.words.ghost_name ≡ self.old.words.ghost_name }

@@ -58,7 +58,7 @@ impl<A: BitWords, O: BitOrder> BitArray<A, O> {
         A::count() <= MAX_BITS / A::Store::BITS as usize
     }
 
-    /// All bits false. The condition: they are at most `MAX_BITS`, as `fits` tests.
+    /// All bits false. Requires that they are at most `MAX_BITS`, as `fits` tests.
     pub fn zero() -> Self
         requires { A.Store.BITS * A.count ≤ MAX_BITS }
         ensures words { A.words result ≡ replicate A.count A.Store.ZERO }
@@ -70,7 +70,7 @@ impl<A: BitWords, O: BitOrder> BitArray<A, O> {
         }
     }
 
-    /// The bits of these words, which are kept as they are. The condition: they are at most `MAX_BITS`, as
+    /// The bits of these words, which are kept as they are. Requires that they are at most `MAX_BITS`, as
     /// `fits` tests.
     pub fn new(inner: A) -> Self
         requires { A.Store.BITS * A.count ≤ MAX_BITS }

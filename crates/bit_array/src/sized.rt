@@ -8,7 +8,7 @@ ghost use Rattle.bit_array.specs.Sized.{lends_words, one_kept};
 use bit_addressing::BitStore;
 use std::slice;
 
-/// A fixed number of words that lie one behind the other: a word, or `[T; N]` with any `N`.
+/// A fixed number of words that lie one after another: a word, or `[T; N]` with any `N`.
 ///
 /// Nothing takes memory.
 pub trait BitWords: Copy {

@@ -30,8 +30,8 @@ pub use iter::IntoIter;
 /// A fixed number of truth values, one bit each, in words of type `T` that it owns, in the order `O` of the
 /// bits in a word.
 ///
-/// Its bits begin at the head, an index below the bits of a word, and lie one behind the other. The first
-/// words that they take are the visible ones; it may own words behind them, and all its other bits are dead.
+/// Its bits begin at the head, an index below the bits of a word, and lie one after another. The first words
+/// that they take are the visible ones; it may own words after them, and all its other bits are dead.
 ///
 /// In contracts a box `b` is all its words `b.words`, their bits in a row `b.row`, the head `b.head` and the
 /// list `b.list`.
@@ -83,7 +83,7 @@ impl<T: BitStore, O: BitOrder> BitBox<T, O> {
         }
     }
 
-    // As `from_parts`, which always succeeds.
+    // Like `from_parts`, which always succeeds.
     fn of_parts(words: Vec<T>, head: usize, len: usize) -> Self
         requires in_word { head < T.BITS }
         requires few { len ≤ MAX_BITS }
@@ -99,7 +99,7 @@ impl<T: BitStore, O: BitOrder> BitBox<T, O> {
         Self::kept(words, head, len)
     }
 
-    // As `of_parts`, with all the memory that the vector has.
+    // Like `of_parts`, with all the memory that the vector has.
     pub(crate) fn kept(words: Vec<T>, head: usize, len: usize) -> Self
         requires in_word { head < T.BITS }
         requires few { len ≤ MAX_BITS }
@@ -130,7 +130,7 @@ impl<T: BitStore, O: BitOrder> BitBox<T, O> {
     }
 
     /// These words with a head and a length. Memory that no word takes is given back, and it always succeeds.
-    /// The condition: the head is in the first word, the words are exactly as many as it takes, and the bits
+    /// Requires that the head is in the first word, the words are exactly as many as it takes, and the bits
     /// at most `MAX_BITS`.
     pub fn from_parts(words: Vec<T>, head: usize, len: usize) -> Result<Self, AllocError>
         requires in_word { head < T.BITS }
@@ -146,7 +146,7 @@ impl<T: BitStore, O: BitOrder> BitBox<T, O> {
         Ok(Self::of_parts(words, head, len))
     }
 
-    /// All bits of these words, which are kept: head 0. Takes no memory. The condition: they are at most
+    /// All bits of these words, which are kept: head 0. Takes no memory. Requires that they are at most
     /// `MAX_BITS` bits.
     pub fn from_boxed_slice(words: BoxedSlice<T>) -> Self
         requires { T.BITS * length (boxed_slice_items words) ≤ MAX_BITS }
@@ -160,8 +160,8 @@ impl<T: BitStore, O: BitOrder> BitBox<T, O> {
         Self::of_words(words.into_vec())
     }
 
-    /// As `from_boxed_slice`, with no condition: it hands the words back exactly where they have more than
-    /// `MAX_BITS` bits. Takes no memory.
+    /// Like `from_boxed_slice`, with no condition: it hands the words back exactly where they have more
+    /// than `MAX_BITS` bits. Takes no memory.
     pub fn try_from_boxed_slice(words: BoxedSlice<T>) -> Result<Self, BoxedSlice<T>>
         ensures words { IfOk result (λ b. b.words ≡ boxed_slice_items words) }
         ensures row { IfOk result (λ b. b.row ≡ row T.BitStore O.BitOrder (boxed_slice_items words)) }
@@ -244,8 +244,8 @@ impl<T: BitStore, O: BitOrder> BitBox<T, O> {
     }
 
     /// The bits that an iterator gives before its first None, from head 0 on: the words are canonical. It pulls
-    /// nothing after that None. It answers `TooLong` at the first bit with which the length would pass `MAX_BITS`,
-    /// and `OutOfMemory` only where there is a bit, and no more than `MAX_BITS` were pulled; then it pulls no more.
+    /// nothing after that None. Returns `TooLong` at the first bit with which the length would pass `MAX_BITS`, and
+    /// `OutOfMemory` only where there is a bit, and no more than `MAX_BITS` were pulled; then it pulls no more.
     /// What was pulled is gone.
     pub fn from_bits<I: IntoIterator<Item = bool>>(
         alloc: Global,

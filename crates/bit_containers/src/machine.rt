@@ -9,7 +9,7 @@ use bit_addressing::{BitOrder, BitStore, GrowError};
 /// What to do to a list of bits.
 #[derive(Clone, Copy, PartialEq, Eq, Debug)]
 pub enum Command {
-    /// Joins a bit.
+    /// Appends a bit.
     Push(bool),
     /// Takes the last bit.
     Pop,
@@ -31,7 +31,7 @@ pub enum Command {
     Resize(usize, bool),
     /// Makes room for so many bits more.
     Reserve(usize),
-    /// Joins the range from the first index to the second once more.
+    /// Appends the range from the first index to the second once more.
     ExtendWithin(usize, usize),
     /// Takes out the range from the first index to the second, and asks how many of its bits are true.
     Drain(usize, usize),
@@ -187,7 +187,7 @@ fn splice_at<T: BitStore, O: BitOrder>(
     }
 }
 
-/// Drops what is behind an index, where it is at most the length.
+/// Drops what follows an index, where it is at most the length.
 fn split_at<T: BitStore, O: BitOrder>(v: &mut BitVec<T, O>, at: usize) -> Result<Reply, GrowError>
     ensures reply { IfOk result (λ reply. reply ≡ reply_to v.old.list (Command.SplitOff at)) }
     ensures head { v.new.head ≡ v.old.head }
@@ -207,7 +207,7 @@ fn split_at<T: BitStore, O: BitOrder>(v: &mut BitVec<T, O>, at: usize) -> Result
     }
 }
 
-/// Joins a range once more, where it is one of the list.
+/// Appends a range once more, where it is one of the list.
 fn extend_at<T: BitStore, O: BitOrder>(
     v: &mut BitVec<T, O>,
     from: usize,

@@ -40,7 +40,7 @@ pub use splice::Splice;
 /// A vector of truth values, one bit each, in words of type `T`, in the order `O` of the bits in a word.
 ///
 /// It grows and shrinks like a `Vec<bool>`. Its bits begin at the head, an index below the bits of a
-/// word, and lie one behind the other in exactly the words that it takes for them: the visible words.
+/// word, and lie one after another in exactly the words that it takes for them: the visible words.
 /// The other bits of those words are dead.
 ///
 /// In contracts a vector `v` is its visible words `v.words`, their bits in a row `v.row`, the head
@@ -92,7 +92,7 @@ impl<T: BitStore, O: BitOrder> BitVec<T, O> {
         }
     }
 
-    /// As `new`.
+    /// Like `new`.
     pub fn empty(alloc: Global) -> Self
         ensures words { result.words ≡ [] }
         ensures row { result.row ≡ [] }
@@ -104,7 +104,7 @@ impl<T: BitStore, O: BitOrder> BitVec<T, O> {
         Self::new(alloc)
     }
 
-    /// The empty vector, with room for `n` bits. It answers `TooLong` exactly where they pass `MAX_BITS`,
+    /// The empty vector, with room for `n` bits. Returns `TooLong` exactly where they pass `MAX_BITS`,
     /// and takes no memory for no bit.
     pub fn with_capacity(alloc: Global, n: usize) -> Result<Self, GrowError>
         ensures words { IfOk result (λ v. v.words ≡ []) }
@@ -120,7 +120,7 @@ impl<T: BitStore, O: BitOrder> BitVec<T, O> {
         Ok(v)
     }
 
-    /// The list of `n` times `bit`, from head 0 on: all bits of the words are `bit`, dead ones too. It answers
+    /// The list of `n` times `bit`, from head 0 on: all bits of the words are `bit`, dead ones too. Returns
     /// `TooLong` exactly where they pass `MAX_BITS`, and takes no memory for no bit.
     pub fn repeat(alloc: Global, bit: bool, n: usize) -> Result<Self, GrowError>
         ensures head { IfOk result (λ v. v.head ≡ 0) }
@@ -153,7 +153,7 @@ impl<T: BitStore, O: BitOrder> BitVec<T, O> {
         words <= MAX_BITS / T::BITS as usize
     }
 
-    /// All bits of these words, which are kept: head 0. Takes no memory. The condition: they fit, as `fits` tests.
+    /// All bits of these words, which are kept: head 0. Takes no memory. Requires that they fit, as `fits` tests.
     pub fn from_vec(words: Vec<T>) -> Self
         requires { T.BITS * length words.items ≤ MAX_BITS }
         ensures words { result.words ≡ words.items }
@@ -188,7 +188,7 @@ impl<T: BitStore, O: BitOrder> BitVec<T, O> {
     }
 
     /// All bits of these words, which are copied: head 0. Takes memory where there is a word, and is refused
-    /// only then. The condition: they fit, as `fits` tests.
+    /// only then. Requires that they fit, as `fits` tests.
     pub fn from_slice(alloc: Global, words: &[T]) -> Result<Self, AllocError>
         requires { T.BITS * length words.now ≤ MAX_BITS }
         ensures words { IfOk result (λ v. v.words ≡ words.now) }
@@ -204,7 +204,8 @@ impl<T: BitStore, O: BitOrder> BitVec<T, O> {
         Ok(Self::from_vec(copied))
     }
 
-    /// As `from_slice`, with no condition: it answers `TooLong` exactly where the words don't fit.
+    /// Like `from_slice`, with no condition: it returns `TooLong` exactly where the words don't
+    /// fit.
     pub fn try_from_slice(alloc: Global, words: &[T]) -> Result<Self, GrowError>
         ensures words { IfOk result (λ v. v.words ≡ words.now) }
         ensures head { IfOk result (λ v. v.head ≡ 0) }

@@ -77,7 +77,7 @@ fn step<B: Bits>(bits: &mut B, command: FixedCommand) -> Reply
 
 /// Does the commands in order, and appends a reply for each.
 ///
-/// Memory for all replies is taken first: where it is wanting the run stops with `done` 0 and `OutOfMemory`,
+/// Memory for all replies is taken first: where it is refused the run stops with `done` 0 and `OutOfMemory`,
 /// and nothing is done. No command stops it: one whose index or range is out of range replies `OutOfRange`,
 /// and the list stays. A run without commands takes no memory and is Ok. The room of the container stays.
 pub fn run_fixed<B: Bits>(

@@ -11,8 +11,7 @@ use std::marker::PhantomData;
 /// A run of bits in borrowed words, for reading, whose reads of words are counted.
 ///
 /// Its words are reached through a `WordRead` alone, so the meter counts every word that a call reads.
-/// It is not `Clone`. In contracts the words are behind `row.words`, and the count is
-/// `row.meter.reads`.
+/// It is not `Clone`. In contracts the words are in `row.words`, and the count is `row.meter.reads`.
 #[derive(Drop)]
 pub struct Counted<'a, T: BitStore, O: BitOrder> {
     row: WordRead<'a, T>,
@@ -96,7 +95,7 @@ impl<'a, T: BitStore, O: BitOrder> Counted<'a, T, O> {
     }
 }
 
-// The first place of `head..end` in word `k` or behind it.
+// The first place of `head..end` in word `k` or after it.
 fn begin_of<T: BitStore>(head: usize, end: usize, k: usize) -> usize
     requires { T.BITS * k < 2 ^ 64 }
     ensures { result ≡ min end (max head (T.BITS * k)) }

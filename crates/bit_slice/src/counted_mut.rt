@@ -45,7 +45,7 @@ impl<'a, T: BitStore, O: BitOrder> CountedMut<'a, T, O> {
         }
     }
 
-    /// As `BitSliceMut::from_parts_mut`, with the meter at 0.
+    /// Like `BitSliceMut::from_parts_mut`, with the meter at 0.
     pub fn from_parts_mut(words: &'a mut [T], head: usize, len: usize) -> Self
         requires in_word { head < T.BITS }
         requires few { len ≤ MAX_BITS }
@@ -84,9 +84,9 @@ impl<'a, T: BitStore, O: BitOrder> CountedMut<'a, T, O> {
         self.head
     }
 
-    /// Copies the bits at a range of indices on to the indices from `dest` on, as if they were copied
-    /// out first: the two runs may overlap. No other bit changes, no more words are written than have a
-    /// bit of the target, and at most three times as many are read. The condition: both runs lie in the view's length.
+    /// Copies the bits at a range of indices on to the indices from `dest` on, as if they were copied out first: the
+    /// two runs may overlap. No other bit changes, no more words are written than have a bit of the target, and at
+    /// most three times as many are read. Requires that both runs lie in the view's length.
     pub fn copy_within_counted<R: RangeExt>(&mut self, range: R, dest: usize)
         requires lies { LiesIn (R.start_of range) (R.end_of range (len_of self.old)) (len_of self.old) }
         requires target { dest + (R.end_of range (len_of self.old) - R.start_of range) ≤ len_of self.old }

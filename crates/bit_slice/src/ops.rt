@@ -54,7 +54,7 @@ fn first_difference<T: BitStore, O: BitOrder, U: BitStore, P: BitOrder>(
 
 /// Does nothing: the laws of the order of lists of bits. It is the same from either side, and total
 /// with it; two lists are `Equal` exactly where they are one list; false comes before true at the first
-/// items that differ, and a list before each that goes on behind it.
+/// items that differ, and a list before each that goes on after it.
 pub fn order_of_bits()
     ensures sides { SameFromEitherSide }
     ensures equal { EqualWhereEqual }
@@ -64,7 +64,7 @@ pub fn order_of_bits()
 {}
 
 /// Clears each of the `len` bits of the words' row from `head` on that is false in `other`, or that
-/// `other` is too short for. No other bit changes. The condition: the run lies in the words, and has at
+/// `other` is too short for. No other bit changes. Requires that the run lies in the words, and has at
 /// most `MAX_BITS` bits.
 pub fn and_words<T: BitStore, O: BitOrder, U: BitStore, P: BitOrder>(
     words: &mut [T],
@@ -84,7 +84,7 @@ pub fn and_words<T: BitStore, O: BitOrder, U: BitStore, P: BitOrder>(
 }
 
 /// Sets each of the `len` bits of the words' row from `head` on that is true in `other`. No other bit
-/// changes. The condition: the run lies in the words.
+/// changes. Requires that the run lies in the words.
 pub fn or_words<T: BitStore, O: BitOrder, U: BitStore, P: BitOrder>(
     words: &mut [T],
     head: usize,
@@ -102,7 +102,7 @@ pub fn or_words<T: BitStore, O: BitOrder, U: BitStore, P: BitOrder>(
 }
 
 /// Flips each of the `len` bits of the words' row from `head` on that is true in `other`. No other bit
-/// changes. The condition: the run lies in the words.
+/// changes. Requires that the run lies in the words.
 pub fn xor_words<T: BitStore, O: BitOrder, U: BitStore, P: BitOrder>(
     words: &mut [T],
     head: usize,
@@ -122,14 +122,14 @@ pub fn xor_words<T: BitStore, O: BitOrder, U: BitStore, P: BitOrder>(
 impl<'a, T: BitStore, O: BitOrder> BitSliceMut<'a, T, O> {
     ghost use Rattle.bit_slice.specs.BitSliceMut.{words_of, head_of, len_of, row_of, list_of, Stays};
 
-    /// As `BitSlice::eq_bits`.
+    /// Like `BitSlice::eq_bits`.
     pub fn eq_bits<U: BitStore, P: BitOrder>(&self, other: BitSlice<'_, U, P>) -> bool
         ensures { IsTrue result ↔ (list_of self.now ≡ list_seen other.entry) }
     {
         self.as_bitslice().eq_bits(other)
     }
 
-    /// As `BitSlice::cmp_bits`.
+    /// Like `BitSlice::cmp_bits`.
     pub fn cmp_bits<U: BitStore, P: BitOrder>(&self, other: BitSlice<'_, U, P>) -> Ordering
         ensures { result ≡ bits_cmp (list_of self.now) (list_seen other.entry) }
     {
@@ -167,7 +167,7 @@ impl<'a, T: BitStore, O: BitOrder> BitSliceMut<'a, T, O> {
     }
 }
 
-/// As `and_words`, in the words of a vector, whose capacity stays.
+/// Like `and_words`, in the words of a vector, whose capacity stays.
 pub fn and_in_vec<T: BitStore, O: BitOrder, U: BitStore, P: BitOrder>(
     words: &mut Vec<T>,
     head: usize,
@@ -183,7 +183,7 @@ pub fn and_in_vec<T: BitStore, O: BitOrder, U: BitStore, P: BitOrder>(
     and_words::<T, O, U, P>(words.as_mut_slice(), head, len, other);
 }
 
-/// As `or_words`, in the words of a vector, whose capacity stays.
+/// Like `or_words`, in the words of a vector, whose capacity stays.
 pub fn or_in_vec<T: BitStore, O: BitOrder, U: BitStore, P: BitOrder>(
     words: &mut Vec<T>,
     head: usize,
@@ -199,7 +199,7 @@ pub fn or_in_vec<T: BitStore, O: BitOrder, U: BitStore, P: BitOrder>(
     or_words::<T, O, U, P>(words.as_mut_slice(), head, len, other);
 }
 
-/// As `xor_words`, in the words of a vector, whose capacity stays.
+/// Like `xor_words`, in the words of a vector, whose capacity stays.
 pub fn xor_in_vec<T: BitStore, O: BitOrder, U: BitStore, P: BitOrder>(
     words: &mut Vec<T>,
     head: usize,

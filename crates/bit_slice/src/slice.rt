@@ -55,7 +55,7 @@ impl<'a, T: BitStore, O: BitOrder> BitSlice<'a, T, O> {
     ghost use Rattle.bit_slice.specs.Counted.{words_of as words_counted, head_of as head_counted, len_of as len_counted, list_of as list_counted, reads_of};
     ghost use Rattle.bit_slice.specs.Iter.{rest_of};
 
-    /// All bits of the words, with the head 0. The condition: they are at most `MAX_BITS` bits.
+    /// All bits of the words, with the head 0. Requires that they are at most `MAX_BITS` bits.
     pub fn from_slice(words: &'a [T]) -> Self
         requires { T.BITS * length words.now ≤ MAX_BITS }
         ensures words { words_of result ≡ words.now }
@@ -72,7 +72,7 @@ impl<'a, T: BitStore, O: BitOrder> BitSlice<'a, T, O> {
         }
     }
 
-    /// As `from_slice`. It answers `TooLong` exactly where the words have more than `MAX_BITS` bits.
+    /// Like `from_slice`. Returns `TooLong` exactly where the words have more than `MAX_BITS` bits.
     pub fn try_from_slice(words: &'a [T]) -> Result<Self, GrowError>
         ensures too_long { (result ≡ Err GrowError.TooLong) ↔ (MAX_BITS < T.BITS * length words.now) }
         ensures fits { IsOk result ↔ (T.BITS * length words.now ≤ MAX_BITS) }
@@ -87,7 +87,7 @@ impl<'a, T: BitStore, O: BitOrder> BitSlice<'a, T, O> {
         Ok(BitSlice::from_slice(words))
     }
 
-    /// The view of `len` bits that begins at the place `head` of the words' row. The condition: the
+    /// The view of `len` bits that begins at the place `head` of the words' row. Requires that the
     /// head is in the first word, the words are as many as it takes, and the bits at most `MAX_BITS`.
     pub fn from_parts(words: &'a [T], head: usize, len: usize) -> Self
         requires in_word { head < T.BITS }
@@ -170,7 +170,7 @@ impl<'a, T: BitStore, O: BitOrder> BitSlice<'a, T, O> {
         Some(self.bit(i))
     }
 
-    /// The part of the view at a range of indices. The condition: the range lies in the view's length.
+    /// The part of the view at a range of indices. Requires that the range lies in the view's length.
     pub fn get_range<R: RangeExt>(self, range: R) -> Self
         requires lies { LiesIn (R.start_of range) (R.end_of range (len_of self)) (len_of self) }
         ensures list { list_of result ≡ slice_range (list_of self.entry) (R.start_of range) (R.end_of range (len_of self.entry)) }
@@ -267,7 +267,7 @@ impl<'a, T: BitStore, O: BitOrder> Index<usize> for BitSlice<'a, T, O> {
 
     ghost index_gives = { λ v i x. Some x ≡ slice_get (list_of v) i };
 
-    /// The bit at index `i`. The condition: `i` is below the length.
+    /// The bit at index `i`. Requires that `i` is below the length.
     fn index(&self, i: usize) -> &bool {
         if self.bit(i) { &true } else { &false }
     }

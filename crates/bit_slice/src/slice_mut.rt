@@ -46,7 +46,7 @@ impl<'a, T: BitStore, O: BitOrder> BitSliceMut<'a, T, O> {
     ghost use Rattle.bit_slice.specs.Lends.{lends_words};
     ghost use Rattle.bit_slice.specs.CountedMut.{list_of as list_counted};
 
-    /// All bits of the words, with the head 0. The condition: they are at most `MAX_BITS` bits.
+    /// All bits of the words, with the head 0. Requires that they are at most `MAX_BITS` bits.
     pub fn from_slice_mut(words: &'a mut [T]) -> Self
         requires { T.BITS * length words.old ≤ MAX_BITS }
         ensures same_words { loan_of result ≡ words.entry.ghost_name }
@@ -64,7 +64,7 @@ impl<'a, T: BitStore, O: BitOrder> BitSliceMut<'a, T, O> {
         }
     }
 
-    /// The view of `len` bits that begins at the place `head` of the words' row. The condition: the
+    /// The view of `len` bits that begins at the place `head` of the words' row. Requires that the
     /// head is in the first word, the words are as many as it takes, and the bits at most `MAX_BITS`.
     pub fn from_parts_mut(words: &'a mut [T], head: usize, len: usize) -> Self
         requires in_word { head < T.BITS }
@@ -159,7 +159,7 @@ impl<'a, T: BitStore, O: BitOrder> BitSliceMut<'a, T, O> {
         self.as_bitslice().get(i)
     }
 
-    /// The part of the view at a range of indices, for reading. The condition: the range lies in the
+    /// The part of the view at a range of indices, for reading. Requires that the range lies in the
     /// view's length.
     pub fn get_range<R: RangeExt>(&self, range: R) -> BitSlice<'_, T, O>
         requires lies { LiesIn (R.start_of range) (R.end_of range (len_of self.now)) (len_of self.now) }
@@ -228,7 +228,7 @@ impl<'a, T: BitStore, O: BitOrder> BitSliceMut<'a, T, O> {
         self.as_bitslice().all()
     }
 
-    /// Writes `b` at index `i`. The condition: `i` is below the length.
+    /// Writes `b` at index `i`. Requires that `i` is below the length.
     pub fn set(&mut self, i: usize, b: bool)
         requires { i < len_of self.old }
         ensures row { row_of self.new ≡ set (row_of self.old) (head_of self.old + i) b }
@@ -238,8 +238,8 @@ impl<'a, T: BitStore, O: BitOrder> BitSliceMut<'a, T, O> {
         write_bit::<T, O>(self.words, self.head + i, b);
     }
 
-    /// Writes `b` at index `i`, and answers the bit that was there. The condition: `i` is below
-    /// the length.
+    /// Writes `b` at index `i`, and returns the bit that was there. Requires that `i` is below the
+    /// length.
     pub fn replace(&mut self, i: usize, b: bool) -> bool
         requires { i < len_of self.old }
         ensures old { slice_get (list_of self.old) i ≡ Some result }
@@ -252,7 +252,7 @@ impl<'a, T: BitStore, O: BitOrder> BitSliceMut<'a, T, O> {
         old
     }
 
-    /// Has the bits at indices `i` and `j` change places. The condition: both are below the length.
+    /// Swaps the bits at indices `i` and `j`. Requires that both are below the length.
     pub fn swap(&mut self, i: usize, j: usize)
         requires first { i < len_of self.old }
         requires second { j < len_of self.old }
@@ -274,7 +274,7 @@ impl<'a, T: BitStore, O: BitOrder> BitSliceMut<'a, T, O> {
     }
 
     /// Copies the bits at a range of indices to the places from `dest` on, as if they were read before
-    /// any is written. The runs may overlap. The condition: the range and the places lie in the view.
+    /// any is written. The runs may overlap. Requires that the range and the places lie in the view.
     #[tactic(auto, using(crate::proofs::Parts::roomy))]
     pub fn copy_within<R: RangeExt>(&mut self, range: R, dest: usize)
         requires lies { LiesIn (R.start_of range) (R.end_of range (len_of self.old)) (len_of self.old) }
@@ -289,7 +289,7 @@ impl<'a, T: BitStore, O: BitOrder> BitSliceMut<'a, T, O> {
     }
 
     /// Writes the bits of another view, of any word type and order, in its order. Each word of it is
-    /// read once. The condition: equal lengths.
+    /// read once. Requires equal lengths.
     pub fn clone_from_bitslice<U: BitStore, P: BitOrder>(&mut self, source: BitSlice<'_, U, P>)
         requires { len_seen source ≡ len_of self.old }
         ensures row { row_of self.new ≡ put (row_of self.old) (head_of self.old) (list_seen source.entry) }
@@ -312,7 +312,7 @@ impl<'a, T: BitStore, O: BitOrder> Index<usize> for BitSliceMut<'a, T, O> {
 
     ghost index_gives = { λ v i x. Some x ≡ slice_get (list_of v) i };
 
-    /// The bit at index `i`. The condition: `i` is below the length.
+    /// The bit at index `i`. Requires that `i` is below the length.
     fn index(&self, i: usize) -> &bool {
         if self.as_bitslice().bit(i) {
             &true

@@ -19,7 +19,7 @@ use std::hash::{Hash, Hasher};
 // How many ASCII characters are collected for one call of the writer.
 const PIECE: usize = 96;
 
-// Puts a character behind the first `at`. The condition: there is room, and it is ASCII.
+// Puts a character after the first `at`. Requires that there is room, and it is ASCII.
 fn put(piece: &mut [u8; PIECE], at: usize, byte: u8)
     requires room { at < PIECE }
     requires ascii { byte < 128 }
@@ -47,7 +47,7 @@ fn digit_at(chunk: u64, k: u8) -> u8
     if (chunk >> k) & 1 == 1 { b'1' } else { b'0' }
 }
 
-// Writes `n` bits from index `from` on, each behind a comma and a space.
+// Writes `n` bits from index `from` on, each after a comma and a space.
 fn write_more<T: BitStore, O: BitOrder, W: fmt::Write>(
     view: BitSlice<'_, T, O>,
     from: usize,
@@ -143,7 +143,7 @@ fn write_groups<T: BitStore, O: BitOrder, W: fmt::Write>(
 
 /// Writes the list of a view as digits between brackets: each stands for the next `size` bits from the front on,
 /// its highest bit first, and what is left for the last may be fewer. It goes 60 bits at each call of the
-/// writer. Flags and widths have no effect. It takes no memory. The condition: a digit has 1, 3 or 4 bits, for
+/// writer. Flags and widths have no effect. It takes no memory. Requires that a digit has 1, 3 or 4 bits, for
 /// binary, octal and hexadecimal ones, these in upper case where `upper`.
 pub fn write_digits<T: BitStore, O: BitOrder, W: fmt::Write>(
     view: BitSlice<'_, T, O>,

@@ -62,7 +62,7 @@ impl FreeMap {
         self.taken.len()
     }
 
-    /// Whether a frame is taken. The condition: it is one of the map's.
+    /// Whether a frame is taken. Requires that it is one of the map's.
     pub fn is_taken(&self, frame: usize) -> bool
         requires { frame < length self.now }
         ensures { slice_get self.now frame ≡ Some result }
@@ -92,7 +92,7 @@ impl FreeMap {
     }
 
     /// Takes the lowest `count` free frames in a row, which are found by words. None exactly where there is
-    /// no such run, and then nothing changes. The condition: `count` is at least 1.
+    /// no such run, and then nothing changes. Requires that `count` is at least 1.
     #[tactic(auto, using(crate::proofs::Frames::marked_length))]
     pub fn take_run(&mut self, count: usize) -> Option<usize>
         requires { 0 < count }
@@ -125,7 +125,7 @@ impl FreeMap {
     }
 
     /// Gives `count` frames from `first` on back: they are free then, and no other frame changes. Where
-    /// they were taken out of a map in which they were free, that map is there again. The condition: they
+    /// they were taken out of a map in which they were free, that map is there again. Requires that they
     /// are frames of the map.
     #[tactic(auto, using(crate::proofs::Frames::marked_length))]
     pub fn give_back(&mut self, first: usize, count: usize)

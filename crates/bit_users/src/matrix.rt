@@ -78,7 +78,7 @@ impl Matrix {
         self.columns
     }
 
-    /// The bit in a row and a column. The condition: the matrix has them.
+    /// The bit in a row and a column. Requires that the matrix has them.
     #[tactic(auto, using(crate::proofs::Grids::place_inside))]
     pub fn get(&self, row: usize, column: usize) -> bool
         requires row { row < self.now.rows }
@@ -89,7 +89,7 @@ impl Matrix {
         self.bits[row * self.columns + column]
     }
 
-    /// Writes the bit in a row and a column. The condition: the matrix has them.
+    /// Writes the bit in a row and a column. Requires that the matrix has them.
     #[tactic(auto, using(crate::proofs::Grids::place_inside, crate::proofs::Grids::set_elsewhere))]
     pub fn set(&mut self, row: usize, column: usize, bit: bool)
         requires row { row < self.old.rows }
@@ -102,7 +102,7 @@ impl Matrix {
         self.bits.set(row * self.columns + column, bit);
     }
 
-    /// Sets each bit of a row whose column has a bit set in another row, by whole words. The condition: the
+    /// Sets each bit of a row whose column has a bit set in another row, by whole words. Requires that the
     /// matrix has both rows.
     #[tactic(auto, using(crate::proofs::Grids::row_inside, crate::proofs::Grids::rows_in_order, crate::proofs::Grids::place_apart))]
     pub fn or_row(&mut self, into: usize, from: usize)
@@ -116,7 +116,7 @@ impl Matrix {
         or_run(&mut self.bits, into * columns, from * columns, columns);
     }
 
-    /// Writes a row over another, by one counted move of the words. The condition: the matrix has both rows.
+    /// Writes a row over another, by one counted move of the words. Requires that the matrix has both rows.
     #[tactic(auto, using(crate::proofs::Grids::row_inside, crate::proofs::Grids::copied_elsewhere))]
     pub fn copy_row(&mut self, from: usize, to: usize)
         requires from { from < self.old.rows }
@@ -162,7 +162,7 @@ impl Matrix {
     }
 
     /// The transitive closure of a graph, by Warshall's algorithm: afterwards an edge leads from `i` to `j`
-    /// exactly where a path of at least one edge led there before. Takes no memory. The condition: the matrix
+    /// exactly where a path of at least one edge led there before. Takes no memory. Requires that the matrix
     /// is square.
     #[tactic(auto, using(crate::proofs::Paths::edge_alone, crate::proofs::Paths::one_node_more))]
     pub fn close(&mut self)
@@ -175,7 +175,8 @@ impl Matrix {
         }
     }
 
-    // Joins an edge from each node with an edge to `middle` to each node to which an edge leads from `middle`.
+    // Adds an edge from each node with an edge to `middle` to each node to which an edge leads from
+    // `middle`.
     #[tactic(auto, using(crate::proofs::Paths::row_more, crate::proofs::Paths::all_led))]
     fn lead_through(&mut self, middle: usize)
         requires square { self.old.rows ≡ self.old.columns }
@@ -203,7 +204,7 @@ impl Matrix {
     }
 }
 
-// Or-s `count` bits from `from` on into those from `into` on. The condition: both runs lie in the vector, and
+// Or-s `count` bits from `from` on into those from `into` on. Requires that both runs lie in the vector, and
 // they are one run, or lie apart.
 #[tactic(auto, using(crate::proofs::Ored::ored_alone))]
 fn or_run(bits: &mut BitVec<usize, Lsb0>, into: usize, from: usize, count: usize)
@@ -220,7 +221,7 @@ fn or_run(bits: &mut BitVec<usize, Lsb0>, into: usize, from: usize, count: usize
     or_chunk(bits, into + whole, from + whole, (count - whole) as u8);
 }
 
-// The same for the bits that can be or-ed by whole words. It answers how many: all but at most 64. The condition:
+// The same for the bits that can be or-ed by whole words. Returns how many: all but at most 64. Requires that
 // both runs lie in the vector, apart.
 fn or_whole(bits: &mut BitVec<usize, Lsb0>, into: usize, from: usize, count: usize) -> usize
     requires few { length bits.old.list ≤ MAX_BITS }
@@ -261,7 +262,7 @@ fn or_words(words: &mut [usize], into: usize, from: usize, count: usize) -> usiz
     whole
 }
 
-// Or-s up to 64 bits from `from` on into those from `into` on, as numbers. The condition: both lie in the vector.
+// Or-s up to 64 bits from `from` on into those from `into` on, as numbers. Requires that both lie in the vector.
 fn or_chunk(bits: &mut BitVec<usize, Lsb0>, into: usize, from: usize, width: u8)
     requires few { width ≤ 64 }
     requires into { into + width ≤ length bits.old.list }

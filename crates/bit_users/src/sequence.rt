@@ -14,7 +14,7 @@ use std::alloc::Global;
 #[derive(Clone, Copy, PartialEq, Eq, Debug)]
 pub enum Fault {
     /// They are the bytes of no list: too few for a length, with a length past `MAX_BITS`, not as many as it
-    /// takes, or with a bit behind the last of the list.
+    /// takes, or with a bit after the last of the list.
     Broken,
     /// Memory was refused.
     OutOfMemory,
@@ -60,7 +60,7 @@ pub fn are_of_one_list(left: &[u8], right: &[u8]) -> bool
 }
 
 /// The list whose bytes these are. They are `Broken` exactly where they are those of no list of at most
-/// `MAX_BITS` bits, so memory is wanting only for a list that is there. Takes memory.
+/// `MAX_BITS` bits, so memory is refused only for a list that is there. Takes memory.
 pub fn from_bytes(alloc: Global, bytes: &[u8]) -> Result<BitVec<u8, Msb0>, Fault>
     ensures read { IfOk result (λ bits. AreBytesOf bits.list bytes.now) }
     ensures list { IfOk result (λ read. (bits : List Bool) → length bits ≤ MAX_BITS → AreBytesOf bits bytes.now → read.list ≡ bits) }

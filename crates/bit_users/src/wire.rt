@@ -59,7 +59,7 @@ impl Header {
         }
     }
 
-    /// The header's 20 bytes. The condition: each field has room for its number. Takes memory, and is
+    /// The header's 20 bytes. Requires that each field has room for its number. Takes memory, and is
     /// refused only where that is.
     pub fn to_bytes(self, alloc: Global) -> Result<Vec<u8>, GrowError>
         requires fits { Fits self }

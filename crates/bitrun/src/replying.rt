@@ -22,7 +22,7 @@ pub enum Ending {
     ReadFailed,
 }
 
-/// Joins a text and a line feed, or nothing.
+/// Appends a text and a line feed, or nothing.
 pub fn append_line(out: &mut Vec<u8>, text: &[u8]) -> Result<(), AllocError>
     ensures ok { OnOk result (out.new.items ≡ out.old.items ++ with_line_feed text.now) }
     ensures err { OnErr result (out.new.items ≡ out.old.items) }
@@ -35,7 +35,8 @@ pub fn append_line(out: &mut Vec<u8>, text: &[u8]) -> Result<(), AllocError>
     Err(AllocError)
 }
 
-/// Joins the decimal digits of a number; where memory is refused, some of them may have been joined.
+/// Appends the decimal digits of a number; where memory is refused, some of them may have been
+/// appended.
 fn append_number(out: &mut Vec<u8>, number: u64) -> Result<(), AllocError>
     ensures ok { OnOk result (out.new.items ≡ out.old.items ++ decimal number) }
     ensures kept { Extends out.old.items out.new.items }
@@ -49,7 +50,7 @@ fn append_number(out: &mut Vec<u8>, number: u64) -> Result<(), AllocError>
     Ok(())
 }
 
-/// Joins a number and a line feed, or nothing.
+/// Appends a number and a line feed, or nothing.
 fn append_number_line(out: &mut Vec<u8>, number: u64) -> Result<(), AllocError>
     ensures ok { OnOk result (out.new.items ≡ out.old.items ++ with_line_feed (decimal number)) }
     ensures err { OnErr result (out.new.items ≡ out.old.items) }
@@ -62,7 +63,7 @@ fn append_number_line(out: &mut Vec<u8>, number: u64) -> Result<(), AllocError>
     Err(AllocError)
 }
 
-/// Joins the line of a command's reply, or nothing.
+/// Appends the line of a command's reply, or nothing.
 pub fn append_reply(out: &mut Vec<u8>, reply: Reply) -> Result<(), AllocError>
     ensures ok { OnOk result (out.new.items ≡ out.old.items ++ with_line_feed (reply_text reply)) }
     ensures err { OnErr result (out.new.items ≡ out.old.items) }
@@ -89,7 +90,8 @@ fn hex_digit(digit: u64) -> u8
     }
 }
 
-/// Joins a word's hexadecimal digits, all of them; where memory is refused, some may have been joined.
+/// Appends a word's hexadecimal digits, all of them; where memory is refused, some may have been
+/// appended.
 fn append_word<T: BitStore>(out: &mut Vec<u8>, word: T) -> Result<(), AllocError>
     ensures ok { OnOk result (out.new.items ≡ out.old.items ++ hex_digits (T.BITS / 4) (T.value word)) }
     ensures kept { Extends out.old.items out.new.items }
@@ -103,7 +105,7 @@ fn append_word<T: BitStore>(out: &mut Vec<u8>, word: T) -> Result<(), AllocError
     Ok(())
 }
 
-/// Joins words with a space between them; where memory is refused, some may have been joined.
+/// Appends words with a space between them; where memory is refused, some may have been appended.
 fn append_row<T: BitStore>(out: &mut Vec<u8>, words: &[T]) -> Result<(), AllocError>
     ensures ok { OnOk result (out.new.items ≡ out.old.items ++ words_text T.BITS (map T.value words.now)) }
     ensures kept { Extends out.old.items out.new.items }
@@ -117,7 +119,7 @@ fn append_row<T: BitStore>(out: &mut Vec<u8>, words: &[T]) -> Result<(), AllocEr
     Ok(())
 }
 
-/// Joins the line that shows words, or nothing.
+/// Appends the line that shows words, or nothing.
 pub fn append_words<T: BitStore>(out: &mut Vec<u8>, words: &[T]) -> Result<(), AllocError>
     ensures words { OnOk result (out.new.items ≡ out.old.items ++ with_line_feed (words_text T.BITS (map T.value words.now))) }
     ensures line { OnOk result ((text : List ℕ) × (out.new.items ≡ out.old.items ++ with_line_feed text)) }

@@ -80,7 +80,7 @@ fn conclude<T: BitStore, O: BitOrder, K: Sink>(
     Ok(ending)
 }
 
-/// Runs the lines of a piece of a script, writes their replies, and answers the ending if the
+/// Runs the lines of a piece of a script, writes their replies, and returns the ending if the
 /// script ended.
 fn serve_piece<T: BitStore, O: BitOrder, K: Sink>(
     session: &mut Session<T, O>,
@@ -114,7 +114,7 @@ fn serve_piece<T: BitStore, O: BitOrder, K: Sink>(
     Ok(None)
 }
 
-/// Runs the lines of a script, writes their replies, and answers how it ended.
+/// Runs the lines of a script, writes their replies, and returns how it ended.
 fn serve_script<T: BitStore, O: BitOrder, S: Source, K: Sink>(
     alloc: Global,
     input: &mut S,
@@ -153,7 +153,7 @@ fn serve_script<T: BitStore, O: BitOrder, S: Source, K: Sink>(
     conclude(&mut session, output, Ending::ReadFailed)
 }
 
-/// Runs the lines of a script over an empty vector, writes their replies, and answers how it ended.
+/// Runs the lines of a script over an empty vector, writes their replies, and returns how it ended.
 ///
 /// Each line is replied to with one line, up to the end of the script, or to its first line that is
 /// no command, and the ending is told last. Where memory is refused, or the source fails, that is
@@ -189,7 +189,7 @@ fn status(ending: Ending) -> u8
     }
 }
 
-/// Runs the lines of a whole input over an empty vector, writes their replies, and answers the
+/// Runs the lines of a whole input over an empty vector, writes their replies, and returns the
 /// status: 0 at the end of the input, 2 at a line that is no command, 1 where something failed.
 pub fn serve<T: BitStore, O: BitOrder, R: Read + Drop, W: Write + Drop>(
     alloc: Global,

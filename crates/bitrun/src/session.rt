@@ -63,7 +63,7 @@ fn obey<T: BitStore, O: BitOrder>(
     }
 }
 
-/// Joins the line that shows a vector's list, or nothing.
+/// Appends the line that shows a vector's list, or nothing.
 fn append_list<T: BitStore, O: BitOrder>(
     out: &mut Vec<u8>,
     text: &mut String,
@@ -110,7 +110,7 @@ impl<T: BitStore, O: BitOrder> Session<T, O> {
         Ending::BadCommand(self.number)
     }
 
-    /// Joins a byte to the line.
+    /// Appends a byte to the line.
     fn push_byte(&mut self, byte: u8) -> Result<(), AllocError>
         requires room { length self.old.line < MAX_LINE }
         requires other { byte ≢ 10 }
@@ -132,7 +132,7 @@ impl<T: BitStore, O: BitOrder> Session<T, O> {
         self.number += 1;
     }
 
-    /// Does a command, and joins the line of its reply.
+    /// Does a command, and appends the line of its reply.
     fn answer_command(&mut self, command: Command) -> Result<(), Ending>
         ensures ok { OnOk result (Replies self.old (Line.Run command) self.new) }
         ensures out { OnErr result (self.new.out ≡ self.old.out) }
@@ -145,7 +145,7 @@ impl<T: BitStore, O: BitOrder> Session<T, O> {
         }
     }
 
-    /// Joins the line that shows the list.
+    /// Appends the line that shows the list.
     fn answer_list(&mut self) -> Result<(), Ending>
         ensures ok { OnOk result (Replies self.old Line.ShowList self.new) }
         ensures out { OnErr result (self.new.out ≡ self.old.out) }
@@ -157,7 +157,7 @@ impl<T: BitStore, O: BitOrder> Session<T, O> {
         }
     }
 
-    /// Joins the line that shows the words.
+    /// Appends the line that shows the words.
     fn answer_words(&mut self) -> Result<(), Ending>
         ensures ok { OnOk result (Replies self.old Line.ShowWords self.new) }
         ensures out { OnErr result (self.new.out ≡ self.old.out) }
@@ -169,7 +169,7 @@ impl<T: BitStore, O: BitOrder> Session<T, O> {
         }
     }
 
-    /// Does what a line asks for, and joins the line of the reply.
+    /// Does what a line asks for, and appends the line of the reply.
     fn answer(&mut self, line: Line) -> Result<(), Ending>
         ensures ok { OnOk result (Replies self.old line self.new) }
         ensures out { OnErr result (self.new.out ≡ self.old.out) }
@@ -221,7 +221,7 @@ impl<T: BitStore, O: BitOrder> Session<T, O> {
         }
     }
 
-    /// Takes bytes, all of them or as many as make much wait to be written, and answers how many.
+    /// Takes bytes, all of them or as many as make much wait to be written, and returns how many.
     pub fn take_bytes(&mut self, bytes: &[u8]) -> Result<usize, Ending>
         requires { self.old.number + length self.old.line + length bytes.now < 2 ^ 64 }
         ensures count { IfOk result (λ count. count ≤ length bytes.now) }

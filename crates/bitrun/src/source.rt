@@ -14,7 +14,7 @@ pub trait Source {
     // That no read fails from here on.
     ghost is_sure: { Self → Type 0 };
 
-    /// Fills the front of `buffer`, and answers how much of it. It is 0 at the end.
+    /// Fills the front of `buffer`, and returns how much of it. It is 0 at the end.
     fn give(&mut self, buffer: &mut [u8]) -> io::Result<usize>
         ensures bound { ReadsAtMost result buffer.new }
         ensures bytes { ReadConsumes (left self.old) (left self.new) result buffer.new }

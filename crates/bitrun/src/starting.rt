@@ -4,7 +4,7 @@ use bit_containers::{Lsb0, Msb0};
 use std::alloc::Global;
 use std::io::{Read, Write};
 
-/// Runs what the words after the program's name ask for, and answers the status.
+/// Runs what the words after the program's name ask for, and returns the status.
 ///
 /// They are the type of the words, `u8` to `u64` or `usize`, and their order, `lsb0` or `msb0`. With other words
 /// the usage is written, and the status is 2.
@@ -32,7 +32,7 @@ pub fn start<R: Read + Drop, W: Write + Drop>(
     write_usage(output)
 }
 
-/// Writes how the program is called, and answers the status.
+/// Writes how the program is called, and returns the status.
 fn write_usage<W: Write + Drop>(output: W) -> u8 {
     let mut output = output;
     match output.write_all(b"usage: bitrun WORD ORDER\n") {

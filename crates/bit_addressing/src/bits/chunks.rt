@@ -19,7 +19,7 @@ pub(crate) fn word_number<T: BitStore, O: BitOrder>(word: T) -> u64
 }
 
 /// The `n` bits of the row from `at` on as a number, the first at place 0: each word is read once.
-/// The condition: `n` is at most 64, and the run lies in the words.
+/// Requires that `n` is at most 64, and the run lies in the words.
 pub fn read_chunk<T: BitStore, O: BitOrder>(words: &[T], at: usize, n: u8) -> u64
     requires few { n ≤ 64 }
     requires within { at + n ≤ T.BITS * length words.now }
@@ -42,7 +42,7 @@ pub fn read_chunk<T: BitStore, O: BitOrder>(words: &[T], at: usize, n: u8) -> u6
 }
 
 /// Writes the `n` lowest bits of a number at the places from `at` on, that of place 0 first, and no other
-/// bit: what `read_chunk` reads. The condition: `n` is at most 64, and the run lies in the words.
+/// bit: what `read_chunk` reads. Requires that `n` is at most 64, and the run lies in the words.
 pub fn write_chunk<T: BitStore, O: BitOrder>(words: &mut [T], at: usize, n: u8, chunk: u64)
     requires few { n ≤ 64 }
     requires within { at + n ≤ T.BITS * length words.old }
@@ -54,7 +54,7 @@ pub fn write_chunk<T: BitStore, O: BitOrder>(words: &mut [T], at: usize, n: u8, 
 }
 
 /// The number that the `n` bits of the row from `at` on write in binary, the most significant digit
-/// first: each word is read once. The condition: `n` is at most 64, and the run lies in the words.
+/// first: each word is read once. Requires that `n` is at most 64, and the run lies in the words.
 pub fn read_binary<T: BitStore, O: BitOrder>(words: &[T], at: usize, n: u8) -> u64
     requires few { n ≤ 64 }
     requires within { at + n ≤ T.BITS * length words.now }
@@ -69,8 +69,8 @@ pub fn read_binary<T: BitStore, O: BitOrder>(words: &[T], at: usize, n: u8) -> u
 }
 
 /// Writes a number in binary by `n` digits at the places from `at` on, the most significant digit first,
-/// and no other bit; digits above the `n` lowest are left out. What `read_binary` reads.
-/// The condition: `n` is at most 64, and the run lies in the words.
+/// and no other bit; digits above the `n` lowest are left out. What `read_binary` reads. Requires that
+/// `n` is at most 64, and the run lies in the words.
 pub fn write_binary<T: BitStore, O: BitOrder>(words: &mut [T], at: usize, n: u8, number: u64)
     requires few { n ≤ 64 }
     requires within { at + n ≤ T.BITS * length words.old }
@@ -85,7 +85,7 @@ pub fn write_binary<T: BitStore, O: BitOrder>(words: &mut [T], at: usize, n: u8,
 }
 
 /// A word whose indices from `low` on have the `n` bits of the row of `source` from `from` on.
-/// The condition: the indices are in the word, and the run lies in `source`.
+/// Requires that the indices are in the word, and the run lies in `source`.
 pub(crate) fn word_of_run<T: BitStore, O: BitOrder, U: BitStore, P: BitOrder>(
     source: &[U],
     from: usize,
@@ -101,7 +101,7 @@ pub(crate) fn word_of_run<T: BitStore, O: BitOrder, U: BitStore, P: BitOrder>(
 }
 
 /// The word of the bits of `source` from index `skip` of word `k` on, in words of one width.
-/// The condition: `skip` is an index of the word, and word `k + 1` is there.
+/// Requires that `skip` is an index of the word, and word `k + 1` is there.
 #[inline(always)]
 fn word_of_window<T: BitStore, O: BitOrder, U: BitStore, P: BitOrder>(
     source: &[U],
@@ -127,7 +127,7 @@ pub(crate) fn goes_by_shifts<O: BitOrder>() -> bool {
     (first == 0 && last == 63) || (first == 63 && last == 0)
 }
 
-/// As `word_of_window`, bit by bit.
+/// Like `word_of_window`, bit by bit.
 #[inline(always)]
 fn word_by_bits<T: BitStore, O: BitOrder, U: BitStore, P: BitOrder>(
     source: &[U],
@@ -148,7 +148,7 @@ fn word_by_bits<T: BitStore, O: BitOrder, U: BitStore, P: BitOrder>(
     word
 }
 
-/// As `word_behind`, out of words in an order that does not go by shifts.
+/// Like `word_behind`, out of words in an order that does not go by shifts.
 fn word_behind_by_bits<T: BitStore, O: BitOrder, U: BitStore, P: BitOrder>(
     source: &[U],
     begin: usize,
@@ -170,7 +170,7 @@ fn word_behind_by_bits<T: BitStore, O: BitOrder, U: BitStore, P: BitOrder>(
     word_of_run::<T, O, U, P>(source, at, T::BITS, 0)
 }
 
-/// How many blocks of 64 bits from word `k` on have another block behind them, in so many words.
+/// How many blocks of 64 bits from word `k` on have another block after them, in so many words.
 pub(crate) fn blocks_behind<T: BitStore>(words: usize, k: usize) -> usize
     ensures { (t : ℕ) → t < result → (k + t * (64 / T.BITS)) * T.BITS + 128 ≤ T.BITS * words }
 {
@@ -178,8 +178,8 @@ pub(crate) fn blocks_behind<T: BitStore>(words: usize, k: usize) -> usize
     (words.saturating_sub(k) / each).saturating_sub(1)
 }
 
-/// The 64 bits of `source` from index `skip` of word `k` on, in the order `O`.
-/// The condition: `skip` is an index of the word, and the row has 128 bits from word `k` on.
+/// The 64 bits of `source` from index `skip` of word `k` on, in the order `O`. Requires that `skip`
+/// is an index of the word, and the row has 128 bits from word `k` on.
 #[inline(always)]
 pub(crate) fn block_at<O: BitOrder, U: BitStore, P: BitOrder>(
     source: &[U],
@@ -196,7 +196,7 @@ pub(crate) fn block_at<O: BitOrder, U: BitStore, P: BitOrder>(
     O::from_lsb0(P::to_lsb0(word))
 }
 
-/// The word of the bits of `source` from place `at` on. The condition: the row has them.
+/// The word of the bits of `source` from place `at` on. Requires that the row has them.
 #[inline(always)]
 fn word_at<T: BitStore, O: BitOrder, U: BitStore, P: BitOrder>(source: &[U], at: usize) -> T
     requires { at + T.BITS ≤ U.BITS * length source.now }
@@ -212,8 +212,8 @@ fn word_at<T: BitStore, O: BitOrder, U: BitStore, P: BitOrder>(source: &[U], at:
     word_of_run::<T, O, U, P>(source, at, T::BITS, 0)
 }
 
-/// The word of the bits of `source` that begin `t` words of type `T` behind index `skip` of word `begin`.
-/// The condition: `skip` is an index of the word, and the row has one bit more.
+/// The word of the bits of `source` that begin `t` words of type `T` after index `skip` of word `begin`.
+/// Requires that `skip` is an index of the word, and the row has one bit more.
 #[inline(always)]
 pub(crate) fn word_behind<T: BitStore, O: BitOrder, U: BitStore, P: BitOrder>(
     source: &[U],

@@ -64,7 +64,7 @@ impl BitOperator for Second {
     }
 }
 
-/// As `write_part`, of what `F` makes of the bits there and of those of `new`.
+/// Like `write_part`, of what `F` makes of the bits there and of those of `new`.
 fn combine_part<F: BitOperator, T: BitStore, O: BitOrder>(
     words: &mut [T],
     k: usize,
@@ -82,8 +82,8 @@ fn combine_part<F: BitOperator, T: BitStore, O: BitOrder>(
     write_part::<T, O>(words, k, low, high, word);
 }
 
-/// Makes each bit of the words `first..last` into the bit that `F` makes of it and of the bit of `source`
-/// that stands as far behind index `skip` of word `begin`. The condition: the words are there, and the run lies in
+/// Makes each bit of the words `first..last` into the bit that `F` makes of it and of the bit of `source` that
+/// stands as far after index `skip` of word `begin`. Requires that the words are there, and the run lies in
 /// `source`, which has one bit more.
 #[inline(always)]
 fn combine_behind<F: BitOperator, T: BitStore, O: BitOrder, U: BitStore, P: BitOrder>(
@@ -108,8 +108,8 @@ fn combine_behind<F: BitOperator, T: BitStore, O: BitOrder, U: BitStore, P: BitO
     }
 }
 
-/// As `combine_behind`, of so many blocks of 64 bits: each is made once, in the order of the words, and taken apart.
-/// The condition: the words are there, and each block has another behind it.
+/// Like `combine_behind`, of so many blocks of 64 bits: each is made once, in the order of the words, and taken
+/// apart. Requires that the words are there, and each block has another after it.
 #[inline(always)]
 fn combine_blocks<F: BitOperator, T: BitStore, O: BitOrder, U: BitStore, P: BitOrder>(
     words: &mut [T],
@@ -133,7 +133,8 @@ fn combine_blocks<F: BitOperator, T: BitStore, O: BitOrder, U: BitStore, P: BitO
     }
 }
 
-/// As `combine_behind`, into words narrower than those of `source`: by blocks of 64 bits, as far as they go.
+/// Like `combine_behind`, into words narrower than those of `source`: by blocks of 64 bits, as far as they
+/// go.
 fn combine_narrower<F: BitOperator, T: BitStore, O: BitOrder, U: BitStore, P: BitOrder>(
     words: &mut [T],
     first: usize,
@@ -157,8 +158,8 @@ fn combine_narrower<F: BitOperator, T: BitStore, O: BitOrder, U: BitStore, P: Bi
     combine_behind::<F, T, O, U, P>(words, next, last, source, from, skip);
 }
 
-/// As `combine_behind`, of bytes. A processor shifts bytes side by side by a number that the compiler knows, so each
-/// index has a loop of its own.
+/// Like `combine_behind`, of bytes. A processor shifts bytes side by side by a number that the compiler knows, so
+/// each index has a loop of its own.
 fn combine_bytes<F: BitOperator, T: BitStore, O: BitOrder, U: BitStore, P: BitOrder>(
     words: &mut [T],
     first: usize,
@@ -188,7 +189,7 @@ fn combine_bytes<F: BitOperator, T: BitStore, O: BitOrder, U: BitStore, P: BitOr
     }
 }
 
-/// The same, of the bits that stand as far behind bit `from` of the row. Where that is a word's first bit no word
+/// The same, of the bits that stand as far after bit `from` of the row. Where that is a word's first bit no word
 /// has to be shifted, so the compiler is shown this case by itself.
 fn combine_whole<F: BitOperator, T: BitStore, O: BitOrder, U: BitStore, P: BitOrder>(
     words: &mut [T],
@@ -219,7 +220,7 @@ fn combine_whole<F: BitOperator, T: BitStore, O: BitOrder, U: BitStore, P: BitOr
 }
 
 /// Makes each of `n` bits of `words`, from `at` on, into the bit that `F` makes of it and of the bit of
-/// `source` that stands as far behind `from`, and changes no other bit. The condition: both runs lie in
+/// `source` that stands as far after `from`, and changes no other bit. Requires that both runs lie in
 /// their words.
 pub fn combine_bits<F: BitOperator, T: BitStore, O: BitOrder, U: BitStore, P: BitOrder>(
     words: &mut [T],

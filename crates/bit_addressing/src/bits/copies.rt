@@ -83,8 +83,8 @@ fn copy_loop<T: BitStore, O: BitOrder>(
     }
 }
 
-/// As `copy_loop`, of bytes. A processor shifts bytes side by side by a number that the compiler knows, so each
-/// index has a loop of its own.
+/// Like `copy_loop`, of bytes. A processor shifts bytes side by side by a number that the compiler knows, so
+/// each index has a loop of its own.
 fn copy_bytes<T: BitStore, O: BitOrder>(
     words: &mut [T],
     first: usize,
@@ -112,7 +112,7 @@ fn copy_bytes<T: BitStore, O: BitOrder>(
     }
 }
 
-/// As `copy_loop`.
+/// Like `copy_loop`.
 fn copy_words<T: BitStore, O: BitOrder>(
     words: &mut [T],
     first: usize,
@@ -137,7 +137,7 @@ fn copy_words<T: BitStore, O: BitOrder>(
     }
 }
 
-/// As `copy_bits`, between words of one type and order: by whole words, wherever both runs begin.
+/// Like `copy_bits`, between words of one type and order: by whole words, wherever both runs begin.
 pub fn copy_bits_alike<T: BitStore, O: BitOrder>(
     words: &mut [T],
     at: usize,
@@ -178,9 +178,9 @@ pub fn copy_bits_alike<T: BitStore, O: BitOrder>(
     copy_part::<T, O>(words, last, 0, end, source, from + (n - end));
 }
 
-/// Copies `n` bits of the row of `source`, from `from` on, to the places from `at` on, and changes no
-/// other bit. The words may be of any type and the bits in any order; it goes by whole words of the target.
-/// The condition: both runs lie in their words.
+/// Copies `n` bits of the row of `source`, from `from` on, to the places from `at` on, and changes no other
+/// bit. The words may be of any type and the bits in any order; it goes by whole words of the target.
+/// Requires that both runs lie in their words.
 pub fn copy_bits<T: BitStore, O: BitOrder, U: BitStore, P: BitOrder>(
     words: &mut [T],
     at: usize,

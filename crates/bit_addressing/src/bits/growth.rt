@@ -27,7 +27,7 @@ pub fn resize_words_in_vec<T: BitStore, O: BitOrder>(
     Ok(())
 }
 
-/// Cuts the words to those for `bits` bits. The condition: they have room for so many.
+/// Cuts the words to those for `bits` bits. Requires that they have room for so many.
 pub fn cut_words_in_vec<T: BitStore, O: BitOrder>(words: &mut Vec<T>, bits: usize)
     requires { bits ≤ T.BITS * length words.old.items }
     ensures items { words.new.items ≡ take (words_for T.BITS bits) words.old.items }
@@ -40,7 +40,7 @@ pub fn cut_words_in_vec<T: BitStore, O: BitOrder>(words: &mut Vec<T>, bits: usiz
     words.truncate(count);
 }
 
-/// Joins a word. Takes memory only where the capacity is full.
+/// Appends a word. Takes memory only where the capacity is full.
 #[inline(always)]
 fn push_word<T: BitStore>(words: &mut Vec<T>, word: T) -> Result<(), AllocError>
     ensures items { OnOk result (words.new.items ≡ words.old.items ++ word ∷ []) }
@@ -57,9 +57,9 @@ fn push_word<T: BitStore>(words: &mut Vec<T>, word: T) -> Result<(), AllocError>
     Ok(())
 }
 
-/// Joins a bit behind the first `end` bits: a word is added only where no word has room for it, and the
-/// other bits of a word that is added are false. Takes memory where a word is added.
-/// The condition: the words are those for `end` bits. It is refused only where the capacity, in words, is too small.
+/// Appends a bit after the first `end` bits: a word is added only where no word has room for it, and the other bits
+/// of a word that is added are false. Takes memory where a word is added. Requires that the words are those for
+/// `end` bits. It is refused only where the capacity, in words, is too small.
 pub fn push_bit_in_vec<T: BitStore, O: BitOrder>(
     words: &mut Vec<T>,
     end: usize,

@@ -9,7 +9,7 @@ use crate::index::BitIdx;
 use crate::order::{BitOrder, Lsb0};
 use crate::store::BitStore;
 
-/// As `count_bits`, whole words too by the order `O`.
+/// Like `count_bits`, whole words too by the order `O`.
 fn count_in_order<T: BitStore, O: BitOrder>(words: &[T], from: usize, upto: usize) -> usize
     requires ordered { from ≤ upto }
     requires within { upto ≤ T.BITS * length words.now }
@@ -42,8 +42,8 @@ fn count_in_order<T: BitStore, O: BitOrder>(words: &[T], from: usize, upto: usiz
 }
 
 /// How many bits of the row are set at the places `from..upto`. A whole word has as many set in each order,
-/// so the order matters at the ends alone.
-/// The condition: `from` is at most `upto`, which is at most the row's length.
+/// so the order matters at the ends alone. Requires that `from` is at most `upto`, which is at most the
+/// row's length.
 pub fn count_bits<T: BitStore, O: BitOrder>(words: &[T], from: usize, upto: usize) -> usize
     requires ordered { from ≤ upto }
     requires within { upto ≤ T.BITS * length words.now }
@@ -82,8 +82,9 @@ fn are_bytes_alike<T: BitStore, O: BitOrder, U: BitStore, P: BitOrder>() -> bool
     true
 }
 
-/// How many blocks of 64 bits, of the first `blocks` from words `k` and `l` on, are equal up to one that is not. It tells
-/// so of bytes in one order, whose blocks need no turning round, and of others 0. The condition: both rows have the blocks.
+/// How many blocks of 64 bits, of the first `blocks` from words `k` and `l` on, are equal up to one that is not. It
+/// tells so of bytes in one order, whose blocks need no turning round, and of others 0. Requires that both rows have
+/// the blocks.
 #[inline(always)]
 fn equal_blocks<T: BitStore, O: BitOrder, U: BitStore, P: BitOrder>(
     a: &[T],
@@ -108,8 +109,8 @@ fn equal_blocks<T: BitStore, O: BitOrder, U: BitStore, P: BitOrder>(
     blocks
 }
 
-/// As `differ_at`, from index `skip` of word `k` and index `over` of word `l` on. It is inlined, and compiled apart for
-/// runs that begin at a word's first bit.
+/// Like `differ_at`, from index `skip` of word `k` and index `over` of word `l` on. It is inlined, and compiled apart
+/// for runs that begin at a word's first bit.
 #[inline(always)]
 fn differ_from<T: BitStore, O: BitOrder, U: BitStore, P: BitOrder>(
     a: &[T],
@@ -168,7 +169,7 @@ fn differ_from<T: BitStore, O: BitOrder, U: BitStore, P: BitOrder>(
 }
 
 /// The first place at which the `n` bits of the row of `a` from `i` on and the `n` of `b` from `j` on
-/// differ. None exactly where the two runs are equal. The condition: both runs lie in their words.
+/// differ. None exactly where the two runs are equal. Requires that both runs lie in their words.
 pub fn differ_at<T: BitStore, O: BitOrder, U: BitStore, P: BitOrder>(
     a: &[T],
     i: usize,
@@ -192,7 +193,7 @@ pub fn differ_at<T: BitStore, O: BitOrder, U: BitStore, P: BitOrder>(
 }
 
 /// The first of the places `from..upto` that has this bit, counted from `from`. None exactly where there
-/// is none. The condition: `from` is at most `upto`, which is at most the row's length.
+/// is none. Requires that `from` is at most `upto`, which is at most the row's length.
 pub fn find_bit<T: BitStore, O: BitOrder>(
     words: &[T],
     from: usize,

@@ -15,7 +15,7 @@ pub fn exact_words<T: BitStore, O: BitOrder>(words: &[T])
     T::are_words(words);
 }
 
-/// The bit at `at` of the row. The condition: `at` is in the words.
+/// The bit at `at` of the row. Requires that `at` is in the words.
 pub fn read_bit<T: BitStore, O: BitOrder>(words: &[T], at: usize) -> bool
     requires { at < T.BITS * length words.now }
     ensures { result ≡ slice_index_or (row T.BitStore O.BitOrder words.now) at false }
@@ -25,7 +25,7 @@ pub fn read_bit<T: BitStore, O: BitOrder>(words: &[T], at: usize) -> bool
     words[at / width].bit(place)
 }
 
-/// Writes `bit` at `at` of the row, and no other bit. The condition: `at` is in the words.
+/// Writes `bit` at `at` of the row, and no other bit. Requires that `at` is in the words.
 pub fn write_bit<T: BitStore, O: BitOrder>(words: &mut [T], at: usize, bit: bool)
     requires { at < T.BITS * length words.old }
     ensures bits { row T.BitStore O.BitOrder words.new ≡ set (row T.BitStore O.BitOrder words.old) at bit }
@@ -37,7 +37,7 @@ pub fn write_bit<T: BitStore, O: BitOrder>(words: &mut [T], at: usize, bit: bool
     words[at / width] = word.with_bit(place, bit);
 }
 
-/// Swaps the bits at `i` and `j` of the row, and changes no other bit. The condition: both are in the words.
+/// Swaps the bits at `i` and `j` of the row, and changes no other bit. Requires that both are in the words.
 pub fn swap_bits<T: BitStore, O: BitOrder>(words: &mut [T], i: usize, j: usize)
     requires first { i < T.BITS * length words.old }
     requires second { j < T.BITS * length words.old }
@@ -58,8 +58,8 @@ pub(crate) fn blend<T: BitStore>(old: T, new: T, mask: T) -> T
 }
 
 /// The word moved up until its lowest bit stands where those of a word moved down by `count` end. Words of 16 and 32
-/// bits go in two steps, of which the compiler makes a faster loop. The condition: `count` is
-/// above 0 and below `T::BITS`.
+/// bits go in two steps, of which the compiler makes a faster loop. Requires that `count` is above 0 and below
+/// `T::BITS`.
 #[inline(always)]
 pub(crate) fn shl_behind<T: BitStore>(word: T, count: u8) -> T
     requires some { 0 < count }
@@ -73,7 +73,7 @@ pub(crate) fn shl_behind<T: BitStore>(word: T, count: u8) -> T
     word.shl(T::BITS - 1 - count).shl(1)
 }
 
-/// As `shl_behind`, downward: behind a word that was moved up by `count`.
+/// Like `shl_behind`, downward: after a word that was moved up by `count`.
 #[inline(always)]
 pub(crate) fn shr_behind<T: BitStore>(word: T, count: u8) -> T
     requires some { 0 < count }
@@ -117,7 +117,7 @@ pub(crate) fn write_part<T: BitStore, O: BitOrder>(
 }
 
 /// Writes `bit` at the places `from..upto` of the row, by whole words where it can, and no other bit.
-/// The condition: `from` is at most `upto`, which is at most the row's length.
+/// Requires that `from` is at most `upto`, which is at most the row's length.
 pub fn fill_bits<T: BitStore, O: BitOrder>(words: &mut [T], from: usize, upto: usize, bit: bool)
     requires ordered { from ≤ upto }
     requires within { upto ≤ T.BITS * length words.old }
@@ -143,8 +143,8 @@ pub fn fill_bits<T: BitStore, O: BitOrder>(words: &mut [T], from: usize, upto: u
     write_part::<T, O>(words, last, 0, end, full);
 }
 
-/// Writes `bit` at every place of the row outside `head..head + len`, and no other bit.
-/// The condition: `head + len` is at most the row's length, which is below 2 to the power 64.
+/// Writes `bit` at every place of the row outside `head..head + len`, and no other bit. Requires
+/// that `head + len` is at most the row's length, which is below 2 to the power 64.
 pub fn fill_outside<T: BitStore, O: BitOrder>(words: &mut [T], head: usize, len: usize, bit: bool)
     requires within { head + len ≤ T.BITS * length words.old }
     requires fits { T.BITS * length words.old < 2 ^ 64 }

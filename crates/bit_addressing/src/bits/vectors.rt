@@ -12,7 +12,7 @@ use crate::move_run::move_bits_counted;
 use crate::order::BitOrder;
 use crate::store::BitStore;
 
-/// As `write_bit`, in the words of a vector.
+/// Like `write_bit`, in the words of a vector.
 pub fn write_bit_in_vec<T: BitStore, O: BitOrder>(words: &mut Vec<T>, at: usize, bit: bool)
     requires { at < T.BITS * length words.old.items }
     ensures bits { row T.BitStore O.BitOrder words.new.items ≡ set (row T.BitStore O.BitOrder words.old.items) at bit }
@@ -33,7 +33,7 @@ pub fn swap_bits_in_vec<T: BitStore, O: BitOrder>(words: &mut Vec<T>, i: usize, 
     swap_bits::<T, O>(words.as_mut_slice(), i, j);
 }
 
-/// As `fill_bits`, in the words of a vector.
+/// Like `fill_bits`, in the words of a vector.
 pub fn fill_bits_in_vec<T: BitStore, O: BitOrder>(
     words: &mut Vec<T>,
     from: usize,
@@ -49,7 +49,7 @@ pub fn fill_bits_in_vec<T: BitStore, O: BitOrder>(
     fill_bits::<T, O>(words.as_mut_slice(), from, upto, bit);
 }
 
-/// As `fill_outside`, in the words of a vector.
+/// Like `fill_outside`, in the words of a vector.
 pub fn fill_outside_in_vec<T: BitStore, O: BitOrder>(
     words: &mut Vec<T>,
     head: usize,
@@ -65,7 +65,7 @@ pub fn fill_outside_in_vec<T: BitStore, O: BitOrder>(
     fill_outside::<T, O>(words.as_mut_slice(), head, len, bit);
 }
 
-/// As `flip_bits`, in the words of a vector.
+/// Like `flip_bits`, in the words of a vector.
 pub fn flip_bits_in_vec<T: BitStore, O: BitOrder>(words: &mut Vec<T>)
     ensures bits { row T.BitStore O.BitOrder words.new.items ≡ map not (row T.BitStore O.BitOrder words.old.items) }
     ensures size { length words.new.items ≡ length words.old.items }
@@ -74,7 +74,7 @@ pub fn flip_bits_in_vec<T: BitStore, O: BitOrder>(words: &mut Vec<T>)
     flip_bits::<T, O>(words.as_mut_slice());
 }
 
-/// As `copy_bits`, into the words of a vector.
+/// Like `copy_bits`, into the words of a vector.
 pub fn copy_bits_in_vec<T: BitStore, O: BitOrder, U: BitStore, P: BitOrder>(
     words: &mut Vec<T>,
     at: usize,
@@ -129,7 +129,7 @@ pub fn move_bits_counted_in_vec<T: BitStore, O: BitOrder>(
     move_bits_counted::<T, O>(words.as_mut_slice(), src, dst, n)
 }
 
-/// As `write_chunk`, in the words of a vector.
+/// Like `write_chunk`, in the words of a vector.
 pub fn write_chunk_in_vec<T: BitStore, O: BitOrder>(
     words: &mut Vec<T>,
     at: usize,
@@ -146,7 +146,7 @@ pub fn write_chunk_in_vec<T: BitStore, O: BitOrder>(
     write_chunk::<T, O>(words.as_mut_slice(), at, n, chunk);
 }
 
-/// As `write_binary`, in the words of a vector.
+/// Like `write_binary`, in the words of a vector.
 pub fn write_binary_in_vec<T: BitStore, O: BitOrder>(
     words: &mut Vec<T>,
     at: usize,

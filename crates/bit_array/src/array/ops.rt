@@ -84,7 +84,7 @@ impl<A: BitWords, O: BitOrder> Index<usize> for BitArray<A, O> {
 
     ghost index_gives = { λ a i bit. Some bit ≡ slice_get (row A.Store.BitStore O.BitOrder (A.words a)) i };
 
-    /// The bit at `i`. The condition: `i` is below the length.
+    /// The bit at `i`. Requires that `i` is below the length.
     fn index(&self, i: usize) -> &bool {
         if self.as_bitslice()[i] { &true } else { &false }
     }

@@ -55,7 +55,7 @@ impl<A: BitWords, O: BitOrder> PartialOrd for BitArray<A, O> {
 
     ghost laws = { on_po (λ a. row_of O.place A.Store.BITS (map A.Store.value (A.words a))) bits_partial };
 
-    /// As `cmp`.
+    /// Like `cmp`.
     fn partial_cmp(&self, other: &Self) -> Option<Ordering> {
         Some(self.cmp(other))
     }

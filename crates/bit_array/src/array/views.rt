@@ -23,7 +23,7 @@ impl<A: BitWords, O: BitOrder> BitArray<A, O> {
         BitSlice::from_slice(self.inner.as_raw_slice())
     }
 
-    /// As `as_bitslice`.
+    /// Like `as_bitslice`.
     pub fn as_slice(&self) -> BitSlice<'_, A::Store, O>
         ensures words { words_of result ≡ A.words self.now }
         ensures head { head_of result ≡ 0 }
@@ -57,7 +57,7 @@ impl<A: BitViewSized, O: BitOrder> BitArray<A, O> {
         BitSliceMut::from_slice_mut(self.inner.as_raw_mut_slice())
     }
 
-    /// As `as_mut_bitslice`.
+    /// Like `as_mut_bitslice`.
     pub fn as_mut_slice(&mut self) -> BitSliceMut<'_, A::Store, O>
         ensures* writes_back { sem 𝓛 (lends_view (the_row A.row O.row A.Store.row A.BitWords A.Store.BitStore O.BitOrder) A.Store.row self.entry (A.refilled self.old) (loan_of result)) }
         ensures words { lent_words result ≡ A.words self.old }

@@ -90,9 +90,9 @@ impl<T: BitStore, O: BitOrder> IntoIter<T, O> {
         }
     }
 
-    /// The bits of these words with a head and a length. The vector is kept, and no memory is taken. The
-    /// condition: the head is in the first word, the words are exactly as many as it takes, and the bits at
-    /// most `MAX_BITS`.
+    /// The bits of these words with a head and a length. The vector is kept, and no memory is taken.
+    /// Requires that the head is in the first word, the words are exactly as many as it takes, and the bits
+    /// at most `MAX_BITS`.
     pub fn from_parts(words: Vec<T>, head: usize, len: usize) -> Self
         requires in_word { head < T.BITS }
         requires few { len ≤ MAX_BITS }

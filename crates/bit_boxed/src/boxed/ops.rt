@@ -99,7 +99,7 @@ impl<T: BitStore, O: BitOrder> Index<usize> for BitBox<T, O> {
 
     ghost index_gives = { λ b i bit. Some bit ≡ slice_get b.list i };
 
-    /// The bit at `i`. The condition: `i` is below the length.
+    /// The bit at `i`. Requires that `i` is below the length.
     fn index(&self, i: usize) -> &bool {
         if self.as_bitslice()[i] { &true } else { &false }
     }

@@ -54,7 +54,7 @@ impl<T: BitStore, O: BitOrder> PartialOrd for BitBox<T, O> {
 
     ghost laws = { on_po list_in bits_partial };
 
-    /// As `cmp`.
+    /// Like `cmp`.
     fn partial_cmp(&self, other: &Self) -> Option<Ordering> {
         Some(self.cmp(other))
     }

@@ -34,8 +34,8 @@ impl<T: BitStore, O: BitOrder> BitVec<T, O> {
         self.len == 0
     }
 
-    /// Joins a bit at the end. Where the visible words are full a word of zero comes first, and no other
-    /// dead bit changes. It answers `TooLong` exactly where the length would pass `MAX_BITS`, and
+    /// Appends a bit at the end. Where the visible words are full a word of zero comes first, and no
+    /// other dead bit changes. Returns `TooLong` exactly where the length would pass `MAX_BITS`, and
     /// `OutOfMemory` only where it would pass the capacity. A refusal leaves the vector.
     #[tactic(auto, using(bit_slice::proofs::Parts::shown_length))]
     pub fn push(&mut self, bit: bool) -> Result<(), GrowError>
@@ -93,8 +93,8 @@ impl<T: BitStore, O: BitOrder> BitVec<T, O> {
         }
     }
 
-    /// Puts a bit before the one at `i`, or at the end where `i` is the length; the rest moves up behind it,
-    /// by one counted move. It is refused as `push` is, and a refusal leaves the vector. The condition: `i`
+    /// Puts a bit before the one at `i`, or at the end where `i` is the length; the rest moves up after it,
+    /// by one counted move. It is refused like `push`, and a refusal leaves the vector. Requires that `i`
     /// is at most the length. What becomes of dead bits is open.
     #[tactic(auto, using(bit_slice::proofs::Parts::shown_length))]
     pub fn insert(&mut self, i: usize, bit: bool) -> Result<(), GrowError>
@@ -114,7 +114,7 @@ impl<T: BitStore, O: BitOrder> BitVec<T, O> {
         Ok(())
     }
 
-    /// Takes the bit at `i`; those behind it move down, by one counted move. Takes no memory. The condition: `i` is
+    /// Takes the bit at `i`; those after it move down, by one counted move. Takes no memory. Requires that `i` is
     /// below the length. What becomes of dead bits is open.
     #[tactic(auto, using(bit_slice::proofs::Parts::shown_length))]
     pub fn remove(&mut self, i: usize) -> bool
@@ -134,8 +134,8 @@ impl<T: BitStore, O: BitOrder> BitVec<T, O> {
         bit
     }
 
-    /// Takes the bit at `i`, and puts the last one in its place. Nothing moves, and no memory is taken. The
-    /// condition: `i` is below the length. What becomes of dead bits is open.
+    /// Takes the bit at `i`, and puts the last one in its place. Nothing moves, and no memory is taken.
+    /// Requires that `i` is below the length. What becomes of dead bits is open.
     #[tactic(auto, using(bit_slice::proofs::Parts::shown_length))]
     pub fn swap_remove(&mut self, i: usize) -> bool
         requires { i < length self.old.list }

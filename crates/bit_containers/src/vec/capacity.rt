@@ -33,7 +33,7 @@ impl<T: BitStore, O: BitOrder> BitVec<T, O> {
     }
 
     /// Makes room for `more` bits more, and for some beyond them where memory is taken. Words and list stay.
-    /// It answers `TooLong` exactly where the length would pass `MAX_BITS`, and `OutOfMemory` only where it
+    /// Returns `TooLong` exactly where the length would pass `MAX_BITS`, and `OutOfMemory` only where it
     /// would pass the capacity.
     pub fn reserve(&mut self, more: usize) -> Result<(), GrowError>
         ensures kept { IsKept self.old self.new }

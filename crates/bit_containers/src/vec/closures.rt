@@ -1,4 +1,4 @@
-//! Growth and removal by the answers of a function.
+//! Growth and removal by the results of a function.
 ghost use Rattle.std.specs.Prelude.{◌≡◌, ◌+◌, ◌-◌, ◌%◌, ◌<◌, ◌≤◌, Bool, List, [], ◌∷◌, ◌++◌, length, take, drop, OnOk, OnErr, IsOk};
 ghost use Rattle.bit_addressing.specs.Row.{number_bits, put};
 ghost use Rattle.bit_addressing.specs.declared.length.TheConstants.{MAX_BITS};
@@ -10,9 +10,10 @@ use crate::vec::collect::with_next;
 use bit_addressing::{BitOrder, BitStore, GrowError, write_chunk_in_vec};
 
 impl<T: BitStore, O: BitOrder> BitVec<T, O> {
-    /// Keeps the first `n` bits, or fills the list up to `n` with what `f` answers at each new index: memory comes
-    /// first, and then the calls, once for each index and in their order. Where it grows it is refused as `push` is,
-    /// and a refusal leaves the vector, with no call made. Where it shrinks it is as `truncate`, and makes no call.
+    /// Keeps the first `n` bits, or fills the list up to `n` with what `f` returns at each new index: memory comes
+    /// first, and then the calls, once for each index and in their order. Where it grows it is refused like `push`,
+    /// and a refusal leaves the vector, with no call made. Where it shrinks it is like `truncate`, and makes no
+    /// call.
     pub fn resize_with<F: FnMut(usize) -> bool>(
         &mut self,
         n: usize,
@@ -30,8 +31,8 @@ impl<T: BitStore, O: BitOrder> BitVec<T, O> {
         self.resize_by(n, &mut f)
     }
 
-    /// As `resize_with`, with a function that is lent: it ends in the state that the last call left, and where the vector
-    /// shrinks or is refused, in the one that it had.
+    /// Like `resize_with`, with a function that is lent: it ends in the state that the last call left, and where the
+    /// vector shrinks or is refused, in the one that it had.
     pub fn resize_by<F: FnMut(usize) -> bool>(
         &mut self,
         n: usize,
@@ -62,7 +63,7 @@ impl<T: BitStore, O: BitOrder> BitVec<T, O> {
         Ok(())
     }
 
-    // As `push`, which finds room.
+    // Like `push`, which finds room.
     fn push_reserved(&mut self, bit: bool)
         requires room { length self.old.list < self.old.capacity }
         requires few { length self.old.list < MAX_BITS }
@@ -73,9 +74,9 @@ impl<T: BitStore, O: BitOrder> BitVec<T, O> {
         let _there_is_room = self.push(bit);
     }
 
-    /// Keeps the bits at which `f` answers true, in order. `f` is called once for each bit, with its index and the bit,
-    /// by ascending index. The bits that stay are gathered in words, and each word is stored once. Takes no memory.
-    /// What becomes of dead bits is open.
+    /// Keeps the bits at which `f` returns true, in order. `f` is called once for each bit, with its index and the
+    /// bit, by ascending index. The bits that stay are gathered in words, and each word is stored once. Takes no
+    /// memory. What becomes of dead bits is open.
     pub fn retain<F: FnMut(usize, &bool) -> bool>(&mut self, mut f: F)
         requires { F.IsAlwaysCallable f }
         ensures list { (answers : List Bool) × (last : F) × AnswersAtEach F.step f 0 self.old.list answers last × (self.new.list ≡ kept self.old.list answers) }
@@ -85,8 +86,8 @@ impl<T: BitStore, O: BitOrder> BitVec<T, O> {
         self.retain_by(&mut f)
     }
 
-    /// As `retain`, with a function that is lent: it ends in the state that the last call left, and where there is no bit
-    /// in the one that it had.
+    /// Like `retain`, with a function that is lent: it ends in the state that the last call left, and where there is
+    /// no bit in the one that it had.
     pub fn retain_by<F: FnMut(usize, &bool) -> bool>(&mut self, f: &mut F)
         requires { F.IsAlwaysCallable f.old }
         ensures list { (answers : List Bool) × AnswersAtEach F.step f.old 0 self.old.list answers f.new × (self.new.list ≡ kept self.old.list answers) }
@@ -107,7 +108,7 @@ impl<T: BitStore, O: BitOrder> BitVec<T, O> {
         self.truncate(count);
     }
 
-    // Writes the `n` lowest bits of a number at the indices from `at` on. The condition: they lie in the length.
+    // Writes the `n` lowest bits of a number at the indices from `at` on. Requires that they lie in the length.
     #[tactic(auto, using(bit_slice::proofs::Parts::shown_length))]
     fn write_number(&mut self, at: usize, n: u8, number: u64)
         requires few { n ≤ 64 }
@@ -119,8 +120,8 @@ impl<T: BitStore, O: BitOrder> BitVec<T, O> {
         write_chunk_in_vec::<T, O>(&mut self.words, from, n, number);
     }
 
-    // One bit more is kept, as item `count` of those that stay: the number has those behind the last multiple of 64,
-    // and where it has 64 they are written. It answers the number then. The condition: `count` is below the length.
+    // One bit more is kept, as item `count` of those that stay: the number has those after the last multiple of 64,
+    // and where it has 64 they are written. Returns the number then. Requires that `count` is below the length.
     fn keep(&mut self, count: usize, number: u64, bit: bool) -> u64
         requires { count < length self.old.list }
         ensures front { take (count + 1 - (count + 1) % 64) self.new.list ++ number_bits result ((count + 1) % 64) ≡ (take (count - count % 64) self.old.list ++ number_bits number (count % 64)) ++ bit ∷ [] }

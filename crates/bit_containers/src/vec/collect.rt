@@ -12,7 +12,7 @@ use crate::vec::BitVec;
 use bit_addressing::{BitOrder, BitStore, GrowError, MAX_BITS};
 use std::alloc::Global;
 
-/// The number with a bit written at place `got`: one bit more is gathered in it. The condition: `got` is below 64.
+/// The number with a bit written at place `got`: one bit more is gathered in it. Requires that `got` is below 64.
 #[inline(always)]
 pub(crate) fn with_next(number: u64, got: u8, bit: bool) -> u64
     requires { got < 64 }
@@ -22,10 +22,10 @@ pub(crate) fn with_next(number: u64, got: u8, bit: bool) -> u64
 }
 
 impl<T: BitStore, O: BitOrder> BitVec<T, O> {
-    /// Joins what an iterator gives before its first None, a word at a time, and pulls nothing after that None. It
-    /// answers `TooLong` at the first bit with which the length would pass `MAX_BITS`, and `OutOfMemory` only where the
-    /// length would pass the capacity and not `MAX_BITS`; then it pulls no more, and leaves the list. What was pulled
-    /// is gone.
+    /// Appends what an iterator gives before its first None, a word at a time, and pulls nothing after that None.
+    /// Returns `TooLong` at the first bit with which the length would pass `MAX_BITS`, and `OutOfMemory` only where
+    /// the length would pass the capacity and not `MAX_BITS`; then it pulls no more, and leaves the list. What was
+    /// pulled is gone.
     pub fn extend<I: IntoIterator<Item = bool>>(&mut self, iter: I) -> Result<(), GrowError>
         requires { IsFiniteIterable I.into_iter_gives I.IntoIter.can_next I.IntoIter.remaining iter }
         ensures joined { OnOk result (GivesAll I.into_iter_gives I.IntoIter.next_gives iter (λ bits. (self.new.list ≡ self.old.list ++ bits) × Grew T.BITS self.old self.new bits)) }
@@ -42,7 +42,7 @@ impl<T: BitStore, O: BitOrder> BitVec<T, O> {
         self.extend_by(iter)
     }
 
-    // As `extend`.
+    // Like `extend`.
     fn extend_by<I: IntoIterator<Item = bool>>(&mut self, iter: I) -> Result<(), GrowError>
         requires { IsFiniteIterable I.into_iter_gives I.IntoIter.can_next I.IntoIter.remaining iter }
         ensures joined { OnOk result (GivesAll I.into_iter_gives I.IntoIter.next_gives iter (λ bits. (self.new.list ≡ self.old.list ++ bits) × Grew T.BITS self.old self.new bits)) }
@@ -82,8 +82,9 @@ impl<T: BitStore, O: BitOrder> BitVec<T, O> {
         let _words = &self.words;
     }
 
-    // One bit more behind the `got` lowest bits of a number, which are to be joined: where it is the last that the
-    // number has room for, all are joined. It answers the number and how many of its bits are to be joined then.
+    // One bit more after the `got` lowest bits of a number, which are to be appended: where it is the last that
+    // the number has room for, all are appended. Returns the number and how many of its bits are to be appended
+    // then.
     #[inline(always)]
     fn gather(&mut self, number: u64, got: u8, bit: bool) -> Result<(u64, u8), GrowError>
         requires room { got < 64 }
@@ -106,7 +107,7 @@ impl<T: BitStore, O: BitOrder> BitVec<T, O> {
     }
 
     /// The bits that an iterator gives before its first None, from head 0 on: the words are canonical. It is refused
-    /// as `extend` is.
+    /// like `extend`.
     pub fn from_bits<I: IntoIterator<Item = bool>>(
         alloc: Global,
         iter: I,
@@ -126,8 +127,9 @@ impl<T: BitStore, O: BitOrder> BitVec<T, O> {
         }
     }
 
-    /// Joins all bits of the words that an iterator gives before its first None, and pulls nothing after that None.
-    /// It answers `TooLong` at the first word with which the length would pass `MAX_BITS`; otherwise as `extend`.
+    /// Appends all bits of the words that an iterator gives before its first None, and pulls nothing after that
+    /// None. Returns `TooLong` at the first word with which the length would pass `MAX_BITS`; otherwise as
+    /// `extend`.
     pub fn extend_words<I: IntoIterator<Item = T>>(&mut self, iter: I) -> Result<(), GrowError>
         requires { IsFiniteIterable I.into_iter_gives I.IntoIter.can_next I.IntoIter.remaining iter }
         ensures joined { OnOk result (GivesAll I.into_iter_gives I.IntoIter.next_gives iter (λ words. (self.new.list ≡ self.old.list ++ row T.BitStore O.BitOrder words) × Grew T.BITS self.old self.new (row T.BitStore O.BitOrder words))) }
@@ -143,7 +145,7 @@ impl<T: BitStore, O: BitOrder> BitVec<T, O> {
         self.extend_by_words(iter)
     }
 
-    // Joins all bits of one word.
+    // Appends all bits of one word.
     fn extend_from_word(&mut self, word: T) -> Result<(), GrowError>
         ensures list { OnOk result (self.new.list ≡ self.old.list ++ row T.BitStore O.BitOrder (word ∷ [])) }
         ensures row { OnOk result (Grew T.BITS self.old self.new (row T.BitStore O.BitOrder (word ∷ []))) }
@@ -153,7 +155,7 @@ impl<T: BitStore, O: BitOrder> BitVec<T, O> {
         self.extend_from_number(O::to_lsb0(word).to_u64(), T::BITS)
     }
 
-    // As `extend_words`.
+    // Like `extend_words`.
     fn extend_by_words<I: IntoIterator<Item = T>>(&mut self, iter: I) -> Result<(), GrowError>
         requires { IsFiniteIterable I.into_iter_gives I.IntoIter.can_next I.IntoIter.remaining iter }
         ensures joined { OnOk result (GivesAll I.into_iter_gives I.IntoIter.next_gives iter (λ words. (self.new.list ≡ self.old.list ++ row T.BitStore O.BitOrder words) × Grew T.BITS self.old self.new (row T.BitStore O.BitOrder words))) }
@@ -176,8 +178,8 @@ impl<T: BitStore, O: BitOrder> BitVec<T, O> {
         Ok(())
     }
 
-    /// The words that an iterator gives before its first None, as they are: head 0. It answers `TooLong` at the
-    /// first word with which the length would pass `MAX_BITS`; otherwise it is refused as `from_bits` is.
+    /// The words that an iterator gives before its first None, as they are: head 0. Returns `TooLong` at the
+    /// first word with which the length would pass `MAX_BITS`; otherwise it is refused like `from_bits`.
     pub fn from_words<I: IntoIterator<Item = T>>(alloc: Global, iter: I) -> Result<Self, GrowError>
         requires { IsFiniteIterable I.into_iter_gives I.IntoIter.can_next I.IntoIter.remaining iter }
         ensures words { IfOk result (λ v. GivesAll I.into_iter_gives I.IntoIter.next_gives iter (λ words. v.words ≡ words)) }

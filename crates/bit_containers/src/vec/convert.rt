@@ -30,7 +30,7 @@ impl<T: BitStore, O: BitOrder> BitVec<T, O> {
         Self::from_slice(alloc, array.as_raw_slice())
     }
 
-    // These words with a head and a length. The vector is kept, and no memory is taken. The condition: the head
+    // These words with a head and a length. The vector is kept, and no memory is taken. Requires that the head
     // is in the first word, the words are exactly as many as it takes, and the bits at most `MAX_BITS`.
     fn of_parts(words: Vec<T>, head: usize, len: usize) -> Self
         requires in_word { head < T.BITS }
@@ -61,7 +61,7 @@ impl<T: BitStore, O: BitOrder> BitVec<T, O> {
         BitBox::from_parts(self.words, self.head, self.len)
     }
 
-    /// As `into_boxed_bitslice`.
+    /// Like `into_boxed_bitslice`.
     pub fn into_boxed_slice(self) -> Result<BitBox<T, O>, AllocError>
         ensures words { IfOk result (λ b. b.words ≡ self.words) }
         ensures row { IfOk result (λ b. b.row ≡ self.row) }
@@ -93,7 +93,7 @@ pub trait IntoBitVec: Sized {
     fn into_bitvec(self) -> Result<BitVec<Self::Store, Self::Order>, AllocError>
         ensures { IfOk result (into_bitvec_gives self) };
 
-    /// As `into_bitvec`.
+    /// Like `into_bitvec`.
     fn into_vec(self) -> Result<BitVec<Self::Store, Self::Order>, AllocError>
         ensures { IfOk result (into_bitvec_gives self) };
 }
@@ -120,7 +120,7 @@ impl<T: BitStore, O: BitOrder> IntoBitVec for BitBox<T, O> {
         Ok(BitVec::of_parts(words, head, len))
     }
 
-    /// As `into_bitvec`.
+    /// Like `into_bitvec`.
     fn into_vec(self) -> Result<BitVec<T, O>, AllocError>
         ensures words { IfOk result (λ v. v.words ≡ take (words_for T.BITS (self.head + length self.list)) self.words) }
         ensures head { IfOk result (λ v. v.head ≡ self.head) }

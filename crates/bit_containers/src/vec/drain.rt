@@ -14,7 +14,7 @@ use std::iter::FusedIterator;
 
 /// The bits of a range of a vector, from both ends, each once, and then None for good.
 ///
-/// Its end takes the whole range out of the vector, also where some of it was never asked for: the bits behind
+/// Its end takes the whole range out of the vector, also where some of it was never asked for: the bits after
 /// the range move down by one move of whole words. No call takes memory.
 ///
 /// ```text
@@ -116,7 +116,7 @@ impl<'a, T: BitStore, O: BitOrder> Drain<'a, T, O> {
         self.vec.get_range(self.front..self.back)
     }
 
-    /// As `as_bitslice`.
+    /// Like `as_bitslice`.
     pub fn as_slice(&self) -> BitSlice<'_, T, O>
         requires { DrainCanStep self.now }
         ensures { list_of result ≡ drain_rest self.now }
@@ -148,7 +148,7 @@ impl<T: BitStore, O: BitOrder> BitVec<T, O> {
         self[i]
     }
 
-    // Takes the bits from `start` up to `end` out, by one move of what is behind them.
+    // Takes the bits from `start` up to `end` out, by one move of what follows them.
     #[tactic(auto, using(bit_slice::proofs::Parts::shown_length))]
     pub(crate) fn remove_range(&mut self, start: usize, end: usize)
         requires ordered { start ≤ end }
@@ -164,7 +164,7 @@ impl<T: BitStore, O: BitOrder> BitVec<T, O> {
         self.len = start + behind;
     }
 
-    // As `remove_range`, for as much of the range as lies in the length.
+    // Like `remove_range`, for as much of the range as lies in the length.
     fn remove_within(&mut self, start: usize, end: usize)
         requires { start ≤ end }
         ensures list { self.new.list ≡ splice self.old.list start end [] }
@@ -178,7 +178,7 @@ impl<T: BitStore, O: BitOrder> BitVec<T, O> {
     }
 
     /// Takes the bits at a range of indices out: the iterator gives them, and when it ends they are gone, whatever it
-    /// gave. What becomes of dead bits is open. The condition: the range lies in the length.
+    /// gave. What becomes of dead bits is open. Requires that the range lies in the length.
     pub fn drain<R: RangeExt>(&mut self, range: R) -> Drain<'_, T, O>
         requires lies { LiesIn (R.start_of range) (R.end_of range (length self.old.list)) (length self.old.list) }
         ensures list { drain_rest result ≡ slice_range self.old.list (R.start_of range) (R.end_of range (length self.old.list)) }

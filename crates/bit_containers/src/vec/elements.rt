@@ -16,7 +16,7 @@ fn set_words<T: BitStore>(words: &mut [T], word: T)
     }
 }
 
-/// As `set_words`, over the words of a vector.
+/// Like `set_words`, over the words of a vector.
 fn set_words_in_vec<T: BitStore>(words: &mut Vec<T>, word: T)
     ensures items { words.new.items ≡ replicate (length words.old.items) word }
     ensures size { length words.new.items ≡ length words.old.items }
@@ -38,7 +38,7 @@ impl<T: BitStore, O: BitOrder> BitVec<T, O> {
     }
 
     /// Makes the length `n`: bits of the visible words that become live are those that stood there, and nothing
-    /// is written. Takes no memory. The condition: the visible words have `n` bits from the head on, and they
+    /// is written. Takes no memory. Requires that the visible words have `n` bits from the head on, and they
     /// are at most `MAX_BITS`.
     #[tactic(auto, using(bit_slice::proofs::Parts::shown_length, crate::proofs::Elements::run_kept))]
     pub fn set_len(&mut self, n: usize)

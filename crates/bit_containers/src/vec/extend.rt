@@ -14,8 +14,8 @@ use bit_addressing::{
 use bit_slice::BitSlice;
 
 impl<T: BitStore, O: BitOrder> BitVec<T, O> {
-    /// Joins the bits of a view at the end, by whole words; the view may be by other words and another order.
-    /// Words of zero come first, as many as the visible ones lack. It answers `TooLong` exactly where the length would pass
+    /// Appends the bits of a view at the end, by whole words; the view may be by other words and another order. Words
+    /// of zero come first, as many as the visible ones lack. Returns `TooLong` exactly where the length would pass
     /// `MAX_BITS`, and `OutOfMemory` only where it would pass the capacity. A refusal leaves the vector.
     #[tactic(auto, using(bit_slice::proofs::Parts::shown_length))]
     pub fn extend_from_bitslice<U: BitStore, P: BitOrder>(
@@ -40,7 +40,7 @@ impl<T: BitStore, O: BitOrder> BitVec<T, O> {
         Ok(())
     }
 
-    /// As `extend_from_bitslice`.
+    /// Like `extend_from_bitslice`.
     pub fn extend_from_slice<U: BitStore, P: BitOrder>(
         &mut self,
         view: BitSlice<'_, U, P>,
@@ -54,8 +54,8 @@ impl<T: BitStore, O: BitOrder> BitVec<T, O> {
         self.extend_from_bitslice(view)
     }
 
-    /// Joins the list of another vector, of any word type and order, by whole words, and empties that one.
-    /// It is refused as `extend_from_bitslice` is, and a refusal leaves both.
+    /// Appends the list of another vector, of any word type and order, by whole words, and empties that
+    /// one. It is refused like `extend_from_bitslice`, and a refusal leaves both.
     pub fn append<U: BitStore, P: BitOrder>(
         &mut self,
         other: &mut BitVec<U, P>,
@@ -75,7 +75,7 @@ impl<T: BitStore, O: BitOrder> BitVec<T, O> {
     }
 
     /// Keeps the first `n` bits, or fills the list up to `n` with `bit`, by whole words. Where it grows it is
-    /// refused as `push` is, and a refusal leaves the vector. Where it shrinks it is as `truncate`.
+    /// refused like `push`, and a refusal leaves the vector. Where it shrinks it is like `truncate`.
     #[tactic(auto, using(bit_slice::proofs::Parts::shown_length))]
     pub fn resize(&mut self, n: usize, bit: bool) -> Result<(), GrowError>
         ensures list { OnOk result (self.new.list ≡ take n self.old.list ++ replicate (n - length self.old.list) bit) }
@@ -117,8 +117,8 @@ impl<T: BitStore, O: BitOrder> BitVec<T, O> {
         self.extend_from_bitslice(BitSlice::<T, O>::from_slice(words))
     }
 
-    /// Joins the bits at a range of indices once more, by one move of whole words. It is refused as
-    /// `extend_from_bitslice` is. The condition: the range lies in the length.
+    /// Appends the bits at a range of indices once more, by one move of whole words. It is refused
+    /// like `extend_from_bitslice`. Requires that the range lies in the length.
     #[tactic(auto, using(bit_slice::proofs::Parts::shown_length))]
     pub fn extend_from_within<R: RangeExt>(&mut self, range: R) -> Result<(), GrowError>
         requires lies { LiesIn (R.start_of range) (R.end_of range (length self.old.list)) (length self.old.list) }
@@ -140,8 +140,8 @@ impl<T: BitStore, O: BitOrder> BitVec<T, O> {
         Ok(())
     }
 
-    /// Joins the `n` lowest bits of a number, that of place 0 first. It is refused as `extend_from_bitslice` is.
-    /// The condition: `n` is at most 64.
+    /// Appends the `n` lowest bits of a number, that of place 0 first. It is refused like
+    /// `extend_from_bitslice`. Requires that `n` is at most 64.
     #[tactic(auto, using(bit_slice::proofs::Parts::shown_length))]
     pub(crate) fn extend_from_number(&mut self, number: u64, n: u8) -> Result<(), GrowError>
         requires { n ≤ 64 }

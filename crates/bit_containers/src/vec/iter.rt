@@ -31,7 +31,7 @@ impl<'a, T: BitStore, O: BitOrder> IntoIterator for &'a BitVec<T, O> {
 
     ghost into_iter_gives = { λ v r. (rest_of r ≡ v.now.list) × (length (rest_of r) ≤ MAX_BITS) × YieldsInOrder (YieldsFirst (rest_of {X = T} {Y = O} {W = T.BitStore} {P = O.BitOrder})) rest_of × YieldsInReverse (YieldsLast (rest_of {X = T} {Y = O} {W = T.BitStore} {P = O.BitOrder})) rest_of };
 
-    /// As `iter`: the items are truth values.
+    /// Like `iter`: the items are truth values.
     fn into_iter(self) -> Iter<'a, T, O> {
         self.iter()
     }

@@ -41,7 +41,7 @@ impl<T: BitStore, O: BitOrder> BitVec<T, O> {
         and_in_vec::<T, O, U, P>(&mut self.words, head, len, other);
     }
 
-    /// Sets each bit that is true in a view; what the view has behind the length doesn't count. No dead bit
+    /// Sets each bit that is true in a view; what the view has after the length doesn't count. No dead bit
     /// changes. Takes no memory.
     #[tactic(auto, using(bit_slice::proofs::Parts::shown_length))]
     pub fn or_bits<U: BitStore, P: BitOrder>(&mut self, other: BitSlice<'_, U, P>)
@@ -54,7 +54,7 @@ impl<T: BitStore, O: BitOrder> BitVec<T, O> {
         or_in_vec::<T, O, U, P>(&mut self.words, head, len, other);
     }
 
-    /// Flips each bit that is true in a view; what the view has behind the length doesn't count. No dead bit
+    /// Flips each bit that is true in a view; what the view has after the length doesn't count. No dead bit
     /// changes. Takes no memory.
     #[tactic(auto, using(bit_slice::proofs::Parts::shown_length))]
     pub fn xor_bits<U: BitStore, P: BitOrder>(&mut self, other: BitSlice<'_, U, P>)
@@ -99,7 +99,7 @@ impl<T: BitStore, O: BitOrder> Index<usize> for BitVec<T, O> {
 
     ghost index_gives = { λ v i bit. Some bit ≡ slice_get v.list i };
 
-    /// The bit at `i`. The condition: `i` is below the length.
+    /// The bit at `i`. Requires that `i` is below the length.
     fn index(&self, i: usize) -> &bool {
         if self.get(i).unwrap_or(false) {
             &true

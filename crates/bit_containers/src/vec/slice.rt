@@ -71,7 +71,7 @@ impl<T: BitStore, O: BitOrder> BitVec<T, O> {
         self.as_bitslice().all()
     }
 
-    /// Writes the bit at `i`, and no other bit. Takes no memory. The condition: `i` is below the length.
+    /// Writes the bit at `i`, and no other bit. Takes no memory. Requires that `i` is below the length.
     #[tactic(auto, using(bit_slice::proofs::Parts::shown_length))]
     pub fn set(&mut self, i: usize, bit: bool)
         requires { i < length self.old.list }
@@ -83,7 +83,7 @@ impl<T: BitStore, O: BitOrder> BitVec<T, O> {
         write_bit_in_vec::<T, O>(&mut self.words, self.head + i, bit);
     }
 
-    /// Writes the bit at `i`, and answers the one that was there. Takes no memory. The condition: `i` is below
+    /// Writes the bit at `i`, and returns the one that was there. Takes no memory. Requires that `i` is below
     /// the length.
     pub fn replace(&mut self, i: usize, bit: bool) -> bool
         requires { i < length self.old.list }
@@ -163,7 +163,7 @@ impl<T: BitStore, O: BitOrder> BitVec<T, O> {
     }
 
     /// Writes the bits of a view, by whatever words and order, over those of the list. No dead bit changes.
-    /// Takes no memory. The condition: the view has as many bits as the vector.
+    /// Takes no memory. Requires that the view has as many bits as the vector.
     #[tactic(auto, using(bit_slice::proofs::Parts::shown_length))]
     pub fn clone_from_bitslice<U: BitStore, P: BitOrder>(&mut self, source: BitSlice<'_, U, P>)
         requires { len_of source ≡ length self.old.list }

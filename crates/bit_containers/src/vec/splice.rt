@@ -42,8 +42,9 @@ impl<T: BitStore, O: BitOrder> BitVec<T, O> {
         self.truncate(0);
     }
 
-    /// Cuts the vector at `at`, and answers what was behind: a clean vector, which begins at head 0. Takes memory where
-    /// a bit is behind, and is refused only then; a refusal leaves the vector. The condition: `at` is at most the length.
+    /// Cuts the vector at `at`, and returns what was after: a clean vector, which begins at head 0. Takes memory
+    /// where a bit is after, and is refused only then; a refusal leaves the vector. Requires that `at` is at most
+    /// the length.
     pub fn split_off(&mut self, at: usize) -> Result<Self, AllocError>
         requires { at ≤ length self.old.list }
         ensures left { OnOk result (self.new.list ≡ take at self.old.list) }
@@ -66,7 +67,7 @@ impl<T: BitStore, O: BitOrder> BitVec<T, O> {
     }
 
     /// Replaces the bits at a range of indices by what an iterator gives, once the splice is finished; until then it
-    /// gives the bits of the range. The condition: the range lies in the length.
+    /// gives the bits of the range. Requires that the range lies in the length.
     pub fn splice<R: RangeExt, U: IntoIterator<Item = bool>>(
         &mut self,
         range: R,
@@ -94,7 +95,7 @@ impl<T: BitStore, O: BitOrder> BitVec<T, O> {
         }
     }
 
-    // Writes the bits of a view at the indices from `at` on. The condition: they lie in the length.
+    // Writes the bits of a view at the indices from `at` on. Requires that they lie in the length.
     #[tactic(auto, using(bit_slice::proofs::Parts::shown_length))]
     fn write_bits(&mut self, at: usize, view: BitSlice<'_, T, O>)
         requires { at + len_of view ≤ length self.old.list }
@@ -106,7 +107,7 @@ impl<T: BitStore, O: BitOrder> BitVec<T, O> {
         copy_bits_in_vec::<T, O, T, O>(&mut self.words, at, view.as_raw_slice(), from, n);
     }
 
-    // Puts the bits of a view in place of those from `start` up to `end`: what is behind moves once.
+    // Puts the bits of a view in place of those from `start` up to `end`: what follows moves once.
     fn put_range(
         &mut self,
         start: usize,
@@ -136,7 +137,7 @@ impl<T: BitStore, O: BitOrder> BitVec<T, O> {
         Ok(())
     }
 
-    // Puts a bit `n` times in place of those from `start` up to `end`. The condition: the range lies in the length.
+    // Puts a bit `n` times in place of those from `start` up to `end`. Requires that the range lies in the length.
     pub(crate) fn replace_by(
         &mut self,
         start: usize,
@@ -247,8 +248,8 @@ impl<'a, T: BitStore, O: BitOrder, I: Iterator<Item = bool>> Splice<'a, T, O, I>
         Some(self.vec.bit(self.back))
     }
 
-    /// The replaced bit behind the next `n`, which are passed over. None exactly where there are no more than `n`; then
-    /// none is left.
+    /// The replaced bit after the next `n`, which are passed over. None exactly where there are no more than `n`;
+    /// then none is left.
     pub fn nth(&mut self, n: usize) -> Option<bool>
         requires { SpliceIsReady self.old }
         ensures answer { result ≡ slice_get (splice_rest self.old) n }
@@ -304,9 +305,9 @@ impl<'a, T: BitStore, O: BitOrder, I: Iterator<Item = bool>> Splice<'a, T, O, I>
         self.back - self.front
     }
 
-    /// Pulls the whole replacement, and puts it in place of the range: what is behind moves once. It answers `TooLong` at
-    /// the first bit with which the length would pass `MAX_BITS`, and `OutOfMemory` only where there is a bit to put and
-    /// the length would not; a refusal pulls no more, and leaves the vector. What becomes of dead bits is open.
+    /// Pulls the whole replacement, and puts it in place of the range: what follows moves once. Returns `TooLong` at
+    /// the first bit with which the length would pass `MAX_BITS`, and `OutOfMemory` only where there is a bit to put
+    /// and the length would not; a refusal pulls no more, and leaves the vector. What becomes of dead bits is open.
     pub fn finish(self) -> Result<(), GrowError>
         requires ready { SpliceIsReady self }
         requires ends { I.can_next self.replacement × IsFinite (I.remaining self.replacement) }

@@ -54,7 +54,7 @@ impl<T: BitStore, O: BitOrder> PartialOrd for BitVec<T, O> {
 
     ghost laws = { on_po list_in bits_partial };
 
-    /// As `cmp`.
+    /// Like `cmp`.
     fn partial_cmp(&self, other: &Self) -> Option<Ordering> {
         Some(self.cmp(other))
     }
@@ -181,7 +181,7 @@ impl<T: BitStore, O: BitOrder> TryFrom<Vec<T>> for BitVec<T, O> {
 
     ghost try_from_gives = { λ words r. MatchResult r (λ v. (v.words ≡ words.items) × (v.row ≡ row T.BitStore O.BitOrder words.items) × (v.head ≡ 0) × (v.list ≡ row T.BitStore O.BitOrder words.items) × (length v.list ≡ T.BITS * length words.items) × IsClean T.BITS v × (v.capacity ≡ bits_in T.BITS (vec_capacity words) 0)) (λ back. back ≡ words) × (IsOk r ↔ (T.BITS * length words.items ≤ MAX_BITS)) };
 
-    /// As `BitVec::try_from_vec`.
+    /// Like `BitVec::try_from_vec`.
     fn try_from(words: Vec<T>) -> Result<Self, Vec<T>> {
         Self::try_from_vec(words)
     }

@@ -26,7 +26,7 @@ impl<T: BitStore, O: BitOrder> BitVec<T, O> {
         BitSlice::from_parts(self.words.as_slice(), self.head, self.len)
     }
 
-    /// As `as_bitslice`.
+    /// Like `as_bitslice`.
     pub fn as_slice(&self) -> BitSlice<'_, T, O>
         ensures words { words_of result ≡ self.now.words }
         ensures row { row_of result ≡ self.now.row }
@@ -50,7 +50,7 @@ impl<T: BitStore, O: BitOrder> BitVec<T, O> {
         BitSliceMut::from_parts_mut(self.words.as_mut_slice(), head, len)
     }
 
-    /// As `as_mut_bitslice`.
+    /// Like `as_mut_bitslice`.
     pub fn as_mut_slice(&mut self) -> BitSliceMut<'_, T, O>
         ensures* writes_back { sem 𝓛 (lends_view T.row O.row T.BitStore O.BitOrder self.entry (loan_of result)) }
         ensures words { lent_words result ≡ self.old.words }
@@ -62,7 +62,7 @@ impl<T: BitStore, O: BitOrder> BitVec<T, O> {
         self.as_mut_bitslice()
     }
 
-    /// The view of the bits at a range of indices, for reading. The condition: the range lies in the length.
+    /// The view of the bits at a range of indices, for reading. Requires that the range lies in the length.
     pub fn get_range<R: RangeExt>(&self, range: R) -> BitSlice<'_, T, O>
         requires lies { LiesIn (R.start_of range) (R.end_of range (length self.now.list)) (length self.now.list) }
         ensures list { list_of result ≡ slice_range self.now.list (R.start_of range) (R.end_of range (length self.now.list)) }

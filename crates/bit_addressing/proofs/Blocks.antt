@@ -1,11 +1,13 @@
 -- Blocks of 64 bits out of two that follow each other.
-use Rattle.std.proofs.Common.{◌≡◌, ℕ, ◌+◌, ◌-◌, ◌*◌, ◌/◌, ◌<◌, ◌≤◌, Bool, false, List, [], ◌∷◌, length, get_or, slice_range, sym, ◌∙◌, ap, inl, inr, arith}
+use Rattle.std.proofs.Common.{◌≡◌, ℕ, ◌+◌, ◌-◌, ◌*◌, ◌/◌, ◌%◌, ◌<◌, ◌≤◌, Bool, false, List, [], ◌∷◌, length, get_or, slice_range, sym, ◌∙◌, ap, inl, inr, arith}
 use Rattle.std.proofs.lemmas.Bool.{cases_lt}
 use Rattle.std.proofs.lemmas.List.{ext_get_or}
+use Rattle.std.proofs.lemmas.Nat.{div-add-mod'}
 use Rattle.bit_addressing.specs.Bits.{has_bit, IsWidth}
 use Rattle.bit_addressing.specs.Row.{row_bit, row_of}
 use Rattle.bit_addressing.proofs.lists.Shown.{get_or-run}
 use Rattle.bit_addressing.proofs.Packs.{pack_fills, row_from}
+use Rattle.bit_addressing.proofs.Runs.{mul_mono}
 use Rattle.bit_addressing.proofs.lists.Sized.{right_sum}
 use Rattle.bit_addressing.proofs.Rows.{length-row_of, get_or-row_one}
 use Rattle.bit_addressing.proofs.Windows.{first_of_two, second_of_two}
@@ -48,3 +50,21 @@ block_from w each k skip t fills =
 -- where a block stands, its width written otherwise
 pub stands : (w each k skip t : ℕ) → IsWidth w → each ≡ w → (k + t * (64 / each)) * w + skip ≡ k * w + skip + t * 64
 stands w each k skip t is narrow = ap (λ n. (k + t * (64 / n)) * w + skip) narrow ∙ block_from w (64 / w) k skip t (pack_fills w is)
+
+-- the same, of a run that begins at that index
+pub stands_in : (w each k skip t from : ℕ) → IsWidth w → each ≡ w → k * w + skip ≡ from → (k + t * (64 / each)) * w + skip ≡ from + t * 64
+stands_in w each k skip t from is narrow begins = stands w each k skip t is narrow ∙ ap (λ n. n + t * 64) begins
+
+-- whole blocks of 64 bits lie in the words
+pub blocks_inside : (each first last : ℕ) → first ≤ last → first + (last - first) / each * each ≤ last
+blocks_inside each first last ordered =
+    let split : (last - first) / each * each + (last - first) % each ≡ last - first = div-add-mod' (last - first) each in
+    omega arith
+
+pub block_inside : (w each first last t : ℕ) → each * w ≡ 64 → first ≤ last → t < (last - first) / each → first * w + t * 64 + 64 ≤ last * w
+block_inside w each first last t fills ordered turn =
+    let most = mul_mono (t + 1) ((last - first) / each) each (omega arith) in
+    let all = blocks_inside each first last ordered in
+    let wide = mul_mono (first + (t + 1) * each) last w (omega arith) in
+    let at : (first + (t + 1) * each) * w + 0 ≡ first * w + 0 + (t + 1) * 64 = block_from w each first 0 (t + 1) fills in
+    omega arith

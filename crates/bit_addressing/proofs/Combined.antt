@@ -7,35 +7,17 @@ use Rattle.bit_addressing.specs.Bits.{has_bit}
 use Rattle.bit_addressing.specs.Order.{IsPermutation}
 use Rattle.bit_addressing.specs.Row.{row_of, put}
 use Rattle.bit_addressing.proofs.lists.Put.{put_none, put_joined}
-use Rattle.bit_addressing.proofs.Runs.{ArePartsOf, slices_joined}
+use Rattle.bit_addressing.proofs.Runs.{slices_joined}
 use Rattle.bit_addressing.proofs.lists.Sized.{one_more_word}
 use Rattle.bit_addressing.proofs.Wholes.{split_sum}
 use Rattle.bit_addressing.proofs.Rows.{length-row_of, get_or-row_one}
 use Rattle.bit_addressing.proofs.lists.Shown.{length-between}
-
--- what f makes of the bits a .. b of xs, and of those of zs that stand as far behind `from` as they behind `at`
-abbrev pub combined : (Bool → Bool → Bool) → List Bool → List Bool → ℕ → ℕ → ℕ → ℕ → List Bool
-combined f xs zs at from a b = zip2 f (slice_range xs a b) (slice_range zs (from + (a - at)) (from + (b - at)))
 
 zip2-append : (f : Bool → Bool → Bool) (xs us ys vs : List Bool) → length xs ≡ length ys → zip2 f (xs ++ us) (ys ++ vs) ≡ zip2 f xs ys ++ zip2 f us vs
 zip2-append f [] us [] vs h = refl
 zip2-append f [] us (y ∷ ys) vs h = cc
 zip2-append f (x ∷ xs) us [] vs h = cc
 zip2-append f (x ∷ xs) us (y ∷ ys) vs h = ap (λ l. f x y ∷ l) (zip2-append f xs us ys vs (omega arith))
-
-pub combined_parts : (f : Bool → Bool → Bool) (xs zs : List Bool) (at upto from : ℕ) → upto ≤ length xs → from + (upto - at) ≤ length zs → ArePartsOf at upto (combined f xs zs at from)
-combined_parts f xs zs at upto from fits long = record {
-  size = λ a b h k l.
-      let u = length-between xs a b (omega arith) in
-      let v = length-between zs (from + (a - at)) (from + (b - at)) (omega arith) in
-      length-zip2 f (slice_range xs a b) (slice_range zs (from + (a - at)) (from + (b - at))) (omega arith) ∙ u;
-  joined = λ a b c h k l n.
-      let u = length-between xs a b (omega arith) in
-      let v = length-between zs (from + (a - at)) (from + (b - at)) (omega arith) in
-      sym (zip2-append f (slice_range xs a b) (slice_range xs b c) (slice_range zs (from + (a - at)) (from + (b - at))) (slice_range zs (from + (b - at)) (from + (c - at))) (omega arith))
-      ∙ ap (λ x. zip2 f x (slice_range zs (from + (a - at)) (from + (b - at)) ++ slice_range zs (from + (b - at)) (from + (c - at)))) (slices_joined xs a b c k l (omega arith))
-      ∙ ap (zip2 f (slice_range xs a c)) (slices_joined zs (from + (a - at)) (from + (b - at)) (from + (c - at)) (omega arith) (omega arith) (omega arith));
-}
 
 -- behind what was put the list is as it was
 pub put_later : (xs ys : List Bool) (d a b : ℕ) → d ≤ length xs → d + length ys ≤ a → a ≤ b → b ≤ length xs → slice_range (put xs d ys) a b ≡ slice_range xs a b
@@ -60,10 +42,6 @@ run_combined f place w old new v low high positive lawful fits made =
     read v i inside ∙ made (place w (low + i)) (lawful.in_range (low + i) (omega arith))
     ∙ ap (λ b. f b (has_bit new (place w (low + i)))) (sym (read old i inside)) ∙ ap (f (get_or (slice_range (row_of place w (old ∷ [])) low high) i false)) (sym (read new i inside))
     ∙ sym (get_or-zip2 f (slice_range (row_of place w (old ∷ [])) low high) (slice_range (row_of place w (new ∷ [])) low high) i false false false (omega arith) (omega arith)))
-
--- a piece of the combined run, its ends written otherwise
-pub piece_is : (f : Bool → Bool → Bool) (xs cur zs one : List Bool) (at from a b i j low high : ℕ) → i ≡ a → j ≡ b → slice_range cur a b ≡ slice_range xs a b → slice_range one low high ≡ slice_range zs (from + (a - at)) (from + (b - at)) → zip2 f (slice_range cur i j) (slice_range one low high) ≡ combined f xs zs at from a b
-piece_is f xs cur zs one at from a b i j low high ei ej same new = rw (ei, ej) (ap (λ x. zip2 f x (slice_range one low high)) same ∙ ap (zip2 f (slice_range xs a b)) new)
 
 pub combined_none : (f : Bool → Bool → Bool) (xs zs : List Bool) (at from n : ℕ) → n ≡ 0 → xs ≡ put xs at (zip2 f (slice_range xs at (at + n)) (slice_range zs from (from + n)))
 combined_none f xs zs at from n none =
@@ -101,6 +79,18 @@ combined_next f xs cur zs one at p q from a upto ordered further inside ea eu lo
     ∙ ap (put xs at) (sym (zip2-append f (slice_range xs at p) (slice_range xs p q) (slice_range zs from a) (slice_range zs a upto) (left ∙ sym right))
     ∙ ap (λ l. zip2 f l (slice_range zs from a ++ slice_range zs a upto)) (slices_joined xs at p q ordered further inside)
     ∙ ap (zip2 f (slice_range xs at q)) (slices_joined zs from a upto (omega arith) (omega arith) long))
+
+-- the same, the ends of the run and what it is made of written otherwise
+pub combined_part : (f : Bool → Bool → Bool) (xs cur zs part : List Bool) (at p q from a upto i j : ℕ) → i ≡ p → j ≡ q → at ≤ p → p ≤ q → q ≤ length xs → a ≡ from + (p - at) → upto ≡ from + (q - at) → upto ≤ length zs
+    → part ≡ slice_range zs a upto → cur ≡ put xs at (zip2 f (slice_range xs at p) (slice_range zs from a))
+    → put cur i (zip2 f (slice_range cur i j) part) ≡ put xs at (zip2 f (slice_range xs at q) (slice_range zs from upto))
+combined_part f xs cur zs part at p q from a upto i j ei ej ordered further inside ea eu long is so_far =
+    rw (ei, ej, is) (combined_next f xs cur zs (zip2 f (slice_range cur p q) (slice_range zs a upto)) at p q from a upto ordered further inside ea eu long so_far refl)
+
+pub combined_begin : (f : Bool → Bool → Bool) (xs zs : List Bool) (at from : ℕ) → xs ≡ put xs at (zip2 f (slice_range xs at at) (slice_range zs from from))
+combined_begin f xs zs at from =
+    let none : at - at ≡ 0 = omega arith in
+    rw none (sym (put_none xs at))
 
 -- one whole word more is made of two
 pub combined_more : (f : Bool → Bool → Bool) (xs cur zs one : List Bool) (w first k from a upto : ℕ) → first ≤ k → (k + 1) * w ≤ length xs → a ≡ from + (k - first) * w → upto ≡ from + (k + 1 - first) * w → upto ≤ length zs

@@ -1,12 +1,12 @@
 -- Where moved bits come from, a word that is collected bit by bit, and the words that a run touches.
 use Rattle.std.proofs.Common.{◌≡◌, ◌↔◌, ℕ, ◌+◌, ◌-◌, ◌*◌, ◌/◌, ◌<◌, ◌≤◌, Bool, if◌then◌else◌, ◌&&◌, eqb, leb, ltb, refl, sym, ◌∙◌, ap, inl, inr, arith, eq-eqb}
-use Rattle.std.proofs.lemmas.Nat.{le-div, div-mul-add}
+use Rattle.std.proofs.lemmas.Nat.{div-mul-add}
 use Rattle.std.proofs.Math.Nat.{div-mul-le_self, div-lt_iff_lt-mul}
-use Rattle.std.proofs.lemmas.Bool.{ne_eqb, cases_lt, lt-leb, le-leb, lt-ltb, le-ltb}
+use Rattle.std.proofs.lemmas.Bool.{cases_lt, lt-leb, le-leb, lt-ltb, le-ltb}
 use Rattle.std.proofs.lemmas.Bool.Decides.{nat_tests, eqb_tells}
 use Rattle.bit_addressing.specs.Bits.{has_bit}
 use Rattle.bit_addressing.specs.Order.{IsPermutation}
-use Rattle.bit_addressing.specs.Row.{source_of, touched}
+use Rattle.bit_addressing.specs.Row.{source_of}
 use Rattle.bit_addressing.proofs.Runs.{div_mono, mul_mono}
 
 pub source_below : (s d n j l : ℕ) → s + n ≤ l → j < l → source_of s d n j < l
@@ -60,21 +60,6 @@ pub source_none : (s d n j : ℕ) → n ≡ 0 → source_of s d n j ≡ j
 source_none s d n j h = grind (arith, nat_tests)
 
 -- ---- the closed form of `touched` counts the words of which a bit lies in the run
-
--- word k has one of the n bits from d on exactly if it is one of the `touched w d n` words from word d / w on
-pub touched_are : (w d n k : ℕ) → 0 < w → 0 < n → ((d / w ≤ k) × (k < d / w + touched w d n)) ↔ ((k * w < d + n) × (d < (k + 1) * w))
-touched_are w d n k positive some =
-    let count : touched w d n ≡ ((d + n - 1) / w + 1) - d / w = ap (λ t. if t then 0 else ((d + n - 1) / w + 1) - d / w) (ne_eqb n 0 (λ e. absurd (omega arith))) in
-    let ordered = div_mono d (d + n - 1) w positive (omega arith) in
-    let whole = div-mul-le_self (d + n - 1) w in
-    let first = div-lt_iff_lt-mul positive in (
-      (λ h. let m = mul_mono k ((d + n - 1) / w) w (omega (arith, h.1)) in (omega arith, first.0 (omega (arith, h.0)))),
-      (λ h. let low : d / w < k + 1 = first.1 h.1 in let high : k ≤ (d + n - 1) / w = le-div k (d + n - 1) w positive (omega (arith, h.0)) in (omega arith, omega arith)),
-    )
-
--- no word has a bit of an empty run
-pub touched_none : (w d : ℕ) → touched w d 0 ≡ 0
-touched_none w d = refl
 
 -- word k lies between those of the first and the last of the n bits from d on exactly if it has one of them
 pub holds_bit : (w d n k : ℕ) → 0 < w → 0 < n → ((d / w ≤ k) × (k < (d + n - 1) / w + 1)) ↔ ((i : ℕ) × (d ≤ i) × (i < d + n) × (i / w ≡ k))

@@ -72,29 +72,3 @@ module _ {X : Type 0} (value : X → ℕ) (w : ℕ) (positive : 0 < w) (ws : Lis
         ];
         clear = λ p h. has_or x (y * 2 ^ back % 2 ^ 64) p ∙ rw (so_far.clear p (omega arith)) (has_shl_low 64 y back p (omega arith) (omega arith));
       }
-
--- where the block of 64 bits begins, some blocks behind a word
-pub block_at : (w each first t : ℕ) → each * w ≡ 64 → (first + 1 + t * each) * w ≡ (first + 1) * w + t * 64
-block_at w each first t is =
-    let split : (first + 1 + t * each) * w ≡ (first + 1) * w + t * (each * w) = grind arith in
-    split ∙ ap (λ n. (first + 1) * w + t * n) is
-
--- it ends before the last word, and its words are numbered below that
-pub record IsBlock (w each first last t : ℕ) : Type 0 where
-  pub words : first + 1 + t * each + each ≤ last
-  pub bits : (first + 1) * w + t * 64 + 64 ≤ last * w
-
-pub block_inside : (w each first last t : ℕ) → each * w ≡ 64 → first < last → t < (last - first - 1) / each → IsBlock w each first last t
-block_inside w each first last t is ordered turn =
-    let split : (last - first - 1) / each * each + (last - first - 1) % each ≡ last - first - 1 = div-add-mod' (last - first - 1) each in
-    let most = mul_mono (t + 1) ((last - first - 1) / each) each (omega arith) in
-    let more = one_more_word t each in
-    let below : first + 1 + (t + 1) * each ≤ last = omega arith in
-    let wide = mul_mono (first + 1 + (t + 1) * each) last w below in
-    let at = block_at w each first (t + 1) is in
-    record { words = omega arith; bits = omega arith }
-
-pub blocks_inside : (each first last : ℕ) → first < last → first + 1 + (last - first - 1) / each * each ≤ last
-blocks_inside each first last ordered =
-    let split : (last - first - 1) / each * each + (last - first - 1) % each ≡ last - first - 1 = div-add-mod' (last - first - 1) each in
-    omega arith

@@ -5,15 +5,15 @@ use Rattle.std.proofs.lemmas.Nat.{div-mul-add, mod-mul-add}
 use Rattle.std.proofs.lemmas.Bool.{cases_lt, lt-leb, le-leb, lt-ltb, le-ltb}
 use Rattle.std.proofs.lemmas.Bool.Decides.{nat_tests}
 use Rattle.bit_addressing.specs.Bits.{has_bit}
-use Rattle.bit_addressing.specs.Row.{row_bit, row_of, put, source_of, moved}
-use Rattle.bit_addressing.proofs.lists.Put.{length-put, put_joined, put_before, put_inside, put_behind}
-use Rattle.bit_addressing.proofs.lists.Shown.{length-run}
-use Rattle.bit_addressing.proofs.Runs.{IsRun, mul_mono, slices_joined}
+use Rattle.bit_addressing.specs.Row.{IsSpan, row_bit, row_of, put, source_of, moved}
+use Rattle.bit_addressing.proofs.lists.Put.{length-put, put_before, put_inside, put_behind}
+use Rattle.bit_addressing.proofs.lists.Shown.{get_or-run, length-run}
+use Rattle.bit_addressing.proofs.Runs.{inner, mul_mono}
 use Rattle.bit_addressing.proofs.lists.Sized.{one_more_word}
 use Rattle.bit_addressing.proofs.Windows.{first_of_two, second_of_two}
 use Rattle.bit_addressing.proofs.Rows.{length-row_of, get_or-row_of, get_or-row_one, row_part}
 use Rattle.bit_addressing.proofs.Moves.{source_below, source_none}
-use Rattle.bit_addressing.proofs.lists.Moved.{length-moved, get_or-moved, get_or-shows, source_inside}
+use Rattle.bit_addressing.proofs.lists.Moved.{length-moved, get_or-moved, source_inside}
 
 -- ---- a move is a move of one part, and then of the other
 
@@ -102,7 +102,7 @@ put_moved xs s d n from to =
       | inr k ↦ elim (cases_lt j (d + n)) [
         | inl l ↦
             let at : s + (j - d) ≡ (s + j) - d = omega arith in
-            put_inside xs ys d j false (omega arith) k (omega arith) ∙ get_or-shows xs s n (j - d) (omega arith) ∙ ap (λ m. get_or xs m false) at
+            put_inside xs ys d j false (omega arith) k (omega arith) ∙ get_or-run xs s n (j - d) (omega arith) ∙ ap (λ m. get_or xs m false) at
             ∙ sym (get_or-moved xs s d n j below ∙ ap (λ m. get_or xs m false) (source_inside s d n j k l))
         | inr l ↦ put_behind xs ys d j false (omega arith) (omega arith) ∙ sym (get_or-moved xs s d n j below ∙ ap (λ m. get_or xs m false) (source_out s d n j (inr l)))
       ]
@@ -154,7 +154,7 @@ module _ (place : ℕ → ℕ → ℕ) (w : ℕ) where
         | inr m ↦ rw (le-leb low i m) (elim (cases_lt i high) [
           | inl l ↦
               let end : i < low + length ys = omega arith in
-              rw (lt-ltb i high l, lt-ltb i (low + length ys) end) (sym (get_or-shows all from n (i - low) (omega arith) ∙ get_or-row_of place w words (from + (i - low)) (omega arith)))
+              rw (lt-ltb i high l, lt-ltb i (low + length ys) end) (sym (get_or-run all from n (i - low) (omega arith) ∙ get_or-row_of place w words (from + (i - low)) (omega arith)))
           | inr l ↦ let end : low + length ys ≤ i = omega arith in rw (le-ltb i high l, le-ltb i (low + length ys) end) refl
         ])
       ])
@@ -215,21 +215,18 @@ blended low high i a b c same = elim (cases_lt i low) [
 
 -- ---- whole runs: a part of the first word, whole words, and a part of the last
 
-inner_words : (w dst n first low last high : ℕ) → IsRun w dst (dst + n) first low last high → first ≢ last → ((first + 1) * w ≡ dst + (w - low)) × (last * w ≡ dst + (w - low + (last - first - 1) * w)) × (w - low + (last - first - 1) * w + high ≡ n)
-inner_words w dst n first low last high run apart =
-    let r = run in
-    let m : ℕ = last - first - 1 in
-    let next = one_more_word first w in
-    let all : first + m + 1 ≡ last = omega arith in
-    let split : last * w ≡ first * w + m * w + w = ap (λ k. k * w) (sym all) ∙ (grind arith) in
-    (omega arith, omega arith, omega arith)
+inner_words : {w dst first low last high : ℕ} (n : ℕ) → IsSpan w dst (dst + n) first low last high → first ≢ last → ((first + 1) * w ≡ dst + (w - low)) × (last * w ≡ dst + (w - low + (last - first - 1) * w)) × (w - low + (last - first - 1) * w + high ≡ n)
+inner_words {w} {dst} {first} {low} {last} {high} n run apart =
+    let m = inner run apart in
+    let same : (last - (first + 1)) * w ≡ (last - first - 1) * w = ap (λ k. k * w) (omega arith) in
+    (m.head, omega arith, omega arith)
 
-pub run_moved_on : (xs ys zs us : List Bool) (w src dst n first low last high a : ℕ) → IsRun w dst (dst + n) first low last high → first ≢ last → a ≡ w - low → dst ≤ src → src + n ≤ length xs
+pub run_moved_on : {w dst first low last high : ℕ} (xs ys zs us : List Bool) (src n a : ℕ) → IsSpan w dst (dst + n) first low last high → first ≢ last → a ≡ w - low → dst ≤ src → src + n ≤ length xs
     → ys ≡ moved xs src (first * w + low) a → zs ≡ moved ys (src + a) ((first + 1) * w) ((last - first - 1) * w) → us ≡ moved zs (src + (n - high)) (last * w + 0) (high - 0)
     → us ≡ moved xs src dst n
-run_moved_on xs ys zs us w src dst n first low last high a run apart is h fits one two three =
+run_moved_on {w} {dst} {first} {low} {last} {high} xs ys zs us src n a run apart is h fits one two three =
     let b : ℕ = (last - first - 1) * w in
-    let at = inner_words w dst n first low last high run apart in
+    let at = inner_words n run apart in
     let inner : (first + 1) * w ≡ dst + a = at.0 ∙ ap (λ m. dst + m) (sym is) in
     let behind : last * w + 0 ≡ dst + (a + b) = let e = at.1 in omega arith in
     let sum : a + b + high ≡ n = let e = at.2 in omega arith in
@@ -241,12 +238,12 @@ run_moved_on xs ys zs us w src dst n first low last high a run apart is h fits o
     three ∙ ap (λ l. moved l (src + (n - high)) (last * w + 0) (high - 0)) next_part ∙ ap (λ s. moved both s (last * w + 0) (high - 0)) from ∙ ap (λ d. moved both (src + (a + b)) d (high - 0)) behind ∙ ap (moved both (src + (a + b)) (dst + (a + b))) most
     ∙ moved_thrice_on xs src dst a b high h (omega arith) ∙ ap (moved xs src dst) sum
 
-pub run_moved_back : (xs ys zs us : List Bool) (w src dst n first low last high a : ℕ) → IsRun w dst (dst + n) first low last high → first ≢ last → a ≡ w - low → src ≤ dst → src + n ≤ length xs
+pub run_moved_back : {w dst first low last high : ℕ} (xs ys zs us : List Bool) (src n a : ℕ) → IsSpan w dst (dst + n) first low last high → first ≢ last → a ≡ w - low → src ≤ dst → src + n ≤ length xs
     → ys ≡ moved xs (src + (n - high)) (last * w + 0) (high - 0) → zs ≡ moved ys (src + a) ((first + 1) * w) ((last - first - 1) * w) → us ≡ moved zs src (first * w + low) a
     → us ≡ moved xs src dst n
-run_moved_back xs ys zs us w src dst n first low last high a run apart is h fits one two three =
+run_moved_back {w} {dst} {first} {low} {last} {high} xs ys zs us src n a run apart is h fits one two three =
     let b : ℕ = (last - first - 1) * w in
-    let at = inner_words w dst n first low last high run apart in
+    let at = inner_words n run apart in
     let inner : (first + 1) * w ≡ dst + a = at.0 ∙ ap (λ m. dst + m) (sym is) in
     let behind : last * w + 0 ≡ dst + (a + b) = let e = at.1 in omega arith in
     let sum : a + b + high ≡ n = let e = at.2 in omega arith in
@@ -260,14 +257,6 @@ run_moved_back xs ys zs us w src dst n first low last high a run apart is h fits
 -- ---- runs copied from another row
 
 -- two runs of one row that are put one behind the other
-pub put_on : (xs zs : List Bool) (d s a b : ℕ) → s + (a + b) ≤ length zs → d + (a + b) ≤ length xs → put (put xs d (slice_range zs s (s + a))) (d + a) (slice_range zs (s + a) (s + a + b)) ≡ put xs d (slice_range zs s (s + (a + b)))
-put_on xs zs d s a b from to =
-    let one : length (slice_range zs s (s + a)) ≡ a = length-run zs s a (omega arith) in
-    let two : length (slice_range zs (s + a) (s + a + b)) ≡ b = length-run zs (s + a) b (omega arith) in
-    let sum : s + a + b ≡ s + (a + b) = omega arith in
-    put_joined xs (slice_range zs s (s + a)) (slice_range zs (s + a) (s + a + b)) d (d + a) (omega arith) (omega arith)
-    ∙ ap (put xs d) (slices_joined zs s (s + a) (s + a + b) (omega arith) (omega arith) (omega arith) ∙ ap (slice_range zs s) sum)
-
 module _ (place : ℕ → ℕ → ℕ) (w : ℕ) where
   -- a run of one word's bits is a run of the row
   pub part_copied : (words : List ℕ) (v low high from : ℕ) → 0 < w → low ≤ high → high ≤ w → from + (high - low) ≤ w * length words
@@ -286,7 +275,7 @@ module _ (place : ℕ → ℕ → ℕ) (w : ℕ) where
       let inside : i < high - low = subst (λ m. i < m) left h in
       let back : from + (low + i - low) ≡ from + i = omega arith in
       get_or-take (high - low) (drop low one) i false inside ∙ get_or-drop low one i false ∙ get_or-row_one place w v (low + i) positive (omega arith) ∙ bits (low + i) (omega arith) (omega arith) ∙ ap (row_bit place w words) back
-      ∙ sym (get_or-shows all from n i inside ∙ get_or-row_of place w words (from + i) (omega arith)))
+      ∙ sym (get_or-run all from n i inside ∙ get_or-row_of place w words (from + i) (omega arith)))
 
   -- all bits of a word are a run of the row
   pub word_copied : (words : List ℕ) (v from : ℕ) → 0 < w → from + w ≤ w * length words → ((i : ℕ) → i < w → has_bit v (place w i) ≡ row_bit place w words (from + i)) → row_of place w (v ∷ []) ≡ slice_range (row_of place w words) from (from + w)
@@ -294,26 +283,3 @@ module _ (place : ℕ → ℕ → ℕ) (w : ℕ) where
       let one : List Bool = row_of place w (v ∷ []) in
       let whole : length one ≡ w * 1 = length-row_of place w (v ∷ []) in
       sym (take_all (w - 0) one (omega arith)) ∙ part_copied words v 0 w from positive (omega arith) (omega arith) (omega arith) (λ i above h. let same : i ≡ i - 0 = omega arith in bits i h ∙ ap (λ m. row_bit place w words (from + m)) same) ∙ ap (λ m. slice_range (row_of place w words) from (from + m)) (omega arith)
-
-pub run_copied : (xs ys us vs zs : List Bool) (w at from n first low last high a : ℕ) → IsRun w at (at + n) first low last high → first ≢ last → a ≡ w - low → at + n ≤ length xs → from + n ≤ length zs
-    → ys ≡ put xs (first * w + low) (slice_range zs from (from + a))
-    → us ≡ put ys ((first + 1) * w) (slice_range zs (from + a) (from + a + (last - first - 1) * w))
-    → vs ≡ put us (last * w + 0) (slice_range zs (from + (n - high)) (from + (n - high) + (high - 0)))
-    → vs ≡ put xs at (slice_range zs from (from + n))
-run_copied xs ys us vs zs w at from n first low last high a run apart is to fits one two three =
-    let b : ℕ = (last - first - 1) * w in
-    let e = inner_words w at n first low last high run apart in
-    let inner : (first + 1) * w ≡ at + a = e.0 ∙ ap (λ m. at + m) (sym is) in
-    let behind : last * w + 0 ≡ at + (a + b) = let f = e.1 in omega arith in
-    let sum : a + b + high ≡ n = let f = e.2 in omega arith in
-    let source : from + (n - high) ≡ from + (a + b) = omega arith in
-    let most : high - 0 ≡ high = omega arith in
-    let first_part : ys ≡ put xs at (slice_range zs from (from + a)) = one ∙ ap (λ d. put xs d (slice_range zs from (from + a))) run.begins in
-    let both : us ≡ put xs at (slice_range zs from (from + (a + b))) = two ∙ ap (λ l. put l ((first + 1) * w) (slice_range zs (from + a) (from + a + b))) first_part ∙ ap (λ d. put (put xs at (slice_range zs from (from + a))) d (slice_range zs (from + a) (from + a + b))) inner ∙ put_on xs zs at from a b (omega arith) (omega arith) in
-    let base : List Bool = put xs at (slice_range zs from (from + (a + b))) in
-    three ∙ ap (λ l. put l (last * w + 0) (slice_range zs (from + (n - high)) (from + (n - high) + (high - 0)))) both
-    ∙ ap (λ d. put base d (slice_range zs (from + (n - high)) (from + (n - high) + (high - 0)))) behind
-    ∙ ap (λ s. put base (at + (a + b)) (slice_range zs s (s + (high - 0)))) source
-    ∙ ap (λ m. put base (at + (a + b)) (slice_range zs (from + (a + b)) (from + (a + b) + m))) most
-    ∙ put_on xs zs at from (a + b) high (omega arith) (omega arith)
-    ∙ ap (λ m. put xs at (slice_range zs from (from + m))) sum

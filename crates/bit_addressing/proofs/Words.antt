@@ -1,5 +1,6 @@
 -- The bits of what the machine's operations on words give.
-use Rattle.std.proofs.Common.{◌≡◌, ℕ, ◌+◌, ◌-◌, ◌*◌, ◌/◌, ◌%◌, ◌^◌, ◌<◌, ◌≤◌, Bool, true, false, not, ◌&&◌, ◌||◌, if◌then◌else◌, eqb, leb, ltb, inl, inr, refl, sym, ◌∙◌, ap, arith, bit_and, bit_or, bit_xor, pow-add, add-zero, add_comm, lit<}
+use Rattle.std.proofs.Common.{◌≡◌, ℕ, ◌+◌, ◌-◌, ◌*◌, ◌/◌, ◌%◌, ◌^◌, ◌<◌, ◌≤◌, Bool, true, false, not, ◌&&◌, ◌||◌, ◌⊎◌, if◌then◌else◌, List, map, length, get_or, eqb, leb, ltb, inl, inr, refl, sym, ◌∙◌, ap, arith, bit_and, bit_or, bit_xor, pow-add, add-zero, add_comm, lit<}
+use Rattle.std.proofs.lemmas.List.{get_or-map, length-map}
 use Rattle.std.proofs.lemmas.Bool.{cases_lt, lt-leb, le-leb, lt-ltb, le-ltb}
 use Rattle.std.proofs.lemmas.Bool.Decides.{nat_tests, eqb_tells}
 use Rattle.std.proofs.lemmas.Nat.Bits.{bit_at_and, bit_at_or, bit_at_xor, bit_at-lt, bit_at_not, bit_at_clear_same, bit_at_clear_other, bit_at_cat_low, bit_at_cat_high, bit_at_above, bit_at-zero, same_from_bits_below}
@@ -9,6 +10,7 @@ use Rattle.std.proofs.Math.Pow.{pow_pos}
 use Rattle.std.proofs.lemmas.Nat.{div-add-mod'}
 use mir.Val.{bits, bool_byte}
 use Rattle.bit_addressing.specs.Bits.{has_bit}
+use Rattle.bit_addressing.specs.Row.{AreWords}
 
 pub has_and : (a b p : ℕ) → has_bit (bit_and a b) p ≡ (has_bit a p && has_bit b p)
 has_and a b p =
@@ -117,6 +119,27 @@ has_put w a k p b h q =
 -- two words with the same bits are the same word
 pub same_word : (w a b : ℕ) → a < 2 ^ w → b < 2 ^ w → ((p : ℕ) → p < w → has_bit a p ≡ has_bit b p) → a ≡ b
 same_word w a b h k same = same_from_bits_below w a b h k (λ p below. let e = same p below in let f = bit_at-lt a p in let g = bit_at-lt b p in grind (arith, nat_tests, e, f, g))
+
+-- a word of some words fits its width
+pub word_fits : {X : Type 0} (value : X → ℕ) (w : ℕ) (words : List X) (i : ℕ) (x : X) → AreWords w (map value words) → i < length words → x ≡ get_or words i x → value x < 2 ^ w
+word_fits value w words i x fits h is =
+    let same : value x ≡ get_or (map value words) i 0 = ap value is ∙ sym (get_or-map value words i x 0 h) in
+    let below : get_or (map value words) i 0 < 2 ^ w = fits i (let l = length-map words value in omega (arith, l, h)) in
+    omega (arith, same, below)
+
+-- two words are one exactly where their bits in 64 are
+pub same_in_64 : (w a b r s : ℕ) → w ≤ 64 → a < 2 ^ w → b < 2 ^ w → r < 2 ^ 64 → s < 2 ^ 64
+    → ((p : ℕ) → p < w → has_bit r p ≡ has_bit a p) → ((p : ℕ) → w ≤ p → has_bit r p ≡ false)
+    → ((p : ℕ) → p < w → has_bit s p ≡ has_bit b p) → ((p : ℕ) → w ≤ p → has_bit s p ≡ false)
+    → (r ≡ s → a ≡ b) × (a ≡ b → r ≡ s)
+same_in_64 w a b r s few fits_a fits_b fits_r fits_s low_r high_r low_s high_s = (
+  λ same. same_word w a b fits_a fits_b (λ p h. sym (low_r p h) ∙ ap (λ n. has_bit n p) same ∙ low_s p h),
+  λ same. same_word 64 r s fits_r fits_s (λ p h. at_place p same (cases_lt p w)),
+)
+  where
+    at_place : (p : ℕ) → a ≡ b → (p < w) ⊎ (w ≤ p) → has_bit r p ≡ has_bit s p
+    at_place p same (inl below) = low_r p below ∙ ap (λ n. has_bit n p) same ∙ sym (low_s p below)
+    at_place p same (inr above) = high_r p above ∙ sym (high_s p above)
 
 -- ---- masks made of two shifts of the word whose bits are all set
 

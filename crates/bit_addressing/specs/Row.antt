@@ -1,5 +1,5 @@
 -- Rows: the bits of words one after another, and what calls do to them.
-use Rattle.std.specs.Prelude.{◌≡◌, ◌≢◌, ℕ, ◌+◌, ◌-◌, ◌*◌, ◌/◌, ◌%◌, ◌<◌, Bool, false, not, ◌&&◌, if◌then◌else◌, eqb, leb, ltb, List, ◌++◌, map, take, drop, length, replicate, slice_index_or, slice_range, zero, suc, ◌^◌, bit_or, [], ◌∷◌}
+use Rattle.std.specs.Prelude.{◌≡◌, ◌≢◌, ℕ, ◌+◌, ◌-◌, ◌*◌, ◌/◌, ◌%◌, ◌<◌, ◌≤◌, Bool, false, not, ◌&&◌, if◌then◌else◌, eqb, leb, ltb, List, ◌++◌, map, take, drop, length, replicate, slice_index_or, slice_range, zero, suc, ◌^◌, bit_or, [], ◌∷◌}
 use Rattle.std.specs.List.{range_with_len}
 use Rattle.std.specs.Simd.Lanes.{mask_l}
 use Rattle.bit_addressing.specs.Bits.{has_bit}
@@ -61,6 +61,15 @@ moved bits s d n = map (λ j. slice_index_or bits (source_of s d n j) false) (ra
 -- how many words of w bits have one of the n bits from d on
 abbrev pub touched : ℕ → ℕ → ℕ → ℕ
 touched w d n = if eqb n 0 then 0 else ((d + n - 1) / w + 1) - d / w
+
+-- a run's span in words of w bits: it begins at index `low` of word `first`, and ends before index `end` of word `last`
+pub record IsSpan (w from upto first low last end : ℕ) : Type 0 where
+  pub begins : first * w + low ≡ from
+  pub low_below : low < w
+  pub ends : last * w + end ≡ upto
+  pub some : 0 < end
+  pub end_within : end ≤ w
+  pub ordered : first ≤ last
 
 -- words that stand for a list: as many as it needs, its bits and then false
 pub record IsCanonical (place : ℕ → ℕ → ℕ) (w : ℕ) (words : List ℕ) (bits : List Bool) : Type 0 where

@@ -1,6 +1,6 @@
 //! How long containers may be, and how many words a number of bits takes.
 ghost use Rattle.std.specs.Prelude.{◌≡◌, ℕ, ◌+◌, ◌-◌, ◌*◌, ◌/◌, ◌^◌, ◌<◌, ◌≤◌, ◌↔◌};
-ghost use Rattle.bit_addressing.specs.Row.{touched, words_for};
+ghost use Rattle.bit_addressing.specs.Row.{IsSpan, touched, words_for};
 
 use crate::store::BitStore;
 use std::ops::Range;
@@ -43,4 +43,35 @@ pub fn touched_words<T: BitStore>(from: usize, n: usize) -> Range<usize>
         return first..first;
     }
     first..(from + n - 1) / width + 1
+}
+
+/// The words that a run of bits takes: an edge in the word `first`, the whole words between it and `last`, and an edge in
+/// `last`. Where both are one word, its indices `low..end`.
+#[derive(Drop)]
+pub(crate) struct Span {
+    /// The first word that holds a bit of the run.
+    pub(crate) first: usize,
+    /// The index of the run's first bit in that word.
+    pub(crate) low: usize,
+    /// The last word that holds a bit of the run.
+    pub(crate) last: usize,
+    /// The index after the run's last bit in that word, above 0.
+    pub(crate) end: usize,
+}
+
+impl Span {
+    /// The span of the bits `from..upto` in words of type `T`. Requires that the run has a bit.
+    #[inline(always)]
+    pub(crate) fn of<T: BitStore>(from: usize, upto: usize) -> Span
+        requires { from < upto }
+        ensures { IsSpan T.BITS from upto result.first result.low result.last result.end }
+    {
+        let width = T::BITS as usize;
+        Span {
+            first: from / width,
+            low: from % width,
+            last: (upto - 1) / width,
+            end: (upto - 1) % width + 1,
+        }
+    }
 }

@@ -2,6 +2,8 @@
 #![tactic(auto)]
 
 mod bits;
+mod each_shift;
+mod equal;
 mod errors;
 mod index;
 mod length;
@@ -17,7 +19,7 @@ mod word_row;
 
 pub use bits::chunks::{read_binary, read_chunk, write_binary, write_chunk};
 pub use bits::combined::{And, BitOperator, Or, Xor, combine_bits};
-pub use bits::copies::{copy_bits, copy_bits_alike};
+pub use bits::copies::copy_bits;
 pub use bits::growth::{cut_words_in_vec, push_bit_in_vec, resize_words_in_vec};
 pub use bits::searches::{count_bits, differ_at, find_bit};
 pub use bits::single::{
@@ -28,6 +30,7 @@ pub use bits::vectors::{
     move_bits_counted_in_vec, move_bits_in_vec, swap_bits_in_vec, write_binary_in_vec,
     write_bit_in_vec, write_chunk_in_vec,
 };
+pub use equal::equal_words;
 pub use errors::GrowError;
 pub use index::{BitEnd, BitIdx, BitPos};
 pub use length::{MAX_BITS, elts, touched_words};

@@ -5,7 +5,7 @@ ghost use Rattle.bit_addressing.specs.Row.{row_bit, row_of, moved, touched};
 ghost use Rattle.bit_addressing.specs.declared.length.TheConstants.{MAX_BITS};
 ghost use Rattle.bit_addressing.specs.Typed.{row};
 
-use crate::bits::chunks::goes_by_shifts;
+use crate::each_shift::each_shift;
 use crate::index::{BitEnd, BitIdx};
 use crate::meter::Meter;
 use crate::order::BitOrder;
@@ -156,37 +156,6 @@ fn shift_words<T: BitStore, O: BitOrder>(
     }
 }
 
-/// Like `shift_words`, of bytes. A processor shifts bytes side by side by a number that the compiler knows, so
-/// each index has loops of its own.
-fn shift_bytes<T: BitStore, O: BitOrder>(
-    row: &mut WordRow<T>,
-    begin: usize,
-    at: u8,
-    first: usize,
-    count: usize,
-)
-    requires width { T.BITS ≡ 8 }
-    requires within { at < T.BITS }
-    requires target { first + count ≤ length row.old.words.now }
-    requires source { begin + count < length row.old.words.now }
-    ensures same_words { row.new.words.ghost_name ≡ row.old.words.ghost_name }
-    ensures size { length row.new.words.now ≡ length row.old.words.now }
-    ensures bits { row_of O.place T.BITS (map T.value row.new.words.now) ≡ moved (row_of O.place T.BITS (map T.value row.old.words.now)) (begin * T.BITS + at) (first * T.BITS) (count * T.BITS) }
-    ensures reads { row.new.meter.reads ≡ row.old.meter.reads + 2 * count }
-    ensures writes { row.new.meter.writes ≡ row.old.meter.writes + count }
-{
-    match at {
-        1 => shift_words::<T, O>(row, begin, 1, first, count),
-        2 => shift_words::<T, O>(row, begin, 2, first, count),
-        3 => shift_words::<T, O>(row, begin, 3, first, count),
-        4 => shift_words::<T, O>(row, begin, 4, first, count),
-        5 => shift_words::<T, O>(row, begin, 5, first, count),
-        6 => shift_words::<T, O>(row, begin, 6, first, count),
-        7 => shift_words::<T, O>(row, begin, 7, first, count),
-        _ => shift_words::<T, O>(row, begin, 0, first, count),
-    }
-}
-
 /// Moves the bits from `from` on to the `count` whole words from word `first` on. Requires that the row
 /// has one bit more after those that are moved.
 #[inline(always)]
@@ -208,8 +177,8 @@ pub(crate) fn move_words<T: BitStore, O: BitOrder>(
     let width = T::BITS as usize;
     let begin = from / width;
     let at = (from % width) as u8;
-    if T::BITS == 8 && goes_by_shifts::<O>() {
-        shift_bytes::<T, O>(row, begin, at, first, count);
+    if T::BITS == 8 && O::goes_by_shifts() {
+        each_shift!(at, by => shift_words::<T, O>(row, begin, by, first, count));
     } else if at == 0 {
         shift_words::<T, O>(row, begin, 0, first, count);
     } else {

@@ -6,6 +6,7 @@ ghost use Rattle.bit_addressing.specs.Row.{row_bit, row_of, moved, touched};
 
 use crate::bits::single::{blend, shl_behind, shr_behind};
 use crate::index::{BitEnd, BitIdx, BitPos};
+use crate::length::Span;
 use crate::move_run::{move_part, move_words};
 use crate::store::BitStore;
 use crate::word_row::WordRow;
@@ -31,6 +32,13 @@ pub trait BitOrder {
     /// The place of the bit at index `i`.
     fn at<T: BitStore>(i: BitIdx<T>) -> BitPos<T>
         ensures { result ≡ place T.BITS i };
+
+    /// Whether a word's bits are taken by shifts. It is a hint for speed alone: of another order, bits are
+    /// cheaper taken one by one than by way of a number.
+    #[inline(always)]
+    fn goes_by_shifts() -> bool {
+        false
+    }
 
     /// The word whose set bits are those at the indices `from..upto`. Requires that `from` is at most `upto`.
     fn mask<T: BitStore>(from: BitIdx<T>, upto: BitEnd<T>) -> T
@@ -168,24 +176,26 @@ pub trait BitOrder {
             return;
         }
         let width = T::BITS as usize;
-        let first = dst / width;
-        let low = dst % width;
-        let last = (dst + n - 1) / width;
-        let high = (dst + n - 1) % width + 1;
+        let Span {
+            first,
+            low,
+            last,
+            end,
+        } = Span::of::<T>(dst, dst + n);
         if first == last {
-            move_part::<T, Self>(row, src, first, low, high);
+            move_part::<T, Self>(row, src, first, low, end);
             return;
         }
         let inner = src + (width - low);
-        let behind = src + (n - high);
+        let behind = src + (n - end);
         let count = last - first - 1;
         if dst <= src {
             move_part::<T, Self>(row, src, first, low, width);
             move_words::<T, Self>(row, inner, first + 1, count);
-            move_part::<T, Self>(row, behind, last, 0, high);
+            move_part::<T, Self>(row, behind, last, 0, end);
             return;
         }
-        move_part::<T, Self>(row, behind, last, 0, high);
+        move_part::<T, Self>(row, behind, last, 0, end);
         move_words::<T, Self>(row, inner, first + 1, count);
         move_part::<T, Self>(row, src, first, low, width);
     }
@@ -204,6 +214,11 @@ impl BitOrder for Lsb0 {
 
     fn at<T: BitStore>(i: BitIdx<T>) -> BitPos<T> {
         BitPos::new_unchecked(i.into_inner())
+    }
+
+    #[inline(always)]
+    fn goes_by_shifts() -> bool {
+        true
     }
 
     fn mask<T: BitStore>(from: BitIdx<T>, upto: BitEnd<T>) -> T {
@@ -258,6 +273,11 @@ impl BitOrder for Msb0 {
 
     fn at<T: BitStore>(i: BitIdx<T>) -> BitPos<T> {
         BitPos::new_unchecked(T::BITS - 1 - i.into_inner())
+    }
+
+    #[inline(always)]
+    fn goes_by_shifts() -> bool {
+        true
     }
 
     fn mask<T: BitStore>(from: BitIdx<T>, upto: BitEnd<T>) -> T {

@@ -3,8 +3,10 @@ use Rattle.std.proofs.Common.{◌≡◌, ℕ, ◌+◌, ◌*◌, Bool, false, Lis
 use Rattle.bit_addressing.specs.Bits.{IsWidth}
 use Rattle.bit_addressing.specs.declared.store.BitStore as store
 use Rattle.bit_addressing.specs.declared.order.BitOrder as order
-use Rattle.bit_addressing.specs.Row.{row_of, put}
-use Rattle.bit_addressing.specs.Typed.{row}
+use Rattle.bit_addressing.specs.Row.{row_of, put, packed, words_for}
+use Rattle.bit_addressing.specs.Typed.{row, words_from, words_for_list}
+use Rattle.bit_addressing.proofs.Canon.{packed_sized}
+use Rattle.bit_addressing.proofs.lists.Sized.{sized_same, words_for_all}
 use Rattle.bit_addressing.proofs.Rows.{width_positive, row_zeros}
 use Rattle.bit_addressing.proofs.Typed.{length_row, map_replicate}
 use Rattle.bit_slice.specs.Operators.{combined}
@@ -32,3 +34,14 @@ module _ {X Y : Type 0} (W : store.Ghosts X) (P : order.Ghosts Y) where
       let all : slice_range (row W P old) 0 (0 + len) ≡ row W P old = shown_all (row W P old) len (size ∙ sym long) in
       row_whole old new (combined f (row W P old) ys) n count (length-combined f (row W P old) ys ∙ long)
       (is ∙ ap (λ l. put (row W P old) 0 (combined f l zs)) all ∙ ap (λ l. put (row W P old) 0 (combined f (row W P old) l)) same)
+
+  -- the words of an array are those for its list
+  pub words_of_bits : (ws : List X) → IsWidth W.BITS → ws ≡ words_from W P (row W P ws) → ws ≡ words_for_list W P (row W P ws)
+  words_of_bits ws width from =
+      let w = W.BITS in
+      let bits = row W P ws in
+      let positive = width_positive w width in
+      let size : length bits ≡ w * length ws = length_row W.value P.place w ws in
+      from
+      ∙ ap (λ l. map W.number (packed P.place w l)) (sym (sized_same w bits (length bits) (size ∙ ap (λ m. w * m) (words_for_all w (length ws) positive ∙ ap (words_for w) (sym size)))))
+      ∙ ap (map W.number) (packed_sized P.place w bits (length bits) positive refl)

@@ -1,10 +1,10 @@
 //! The array: what it is, and how it is made and taken apart.
 ghost use Rattle.std.specs.Prelude.{◌≡◌, ℕ, ◌*◌, ◌≤◌, ◌↔◌, false, length, replicate, IsTrue};
 ghost use Rattle.bit_addressing.specs.declared.length.TheConstants.{MAX_BITS};
-ghost use Rattle.bit_addressing.specs.Typed.{row};
+ghost use Rattle.bit_addressing.specs.Typed.{row, words_for_list};
 
 use crate::sized::{BitViewSized, BitWords};
-use bit_addressing::{BitOrder, BitStore, Lsb0, MAX_BITS};
+use bit_addressing::{BitOrder, BitStore, Lsb0, MAX_BITS, exact_words};
 use std::marker::{Model, PhantomData};
 
 mod iter;
@@ -63,6 +63,7 @@ impl<A: BitWords, O: BitOrder> BitArray<A, O> {
         requires { A.Store.BITS * A.count ≤ MAX_BITS }
         ensures words { A.words result ≡ replicate A.count A.Store.ZERO }
         ensures list { row A.Store.BitStore O.BitOrder (A.words result) ≡ replicate (A.Store.BITS * A.count) false }
+        ensures len { length (row A.Store.BitStore O.BitOrder (A.words result)) ≡ A.Store.BITS * A.count }
     {
         BitArray {
             inner: A::zero(),
@@ -72,10 +73,13 @@ impl<A: BitWords, O: BitOrder> BitArray<A, O> {
 
     /// The bits of these words, which are kept as they are. Requires that they are at most `MAX_BITS`, as
     /// `fits` tests.
+    #[tactic(auto, using(bit_slice::proofs::Parts::row_size))]
     pub fn new(inner: A) -> Self
         requires { A.Store.BITS * A.count ≤ MAX_BITS }
-        ensures { result ≡ inner }
+        ensures value { result ≡ inner }
+        ensures len { length (row A.Store.BitStore O.BitOrder (A.words result)) ≡ A.Store.BITS * A.count }
     {
+        exact_words::<A::Store, O>(inner.as_raw_slice());
         BitArray {
             inner,
             order: PhantomData,
@@ -84,8 +88,10 @@ impl<A: BitWords, O: BitOrder> BitArray<A, O> {
 
     /// The words, as they are.
     pub fn into_inner(self) -> A
-        ensures { result ≡ self }
+        ensures value { result ≡ self }
+        ensures words { A.words result ≡ words_for_list A.Store.BitStore O.BitOrder (row A.Store.BitStore O.BitOrder (A.words self)) }
     {
+        self.as_raw_slice();
         self.inner
     }
 

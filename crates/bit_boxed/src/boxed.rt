@@ -304,8 +304,8 @@ impl<T: BitStore, O: BitOrder> BitBox<T, O> {
         fill_outside_in_vec::<T, O>(&mut self.words, self.head, self.len, bit);
     }
 
-    // The allocator that its words came from.
-    pub(crate) fn allocator(&self) -> Global {
+    /// The allocator that the words came from.
+    pub fn allocator(&self) -> Global {
         *self.words.allocator()
     }
 }

@@ -1,7 +1,8 @@
 -- One more call of a function that keeps a state.
-use Rattle.std.proofs.Common.{◌≡◌, ℕ, suc, ◌+◌, ◌-◌, ◌*◌, ◌<◌, ◌≤◌, refl, sym, ap, ◌∙◌, Bool, true, false, cond, List, [], ◌∷◌, ◌++◌, length, get_or, take, drop, ◌%◌, append-nil, arith}
+use Rattle.std.proofs.Common.{◌≡◌, ℕ, suc, ◌+◌, ◌-◌, ◌*◌, ◌<◌, ◌≤◌, refl, sym, ap, ◌∙◌, Bool, true, false, cond, List, [], ◌∷◌, ◌++◌, length, get_or, take, drop, ◌%◌, append-nil, map, arith}
 use Rattle.std.proofs.lemmas.List.{take_more, drop_more, drop-drop, take_all, length-take-le}
 use Rattle.std.specs.Borrow.{Bor}
+use Rattle.std.specs.List.{filter, range_with_len}
 use Rattle.bit_addressing.specs.Row.{words_for, number_bits}
 use Rattle.bit_containers.specs.BitVec.{Held, Grew, IsKept}
 use Rattle.bit_containers.specs.Closures.{AnswersFrom, AnswersAtEach, kept, keep_where}
@@ -16,6 +17,13 @@ module _ {F : Type 0} (step : F → ℕ → Bool → F → Type 0) where
   answers_more f i (a ∷ answers) g j b h run called at =
       (run.0, run.1, answers_more run.0 (i + 1) answers g j b h run.2 called (omega arith))
 
+  -- where each answer is that of a function of the index, those are the values of that function at the indices
+  pub filled_with : (of : ℕ → Bool) → ((f : F) (i : ℕ) (answer : Bool) (next : F) → step f i answer next → answer ≡ of i)
+      → (f : F) (i : ℕ) (answers : List Bool) (last : F) → AnswersFrom step f i answers last → answers ≡ map of (range_with_len i (length answers))
+  filled_with of says f i [] last run = refl
+  filled_with of says f i (a ∷ answers) last run =
+      rw (says f i a run.0 run.1) (ap (λ l. of i ∷ l) (filled_with of says run.0 (i + 1) answers last run.2))
+
 -- a vector that was kept has grown by nothing
 pub grew_kept : {X : Type 0} (w : ℕ) (old new : Held X) → length old.row ≡ w * words_for w (old.head + length old.list) → IsKept old new → Grew w old new []
 grew_kept w old new size same =
@@ -27,6 +35,11 @@ grew_kept w old new size same =
 kept_cond : (b x : Bool) (bits answers : List Bool) → kept (x ∷ bits) (b ∷ answers) ≡ cond b (x ∷ kept bits answers) (kept bits answers)
 kept_cond true x bits answers = refl
 kept_cond false x bits answers = refl
+
+-- a test of the bit alone keeps the bits that pass it
+kept_by_bit : (test : Bool → Bool) (i : ℕ) (bits : List Bool) → keep_where (λ _ bit. test bit) i bits ≡ filter test bits
+kept_by_bit test i [] = refl
+kept_by_bit test i (x ∷ bits) = ap (λ l. cond (test x) (x ∷ l) l) (kept_by_bit test (i + 1) bits)
 
 module _ {F : Type 0} (step : F → ℕ → Bor Bool → Bool → F → Type 0) where
   pub answers_at_each_more : (f : F) (i : ℕ) (bits answers : List Bool) (g : F) (j : ℕ) (bit : Bool) (shown : Bor Bool) (b : Bool) (h : F) → AnswersAtEach step f i bits answers g → step g j shown b h → shown.now ≡ bit → j ≡ i + length bits → AnswersAtEach step f i (bits ++ bit ∷ []) (answers ++ b ∷ []) h
@@ -48,6 +61,11 @@ module _ {F : Type 0} (step : F → ℕ → Bor Bool → Bool → F → Type 0) 
       let same : run.0 ≡ test i x = says f i run.3 run.0 run.2 run.6 ∙ ap (test i) run.5 in
       let rest = kept_where test says run.2 (i + 1) bits run.1 last run.7 in
       rw (run.4, same) (kept_cond (test i x) x bits run.1 ∙ ap (λ l. cond (test i x) (x ∷ l) l) rest)
+
+  -- where each answer is that of a test of the bit alone, the bits that pass it are kept
+  pub kept_filter : (test : Bool → Bool) → ((f : F) (i : ℕ) (shown : Bor Bool) (answer : Bool) (next : F) → step f i shown answer next → answer ≡ test shown.now)
+      → (f : F) (i : ℕ) (bits answers : List Bool) (last : F) → AnswersAtEach step f i bits answers last → kept bits answers ≡ filter test bits
+  kept_filter test says f i bits answers last run = kept_where (λ _. test) says f i bits answers last run ∙ kept_by_bit test i bits
 
 kept_more : (bits answers : List Bool) (x b : Bool) → length answers ≡ length bits → kept (bits ++ x ∷ []) (answers ++ b ∷ []) ≡ kept bits answers ++ cond b (x ∷ []) []
 kept_more [] [] x true e = refl

@@ -75,10 +75,6 @@ module _ {X Y : Type 0} {W : store.Ghosts X} {P : order.Ghosts Y} where
 
 -- ---- bits written inside what a vector shows
 
-pub shows_put_inside : (xs ys : List Bool) (head len at : ℕ) → at + length ys ≤ len → head + len ≤ length xs → slice_range (put xs (head + at) ys) head (head + len) ≡ put (slice_range xs head (head + len)) at ys
-unfolding put
-shows_put_inside xs ys head len at h k = same_lists _ _ (search (rules, places)) (λ i d below. grind (arith, places))
-
 -- the front of a list, up to what was written behind it
 pub take_put : (xs ys : List Bool) (d n : ℕ) → n ≡ d + length ys → n ≤ length xs → take n (put xs d ys) ≡ take d xs ++ ys
 unfolding put

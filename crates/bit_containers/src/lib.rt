@@ -8,11 +8,11 @@ mod tests;
 pub mod vec;
 
 pub use bit_addressing::{
-    BitEnd, BitIdx, BitOrder, BitPos, BitRegister, BitStore, GrowError, Lsb0, MAX_BITS, Meter,
-    Msb0, RangeExt, elts,
+    And, BitEnd, BitIdx, BitOperator, BitOrder, BitPos, BitRegister, BitStore, GrowError, Lsb0,
+    MAX_BITS, Meter, Msb0, Or, RangeExt, Xor, combine_bits, elts, equal_words, find_bit,
 };
 pub use bit_array as array;
 pub use bit_boxed as boxed;
-pub use bit_slice::{BitSlice, BitSliceMut, CountedMut, Iter};
+pub use bit_slice::{BitSlice, BitSliceMut, Counted, CountedMut, Iter, run_mut};
 pub use machine::{Command, Reply, Stop, run};
 pub use vec::{BitVec, Drain, IntoBitVec, Items, Splice};

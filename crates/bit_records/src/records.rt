@@ -134,6 +134,7 @@ impl<T: BitStore, O: BitOrder> Records<T, O> {
     pub fn into_bits(self) -> BitVec<T, O>
         ensures bits { result ≡ self.bits }
         ensures list { result.list ≡ joined self.width self.list }
+        ensures len { length result.list ≡ length self.list * self.width }
         ensures clean { IsClean T.BITS result }
     {
         self.bits

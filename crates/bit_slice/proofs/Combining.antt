@@ -1,5 +1,5 @@
 -- Two lists made into one, and what is left of a row.
-use Rattle.std.proofs.Common.{◌≡◌, ℕ, zero, suc, ◌+◌, ◌-◌, ◌≤◌, Bool, true, false, not, ◌&&◌, ◌||◌, cond, List, [], ◌∷◌, ◌++◌, map, length, replicate, take, drop, slice_range, refl, sym, ◌∙◌, ap, arith, rules}
+use Rattle.std.proofs.Common.{◌≡◌, ℕ, zero, suc, ◌+◌, ◌-◌, ◌≤◌, Bool, false, List, [], ◌∷◌, ◌++◌, map, length, replicate, take, drop, slice_range, refl, sym, ◌∙◌, ap, arith, rules}
 use Rattle.std.specs.Prelude.{min}
 use Rattle.std.proofs.lemmas.List.{length-drop, length-take-le, length-replicate, places, same_lists}
 use Rattle.std.specs.Simd.Lanes.{zip2}
@@ -9,7 +9,7 @@ use Rattle.bit_addressing.proofs.lists.Put.{put_joined, length-put}
 use Rattle.bit_addressing.proofs.lists.Shown.{shows_fewer, length-run}
 use Rattle.bit_addressing.proofs.Combined.{put_later}
 use Rattle.bit_addressing.proofs.lists.Shown.{length-between}
-use Rattle.bit_slice.specs.Operators.{combined, and_of}
+use Rattle.bit_slice.specs.Operators.{combined}
 
 -- what stands on both sides, and behind it what the left has alone
 split : (f : Bool → Bool → Bool) (n : ℕ) (xs ys : List Bool) → n ≡ min (length xs) (length ys) → combined f xs ys ≡ zip2 f (take n xs) (take n ys) ++ map (λ x. f x false) (drop n xs)
@@ -20,10 +20,9 @@ split f (suc n) [] ys h = absurd (omega arith)
 split f (suc n) (x ∷ xs) [] h = absurd (omega arith)
 split f (suc n) (x ∷ xs) (y ∷ ys) h = ap (λ l. f x y ∷ l) (split f n xs ys (omega arith))
 
-none_left : (xs : List Bool) → map (λ x. x && false) xs ≡ replicate (length xs) false
-none_left [] = refl
-none_left (false ∷ xs) = ap (λ l. false ∷ l) (none_left xs)
-none_left (true ∷ xs) = ap (λ l. false ∷ l) (none_left xs)
+none_left : (f : Bool → Bool → Bool) → ((x : Bool) → f x false ≡ false) → (xs : List Bool) → map (λ x. f x false) xs ≡ replicate (length xs) false
+none_left f clears [] = refl
+none_left f clears (x ∷ xs) = ap (λ y. y ∷ map (λ x. f x false) xs) (clears x) ∙ ap (λ l. false ∷ l) (none_left f clears xs)
 
 all_left : (f : Bool → Bool → Bool) → ((x : Bool) → f x false ≡ x) → (xs : List Bool) → map (λ x. f x false) xs ≡ xs
 all_left f keeps [] = refl
@@ -51,7 +50,7 @@ put_kept xs ys d n b is h l =
     ∙ ap (put (put xs d ys) n) (sym later) ∙ put_same (put xs d ys) n b h (omega arith)
 
 -- the rest of a run
-rest_of_run : (xs : List Bool) (head len n : ℕ) → n ≤ len → head + len ≤ length xs → drop n (slice_range xs head (head + len)) ≡ slice_range xs (head + n) (head + len)
+pub rest_of_run : (xs : List Bool) (head len n : ℕ) → n ≤ len → head + len ≤ length xs → drop n (slice_range xs head (head + len)) ≡ slice_range xs (head + n) (head + len)
 rest_of_run xs head len n h l = same_lists _ _ (search (rules, places)) (λ i e below. grind (arith, places))
 
 module _ (f : Bool → Bool → Bool) (old ys : List Bool) (head len n : ℕ) (least : n ≡ min len (length ys)) (room : head + len ≤ length old) where
@@ -84,22 +83,11 @@ module _ (f : Bool → Bool → Bool) (old ys : List Bool) (head len n : ℕ) (l
       ∙ ap (λ l. put old head (front ++ l)) (sym (all_left f keeps (drop n xs) ∙ rest_of_run old head len n (omega arith) room))
       ∙ ap (put old head) (sym parts)
 
-pub written_and : (old ys : List Bool) (head len n : ℕ) → n ≡ min len (length ys) → head + len ≤ length old
-    → put (put old head (zip2 (λ x y. x && y) (slice_range old head (head + n)) (take n ys))) (head + n) (replicate (head + len - (head + n)) false) ≡ put old head (and_of (slice_range old head (head + len)) ys)
-written_and old ys head len n least room =
-    let f : Bool → Bool → Bool = λ x y. x && y in
-    let list : List Bool = slice_range old head (head + len) in
-    let s = length-front (λ x y. x && y) old ys head len n least room in
-    let rest : length (drop n (slice_range old head (head + len))) ≡ head + len - (head + n) = length-drop n (slice_range old head (head + len)) ∙ (let z = size (λ x y. x && y) old ys head len n least room in omega arith) in
-    put_joined old (front (λ x y. x && y) old ys head len n least room) (replicate (head + len - (head + n)) false) head (head + n) (omega arith) (let r = length-replicate (head + len - (head + n)) false in omega arith)
-    ∙ ap (put old head) (ap (λ k. front (λ x y. x && y) old ys head len n least room ++ replicate k false) (sym rest)
-    ∙ ap (λ l. front (λ x y. x && y) old ys head len n least room ++ l) (sym (none_left (drop n (slice_range old head (head + len)))))
-    ∙ sym (parts (λ x y. x && y) old ys head len n least room))
-
-pub or_keeps : (x : Bool) → (x || false) ≡ x
-or_keeps true = refl
-or_keeps false = refl
-
-pub xor_keeps : (x : Bool) → cond x (not false) false ≡ x
-xor_keeps true = refl
-xor_keeps false = refl
+  -- where f clears what stands beside false, so is the rest
+  pub written_cleared : ((x : Bool) → f x false ≡ false) → put (put old head front) (head + n) (replicate (head + len - (head + n)) false) ≡ put old head (combined f xs ys)
+  written_cleared clears =
+      let s = length-front in
+      let z = size in
+      let rest : length (drop n xs) ≡ head + len - (head + n) = length-drop n xs ∙ (omega arith) in
+      put_joined old front (replicate (head + len - (head + n)) false) head (head + n) (omega arith) (let r = length-replicate (head + len - (head + n)) false in omega arith)
+      ∙ ap (put old head) (ap (λ k. front ++ replicate k false) (sym rest) ∙ ap (λ l. front ++ l) (sym (none_left f clears (drop n xs))) ∙ sym parts)

@@ -94,10 +94,6 @@ by_length xs ys n least same =
 
 -- ---- equality
 
--- two lists of one length that are equal up to it
-pub same_all : (xs ys : List Bool) (n : ℕ) → n ≡ length xs → n ≡ length ys → take n xs ≡ take n ys → xs ≡ ys
-same_all xs ys n h l same = sym (take_all n xs (omega arith)) ∙ same ∙ take_all n ys (omega arith)
-
 -- two lists that differ somewhere
 pub apart_at : (xs ys : List Bool) (n k : ℕ) → IsFirstDifference (take n xs) (take n ys) k → xs ≢ ys
 apart_at xs ys n k d e = d.apart (ap (λ l. get_or (take n l) k false) e)

@@ -1,11 +1,14 @@
 -- What runs of calls of `next` and `next_back` give.
 use Rattle.std.proofs.Common.{length, ap}
-use Rattle.std.specs.Iterator.{YieldsFirst, YieldsLast}
-use Rattle.std.specs.Iterator.Runs.{YieldsInOrder, YieldsInReverse}
+use Rattle.std.specs.Iterator.{YieldsFirst, YieldsLast, YieldsFirstBy, YieldsLastBy}
+use Rattle.std.specs.Iterator.Runs.{YieldsInOrder, YieldsInReverse, EveryRun, ItemsMapTo, ItemsMapToReversed}
 use Rattle.std.proofs.iter.runs.Sources.{from_front, from_back, as_is, as_is_back}
 use Rattle.bit_addressing.specs.declared.store.BitStore as store
 use Rattle.bit_addressing.specs.declared.order.BitOrder as order
 use Rattle.bit_slice.specs.Iter.{rest_of}
+use Rattle.bit_slice.specs.BitSlice.{list_of}
+use Rattle.bit_slice.specs.Indices.{ones_left, zeros_left}
+use Rattle.bit_slice.specs.PiecesLeft.{chunks_left, exact_chunks_left, back_chunks_left, windows_left}
 
 module _ {X Y : Type 0} (W : store.Ghosts X) (P : order.Ghosts Y) where
   pub bit_runs : YieldsInOrder (YieldsFirst (rest_of {X = X} {Y = Y} {W = W} {P = P})) rest_of
@@ -13,3 +16,41 @@ module _ {X Y : Type 0} (W : store.Ghosts X) (P : order.Ghosts Y) where
 
   pub bit_runs_back : YieldsInReverse (YieldsLast (rest_of {X = X} {Y = Y} {W = W} {P = P})) rest_of
   bit_runs_back p s = as_is_back p (rest_of p.from) (from_back (YieldsLast (rest_of {X = X} {Y = Y} {W = W} {P = P})) (λ b. b) rest_of (λ s t h. ap length h.0) (λ s x t h. h) p s)
+
+module _ {X Y : Type 0} (W : store.Ghosts X) (P : order.Ghosts Y) where
+  pub ones_runs : YieldsInOrder (YieldsFirst (ones_left {X = X} {Y = Y} {W = W} {P = P})) ones_left
+  ones_runs p s = as_is p (ones_left p.from) (from_front (YieldsFirst (ones_left {X = X} {Y = Y} {W = W} {P = P})) (λ b. b) ones_left (λ s t h. ap length h.0) (λ s x t h. h) p s)
+
+  pub ones_runs_back : YieldsInReverse (YieldsLast (ones_left {X = X} {Y = Y} {W = W} {P = P})) ones_left
+  ones_runs_back p s = as_is_back p (ones_left p.from) (from_back (YieldsLast (ones_left {X = X} {Y = Y} {W = W} {P = P})) (λ b. b) ones_left (λ s t h. ap length h.0) (λ s x t h. h) p s)
+
+  pub zeros_runs : YieldsInOrder (YieldsFirst (zeros_left {X = X} {Y = Y} {W = W} {P = P})) zeros_left
+  zeros_runs p s = as_is p (zeros_left p.from) (from_front (YieldsFirst (zeros_left {X = X} {Y = Y} {W = W} {P = P})) (λ b. b) zeros_left (λ s t h. ap length h.0) (λ s x t h. h) p s)
+
+  pub zeros_runs_back : YieldsInReverse (YieldsLast (zeros_left {X = X} {Y = Y} {W = W} {P = P})) zeros_left
+  zeros_runs_back p s = as_is_back p (zeros_left p.from) (from_back (YieldsLast (zeros_left {X = X} {Y = Y} {W = W} {P = P})) (λ b. b) zeros_left (λ s t h. ap length h.0) (λ s x t h. h) p s)
+
+module _ {X Y : Type 0} (W : store.Ghosts X) (P : order.Ghosts Y) where
+  pub chunks_runs : EveryRun (YieldsFirstBy (list_of {X = X} {Y = Y} {W = W} {P = P}) (chunks_left {X = X} {Y = Y} {W = W} {P = P})) (λ p. ItemsMapTo p list_of (chunks_left p.from))
+  chunks_runs p s = from_front (YieldsFirstBy (list_of {X = X} {Y = Y} {W = W} {P = P}) (chunks_left {X = X} {Y = Y} {W = W} {P = P})) list_of chunks_left (λ s t h. ap length h.0) (λ s x t h. h) p s
+
+  pub chunks_runs_back : EveryRun (YieldsLastBy (list_of {X = X} {Y = Y} {W = W} {P = P}) (chunks_left {X = X} {Y = Y} {W = W} {P = P})) (λ p. ItemsMapToReversed p list_of (chunks_left p.from))
+  chunks_runs_back p s = from_back (YieldsLastBy (list_of {X = X} {Y = Y} {W = W} {P = P}) (chunks_left {X = X} {Y = Y} {W = W} {P = P})) list_of chunks_left (λ s t h. ap length h.0) (λ s x t h. h) p s
+
+  pub chunks_exact_runs : EveryRun (YieldsFirstBy (list_of {X = X} {Y = Y} {W = W} {P = P}) (exact_chunks_left {X = X} {Y = Y} {W = W} {P = P})) (λ p. ItemsMapTo p list_of (exact_chunks_left p.from))
+  chunks_exact_runs p s = from_front (YieldsFirstBy (list_of {X = X} {Y = Y} {W = W} {P = P}) (exact_chunks_left {X = X} {Y = Y} {W = W} {P = P})) list_of exact_chunks_left (λ s t h. ap length h.0) (λ s x t h. h) p s
+
+  pub chunks_exact_runs_back : EveryRun (YieldsLastBy (list_of {X = X} {Y = Y} {W = W} {P = P}) (exact_chunks_left {X = X} {Y = Y} {W = W} {P = P})) (λ p. ItemsMapToReversed p list_of (exact_chunks_left p.from))
+  chunks_exact_runs_back p s = from_back (YieldsLastBy (list_of {X = X} {Y = Y} {W = W} {P = P}) (exact_chunks_left {X = X} {Y = Y} {W = W} {P = P})) list_of exact_chunks_left (λ s t h. ap length h.0) (λ s x t h. h) p s
+
+  pub rchunks_runs : EveryRun (YieldsFirstBy (list_of {X = X} {Y = Y} {W = W} {P = P}) (back_chunks_left {X = X} {Y = Y} {W = W} {P = P})) (λ p. ItemsMapTo p list_of (back_chunks_left p.from))
+  rchunks_runs p s = from_front (YieldsFirstBy (list_of {X = X} {Y = Y} {W = W} {P = P}) (back_chunks_left {X = X} {Y = Y} {W = W} {P = P})) list_of back_chunks_left (λ s t h. ap length h.0) (λ s x t h. h) p s
+
+  pub rchunks_runs_back : EveryRun (YieldsLastBy (list_of {X = X} {Y = Y} {W = W} {P = P}) (back_chunks_left {X = X} {Y = Y} {W = W} {P = P})) (λ p. ItemsMapToReversed p list_of (back_chunks_left p.from))
+  rchunks_runs_back p s = from_back (YieldsLastBy (list_of {X = X} {Y = Y} {W = W} {P = P}) (back_chunks_left {X = X} {Y = Y} {W = W} {P = P})) list_of back_chunks_left (λ s t h. ap length h.0) (λ s x t h. h) p s
+
+  pub windows_runs : EveryRun (YieldsFirstBy (list_of {X = X} {Y = Y} {W = W} {P = P}) (windows_left {X = X} {Y = Y} {W = W} {P = P})) (λ p. ItemsMapTo p list_of (windows_left p.from))
+  windows_runs p s = from_front (YieldsFirstBy (list_of {X = X} {Y = Y} {W = W} {P = P}) (windows_left {X = X} {Y = Y} {W = W} {P = P})) list_of windows_left (λ s t h. ap length h.0) (λ s x t h. h) p s
+
+  pub windows_runs_back : EveryRun (YieldsLastBy (list_of {X = X} {Y = Y} {W = W} {P = P}) (windows_left {X = X} {Y = Y} {W = W} {P = P})) (λ p. ItemsMapToReversed p list_of (windows_left p.from))
+  windows_runs_back p s = from_back (YieldsLastBy (list_of {X = X} {Y = Y} {W = W} {P = P}) (windows_left {X = X} {Y = Y} {W = W} {P = P})) list_of windows_left (λ s t h. ap length h.0) (λ s x t h. h) p s

@@ -6,6 +6,13 @@ pub mod Comparing
 pub mod Combining
 pub mod Counting
 pub mod Finding
+pub mod Found
+pub mod Places
+pub mod Ranges
+pub mod Pieces
+pub mod Sets
+pub mod Turned
+pub mod Within
 pub mod Writing
 pub mod Digits
 pub mod Owned

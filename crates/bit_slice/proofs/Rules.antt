@@ -3,7 +3,7 @@ use Rattle.std.proofs.Common.{◌≡◌, ℕ, zero, suc, ◌+◌, ◌≤◌, Boo
 use Rattle.std.specs.Prelude.{Option, Some, None, slice_get, count_by, if◌then◌else◌}
 use Rattle.std.proofs.lemmas.List.{length-map}
 use Rattle.std.proofs.lemmas.List.Sums.{sum_by-cons}
-use Rattle.bit_slice.specs.Operators.{combined, and_of, or_of, xor_of}
+use Rattle.bit_slice.specs.Operators.{combined, and_of, or_of, xor_of, CombinesEach, AndsEach, OrsEach, XorsEach, FlipsEach}
 use Rattle.bit_slice.proofs.Combining.{length-combined}
 
 -- ---- a list with itself
@@ -86,22 +86,22 @@ not_of_or (true ∷ xs) (y ∷ ys) h = ap (λ l. false ∷ l) (not_of_or xs ys (
 
 -- ---- one item
 
-pub item_of_combined : (f : Bool → Bool → Bool) (xs ys : List Bool) (i : ℕ) (x y : Bool) → slice_get xs i ≡ Some x → slice_get ys i ≡ Some y → slice_get (combined f xs ys) i ≡ Some (f x y)
+pub item_of_combined : (f : Bool → Bool → Bool) (xs ys : List Bool) → CombinesEach f xs ys (combined f xs ys)
 item_of_combined f [] ys i x y left right = cc
 item_of_combined f (a ∷ xs) [] i x y left right = cc
 item_of_combined f (a ∷ xs) (b ∷ ys) zero x y left right = let e : a ≡ x = cc in let d : b ≡ y = cc in cc
 item_of_combined f (a ∷ xs) (b ∷ ys) (suc i) x y left right = item_of_combined f xs ys i x y left right
 
-pub item_of_and : (xs ys : List Bool) (i : ℕ) (x y : Bool) → slice_get xs i ≡ Some x → slice_get ys i ≡ Some y → slice_get (and_of xs ys) i ≡ Some (x && y)
+pub item_of_and : (xs ys : List Bool) → AndsEach xs ys (and_of xs ys)
 item_of_and = item_of_combined (λ x y. x && y)
 
-pub item_of_or : (xs ys : List Bool) (i : ℕ) (x y : Bool) → slice_get xs i ≡ Some x → slice_get ys i ≡ Some y → slice_get (or_of xs ys) i ≡ Some (x || y)
+pub item_of_or : (xs ys : List Bool) → OrsEach xs ys (or_of xs ys)
 item_of_or = item_of_combined (λ x y. x || y)
 
-pub item_of_xor : (xs ys : List Bool) (i : ℕ) (x y : Bool) → slice_get xs i ≡ Some x → slice_get ys i ≡ Some y → slice_get (xor_of xs ys) i ≡ Some (if x then not y else y)
+pub item_of_xor : (xs ys : List Bool) → XorsEach xs ys (xor_of xs ys)
 item_of_xor = item_of_combined (λ x y. if x then not y else y)
 
-pub item_of_not : (xs : List Bool) (i : ℕ) (x : Bool) → slice_get xs i ≡ Some x → slice_get (map not xs) i ≡ Some (not x)
+pub item_of_not : (xs : List Bool) → FlipsEach xs (map not xs)
 item_of_not [] i x is = cc
 item_of_not (a ∷ xs) zero x is = let e : a ≡ x = cc in cc
 item_of_not (a ∷ xs) (suc i) x is = item_of_not xs i x is

@@ -6,6 +6,7 @@ use Rattle.bit_addressing.specs.Bits.{has_bit}
 use Rattle.bit_addressing.specs.Row.{number_bits, number_of}
 use Rattle.bit_addressing.specs.Text.{digit_of, joined, list_text}
 use Rattle.bit_addressing.proofs.Chunks.{has_number}
+use Rattle.bit_addressing.proofs.Runs.{slices_joined}
 use Rattle.bit_addressing.specs.declared.store.BitStore as store
 use Rattle.bit_addressing.specs.declared.order.BitOrder as order
 use Rattle.bit_addressing.specs.Typed.{row}
@@ -47,12 +48,8 @@ pub joined_spaced : (b : Bool) (bits : List Bool) → joined (b ∷ bits) ≡ di
 joined_spaced b [] = refl
 joined_spaced b (c ∷ bits) = ap (λ l. digit_of b ∷ 44 ∷ 32 ∷ l) (joined_spaced c bits)
 
--- two runs, one behind the other
-pub runs_joined : (xs : List Bool) (a b c : ℕ) → a ≤ b → b ≤ c → c ≤ length xs → slice_range xs a b ++ slice_range xs b c ≡ slice_range xs a c
-runs_joined xs a b c h k l = same_lists _ _ (search (rules, places)) (λ n d below. grind (arith, places))
-
 pub spaced_runs : (xs : List Bool) (a b c : ℕ) → a ≤ b → b ≤ c → c ≤ length xs → spaced (slice_range xs a b) ++ spaced (slice_range xs b c) ≡ spaced (slice_range xs a c)
-spaced_runs xs a b c h k l = sym (spaced-append (slice_range xs a b) (slice_range xs b c)) ∙ ap spaced (runs_joined xs a b c h k l)
+spaced_runs xs a b c h k l = sym (spaced-append (slice_range xs a b) (slice_range xs b c)) ∙ ap spaced (slices_joined xs a b c h k l)
 
 -- the whole text: the bracket, the first digit, two runs of further digits, and the bracket
 pub text_whole : (xs : List Bool) (d : List ℕ) (n from upto : ℕ) → 0 < length xs → d ≡ digit_of (get_or xs 0 false) ∷ [] → from ≡ n → 1 ≤ n → n ≤ upto → upto ≡ length xs

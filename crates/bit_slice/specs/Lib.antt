@@ -1,4 +1,8 @@
 pub mod Fits
+pub mod Places
+pub mod Indices
+pub mod Pieces
+pub mod PiecesLeft
 pub mod BitSlice
 pub mod BitSliceMut
 pub mod Iter

@@ -1,5 +1,5 @@
 -- What is made of two lists of bits: of their items at each place, and their order.
-use Rattle.std.specs.Prelude.{◌≡◌, ◌↔◌, Bool, true, false, ◌&&◌, ◌||◌, not, if◌then◌else◌, List, [], ◌∷◌, ◌++◌}
+use Rattle.std.specs.Prelude.{◌≡◌, ◌↔◌, ℕ, Bool, true, false, ◌&&◌, ◌||◌, not, if◌then◌else◌, List, [], ◌∷◌, ◌++◌, Some, slice_get}
 use Rattle.std.specs.Ordering.{bool_cmp, ordering_reverse}
 use Rattle.std.specs.declared.cmp.Ordering.{Ordering}
 use Rattle.std.specs.declared.cmp.Ordering.TheVariants.{Less, Equal}
@@ -15,6 +15,10 @@ combined f (x ∷ xs) (y ∷ ys) = f x y ∷ combined f xs ys
 abbrev pub and_of : List Bool → List Bool → List Bool
 and_of = combined (λ x y. x && y)
 
+-- the items that are true on the left and not on the right
+abbrev pub and_not_of : List Bool → List Bool → List Bool
+and_not_of = combined (λ x y. x && not y)
+
 -- the items that are true on one side or on both
 abbrev pub or_of : List Bool → List Bool → List Bool
 or_of = combined (λ x y. x || y)
@@ -22,6 +26,26 @@ or_of = combined (λ x y. x || y)
 -- the items that are true on one side alone
 abbrev pub xor_of : List Bool → List Bool → List Bool
 xor_of = combined (λ x y. if x then not y else y)
+
+-- at each index where both lists have an item, the third has what f makes of the two
+abbrev pub CombinesEach : (Bool → Bool → Bool) → List Bool → List Bool → List Bool → Type 0
+CombinesEach f xs ys zs = (i : ℕ) (x y : Bool) → slice_get xs i ≡ Some x → slice_get ys i ≡ Some y → slice_get zs i ≡ Some (f x y)
+
+-- at each index of both lists, the third has true where both have
+abbrev pub AndsEach : List Bool → List Bool → List Bool → Type 0
+AndsEach = CombinesEach (λ x y. x && y)
+
+-- at each index of both lists, the third has true where one or both have
+abbrev pub OrsEach : List Bool → List Bool → List Bool → Type 0
+OrsEach = CombinesEach (λ x y. x || y)
+
+-- at each index of both lists, the third has true where one alone has
+abbrev pub XorsEach : List Bool → List Bool → List Bool → Type 0
+XorsEach = CombinesEach (λ x y. if x then not y else y)
+
+-- at each index of a list, the other has the opposite
+abbrev pub FlipsEach : List Bool → List Bool → Type 0
+FlipsEach xs zs = (i : ℕ) (x : Bool) → slice_get xs i ≡ Some x → slice_get zs i ≡ Some (not x)
 
 -- the order of two lists: by the first items that differ, false before true, and where none do a proper prefix comes first
 abbrev pub bits_cmp : List Bool → List Bool → Ordering

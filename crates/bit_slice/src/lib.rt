@@ -5,6 +5,7 @@
 
 mod counted;
 mod counted_mut;
+mod edits;
 mod iter;
 mod ops;
 mod run;
@@ -16,9 +17,15 @@ mod texts;
 
 pub use counted::Counted;
 pub use counted_mut::CountedMut;
+pub use edits::{
+    AndNot, combine_within, flip_in_vec, flip_words, reverse_words, rotate_words, shift_words_left,
+    shift_words_right,
+};
 pub use iter::Iter;
-pub use ops::{and_in_vec, and_words, or_in_vec, or_words, order_of_bits, xor_in_vec, xor_words};
+pub use ops::{combine_in_vec, combine_words, order_of_bits};
 pub use run::run_mut;
 pub use slice::BitSlice;
+pub use slice::chunks::{Chunks, ChunksExact, RChunks, Windows};
+pub use slice::indices::{IterOnes, IterZeros};
 pub use slice_mut::BitSliceMut;
 pub use texts::{hash_bits, write_digits, write_list};

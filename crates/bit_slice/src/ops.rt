@@ -3,12 +3,14 @@ ghost use Rattle.std.specs.Prelude.{◌≡◌, ◌+◌, ◌*◌, ◌^◌, ◌<�
 ghost use Rattle.bit_addressing.specs.Row.{put, IsFirstDifference};
 ghost use Rattle.bit_addressing.specs.Typed.{row};
 ghost use Rattle.bit_addressing.specs.declared.length.TheConstants.{MAX_BITS};
-ghost use Rattle.bit_slice.specs.Operators.{bits_cmp, and_of, or_of, xor_of, SameFromEitherSide, EqualWhereEqual, BelowTheNext, FalseFirst, PrefixFirst};
+ghost use Rattle.bit_slice.specs.Operators.{bits_cmp, combined, and_of, or_of, xor_of, AndsEach, OrsEach, XorsEach, CombinesEach, SameFromEitherSide, EqualWhereEqual, BelowTheNext, FalseFirst, PrefixFirst};
 ghost use Rattle.bit_slice.specs.BitSlice.{len_of as len_seen, list_of as list_seen};
 
 use crate::slice::BitSlice;
 use crate::slice_mut::BitSliceMut;
-use bit_addressing::{And, BitOrder, BitStore, Or, Xor, combine_bits, differ_at, fill_bits};
+use bit_addressing::{
+    And, BitOperator, BitOrder, BitStore, Or, Xor, combine_bits, differ_at, fill_bits,
+};
 use std::cmp::Ordering;
 
 impl<'a, T: BitStore, O: BitOrder> BitSlice<'a, T, O> {
@@ -63,10 +65,10 @@ pub fn order_of_bits()
     ensures prefix_first { PrefixFirst }
 {}
 
-/// Clears each of the `len` bits of the words' row from `head` on that is false in `other`, or that
-/// `other` is too short for. No other bit changes. Requires that the run lies in the words, and has at
-/// most `MAX_BITS` bits.
-pub fn and_words<T: BitStore, O: BitOrder, U: BitStore, P: BitOrder>(
+/// Makes each of the `len` bits of the words' row from `head` on into the bit that `F` makes of it and of the one
+/// at its place in `other`, or of false where `other` is too short. No other bit changes.
+/// Requires that the run lies in the words.
+pub fn combine_words<F: BitOperator, T: BitStore, O: BitOrder, U: BitStore, P: BitOrder>(
     words: &mut [T],
     head: usize,
     len: usize,
@@ -74,49 +76,15 @@ pub fn and_words<T: BitStore, O: BitOrder, U: BitStore, P: BitOrder>(
 )
     requires within { head + len ≤ T.BITS * length words.old }
     requires fits { head + len < 2 ^ 64 }
-    ensures bits { row T.BitStore O.BitOrder words.new ≡ put (row T.BitStore O.BitOrder words.old) head (and_of (slice_range (row T.BitStore O.BitOrder words.old) head (head + len)) (list_seen other.entry)) }
+    ensures bits { row T.BitStore O.BitOrder words.new ≡ put (row T.BitStore O.BitOrder words.old) head (combined F.made (slice_range (row T.BitStore O.BitOrder words.old) head (head + len)) (list_seen other.entry)) }
     ensures size { length words.new ≡ length words.old }
 {
     let both = len.min(other.len());
     let from = other.head();
-    combine_bits::<And, T, O, U, P>(words, head, other.as_raw_slice(), from, both);
-    fill_bits::<T, O>(words, head + both, head + len, false);
-}
-
-/// Sets each of the `len` bits of the words' row from `head` on that is true in `other`. No other bit
-/// changes. Requires that the run lies in the words.
-pub fn or_words<T: BitStore, O: BitOrder, U: BitStore, P: BitOrder>(
-    words: &mut [T],
-    head: usize,
-    len: usize,
-    other: BitSlice<'_, U, P>,
-)
-    requires within { head + len ≤ T.BITS * length words.old }
-    requires fits { head + len < 2 ^ 64 }
-    ensures bits { row T.BitStore O.BitOrder words.new ≡ put (row T.BitStore O.BitOrder words.old) head (or_of (slice_range (row T.BitStore O.BitOrder words.old) head (head + len)) (list_seen other.entry)) }
-    ensures size { length words.new ≡ length words.old }
-{
-    let both = len.min(other.len());
-    let from = other.head();
-    combine_bits::<Or, T, O, U, P>(words, head, other.as_raw_slice(), from, both);
-}
-
-/// Flips each of the `len` bits of the words' row from `head` on that is true in `other`. No other bit
-/// changes. Requires that the run lies in the words.
-pub fn xor_words<T: BitStore, O: BitOrder, U: BitStore, P: BitOrder>(
-    words: &mut [T],
-    head: usize,
-    len: usize,
-    other: BitSlice<'_, U, P>,
-)
-    requires within { head + len ≤ T.BITS * length words.old }
-    requires fits { head + len < 2 ^ 64 }
-    ensures bits { row T.BitStore O.BitOrder words.new ≡ put (row T.BitStore O.BitOrder words.old) head (xor_of (slice_range (row T.BitStore O.BitOrder words.old) head (head + len)) (list_seen other.entry)) }
-    ensures size { length words.new ≡ length words.old }
-{
-    let both = len.min(other.len());
-    let from = other.head();
-    combine_bits::<Xor, T, O, U, P>(words, head, other.as_raw_slice(), from, both);
+    combine_bits::<F, T, O, U, P>(words, head, other.as_raw_slice(), from, both);
+    if F::clears() {
+        fill_bits::<T, O>(words, head + both, head + len, false);
+    }
 }
 
 impl<'a, T: BitStore, O: BitOrder> BitSliceMut<'a, T, O> {
@@ -136,39 +104,56 @@ impl<'a, T: BitStore, O: BitOrder> BitSliceMut<'a, T, O> {
         self.as_bitslice().cmp_bits(other)
     }
 
+    /// Makes each bit into the one that `F` makes of it and of the one at its index in `other`, or of false past its end.
+    pub(crate) fn combine<F: BitOperator, U: BitStore, P: BitOrder>(
+        &mut self,
+        other: BitSlice<'_, U, P>,
+    )
+        ensures row { row_of self.new ≡ put (row_of self.old) (head_of self.old) (combined F.made (list_of self.old) (list_seen other.entry)) }
+        ensures list { list_of self.new ≡ combined F.made (list_of self.old) (list_seen other.entry) }
+        ensures index { CombinesEach F.made (list_of self.old) (list_seen other.entry) (list_of self.new) }
+        ensures whole { head_of self.old ≡ 0 → len_of self.old ≡ T.BITS * length (words_of self.old) → row_of self.new ≡ combined F.made (list_of self.old) (list_seen other.entry) }
+        ensures stays { Stays self.old self.new }
+    {
+        combine_words::<F, T, O, U, P>(self.words, self.head, self.len, other);
+    }
+
     /// Clears each bit that is false in `other`, or that `other` is too short for.
     pub fn and_bits<U: BitStore, P: BitOrder>(&mut self, other: BitSlice<'_, U, P>)
         ensures row { row_of self.new ≡ put (row_of self.old) (head_of self.old) (and_of (list_of self.old) (list_seen other.entry)) }
         ensures list { list_of self.new ≡ and_of (list_of self.old) (list_seen other.entry) }
+        ensures index { AndsEach (list_of self.old) (list_seen other.entry) (list_of self.new) }
         ensures whole { head_of self.old ≡ 0 → len_of self.old ≡ T.BITS * length (words_of self.old) → row_of self.new ≡ and_of (list_of self.old) (list_seen other.entry) }
         ensures stays { Stays self.old self.new }
     {
-        and_words::<T, O, U, P>(self.words, self.head, self.len, other);
+        self.combine::<And, U, P>(other);
     }
 
     /// Sets each bit that is true in `other`.
     pub fn or_bits<U: BitStore, P: BitOrder>(&mut self, other: BitSlice<'_, U, P>)
         ensures row { row_of self.new ≡ put (row_of self.old) (head_of self.old) (or_of (list_of self.old) (list_seen other.entry)) }
         ensures list { list_of self.new ≡ or_of (list_of self.old) (list_seen other.entry) }
+        ensures index { OrsEach (list_of self.old) (list_seen other.entry) (list_of self.new) }
         ensures whole { head_of self.old ≡ 0 → len_of self.old ≡ T.BITS * length (words_of self.old) → row_of self.new ≡ or_of (list_of self.old) (list_seen other.entry) }
         ensures stays { Stays self.old self.new }
     {
-        or_words::<T, O, U, P>(self.words, self.head, self.len, other);
+        self.combine::<Or, U, P>(other);
     }
 
     /// Flips each bit that is true in `other`.
     pub fn xor_bits<U: BitStore, P: BitOrder>(&mut self, other: BitSlice<'_, U, P>)
         ensures row { row_of self.new ≡ put (row_of self.old) (head_of self.old) (xor_of (list_of self.old) (list_seen other.entry)) }
         ensures list { list_of self.new ≡ xor_of (list_of self.old) (list_seen other.entry) }
+        ensures index { XorsEach (list_of self.old) (list_seen other.entry) (list_of self.new) }
         ensures whole { head_of self.old ≡ 0 → len_of self.old ≡ T.BITS * length (words_of self.old) → row_of self.new ≡ xor_of (list_of self.old) (list_seen other.entry) }
         ensures stays { Stays self.old self.new }
     {
-        xor_words::<T, O, U, P>(self.words, self.head, self.len, other);
+        self.combine::<Xor, U, P>(other);
     }
 }
 
-/// Like `and_words`, in the words of a vector, whose capacity stays.
-pub fn and_in_vec<T: BitStore, O: BitOrder, U: BitStore, P: BitOrder>(
+/// Like `combine_words`, in the words of a vector, whose capacity stays.
+pub fn combine_in_vec<F: BitOperator, T: BitStore, O: BitOrder, U: BitStore, P: BitOrder>(
     words: &mut Vec<T>,
     head: usize,
     len: usize,
@@ -176,41 +161,9 @@ pub fn and_in_vec<T: BitStore, O: BitOrder, U: BitStore, P: BitOrder>(
 )
     requires within { head + len ≤ T.BITS * length words.old.items }
     requires fits { head + len < 2 ^ 64 }
-    ensures bits { row T.BitStore O.BitOrder words.new.items ≡ put (row T.BitStore O.BitOrder words.old.items) head (and_of (slice_range (row T.BitStore O.BitOrder words.old.items) head (head + len)) (list_seen other.entry)) }
+    ensures bits { row T.BitStore O.BitOrder words.new.items ≡ put (row T.BitStore O.BitOrder words.old.items) head (combined F.made (slice_range (row T.BitStore O.BitOrder words.old.items) head (head + len)) (list_seen other.entry)) }
     ensures size { length words.new.items ≡ length words.old.items }
     ensures capacity { vec_capacity words.new ≡ vec_capacity words.old }
 {
-    and_words::<T, O, U, P>(words.as_mut_slice(), head, len, other);
-}
-
-/// Like `or_words`, in the words of a vector, whose capacity stays.
-pub fn or_in_vec<T: BitStore, O: BitOrder, U: BitStore, P: BitOrder>(
-    words: &mut Vec<T>,
-    head: usize,
-    len: usize,
-    other: BitSlice<'_, U, P>,
-)
-    requires within { head + len ≤ T.BITS * length words.old.items }
-    requires fits { head + len < 2 ^ 64 }
-    ensures bits { row T.BitStore O.BitOrder words.new.items ≡ put (row T.BitStore O.BitOrder words.old.items) head (or_of (slice_range (row T.BitStore O.BitOrder words.old.items) head (head + len)) (list_seen other.entry)) }
-    ensures size { length words.new.items ≡ length words.old.items }
-    ensures capacity { vec_capacity words.new ≡ vec_capacity words.old }
-{
-    or_words::<T, O, U, P>(words.as_mut_slice(), head, len, other);
-}
-
-/// Like `xor_words`, in the words of a vector, whose capacity stays.
-pub fn xor_in_vec<T: BitStore, O: BitOrder, U: BitStore, P: BitOrder>(
-    words: &mut Vec<T>,
-    head: usize,
-    len: usize,
-    other: BitSlice<'_, U, P>,
-)
-    requires within { head + len ≤ T.BITS * length words.old.items }
-    requires fits { head + len < 2 ^ 64 }
-    ensures bits { row T.BitStore O.BitOrder words.new.items ≡ put (row T.BitStore O.BitOrder words.old.items) head (xor_of (slice_range (row T.BitStore O.BitOrder words.old.items) head (head + len)) (list_seen other.entry)) }
-    ensures size { length words.new.items ≡ length words.old.items }
-    ensures capacity { vec_capacity words.new ≡ vec_capacity words.old }
-{
-    xor_words::<T, O, U, P>(words.as_mut_slice(), head, len, other);
+    combine_words::<F, T, O, U, P>(words.as_mut_slice(), head, len, other);
 }

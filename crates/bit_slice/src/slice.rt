@@ -9,6 +9,15 @@ ghost use Rattle.bit_addressing.specs.Typed.{row, words_from};
 ghost use Rattle.bit_addressing.specs.declared.length.TheConstants.{MAX_BITS};
 ghost use Rattle.bit_slice.specs.Fits.{IsView};
 
+pub(crate) mod chunks;
+mod fields;
+mod find;
+pub(crate) mod indices;
+mod parts;
+mod search;
+mod sets;
+mod traits;
+
 use crate::counted::Counted;
 use crate::iter::Iter;
 use bit_addressing::{

@@ -10,6 +10,10 @@ ghost use Rattle.bit_addressing.specs.Typed.{row, words_from};
 ghost use Rattle.bit_addressing.specs.declared.length.TheConstants.{MAX_BITS};
 ghost use Rattle.bit_slice.specs.Fits.{IsView};
 
+mod fields;
+mod moves;
+mod ranges;
+
 use crate::counted_mut::CountedMut;
 use crate::iter::Iter;
 use crate::slice::BitSlice;

@@ -1,4 +1,5 @@
 mod compared;
 mod counted;
 mod orders;
+mod searched;
 mod views;

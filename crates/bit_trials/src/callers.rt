@@ -1,5 +1,6 @@
 //! Callers that know what they get from the contracts alone: none of them has an answer, and one loop has an invariant.
 
+mod arrays;
 mod bits;
 mod growing;
 mod iterating;
@@ -8,4 +9,5 @@ mod lending;
 mod numbers;
 mod removing;
 mod rules;
+mod views;
 mod words;

@@ -6,7 +6,7 @@ use Rattle.std.proofs.lemmas.List.Edits.{between_none}
 use Rattle.bit_addressing.specs.Order.{msb0_lawful}
 use Rattle.bit_addressing.specs.Row.{binary, packed, row_of, sized, words_for, AreWords}
 use Rattle.bit_addressing.proofs.Canon.{packed_row, words_from_row}
-use Rattle.bit_slice.proofs.Writing.{runs_joined}
+use Rattle.bit_addressing.proofs.Runs.{slices_joined}
 use Rattle.bit_addressing.proofs.Binary.{length-binary, get_or-binary, binary_parted}
 use Rattle.bit_addressing.proofs.lists.Sized.{sized_same}
 use Rattle.bit_addressing.proofs.Rows.{length-row_of, row_of_none, row_append, get_or-row_one}
@@ -93,7 +93,7 @@ standing xs at (f ∷ fs) h all =
     let more : at + f.0 + digits fs ≡ at + (f.0 + digits fs) = omega arith in
     ap (λ l. l ++ written_fields fs) all.0
     ∙ ap (λ l. slice_range xs at (at + f.0) ++ l) (standing xs (at + f.0) fs (omega arith) all.1)
-    ∙ runs_joined xs at (at + f.0) (at + f.0 + digits fs) (omega arith) (omega arith) (omega arith)
+    ∙ slices_joined xs at (at + f.0) (at + f.0 + digits fs) (omega arith) (omega arith) (omega arith)
     ∙ ap (slice_range xs at) more
 
 -- two lists of bytes are the same where their bits are

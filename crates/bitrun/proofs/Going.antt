@@ -140,13 +140,7 @@ module _ (a b c : Progress) (piece : List ℕ) (i : ℕ) (within : i < length pi
         subst (λ xs. Ends a xs (g.0 ++ h.0) e) (take-append-drop (i + 1) piece) (ends_early a (take (i + 1) piece) (drop (i + 1) piece) (g.0 ++ h.0) e part),
       )
 
-pub advances_none : (s : Progress) → Advances s [] s
-advances_none s = ([], queues_none s s refl, goes_nowhere s)
-
 -- ---- the end of the input
-
-pub none_stops : (s : Progress) → s.line ≡ [] → StopsHere s Finished s
-none_stops s e = ([], queues_none s s refl, (rw e refl, rw e refl))
 
 same_end : (line : List ℕ) → All (λ b. (b == 10) ≡ false) line → 0 < length line → lines_of (line ++ []) ≡ lines_of (line ++ 10 ∷ [])
 same_end [] clean h = absurd (omega arith)

@@ -53,20 +53,11 @@ module _ (a b c : Progress) (xs ys : List ℕ) (wrote mid writes : Option (List 
     ends_more a b c xs ys first.0 h.0 first.2 ending h.2,
   )
 
-pub sends_none : (s : Progress) (wrote : Option (List ℕ)) → Sends s [] s wrote wrote
-sends_none s wrote = ([], appends_none wrote, goes_nowhere s)
-
 -- ---- a whole run
 
 pub going_start : (o : Option (List ℕ)) (s : Progress) → s.list ≡ [] → s.line ≡ [] → s.number ≡ 1 → IsGoing o o [] s
 going_start None s l i n = tt
 going_start (Some text) s l i n = (λ words. rw (l, i) refl, rw (l, i, n) refl)
-
-pub going_kept : (from now next : Option (List ℕ)) (given : List (List ℕ)) (s : Progress) → IsGoing from now given s → Keeps now next → IsGoing from next given s
-going_kept None now next given s h k = tt
-going_kept (Some text) None next given s h k = absurd h
-going_kept (Some text) (Some rest) None given s h k = absurd k
-going_kept (Some text) (Some rest) (Some left) given s h k = rw k h
 
 pub going_more : (from now next : Option (List ℕ)) (given more : List (List ℕ)) (a b : Progress) (piece : List ℕ)
     → IsGoing from now given a → Consumes now next piece → Goes a piece more b → IsGoing from next (given ++ more) b

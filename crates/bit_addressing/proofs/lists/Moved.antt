@@ -1,13 +1,13 @@
 -- Lists in which a run was moved.
-use Rattle.std.proofs.Common.{◌≡◌, ◌≢◌, ℕ, ◌+◌, ◌-◌, ◌<◌, ◌≤◌, Bool, false, List, [], ◌∷◌, ◌++◌, length, take, drop, set, get_or, slice_range, sym, ◌∙◌, ap, subst, inl, inr, arith}
+use Rattle.std.proofs.Common.{◌≡◌, ◌≢◌, ℕ, ◌+◌, ◌-◌, ◌<◌, ◌≤◌, Bool, false, List, [], ◌∷◌, ◌++◌, length, take, set, get_or, slice_range, sym, ◌∙◌, ap, subst, inl, inr, arith}
 use Rattle.std.specs.List.{insert, remove, swap_remove}
-use Rattle.std.proofs.lemmas.List.{ext_get_or, length-take, length-set, length_push, get_or-take, get_or-drop, get_or-set_same, get_or-set_other, get_or_append_left}
+use Rattle.std.proofs.lemmas.List.{ext_get_or, length-take, length-set, length_push, get_or-take, get_or-set_same, get_or-set_other, get_or_append_left}
 use Rattle.std.proofs.lemmas.List.FromFn.{length-map-range_with_len, get_or-map-range_with_len}
 use Rattle.std.proofs.lemmas.List.Edits.{length-insert, get_or-insert_below, get_or-insert_at, get_or-insert_above, length-remove, get_or-remove_below, get_or-remove_above}
 use Rattle.std.proofs.lemmas.Bool.{cases_lt, cases_order}
 use Rattle.std.proofs.lemmas.Bool.Decides.{nat_tests}
 use Rattle.bit_addressing.specs.Row.{source_of, moved, sized}
-use Rattle.bit_addressing.proofs.lists.Shown.{length-run, shows_sized, shows_set, shrunk_shows}
+use Rattle.bit_addressing.proofs.lists.Shown.{get_or-run, length-run, shows_sized, shows_set, shrunk_shows}
 use Rattle.bit_addressing.proofs.Moves.{source_below}
 
 pub length-moved : (xs : List Bool) (s d n : ℕ) → length (moved xs s d n) ≡ length xs
@@ -17,10 +17,6 @@ length-moved xs s d n = length-map-range_with_len (λ j. get_or xs (source_of s 
 pub get_or-moved : (xs : List Bool) (s d n j : ℕ) → j < length xs → get_or (moved xs s d n) j false ≡ get_or xs (source_of s d n j) false
 unfolding moved
 get_or-moved xs s d n j h = get_or-map-range_with_len (λ j. get_or xs (source_of s d n j) false) 0 (length xs) j j false h (omega arith)
-
--- item i of what is shown
-pub get_or-shows : (xs : List Bool) (head len i : ℕ) → i < len → get_or (slice_range xs head (head + len)) i false ≡ get_or xs (head + i) false
-get_or-shows xs head len i h = get_or-take (head + len - head) (drop head xs) i false (omega arith) ∙ get_or-drop head xs i false
 
 source_shift : (head s d n i : ℕ) → source_of (head + s) (head + d) n (head + i) ≡ head + source_of s d n i
 source_shift head s d n i = grind (arith, nat_tests)
@@ -36,8 +32,8 @@ shows_moved xs head len s d n from to fits =
     ext_get_or false (slice_range all head (head + len)) (moved (slice_range xs head (head + len)) s d n) (left ∙ sym right)
     (λ i h.
     let below : i < len = subst (λ m. i < m) left h in
-    get_or-shows all head len i below ∙ get_or-moved xs (head + s) (head + d) n (head + i) (omega arith) ∙ ap (λ k. get_or xs k false) (source_shift head s d n i)
-    ∙ sym (get_or-moved (slice_range xs head (head + len)) s d n i (omega arith) ∙ get_or-shows xs head len (source_of s d n i) (source_below s d n i len from below)))
+    get_or-run all head len i below ∙ get_or-moved xs (head + s) (head + d) n (head + i) (omega arith) ∙ ap (λ k. get_or xs k false) (source_shift head s d n i)
+    ∙ sym (get_or-moved (slice_range xs head (head + len)) s d n i (omega arith) ∙ get_or-run xs head len (source_of s d n i) (source_below s d n i len from below)))
 
 source_before : (s d n j : ℕ) → j < d → source_of s d n j ≡ j
 source_before s d n j h = grind (arith, nat_tests)
@@ -101,8 +97,8 @@ aligned_shows w xs head len positive fits =
     (λ j h.
     let below : j < len = subst (λ m. j < m) left h in
     let at : (head + j) - 0 ≡ head + j = omega arith in
-    get_or-shows all 0 len j below ∙ ap (λ m. get_or all m false) (omega arith) ∙ get_or-moved xs head 0 len j (omega arith) ∙ ap (λ m. get_or xs m false) (source_inside head 0 len j (omega arith) (omega arith) ∙ at)
-    ∙ sym (get_or-shows xs head len j below))
+    get_or-run all 0 len j below ∙ ap (λ m. get_or all m false) (omega arith) ∙ get_or-moved xs head 0 len j (omega arith) ∙ ap (λ m. get_or xs m false) (source_inside head 0 len j (omega arith) (omega arith) ∙ at)
+    ∙ sym (get_or-run xs head len j below))
 
 -- ---- whole calls
 
@@ -135,7 +131,7 @@ swap_removed_shows w xs head len i last positive h fits is =
     let size : length list ≡ len = length-run xs head len fits in
     let long : length (set xs (head + i) last) ≡ length xs = length-set xs (head + i) last in
     let less : len - 1 ≡ length list - 1 = omega arith in
-    let read : last ≡ get_or list (length list - 1) false = is ∙ sym (ap (λ m. get_or list m false) (sym less) ∙ get_or-shows xs head len (len - 1) (omega arith)) in
+    let read : last ≡ get_or list (length list - 1) false = is ∙ sym (ap (λ m. get_or list m false) (sym less) ∙ get_or-run xs head len (len - 1) (omega arith)) in
     shrunk_shows w (set xs (head + i) last) head len (len - 1) positive (omega arith) (omega arith)
     ∙ ap (take (len - 1)) (shows_set xs head len i last h fits ∙ ap (set list i) read)
     ∙ ap (λ m. take m (set list i (get_or list (length list - 1) false))) less

@@ -1,7 +1,6 @@
 -- A list with others written over a part of it.
-use Rattle.std.proofs.Common.{◌≡◌, ℕ, ◌+◌, ◌-◌, ◌<◌, ◌≤◌, Bool, false, List, [], ◌∷◌, ◌++◌, length, take, drop, set, replicate, get_or, sym, ◌∙◌, ap, arith}
-use Rattle.std.proofs.lemmas.List.{places, same_lists, append_assoc, set_split, length-take, length-take-le, length-drop, length-append, take-append-drop}
-use Rattle.std.proofs.lemmas.List.{set-append_right, length_push, drop_more}
+use Rattle.std.proofs.Common.{◌≡◌, ℕ, ◌+◌, ◌-◌, ◌<◌, ◌≤◌, Bool, List, [], ◌∷◌, ◌++◌, length, take, drop, set, replicate, get_or, sym, ◌∙◌, ap, arith}
+use Rattle.std.proofs.lemmas.List.{places, same_lists, set_split, length-take, length-drop, length-append, take-append-drop}
 use Rattle.std.proofs.Common.{add-one, add-zero, rules}
 use Rattle.bit_addressing.specs.Row.{put, filled}
 
@@ -26,20 +25,6 @@ pub put_ends : (xs : List Bool) (head len all : ℕ) (b : Bool) → all ≡ leng
 put_ends xs head len all b is h =
     let low : head - 0 ≡ head = omega arith in
     rw (low, is) (put_both xs head len b h)
-
--- one more item behind those that were put
-pub put_next : (xs ys : List Bool) (d n : ℕ) (b : Bool) → n ≡ length ys → d + n < length xs → set (put xs d ys) (d + n) b ≡ put xs d (ys ++ b ∷ [])
-unfolding put
-put_next xs ys d n b is h =
-    let front : length (take d xs) ≡ d = length-take-le d xs (omega arith) in
-    let rest : d + n - d ≡ n = omega arith in
-    let none : n - n ≡ 0 = omega arith in
-    let size : d + length ys ≡ d + n = omega arith in
-    let more : d + n + 1 ≡ d + length (ys ++ b ∷ []) = let l = length_push ys b in omega arith in
-    set-append_right (take d xs) (ys ++ drop (d + length ys) xs) d (d + n) b front (omega arith)
-    ∙ ap (λ l. take d xs ++ l) (ap (λ m. set (ys ++ drop (d + length ys) xs) m b) rest ∙ set-append_right ys (drop (d + length ys) xs) n n b (sym is) (omega arith)
-    ∙ ap (λ m. ys ++ set (drop (d + length ys) xs) m b) none ∙ ap (λ m. ys ++ set (drop m xs) 0 b) size ∙ ap (λ l. ys ++ set l 0 b) (drop_more xs (d + n) false h)
-    ∙ ap (λ m. ys ++ b ∷ drop m xs) more ∙ sym (append_assoc ys (b ∷ []) (drop (d + length (ys ++ b ∷ [])) xs)))
 
 pub put_before : (xs ys : List Bool) (d j : ℕ) (b : Bool) → d ≤ length xs → j < d → get_or (put xs d ys) j b ≡ get_or xs j b
 unfolding put

@@ -10,7 +10,6 @@ use Rattle.std.proofs.Common.{rules}
 use Rattle.std.proofs.lemmas.Slice.{between_is}
 use Rattle.bit_addressing.specs.Row.{words_for, put, sized, filled}
 use Rattle.bit_addressing.proofs.lists.Sized.{room, length-sized, words_for_mono}
-use Rattle.bit_addressing.proofs.lists.Put.{put_none}
 
 take-set-comm : (n : ℕ) (xs : List Bool) (i : ℕ) (b : Bool) → take n (set xs i b) ≡ set (take n xs) i b
 take-set-comm zero [] i b = refl
@@ -130,11 +129,6 @@ pub flipped_twice : (xs : List Bool) → map not (map not xs) ≡ xs
 flipped_twice [] = refl
 flipped_twice (true ∷ xs) = ap (λ l. true ∷ l) (flipped_twice xs)
 flipped_twice (false ∷ xs) = ap (λ l. false ∷ l) (flipped_twice xs)
-
-pub copy_none : (xs ys : List Bool) (d from : ℕ) → xs ≡ put xs d (slice_range ys from (from + 0))
-copy_none xs ys d from =
-    let e : from + 0 - from ≡ 0 = omega arith in
-    rw e (sym (put_none xs d))
 
 pub joined_shows : (w : ℕ) (xs ys : List Bool) (head len from n : ℕ) → 0 < w → head + len ≤ length xs → from + n ≤ length ys → slice_range (put (sized w xs (head + (len + n))) (head + len) (slice_range ys from (from + n))) head (head + (len + n)) ≡ slice_range xs head (head + len) ++ slice_range ys from (from + n)
 joined_shows w xs ys head len from n positive h k =

@@ -118,16 +118,7 @@ fn word_of_window<T: BitStore, O: BitOrder, U: BitStore, P: BitOrder>(
     O::from_lsb0(T::from_u64(bits))
 }
 
-/// Whether the ends of a word lie in an order as in the two orders that go by shifts. It is a hint for speed
-/// alone: of another order, bits are cheaper taken one by one than by way of a number.
-#[inline(always)]
-pub(crate) fn goes_by_shifts<O: BitOrder>() -> bool {
-    let first = O::at(BitIdx::<u64>::new_unchecked(0)).into_inner();
-    let last = O::at(BitIdx::<u64>::new_unchecked(63)).into_inner();
-    (first == 0 && last == 63) || (first == 63 && last == 0)
-}
-
-/// Like `word_of_window`, bit by bit.
+/// Like `word_of_window`, bit by bit (docs/SPEED.md, "An order of a user's own", the copies).
 #[inline(always)]
 fn word_by_bits<T: BitStore, O: BitOrder, U: BitStore, P: BitOrder>(
     source: &[U],
@@ -161,7 +152,7 @@ fn word_behind_by_bits<T: BitStore, O: BitOrder, U: BitStore, P: BitOrder>(
     ensures { row T.BitStore O.BitOrder (result ∷ []) ≡ slice_range (row U.BitStore P.BitOrder source.now) (begin * U.BITS + skip + t * T.BITS) (begin * U.BITS + skip + t * T.BITS + T.BITS) }
 {
     if U::BITS == T::BITS {
-        if goes_by_shifts::<O>() {
+        if O::goes_by_shifts() {
             return word_of_window::<T, O, U, P>(source, begin + t, skip);
         }
         return word_by_bits::<T, O, U, P>(source, begin + t, skip);
@@ -204,7 +195,7 @@ fn word_at<T: BitStore, O: BitOrder, U: BitStore, P: BitOrder>(source: &[U], at:
 {
     let width = U::BITS as usize;
     let k = at / width;
-    if T::BITS < U::BITS && goes_by_shifts::<O>() && k + 1 < source.len() {
+    if T::BITS < U::BITS && O::goes_by_shifts() && k + 1 < source.len() {
         let begin = BitIdx::<U>::new_unchecked((at % width) as u8);
         let word = P::window(source[k], source[k + 1], begin);
         return O::front::<T, U>(O::from_lsb0(P::to_lsb0(word)));
@@ -226,7 +217,7 @@ pub(crate) fn word_behind<T: BitStore, O: BitOrder, U: BitStore, P: BitOrder>(
     requires fits { begin * U.BITS + skip + t * T.BITS + T.BITS < 2 ^ 64 }
     ensures { row T.BitStore O.BitOrder (result ∷ []) ≡ slice_range (row U.BitStore P.BitOrder source.now) (begin * U.BITS + skip + t * T.BITS) (begin * U.BITS + skip + t * T.BITS + T.BITS) }
 {
-    if !goes_by_shifts::<P>() {
+    if !P::goes_by_shifts() {
         return word_behind_by_bits::<T, O, U, P>(source, begin, skip, t);
     }
     if U::BITS == T::BITS {

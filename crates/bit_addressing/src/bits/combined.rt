@@ -1,12 +1,14 @@
 //! Runs of bits combined with those of another row, by whole words of the target.
-ghost use Rattle.std.specs.Prelude.{◌≡◌, ℕ, ◌+◌, ◌-◌, ◌*◌, ◌/◌, ◌^◌, ◌<◌, ◌≤◌, if◌then◌else◌, ◌&&◌, ◌||◌, Bool, not, [], ◌∷◌, length, slice_range};
+ghost use Rattle.std.specs.Prelude.{◌≡◌, ℕ, ◌+◌, ◌-◌, ◌*◌, ◌/◌, ◌^◌, ◌<◌, ◌≤◌, if◌then◌else◌, ◌&&◌, ◌||◌, Bool, false, not, [], ◌∷◌, length, slice_range};
 ghost use Rattle.std.specs.Simd.Lanes.{zip2};
 ghost use Rattle.bit_addressing.specs.Bits.{has_bit};
 ghost use Rattle.bit_addressing.specs.Row.{put};
 ghost use Rattle.bit_addressing.specs.Typed.{row};
 
-use crate::bits::chunks::{block_at, blocks_behind, goes_by_shifts, word_behind, word_of_run};
+use crate::bits::chunks::{block_at, blocks_behind, word_behind, word_of_run};
 use crate::bits::single::write_part;
+use crate::each_shift::each_shift;
+use crate::length::Span;
 use crate::order::BitOrder;
 use crate::store::BitStore;
 
@@ -18,6 +20,10 @@ pub trait BitOperator {
     /// The bits of `old` and `new` at each place made into one.
     fn apply<T: BitStore>(old: T, new: T) -> T
         ensures { (p : ℕ) → p < T.BITS → has_bit (T.value result) p ≡ made (has_bit (T.value old) p) (has_bit (T.value new) p) };
+
+    /// Whether a bit is false that is made of an old one and false. Else it is the old one.
+    fn clears() -> bool
+        ensures { (x : Bool) → made x false ≡ (if result then false else x) };
 }
 
 /// A bit that is set in both.
@@ -28,6 +34,10 @@ impl BitOperator for And {
 
     fn apply<T: BitStore>(old: T, new: T) -> T {
         old.and(new)
+    }
+
+    fn clears() -> bool {
+        true
     }
 }
 
@@ -40,6 +50,10 @@ impl BitOperator for Or {
     fn apply<T: BitStore>(old: T, new: T) -> T {
         old.or(new)
     }
+
+    fn clears() -> bool {
+        false
+    }
 }
 
 /// A bit that is set in one alone.
@@ -51,6 +65,10 @@ impl BitOperator for Xor {
     fn apply<T: BitStore>(old: T, new: T) -> T {
         old.xor(new)
     }
+
+    fn clears() -> bool {
+        false
+    }
 }
 
 /// The second bit, whatever the first is: a copy.
@@ -61,6 +79,10 @@ impl BitOperator for Second {
 
     fn apply<T: BitStore>(_old: T, new: T) -> T {
         new
+    }
+
+    fn clears() -> bool {
+        true
     }
 }
 
@@ -134,7 +156,7 @@ fn combine_blocks<F: BitOperator, T: BitStore, O: BitOrder, U: BitStore, P: BitO
 }
 
 /// Like `combine_behind`, into words narrower than those of `source`: by blocks of 64 bits, as far as they
-/// go.
+/// go (docs/SPEED.md, "Rows of words", u64 into u8).
 fn combine_narrower<F: BitOperator, T: BitStore, O: BitOrder, U: BitStore, P: BitOrder>(
     words: &mut [T],
     first: usize,
@@ -158,39 +180,8 @@ fn combine_narrower<F: BitOperator, T: BitStore, O: BitOrder, U: BitStore, P: Bi
     combine_behind::<F, T, O, U, P>(words, next, last, source, from, skip);
 }
 
-/// Like `combine_behind`, of bytes. A processor shifts bytes side by side by a number that the compiler knows, so
-/// each index has a loop of its own.
-fn combine_bytes<F: BitOperator, T: BitStore, O: BitOrder, U: BitStore, P: BitOrder>(
-    words: &mut [T],
-    first: usize,
-    last: usize,
-    source: &[U],
-    begin: usize,
-    skip: u8,
-)
-    requires width { U.BITS ≡ 8 }
-    requires ordered { first ≤ last }
-    requires target { last ≤ length words.old }
-    requires within { skip < U.BITS }
-    requires source { begin * U.BITS + skip + (last - first) * T.BITS < U.BITS * length source.now }
-    requires source_fits { begin * U.BITS + skip + (last - first) * T.BITS < 2 ^ 64 }
-    ensures bits { row T.BitStore O.BitOrder words.new ≡ put (row T.BitStore O.BitOrder words.old) (first * T.BITS) (zip2 F.made (slice_range (row T.BitStore O.BitOrder words.old) (first * T.BITS) (last * T.BITS)) (slice_range (row U.BitStore P.BitOrder source.now) (begin * U.BITS + skip) (begin * U.BITS + skip + (last - first) * T.BITS))) }
-    ensures size { length words.new ≡ length words.old }
-{
-    match skip {
-        1 => combine_behind::<F, T, O, U, P>(words, first, last, source, begin, 1),
-        2 => combine_behind::<F, T, O, U, P>(words, first, last, source, begin, 2),
-        3 => combine_behind::<F, T, O, U, P>(words, first, last, source, begin, 3),
-        4 => combine_behind::<F, T, O, U, P>(words, first, last, source, begin, 4),
-        5 => combine_behind::<F, T, O, U, P>(words, first, last, source, begin, 5),
-        6 => combine_behind::<F, T, O, U, P>(words, first, last, source, begin, 6),
-        7 => combine_behind::<F, T, O, U, P>(words, first, last, source, begin, 7),
-        _ => combine_behind::<F, T, O, U, P>(words, first, last, source, begin, 0),
-    }
-}
-
-/// The same, of the bits that stand as far after bit `from` of the row. Where that is a word's first bit no word
-/// has to be shifted, so the compiler is shown this case by itself.
+/// Like `combine_behind`, of the bits that stand as far after bit `from` of the row. Where that is a word's first bit no word
+/// has to be shifted, so the compiler is shown this case by itself (docs/SPEED.md, "Rows of words", equal heads).
 fn combine_whole<F: BitOperator, T: BitStore, O: BitOrder, U: BitStore, P: BitOrder>(
     words: &mut [T],
     first: usize,
@@ -208,10 +199,10 @@ fn combine_whole<F: BitOperator, T: BitStore, O: BitOrder, U: BitStore, P: BitOr
     let width = U::BITS as usize;
     let begin = from / width;
     let skip = (from % width) as u8;
-    if T::BITS < U::BITS && goes_by_shifts::<O>() && goes_by_shifts::<P>() {
+    if T::BITS < U::BITS && O::goes_by_shifts() && P::goes_by_shifts() {
         combine_narrower::<F, T, O, U, P>(words, first, last, source, begin, skip);
-    } else if T::BITS == 8 && U::BITS == 8 && goes_by_shifts::<P>() {
-        combine_bytes::<F, T, O, U, P>(words, first, last, source, begin, skip);
+    } else if T::BITS == 8 && U::BITS == 8 && P::goes_by_shifts() {
+        each_shift!(skip, by => combine_behind::<F, T, O, U, P>(words, first, last, source, begin, by));
     } else if skip == 0 {
         combine_behind::<F, T, O, U, P>(words, first, last, source, begin, 0);
     } else {
@@ -240,10 +231,12 @@ pub fn combine_bits<F: BitOperator, T: BitStore, O: BitOrder, U: BitStore, P: Bi
         return;
     }
     let width = T::BITS as usize;
-    let first = at / width;
-    let low = at % width;
-    let last = (at + n - 1) / width;
-    let end = (at + n - 1) % width + 1;
+    let Span {
+        first,
+        low,
+        last,
+        end,
+    } = Span::of::<T>(at, at + n);
     if first == last {
         let new = word_of_run::<T, O, U, P>(source, from, n as u8, low as u8);
         combine_part::<F, T, O>(words, first, low, end, new);
@@ -252,6 +245,6 @@ pub fn combine_bits<F: BitOperator, T: BitStore, O: BitOrder, U: BitStore, P: Bi
     let new = word_of_run::<T, O, U, P>(source, from, (width - low) as u8, low as u8);
     combine_part::<F, T, O>(words, first, low, width, new);
     combine_whole::<F, T, O, U, P>(words, first + 1, last, source, from + (width - low));
-    let new = word_of_run::<T, O, U, P>(source, from + (last * width - at), end as u8, 0);
+    let new = word_of_run::<T, O, U, P>(source, from + (n - end), end as u8, 0);
     combine_part::<F, T, O>(words, last, 0, end, new);
 }

@@ -6,39 +6,29 @@ ghost use Rattle.bit_addressing.specs.Typed.{row};
 
 use crate::bits::chunks::{block_at, blocks_behind, read_chunk, word_number};
 use crate::index::BitIdx;
+use crate::length::Span;
 use crate::order::{BitOrder, Lsb0};
 use crate::store::BitStore;
 
-/// Like `count_bits`, whole words too by the order `O`.
-fn count_in_order<T: BitStore, O: BitOrder>(words: &[T], from: usize, upto: usize) -> usize
-    requires ordered { from ≤ upto }
-    requires within { upto ≤ T.BITS * length words.now }
-    ensures { result ≡ count_by (λ b. b) (slice_range (row T.BitStore O.BitOrder words.now) from upto) }
+/// How many bits are set in the words `first..last`, by blocks of 64 bits where there are so many (docs/SPEED.md,
+/// "Rows of words", count). Requires that the words are there.
+fn count_words<T: BitStore, O: BitOrder>(words: &[T], first: usize, last: usize) -> usize
+    requires ordered { first ≤ last }
+    requires within { last ≤ length words.now }
+    requires fits { last * T.BITS < 2 ^ 64 }
+    ensures { result ≡ count_by (λ b. b) (slice_range (row T.BitStore O.BitOrder words.now) (first * T.BITS) (last * T.BITS)) }
 {
-    if from == upto {
-        return 0;
-    }
-    let width = T::BITS as usize;
-    let first = from / width;
-    let last = (upto - 1) / width;
-    let end = (upto - 1) % width + 1;
-    if first == last {
-        let chunk = read_chunk::<T, O>(words, from, (upto - from) as u8);
-        return chunk.count_ones() as usize;
-    }
-    let chunk = read_chunk::<T, O>(words, from, (width - from % width) as u8);
-    let mut count = chunk.count_ones() as usize;
-    let each = 64 / width;
-    let blocks = (last - first - 1) / each;
+    let each = (64 / T::BITS) as usize;
+    let blocks = (last - first) / each;
+    let mut count = 0;
     for t in 0..blocks {
-        let block = O::pack(words, first + 1 + t * each);
+        let block = O::pack(words, first + t * each);
         count += word_number::<u64, O>(block).count_ones() as usize;
     }
-    for k in first + 1 + blocks * each..last {
+    for k in first + blocks * each..last {
         count += word_number::<T, O>(words[k]).count_ones() as usize;
     }
-    let chunk = read_chunk::<T, O>(words, last * width, end as u8);
-    count + chunk.count_ones() as usize
+    count
 }
 
 /// How many bits of the row are set at the places `from..upto`. A whole word has as many set in each order,
@@ -53,15 +43,19 @@ pub fn count_bits<T: BitStore, O: BitOrder>(words: &[T], from: usize, upto: usiz
         return 0;
     }
     let width = T::BITS as usize;
-    let first = from / width;
-    let last = (upto - 1) / width;
+    let Span {
+        first,
+        low,
+        last,
+        end,
+    } = Span::of::<T>(from, upto);
     if first == last {
         let chunk = read_chunk::<T, O>(words, from, (upto - from) as u8);
         return chunk.count_ones() as usize;
     }
-    let head = read_chunk::<T, O>(words, from, (width - from % width) as u8);
-    let whole = count_in_order::<T, Lsb0>(words, (first + 1) * width, last * width);
-    let tail = read_chunk::<T, O>(words, last * width, ((upto - 1) % width + 1) as u8);
+    let head = read_chunk::<T, O>(words, from, (width - low) as u8);
+    let whole = count_words::<T, Lsb0>(words, first + 1, last);
+    let tail = read_chunk::<T, O>(words, last * width, end as u8);
     head.count_ones() as usize + whole + tail.count_ones() as usize
 }
 
@@ -84,7 +78,7 @@ fn are_bytes_alike<T: BitStore, O: BitOrder, U: BitStore, P: BitOrder>() -> bool
 
 /// How many blocks of 64 bits, of the first `blocks` from words `k` and `l` on, are equal up to one that is not. It
 /// tells so of bytes in one order, whose blocks need no turning round, and of others 0. Requires that both rows have
-/// the blocks.
+/// the blocks (docs/SPEED.md, "Rows of words", compare at equal heads).
 #[inline(always)]
 fn equal_blocks<T: BitStore, O: BitOrder, U: BitStore, P: BitOrder>(
     a: &[T],
@@ -192,9 +186,37 @@ pub fn differ_at<T: BitStore, O: BitOrder, U: BitStore, P: BitOrder>(
     differ_from::<T, O, U, P>(a, k, skip, b, l, over, n)
 }
 
-/// The first of the places `from..upto` that has this bit, counted from `from`. None exactly where there
-/// is none. Requires that `from` is at most `upto`, which is at most the row's length.
-pub fn find_bit<T: BitStore, O: BitOrder>(
+/// How many blocks of 64 bits, from place `from` on, have the other bit alone, up to one that does not or that has no block
+/// after it. Tells 0 of a short run, which is faster searched by chunks (docs/SPEED.md, "Rows of words", find). Requires
+/// that `from` is at most `upto`, which is at most the row's length.
+fn blocks_without<T: BitStore, O: BitOrder>(
+    words: &[T],
+    from: usize,
+    upto: usize,
+    bit: bool,
+) -> usize
+    requires ordered { from ≤ upto }
+    requires within { upto ≤ T.BITS * length words.now }
+    ensures few { result * 64 ≤ upto - from }
+    ensures others { slice_range (row T.BitStore O.BitOrder words.now) from (from + result * 64) ≡ replicate (result * 64) (not bit) }
+{
+    if upto - from < 64 || upto - from < 4 * T::BITS as usize {
+        return 0;
+    }
+    let others = if bit { 0 } else { u64::MAX };
+    let run = Span::of::<T>(from, upto);
+    let each = (64 / T::BITS) as usize;
+    let blocks = blocks_behind::<T>(words.len(), run.first).min((upto - from) / 64);
+    for t in 0..blocks {
+        if block_at::<O, T, O>(words, run.first + t * each, run.low as u8) != others {
+            return t;
+        }
+    }
+    blocks
+}
+
+/// Like `find_bit`, by chunks of 64 bits.
+fn find_by_chunks<T: BitStore, O: BitOrder>(
     words: &[T],
     from: usize,
     upto: usize,
@@ -222,4 +244,23 @@ pub fn find_bit<T: BitStore, O: BitOrder>(
         return None;
     }
     Some(done + apart.trailing_zeros() as usize)
+}
+
+/// The first of the places `from..upto` that has this bit, counted from `from`. None exactly where there
+/// is none. Requires that `from` is at most `upto`, which is at most the row's length.
+pub fn find_bit<T: BitStore, O: BitOrder>(
+    words: &[T],
+    from: usize,
+    upto: usize,
+    bit: bool,
+) -> Option<usize>
+    requires ordered { from ≤ upto }
+    requires within { upto ≤ T.BITS * length words.now }
+    ensures { MatchOption result (slice_range (row T.BitStore O.BitOrder words.now) from upto ≡ replicate (upto - from) (not bit)) (λ k. IsFirst bit (slice_range (row T.BitStore O.BitOrder words.now) from upto) k) }
+{
+    let passed = blocks_without::<T, O>(words, from, upto, bit) * 64;
+    let Some(at) = find_by_chunks::<T, O>(words, from + passed, upto, bit) else {
+        return None;
+    };
+    Some(passed + at)
 }

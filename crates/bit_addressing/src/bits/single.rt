@@ -5,6 +5,7 @@ ghost use Rattle.bit_addressing.specs.Row.{put, filled};
 ghost use Rattle.bit_addressing.specs.Typed.{row, words_from};
 
 use crate::index::{BitEnd, BitIdx};
+use crate::length::Span;
 use crate::order::BitOrder;
 use crate::store::BitStore;
 
@@ -58,8 +59,8 @@ pub(crate) fn blend<T: BitStore>(old: T, new: T, mask: T) -> T
 }
 
 /// The word moved up until its lowest bit stands where those of a word moved down by `count` end. Words of 16 and 32
-/// bits go in two steps, of which the compiler makes a faster loop. Requires that `count` is above 0 and below
-/// `T::BITS`.
+/// bits go in two steps, of which the compiler makes a faster loop (docs/SPEED.md, "What is not fast", words of 16 bits).
+/// Requires that `count` is above 0 and below `T::BITS`.
 #[inline(always)]
 pub(crate) fn shl_behind<T: BitStore>(word: T, count: u8) -> T
     requires some { 0 < count }
@@ -128,15 +129,18 @@ pub fn fill_bits<T: BitStore, O: BitOrder>(words: &mut [T], from: usize, upto: u
         return;
     }
     let width = T::BITS as usize;
-    let first = from / width;
-    let last = (upto - 1) / width;
-    let end = (upto - 1) % width + 1;
+    let Span {
+        first,
+        low,
+        last,
+        end,
+    } = Span::of::<T>(from, upto);
     let full = repeated::<T>(bit);
     if first == last {
-        write_part::<T, O>(words, first, from % width, end, full);
+        write_part::<T, O>(words, first, low, end, full);
         return;
     }
-    write_part::<T, O>(words, first, from % width, width, full);
+    write_part::<T, O>(words, first, low, width, full);
     for k in first + 1..last {
         words[k] = full;
     }

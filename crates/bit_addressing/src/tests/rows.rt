@@ -1,10 +1,10 @@
 //! Rows of words: single bits, runs, copies, chunks, counts and comparisons.
 use crate::tests::orders::{Scramble, Xor4};
 use crate::{
-    And, Lsb0, Msb0, combine_bits, copy_bits, copy_bits_alike, copy_bits_in_vec, count_bits,
-    cut_words_in_vec, differ_at, fill_bits, fill_bits_in_vec, find_bit, flip_bits,
-    flip_bits_in_vec, move_bits_in_vec, push_bit_in_vec, read_binary, read_bit, read_chunk,
-    resize_words_in_vec, write_binary, write_bit, write_bit_in_vec, write_chunk,
+    And, Lsb0, Msb0, combine_bits, copy_bits, copy_bits_in_vec, count_bits, cut_words_in_vec,
+    differ_at, fill_bits, fill_bits_in_vec, find_bit, flip_bits, flip_bits_in_vec,
+    move_bits_in_vec, push_bit_in_vec, read_binary, read_bit, read_chunk, resize_words_in_vec,
+    write_binary, write_bit, write_bit_in_vec, write_chunk,
 };
 use std::test::Fail;
 
@@ -27,9 +27,9 @@ fn bits_of_words(rt: HostRuntime) {
     copy_bits::<u16, Msb0, u8, Lsb0>(&mut one, 0, &[0xff, 0x00], 0, 16);
     assert_eq!(rt; one, [0xff00]);
     let mut target = [0u8; 3];
-    copy_bits_alike::<u8, Lsb0>(&mut target, 3, &[0xff, 0x5a, 0xff], 3, 15);
+    copy_bits::<u8, Lsb0, u8, Lsb0>(&mut target, 3, &[0xff, 0x5a, 0xff], 3, 15);
     assert_eq!(rt; target, [0xf8, 0x5a, 0x03]);
-    copy_bits_alike::<u8, Lsb0>(&mut target, 0, &[0x70, 0x00], 4, 4);
+    copy_bits::<u8, Lsb0, u8, Lsb0>(&mut target, 0, &[0x70, 0x00], 4, 4);
     assert_eq!(rt; target, [0xf7, 0x5a, 0x03]);
 }
 

@@ -1,5 +1,5 @@
 //! Words, and ranges of them.
-use crate::{BitStore, GrowError, RangeExt, elts};
+use crate::{BitStore, GrowError, RangeExt, elts, equal_words};
 use std::process::Abort;
 use std::test::Fail;
 
@@ -23,6 +23,12 @@ fn words(rt: HostRuntime) {
     assert_eq!(rt; elts::<u8>(0), 0);
     assert_eq!(rt; elts::<u8>(9), 2);
     assert_eq!(rt; elts::<u64>(64), 1);
+}
+
+#[test]
+fn equal_slices(rt: HostRuntime) {
+    assert!(rt; equal_words::<u16>(&[], &[]) && equal_words(&[1_u16, 2], &[1, 2]));
+    assert!(rt; !equal_words(&[1_u16, 2], &[1, 3]) && !equal_words(&[1_u16, 2], &[1]));
 }
 
 #[test]

@@ -20,8 +20,10 @@ use std::marker::Model;
 
 impl<A: BitWords, O: BitOrder> BitArray<A, O> {
     /// The bits in order, from both ends.
+    #[tactic(auto, using(bit_slice::proofs::Parts::shown_length))]
     pub fn iter(&self) -> Iter<'_, A::Store, O>
         ensures list { rest_lent result ≡ row A.Store.BitStore O.BitOrder (A.words self.now) }
+        ensures len { length (rest_lent result) ≡ A.Store.BITS * A.count }
         ensures few { length (rest_lent result) ≤ MAX_BITS }
         ensures runs { YieldsInOrder (YieldsFirst (rest_lent {X = A.Store} {Y = O} {W = A.Store.BitStore} {P = O.BitOrder})) rest_lent }
         ensures runs_back { YieldsInReverse (YieldsLast (rest_lent {X = A.Store} {Y = O} {W = A.Store.BitStore} {P = O.BitOrder})) rest_lent }
@@ -57,6 +59,7 @@ impl<A: BitWords, O: BitOrder> IntoIter<A, O> {
     /// The bits of an array, in order.
     pub fn new(array: BitArray<A, O>) -> Self
         ensures list { result ≡ row A.Store.BitStore O.BitOrder (A.words array) }
+        ensures len { length result ≡ A.Store.BITS * A.count }
         ensures few { length result ≤ MAX_BITS }
         ensures runs { GivesInOrder rest_of }
         ensures runs_back { GivesInReverse rest_of }

@@ -2,12 +2,12 @@
 ghost use Rattle.std.specs.Prelude.{◌≡◌, ◌↔◌, IsTrue, not, map};
 ghost use Rattle.bit_addressing.specs.Typed.{row};
 ghost use Rattle.bit_slice.specs.BitSlice.{list_of};
-ghost use Rattle.bit_slice.specs.Operators.{bits_cmp, and_of, or_of, xor_of};
+ghost use Rattle.bit_slice.specs.Operators.{bits_cmp, combined, and_of, or_of, xor_of, AndsEach, OrsEach, XorsEach, CombinesEach, FlipsEach};
 
 use crate::array::BitArray;
 use crate::sized::{BitViewSized, BitWords};
-use bit_addressing::{BitOrder, BitStore, flip_bits};
-use bit_slice::{BitSlice, and_words, or_words, xor_words};
+use bit_addressing::{And, BitOperator, BitOrder, BitStore, Or, Xor, flip_bits};
+use bit_slice::{BitSlice, combine_words};
 use std::cmp::Ordering;
 use std::ops::{BitAnd, BitAndAssign, BitOr, BitOrAssign, BitXor, BitXorAssign, Index, Not};
 
@@ -30,33 +30,44 @@ impl<A: BitWords, O: BitOrder> BitArray<A, O> {
 }
 
 impl<A: BitViewSized, O: BitOrder> BitArray<A, O> {
-    /// Clears each bit that is false in a view, or that the view is too short for.
-    pub fn and_bits<U: BitStore, P: BitOrder>(&mut self, other: BitSlice<'_, U, P>)
-        ensures { row A.Store.BitStore O.BitOrder (A.words self.new) ≡ and_of (row A.Store.BitStore O.BitOrder (A.words self.old)) (list_of other.entry) }
+    /// Makes each bit into the one that `F` makes of it and of the one at its index in a view, or of false past its end.
+    fn combine<F: BitOperator, U: BitStore, P: BitOrder>(&mut self, other: BitSlice<'_, U, P>)
+        ensures list { row A.Store.BitStore O.BitOrder (A.words self.new) ≡ combined F.made (row A.Store.BitStore O.BitOrder (A.words self.old)) (list_of other.entry) }
+        ensures index { CombinesEach F.made (row A.Store.BitStore O.BitOrder (A.words self.old)) (list_of other.entry) (row A.Store.BitStore O.BitOrder (A.words self.new)) }
     {
         let len = self.len();
-        and_words::<A::Store, O, U, P>(self.inner.as_raw_mut_slice(), 0, len, other);
+        combine_words::<F, A::Store, O, U, P>(self.inner.as_raw_mut_slice(), 0, len, other);
+    }
+
+    /// Clears each bit that is false in a view, or that the view is too short for.
+    pub fn and_bits<U: BitStore, P: BitOrder>(&mut self, other: BitSlice<'_, U, P>)
+        ensures list { row A.Store.BitStore O.BitOrder (A.words self.new) ≡ and_of (row A.Store.BitStore O.BitOrder (A.words self.old)) (list_of other.entry) }
+        ensures index { AndsEach (row A.Store.BitStore O.BitOrder (A.words self.old)) (list_of other.entry) (row A.Store.BitStore O.BitOrder (A.words self.new)) }
+    {
+        self.combine::<And, U, P>(other);
     }
 
     /// Sets each bit that is true in a view; bits of the view past the length don't count.
     pub fn or_bits<U: BitStore, P: BitOrder>(&mut self, other: BitSlice<'_, U, P>)
-        ensures { row A.Store.BitStore O.BitOrder (A.words self.new) ≡ or_of (row A.Store.BitStore O.BitOrder (A.words self.old)) (list_of other.entry) }
+        ensures list { row A.Store.BitStore O.BitOrder (A.words self.new) ≡ or_of (row A.Store.BitStore O.BitOrder (A.words self.old)) (list_of other.entry) }
+        ensures index { OrsEach (row A.Store.BitStore O.BitOrder (A.words self.old)) (list_of other.entry) (row A.Store.BitStore O.BitOrder (A.words self.new)) }
     {
-        let len = self.len();
-        or_words::<A::Store, O, U, P>(self.inner.as_raw_mut_slice(), 0, len, other);
+        self.combine::<Or, U, P>(other);
     }
 
     /// Flips each bit that is true in a view; bits of the view past the length don't count.
     pub fn xor_bits<U: BitStore, P: BitOrder>(&mut self, other: BitSlice<'_, U, P>)
-        ensures { row A.Store.BitStore O.BitOrder (A.words self.new) ≡ xor_of (row A.Store.BitStore O.BitOrder (A.words self.old)) (list_of other.entry) }
+        ensures list { row A.Store.BitStore O.BitOrder (A.words self.new) ≡ xor_of (row A.Store.BitStore O.BitOrder (A.words self.old)) (list_of other.entry) }
+        ensures index { XorsEach (row A.Store.BitStore O.BitOrder (A.words self.old)) (list_of other.entry) (row A.Store.BitStore O.BitOrder (A.words self.new)) }
     {
-        let len = self.len();
-        xor_words::<A::Store, O, U, P>(self.inner.as_raw_mut_slice(), 0, len, other);
+        self.combine::<Xor, U, P>(other);
     }
 
     /// Flips every bit.
+    #[tactic(auto, using(bit_slice::proofs::Rules::item_of_not))]
     pub fn flip_all(&mut self)
-        ensures { row A.Store.BitStore O.BitOrder (A.words self.new) ≡ map not (row A.Store.BitStore O.BitOrder (A.words self.old)) }
+        ensures list { row A.Store.BitStore O.BitOrder (A.words self.new) ≡ map not (row A.Store.BitStore O.BitOrder (A.words self.old)) }
+        ensures index { FlipsEach (row A.Store.BitStore O.BitOrder (A.words self.old)) (row A.Store.BitStore O.BitOrder (A.words self.new)) }
     {
         flip_bits::<A::Store, O>(self.inner.as_raw_mut_slice());
     }
@@ -65,7 +76,7 @@ impl<A: BitViewSized, O: BitOrder> BitArray<A, O> {
 impl<A: BitViewSized, O: BitOrder> Not for BitArray<A, O> {
     type Output = Self;
 
-    ghost not_gives = { λ a b. row A.Store.BitStore O.BitOrder (A.words b) ≡ map not (row A.Store.BitStore O.BitOrder (A.words a)) };
+    ghost not_gives = { λ a b. (row A.Store.BitStore O.BitOrder (A.words b) ≡ map not (row A.Store.BitStore O.BitOrder (A.words a))) × FlipsEach (row A.Store.BitStore O.BitOrder (A.words a)) (row A.Store.BitStore O.BitOrder (A.words b)) };
 
     /// Every bit flipped.
     fn not(mut self) -> Self {
@@ -91,7 +102,7 @@ impl<A: BitWords, O: BitOrder> Index<usize> for BitArray<A, O> {
 }
 
 impl<A: BitViewSized, O: BitOrder> BitAndAssign for BitArray<A, O> {
-    ghost bitand_assign_gives = { λ a b c. row A.Store.BitStore O.BitOrder (A.words c) ≡ and_of (row A.Store.BitStore O.BitOrder (A.words a)) (row A.Store.BitStore O.BitOrder (A.words b)) };
+    ghost bitand_assign_gives = { λ a b c. (row A.Store.BitStore O.BitOrder (A.words c) ≡ and_of (row A.Store.BitStore O.BitOrder (A.words a)) (row A.Store.BitStore O.BitOrder (A.words b))) × AndsEach (row A.Store.BitStore O.BitOrder (A.words a)) (row A.Store.BitStore O.BitOrder (A.words b)) (row A.Store.BitStore O.BitOrder (A.words c)) };
 
     /// Clears each bit that is false in the right side.
     fn bitand_assign(&mut self, rhs: Self) {
@@ -102,7 +113,7 @@ impl<A: BitViewSized, O: BitOrder> BitAndAssign for BitArray<A, O> {
 impl<A: BitViewSized, O: BitOrder> BitAnd for BitArray<A, O> {
     type Output = Self;
 
-    ghost bitand_gives = { λ a b c. row A.Store.BitStore O.BitOrder (A.words c) ≡ and_of (row A.Store.BitStore O.BitOrder (A.words a)) (row A.Store.BitStore O.BitOrder (A.words b)) };
+    ghost bitand_gives = { λ a b c. (row A.Store.BitStore O.BitOrder (A.words c) ≡ and_of (row A.Store.BitStore O.BitOrder (A.words a)) (row A.Store.BitStore O.BitOrder (A.words b))) × AndsEach (row A.Store.BitStore O.BitOrder (A.words a)) (row A.Store.BitStore O.BitOrder (A.words b)) (row A.Store.BitStore O.BitOrder (A.words c)) };
 
     /// The bits that are true in both.
     fn bitand(mut self, rhs: Self) -> Self {
@@ -112,7 +123,7 @@ impl<A: BitViewSized, O: BitOrder> BitAnd for BitArray<A, O> {
 }
 
 impl<A: BitViewSized, O: BitOrder> BitOrAssign for BitArray<A, O> {
-    ghost bitor_assign_gives = { λ a b c. row A.Store.BitStore O.BitOrder (A.words c) ≡ or_of (row A.Store.BitStore O.BitOrder (A.words a)) (row A.Store.BitStore O.BitOrder (A.words b)) };
+    ghost bitor_assign_gives = { λ a b c. (row A.Store.BitStore O.BitOrder (A.words c) ≡ or_of (row A.Store.BitStore O.BitOrder (A.words a)) (row A.Store.BitStore O.BitOrder (A.words b))) × OrsEach (row A.Store.BitStore O.BitOrder (A.words a)) (row A.Store.BitStore O.BitOrder (A.words b)) (row A.Store.BitStore O.BitOrder (A.words c)) };
 
     /// Sets each bit that is true in the right side.
     fn bitor_assign(&mut self, rhs: Self) {
@@ -123,7 +134,7 @@ impl<A: BitViewSized, O: BitOrder> BitOrAssign for BitArray<A, O> {
 impl<A: BitViewSized, O: BitOrder> BitOr for BitArray<A, O> {
     type Output = Self;
 
-    ghost bitor_gives = { λ a b c. row A.Store.BitStore O.BitOrder (A.words c) ≡ or_of (row A.Store.BitStore O.BitOrder (A.words a)) (row A.Store.BitStore O.BitOrder (A.words b)) };
+    ghost bitor_gives = { λ a b c. (row A.Store.BitStore O.BitOrder (A.words c) ≡ or_of (row A.Store.BitStore O.BitOrder (A.words a)) (row A.Store.BitStore O.BitOrder (A.words b))) × OrsEach (row A.Store.BitStore O.BitOrder (A.words a)) (row A.Store.BitStore O.BitOrder (A.words b)) (row A.Store.BitStore O.BitOrder (A.words c)) };
 
     /// The bits that are true in one or in both.
     fn bitor(mut self, rhs: Self) -> Self {
@@ -133,7 +144,7 @@ impl<A: BitViewSized, O: BitOrder> BitOr for BitArray<A, O> {
 }
 
 impl<A: BitViewSized, O: BitOrder> BitXorAssign for BitArray<A, O> {
-    ghost bitxor_assign_gives = { λ a b c. row A.Store.BitStore O.BitOrder (A.words c) ≡ xor_of (row A.Store.BitStore O.BitOrder (A.words a)) (row A.Store.BitStore O.BitOrder (A.words b)) };
+    ghost bitxor_assign_gives = { λ a b c. (row A.Store.BitStore O.BitOrder (A.words c) ≡ xor_of (row A.Store.BitStore O.BitOrder (A.words a)) (row A.Store.BitStore O.BitOrder (A.words b))) × XorsEach (row A.Store.BitStore O.BitOrder (A.words a)) (row A.Store.BitStore O.BitOrder (A.words b)) (row A.Store.BitStore O.BitOrder (A.words c)) };
 
     /// Flips each bit that is true in the right side.
     fn bitxor_assign(&mut self, rhs: Self) {
@@ -144,7 +155,7 @@ impl<A: BitViewSized, O: BitOrder> BitXorAssign for BitArray<A, O> {
 impl<A: BitViewSized, O: BitOrder> BitXor for BitArray<A, O> {
     type Output = Self;
 
-    ghost bitxor_gives = { λ a b c. row A.Store.BitStore O.BitOrder (A.words c) ≡ xor_of (row A.Store.BitStore O.BitOrder (A.words a)) (row A.Store.BitStore O.BitOrder (A.words b)) };
+    ghost bitxor_gives = { λ a b c. (row A.Store.BitStore O.BitOrder (A.words c) ≡ xor_of (row A.Store.BitStore O.BitOrder (A.words a)) (row A.Store.BitStore O.BitOrder (A.words b))) × XorsEach (row A.Store.BitStore O.BitOrder (A.words a)) (row A.Store.BitStore O.BitOrder (A.words b)) (row A.Store.BitStore O.BitOrder (A.words c)) };
 
     /// The bits that are true in one alone.
     fn bitxor(mut self, rhs: Self) -> Self {

@@ -40,8 +40,10 @@ impl<A: BitWords, O: BitOrder> BitArray<A, O> {
     }
 
     /// The bit at `i`. None exactly where `i` is the length or more.
+    #[tactic(auto, using(bit_slice::proofs::Parts::shown_length))]
     pub fn get(&self, i: usize) -> Option<bool>
-        ensures { result ≡ slice_get (row A.Store.BitStore O.BitOrder (A.words self.now)) i }
+        ensures value { result ≡ slice_get (row A.Store.BitStore O.BitOrder (A.words self.now)) i }
+        ensures len { length (row A.Store.BitStore O.BitOrder (A.words self.now)) ≡ A.Store.BITS * A.count }
     {
         self.as_bitslice().get(i)
     }
@@ -82,6 +84,7 @@ impl<A: BitWords, O: BitOrder> BitArray<A, O> {
     /// How many bits are false.
     pub fn count_zeros(&self) -> usize
         ensures value { result ≡ count_by not (row A.Store.BitStore O.BitOrder (A.words self.now)) }
+        ensures with_ones { result + count_by (λ bit. bit) (row A.Store.BitStore O.BitOrder (A.words self.now)) ≡ length (row A.Store.BitStore O.BitOrder (A.words self.now)) }
         ensures few { result ≤ A.Store.BITS * A.count }
     {
         self.as_bitslice().count_zeros()
@@ -106,9 +109,11 @@ impl<A: BitWords, O: BitOrder> BitArray<A, O> {
 
 impl<A: BitViewSized, O: BitOrder> BitArray<A, O> {
     /// Writes the bit at `i`, and no other bit. Requires that `i` is below the length.
+    #[tactic(auto, using(bit_slice::proofs::Parts::row_size))]
     pub fn set(&mut self, i: usize, bit: bool)
         requires { i < A.Store.BITS * A.count }
-        ensures { row A.Store.BitStore O.BitOrder (A.words self.new) ≡ set (row A.Store.BitStore O.BitOrder (A.words self.old)) i bit }
+        ensures list { row A.Store.BitStore O.BitOrder (A.words self.new) ≡ set (row A.Store.BitStore O.BitOrder (A.words self.old)) i bit }
+        ensures len { length (row A.Store.BitStore O.BitOrder (A.words self.new)) ≡ A.Store.BITS * A.count }
     {
         write_bit::<A::Store, O>(self.inner.as_raw_mut_slice(), i, bit);
     }

@@ -1,7 +1,7 @@
 //! Views of the array, and its words.
 ghost use Rattle.std.specs.Prelude.{◌≡◌, ℕ, ◌*◌, length};
 ghost use Rattle.std.specs.Borrow.{sem};
-ghost use Rattle.bit_addressing.specs.Typed.{row, words_from};
+ghost use Rattle.bit_addressing.specs.Typed.{row, words_from, words_for_list};
 ghost use Rattle.bit_slice.specs.BitSlice.{words_of, head_of, len_of, list_of};
 ghost use Rattle.bit_slice.specs.BitSliceMut.{words_of as lent_words, head_of as lent_head, len_of as lent_len, list_of as lent_list, loan_of};
 ghost use Rattle.bit_array.specs.Sized.{lends_words, lends_view};
@@ -34,10 +34,12 @@ impl<A: BitWords, O: BitOrder> BitArray<A, O> {
     }
 
     /// The words.
+    #[tactic(auto, using(crate::proofs::Arrays::words_of_bits))]
     pub fn as_raw_slice(&self) -> &[A::Store]
         ensures words { result.now ≡ A.words self.now }
         ensures len { length result.now ≡ A.count }
         ensures from_row { result.now ≡ words_from A.Store.BitStore O.BitOrder (row A.Store.BitStore O.BitOrder (A.words self.now)) }
+        ensures from_list { result.now ≡ words_for_list A.Store.BitStore O.BitOrder (row A.Store.BitStore O.BitOrder (A.words self.now)) }
     {
         let words = self.inner.as_raw_slice();
         exact_words::<A::Store, O>(words);

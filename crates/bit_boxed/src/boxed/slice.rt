@@ -19,6 +19,7 @@ impl<T: BitStore, O: BitOrder> BitBox<T, O> {
     pub fn len(&self) -> usize
         ensures value { result ≡ length self.now.list }
         ensures bound { result ≤ MAX_BITS }
+        ensures fits { self.now.head + length self.now.list ≤ T.BITS * length self.now.words }
     {
         self.len
     }
@@ -81,6 +82,7 @@ impl<T: BitStore, O: BitOrder> BitBox<T, O> {
     /// How many bits are false.
     pub fn count_zeros(&self) -> usize
         ensures value { result ≡ count_by not self.now.list }
+        ensures with_ones { result + count_by (λ bit. bit) self.now.list ≡ length self.now.list }
         ensures few { result ≤ length self.now.list }
     {
         self.as_bitslice().count_zeros()

@@ -72,6 +72,7 @@ impl<T: BitStore, O: BitOrder> BitBox<T, O> {
         ensures row { row T.BitStore O.BitOrder result.now ≡ self.now.row }
         ensures from_row { result.now ≡ words_from T.BitStore O.BitOrder self.now.row }
         ensures shows { slice_range self.now.row self.now.head (self.now.head + length self.now.list) ≡ self.now.list }
+        ensures fits { self.now.head + length self.now.list ≤ T.BITS * length self.now.words }
     {
         exact_words::<T, O>(self.words.as_slice());
         self.words.as_slice()
@@ -82,6 +83,7 @@ impl<T: BitStore, O: BitOrder> BitBox<T, O> {
         ensures* writes_back { sem 𝓛 (lends_words T.row O.row T.BitStore O.BitOrder self.entry result) }
         ensures value { result.now ≡ self.old.words }
         ensures row { row T.BitStore O.BitOrder result.now ≡ self.old.row }
+        ensures fits { self.old.head + length self.old.list ≤ T.BITS * length self.old.words }
     {
         self.words.as_mut_slice()
     }

@@ -1,5 +1,5 @@
 //! The size of the vector, its ends, and bits put in and taken out.
-ghost use Rattle.std.specs.Prelude.{◌≡◌, ◌≢◌, ◌+◌, ◌-◌, ◌<◌, ◌≤◌, false, true, [], ◌∷◌, ◌++◌, length, min, take, insert, remove, OnOk, MatchOption, Some, slice_get, IsTrue, IsSome, ◌↔◌};
+ghost use Rattle.std.specs.Prelude.{◌≡◌, ◌≢◌, ◌+◌, ◌-◌, ◌*◌, ◌<◌, ◌≤◌, false, true, [], ◌∷◌, ◌++◌, length, min, take, insert, remove, OnOk, MatchOption, Some, slice_get, IsTrue, IsSome, ◌↔◌};
 ghost use Rattle.std.specs.List.{swap_remove};
 ghost use Rattle.bit_addressing.specs.declared.length.TheConstants.{MAX_BITS};
 ghost use Rattle.bit_containers.specs.BitVec.{Grew, Shrank, IsClean, RefusesOnly};
@@ -15,6 +15,7 @@ impl<T: BitStore, O: BitOrder> BitVec<T, O> {
     pub fn len(&self) -> usize
         ensures value { result ≡ length self.now.list }
         ensures bound { result ≤ MAX_BITS }
+        ensures fits { self.now.head + length self.now.list ≤ T.BITS * length self.now.words }
     {
         self.len
     }

@@ -6,7 +6,7 @@ ghost use Rattle.bit_containers.specs.BitVec.{IsKept, RefusesOnly};
 
 use crate::vec::BitVec;
 use bit_addressing::{BitOrder, BitStore, GrowError, MAX_BITS, elts};
-use std::alloc::AllocError;
+use std::alloc::{AllocError, Global};
 
 impl<T: BitStore, O: BitOrder> BitVec<T, O> {
     /// How many bits the vector has room for without new memory: those of the words that its memory holds,
@@ -68,5 +68,10 @@ impl<T: BitStore, O: BitOrder> BitVec<T, O> {
     {
         self.words.shrink_to_fit();
         Ok(())
+    }
+
+    /// The allocator that the vector was made with.
+    pub fn allocator(&self) -> Global {
+        *self.words.allocator()
     }
 }

@@ -3,11 +3,11 @@ ghost use Rattle.std.specs.Prelude.{◌≡◌, ◌↔◌, IsTrue, not, map};
 ghost use Rattle.bit_addressing.specs.Row.{put};
 ghost use Rattle.bit_containers.specs.BitVec.{Stayed, IsClean};
 ghost use Rattle.bit_slice.specs.BitSlice.{list_of};
-ghost use Rattle.bit_slice.specs.Operators.{bits_cmp, and_of, or_of, xor_of};
+ghost use Rattle.bit_slice.specs.Operators.{bits_cmp, combined, and_of, or_of, xor_of, AndsEach, OrsEach, XorsEach, CombinesEach, FlipsEach};
 
 use crate::vec::BitVec;
-use bit_addressing::{BitOrder, BitStore, flip_bits_in_vec};
-use bit_slice::{BitSlice, and_in_vec, or_in_vec, xor_in_vec};
+use bit_addressing::{And, BitOperator, BitOrder, BitStore, Or, Xor, flip_bits_in_vec};
+use bit_slice::{BitSlice, combine_in_vec};
 use std::cmp::Ordering;
 use std::ops::{BitAnd, BitAndAssign, BitOr, BitOrAssign, BitXor, BitXorAssign, Index, Not};
 
@@ -28,49 +28,60 @@ impl<T: BitStore, O: BitOrder> BitVec<T, O> {
         self.as_bitslice().cmp_bits(other)
     }
 
+    /// Makes each bit into the one that `F` makes of it and of the one at its index in a view, or of false past its end.
+    #[tactic(auto, using(bit_slice::proofs::Parts::shown_length))]
+    fn combine<F: BitOperator, U: BitStore, P: BitOrder>(&mut self, other: BitSlice<'_, U, P>)
+        ensures list { self.new.list ≡ combined F.made self.old.list (list_of other.entry) }
+        ensures index { CombinesEach F.made self.old.list (list_of other.entry) self.new.list }
+        ensures row { self.new.row ≡ put self.old.row self.old.head (combined F.made self.old.list (list_of other.entry)) }
+        ensures clean { IsClean T.BITS self.old → IsClean T.BITS self.new }
+        ensures stayed { Stayed self.old self.new }
+    {
+        let (head, len) = (self.head, self.len);
+        combine_in_vec::<F, T, O, U, P>(&mut self.words, head, len, other);
+    }
+
     /// Clears each bit that is false in a view, or that the view is too short for. No dead bit changes. Takes
     /// no memory.
-    #[tactic(auto, using(bit_slice::proofs::Parts::shown_length))]
     pub fn and_bits<U: BitStore, P: BitOrder>(&mut self, other: BitSlice<'_, U, P>)
         ensures list { self.new.list ≡ and_of self.old.list (list_of other.entry) }
+        ensures index { AndsEach self.old.list (list_of other.entry) self.new.list }
         ensures row { self.new.row ≡ put self.old.row self.old.head (and_of self.old.list (list_of other.entry)) }
         ensures clean { IsClean T.BITS self.old → IsClean T.BITS self.new }
         ensures stayed { Stayed self.old self.new }
     {
-        let (head, len) = (self.head, self.len);
-        and_in_vec::<T, O, U, P>(&mut self.words, head, len, other);
+        self.combine::<And, U, P>(other);
     }
 
     /// Sets each bit that is true in a view; what the view has after the length doesn't count. No dead bit
     /// changes. Takes no memory.
-    #[tactic(auto, using(bit_slice::proofs::Parts::shown_length))]
     pub fn or_bits<U: BitStore, P: BitOrder>(&mut self, other: BitSlice<'_, U, P>)
         ensures list { self.new.list ≡ or_of self.old.list (list_of other.entry) }
+        ensures index { OrsEach self.old.list (list_of other.entry) self.new.list }
         ensures row { self.new.row ≡ put self.old.row self.old.head (or_of self.old.list (list_of other.entry)) }
         ensures clean { IsClean T.BITS self.old → IsClean T.BITS self.new }
         ensures stayed { Stayed self.old self.new }
     {
-        let (head, len) = (self.head, self.len);
-        or_in_vec::<T, O, U, P>(&mut self.words, head, len, other);
+        self.combine::<Or, U, P>(other);
     }
 
     /// Flips each bit that is true in a view; what the view has after the length doesn't count. No dead bit
     /// changes. Takes no memory.
-    #[tactic(auto, using(bit_slice::proofs::Parts::shown_length))]
     pub fn xor_bits<U: BitStore, P: BitOrder>(&mut self, other: BitSlice<'_, U, P>)
         ensures list { self.new.list ≡ xor_of self.old.list (list_of other.entry) }
+        ensures index { XorsEach self.old.list (list_of other.entry) self.new.list }
         ensures row { self.new.row ≡ put self.old.row self.old.head (xor_of self.old.list (list_of other.entry)) }
         ensures clean { IsClean T.BITS self.old → IsClean T.BITS self.new }
         ensures stayed { Stayed self.old self.new }
     {
-        let (head, len) = (self.head, self.len);
-        xor_in_vec::<T, O, U, P>(&mut self.words, head, len, other);
+        self.combine::<Xor, U, P>(other);
     }
 
     /// Flips the whole row: the bits of the list, and the dead ones too. Takes no memory.
-    #[tactic(auto, using(bit_slice::proofs::Parts::shown_length, bit_addressing::proofs::lists::Shown::shows_map))]
+    #[tactic(auto, using(bit_slice::proofs::Parts::shown_length, bit_addressing::proofs::lists::Shown::shows_map, bit_slice::proofs::Rules::item_of_not))]
     pub fn flip_all(&mut self)
         ensures list { self.new.list ≡ map not self.old.list }
+        ensures index { FlipsEach self.old.list self.new.list }
         ensures row { self.new.row ≡ map not self.old.row }
         ensures stayed { Stayed self.old self.new }
     {
@@ -81,7 +92,7 @@ impl<T: BitStore, O: BitOrder> BitVec<T, O> {
 impl<T: BitStore, O: BitOrder> Not for BitVec<T, O> {
     type Output = Self;
 
-    ghost not_gives = { λ a b. (b.list ≡ map not a.list) × (b.row ≡ map not a.row) × Stayed a b };
+    ghost not_gives = { λ a b. (b.list ≡ map not a.list) × FlipsEach a.list b.list × (b.row ≡ map not a.row) × Stayed a b };
 
     /// The whole row flipped: the bits of the list, and the dead ones too.
     fn not(mut self) -> Self {
@@ -110,7 +121,7 @@ impl<T: BitStore, O: BitOrder> Index<usize> for BitVec<T, O> {
 }
 
 impl<T: BitStore, O: BitOrder> BitAndAssign for BitVec<T, O> {
-    ghost bitand_assign_gives = { λ a b c. (c.list ≡ and_of a.list b.list) × (c.row ≡ put a.row a.head (and_of a.list b.list)) × Stayed a c × (IsClean T.BITS a → IsClean T.BITS c) };
+    ghost bitand_assign_gives = { λ a b c. (c.list ≡ and_of a.list b.list) × AndsEach a.list b.list c.list × (c.row ≡ put a.row a.head (and_of a.list b.list)) × Stayed a c × (IsClean T.BITS a → IsClean T.BITS c) };
 
     /// Clears each bit that is false in the right side, or that it is too short for. No dead bit changes.
     fn bitand_assign(&mut self, rhs: Self) {
@@ -121,7 +132,7 @@ impl<T: BitStore, O: BitOrder> BitAndAssign for BitVec<T, O> {
 impl<T: BitStore, O: BitOrder> BitAnd for BitVec<T, O> {
     type Output = Self;
 
-    ghost bitand_gives = { λ a b c. (c.list ≡ and_of a.list b.list) × (c.row ≡ put a.row a.head (and_of a.list b.list)) × Stayed a c × (IsClean T.BITS a → IsClean T.BITS c) };
+    ghost bitand_gives = { λ a b c. (c.list ≡ and_of a.list b.list) × AndsEach a.list b.list c.list × (c.row ≡ put a.row a.head (and_of a.list b.list)) × Stayed a c × (IsClean T.BITS a → IsClean T.BITS c) };
 
     /// The bits that are true in both; the left side's words.
     fn bitand(mut self, rhs: Self) -> Self {
@@ -131,7 +142,7 @@ impl<T: BitStore, O: BitOrder> BitAnd for BitVec<T, O> {
 }
 
 impl<T: BitStore, O: BitOrder> BitOrAssign for BitVec<T, O> {
-    ghost bitor_assign_gives = { λ a b c. (c.list ≡ or_of a.list b.list) × (c.row ≡ put a.row a.head (or_of a.list b.list)) × Stayed a c × (IsClean T.BITS a → IsClean T.BITS c) };
+    ghost bitor_assign_gives = { λ a b c. (c.list ≡ or_of a.list b.list) × OrsEach a.list b.list c.list × (c.row ≡ put a.row a.head (or_of a.list b.list)) × Stayed a c × (IsClean T.BITS a → IsClean T.BITS c) };
 
     /// Sets each bit that is true in the right side. No dead bit changes.
     fn bitor_assign(&mut self, rhs: Self) {
@@ -142,7 +153,7 @@ impl<T: BitStore, O: BitOrder> BitOrAssign for BitVec<T, O> {
 impl<T: BitStore, O: BitOrder> BitOr for BitVec<T, O> {
     type Output = Self;
 
-    ghost bitor_gives = { λ a b c. (c.list ≡ or_of a.list b.list) × (c.row ≡ put a.row a.head (or_of a.list b.list)) × Stayed a c × (IsClean T.BITS a → IsClean T.BITS c) };
+    ghost bitor_gives = { λ a b c. (c.list ≡ or_of a.list b.list) × OrsEach a.list b.list c.list × (c.row ≡ put a.row a.head (or_of a.list b.list)) × Stayed a c × (IsClean T.BITS a → IsClean T.BITS c) };
 
     /// The bits that are true in one or in both; the left side's words.
     fn bitor(mut self, rhs: Self) -> Self {
@@ -152,7 +163,7 @@ impl<T: BitStore, O: BitOrder> BitOr for BitVec<T, O> {
 }
 
 impl<T: BitStore, O: BitOrder> BitXorAssign for BitVec<T, O> {
-    ghost bitxor_assign_gives = { λ a b c. (c.list ≡ xor_of a.list b.list) × (c.row ≡ put a.row a.head (xor_of a.list b.list)) × Stayed a c × (IsClean T.BITS a → IsClean T.BITS c) };
+    ghost bitxor_assign_gives = { λ a b c. (c.list ≡ xor_of a.list b.list) × XorsEach a.list b.list c.list × (c.row ≡ put a.row a.head (xor_of a.list b.list)) × Stayed a c × (IsClean T.BITS a → IsClean T.BITS c) };
 
     /// Flips each bit that is true in the right side. No dead bit changes.
     fn bitxor_assign(&mut self, rhs: Self) {
@@ -163,7 +174,7 @@ impl<T: BitStore, O: BitOrder> BitXorAssign for BitVec<T, O> {
 impl<T: BitStore, O: BitOrder> BitXor for BitVec<T, O> {
     type Output = Self;
 
-    ghost bitxor_gives = { λ a b c. (c.list ≡ xor_of a.list b.list) × (c.row ≡ put a.row a.head (xor_of a.list b.list)) × Stayed a c × (IsClean T.BITS a → IsClean T.BITS c) };
+    ghost bitxor_gives = { λ a b c. (c.list ≡ xor_of a.list b.list) × XorsEach a.list b.list c.list × (c.row ≡ put a.row a.head (xor_of a.list b.list)) × Stayed a c × (IsClean T.BITS a → IsClean T.BITS c) };
 
     /// The bits that are true in one alone; the left side's words.
     fn bitxor(mut self, rhs: Self) -> Self {

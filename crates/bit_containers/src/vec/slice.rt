@@ -50,6 +50,7 @@ impl<T: BitStore, O: BitOrder> BitVec<T, O> {
     /// How many bits are false.
     pub fn count_zeros(&self) -> usize
         ensures value { result ≡ count_by not self.now.list }
+        ensures with_ones { result + count_by (λ bit. bit) self.now.list ≡ length self.now.list }
         ensures few { result ≤ length self.now.list }
     {
         self.as_bitslice().count_zeros()

@@ -61,11 +61,6 @@ impl<T: BitStore, O: BitOrder> BitVec<T, O> {
         Ok(rest)
     }
 
-    // The allocator that the vector was made with.
-    fn allocator(&self) -> Global {
-        *self.words.allocator()
-    }
-
     /// Replaces the bits at a range of indices by what an iterator gives, once the splice is finished; until then it
     /// gives the bits of the range. Requires that the range lies in the length.
     pub fn splice<R: RangeExt, U: IntoIterator<Item = bool>>(

@@ -1,5 +1,5 @@
 //! The views of the vector, and its words.
-ghost use Rattle.std.specs.Prelude.{◌≡◌, ◌+◌, ◌-◌, ◌/◌, ◌%◌, ◌≤◌, length, slice_range};
+ghost use Rattle.std.specs.Prelude.{◌≡◌, ◌+◌, ◌-◌, ◌*◌, ◌/◌, ◌%◌, ◌≤◌, length, slice_range};
 ghost use Rattle.std.specs.Borrow.{sem};
 ghost use Rattle.bit_addressing.specs.Range.{LiesIn};
 ghost use Rattle.bit_addressing.specs.Row.{words_for};
@@ -81,6 +81,7 @@ impl<T: BitStore, O: BitOrder> BitVec<T, O> {
         ensures clean { IsClean T.BITS self.now → result.now ≡ words_for_list T.BitStore O.BitOrder self.now.list }
         ensures exact { length result.now ≡ words_for T.BITS (self.now.head + length self.now.list) }
         ensures shows { slice_range self.now.row self.now.head (self.now.head + length self.now.list) ≡ self.now.list }
+        ensures fits { self.now.head + length self.now.list ≤ T.BITS * length self.now.words }
     {
         exact_words::<T, O>(self.words.as_slice());
         self.words.as_slice()
@@ -91,6 +92,7 @@ impl<T: BitStore, O: BitOrder> BitVec<T, O> {
         ensures* writes_back { sem 𝓛 (lends_words T.row O.row T.BitStore O.BitOrder self.entry result) }
         ensures value { result.now ≡ self.old.words }
         ensures row { row T.BitStore O.BitOrder result.now ≡ self.old.row }
+        ensures fits { self.old.head + length self.old.list ≤ T.BITS * length self.old.words }
         ensures exact { length result.now ≡ words_for T.BITS (self.old.head + length self.old.list) }
     {
         self.words.as_mut_slice()

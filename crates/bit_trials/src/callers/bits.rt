@@ -1,5 +1,5 @@
 //! Callers that want the list.
-ghost use Rattle.std.specs.Prelude.{◌≡◌, ◌+◌, ◌-◌, ◌*◌, ◌<◌, ◌≤◌, ◌↔◌, Some, Ok, Err, true, false, [], ◌∷◌, ◌++◌, length, set, insert, swap, slice_get, slice_range, OnOk, OnErr, IfOk};
+ghost use Rattle.std.specs.Prelude.{◌≡◌, ◌+◌, ◌-◌, ◌*◌, ◌<◌, ◌≤◌, ◌↔◌, Some, Ok, Err, true, false, [], ◌∷◌, ◌++◌, length, set, insert, swap, slice_get, slice_range, OnOk, OnErr, IfOk, not};
 ghost use Rattle.bit_addressing.specs.declared.length.TheConstants.{MAX_BITS};
 
 use bit_addressing::write_bit;
@@ -229,4 +229,26 @@ impl Marks {
     {
         self.clone()
     }
+}
+
+/// A bit that is set on both sides is set in the intersection.
+pub fn set_in_both<T: BitStore, O: BitOrder>(
+    a: BitVec<T, O>,
+    b: BitVec<T, O>,
+    i: usize,
+) -> Option<bool>
+    requires left { slice_get a.list i ≡ Some true }
+    requires right { slice_get b.list i ≡ Some true }
+    ensures { result ≡ Some true }
+{
+    (a & b).get(i)
+}
+
+/// A clear bit is set after all bits were flipped.
+pub fn set_by_flipping<T: BitStore, O: BitOrder>(v: &mut BitVec<T, O>, i: usize) -> Option<bool>
+    requires { slice_get v.old.list i ≡ Some false }
+    ensures { result ≡ Some true }
+{
+    v.flip_all();
+    v.get(i)
 }

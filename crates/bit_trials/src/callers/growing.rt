@@ -1,5 +1,6 @@
 //! Callers that grow a vector.
-ghost use Rattle.std.specs.Prelude.{◌≡◌, ◌+◌, ◌-◌, ◌≤◌, ◌<◌, ◌++◌, map, not, true, false, [], ◌∷◌, take, replicate, length, IfOk, OnOk, OnErr, Ok, IsOk};
+ghost use Rattle.std.specs.Prelude.{◌≡◌, ◌+◌, ◌-◌, ◌%◌, ◌≤◌, ◌<◌, ◌++◌, map, not, true, false, [], ◌∷◌, take, replicate, length, IfOk, OnOk, OnErr, Ok, IsOk, eqb};
+ghost use Rattle.std.specs.List.{range_with_len};
 ghost use Rattle.bit_addressing.specs.declared.length.TheConstants.{MAX_BITS};
 
 use bit_containers::{BitOrder, BitStore, BitVec, GrowError, Lsb0, Msb0};
@@ -128,4 +129,14 @@ pub fn cut<O: BitOrder>(v: &mut BitVec<u8, O>) -> Result<(), GrowError>
     ensures { IsOk result }
 {
     v.resize(8, false)
+}
+
+/// Each appended bit is that of a function of its index.
+#[tactic(auto, using(bit_containers::proofs::Calling::filled_with))]
+pub fn striped<T: BitStore, O: BitOrder>(alloc: Global, n: usize) -> Result<BitVec<T, O>, GrowError>
+    ensures { IfOk result (λ v. v.list ≡ map (λ i. eqb (i % 2) 0) (range_with_len 0 n)) }
+{
+    let mut v = BitVec::new(alloc);
+    v.resize_with(n, |i| i % 2 == 0)?;
+    Ok(v)
 }

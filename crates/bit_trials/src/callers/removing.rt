@@ -1,6 +1,6 @@
 //! Callers that take bits out of a vector, and put others in their place.
 ghost use Rattle.std.specs.Prelude.{◌≡◌, ◌+◌, ◌≤◌, ◌++◌, true, false, [], ◌∷◌, take, drop, length, slice_get, slice_range, count_by, IfOk, OnOk, OnErr};
-ghost use Rattle.std.specs.List.{splice};
+ghost use Rattle.std.specs.List.{filter, splice};
 ghost use Rattle.bit_containers.specs.Closures.{keep_where};
 
 use bit_containers::{BitOrder, BitStore, BitVec, GrowError, Lsb0, Msb0};
@@ -65,6 +65,14 @@ pub fn counted_and_kept<T: BitStore, O: BitOrder>(v: &mut BitVec<T, O>) -> usize
         *bit
     });
     count
+}
+
+/// The true bits stay.
+#[tactic(auto, using(bit_containers::proofs::Calling::kept_filter))]
+pub fn ones_kept<T: BitStore, O: BitOrder>(v: &mut BitVec<T, O>)
+    ensures { v.new.list ≡ filter (λ bit. bit) v.old.list }
+{
+    v.retain(|_, bit| *bit);
 }
 
 /// The replaced bits are counted, and then replaced.

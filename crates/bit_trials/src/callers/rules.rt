@@ -1,5 +1,5 @@
 //! Callers that need a rule of lists: the line at the head of this module switches the rules on.
-#![tactic(auto, using(bit_addressing::proofs::lists::Shown::flipped_twice, bit_slice::proofs::Parts::row_size, bit_slice::specs::Comparisons::equal_lists, bit_slice::proofs::Rules::and_with_itself, bit_slice::proofs::Rules::and_with_true, bit_slice::proofs::Rules::or_with_false, bit_slice::proofs::Rules::xor_with_itself, bit_slice::proofs::Rules::xor_twice, bit_slice::proofs::Rules::not_of_and, bit_slice::proofs::Rules::not_of_or, bit_slice::proofs::Rules::item_of_and, bit_slice::proofs::Rules::item_of_or, bit_slice::proofs::Rules::item_of_xor, bit_slice::proofs::Rules::item_of_not))]
+#![tactic(auto, using(bit_addressing::proofs::lists::Shown::flipped_twice, bit_slice::proofs::Parts::row_size, bit_slice::specs::Comparisons::equal_lists, bit_slice::proofs::Rules::and_with_itself, bit_slice::proofs::Rules::and_with_true, bit_slice::proofs::Rules::or_with_false, bit_slice::proofs::Rules::xor_with_itself, bit_slice::proofs::Rules::xor_twice, bit_slice::proofs::Rules::not_of_and, bit_slice::proofs::Rules::not_of_or))]
 
 ghost use Rattle.std.specs.Prelude.{◌≡◌, ◌↔◌, ◌+◌, ◌*◌, ◌<◌, ◌≤◌, IsTrue, IfOk, Some, true, false, not, map, length, replicate, count_by, slice_get};
 ghost use Rattle.bit_slice.specs.Operators.{and_of, or_of};
@@ -51,28 +51,6 @@ pub fn neither<T: BitStore, O: BitOrder>(a: BitVec<T, O>, b: BitVec<T, O>) -> Bi
     ensures { result.list ≡ and_of (map not a.list) (map not b.list) }
 {
     !(a | b)
-}
-
-/// A bit that is set on both sides is set in the intersection.
-pub fn set_in_both<T: BitStore, O: BitOrder>(
-    a: BitVec<T, O>,
-    b: BitVec<T, O>,
-    i: usize,
-) -> Option<bool>
-    requires left { slice_get a.list i ≡ Some true }
-    requires right { slice_get b.list i ≡ Some true }
-    ensures { result ≡ Some true }
-{
-    (a & b).get(i)
-}
-
-/// A clear bit is set after all bits were flipped.
-pub fn set_by_flipping<T: BitStore, O: BitOrder>(v: &mut BitVec<T, O>, i: usize) -> Option<bool>
-    requires { slice_get v.old.list i ≡ Some false }
-    ensures { result ≡ Some true }
-{
-    v.flip_all();
-    v.get(i)
 }
 
 /// The zeros are what the ones leave of the length.

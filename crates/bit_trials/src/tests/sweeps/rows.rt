@@ -4,8 +4,8 @@ ghost use Rattle.std.specs.Prelude.{◌+◌, ◌<◌};
 use crate::tests::orders::Xor4;
 use crate::tests::sweeps::{row_of, words_of};
 use bit_addressing::{
-    And, BitOrder, BitStore, Lsb0, Msb0, Or, Xor, combine_bits, copy_bits, copy_bits_alike,
-    count_bits, differ_at, fill_bits, find_bit, read_chunk, write_chunk,
+    And, BitOrder, BitStore, Lsb0, Msb0, Or, Xor, combine_bits, copy_bits, count_bits, differ_at,
+    fill_bits, find_bit, read_chunk, write_chunk,
 };
 use std::process::Abort;
 
@@ -77,25 +77,6 @@ fn filled<T: BitStore, O: BitOrder>(rt: &(impl Abort + AllocGlobal), at: usize, 
     fill_bits::<T, O>(words.as_mut_slice(), at, at + n, bit);
     let after = row_of::<T, O>(rt, words.as_slice());
     assert!(rt; is_made(&before, &after, at, &given, 0, n, 0));
-}
-
-fn copied_alike<T: BitStore, O: BitOrder>(
-    rt: &(impl Abort + AllocGlobal),
-    at: usize,
-    from: usize,
-    n: usize,
-)
-    requires { at + n + from < 100 }
-{
-    let source = words_of::<T>(rt, 0x1234_5678_9abc_def1);
-    let mut words = words_of::<T>(rt, 0x0fed_cba9_8765_4321);
-    let before = row_of::<T, O>(rt, words.as_slice());
-    let given = row_of::<T, O>(rt, source.as_slice());
-    assert!(rt; words.len() == 4 && source.len() == 4);
-    assert!(rt; at + n <= T::BITS as usize * 4 && from + n <= T::BITS as usize * 4);
-    copy_bits_alike::<T, O>(words.as_mut_slice(), at, source.as_slice(), from, n);
-    let after = row_of::<T, O>(rt, words.as_slice());
-    assert!(rt; is_made(&before, &after, at, &given, from, n, 0));
 }
 
 /// The first of `n` indices at which two lists differ, each from a place of its own on.
@@ -170,7 +151,6 @@ fn sweep<T: BitStore, O: BitOrder, U: BitStore, P: BitOrder>(rt: &(impl Abort + 
                 for make in 0..4u8 {
                     written::<T, O, U, P>(rt, at, from, n, make);
                 }
-                copied_alike::<T, O>(rt, at, from, n);
                 read::<T, O, U, P>(rt, at, from, n);
             }
         }

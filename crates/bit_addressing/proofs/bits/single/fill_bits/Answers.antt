@@ -1,11 +1,13 @@
-use Rattle.std.proofs.Common.{◌≡◌, ◌+◌, ◌-◌, ◌*◌, ◌/◌, ◌%◌, [], ◌∷◌, replicate, length, slice_range, sym, ◌∙◌, ap, arith, rules}
-use Rattle.bit_addressing.specs.Row.{put}
+use Rattle.std.proofs.Common.{◌≡◌, ℕ, ◌+◌, ◌-◌, ◌*◌, ◌<◌, ◌≤◌, Bool, [], ◌∷◌, replicate, length, slice_range, refl, sym, ◌∙◌, ap, arith, rules}
+use Rattle.bit_addressing.specs.Bits.{has_bit}
+use Rattle.bit_addressing.specs.Row.{put, row_of}
 use Rattle.bit_addressing.specs.Typed.{row}
 use Rattle.bit_addressing.proofs.lists.Put.{put_none}
-use Rattle.bit_addressing.proofs.Runs.{run_of, repeated_parts, slice_repeated, one_word, first_word, next_word, last_word, last_inside}
+use Rattle.bit_addressing.proofs.Runs.{filled_next, slice_repeated, inner, last_inside, mul_mono}
 use Rattle.bit_addressing.proofs.lists.Sized.{one_more_word}
 use Rattle.bit_addressing.proofs.Rows.{width_positive, row_repeated}
 use Rattle.bit_addressing.proofs.Typed.{length_row, row_replaced}
+use Rattle.bit_addressing.proofs.bits.single.fill_bits.Given as given
 use Rattle.bit_addressing.proofs.bits.single.fill_bits.Goals as goal
 
 pub returns-then-from-upto-clause-bits : goal.returns-then-from-upto-clause-bits
@@ -13,76 +15,70 @@ returns-then-from-upto-clause-bits g c =
     let none : c.args.upto - c.args.from ≡ 0 = omega arith in
     rw none (sym (put_none (row g.T.BitStore g.O.BitOrder c.args.words.now) c.args.from))
 
+-- a word of one bit, and a part of it
+full : (g : given.Over) (x : ℕ) (b : Bool) → ((p : ℕ) → p < g.T.BitStore.BITS → has_bit x p ≡ b) → row_of g.O.BitOrder.place g.T.BitStore.BITS (x ∷ []) ≡ replicate g.T.BitStore.BITS b
+full g x b bits = row_repeated g.O.BitOrder.place g.T.BitStore.BITS x b (width_positive g.T.BitStore.BITS g.met.T.BitStore.width) (g.met.O.BitOrder.lawful g.T.BitStore.BITS g.met.T.BitStore.width) bits
+
+part : (g : given.Over) (x low high n : ℕ) (b : Bool) → ((p : ℕ) → p < g.T.BitStore.BITS → has_bit x p ≡ b) → high ≤ g.T.BitStore.BITS → high - low ≡ n → slice_range (row_of g.O.BitOrder.place g.T.BitStore.BITS (x ∷ [])) low high ≡ replicate n b
+part g x low high n b bits fits size = slice_repeated (row_of g.O.BitOrder.place g.T.BitStore.BITS (x ∷ [])) g.T.BitStore.BITS low high n b (full g x b bits) fits size
+
 pub returns-then-first-last-clause-bits : goal.returns-then-first-last-clause-bits
 returns-then-first-last-clause-bits g c =
     let w = g.T.BitStore.BITS in
-    let width = c.BITS-width.result in
-    let from = c.args.from in
-    let upto = c.args.upto in
-    let positive = width_positive w g.met.T.BitStore.width in
-    let run = run_of w width from upto positive c.BITS-width.ensures (omega arith) in
-    let all = row_repeated g.O.BitOrder.place w (g.T.BitStore.value c.repeated-full.result) c.args.bit positive (g.met.O.BitOrder.lawful w g.met.T.BitStore.width) c.repeated-full.ensures in
-    let same : from / width * w ≡ (upto - 1) / width * w = ap (λ n. n * w) c.if-first-last.true in
-    c.write_part.ensures.bits
-    ∙ one_word w from upto (from / width) (from % width) ((upto - 1) / width) ((upto - 1) % width + 1) (λ i j. replicate (j - i) c.args.bit) run (repeated_parts from upto c.args.bit)
-    (row g.T.BitStore g.O.BitOrder c.args.words.now) _ c.if-first-last.true
-    (slice_repeated (row g.T.BitStore g.O.BitOrder (c.repeated-full.result ∷ [])) w (from % width) ((upto - 1) % width + 1) (upto - from) c.args.bit all run.end_within (omega arith))
+    let s = c.of-first.result in
+    let run = c.of-first.ensures in
+    let r = run in
+    let same : s.first * w ≡ s.last * w = ap (λ n. n * w) c.if-first-last.true in
+    let piece = part g (g.T.BitStore.value c.repeated-full.result) s.low s.end (c.args.upto - c.args.from) c.args.bit c.repeated-full.ensures run.end_within (omega arith) in
+    c.write_part.ensures.bits ∙ ap (put (row g.T.BitStore g.O.BitOrder c.args.words.now) (s.first * w + s.low)) piece ∙ ap (λ n. put (row g.T.BitStore g.O.BitOrder c.args.words.now) n (replicate (c.args.upto - c.args.from) c.args.bit)) run.begins
 
 pub loop-k-init : goal.loop-k-init
 loop-k-init g c =
     let w = g.T.BitStore.BITS in
-    let width = c.BITS-width.result in
-    let from = c.args.from in
-    let upto = c.args.upto in
-    let positive = width_positive w g.met.T.BitStore.width in
-    let run = run_of w width from upto positive c.BITS-width.ensures (omega arith) in
-    let all = row_repeated g.O.BitOrder.place w (g.T.BitStore.value c.repeated-full.result) c.args.bit positive (g.met.O.BitOrder.lawful w g.met.T.BitStore.width) c.repeated-full.ensures in
-    let more = one_more_word (from / width) w in
+    let s = c.of-first.result in
+    let run = c.of-first.ensures in
+    let m = inner run c.if-first-last.false in
+    let r = run in
     let e = c.BITS-width.ensures in
+    let n = (s.first + 1) * w - c.args.from in
+    let piece = part g (g.T.BitStore.value c.repeated-full.result) s.low c.BITS-width.result n c.args.bit c.repeated-full.ensures (omega arith) (omega arith) in
     record {
-      bits = c.write_part-2.ensures.bits
-          ∙ first_word w from upto (from / width) (from % width) ((upto - 1) / width) ((upto - 1) % width + 1) (λ i j. replicate (j - i) c.args.bit) run (repeated_parts from upto c.args.bit)
-          (row g.T.BitStore g.O.BitOrder c.args.words.now) _ c.if-first-last.false
-          (slice_repeated (row g.T.BitStore g.O.BitOrder (c.repeated-full.result ∷ [])) w (from % width) width ((from / width + 1) * w - from) c.args.bit all (omega arith) (omega arith));
+      bits = c.write_part-2.ensures.bits ∙ ap (put (row g.T.BitStore g.O.BitOrder c.args.words.now) (s.first * w + s.low)) piece ∙ ap (λ i. put (row g.T.BitStore g.O.BitOrder c.args.words.now) i (replicate n c.args.bit)) run.begins;
       size = c.write_part-2.ensures.size;
     }
 
 pub loop-k-preserved : goal.loop-k-preserved
 loop-k-preserved g c =
     let w = g.T.BitStore.BITS in
-    let width = c.BITS-width.result in
-    let from = c.args.from in
-    let upto = c.args.upto in
+    let s = c.of-first.result in
     let k = c.loop-k.k in
-    let positive = width_positive w g.met.T.BitStore.width in
-    let run = run_of w width from upto positive c.BITS-width.ensures (omega arith) in
-    let all = row_repeated g.O.BitOrder.place w (g.T.BitStore.value c.repeated-full.result) c.args.bit positive (g.met.O.BitOrder.lawful w g.met.T.BitStore.width) c.repeated-full.ensures in
-    let more = one_more_word k w in
-    let count : (k + 1) * w - k * w ≡ w = omega arith in
+    let run = c.of-first.ensures in
+    let m = inner run c.if-first-last.false in
+    let r = run in
     let old = row g.T.BitStore g.O.BitOrder c.args.words.now in
     let size : length old ≡ w * length c.args.words.now = length_row g.T.BitStore.value g.O.BitOrder.place w c.args.words.now in
-    let last = last_inside w from upto (from / width) (from % width) ((upto - 1) / width) ((upto - 1) % width + 1) (length c.args.words.now) run c.requires.within in
+    let inside = last_inside (length c.args.words.now) run c.requires.within in
+    let more = one_more_word k w in
+    let above = mul_mono (s.first + 1) k w c.loop-k.auto.k in
+    let below = mul_mono (k + 1) s.last w (omega arith) in
+    let count : w ≡ (k + 1) * w - k * w = omega arith in
     record {
-      bits = row_replaced g.T.BitStore.value g.O.BitOrder.place w c.loop-k.words k c.repeated-full.result positive (omega arith)
-          ∙ ap (λ r. put r (k * w) (row g.T.BitStore g.O.BitOrder (c.repeated-full.result ∷ []))) c.loop-k.invariant.bits
-          ∙ next_word w from upto (from / width) (from % width) ((upto - 1) / width) ((upto - 1) % width + 1) (λ i j. replicate (j - i) c.args.bit) run (repeated_parts from upto c.args.bit)
-          old _ k c.loop-k.auto.k c.loop-k-test.true (omega arith) (all ∙ ap (λ n. replicate n c.args.bit) (sym count));
+      bits = row_replaced g.T.BitStore.value g.O.BitOrder.place w c.loop-k.words k c.repeated-full.result (width_positive w g.met.T.BitStore.width) (omega arith)
+          ∙ filled_next old (row g.T.BitStore g.O.BitOrder c.loop-k.words) _ c.args.bit c.args.from (k * w) ((k + 1) * w) (k * w) refl (omega arith) (omega arith) (omega arith) c.loop-k.invariant.bits (full g (g.T.BitStore.value c.repeated-full.result) c.args.bit c.repeated-full.ensures ∙ ap (λ n. replicate n c.args.bit) count);
       size = search rules;
     }
 
 pub returns-clause-bits : goal.returns-clause-bits
 returns-clause-bits g c =
     let w = g.T.BitStore.BITS in
-    let width = c.BITS-width.result in
-    let from = c.args.from in
-    let upto = c.args.upto in
-    let positive = width_positive w g.met.T.BitStore.width in
-    let run = run_of w width from upto positive c.BITS-width.ensures (omega arith) in
-    let all = row_repeated g.O.BitOrder.place w (g.T.BitStore.value c.repeated-full.result) c.args.bit positive (g.met.O.BitOrder.lawful w g.met.T.BitStore.width) c.repeated-full.ensures in
+    let s = c.of-first.result in
+    let k = c.loop-k.k in
+    let run = c.of-first.ensures in
+    let m = inner run c.if-first-last.false in
+    let r = run in
     let old = row g.T.BitStore g.O.BitOrder c.args.words.now in
     let size : length old ≡ w * length c.args.words.now = length_row g.T.BitStore.value g.O.BitOrder.place w c.args.words.now in
+    let same : k * w ≡ s.last * w = ap (λ n. n * w) (omega arith) in
+    let piece = part g (g.T.BitStore.value c.repeated-full.result) 0 s.end (c.args.upto - k * w) c.args.bit c.repeated-full.ensures run.end_within (omega arith) in
     c.write_part-3.ensures.bits
-    ∙ ap (λ r. put r ((upto - 1) / width * w + 0) (slice_range (row g.T.BitStore g.O.BitOrder (c.repeated-full.result ∷ [])) 0 ((upto - 1) % width + 1))) c.loop-k.invariant.bits
-    ∙ last_word w from upto (from / width) (from % width) ((upto - 1) / width) ((upto - 1) % width + 1) (λ i j. replicate (j - i) c.args.bit) run (repeated_parts from upto c.args.bit)
-    old _ c.loop-k.k c.loop-k.auto.k (omega arith) (omega arith)
-    (slice_repeated (row g.T.BitStore g.O.BitOrder (c.repeated-full.result ∷ [])) w 0 ((upto - 1) % width + 1) (upto - (upto - 1) / width * w) c.args.bit all run.end_within (omega arith))
+    ∙ filled_next old (row g.T.BitStore g.O.BitOrder c.loop-k.words) _ c.args.bit c.args.from (k * w) c.args.upto (s.last * w + 0) (omega arith) (omega arith) (omega arith) (omega arith) c.loop-k.invariant.bits piece

@@ -1,7 +1,5 @@
-use Rattle.std.proofs.Common.{◌≡◌, ◌+◌, ◌-◌, ◌*◌, ◌/◌, ◌%◌, ◌≤◌, map, length, sym, ap, subst, arith}
+use Rattle.std.proofs.Common.{◌≡◌, ◌+◌, ◌-◌, ◌*◌, ◌≤◌, map, length, sym, ap, subst, arith}
 use Rattle.bit_addressing.specs.Row.{row_of}
-use Rattle.bit_addressing.proofs.Runs.{run_of}
-use Rattle.bit_addressing.proofs.Rows.{width_positive}
 use Rattle.bit_addressing.proofs.Typed.{length_row}
 use Rattle.bit_addressing.proofs.Shifts.{moved_none, run_moved_on, run_moved_back}
 use Rattle.bit_addressing.proofs.order.BitOrder.move_run.Goals as goal
@@ -19,11 +17,10 @@ returns-then-dst-src-clause-bits g c =
     let dst = c.args.dst in
     let n = c.args.n in
     let old = c.args.row.now.words.now in
-    let positive = width_positive w g.met.T.BitStore.width in
-    let run = run_of w width dst (dst + n) positive c.BITS-width.ensures (omega arith) in
+    let s = c.of-first.result in
     let size : length (row_of place w (map value old)) ≡ w * length old = length_row value place w old in
     run_moved_on (row_of place w (map value old)) (row_of place w (map value c.move_part-then-dst-src.new.row.words.now)) (row_of place w (map value c.move_words.new.row.words.now)) (row_of place w (map value c.move_part-then-dst-src-2.new.row.words.now))
-    w src dst n (dst / width) (dst % width) ((dst + n - 1) / width) ((dst + n - 1) % width + 1) (width - dst % width) run c.if-first-last.false (ap (λ m. m - dst % width) c.BITS-width.ensures) (omega arith) (subst (λ l. src + n ≤ l) (sym size) c.requires.source)
+    src n (width - s.low) c.of-first.ensures c.if-first-last.false (ap (λ m. m - s.low) c.BITS-width.ensures) (omega arith) (subst (λ l. src + n ≤ l) (sym size) c.requires.source)
     c.move_part-then-dst-src.ensures.bits c.move_words.ensures.bits c.move_part-then-dst-src-2.ensures.bits
 
 pub returns-clause-bits : goal.returns-clause-bits
@@ -36,9 +33,8 @@ returns-clause-bits g c =
     let dst = c.args.dst in
     let n = c.args.n in
     let old = c.args.row.now.words.now in
-    let positive = width_positive w g.met.T.BitStore.width in
-    let run = run_of w width dst (dst + n) positive c.BITS-width.ensures (omega arith) in
+    let s = c.of-first.result in
     let size : length (row_of place w (map value old)) ≡ w * length old = length_row value place w old in
     run_moved_back (row_of place w (map value old)) (row_of place w (map value c.move_part-2.new.row.words.now)) (row_of place w (map value c.move_words-2.new.row.words.now)) (row_of place w (map value c.move_part-3.new.row.words.now))
-    w src dst n (dst / width) (dst % width) ((dst + n - 1) / width) ((dst + n - 1) % width + 1) (width - dst % width) run c.if-first-last.false (ap (λ m. m - dst % width) c.BITS-width.ensures) (omega arith) (subst (λ l. src + n ≤ l) (sym size) c.requires.source)
+    src n (width - s.low) c.of-first.ensures c.if-first-last.false (ap (λ m. m - s.low) c.BITS-width.ensures) (omega arith) (subst (λ l. src + n ≤ l) (sym size) c.requires.source)
     c.move_part-2.ensures.bits c.move_words-2.ensures.bits c.move_part-3.ensures.bits

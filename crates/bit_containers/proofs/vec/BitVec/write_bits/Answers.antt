@@ -4,7 +4,7 @@ use Rattle.bit_addressing.specs.Typed.{row}
 use Rattle.bit_addressing.proofs.lists.Shown.{length-run}
 use Rattle.bit_slice.proofs.Parts.{in_row}
 use Rattle.bit_slice.specs.BitSlice.{list_of}
-use Rattle.bit_containers.proofs.Removing.{shows_put_inside}
+use Rattle.bit_addressing.proofs.lists.Shown.{shown_written}
 use Rattle.bit_containers.proofs.Vectors.{shown}
 use Rattle.bit_containers.proofs.vec.BitVec.write_bits.Goals as goal
 
@@ -21,5 +21,5 @@ returns-clause-list g c =
     ∙ ap (λ ws. put (bits i.words.items) (i.head + at) (slice_range (bits ws) c.head-from.result (c.head-from.result + c.len-n.result))) c.as_raw_slice.ensures.words
     ∙ ap (λ n. put (bits i.words.items) (i.head + at) (slice_range (bits s.words.now) n (n + c.len-n.result))) c.head-from.ensures.value
     ∙ ap (λ n. put (bits i.words.items) (i.head + at) (slice_range (bits s.words.now) s.head (s.head + n))) c.len-n.ensures.value)
-    ∙ shows_put_inside (bits i.words.items) (list_of s) i.head i.len at (omega (arith, c.requires)) fits
+    ∙ shown_written (bits i.words.items) (list_of s) i.head i.len at (omega (arith, c.requires)) fits
     ∙ ap (λ v. put v.list at (list_of s)) c.self.view_is

@@ -2,7 +2,7 @@ use Rattle.std.proofs.Common.{◌≡◌, ◌+◌, length, slice_range, sym, ◌�
 use Rattle.bit_addressing.specs.Row.{put, number_bits}
 use Rattle.bit_addressing.specs.Typed.{row}
 use Rattle.bit_addressing.proofs.Binary.{length-number_bits}
-use Rattle.bit_containers.proofs.Removing.{shows_put_inside}
+use Rattle.bit_addressing.proofs.lists.Shown.{shown_written}
 use Rattle.bit_containers.proofs.Vectors.{shown}
 use Rattle.bit_containers.proofs.vec.BitVec.write_number.Goals as goal
 
@@ -14,5 +14,5 @@ returns-clause-list g c =
     let fits = shown g.T.BitStore g.O.BitOrder i.words.items i.head i.len g.met.T.BitStore.width c.self.invariant in
     let len : i.len ≡ length c.args.self.now.list = sym c.self.invariant.shows ∙ ap (λ v. length v.list) c.self.view_is in
     ap (λ r. slice_range r i.head (i.head + i.len)) c.write_chunk_in_vec.ensures.bits
-    ∙ shows_put_inside (row g.T.BitStore g.O.BitOrder i.words.items) bits i.head i.len c.args.at (omega (arith, c.requires.within)) fits
+    ∙ shown_written (row g.T.BitStore g.O.BitOrder i.words.items) bits i.head i.len c.args.at (omega (arith, c.requires.within)) fits
     ∙ ap (λ v. put v.list c.args.at bits) c.self.view_is

@@ -20,3 +20,10 @@ returns-clause-list g c =
     let all = length c.as_raw_slice.result.now * c.BITS.result in
     let size : length bits ≡ all = length_row g.A.Store.BitStore.value g.O.BitOrder.place w ws ∙ ap (λ l. w * length l) (sym c.as_raw_slice.ensures.words) ∙ mul_comm w (length c.as_raw_slice.result.now) ∙ ap (λ k. length c.as_raw_slice.result.now * k) (sym c.BITS.ensures) in
     take_all (all - 0) bits (omega (arith, size))
+
+pub returns-clause-len : goal.returns-clause-len
+returns-clause-len g c =
+    ap length (returns-clause-list g c)
+    ∙ length_row g.A.Store.BitStore.value g.O.BitOrder.place g.A.Store.BitStore.BITS (g.A.BitWords.words c.args.array)
+    ∙ ap (λ l. g.A.Store.BitStore.BITS * length l) (sym c.as_raw_slice.ensures.words)
+    ∙ ap (λ n. g.A.Store.BitStore.BITS * n) c.as_raw_slice.ensures.len

@@ -28,7 +28,7 @@ returns g c =
     let head : v.head ≡ 0 = omega (arith, c.if-head-ne0.false, c.head.ensures.value) in
     let copied : c.copy_from_slice.new.self ≡ v.words.now = c.copy_from_slice.ensures.after ∙ c.as_raw_slice.ensures.words in
     let count : length c.copy_from_slice.new.self ≡ n = c.copy_from_slice.ensures.len ∙ c.as_raw_mut_slice.ensures.len in
-    let words : g.A.BitWords.words c.new.result ≡ v.words.now = ap g.A.BitWords.words c.new.ensures ∙ g.met.A.BitViewSized.kept c.zero-inner.result c.copy_from_slice.new.self count ∙ copied in
+    let words : g.A.BitWords.words c.new.result ≡ v.words.now = ap g.A.BitWords.words c.new.ensures.value ∙ g.met.A.BitViewSized.kept c.zero-inner.result c.copy_from_slice.new.self count ∙ copied in
     let long : length (row g.A.Store.BitStore g.O.BitOrder v.words.now) ≡ w * n = length_row g.A.Store.BitStore.value g.O.BitOrder.place w v.words.now ∙ ap (λ ws. w * length ws) (sym copied) ∙ ap (λ k. w * k) count in (
       len,
       head,

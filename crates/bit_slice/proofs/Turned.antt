@@ -1,0 +1,220 @@
+-- Runs of a row that are reversed and rotated.
+use Rattle.std.proofs.Common.{◌≡◌, ℕ, ◌+◌, ◌-◌, ◌<◌, ◌≤◌, Bool, false, List, ◌++◌, length, take, drop, reverse, replicate, get_or, slice_range, refl, sym, ◌∙◌, ap, inl, inr, arith, rules}
+use Rattle.std.proofs.lemmas.Bool.{cases_lt}
+use Rattle.std.proofs.lemmas.List.{ext_get_or, get_or-reverse, length-reverse, reverse-append, reverse-reverse, same_lists, places, length-append, length-take, length-drop, length-replicate}
+use Rattle.std.proofs.lemmas.List.FromFn.{length-map-range_with_len, get_or-map-range_with_len}
+use Rattle.bit_addressing.specs.Bits.{has_bit}
+use Rattle.bit_addressing.specs.Row.{put, moved, binary, number_bits}
+use Rattle.bit_addressing.proofs.lists.Put.{length-put, put_before, put_inside, put_behind, put_joined}
+use Rattle.bit_addressing.proofs.lists.Shown.{length-run, get_or-run}
+use Rattle.bit_addressing.proofs.Combined.{put_later}
+use Rattle.bit_addressing.proofs.Shifts.{put_moved}
+use Rattle.bit_slice.proofs.Shown.{shown_filled}
+use Rattle.bit_slice.proofs.Combining.{rest_of_run}
+use Rattle.bit_addressing.proofs.lists.Shown.{shows_fewer}
+
+-- ---- a number's bits, read as digits and written as places
+
+pub turned_bit : (x n at i : ℕ) (zs : List Bool) → binary n x ≡ slice_range zs at (at + n) → i < n → get_or (number_bits x n) i false ≡ get_or zs (at + (n - 1 - i)) false
+unfolding binary number_bits
+turned_bit x n at i zs is h =
+    let e : n - 1 - (n - 1 - i) ≡ i = omega arith in
+    get_or-map-range_with_len (has_bit x) 0 n i i false (omega arith) (omega arith)
+    ∙ ap (has_bit x) (sym e)
+    ∙ sym (get_or-map-range_with_len (λ k. has_bit x (n - 1 - k)) 0 n (n - 1 - i) (n - 1 - i) false (omega arith) (omega arith))
+    ∙ ap (λ l. get_or l (n - 1 - i) false) is ∙ get_or-run zs at n (n - 1 - i) (omega arith)
+
+pub size_of_number : (x n : ℕ) → length (number_bits x n) ≡ n
+unfolding number_bits
+size_of_number x n = length-map-range_with_len (has_bit x) 0 n
+
+-- ---- a run that is reversed from both ends
+
+-- zs is xs with the items of a run reversed that are before low or from high on
+pub record IsTurned (xs zs : List Bool) (head len low high : ℕ) : Type 0 where
+  pub begins : head ≤ low
+  pub ordered : low ≤ high
+  pub middle : low + high ≡ head + (head + len)
+  pub size : length zs ≡ length xs
+  pub front : (j : ℕ) → head ≤ j → j < low → get_or zs j false ≡ get_or xs (head + (head + len) - 1 - j) false
+  pub back : (j : ℕ) → high ≤ j → j < head + len → get_or zs j false ≡ get_or xs (head + (head + len) - 1 - j) false
+  pub inner : (j : ℕ) → low ≤ j → j < high → get_or zs j false ≡ get_or xs j false
+  pub before : (j : ℕ) → j < head → get_or zs j false ≡ get_or xs j false
+  pub after : (j : ℕ) → head + len ≤ j → get_or zs j false ≡ get_or xs j false
+
+pub turned_none : (xs : List Bool) (head len : ℕ) → IsTurned xs xs head len head (head + len)
+turned_none xs head len = record {
+  begins = omega arith;
+  ordered = omega arith;
+  middle = omega arith;
+  size = refl;
+  front = λ j a b. absurd (omega arith);
+  back = λ j a b. absurd (omega arith);
+  inner = λ j a b. refl;
+  before = λ j a. refl;
+  after = λ j a. refl;
+}
+
+module _ (xs zs : List Bool) (head len low high n x y : ℕ) (t : IsTurned xs zs head len low high) (few : n + n ≤ high - low) (room : head + len ≤ length xs)
+    (first : binary n x ≡ slice_range zs low (low + n)) (last : binary n y ≡ slice_range zs (high - n) (high - n + n)) where
+  abbrev one : List Bool
+  one = put zs low (number_bits y n)
+
+  abbrev both : List Bool
+  both = put one (high - n) (number_bits x n)
+
+  length-one : length one ≡ length zs
+  length-one = let b = size_of_number y n in let s = t.size in let m = t.middle in let o = t.ordered in length-put zs (number_bits y n) low (omega (arith, b, s, m, o, few, room))
+
+  pub turned_more : IsTurned xs both head len (low + n) (high - n)
+  turned_more =
+      let b = size_of_number y n in
+      let d = size_of_number x n in
+      let s = t.size in
+      let m = t.middle in
+      let o = t.ordered in
+      let g = t.begins in
+      let e = length-one in
+      let inside : high ≤ length zs = omega (arith, s, m, o, g, room) in
+      let lower : (j : ℕ) → j < high - n → get_or both j false ≡ get_or one j false = λ j l. put_before one (number_bits x n) (high - n) j false (omega (arith, e, inside)) l in
+      let upper : (j : ℕ) → high ≤ j → get_or both j false ≡ get_or zs j false = λ j l.
+      put_behind one (number_bits x n) (high - n) j false (omega (arith, d, e, inside, few, l)) (omega (arith, d, few, l))
+      ∙ put_behind zs (number_bits y n) low j false (omega (arith, b, inside, few, l)) (omega (arith, b, few, l)) in
+      record {
+        begins = omega arith;
+        ordered = omega arith;
+        middle = omega arith;
+        size = length-put one (number_bits x n) (high - n) (omega (arith, d, e, inside, few)) ∙ e ∙ s;
+        front = λ j a l. elim (cases_lt j low) [
+          | inl k ↦ lower j (omega arith) ∙ put_before zs (number_bits y n) low j false (omega arith) k ∙ t.front j a k
+          | inr k ↦
+              let at : high - n + (n - 1 - (j - low)) ≡ head + (head + len) - 1 - j = omega arith in
+              lower j (omega arith) ∙ put_inside zs (number_bits y n) low j false (omega arith) k (omega (arith, b))
+              ∙ turned_bit y n (high - n) (j - low) zs last (omega arith) ∙ t.inner (high - n + (n - 1 - (j - low))) (omega arith) (omega arith) ∙ ap (λ i. get_or xs i false) at
+        ];
+        back = λ j a l. elim (cases_lt j high) [
+          | inl k ↦
+              let at : low + (n - 1 - (j - (high - n))) ≡ head + (head + len) - 1 - j = omega arith in
+              put_inside one (number_bits x n) (high - n) j false (omega (arith, e, inside)) a (omega (arith, d, k, few))
+              ∙ turned_bit x n low (j - (high - n)) zs first (omega (arith, a, k, few)) ∙ t.inner (low + (n - 1 - (j - (high - n)))) (omega arith) (omega (arith, few, a, k)) ∙ ap (λ i. get_or xs i false) at
+          | inr k ↦ upper j k ∙ t.back j k l
+        ];
+        inner = λ j a l. lower j l ∙ put_behind zs (number_bits y n) low j false (omega (arith, b, inside, few)) (omega (arith, b, a)) ∙ t.inner j (omega arith) (omega (arith, l));
+        before = λ j a. lower j (omega arith) ∙ put_before zs (number_bits y n) low j false (omega arith) (omega arith) ∙ t.before j a;
+        after = λ j a. upper j (omega arith) ∙ t.after j a;
+      }
+
+pub turned_all : (xs zs : List Bool) (head len low high : ℕ) → IsTurned xs zs head len low high → high - low ≤ 1 → head + len ≤ length xs → zs ≡ put xs head (reverse (slice_range xs head (head + len)))
+turned_all xs zs head len low high t few room =
+    let ms : List Bool = slice_range xs head (head + len) in
+    let a : length ms ≡ len = length-run xs head len room in
+    let b : length (reverse ms) ≡ len = length-reverse ms ∙ a in
+    let c : length (put xs head (reverse ms)) ≡ length xs = length-put xs (reverse ms) head (omega (arith, b, room)) in
+    let s = t.size in
+    let m = t.middle in
+    let o = t.ordered in
+    let g = t.begins in
+    ext_get_or false zs (put xs head (reverse ms)) (s ∙ sym c)
+    (λ j h. elim (cases_lt j head) [
+      | inl k ↦ t.before j k ∙ sym (put_before xs (reverse ms) head j false (omega arith) k)
+      | inr k ↦ elim (cases_lt j (head + len)) [
+        | inl l ↦
+            let at : head + (length ms - 1 - (j - head)) ≡ head + (head + len) - 1 - j = omega (arith, a, k, l) in
+            let there : get_or (put xs head (reverse ms)) j false ≡ get_or xs (head + (head + len) - 1 - j) false =
+            put_inside xs (reverse ms) head j false (omega arith) k (omega (arith, b, l)) ∙ get_or-reverse ms (j - head) false (omega (arith, a, k, l))
+            ∙ get_or-run xs head len (length ms - 1 - (j - head)) (omega (arith, a, k, l)) ∙ ap (λ i. get_or xs i false) at in
+            elim (cases_lt j low) [
+              | inl p ↦ t.front j k p ∙ sym there
+              | inr p ↦ elim (cases_lt j high) [
+                | inl q ↦ let own : j ≡ head + (head + len) - 1 - j = omega (arith, p, q, few, m) in t.inner j p q ∙ ap (λ i. get_or xs i false) own ∙ sym there
+                | inr q ↦ t.back j q l ∙ sym there
+              ]
+            ]
+        | inr l ↦ t.after j l ∙ sym (put_behind xs (reverse ms) head j false (omega (arith, b, room)) (omega (arith, b, l)))
+      ]
+    ])
+
+-- ---- a run that is rotated by three reversals
+
+put_over : (xs ys zs : List Bool) (d : ℕ) → length ys ≡ length zs → d + length ys ≤ length xs → put (put xs d ys) d zs ≡ put xs d zs
+put_over xs ys zs d same room =
+    let a = length-put xs ys d room in
+    let b = length-put (put xs d ys) zs d (omega (arith, same, a, room)) in
+    let c = length-put xs zs d (omega (arith, same, room)) in
+    ext_get_or false (put (put xs d ys) d zs) (put xs d zs) (b ∙ a ∙ sym c)
+    (λ j h. elim (cases_lt j d) [
+      | inl k ↦ put_before (put xs d ys) zs d j false (omega (arith, a, room)) k ∙ put_before xs ys d j false (omega arith) k ∙ sym (put_before xs zs d j false (omega arith) k)
+      | inr k ↦ elim (cases_lt j (d + length zs)) [
+        | inl l ↦ put_inside (put xs d ys) zs d j false (omega (arith, a, room)) k l ∙ sym (put_inside xs zs d j false (omega arith) k l)
+        | inr l ↦ put_behind (put xs d ys) zs d j false (omega (arith, a, same, room)) l ∙ put_behind xs ys d j false room (omega (arith, same, l)) ∙ sym (put_behind xs zs d j false (omega (arith, same, room)) l)
+      ]
+    ])
+
+module _ (xs : List Bool) (head len by : ℕ) (inside : by ≤ len) (room : head + len ≤ length xs) where
+  abbrev front : List Bool
+  front = slice_range xs head (head + by)
+
+  abbrev rest : List Bool
+  rest = slice_range xs (head + by) (head + by + (len - by))
+
+  abbrev once : List Bool
+  once = put xs head (reverse front)
+
+  abbrev twice : List Bool
+  twice = put once (head + by) (reverse (slice_range once (head + by) (head + by + (len - by))))
+
+  pub rotated : put twice head (reverse (slice_range twice head (head + len))) ≡ put xs head (drop by (slice_range xs head (head + len)) ++ take by (slice_range xs head (head + len)))
+  rotated =
+      let ms : List Bool = slice_range xs head (head + len) in
+      let end : head + by + (len - by) ≡ head + len = omega arith in
+      let a : length front ≡ by = length-run xs head by (omega arith) in
+      let b : length rest ≡ len - by = length-run xs (head + by) (len - by) (omega arith) in
+      let ra : length (reverse front) ≡ by = length-reverse front ∙ a in
+      let rb : length (reverse rest) ≡ len - by = length-reverse rest ∙ b in
+      let later : slice_range once (head + by) (head + by + (len - by)) ≡ rest = put_later xs (reverse front) head (head + by) (head + by + (len - by)) (omega arith) (omega (arith, ra)) (omega arith) (omega arith) in
+      let two : twice ≡ put xs head (reverse front ++ reverse rest) =
+      ap (λ l. put once (head + by) (reverse l)) later ∙ put_joined xs (reverse front) (reverse rest) head (head + by) (omega (arith, ra)) (omega (arith, rb)) in
+      let size : length (reverse front ++ reverse rest) ≡ len = omega (arith, length-append (reverse front) (reverse rest), ra, rb) in
+      let shown : slice_range twice head (head + len) ≡ reverse front ++ reverse rest = ap (λ l. slice_range l head (head + len)) two ∙ shown_filled xs (reverse front ++ reverse rest) head len (sym size) room in
+      let turned : reverse (reverse front ++ reverse rest) ≡ rest ++ front = reverse-append (reverse front) (reverse rest) ∙ ap (λ l. l ++ reverse (reverse front)) (reverse-reverse rest) ∙ ap (λ l. rest ++ l) (reverse-reverse front) in
+      let whole : length (rest ++ front) ≡ len = omega (arith, length-append rest front, a, b) in
+      let head_part : front ≡ take by ms = shows_fewer xs head by len inside room in
+      let tail_part : rest ≡ drop by ms = ap (slice_range xs (head + by)) end ∙ sym (rest_of_run xs head len by inside room) in
+      ap (λ l. put twice head (reverse l)) shown ∙ ap (put twice head) turned ∙ ap (λ l. put l head (rest ++ front)) two
+      ∙ put_over xs (reverse front ++ reverse rest) (rest ++ front) head (size ∙ sym whole) (omega (arith, size, room))
+      ∙ ap (λ l. put xs head (l ++ front)) tail_part ∙ ap (λ l. put xs head (drop by ms ++ l)) head_part
+
+pub rotated_length : (xs : List Bool) (by : ℕ) → by ≤ length xs → length (drop by xs ++ take by xs) ≡ length xs
+rotated_length xs by h = omega (arith, length-append (drop by xs) (take by xs), length-drop by xs, length-take by xs)
+
+-- ---- two runs, side by side, the second written first
+
+pub put_front : (xs ys zs : List Bool) (d n : ℕ) → n ≡ d + length ys → n + length zs ≤ length xs → put (put xs n zs) d ys ≡ put xs d (ys ++ zs)
+unfolding put
+put_front xs ys zs d n is room = same_lists _ _ (search (rules, places)) (λ i e below. grind (arith, places))
+
+-- ---- shifted runs
+
+module _ (xs : List Bool) (head len by : ℕ) (inside : by ≤ len) (room : head + len ≤ length xs) where
+  pub shifted_left : put (moved xs (head + by) head (len - by)) (head + (len - by)) (replicate (head + len - (head + (len - by))) false) ≡ put xs head (drop by (slice_range xs head (head + len)) ++ replicate by false)
+  shifted_left =
+      let n : ℕ = len - by in
+      let end : head + by + n ≡ head + len = omega arith in
+      let count : head + len - (head + n) ≡ by = omega arith in
+      let size : length (slice_range xs (head + by) (head + by + n)) ≡ n = length-run xs (head + by) n (omega arith) in
+      let zeros : length (replicate by false) ≡ by = length-replicate by false in
+      ap (λ k. put (moved xs (head + by) head n) (head + n) (replicate k false)) count
+      ∙ ap (λ l. put l (head + n) (replicate by false)) (sym (put_moved xs (head + by) head n (omega arith) (omega arith)))
+      ∙ put_joined xs (slice_range xs (head + by) (head + by + n)) (replicate by false) head (head + n) (omega (arith, size)) (omega (arith, zeros))
+      ∙ ap (λ l. put xs head (l ++ replicate by false)) (ap (slice_range xs (head + by)) end ∙ sym (rest_of_run xs head len by inside room))
+
+  pub shifted_right : put (moved xs head (head + by) (len - by)) head (replicate (head + by - head) false) ≡ put xs head (replicate by false ++ take (len - by) (slice_range xs head (head + len)))
+  shifted_right =
+      let n : ℕ = len - by in
+      let count : head + by - head ≡ by = omega arith in
+      let size : length (slice_range xs head (head + n)) ≡ n = length-run xs head n (omega arith) in
+      let zeros : length (replicate by false) ≡ by = length-replicate by false in
+      ap (λ k. put (moved xs head (head + by) n) head (replicate k false)) count
+      ∙ ap (λ l. put l head (replicate by false)) (sym (put_moved xs head (head + by) n (omega arith) (omega arith)))
+      ∙ put_front xs (replicate by false) (slice_range xs head (head + n)) head (head + by) (omega (arith, zeros)) (omega (arith, size))
+      ∙ ap (λ l. put xs head (replicate by false ++ l)) (shows_fewer xs head n len (omega arith) room)

@@ -1,0 +1,42 @@
+-- Where a bit stands in a list, and the indices of the items that are true or false.
+use Rattle.std.specs.Prelude.{◌≡◌, ℕ, ◌+◌, ◌-◌, ◌<◌, ◌≤◌, Bool, false, true, not, List, [], ◌∷◌, length, slice_index_or, refl}
+use Rattle.std.specs.List.{filter, range_with_len}
+
+-- no index from lo up to hi has this bit
+pub record IsAbsent (bit : Bool) (xs : List Bool) (lo hi : ℕ) : Type 0 where
+  pub each : (j : ℕ) → lo ≤ j → j < hi → slice_index_or xs j false ≡ not bit
+
+-- i is the first index from lo up to hi with this bit
+pub record IsNext (bit : Bool) (xs : List Bool) (lo hi i : ℕ) : Type 0 where
+  pub begins : lo ≤ i
+  pub within : i < hi
+  pub here : slice_index_or xs i false ≡ bit
+  pub before : IsAbsent bit xs lo i
+
+-- i is the last index from lo up to hi with this bit
+pub record IsLast (bit : Bool) (xs : List Bool) (lo hi i : ℕ) : Type 0 where
+  pub begins : lo ≤ i
+  pub within : i < hi
+  pub here : slice_index_or xs i false ≡ bit
+  pub after : IsAbsent bit xs (i + 1) hi
+
+-- the indices from lo up to hi whose items pass a test, ascending
+abbrev pub places_between : (Bool → Bool) → List Bool → ℕ → ℕ → List ℕ
+places_between p xs lo hi = filter (λ i. p (slice_index_or xs i false)) (range_with_len lo (hi - lo))
+
+-- the indices of the items that are true, ascending
+abbrev pub ones_of : List Bool → List ℕ
+ones_of xs = filter (λ i. slice_index_or xs i false) (range_with_len 0 (length xs))
+
+-- the indices of the items that are false, ascending
+abbrev pub zeros_of : List Bool → List ℕ
+zeros_of xs = filter (λ i. not (slice_index_or xs i false)) (range_with_len 0 (length xs))
+
+abbrev five : List Bool
+five = true ∷ true ∷ false ∷ true ∷ false ∷ []
+
+ones_of_five : ones_of five ≡ 0 ∷ 1 ∷ 3 ∷ []
+ones_of_five = refl
+
+zeros_of_five : zeros_of five ≡ 2 ∷ 4 ∷ []
+zeros_of_five = refl

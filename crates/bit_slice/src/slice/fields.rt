@@ -1,0 +1,31 @@
+//! A view of up to 64 bits as a number.
+ghost use Rattle.std.specs.Prelude.{◌≡◌, ◌+◌, ◌*◌, ◌^◌, ◌<◌, ◌≤◌, length, slice_range};
+ghost use Rattle.bit_addressing.specs.Binary.{value};
+ghost use Rattle.bit_addressing.specs.Row.{binary, number_bits, number_of};
+ghost use Rattle.bit_slice.specs.BitSlice.{len_of, list_of};
+
+use crate::slice::BitSlice;
+use bit_addressing::{BitOrder, BitStore, read_binary, read_chunk};
+
+impl<'a, T: BitStore, O: BitOrder> BitSlice<'a, T, O> {
+    /// The number whose least significant bit is the first of the view, and whose next bits are the next of
+    /// it, whatever the order of bits in a word. Requires at most 64 bits.
+    pub fn load_le(self) -> u64
+        requires { len_of self ≤ 64 }
+        ensures value { result ≡ number_of (list_of self.entry) }
+        ensures bits { number_bits result (len_of self.entry) ≡ list_of self.entry }
+    {
+        read_chunk::<T, O>(self.words, self.head, self.len as u8)
+    }
+
+    /// The number that the bits of the view write in binary, the first the most significant, whatever the
+    /// order of bits in a word. Requires at most 64 bits.
+    pub fn load_be(self) -> u64
+        requires { len_of self ≤ 64 }
+        ensures value { result ≡ value (list_of self.entry) }
+        ensures digits { binary (len_of self.entry) result ≡ list_of self.entry }
+        ensures below { result < 2 ^ len_of self.entry }
+    {
+        read_binary::<T, O>(self.words, self.head, self.len as u8)
+    }
+}

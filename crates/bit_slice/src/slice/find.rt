@@ -1,0 +1,39 @@
+//! Where the bits of one view stand in another.
+ghost use Rattle.std.specs.Prelude.{◌≡◌, ◌≢◌, ℕ, ◌+◌, ◌-◌, ◌<◌, ◌≤◌, ◌↔◌, IfNone, IfSome, IsTrue, length};
+ghost use Rattle.bit_slice.specs.BitSlice.{len_of, list_of};
+ghost use Rattle.bit_slice.specs.Pieces.{part};
+
+use crate::slice::BitSlice;
+use bit_addressing::{BitOrder, BitStore};
+
+impl<'a, T: BitStore, O: BitOrder> BitSlice<'a, T, O> {
+    /// The first index from which on the bits of `other` stand, of any word type and order. None exactly
+    /// where they stand nowhere. Each index is tried, 64 bits at a time, up to the first that differs.
+    pub fn find<U: BitStore, P: BitOrder>(self, other: BitSlice<'_, U, P>) -> Option<usize>
+        ensures inside { IfSome result (λ i. i + len_of other.entry ≤ len_of self.entry) }
+        ensures found { IfSome result (λ i. part (len_of other.entry) (list_of self.entry) i ≡ list_of other.entry) }
+        ensures before { IfSome result (λ i. (j : ℕ) → j < i → part (len_of other.entry) (list_of self.entry) j ≢ list_of other.entry) }
+        ensures none { IfNone result ((j : ℕ) → j + len_of other.entry ≤ len_of self.entry → part (len_of other.entry) (list_of self.entry) j ≢ list_of other.entry) }
+    {
+        let n = other.len;
+        if n > self.len {
+            return None;
+        }
+        let mut at = 0;
+        while at <= self.len - n {
+            if self.get_range(at..at + n).eq_bits(other) {
+                return Some(at);
+            }
+            at += 1;
+        }
+        None
+    }
+
+    /// Whether the bits of `other` stand somewhere in the view.
+    pub fn contains<U: BitStore, P: BitOrder>(self, other: BitSlice<'_, U, P>) -> bool
+        ensures found { IsTrue result → ((i : ℕ) × (part (len_of other.entry) (list_of self.entry) i ≡ list_of other.entry)) }
+        ensures none { (j : ℕ) → j + len_of other.entry ≤ len_of self.entry → part (len_of other.entry) (list_of self.entry) j ≡ list_of other.entry → IsTrue result }
+    {
+        self.find(other).is_some()
+    }
+}

@@ -1,0 +1,227 @@
+//! The indices of a view's bits that are true, and of those that are false.
+ghost use Rattle.std.specs.Iterator.{YieldsFirst, YieldsLast};
+ghost use Rattle.std.specs.Iterator.Runs.{YieldsInOrder, YieldsInReverse};
+ghost use Rattle.std.specs.Prelude.{◌≡◌, ℕ, ◌+◌, ◌-◌, ◌*◌, ◌<◌, ◌≤◌, IfSome, Some, count_by, false, length, not, slice_get, true};
+ghost use Rattle.std.specs.List.{All};
+ghost use Rattle.bit_slice.specs.BitSlice.{len_of, list_of};
+ghost use Rattle.bit_slice.specs.Places.{ones_of, zeros_of};
+
+use crate::slice::BitSlice;
+use bit_addressing::{BitOrder, BitStore};
+use std::iter::{DoubleEndedIterator, ExactSizeIterator, FusedIterator, Iterator};
+
+/// The indices of a view's bits that are true, ascending, from both ends, each once.
+///
+/// Its length is known, and after the first None there is no more. It takes no memory.
+#[derive(Drop)]
+pub struct IterOnes<'a, T: BitStore, O: BitOrder> {
+    view: BitSlice<'a, T, O>,
+    from: usize,
+    upto: usize,
+    ghost fits: { (from ≤ upto) × (upto ≤ len_of view) },
+}
+
+impl<'a, T: BitStore, O: BitOrder> BitSlice<'a, T, O> {
+    ghost use Rattle.bit_slice.specs.Indices.{ones_left};
+
+    /// The indices of the bits that are true, ascending, from both ends. A step reads 64 bits at a time.
+    pub fn iter_ones(self) -> IterOnes<'a, T, O>
+        ensures list { ones_left result ≡ ones_of (list_of self.entry) }
+        ensures count { length (ones_left result) ≡ count_by (λ b. b) (list_of self.entry) }
+        ensures set { All (λ i. slice_get (list_of self.entry) i ≡ Some true) (ones_left result) }
+        ensures inside { All (λ i. i < len_of self.entry) (ones_left result) }
+        ensures runs { YieldsInOrder (YieldsFirst (ones_left {X = T} {Y = O} {W = T.BitStore} {P = O.BitOrder})) ones_left }
+        ensures runs_back { YieldsInReverse (YieldsLast (ones_left {X = T} {Y = O} {W = T.BitStore} {P = O.BitOrder})) ones_left }
+    {
+        IterOnes {
+            view: self,
+            from: 0,
+            upto: self.len,
+        }
+    }
+}
+
+impl<'a, T: BitStore, O: BitOrder> IterOnes<'a, T, O> {
+    ghost use Rattle.bit_slice.specs.Indices.{ones_left};
+
+    // How many indices are left: the bits that are left are counted.
+    fn count_left(&self) -> usize
+        ensures { result ≡ length (ones_left self.now) }
+    {
+        self.view.get_range(self.from..self.upto).count_ones()
+    }
+}
+
+impl<'a, T: BitStore, O: BitOrder> Iterator for IterOnes<'a, T, O> {
+    ghost use Rattle.std.specs.Iterator.{YieldsFirst, UpTo, at_most, item_count};
+    ghost use Rattle.std.specs.Iterator.SizeHint.{IsWithinCount};
+    ghost use Rattle.bit_slice.specs.Indices.{ones_left};
+
+    type Item = usize;
+
+    ghost next_gives = { YieldsFirst ones_left };
+
+    ghost remaining = { item_count ones_left };
+
+    /// The first index that is left. None exactly where none is.
+    fn next(&mut self) -> Option<usize> {
+        match self.view.find_next(self.from, self.upto, true) {
+            None => {
+                self.from = self.upto;
+                None
+            }
+            Some(i) => {
+                self.from = i + 1;
+                Some(i)
+            }
+        }
+    }
+
+    /// How many indices are left, twice: the bits that are left are counted.
+    fn size_hint(&self) -> (usize, Option<usize>)
+        ensures lower { IsWithinCount result.0 (at_most (length (ones_left self.now))) }
+        ensures upper { IfSome result.1 (UpTo (at_most (length (ones_left self.now)))) }
+        ensures value { result ≡ (length (ones_left self.now), Some (length (ones_left self.now))) }
+    {
+        let count = self.count_left();
+        (count, Some(count))
+    }
+}
+
+impl<'a, T: BitStore, O: BitOrder> DoubleEndedIterator for IterOnes<'a, T, O> {
+    ghost use Rattle.std.specs.Iterator.{YieldsLast};
+    ghost use Rattle.bit_slice.specs.Indices.{ones_left};
+
+    ghost next_back_gives = { YieldsLast ones_left };
+
+    /// The last index that is left. None exactly where none is.
+    fn next_back(&mut self) -> Option<usize> {
+        match self.view.find_last(self.from, self.upto, true) {
+            None => {
+                self.upto = self.from;
+                None
+            }
+            Some(i) => {
+                self.upto = i;
+                Some(i)
+            }
+        }
+    }
+}
+
+impl<'a, T: BitStore, O: BitOrder> ExactSizeIterator for IterOnes<'a, T, O> {
+    /// How many indices are left: the bits that are left are counted.
+    fn len(&self) -> usize {
+        self.count_left()
+    }
+}
+
+impl<'a, T: BitStore, O: BitOrder> FusedIterator for IterOnes<'a, T, O> {}
+
+/// The indices of a view's bits that are false, ascending, from both ends, each once.
+///
+/// Its length is known, and after the first None there is no more. It takes no memory.
+#[derive(Drop)]
+pub struct IterZeros<'a, T: BitStore, O: BitOrder> {
+    view: BitSlice<'a, T, O>,
+    from: usize,
+    upto: usize,
+    ghost fits: { (from ≤ upto) × (upto ≤ len_of view) },
+}
+
+impl<'a, T: BitStore, O: BitOrder> BitSlice<'a, T, O> {
+    ghost use Rattle.bit_slice.specs.Indices.{zeros_left};
+
+    /// The indices of the bits that are false, ascending, from both ends. A step reads 64 bits at a time.
+    pub fn iter_zeros(self) -> IterZeros<'a, T, O>
+        ensures list { zeros_left result ≡ zeros_of (list_of self.entry) }
+        ensures count { length (zeros_left result) ≡ count_by not (list_of self.entry) }
+        ensures set { All (λ i. slice_get (list_of self.entry) i ≡ Some false) (zeros_left result) }
+        ensures inside { All (λ i. i < len_of self.entry) (zeros_left result) }
+        ensures runs { YieldsInOrder (YieldsFirst (zeros_left {X = T} {Y = O} {W = T.BitStore} {P = O.BitOrder})) zeros_left }
+        ensures runs_back { YieldsInReverse (YieldsLast (zeros_left {X = T} {Y = O} {W = T.BitStore} {P = O.BitOrder})) zeros_left }
+    {
+        IterZeros {
+            view: self,
+            from: 0,
+            upto: self.len,
+        }
+    }
+}
+
+impl<'a, T: BitStore, O: BitOrder> IterZeros<'a, T, O> {
+    ghost use Rattle.bit_slice.specs.Indices.{zeros_left};
+
+    // How many indices are left: the bits that are left are counted.
+    fn count_left(&self) -> usize
+        ensures { result ≡ length (zeros_left self.now) }
+    {
+        self.view.get_range(self.from..self.upto).count_zeros()
+    }
+}
+
+impl<'a, T: BitStore, O: BitOrder> Iterator for IterZeros<'a, T, O> {
+    ghost use Rattle.std.specs.Iterator.{YieldsFirst, UpTo, at_most, item_count};
+    ghost use Rattle.std.specs.Iterator.SizeHint.{IsWithinCount};
+    ghost use Rattle.bit_slice.specs.Indices.{zeros_left};
+
+    type Item = usize;
+
+    ghost next_gives = { YieldsFirst zeros_left };
+
+    ghost remaining = { item_count zeros_left };
+
+    /// The first index that is left. None exactly where none is.
+    fn next(&mut self) -> Option<usize> {
+        match self.view.find_next(self.from, self.upto, false) {
+            None => {
+                self.from = self.upto;
+                None
+            }
+            Some(i) => {
+                self.from = i + 1;
+                Some(i)
+            }
+        }
+    }
+
+    /// How many indices are left, twice: the bits that are left are counted.
+    fn size_hint(&self) -> (usize, Option<usize>)
+        ensures lower { IsWithinCount result.0 (at_most (length (zeros_left self.now))) }
+        ensures upper { IfSome result.1 (UpTo (at_most (length (zeros_left self.now)))) }
+        ensures value { result ≡ (length (zeros_left self.now), Some (length (zeros_left self.now))) }
+    {
+        let count = self.count_left();
+        (count, Some(count))
+    }
+}
+
+impl<'a, T: BitStore, O: BitOrder> DoubleEndedIterator for IterZeros<'a, T, O> {
+    ghost use Rattle.std.specs.Iterator.{YieldsLast};
+    ghost use Rattle.bit_slice.specs.Indices.{zeros_left};
+
+    ghost next_back_gives = { YieldsLast zeros_left };
+
+    /// The last index that is left. None exactly where none is.
+    fn next_back(&mut self) -> Option<usize> {
+        match self.view.find_last(self.from, self.upto, false) {
+            None => {
+                self.upto = self.from;
+                None
+            }
+            Some(i) => {
+                self.upto = i;
+                Some(i)
+            }
+        }
+    }
+}
+
+impl<'a, T: BitStore, O: BitOrder> ExactSizeIterator for IterZeros<'a, T, O> {
+    /// How many indices are left: the bits that are left are counted.
+    fn len(&self) -> usize {
+        self.count_left()
+    }
+}
+
+impl<'a, T: BitStore, O: BitOrder> FusedIterator for IterZeros<'a, T, O> {}

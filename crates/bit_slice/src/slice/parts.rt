@@ -1,0 +1,62 @@
+//! Views cut in two, and what they begin and end with.
+ghost use Rattle.std.specs.Prelude.{◌≡◌, ◌+◌, ◌-◌, ◌<◌, ◌≤◌, ◌↔◌, ◌++◌, ◌∷◌, [], IfSome, IsTrue, IsNone, drop, length, take};
+ghost use Rattle.bit_slice.specs.BitSlice.{len_of, list_of};
+
+use crate::slice::BitSlice;
+use bit_addressing::{BitOrder, BitStore};
+
+impl<'a, T: BitStore, O: BitOrder> BitSlice<'a, T, O> {
+    /// The bits before index `mid`, and those from it on. Requires that `mid` is at most the length.
+    pub fn split_at(self, mid: usize) -> (Self, Self)
+        requires { mid ≤ len_of self }
+        ensures front { list_of result.0 ≡ take mid (list_of self.entry) }
+        ensures back { list_of result.1 ≡ drop mid (list_of self.entry) }
+        ensures both { list_of self.entry ≡ list_of result.0 ++ list_of result.1 }
+        ensures front_len { len_of result.0 ≡ mid }
+        ensures back_len { len_of result.1 + mid ≡ len_of self.entry }
+    {
+        (self.get_range(0..mid), self.get_range(mid..self.len))
+    }
+
+    /// The first bit, and the others. None exactly where the view is empty.
+    pub fn split_first(self) -> Option<(bool, Self)>
+        ensures none { IsNone result ↔ (len_of self.entry ≡ 0) }
+        ensures both { IfSome result (λ r. list_of self.entry ≡ r.0 ∷ list_of r.1) }
+        ensures rest_len { IfSome result (λ r. len_of r.1 + 1 ≡ len_of self.entry) }
+    {
+        if self.len == 0 {
+            return None;
+        }
+        Some((self.bit(0), self.get_range(1..self.len)))
+    }
+
+    /// The last bit, and the others. None exactly where the view is empty.
+    pub fn split_last(self) -> Option<(bool, Self)>
+        ensures none { IsNone result ↔ (len_of self.entry ≡ 0) }
+        ensures both { IfSome result (λ r. list_of self.entry ≡ list_of r.1 ++ r.0 ∷ []) }
+        ensures rest_len { IfSome result (λ r. len_of r.1 + 1 ≡ len_of self.entry) }
+    {
+        if self.len == 0 {
+            return None;
+        }
+        let last = self.len - 1;
+        Some((self.bit(last), self.get_range(0..last)))
+    }
+
+    /// Whether the view begins with the bits of `other`.
+    pub fn starts_with<U: BitStore, P: BitOrder>(self, other: BitSlice<'_, U, P>) -> bool
+        ensures { IsTrue result ↔ (take (len_of other.entry) (list_of self.entry) ≡ list_of other.entry) }
+    {
+        other.len() <= self.len && self.get_range(0..other.len()).eq_bits(other)
+    }
+
+    /// Whether the view ends with the bits of `other`.
+    pub fn ends_with<U: BitStore, P: BitOrder>(self, other: BitSlice<'_, U, P>) -> bool
+        ensures { IsTrue result ↔ (drop (len_of self.entry - len_of other.entry) (list_of self.entry) ≡ list_of other.entry) }
+    {
+        other.len() <= self.len
+            && self
+                .get_range(self.len - other.len()..self.len)
+                .eq_bits(other)
+    }
+}

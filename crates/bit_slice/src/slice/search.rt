@@ -1,0 +1,185 @@
+//! Searches of views: the first and the last bit of a kind, and how many stand at an end.
+ghost use Rattle.std.specs.Prelude.{◌≡◌, ℕ, ◌+◌, ◌-◌, ◌*◌, ◌<◌, ◌≤◌, ◌&&◌, ◌↔◌, Bool, IsTrue, IfNone, IfSome, EachIndex, SomeIndex, MatchOption, Some, false, length, not, replicate, slice_get, slice_range, true};
+ghost use Rattle.std.specs.List.{list_any, list_all, position, prefix_len, suffix_len};
+ghost use Rattle.bit_slice.specs.BitSlice.{head_of, len_of, list_of, words_of};
+ghost use Rattle.bit_slice.specs.Places.{IsAbsent, IsLast, IsNext};
+
+use crate::slice::BitSlice;
+use bit_addressing::{BitOrder, BitStore, find_bit, read_chunk};
+
+impl<'a, T: BitStore, O: BitOrder> BitSlice<'a, T, O> {
+    // The first index from `from` up to `upto` with this bit, 64 at a time.
+    pub(crate) fn find_next(self, from: usize, upto: usize, bit: bool) -> Option<usize>
+        requires ordered { from ≤ upto }
+        requires inside { upto ≤ len_of self }
+        ensures { MatchOption result (IsAbsent bit (list_of self.entry) from upto) (λ i. IsNext bit (list_of self.entry) from upto i) }
+    {
+        match find_bit::<T, O>(self.words, self.head + from, self.head + upto, bit) {
+            None => None,
+            Some(k) => Some(from + k),
+        }
+    }
+
+    // The last index from `from` up to `upto` with this bit, 64 at a time.
+    pub(crate) fn find_last(self, from: usize, upto: usize, bit: bool) -> Option<usize>
+        requires ordered { from ≤ upto }
+        requires inside { upto ≤ len_of self }
+        ensures { MatchOption result (IsAbsent bit (list_of self.entry) from upto) (λ i. IsLast bit (list_of self.entry) from upto i) }
+    {
+        let others = if bit { 0 } else { u64::MAX };
+        let mut end = upto;
+        while end > from {
+            let n = (end - from).min(64);
+            let chunk = read_chunk::<T, O>(self.words, self.head + end - n, n as u8);
+            let apart = chunk ^ (others >> (64 - n));
+            if apart != 0 {
+                return Some(end - n + (63 - apart.leading_zeros() as usize));
+            }
+            end -= n;
+        }
+        None
+    }
+
+    /// The index of the first bit that is true. None exactly where none is.
+    pub fn first_one(self) -> Option<usize>
+        ensures value { result ≡ position (λ b. b) (list_of self.entry) }
+        ensures inside { IfSome result (λ i. i < len_of self.entry) }
+        ensures found { IfSome result (λ i. slice_get (list_of self.entry) i ≡ Some true) }
+        ensures before { IfSome result (λ i. (j : ℕ) → j < i → slice_get (list_of self.entry) j ≡ Some false) }
+        ensures none { IfNone result (EachIndex (list_of self.entry) (λ j. slice_get (list_of self.entry) j ≡ Some false)) }
+    {
+        self.find_next(0, self.len, true)
+    }
+
+    /// The index of the first bit that is false. None exactly where none is.
+    pub fn first_zero(self) -> Option<usize>
+        ensures value { result ≡ position not (list_of self.entry) }
+        ensures inside { IfSome result (λ i. i < len_of self.entry) }
+        ensures found { IfSome result (λ i. slice_get (list_of self.entry) i ≡ Some false) }
+        ensures before { IfSome result (λ i. (j : ℕ) → j < i → slice_get (list_of self.entry) j ≡ Some true) }
+        ensures none { IfNone result (EachIndex (list_of self.entry) (λ j. slice_get (list_of self.entry) j ≡ Some true)) }
+    {
+        self.find_next(0, self.len, false)
+    }
+
+    /// The index of the last bit that is true. None exactly where none is.
+    pub fn last_one(self) -> Option<usize>
+        ensures inside { IfSome result (λ i. i < len_of self.entry) }
+        ensures found { IfSome result (λ i. slice_get (list_of self.entry) i ≡ Some true) }
+        ensures after { IfSome result (λ i. (j : ℕ) → i < j → j < len_of self.entry → slice_get (list_of self.entry) j ≡ Some false) }
+        ensures none { IfNone result (EachIndex (list_of self.entry) (λ j. slice_get (list_of self.entry) j ≡ Some false)) }
+    {
+        self.find_last(0, self.len, true)
+    }
+
+    /// The index of the last bit that is false. None exactly where none is.
+    pub fn last_zero(self) -> Option<usize>
+        ensures inside { IfSome result (λ i. i < len_of self.entry) }
+        ensures found { IfSome result (λ i. slice_get (list_of self.entry) i ≡ Some false) }
+        ensures after { IfSome result (λ i. (j : ℕ) → i < j → j < len_of self.entry → slice_get (list_of self.entry) j ≡ Some true) }
+        ensures none { IfNone result (EachIndex (list_of self.entry) (λ j. slice_get (list_of self.entry) j ≡ Some true)) }
+    {
+        self.find_last(0, self.len, false)
+    }
+
+    /// The index of the first bit from index `from` on that is true. None exactly where none is, as
+    /// where `from` is the length or more.
+    pub fn next_one(self, from: usize) -> Option<usize>
+        ensures begins { IfSome result (λ i. from ≤ i) }
+        ensures inside { IfSome result (λ i. i < len_of self.entry) }
+        ensures found { IfSome result (λ i. slice_get (list_of self.entry) i ≡ Some true) }
+        ensures before { IfSome result (λ i. (j : ℕ) → from ≤ j → j < i → slice_get (list_of self.entry) j ≡ Some false) }
+        ensures none { IfNone result ((j : ℕ) → from ≤ j → j < len_of self.entry → slice_get (list_of self.entry) j ≡ Some false) }
+    {
+        self.find_next(from.min(self.len), self.len, true)
+    }
+
+    /// The index of the first bit from index `from` on that is false. None exactly where none is, as
+    /// where `from` is the length or more.
+    pub fn next_zero(self, from: usize) -> Option<usize>
+        ensures begins { IfSome result (λ i. from ≤ i) }
+        ensures inside { IfSome result (λ i. i < len_of self.entry) }
+        ensures found { IfSome result (λ i. slice_get (list_of self.entry) i ≡ Some false) }
+        ensures before { IfSome result (λ i. (j : ℕ) → from ≤ j → j < i → slice_get (list_of self.entry) j ≡ Some true) }
+        ensures none { IfNone result ((j : ℕ) → from ≤ j → j < len_of self.entry → slice_get (list_of self.entry) j ≡ Some true) }
+    {
+        self.find_next(from.min(self.len), self.len, false)
+    }
+
+    /// How many bits at the front are true, up to the first that is false.
+    pub fn leading_ones(self) -> usize
+        ensures value { result ≡ prefix_len (λ b. b) (list_of self.entry) }
+        ensures most { result ≤ len_of self.entry }
+        ensures each { (j : ℕ) → j < result → slice_get (list_of self.entry) j ≡ Some true }
+        ensures next { result < len_of self.entry → slice_get (list_of self.entry) result ≡ Some false }
+    {
+        match self.find_next(0, self.len, false) {
+            None => self.len,
+            Some(i) => i,
+        }
+    }
+
+    /// How many bits at the front are false, up to the first that is true.
+    pub fn leading_zeros(self) -> usize
+        ensures value { result ≡ prefix_len not (list_of self.entry) }
+        ensures most { result ≤ len_of self.entry }
+        ensures each { (j : ℕ) → j < result → slice_get (list_of self.entry) j ≡ Some false }
+        ensures next { result < len_of self.entry → slice_get (list_of self.entry) result ≡ Some true }
+    {
+        match self.find_next(0, self.len, true) {
+            None => self.len,
+            Some(i) => i,
+        }
+    }
+
+    /// How many bits at the end are true, after the last that is false.
+    pub fn trailing_ones(self) -> usize
+        ensures value { result ≡ suffix_len (λ b. b) (list_of self.entry) }
+        ensures most { result ≤ len_of self.entry }
+        ensures each { (j : ℕ) → j < result → slice_get (list_of self.entry) (len_of self.entry - 1 - j) ≡ Some true }
+        ensures next { result < len_of self.entry → slice_get (list_of self.entry) (len_of self.entry - 1 - result) ≡ Some false }
+    {
+        match self.find_last(0, self.len, false) {
+            None => self.len,
+            Some(i) => self.len - 1 - i,
+        }
+    }
+
+    /// How many bits at the end are false, after the last that is true.
+    pub fn trailing_zeros(self) -> usize
+        ensures value { result ≡ suffix_len not (list_of self.entry) }
+        ensures most { result ≤ len_of self.entry }
+        ensures each { (j : ℕ) → j < result → slice_get (list_of self.entry) (len_of self.entry - 1 - j) ≡ Some false }
+        ensures next { result < len_of self.entry → slice_get (list_of self.entry) (len_of self.entry - 1 - result) ≡ Some true }
+    {
+        match self.find_last(0, self.len, true) {
+            None => self.len,
+            Some(i) => self.len - 1 - i,
+        }
+    }
+
+    /// Whether no bit is true. Of an empty view it is true.
+    pub fn not_any(self) -> bool
+        ensures value { result ≡ not (list_any (λ b. b) (list_of self.entry)) }
+        ensures index { IsTrue result ↔ EachIndex (list_of self.entry) (λ i. slice_get (list_of self.entry) i ≡ Some false) }
+    {
+        !self.any()
+    }
+
+    /// Whether some bit is false. Of an empty view it is false.
+    pub fn not_all(self) -> bool
+        ensures value { result ≡ not (list_all (λ b. b) (list_of self.entry)) }
+        ensures index { IsTrue result ↔ SomeIndex (list_of self.entry) (λ i. slice_get (list_of self.entry) i ≡ Some false) }
+    {
+        !self.all()
+    }
+
+    /// Whether some bit is true and some bit is false.
+    pub fn some(self) -> bool
+        ensures value { result ≡ (list_any (λ b. b) (list_of self.entry) && not (list_all (λ b. b) (list_of self.entry))) }
+        ensures one { IsTrue result → SomeIndex (list_of self.entry) (λ i. slice_get (list_of self.entry) i ≡ Some true) }
+        ensures zero { IsTrue result → SomeIndex (list_of self.entry) (λ i. slice_get (list_of self.entry) i ≡ Some false) }
+    {
+        self.any() && self.not_all()
+    }
+}

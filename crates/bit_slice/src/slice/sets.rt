@@ -1,0 +1,153 @@
+//! Views as sets of the indices of their true bits: subsets, common bits, and how many there are.
+ghost use Rattle.std.specs.Prelude.{◌≡◌, ◌≢◌, ℕ, ◌+◌, ◌-◌, ◌*◌, ◌<◌, ◌≤◌, ◌↔◌, Bool, IsTrue, SomeIndex, Some, count_by, drop, false, length, min, not, slice_get, slice_range, true};
+ghost use Rattle.std.specs.List.{list_any};
+ghost use Rattle.bit_addressing.specs.Row.{number_of};
+ghost use Rattle.bit_slice.specs.BitSlice.{len_of, list_of};
+ghost use Rattle.bit_slice.specs.Operators.{combined, and_of, or_of, xor_of, and_not_of};
+
+use crate::edits::AndNot;
+use crate::slice::BitSlice;
+use bit_addressing::{And, BitOperator, BitOrder, BitStore, Or, Xor, read_chunk};
+
+// The `n` bits from index `at` on that the operator makes of two views, as a number.
+fn pair_chunk<F: BitOperator, T: BitStore, O: BitOrder, U: BitStore, P: BitOrder>(
+    left: BitSlice<'_, T, O>,
+    right: BitSlice<'_, U, P>,
+    at: usize,
+    n: u8,
+) -> u64
+    requires quiet { F.made false false ≡ false }
+    requires few { n ≤ 64 }
+    requires left { at + n ≤ len_of left }
+    requires right { at + n ≤ len_of right }
+    ensures { result ≡ number_of (slice_range (combined F.made (list_of left.entry) (list_of right.entry)) at (at + n)) }
+{
+    let old = read_chunk::<T, O>(left.words, left.head + at, n);
+    let new = read_chunk::<U, P>(right.words, right.head + at, n);
+    F::apply::<u64>(old, new)
+}
+
+// How many of the first `upto` bits are true that the operator makes of two views.
+fn count_pairs<F: BitOperator, T: BitStore, O: BitOrder, U: BitStore, P: BitOrder>(
+    left: BitSlice<'_, T, O>,
+    right: BitSlice<'_, U, P>,
+    upto: usize,
+) -> usize
+    requires quiet { F.made false false ≡ false }
+    requires left { upto ≤ len_of left }
+    requires right { upto ≤ len_of right }
+    ensures { result ≡ count_by (λ b. b) (slice_range (combined F.made (list_of left.entry) (list_of right.entry)) 0 upto) }
+{
+    let mut count = 0usize;
+    let mut at = 0;
+    while at < upto {
+        let n = (upto - at).min(64);
+        let chunk = pair_chunk::<F, T, O, U, P>(left, right, at, n as u8);
+        count += chunk.count_ones() as usize;
+        at += n;
+    }
+    count
+}
+
+// Whether one of the first `upto` bits is true that the operator makes of two views.
+fn any_pair<F: BitOperator, T: BitStore, O: BitOrder, U: BitStore, P: BitOrder>(
+    left: BitSlice<'_, T, O>,
+    right: BitSlice<'_, U, P>,
+    upto: usize,
+) -> bool
+    requires quiet { F.made false false ≡ false }
+    requires left { upto ≤ len_of left }
+    requires right { upto ≤ len_of right }
+    ensures { result ≡ list_any (λ b. b) (slice_range (combined F.made (list_of left.entry) (list_of right.entry)) 0 upto) }
+{
+    let mut at = 0;
+    while at < upto {
+        let n = (upto - at).min(64);
+        if pair_chunk::<F, T, O, U, P>(left, right, at, n as u8) != 0 {
+            return true;
+        }
+        at += n;
+    }
+    false
+}
+
+impl<'a, T: BitStore, O: BitOrder> BitSlice<'a, T, O> {
+    /// How many indices are true in both views, 64 at a time.
+    pub fn count_and<U: BitStore, P: BitOrder>(self, other: BitSlice<'_, U, P>) -> usize
+        ensures value { result ≡ count_by (λ b. b) (and_of (list_of self.entry) (list_of other.entry)) }
+        ensures few { result ≤ len_of self.entry }
+    {
+        count_pairs::<And, T, O, U, P>(self, other, self.len.min(other.len))
+    }
+
+    /// How many indices are true in one of the views or in both, 64 at a time. The shorter view counts as
+    /// filled up with false.
+    pub fn count_or<U: BitStore, P: BitOrder>(self, other: BitSlice<'_, U, P>) -> usize
+        ensures value { result ≡ count_by (λ b. b) (or_of (list_of self.entry) (list_of other.entry)) + count_by (λ b. b) (drop (len_of self.entry) (list_of other.entry)) }
+        ensures with_and { result + count_by (λ b. b) (and_of (list_of self.entry) (list_of other.entry)) ≡ count_by (λ b. b) (list_of self.entry) + count_by (λ b. b) (list_of other.entry) }
+    {
+        let both = self.len.min(other.len);
+        let shared = count_pairs::<Or, T, O, U, P>(self, other, both);
+        let left = self.get_range(both..self.len).count_ones();
+        let right = other.get_range(both..other.len).count_ones();
+        shared + left + right
+    }
+
+    /// How many indices differ, 64 at a time. The shorter view counts as filled up with false.
+    pub fn count_xor<U: BitStore, P: BitOrder>(self, other: BitSlice<'_, U, P>) -> usize
+        ensures value { result ≡ count_by (λ b. b) (xor_of (list_of self.entry) (list_of other.entry)) + count_by (λ b. b) (drop (len_of self.entry) (list_of other.entry)) }
+        ensures with_and { result + 2 * count_by (λ b. b) (and_of (list_of self.entry) (list_of other.entry)) ≡ count_by (λ b. b) (list_of self.entry) + count_by (λ b. b) (list_of other.entry) }
+    {
+        let both = self.len.min(other.len);
+        let shared = count_pairs::<Xor, T, O, U, P>(self, other, both);
+        let left = self.get_range(both..self.len).count_ones();
+        let right = other.get_range(both..other.len).count_ones();
+        shared + left + right
+    }
+
+    // Whether an index is true that is false in `other`, or that `other` is too short for.
+    fn exceeds<U: BitStore, P: BitOrder>(self, other: BitSlice<'_, U, P>) -> bool
+        ensures { result ≡ list_any (λ b. b) (and_not_of (list_of self.entry) (list_of other.entry)) }
+    {
+        let both = self.len.min(other.len);
+        if any_pair::<AndNot, T, O, U, P>(self, other, both) {
+            return true;
+        }
+        self.get_range(both..self.len).any()
+    }
+
+    /// Whether each index that is true is true in `other`, 64 at a time. An index that `other` is too
+    /// short for is false there.
+    pub fn is_subset<U: BitStore, P: BitOrder>(self, other: BitSlice<'_, U, P>) -> bool
+        ensures value { result ≡ not (list_any (λ b. b) (and_not_of (list_of self.entry) (list_of other.entry))) }
+        ensures index { IsTrue result ↔ ((j : ℕ) → slice_get (list_of self.entry) j ≡ Some true → slice_get (list_of other.entry) j ≡ Some true) }
+        ensures and { IsTrue result ↔ (and_of (list_of self.entry) (list_of other.entry) ≡ list_of self.entry) }
+    {
+        !self.exceeds(other)
+    }
+
+    /// Whether each index that is true in `other` is true, 64 at a time.
+    pub fn is_superset<U: BitStore, P: BitOrder>(self, other: BitSlice<'_, U, P>) -> bool
+        ensures value { result ≡ not (list_any (λ b. b) (and_not_of (list_of other.entry) (list_of self.entry))) }
+        ensures index { IsTrue result ↔ ((j : ℕ) → slice_get (list_of other.entry) j ≡ Some true → slice_get (list_of self.entry) j ≡ Some true) }
+        ensures and { IsTrue result ↔ (and_of (list_of other.entry) (list_of self.entry) ≡ list_of other.entry) }
+    {
+        other.is_subset(self)
+    }
+
+    /// Whether an index is true in both views, 64 at a time.
+    pub fn intersects<U: BitStore, P: BitOrder>(self, other: BitSlice<'_, U, P>) -> bool
+        ensures value { result ≡ list_any (λ b. b) (and_of (list_of self.entry) (list_of other.entry)) }
+        ensures index { IsTrue result ↔ SomeIndex (list_of self.entry) (λ j. (slice_get (list_of self.entry) j ≡ Some true) × (slice_get (list_of other.entry) j ≡ Some true)) }
+    {
+        any_pair::<And, T, O, U, P>(self, other, self.len.min(other.len))
+    }
+
+    /// Whether no index is true in both views, 64 at a time.
+    pub fn is_disjoint<U: BitStore, P: BitOrder>(self, other: BitSlice<'_, U, P>) -> bool
+        ensures value { result ≡ not (list_any (λ b. b) (and_of (list_of self.entry) (list_of other.entry))) }
+        ensures index { IsTrue result ↔ ((j : ℕ) → slice_get (list_of self.entry) j ≡ Some true → slice_get (list_of other.entry) j ≢ Some true) }
+    {
+        !self.intersects(other)
+    }
+}

@@ -1,0 +1,115 @@
+//! The bits of a view in another order, reversed, rotated and shifted, and combined with others of the view.
+ghost use Rattle.std.specs.Prelude.{◌≡◌, ℕ, ◌+◌, ◌-◌, ◌*◌, ◌<◌, ◌≤◌, ◌++◌, drop, false, length, replicate, reverse, slice_get, slice_range, take};
+ghost use Rattle.bit_addressing.specs.Range.{LiesIn};
+ghost use Rattle.bit_addressing.specs.Row.{put};
+ghost use Rattle.bit_slice.specs.Operators.{and_of, or_of, xor_of};
+ghost use Rattle.bit_slice.specs.BitSliceMut.{words_of, head_of, len_of, row_of, list_of, Stays};
+
+use crate::edits::{
+    combine_within, reverse_words, rotate_words, shift_words_left, shift_words_right,
+};
+use crate::slice_mut::BitSliceMut;
+use bit_addressing::{And, BitOrder, BitStore, Or, RangeExt, Xor};
+
+impl<'a, T: BitStore, O: BitOrder> BitSliceMut<'a, T, O> {
+    /// Reverses the bits of the view, up to 64 from each end at a time.
+    pub fn reverse(&mut self)
+        ensures row { row_of self.new ≡ put (row_of self.old) (head_of self.old) (reverse (list_of self.old)) }
+        ensures list { list_of self.new ≡ reverse (list_of self.old) }
+        ensures stays { Stays self.old self.new }
+    {
+        reverse_words::<T, O>(self.words, self.head, self.len);
+    }
+
+    /// Moves the first `by` bits after the others, by whole words where it can. Requires that `by` is at
+    /// most the length.
+    pub fn rotate_left(&mut self, by: usize)
+        requires { by ≤ len_of self.old }
+        ensures row { row_of self.new ≡ put (row_of self.old) (head_of self.old) (drop by (list_of self.old) ++ take by (list_of self.old)) }
+        ensures list { list_of self.new ≡ drop by (list_of self.old) ++ take by (list_of self.old) }
+        ensures stays { Stays self.old self.new }
+    {
+        rotate_words::<T, O>(self.words, self.head, self.len, by);
+    }
+
+    /// Moves the last `by` bits before the others, by whole words where it can. Requires that `by` is at
+    /// most the length.
+    pub fn rotate_right(&mut self, by: usize)
+        requires { by ≤ len_of self.old }
+        ensures row { row_of self.new ≡ put (row_of self.old) (head_of self.old) (drop (len_of self.old - by) (list_of self.old) ++ take (len_of self.old - by) (list_of self.old)) }
+        ensures list { list_of self.new ≡ drop (len_of self.old - by) (list_of self.old) ++ take (len_of self.old - by) (list_of self.old) }
+        ensures stays { Stays self.old self.new }
+    {
+        let front = self.len - by;
+        rotate_words::<T, O>(self.words, self.head, self.len, front);
+    }
+
+    /// Moves each bit `by` indices towards the front, by whole words where it can: the first `by` go, and
+    /// the last `by` are false. Requires that `by` is at most the length.
+    #[tactic(auto, using(crate::proofs::Parts::roomy))]
+    pub fn shift_left(&mut self, by: usize)
+        requires { by ≤ len_of self.old }
+        ensures row { row_of self.new ≡ put (row_of self.old) (head_of self.old) (drop by (list_of self.old) ++ replicate by false) }
+        ensures list { list_of self.new ≡ drop by (list_of self.old) ++ replicate by false }
+        ensures stays { Stays self.old self.new }
+    {
+        shift_words_left::<T, O>(self.words, self.head, self.len, by);
+    }
+
+    /// Moves each bit `by` indices towards the end, by whole words where it can: the last `by` go, and the
+    /// first `by` are false. Requires that `by` is at most the length.
+    #[tactic(auto, using(crate::proofs::Parts::roomy))]
+    pub fn shift_right(&mut self, by: usize)
+        requires { by ≤ len_of self.old }
+        ensures row { row_of self.new ≡ put (row_of self.old) (head_of self.old) (replicate by false ++ take (len_of self.old - by) (list_of self.old)) }
+        ensures list { list_of self.new ≡ replicate by false ++ take (len_of self.old - by) (list_of self.old) }
+        ensures stays { Stays self.old self.new }
+    {
+        shift_words_right::<T, O>(self.words, self.head, self.len, by);
+    }
+
+    /// Clears each of the bits from `dest` on that is false at its index of a range of the same
+    /// view, as if the range was read before any bit is written. The two may overlap. Requires that the
+    /// range lies in the view, and as many bits from `dest` on.
+    pub fn and_within<R: RangeExt>(&mut self, range: R, dest: usize)
+        requires lies { LiesIn (R.start_of range) (R.end_of range (len_of self.old)) (len_of self.old) }
+        requires room { dest + (R.end_of range (len_of self.old) - R.start_of range) ≤ len_of self.old }
+        ensures row { row_of self.new ≡ put (row_of self.old) (head_of self.old + dest) (and_of (slice_range (list_of self.old) dest (dest + (R.end_of range (len_of self.old) - R.start_of range))) (slice_range (list_of self.old) (R.start_of range) (R.end_of range (len_of self.old)))) }
+        ensures list { list_of self.new ≡ put (list_of self.old) dest (and_of (slice_range (list_of self.old) dest (dest + (R.end_of range (len_of self.old) - R.start_of range))) (slice_range (list_of self.old) (R.start_of range) (R.end_of range (len_of self.old)))) }
+        ensures stays { Stays self.old self.new }
+    {
+        let range = range.normalize(self.len);
+        let (from, to) = (self.head + range.start, self.head + dest);
+        combine_within::<And, T, O>(self.words, from, to, range.end - range.start);
+    }
+
+    /// Sets each of the bits from `dest` on that is true at its index of a range of the same
+    /// view, as if the range was read before any bit is written. The two may overlap. Requires that the
+    /// range lies in the view, and as many bits from `dest` on.
+    pub fn or_within<R: RangeExt>(&mut self, range: R, dest: usize)
+        requires lies { LiesIn (R.start_of range) (R.end_of range (len_of self.old)) (len_of self.old) }
+        requires room { dest + (R.end_of range (len_of self.old) - R.start_of range) ≤ len_of self.old }
+        ensures row { row_of self.new ≡ put (row_of self.old) (head_of self.old + dest) (or_of (slice_range (list_of self.old) dest (dest + (R.end_of range (len_of self.old) - R.start_of range))) (slice_range (list_of self.old) (R.start_of range) (R.end_of range (len_of self.old)))) }
+        ensures list { list_of self.new ≡ put (list_of self.old) dest (or_of (slice_range (list_of self.old) dest (dest + (R.end_of range (len_of self.old) - R.start_of range))) (slice_range (list_of self.old) (R.start_of range) (R.end_of range (len_of self.old)))) }
+        ensures stays { Stays self.old self.new }
+    {
+        let range = range.normalize(self.len);
+        let (from, to) = (self.head + range.start, self.head + dest);
+        combine_within::<Or, T, O>(self.words, from, to, range.end - range.start);
+    }
+
+    /// Flips each of the bits from `dest` on that is true at its index of a range of the same
+    /// view, as if the range was read before any bit is written. The two may overlap. Requires that the
+    /// range lies in the view, and as many bits from `dest` on.
+    pub fn xor_within<R: RangeExt>(&mut self, range: R, dest: usize)
+        requires lies { LiesIn (R.start_of range) (R.end_of range (len_of self.old)) (len_of self.old) }
+        requires room { dest + (R.end_of range (len_of self.old) - R.start_of range) ≤ len_of self.old }
+        ensures row { row_of self.new ≡ put (row_of self.old) (head_of self.old + dest) (xor_of (slice_range (list_of self.old) dest (dest + (R.end_of range (len_of self.old) - R.start_of range))) (slice_range (list_of self.old) (R.start_of range) (R.end_of range (len_of self.old)))) }
+        ensures list { list_of self.new ≡ put (list_of self.old) dest (xor_of (slice_range (list_of self.old) dest (dest + (R.end_of range (len_of self.old) - R.start_of range))) (slice_range (list_of self.old) (R.start_of range) (R.end_of range (len_of self.old)))) }
+        ensures stays { Stays self.old self.new }
+    {
+        let range = range.normalize(self.len);
+        let (from, to) = (self.head + range.start, self.head + dest);
+        combine_within::<Xor, T, O>(self.words, from, to, range.end - range.start);
+    }
+}

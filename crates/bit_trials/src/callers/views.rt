@@ -1,0 +1,383 @@
+//! Callers of the searches, indices, parts and changes of views.
+ghost use Rattle.std.specs.Prelude.{◌≡◌, ℕ, ◌+◌, ◌-◌, ◌*◌, ◌/◌, ◌<◌, ◌≤◌, ◌↔◌, ◌++◌, EachIndex, slice_range, IfOk, IfSome, IsTrue, Some, count_by, drop, false, length, map, not, replicate, reverse, slice_get, sum, take, true};
+ghost use Rattle.std.specs.Option.{option_map};
+ghost use Rattle.bit_addressing.specs.Binary.{value};
+ghost use Rattle.bit_addressing.specs.Row.{binary, put};
+ghost use Rattle.bit_slice.specs.Operators.{or_of};
+ghost use Rattle.bit_slice.specs.BitSlice.{len_of, list_of};
+ghost use Rattle.bit_slice.specs.BitSliceMut.{len_of as len_there, list_of as list_there};
+ghost use Rattle.bit_slice.specs.Places.{ones_of, zeros_of};
+ghost use Rattle.bit_slice.specs.Pieces.{chunk_count, chunks_of, part};
+
+use bit_addressing::{BitOrder, BitStore};
+use bit_slice::{BitSlice, BitSliceMut};
+use std::alloc::{AllocError, Global};
+
+pub fn bit_at_first<T: BitStore, O: BitOrder>(view: BitSlice<'_, T, O>) -> Option<bool>
+    ensures { IfSome result (λ b. b ≡ true) }
+{
+    match view.first_one() {
+        Some(i) => view.get(i),
+        None => None,
+    }
+}
+
+pub fn before_first<T: BitStore, O: BitOrder>(view: BitSlice<'_, T, O>, j: usize) -> Option<bool>
+    ensures { IfSome result (λ b. b ≡ false) }
+{
+    match view.first_one() {
+        Some(i) => if j < i { view.get(j) } else { None },
+        None => view.get(j),
+    }
+}
+
+pub fn none_where_none<T: BitStore, O: BitOrder>(view: BitSlice<'_, T, O>) -> bool
+    ensures { IsTrue result ↔ EachIndex (list_of view.entry) (λ i. slice_get (list_of view.entry) i ≡ Some false) }
+{
+    view.first_one().is_none()
+}
+
+pub fn bit_at_next<T: BitStore, O: BitOrder>(view: BitSlice<'_, T, O>, from: usize) -> bool
+    ensures { IsTrue result }
+{
+    match view.next_zero(from) {
+        Some(i) => i >= from && !view[i],
+        None => true,
+    }
+}
+
+pub fn after_last<T: BitStore, O: BitOrder>(view: BitSlice<'_, T, O>, j: usize) -> Option<bool>
+    ensures { IfSome result (λ b. b ≡ false) }
+{
+    match view.last_one() {
+        Some(i) => if i < j { view.get(j) } else { None },
+        None => view.get(j),
+    }
+}
+
+pub fn in_the_leading_run<T: BitStore, O: BitOrder>(
+    view: BitSlice<'_, T, O>,
+    j: usize,
+) -> Option<bool>
+    ensures { IfSome result (λ b. b ≡ true) }
+{
+    if j < view.leading_ones() {
+        view.get(j)
+    } else {
+        None
+    }
+}
+
+pub fn same_count<T: BitStore, O: BitOrder>(view: BitSlice<'_, T, O>) -> bool
+    ensures { IsTrue result }
+{
+    view.iter_ones().count() == view.count_ones()
+}
+
+pub fn same_count_of_zeros<T: BitStore, O: BitOrder>(view: BitSlice<'_, T, O>) -> bool
+    ensures { IsTrue result }
+{
+    view.iter_zeros().len() == view.count_zeros()
+}
+
+pub fn listed<T: BitStore, O: BitOrder>(
+    alloc: Global,
+    view: BitSlice<'_, T, O>,
+) -> Result<Vec<usize>, AllocError>
+    ensures { IfOk result (λ all. all.items ≡ ones_of (list_of view.entry)) }
+{
+    view.iter_ones().collect::<Vec<usize>>(alloc)
+}
+
+pub fn listed_backward<T: BitStore, O: BitOrder>(
+    alloc: Global,
+    view: BitSlice<'_, T, O>,
+) -> Result<Vec<usize>, AllocError>
+    ensures { IfOk result (λ all. all.items ≡ reverse (zeros_of (list_of view.entry))) }
+{
+    view.iter_zeros().rev().collect::<Vec<usize>>(alloc)
+}
+
+pub fn each_is_set<T: BitStore, O: BitOrder>(view: BitSlice<'_, T, O>) -> bool
+    ensures { IsTrue result }
+{
+    view.iter_ones().all(|i| view.get(i) == Some(true))
+}
+
+pub fn count_by_loop<T: BitStore, O: BitOrder>(view: BitSlice<'_, T, O>) -> usize
+    ensures { result ≡ count_by (λ b. b) (list_of view.entry) }
+{
+    let mut count = 0usize;
+    for _ in view.iter_ones() {
+        count += 1;
+    }
+    count
+}
+
+pub fn filled_within<T: BitStore, O: BitOrder>(
+    view: &mut BitSliceMut<'_, T, O>,
+    from: usize,
+    upto: usize,
+    j: usize,
+) -> Option<bool>
+    requires begins { from ≤ j }
+    requires ends { j < upto }
+    requires inside { upto ≤ len_there view.old }
+    ensures { result ≡ Some true }
+{
+    view.fill_range(from..upto, true);
+    view.get(j)
+}
+
+pub fn kept_before<T: BitStore, O: BitOrder>(
+    view: &mut BitSliceMut<'_, T, O>,
+    from: usize,
+    j: usize,
+) -> Option<bool>
+    requires inside { from ≤ len_there view.old }
+    requires outside { j < from }
+    ensures { result ≡ slice_get (list_there view.old) j }
+{
+    view.flip_range(from..);
+    view.get(j)
+}
+
+pub fn flipped_there<T: BitStore, O: BitOrder>(
+    view: &mut BitSliceMut<'_, T, O>,
+    n: usize,
+    j: usize,
+) -> Option<bool>
+    requires inside { n ≤ len_there view.old }
+    requires here { j < n }
+    requires set { slice_get (list_there view.old) j ≡ Some true }
+    ensures { result ≡ Some false }
+{
+    view.flip_range(..n);
+    view.get(j)
+}
+
+pub fn copied_there<T: BitStore, O: BitOrder, U: BitStore, P: BitOrder>(
+    view: &mut BitSliceMut<'_, T, O>,
+    from: usize,
+    source: BitSlice<'_, U, P>,
+)
+    requires { from + len_of source ≤ len_there view.old }
+    ensures { list_there view.new ≡ put (list_there view.old) from (list_of source.entry) }
+{
+    let end = from + source.len();
+    view.copy_into(from..end, source);
+}
+
+pub fn cleared<T: BitStore, O: BitOrder, U: BitStore, P: BitOrder>(
+    view: &mut BitSliceMut<'_, T, O>,
+    other: BitSlice<'_, U, P>,
+    j: usize,
+) -> Option<bool>
+    requires inside { j < len_there view.old }
+    requires set { slice_get (list_of other) j ≡ Some true }
+    ensures { result ≡ Some false }
+{
+    view.and_not_bits(other);
+    view.get(j)
+}
+
+pub fn reversed_twice<T: BitStore, O: BitOrder>(view: &mut BitSliceMut<'_, T, O>)
+    ensures { list_there view.new ≡ list_there view.old }
+{
+    view.reverse();
+    view.reverse();
+}
+
+pub fn flipped_twice<T: BitStore, O: BitOrder>(view: &mut BitSliceMut<'_, T, O>)
+    ensures { list_there view.new ≡ map not (map not (list_there view.old)) }
+{
+    view.flip_all();
+    view.flip_all();
+}
+
+pub fn shifted<T: BitStore, O: BitOrder>(view: &mut BitSliceMut<'_, T, O>, by: usize)
+    requires { by ≤ len_there view.old }
+    ensures { list_there view.new ≡ map not (drop by (list_there view.old) ++ replicate by false) }
+{
+    view.shift_left(by);
+    view.flip_all();
+}
+
+pub fn halves<T: BitStore, O: BitOrder>(view: BitSlice<'_, T, O>, mid: usize) -> bool
+    requires { mid ≤ len_of view }
+    ensures { IsTrue result }
+{
+    let (front, back) = view.split_at(mid);
+    front.len() + back.len() == view.len() && front.eq_bits(view.get_range(0..mid))
+}
+
+pub fn first_is_split_off<T: BitStore, O: BitOrder>(view: BitSlice<'_, T, O>) -> bool
+    ensures { IsTrue result }
+{
+    match view.split_first() {
+        Some((bit, _)) => view.get(0) == Some(bit),
+        None => view.is_empty(),
+    }
+}
+
+pub fn starts_with_itself<T: BitStore, O: BitOrder>(view: BitSlice<'_, T, O>) -> bool
+    ensures { IsTrue result }
+{
+    view.starts_with(view) && view.ends_with(view)
+}
+
+pub fn how_many_chunks<T: BitStore, O: BitOrder>(view: BitSlice<'_, T, O>, n: usize) -> usize
+    requires { 0 < n }
+    ensures { result ≡ chunk_count (len_of view.entry) n }
+{
+    view.chunks(n).count()
+}
+
+pub fn counts_of_chunks<T: BitStore, O: BitOrder>(
+    alloc: Global,
+    view: BitSlice<'_, T, O>,
+    n: usize,
+) -> Result<Vec<usize>, AllocError>
+    requires { 0 < n }
+    ensures { IfOk result (λ all. all.items ≡ map (λ c. count_by (λ b. b) c) (chunks_of n (list_of view.entry))) }
+{
+    view.chunks(n)
+        .map(|c| c.count_ones())
+        .collect::<Vec<usize>>(alloc)
+}
+
+pub fn how_many_windows<T: BitStore, O: BitOrder>(view: BitSlice<'_, T, O>, n: usize) -> usize
+    requires { 0 < n }
+    ensures { result ≡ len_of view.entry + 1 - n }
+{
+    view.windows(n).len()
+}
+
+pub fn second_chunk<'a, T: BitStore, O: BitOrder>(view: BitSlice<'a, T, O>) -> BitSlice<'a, T, O>
+    requires { 8 < len_of view }
+    ensures { list_of result ≡ take 8 (drop 8 (list_of view.entry)) }
+{
+    view.chunk(8, 1)
+}
+
+pub fn set_in_both<T: BitStore, O: BitOrder, U: BitStore, P: BitOrder>(
+    view: BitSlice<'_, T, O>,
+    other: BitSlice<'_, U, P>,
+    j: usize,
+) -> Option<bool>
+    requires { slice_get (list_of view) j ≡ Some true }
+    ensures { IfSome result (λ b. b ≡ true) }
+{
+    if view.is_subset(other) {
+        other.get(j)
+    } else {
+        None
+    }
+}
+
+pub fn subset_is_kept<T: BitStore, O: BitOrder, U: BitStore, P: BitOrder>(
+    view: &mut BitSliceMut<'_, T, O>,
+    other: BitSlice<'_, U, P>,
+)
+    ensures { list_there view.new ≡ list_there view.old }
+{
+    if view.as_bitslice().is_subset(other) {
+        view.and_bits(other);
+    }
+}
+
+pub fn counted_without_a_copy<T: BitStore, O: BitOrder, U: BitStore, P: BitOrder>(
+    view: &mut BitSliceMut<'_, T, O>,
+    other: BitSlice<'_, U, P>,
+) -> bool
+    ensures { IsTrue result }
+{
+    let count = view.as_bitslice().count_and(other);
+    view.and_bits(other);
+    view.count_ones() == count
+}
+
+pub fn differing<T: BitStore, O: BitOrder, U: BitStore, P: BitOrder>(
+    view: BitSlice<'_, T, O>,
+    other: BitSlice<'_, U, P>,
+) -> bool
+    ensures { IsTrue result }
+{
+    view.count_xor(other) + view.count_and(other) == view.count_or(other)
+}
+
+pub fn disjoint_or_not<T: BitStore, O: BitOrder, U: BitStore, P: BitOrder>(
+    view: BitSlice<'_, T, O>,
+    other: BitSlice<'_, U, P>,
+) -> bool
+    ensures { IsTrue result }
+{
+    view.is_disjoint(other) != view.intersects(other)
+}
+
+pub fn equal_where_equal<T: BitStore, O: BitOrder>(
+    left: BitSlice<'_, T, O>,
+    right: BitSlice<'_, T, O>,
+) -> bool
+    ensures { IsTrue result ↔ (list_of left.entry ≡ list_of right.entry) }
+{
+    left == right
+}
+
+pub fn counted_by_for<T: BitStore, O: BitOrder>(view: BitSlice<'_, T, O>) -> usize
+    ensures { result ≡ length (list_of view.entry) }
+{
+    let mut count = 0usize;
+    for _ in view {
+        count += 1;
+    }
+    count
+}
+
+pub fn found_part<T: BitStore, O: BitOrder, U: BitStore, P: BitOrder>(
+    view: BitSlice<'_, T, O>,
+    other: BitSlice<'_, U, P>,
+) -> bool
+    ensures { IsTrue result }
+{
+    match view.find(other) {
+        Some(i) => view.get_range(i..i + other.len()).eq_bits(other),
+        None => true,
+    }
+}
+
+pub fn number_of_field<T: BitStore, O: BitOrder>(view: BitSlice<'_, T, O>) -> u64
+    requires { 12 ≤ len_of view }
+    ensures { result ≡ value (slice_range (list_of view.entry) 4 12) }
+{
+    view.get_range(4..12).load_be()
+}
+
+pub fn stored_then_loaded<T: BitStore, O: BitOrder>(view: &mut BitSliceMut<'_, T, O>, n: u64) -> u64
+    requires { len_there view.old ≡ 16 }
+    ensures list { list_there view.new ≡ binary 16 n }
+    ensures same { binary 16 result ≡ binary 16 n }
+{
+    view.store_be(n);
+    view.as_bitslice().load_be()
+}
+
+pub fn front_joined_to_back<T: BitStore, O: BitOrder>(view: &mut BitSliceMut<'_, T, O>, n: usize)
+    requires { n + n ≤ len_there view.old }
+    ensures { list_there view.new ≡ put (list_there view.old) n (or_of (slice_range (list_there view.old) n (n + n)) (slice_range (list_there view.old) 0 n)) }
+{
+    view.or_within(0..n, n);
+}
+
+pub fn rotated_by_none<T: BitStore, O: BitOrder>(view: &mut BitSliceMut<'_, T, O>)
+    ensures { list_there view.new ≡ list_there view.old }
+{
+    view.rotate_left(0);
+}
+
+pub fn exact_chunks<T: BitStore, O: BitOrder>(view: BitSlice<'_, T, O>, n: usize) -> usize
+    requires { 0 < n }
+    ensures { result ≡ len_of view.entry / n }
+{
+    view.chunks_exact(n).len()
+}

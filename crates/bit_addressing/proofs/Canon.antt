@@ -123,7 +123,8 @@ packed_row place w words positive lawful low =
     ∙ get_or-row_of place w words (k * w + at.0) (mul-add-lt k w at.0 (length words) below at.1)
     ∙ ap (λ n. has_bit (get_or words n 0) (place w ((k * w + at.0) % w))) d ∙ ap (λ n. has_bit (get_or words k 0) (place w n)) m ∙ ap (has_bit (get_or words k 0)) at.2))
 
-map_back : {X : Type 0} (value : X → ℕ) (number : ℕ → X) (words : List X) → ((x : X) → number (value x) ≡ x) → map number (map value words) ≡ words
+-- numbers of values are the words again
+pub map_back : {X : Type 0} (value : X → ℕ) (number : ℕ → X) (words : List X) → ((x : X) → number (value x) ≡ x) → map number (map value words) ≡ words
 map_back value number [] back = refl
 map_back value number (x ∷ words) back = rw (back x, map_back value number words back) refl
 

@@ -9,6 +9,9 @@ use std::marker::{Model, PhantomData};
 
 mod iter;
 mod ops;
+mod parts;
+mod search;
+mod sets;
 mod slice;
 mod traits;
 mod views;

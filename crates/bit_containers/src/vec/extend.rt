@@ -101,12 +101,14 @@ impl<T: BitStore, O: BitOrder> BitVec<T, O> {
         Ok(())
     }
 
-    /// Appends all bits of these words. It is refused like `extend_from_bitslice`.
+    /// Appends all bits of these words. It is refused like `extend_from_bitslice`. Where the vector is whole
+    /// words from head 0, its words are the old ones and then these.
     #[tactic(auto, using(bit_slice::proofs::Parts::row_size))]
     pub fn extend_from_raw_slice(&mut self, words: &[T]) -> Result<(), GrowError>
         ensures len { OnOk result (length self.new.list ≡ length self.old.list + T.BITS * length words.now) }
         ensures list { OnOk result (self.new.list ≡ self.old.list ++ row T.BitStore O.BitOrder words.now) }
         ensures row { OnOk result (Grew T.BITS self.old self.new (row T.BitStore O.BitOrder words.now)) }
+        ensures words { OnOk result (self.old.head ≡ 0 → length self.old.list ≡ T.BITS * length self.old.words → self.new.words ≡ self.old.words ++ words.now) }
         ensures clean { OnOk result (IsClean T.BITS self.old → IsClean T.BITS self.new) }
         ensures refusal { RefusesOnly result (length self.old.list + T.BITS * length words.now) self.old self.new }
         ensures capacity { self.old.capacity ≤ self.new.capacity }
@@ -114,7 +116,11 @@ impl<T: BitStore, O: BitOrder> BitVec<T, O> {
         if !Self::fits(words.len()) {
             return Err(GrowError::TooLong);
         }
-        self.extend_from_bitslice(BitSlice::<T, O>::from_slice(words))
+        T::are_words(self.words.as_slice());
+        self.extend_from_bitslice(BitSlice::<T, O>::from_slice(words))?;
+        T::are_words(self.words.as_slice());
+        T::are_words(words);
+        Ok(())
     }
 
     /// Appends the bits at a range of indices once more, by one move of whole words. It is refused

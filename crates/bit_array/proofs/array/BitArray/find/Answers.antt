@@ -1,0 +1,7 @@
+use Rattle.bit_array.proofs.array.BitArray.find.Goals as goal
+
+pub returns-clause-before : goal.returns-clause-before
+returns-clause-before g c = rw (← c.as_bitslice.ensures.list) c.find.ensures.before
+
+pub returns-clause-none : goal.returns-clause-none
+returns-clause-none g c = rw (← c.as_bitslice.ensures.len, ← c.as_bitslice.ensures.list) c.find.ensures.none

@@ -1,0 +1,192 @@
+//! Where bits of the array stand: the first, the last, the next, all of them, and those of a view.
+ghost use Rattle.std.specs.Iterator.{YieldsFirst, YieldsLast};
+ghost use Rattle.std.specs.Iterator.Runs.{YieldsInOrder, YieldsInReverse};
+ghost use Rattle.std.specs.List.{list_any, list_all, position, prefix_len, suffix_len, All};
+ghost use Rattle.std.specs.Prelude.{◌≡◌, ℕ, ◌+◌, ◌-◌, ◌*◌, ◌<◌, ◌≤◌, ◌&&◌, ◌↔◌, IsTrue, IfNone, IfSome, EachIndex, SomeIndex, Some, false, length, not, slice_get, true, count_by, ◌≢◌};
+ghost use Rattle.bit_addressing.specs.Typed.{row};
+ghost use Rattle.bit_slice.specs.BitSlice.{len_of, list_of};
+ghost use Rattle.bit_slice.specs.Pieces.{part};
+ghost use Rattle.bit_slice.specs.Places.{ones_of, zeros_of};
+
+use crate::array::BitArray;
+use crate::sized::BitWords;
+use bit_addressing::{BitOrder, BitStore};
+use bit_slice::{BitSlice, IterOnes, IterZeros};
+
+impl<A: BitWords, O: BitOrder> BitArray<A, O> {
+    ghost use Rattle.bit_slice.specs.Indices.{ones_left, zeros_left};
+
+    /// The index of the first bit that is true. None exactly where none is.
+    pub fn first_one(&self) -> Option<usize>
+        ensures value { result ≡ position (λ b. b) (row A.Store.BitStore O.BitOrder (A.words self.now)) }
+        ensures inside { IfSome result (λ i. i < A.Store.BITS * A.count) }
+        ensures found { IfSome result (λ i. slice_get (row A.Store.BitStore O.BitOrder (A.words self.now)) i ≡ Some true) }
+        ensures before { IfSome result (λ i. (j : ℕ) → j < i → slice_get (row A.Store.BitStore O.BitOrder (A.words self.now)) j ≡ Some false) }
+        ensures none { IfNone result (EachIndex (row A.Store.BitStore O.BitOrder (A.words self.now)) (λ j. slice_get (row A.Store.BitStore O.BitOrder (A.words self.now)) j ≡ Some false)) }
+    {
+        self.as_bitslice().first_one()
+    }
+
+    /// The index of the first bit that is false. None exactly where none is.
+    pub fn first_zero(&self) -> Option<usize>
+        ensures value { result ≡ position not (row A.Store.BitStore O.BitOrder (A.words self.now)) }
+        ensures inside { IfSome result (λ i. i < A.Store.BITS * A.count) }
+        ensures found { IfSome result (λ i. slice_get (row A.Store.BitStore O.BitOrder (A.words self.now)) i ≡ Some false) }
+        ensures before { IfSome result (λ i. (j : ℕ) → j < i → slice_get (row A.Store.BitStore O.BitOrder (A.words self.now)) j ≡ Some true) }
+        ensures none { IfNone result (EachIndex (row A.Store.BitStore O.BitOrder (A.words self.now)) (λ j. slice_get (row A.Store.BitStore O.BitOrder (A.words self.now)) j ≡ Some true)) }
+    {
+        self.as_bitslice().first_zero()
+    }
+
+    /// The index of the last bit that is true. None exactly where none is.
+    pub fn last_one(&self) -> Option<usize>
+        ensures inside { IfSome result (λ i. i < A.Store.BITS * A.count) }
+        ensures found { IfSome result (λ i. slice_get (row A.Store.BitStore O.BitOrder (A.words self.now)) i ≡ Some true) }
+        ensures after { IfSome result (λ i. (j : ℕ) → i < j → j < A.Store.BITS * A.count → slice_get (row A.Store.BitStore O.BitOrder (A.words self.now)) j ≡ Some false) }
+        ensures none { IfNone result (EachIndex (row A.Store.BitStore O.BitOrder (A.words self.now)) (λ j. slice_get (row A.Store.BitStore O.BitOrder (A.words self.now)) j ≡ Some false)) }
+    {
+        self.as_bitslice().last_one()
+    }
+
+    /// The index of the last bit that is false. None exactly where none is.
+    pub fn last_zero(&self) -> Option<usize>
+        ensures inside { IfSome result (λ i. i < A.Store.BITS * A.count) }
+        ensures found { IfSome result (λ i. slice_get (row A.Store.BitStore O.BitOrder (A.words self.now)) i ≡ Some false) }
+        ensures after { IfSome result (λ i. (j : ℕ) → i < j → j < A.Store.BITS * A.count → slice_get (row A.Store.BitStore O.BitOrder (A.words self.now)) j ≡ Some true) }
+        ensures none { IfNone result (EachIndex (row A.Store.BitStore O.BitOrder (A.words self.now)) (λ j. slice_get (row A.Store.BitStore O.BitOrder (A.words self.now)) j ≡ Some true)) }
+    {
+        self.as_bitslice().last_zero()
+    }
+
+    /// The index of the first bit from index `from` on that is true. None exactly where none is, as where
+    /// `from` is the length or more.
+    pub fn next_one(&self, from: usize) -> Option<usize>
+        ensures begins { IfSome result (λ i. from ≤ i) }
+        ensures inside { IfSome result (λ i. i < A.Store.BITS * A.count) }
+        ensures found { IfSome result (λ i. slice_get (row A.Store.BitStore O.BitOrder (A.words self.now)) i ≡ Some true) }
+        ensures before { IfSome result (λ i. (j : ℕ) → from ≤ j → j < i → slice_get (row A.Store.BitStore O.BitOrder (A.words self.now)) j ≡ Some false) }
+        ensures none { IfNone result ((j : ℕ) → from ≤ j → j < A.Store.BITS * A.count → slice_get (row A.Store.BitStore O.BitOrder (A.words self.now)) j ≡ Some false) }
+    {
+        self.as_bitslice().next_one(from)
+    }
+
+    /// The index of the first bit from index `from` on that is false. None exactly where none is, as where
+    /// `from` is the length or more.
+    pub fn next_zero(&self, from: usize) -> Option<usize>
+        ensures begins { IfSome result (λ i. from ≤ i) }
+        ensures inside { IfSome result (λ i. i < A.Store.BITS * A.count) }
+        ensures found { IfSome result (λ i. slice_get (row A.Store.BitStore O.BitOrder (A.words self.now)) i ≡ Some false) }
+        ensures before { IfSome result (λ i. (j : ℕ) → from ≤ j → j < i → slice_get (row A.Store.BitStore O.BitOrder (A.words self.now)) j ≡ Some true) }
+        ensures none { IfNone result ((j : ℕ) → from ≤ j → j < A.Store.BITS * A.count → slice_get (row A.Store.BitStore O.BitOrder (A.words self.now)) j ≡ Some true) }
+    {
+        self.as_bitslice().next_zero(from)
+    }
+
+    /// How many bits at the front are true, up to the first that is false.
+    pub fn leading_ones(&self) -> usize
+        ensures value { result ≡ prefix_len (λ b. b) (row A.Store.BitStore O.BitOrder (A.words self.now)) }
+        ensures most { result ≤ A.Store.BITS * A.count }
+        ensures each { (j : ℕ) → j < result → slice_get (row A.Store.BitStore O.BitOrder (A.words self.now)) j ≡ Some true }
+        ensures next { result < A.Store.BITS * A.count → slice_get (row A.Store.BitStore O.BitOrder (A.words self.now)) result ≡ Some false }
+    {
+        self.as_bitslice().leading_ones()
+    }
+
+    /// How many bits at the front are false, up to the first that is true.
+    pub fn leading_zeros(&self) -> usize
+        ensures value { result ≡ prefix_len not (row A.Store.BitStore O.BitOrder (A.words self.now)) }
+        ensures most { result ≤ A.Store.BITS * A.count }
+        ensures each { (j : ℕ) → j < result → slice_get (row A.Store.BitStore O.BitOrder (A.words self.now)) j ≡ Some false }
+        ensures next { result < A.Store.BITS * A.count → slice_get (row A.Store.BitStore O.BitOrder (A.words self.now)) result ≡ Some true }
+    {
+        self.as_bitslice().leading_zeros()
+    }
+
+    /// How many bits at the end are true, after the last that is false.
+    pub fn trailing_ones(&self) -> usize
+        ensures value { result ≡ suffix_len (λ b. b) (row A.Store.BitStore O.BitOrder (A.words self.now)) }
+        ensures most { result ≤ A.Store.BITS * A.count }
+        ensures each { (j : ℕ) → j < result → slice_get (row A.Store.BitStore O.BitOrder (A.words self.now)) (A.Store.BITS * A.count - 1 - j) ≡ Some true }
+        ensures next { result < A.Store.BITS * A.count → slice_get (row A.Store.BitStore O.BitOrder (A.words self.now)) (A.Store.BITS * A.count - 1 - result) ≡ Some false }
+    {
+        self.as_bitslice().trailing_ones()
+    }
+
+    /// How many bits at the end are false, after the last that is true.
+    pub fn trailing_zeros(&self) -> usize
+        ensures value { result ≡ suffix_len not (row A.Store.BitStore O.BitOrder (A.words self.now)) }
+        ensures most { result ≤ A.Store.BITS * A.count }
+        ensures each { (j : ℕ) → j < result → slice_get (row A.Store.BitStore O.BitOrder (A.words self.now)) (A.Store.BITS * A.count - 1 - j) ≡ Some false }
+        ensures next { result < A.Store.BITS * A.count → slice_get (row A.Store.BitStore O.BitOrder (A.words self.now)) (A.Store.BITS * A.count - 1 - result) ≡ Some true }
+    {
+        self.as_bitslice().trailing_zeros()
+    }
+
+    /// Whether no bit is true. Of an empty array it is true.
+    pub fn not_any(&self) -> bool
+        ensures value { result ≡ not (list_any (λ b. b) (row A.Store.BitStore O.BitOrder (A.words self.now))) }
+        ensures index { IsTrue result ↔ EachIndex (row A.Store.BitStore O.BitOrder (A.words self.now)) (λ i. slice_get (row A.Store.BitStore O.BitOrder (A.words self.now)) i ≡ Some false) }
+    {
+        self.as_bitslice().not_any()
+    }
+
+    /// Whether some bit is false. Of an empty array it is false.
+    pub fn not_all(&self) -> bool
+        ensures value { result ≡ not (list_all (λ b. b) (row A.Store.BitStore O.BitOrder (A.words self.now))) }
+        ensures index { IsTrue result ↔ SomeIndex (row A.Store.BitStore O.BitOrder (A.words self.now)) (λ i. slice_get (row A.Store.BitStore O.BitOrder (A.words self.now)) i ≡ Some false) }
+    {
+        self.as_bitslice().not_all()
+    }
+
+    /// Whether some bit is true and some bit is false.
+    pub fn some(&self) -> bool
+        ensures value { result ≡ (list_any (λ b. b) (row A.Store.BitStore O.BitOrder (A.words self.now)) && not (list_all (λ b. b) (row A.Store.BitStore O.BitOrder (A.words self.now)))) }
+        ensures one { IsTrue result → SomeIndex (row A.Store.BitStore O.BitOrder (A.words self.now)) (λ i. slice_get (row A.Store.BitStore O.BitOrder (A.words self.now)) i ≡ Some true) }
+        ensures zero { IsTrue result → SomeIndex (row A.Store.BitStore O.BitOrder (A.words self.now)) (λ i. slice_get (row A.Store.BitStore O.BitOrder (A.words self.now)) i ≡ Some false) }
+    {
+        self.as_bitslice().some()
+    }
+
+    /// The indices of the bits that are true, ascending, from both ends. A step reads 64 bits at a time.
+    pub fn iter_ones(&self) -> IterOnes<'_, A::Store, O>
+        ensures list { ones_left result ≡ ones_of (row A.Store.BitStore O.BitOrder (A.words self.now)) }
+        ensures count { length (ones_left result) ≡ count_by (λ b. b) (row A.Store.BitStore O.BitOrder (A.words self.now)) }
+        ensures set { All (λ i. slice_get (row A.Store.BitStore O.BitOrder (A.words self.now)) i ≡ Some true) (ones_left result) }
+        ensures inside { All (λ i. i < A.Store.BITS * A.count) (ones_left result) }
+        ensures runs { YieldsInOrder (YieldsFirst (ones_left {X = A.Store} {Y = O} {W = A.Store.BitStore} {P = O.BitOrder})) ones_left }
+        ensures runs_back { YieldsInReverse (YieldsLast (ones_left {X = A.Store} {Y = O} {W = A.Store.BitStore} {P = O.BitOrder})) ones_left }
+    {
+        self.as_bitslice().iter_ones()
+    }
+
+    /// The indices of the bits that are false, ascending, from both ends. A step reads 64 bits at a time.
+    pub fn iter_zeros(&self) -> IterZeros<'_, A::Store, O>
+        ensures list { zeros_left result ≡ zeros_of (row A.Store.BitStore O.BitOrder (A.words self.now)) }
+        ensures count { length (zeros_left result) ≡ count_by not (row A.Store.BitStore O.BitOrder (A.words self.now)) }
+        ensures set { All (λ i. slice_get (row A.Store.BitStore O.BitOrder (A.words self.now)) i ≡ Some false) (zeros_left result) }
+        ensures inside { All (λ i. i < A.Store.BITS * A.count) (zeros_left result) }
+        ensures runs { YieldsInOrder (YieldsFirst (zeros_left {X = A.Store} {Y = O} {W = A.Store.BitStore} {P = O.BitOrder})) zeros_left }
+        ensures runs_back { YieldsInReverse (YieldsLast (zeros_left {X = A.Store} {Y = O} {W = A.Store.BitStore} {P = O.BitOrder})) zeros_left }
+    {
+        self.as_bitslice().iter_zeros()
+    }
+
+    /// The first index from which on the bits of `other` stand, of any word type and order. None exactly where
+    /// they stand nowhere. Each index is tried, 64 bits at a time, up to the first that differs.
+    pub fn find<U: BitStore, P: BitOrder>(&self, other: BitSlice<'_, U, P>) -> Option<usize>
+        ensures inside { IfSome result (λ i. i + len_of other.entry ≤ A.Store.BITS * A.count) }
+        ensures found { IfSome result (λ i. part (len_of other.entry) (row A.Store.BitStore O.BitOrder (A.words self.now)) i ≡ list_of other.entry) }
+        ensures before { IfSome result (λ i. (j : ℕ) → j < i → part (len_of other.entry) (row A.Store.BitStore O.BitOrder (A.words self.now)) j ≢ list_of other.entry) }
+        ensures none { IfNone result ((j : ℕ) → j + len_of other.entry ≤ A.Store.BITS * A.count → part (len_of other.entry) (row A.Store.BitStore O.BitOrder (A.words self.now)) j ≢ list_of other.entry) }
+    {
+        self.as_bitslice().find(other)
+    }
+
+    /// Whether the bits of `other` stand somewhere in the array.
+    pub fn contains<U: BitStore, P: BitOrder>(&self, other: BitSlice<'_, U, P>) -> bool
+        ensures found { IsTrue result → ((i : ℕ) × (part (len_of other.entry) (row A.Store.BitStore O.BitOrder (A.words self.now)) i ≡ list_of other.entry)) }
+        ensures none { (j : ℕ) → j + len_of other.entry ≤ A.Store.BITS * A.count → part (len_of other.entry) (row A.Store.BitStore O.BitOrder (A.words self.now)) j ≡ list_of other.entry → IsTrue result }
+    {
+        self.as_bitslice().contains(other)
+    }
+}

@@ -1,0 +1,74 @@
+//! The array beside a view, as sets of the indices of their true bits.
+ghost use Rattle.std.specs.List.{list_any};
+ghost use Rattle.std.specs.Prelude.{◌≡◌, ◌≢◌, ℕ, ◌+◌, ◌*◌, ◌≤◌, ◌↔◌, IsTrue, SomeIndex, Some, count_by, drop, not, slice_get, true};
+ghost use Rattle.bit_addressing.specs.Typed.{row};
+ghost use Rattle.bit_slice.specs.BitSlice.{list_of};
+ghost use Rattle.bit_slice.specs.Operators.{and_of, or_of, xor_of, and_not_of};
+
+use crate::array::BitArray;
+use crate::sized::BitWords;
+use bit_addressing::{BitOrder, BitStore};
+use bit_slice::BitSlice;
+
+impl<A: BitWords, O: BitOrder> BitArray<A, O> {
+    /// Whether each index that is true is true in `other`, 64 at a time. An index that `other` is too short for
+    /// is false there.
+    pub fn is_subset<U: BitStore, P: BitOrder>(&self, other: BitSlice<'_, U, P>) -> bool
+        ensures value { result ≡ not (list_any (λ b. b) (and_not_of (row A.Store.BitStore O.BitOrder (A.words self.now)) (list_of other.entry))) }
+        ensures index { IsTrue result ↔ ((j : ℕ) → slice_get (row A.Store.BitStore O.BitOrder (A.words self.now)) j ≡ Some true → slice_get (list_of other.entry) j ≡ Some true) }
+        ensures and { IsTrue result ↔ (and_of (row A.Store.BitStore O.BitOrder (A.words self.now)) (list_of other.entry) ≡ row A.Store.BitStore O.BitOrder (A.words self.now)) }
+    {
+        self.as_bitslice().is_subset(other)
+    }
+
+    /// Whether each index that is true in `other` is true, 64 at a time.
+    pub fn is_superset<U: BitStore, P: BitOrder>(&self, other: BitSlice<'_, U, P>) -> bool
+        ensures value { result ≡ not (list_any (λ b. b) (and_not_of (list_of other.entry) (row A.Store.BitStore O.BitOrder (A.words self.now)))) }
+        ensures index { IsTrue result ↔ ((j : ℕ) → slice_get (list_of other.entry) j ≡ Some true → slice_get (row A.Store.BitStore O.BitOrder (A.words self.now)) j ≡ Some true) }
+        ensures and { IsTrue result ↔ (and_of (list_of other.entry) (row A.Store.BitStore O.BitOrder (A.words self.now)) ≡ list_of other.entry) }
+    {
+        self.as_bitslice().is_superset(other)
+    }
+
+    /// Whether no index is true both here and in `other`, 64 at a time.
+    pub fn is_disjoint<U: BitStore, P: BitOrder>(&self, other: BitSlice<'_, U, P>) -> bool
+        ensures value { result ≡ not (list_any (λ b. b) (and_of (row A.Store.BitStore O.BitOrder (A.words self.now)) (list_of other.entry))) }
+        ensures index { IsTrue result ↔ ((j : ℕ) → slice_get (row A.Store.BitStore O.BitOrder (A.words self.now)) j ≡ Some true → slice_get (list_of other.entry) j ≢ Some true) }
+    {
+        self.as_bitslice().is_disjoint(other)
+    }
+
+    /// Whether an index is true both here and in `other`, 64 at a time.
+    pub fn intersects<U: BitStore, P: BitOrder>(&self, other: BitSlice<'_, U, P>) -> bool
+        ensures value { result ≡ list_any (λ b. b) (and_of (row A.Store.BitStore O.BitOrder (A.words self.now)) (list_of other.entry)) }
+        ensures index { IsTrue result ↔ SomeIndex (row A.Store.BitStore O.BitOrder (A.words self.now)) (λ j. (slice_get (row A.Store.BitStore O.BitOrder (A.words self.now)) j ≡ Some true) × (slice_get (list_of other.entry) j ≡ Some true)) }
+    {
+        self.as_bitslice().intersects(other)
+    }
+
+    /// How many indices are true both here and in `other`, 64 at a time.
+    pub fn count_and<U: BitStore, P: BitOrder>(&self, other: BitSlice<'_, U, P>) -> usize
+        ensures value { result ≡ count_by (λ b. b) (and_of (row A.Store.BitStore O.BitOrder (A.words self.now)) (list_of other.entry)) }
+        ensures few { result ≤ A.Store.BITS * A.count }
+    {
+        self.as_bitslice().count_and(other)
+    }
+
+    /// How many indices are true here or in `other`, 64 at a time. The shorter list counts as filled up with
+    /// false.
+    pub fn count_or<U: BitStore, P: BitOrder>(&self, other: BitSlice<'_, U, P>) -> usize
+        ensures value { result ≡ count_by (λ b. b) (or_of (row A.Store.BitStore O.BitOrder (A.words self.now)) (list_of other.entry)) + count_by (λ b. b) (drop (A.Store.BITS * A.count) (list_of other.entry)) }
+        ensures with_and { result + count_by (λ b. b) (and_of (row A.Store.BitStore O.BitOrder (A.words self.now)) (list_of other.entry)) ≡ count_by (λ b. b) (row A.Store.BitStore O.BitOrder (A.words self.now)) + count_by (λ b. b) (list_of other.entry) }
+    {
+        self.as_bitslice().count_or(other)
+    }
+
+    /// How many indices differ from those of `other`, 64 at a time. The shorter list counts as filled up with
+    /// false.
+    pub fn count_xor<U: BitStore, P: BitOrder>(&self, other: BitSlice<'_, U, P>) -> usize
+        ensures value { result ≡ count_by (λ b. b) (xor_of (row A.Store.BitStore O.BitOrder (A.words self.now)) (list_of other.entry)) + count_by (λ b. b) (drop (A.Store.BITS * A.count) (list_of other.entry)) }
+        ensures with_and { result + 2 * count_by (λ b. b) (and_of (row A.Store.BitStore O.BitOrder (A.words self.now)) (list_of other.entry)) ≡ count_by (λ b. b) (row A.Store.BitStore O.BitOrder (A.words self.now)) + count_by (λ b. b) (list_of other.entry) }
+    {
+        self.as_bitslice().count_xor(other)
+    }
+}

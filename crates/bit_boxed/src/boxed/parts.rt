@@ -1,0 +1,141 @@
+//! Parts of the box as views, what it begins and ends with, and its bits as a number.
+ghost use Rattle.std.specs.Iterator.{YieldsFirstBy, YieldsLastBy};
+ghost use Rattle.std.specs.Iterator.Runs.{EveryRun, ItemsMapTo, ItemsMapToReversed};
+ghost use Rattle.std.specs.Prelude.{◌≡◌, ◌+◌, ◌-◌, ◌<◌, ◌≤◌, ◌↔◌, ◌++◌, ◌∷◌, [], IfSome, IsTrue, IsNone, drop, length, take, ◌*◌, ◌/◌, ◌^◌};
+ghost use Rattle.bit_addressing.specs.Binary.{value};
+ghost use Rattle.bit_addressing.specs.Row.{binary, number_bits, number_of};
+ghost use Rattle.bit_slice.specs.BitSlice.{len_of, list_of};
+ghost use Rattle.bit_slice.specs.Pieces.{part, chunk_count, chunks_of, exact_chunks_of, back_chunks_of, windows_of};
+
+use crate::boxed::BitBox;
+use bit_addressing::{BitOrder, BitStore};
+use bit_slice::{BitSlice, Chunks, ChunksExact, RChunks, Windows};
+
+impl<T: BitStore, O: BitOrder> BitBox<T, O> {
+    ghost use Rattle.bit_slice.specs.PiecesLeft.{chunks_left, exact_chunks_left, back_chunks_left, windows_left};
+
+    /// The views of the bits before index `mid`, and of those from it on. Requires that `mid` is at most the
+    /// length.
+    pub fn split_at(&self, mid: usize) -> (BitSlice<'_, T, O>, BitSlice<'_, T, O>)
+        requires { mid ≤ length self.now.list }
+        ensures front { list_of result.0 ≡ take mid self.now.list }
+        ensures back { list_of result.1 ≡ drop mid self.now.list }
+        ensures both { self.now.list ≡ list_of result.0 ++ list_of result.1 }
+        ensures front_len { len_of result.0 ≡ mid }
+        ensures back_len { len_of result.1 + mid ≡ length self.now.list }
+    {
+        self.as_bitslice().split_at(mid)
+    }
+
+    /// The first bit, and a view of the others. None exactly where the box is empty.
+    pub fn split_first(&self) -> Option<(bool, BitSlice<'_, T, O>)>
+        ensures none { IsNone result ↔ (length self.now.list ≡ 0) }
+        ensures both { IfSome result (λ r. self.now.list ≡ r.0 ∷ list_of r.1) }
+        ensures rest_len { IfSome result (λ r. len_of r.1 + 1 ≡ length self.now.list) }
+    {
+        self.as_bitslice().split_first()
+    }
+
+    /// The last bit, and a view of the others. None exactly where the box is empty.
+    pub fn split_last(&self) -> Option<(bool, BitSlice<'_, T, O>)>
+        ensures none { IsNone result ↔ (length self.now.list ≡ 0) }
+        ensures both { IfSome result (λ r. self.now.list ≡ list_of r.1 ++ r.0 ∷ []) }
+        ensures rest_len { IfSome result (λ r. len_of r.1 + 1 ≡ length self.now.list) }
+    {
+        self.as_bitslice().split_last()
+    }
+
+    /// Whether the box begins with the bits of `other`.
+    pub fn starts_with<U: BitStore, P: BitOrder>(&self, other: BitSlice<'_, U, P>) -> bool
+        ensures { IsTrue result ↔ (take (len_of other.entry) self.now.list ≡ list_of other.entry) }
+    {
+        self.as_bitslice().starts_with(other)
+    }
+
+    /// Whether the box ends with the bits of `other`.
+    pub fn ends_with<U: BitStore, P: BitOrder>(&self, other: BitSlice<'_, U, P>) -> bool
+        ensures { IsTrue result ↔ (drop (length self.now.list - len_of other.entry) self.now.list ≡ list_of other.entry) }
+    {
+        self.as_bitslice().ends_with(other)
+    }
+
+    /// The view of the chunk of number `k`, of `size` bits: that which `chunks(size)` gives after `k` others.
+    /// Requires that it begins before the end.
+    pub fn chunk(&self, size: usize, k: usize) -> BitSlice<'_, T, O>
+        requires some { 0 < size }
+        requires begins { k * size < length self.now.list }
+        ensures list { list_of result ≡ part size self.now.list (k * size) }
+        ensures most { len_of result ≤ size }
+    {
+        self.as_bitslice().chunk(size, k)
+    }
+
+    /// Views of the parts of `size` bits side by side, from the front and from the end. The last has the bits
+    /// that are left, so it may be shorter. Requires that `size` is not 0.
+    pub fn chunks(&self, size: usize) -> Chunks<'_, T, O>
+        requires some { 0 < size }
+        ensures list { chunks_left result ≡ chunks_of size self.now.list }
+        ensures count { length (chunks_left result) ≡ chunk_count (length self.now.list) size }
+        ensures runs { EveryRun (YieldsFirstBy (list_of {X = T} {Y = O} {W = T.BitStore} {P = O.BitOrder}) (chunks_left {X = T} {Y = O} {W = T.BitStore} {P = O.BitOrder})) (λ p. ItemsMapTo p list_of (chunks_left p.from)) }
+        ensures runs_back { EveryRun (YieldsLastBy (list_of {X = T} {Y = O} {W = T.BitStore} {P = O.BitOrder}) (chunks_left {X = T} {Y = O} {W = T.BitStore} {P = O.BitOrder})) (λ p. ItemsMapToReversed p list_of (chunks_left p.from)) }
+    {
+        self.as_bitslice().chunks(size)
+    }
+
+    /// Views of the parts of `size` bits side by side, from the front and from the end, as many as have that
+    /// many bits. Those that are left are the iterator's `remainder`. Requires that `size` is not 0.
+    pub fn chunks_exact(&self, size: usize) -> ChunksExact<'_, T, O>
+        requires some { 0 < size }
+        ensures list { exact_chunks_left result ≡ exact_chunks_of size self.now.list }
+        ensures count { length (exact_chunks_left result) ≡ length self.now.list / size }
+        ensures runs { EveryRun (YieldsFirstBy (list_of {X = T} {Y = O} {W = T.BitStore} {P = O.BitOrder}) (exact_chunks_left {X = T} {Y = O} {W = T.BitStore} {P = O.BitOrder})) (λ p. ItemsMapTo p list_of (exact_chunks_left p.from)) }
+        ensures runs_back { EveryRun (YieldsLastBy (list_of {X = T} {Y = O} {W = T.BitStore} {P = O.BitOrder}) (exact_chunks_left {X = T} {Y = O} {W = T.BitStore} {P = O.BitOrder})) (λ p. ItemsMapToReversed p list_of (exact_chunks_left p.from)) }
+    {
+        self.as_bitslice().chunks_exact(size)
+    }
+
+    /// Views of the parts of `size` bits side by side, beginning at the end. The last, at the front, has the
+    /// bits that are left, so it may be shorter. Requires that `size` is not 0.
+    pub fn rchunks(&self, size: usize) -> RChunks<'_, T, O>
+        requires some { 0 < size }
+        ensures list { back_chunks_left result ≡ back_chunks_of size self.now.list }
+        ensures count { length (back_chunks_left result) ≡ chunk_count (length self.now.list) size }
+        ensures runs { EveryRun (YieldsFirstBy (list_of {X = T} {Y = O} {W = T.BitStore} {P = O.BitOrder}) (back_chunks_left {X = T} {Y = O} {W = T.BitStore} {P = O.BitOrder})) (λ p. ItemsMapTo p list_of (back_chunks_left p.from)) }
+        ensures runs_back { EveryRun (YieldsLastBy (list_of {X = T} {Y = O} {W = T.BitStore} {P = O.BitOrder}) (back_chunks_left {X = T} {Y = O} {W = T.BitStore} {P = O.BitOrder})) (λ p. ItemsMapToReversed p list_of (back_chunks_left p.from)) }
+    {
+        self.as_bitslice().rchunks(size)
+    }
+
+    /// Views of each `size` neighbouring bits. There are none where the box is shorter. Requires that `size` is
+    /// not 0.
+    pub fn windows(&self, size: usize) -> Windows<'_, T, O>
+        requires some { 0 < size }
+        ensures list { windows_left result ≡ windows_of size self.now.list }
+        ensures count { length (windows_left result) ≡ length self.now.list + 1 - size }
+        ensures runs { EveryRun (YieldsFirstBy (list_of {X = T} {Y = O} {W = T.BitStore} {P = O.BitOrder}) (windows_left {X = T} {Y = O} {W = T.BitStore} {P = O.BitOrder})) (λ p. ItemsMapTo p list_of (windows_left p.from)) }
+        ensures runs_back { EveryRun (YieldsLastBy (list_of {X = T} {Y = O} {W = T.BitStore} {P = O.BitOrder}) (windows_left {X = T} {Y = O} {W = T.BitStore} {P = O.BitOrder})) (λ p. ItemsMapToReversed p list_of (windows_left p.from)) }
+    {
+        self.as_bitslice().windows(size)
+    }
+
+    /// The number whose least significant bit is the first of the list, and whose next bits are the next of it,
+    /// whatever the order of bits in a word. Requires at most 64 bits.
+    pub fn load_le(&self) -> u64
+        requires { length self.now.list ≤ 64 }
+        ensures value { result ≡ number_of self.now.list }
+        ensures bits { number_bits result (length self.now.list) ≡ self.now.list }
+    {
+        self.as_bitslice().load_le()
+    }
+
+    /// The number that the bits of the list write in binary, the first the most significant, whatever the order
+    /// of bits in a word. Requires at most 64 bits.
+    pub fn load_be(&self) -> u64
+        requires { length self.now.list ≤ 64 }
+        ensures value { result ≡ value self.now.list }
+        ensures digits { binary (length self.now.list) result ≡ self.now.list }
+        ensures below { result < 2 ^ (length self.now.list) }
+    {
+        self.as_bitslice().load_be()
+    }
+}

@@ -7,6 +7,7 @@ mod iterating;
 mod laws;
 mod lending;
 mod numbers;
+mod reading;
 mod removing;
 mod rules;
 mod views;

@@ -4,6 +4,7 @@ ghost use Rattle.std.specs.Iterator.Runs.{YieldsInOrder, YieldsInReverse};
 ghost use Rattle.std.specs.List.{list_any, list_all, position, prefix_len, suffix_len, All};
 ghost use Rattle.std.specs.Prelude.{◌≡◌, ℕ, ◌+◌, ◌-◌, ◌*◌, ◌<◌, ◌≤◌, ◌&&◌, ◌↔◌, IsTrue, IfNone, IfSome, EachIndex, SomeIndex, Some, false, length, not, slice_get, true, count_by, ◌≢◌};
 ghost use Rattle.bit_addressing.specs.Typed.{row};
+ghost use Rattle.bit_addressing.specs.declared.length.TheConstants.{MAX_BITS};
 ghost use Rattle.bit_slice.specs.BitSlice.{len_of, list_of};
 ghost use Rattle.bit_slice.specs.Pieces.{part};
 ghost use Rattle.bit_slice.specs.Places.{ones_of, zeros_of};
@@ -151,6 +152,7 @@ impl<A: BitWords, O: BitOrder> BitArray<A, O> {
     pub fn iter_ones(&self) -> IterOnes<'_, A::Store, O>
         ensures list { ones_left result ≡ ones_of (row A.Store.BitStore O.BitOrder (A.words self.now)) }
         ensures count { length (ones_left result) ≡ count_by (λ b. b) (row A.Store.BitStore O.BitOrder (A.words self.now)) }
+        ensures few { length (ones_left result) ≤ MAX_BITS }
         ensures set { All (λ i. slice_get (row A.Store.BitStore O.BitOrder (A.words self.now)) i ≡ Some true) (ones_left result) }
         ensures inside { All (λ i. i < A.Store.BITS * A.count) (ones_left result) }
         ensures runs { YieldsInOrder (YieldsFirst (ones_left {X = A.Store} {Y = O} {W = A.Store.BitStore} {P = O.BitOrder})) ones_left }
@@ -163,6 +165,7 @@ impl<A: BitWords, O: BitOrder> BitArray<A, O> {
     pub fn iter_zeros(&self) -> IterZeros<'_, A::Store, O>
         ensures list { zeros_left result ≡ zeros_of (row A.Store.BitStore O.BitOrder (A.words self.now)) }
         ensures count { length (zeros_left result) ≡ count_by not (row A.Store.BitStore O.BitOrder (A.words self.now)) }
+        ensures few { length (zeros_left result) ≤ MAX_BITS }
         ensures set { All (λ i. slice_get (row A.Store.BitStore O.BitOrder (A.words self.now)) i ≡ Some false) (zeros_left result) }
         ensures inside { All (λ i. i < A.Store.BITS * A.count) (zeros_left result) }
         ensures runs { YieldsInOrder (YieldsFirst (zeros_left {X = A.Store} {Y = O} {W = A.Store.BitStore} {P = O.BitOrder})) zeros_left }
@@ -175,6 +178,7 @@ impl<A: BitWords, O: BitOrder> BitArray<A, O> {
     /// they stand nowhere. Each index is tried, 64 bits at a time, up to the first that differs.
     pub fn find<U: BitStore, P: BitOrder>(&self, other: BitSlice<'_, U, P>) -> Option<usize>
         ensures inside { IfSome result (λ i. i + len_of other.entry ≤ A.Store.BITS * A.count) }
+        ensures few { IfSome result (λ i. i + len_of other.entry ≤ MAX_BITS) }
         ensures found { IfSome result (λ i. part (len_of other.entry) (row A.Store.BitStore O.BitOrder (A.words self.now)) i ≡ list_of other.entry) }
         ensures before { IfSome result (λ i. (j : ℕ) → j < i → part (len_of other.entry) (row A.Store.BitStore O.BitOrder (A.words self.now)) j ≢ list_of other.entry) }
         ensures none { IfNone result ((j : ℕ) → j + len_of other.entry ≤ A.Store.BITS * A.count → part (len_of other.entry) (row A.Store.BitStore O.BitOrder (A.words self.now)) j ≢ list_of other.entry) }

@@ -3,6 +3,7 @@ ghost use Rattle.std.specs.Iterator.{YieldsFirst, YieldsLast};
 ghost use Rattle.std.specs.Iterator.Runs.{YieldsInOrder, YieldsInReverse};
 ghost use Rattle.std.specs.List.{list_any, list_all, position, prefix_len, suffix_len, All};
 ghost use Rattle.std.specs.Prelude.{◌≡◌, ℕ, ◌+◌, ◌-◌, ◌<◌, ◌≤◌, ◌&&◌, ◌↔◌, IsTrue, IfNone, IfSome, EachIndex, SomeIndex, Some, false, length, not, slice_get, true, count_by, ◌≢◌};
+ghost use Rattle.bit_addressing.specs.declared.length.TheConstants.{MAX_BITS};
 ghost use Rattle.bit_slice.specs.BitSlice.{len_of, list_of};
 ghost use Rattle.bit_slice.specs.Pieces.{part};
 ghost use Rattle.bit_slice.specs.Places.{ones_of, zeros_of};
@@ -149,6 +150,7 @@ impl<T: BitStore, O: BitOrder> BitBox<T, O> {
     pub fn iter_ones(&self) -> IterOnes<'_, T, O>
         ensures list { ones_left result ≡ ones_of self.now.list }
         ensures count { length (ones_left result) ≡ count_by (λ b. b) self.now.list }
+        ensures few { length (ones_left result) ≤ MAX_BITS }
         ensures set { All (λ i. slice_get self.now.list i ≡ Some true) (ones_left result) }
         ensures inside { All (λ i. i < length self.now.list) (ones_left result) }
         ensures runs { YieldsInOrder (YieldsFirst (ones_left {X = T} {Y = O} {W = T.BitStore} {P = O.BitOrder})) ones_left }
@@ -161,6 +163,7 @@ impl<T: BitStore, O: BitOrder> BitBox<T, O> {
     pub fn iter_zeros(&self) -> IterZeros<'_, T, O>
         ensures list { zeros_left result ≡ zeros_of self.now.list }
         ensures count { length (zeros_left result) ≡ count_by not self.now.list }
+        ensures few { length (zeros_left result) ≤ MAX_BITS }
         ensures set { All (λ i. slice_get self.now.list i ≡ Some false) (zeros_left result) }
         ensures inside { All (λ i. i < length self.now.list) (zeros_left result) }
         ensures runs { YieldsInOrder (YieldsFirst (zeros_left {X = T} {Y = O} {W = T.BitStore} {P = O.BitOrder})) zeros_left }
@@ -173,6 +176,7 @@ impl<T: BitStore, O: BitOrder> BitBox<T, O> {
     /// they stand nowhere. Each index is tried, 64 bits at a time, up to the first that differs.
     pub fn find<U: BitStore, P: BitOrder>(&self, other: BitSlice<'_, U, P>) -> Option<usize>
         ensures inside { IfSome result (λ i. i + len_of other.entry ≤ length self.now.list) }
+        ensures few { IfSome result (λ i. i + len_of other.entry ≤ MAX_BITS) }
         ensures found { IfSome result (λ i. part (len_of other.entry) self.now.list i ≡ list_of other.entry) }
         ensures before { IfSome result (λ i. (j : ℕ) → j < i → part (len_of other.entry) self.now.list j ≢ list_of other.entry) }
         ensures none { IfNone result ((j : ℕ) → j + len_of other.entry ≤ length self.now.list → part (len_of other.entry) self.now.list j ≢ list_of other.entry) }

@@ -1,5 +1,5 @@
 //! Callers of the searches, indices, sets and parts of the containers.
-ghost use Rattle.std.specs.Prelude.{◌≡◌, ◌≢◌, ℕ, ◌+◌, ◌-◌, ◌*◌, ◌/◌, ◌<◌, ◌≤◌, ◌↔◌, ◌++◌, EachIndex, slice_range, IfOk, IfSome, IsTrue, Some, count_by, drop, false, length, map, not, replicate, reverse, slice_get, take, true};
+ghost use Rattle.std.specs.Prelude.{◌≡◌, [], ◌∷◌, ◌≢◌, ℕ, ◌+◌, ◌-◌, ◌*◌, ◌/◌, ◌<◌, ◌≤◌, ◌↔◌, ◌++◌, EachIndex, slice_range, IfOk, IfSome, IsTrue, Some, count_by, drop, false, length, map, not, replicate, reverse, slice_get, take, true};
 ghost use Rattle.bit_addressing.specs.Binary.{value};
 ghost use Rattle.bit_addressing.specs.Typed.{row};
 ghost use Rattle.bit_slice.specs.BitSlice.{len_of, list_of};
@@ -61,11 +61,7 @@ pub fn after_last<T: BitStore, O: BitOrder>(b: &BitBox<T, O>, j: usize) -> Optio
 pub fn in_the_leading_run<T: BitStore, O: BitOrder>(v: &BitVec<T, O>, j: usize) -> Option<bool>
     ensures { IfSome result (λ b. b ≡ true) }
 {
-    if j < v.leading_ones() {
-        v.get(j)
-    } else {
-        None
-    }
+    if j < v.leading_ones() { v.get(j) } else { None }
 }
 
 pub fn same_counts<T: BitStore, O: BitOrder>(v: &BitVec<T, O>, b: &BitBox<T, O>) -> bool
@@ -83,11 +79,11 @@ pub fn listed<T: BitStore, O: BitOrder>(
     v.iter_ones().collect::<Vec<usize>>(alloc)
 }
 
-pub fn listed_backward(
+pub fn listed_backward<T: BitStore, O: BitOrder>(
     alloc: Global,
-    a: &BitArray<[u16; 3], Msb0>,
+    a: &BitArray<[T; 3], O>,
 ) -> Result<Vec<usize>, AllocError>
-    ensures { IfOk result (λ all. all.items ≡ reverse (zeros_of (row U16BitStore Msb0BitOrder a.now))) }
+    ensures { IfOk result (λ all. all.items ≡ reverse (zeros_of (row T.BitStore O.BitOrder a.now))) }
 {
     a.iter_zeros().rev().collect::<Vec<usize>>(alloc)
 }
@@ -113,11 +109,16 @@ pub fn set_in_both<T: BitStore, O: BitOrder, U: BitStore, P: BitOrder>(
     }
 }
 
-pub fn differing<T: BitStore, O: BitOrder>(b: &BitBox<T, O>, v: &BitVec<T, O>) -> bool
+pub fn counted_without_a_copy<T: BitStore, O: BitOrder>(
+    v: &mut BitVec<T, O>,
+    b: &BitBox<T, O>,
+) -> bool
     ensures { IsTrue result }
 {
-    let there = v.as_bitslice();
-    b.count_xor(there) + b.count_and(there) == b.count_or(there)
+    let there = b.as_bitslice();
+    let count = v.count_and(there);
+    v.and_bits(there);
+    v.count_ones() == count
 }
 
 pub fn disjoint_or_not<T: BitStore, O: BitOrder>(
@@ -191,14 +192,8 @@ pub fn how_many_windows<T: BitStore, O: BitOrder>(v: &BitVec<T, O>, n: usize) ->
     v.windows(n).len()
 }
 
-pub fn second_byte(a: &BitArray<[u8; 4], Msb0>) -> u64
-    ensures { result ≡ value (slice_range (row U8BitStore Msb0BitOrder a.now) 8 16) }
+pub fn same_numbers(a: &BitArray<[u8; 4], Msb0>) -> bool
+    ensures { IsTrue result }
 {
-    a.get_range(8..16).load_be()
-}
-
-pub fn number_of_a_word<O: BitOrder>(a: &BitArray<u64, O>) -> u64
-    ensures { result ≡ value (row U64BitStore O.BitOrder (a.now ∷ [])) }
-{
-    a.load_be()
+    a.load_be() == a.as_bitslice().load_be() && a.get_range(8..16).load_be() < 256
 }

@@ -8,8 +8,10 @@ use bit_addressing::{BitOrder, BitStore, Lsb0, MAX_BITS, exact_words};
 use std::marker::{Model, PhantomData};
 
 mod iter;
+mod moves;
 mod ops;
 mod parts;
+mod ranges;
 mod search;
 mod sets;
 mod slice;

@@ -1,5 +1,7 @@
 //! Examples, and each public call once.
+mod reading;
 mod slice;
+mod writing;
 
 use crate::{BitArray, BitViewSized, BitWords, IntoIter, TryFromBitSliceError};
 use bit_addressing::{BitOrder, Lsb0, Msb0};

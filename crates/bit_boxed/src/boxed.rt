@@ -20,8 +20,10 @@ use std::boxed::BoxedSlice;
 use std::marker::{Model, PhantomData};
 
 mod iter;
+mod moves;
 mod ops;
 mod parts;
+mod ranges;
 mod search;
 mod sets;
 mod slice;

@@ -1,6 +1,8 @@
 //! Examples, and each public call once.
 mod memory;
+mod reading;
 mod slice;
+mod writing;
 
 use crate::{BitBox, IntoIter};
 use bit_addressing::{BitOrder, BitStore, Lsb0, Msb0};

@@ -6,4 +6,6 @@ pub mod Examples
 pub mod Items
 pub mod Lends
 pub mod Machine
+pub mod Making
 pub mod Splice
+pub mod Text

@@ -13,6 +13,9 @@ pub use bit_addressing::{
 };
 pub use bit_array as array;
 pub use bit_boxed as boxed;
-pub use bit_slice::{BitSlice, BitSliceMut, Counted, CountedMut, Iter, run_mut};
+pub use bit_slice::{
+    AndNot, BitSlice, BitSliceMut, Chunks, ChunksExact, Counted, CountedMut, Iter, IterOnes,
+    IterZeros, RChunks, Windows, combine_words, run_mut,
+};
 pub use machine::{Command, Reply, Stop, run};
-pub use vec::{BitVec, Drain, IntoBitVec, Items, Splice};
+pub use vec::{BitVec, Drain, IntoBitVec, Items, ParseBitsError, Splice, ToBits};

@@ -4,11 +4,14 @@ mod converting;
 mod copies;
 mod edits;
 mod growing;
+mod making;
 mod moves;
 mod operators;
+mod reading;
 mod removing;
 mod text;
 mod words;
+mod writing;
 
 use crate::{BitOrder, BitStore, BitVec};
 use std::process::Abort;

@@ -24,13 +24,18 @@ mod elements;
 mod extend;
 mod items;
 mod iter;
+mod making;
+mod moves;
 mod numbers;
 mod ops;
 mod parts;
+mod ranges;
 mod search;
 mod sets;
 mod slice;
 mod splice;
+mod text;
+mod to_bits;
 mod traits;
 mod views;
 
@@ -39,6 +44,8 @@ pub use convert::IntoBitVec;
 pub use drain::Drain;
 pub use items::Items;
 pub use splice::Splice;
+pub use text::ParseBitsError;
+pub use to_bits::ToBits;
 
 /// A vector of truth values, one bit each, in words of type `T`, in the order `O` of the bits in a word.
 ///

@@ -19,3 +19,4 @@ pub mod Owned
 pub mod Clean
 pub mod Rules
 pub mod Parting
+pub mod Overwritten

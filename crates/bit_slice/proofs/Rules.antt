@@ -1,6 +1,6 @@
 -- Rules for callers: what follows of lists of bits that are combined, flipped or counted. A crate of callers names those that it needs in the line at its head.
 use Rattle.std.proofs.Common.{◌≡◌, ℕ, zero, suc, ◌+◌, ◌≤◌, Bool, true, false, not, cond, ◌&&◌, ◌||◌, List, [], ◌∷◌, map, length, replicate, refl, ap, arith}
-use Rattle.std.specs.Prelude.{Option, Some, None, slice_get, count_by, if◌then◌else◌}
+use Rattle.std.specs.Prelude.{count_by, if◌then◌else◌}
 use Rattle.std.proofs.lemmas.List.{length-map}
 use Rattle.std.proofs.lemmas.List.Sums.{sum_by-cons}
 use Rattle.bit_slice.specs.Operators.{combined, and_of, or_of, xor_of, CombinesEach, AndsEach, OrsEach, XorsEach, FlipsEach}

@@ -1,5 +1,5 @@
 -- Runs of a row, item by item: what a view shows and what an iterator has left.
-use Rattle.std.proofs.Common.{◌≡◌, ℕ, suc, ◌+◌, ◌-◌, ◌<◌, ◌≤◌, Bool, true, false, not, List, [], ◌∷◌, ◌++◌, length, take, drop, set, get_or, slice_range, count_by, refl, sym, ◌∙◌, ap, arith, swap, cond}
+use Rattle.std.proofs.Common.{◌≡◌, ℕ, suc, ◌+◌, ◌-◌, ◌<◌, ◌≤◌, Bool, false, not, List, [], ◌∷◌, ◌++◌, length, take, drop, set, get_or, slice_range, count_by, refl, sym, ◌∙◌, ap, arith, swap}
 use Rattle.std.proofs.lemmas.List.{drop_more, take_all, length-set, get_or-take, get_or-drop}
 use Rattle.std.proofs.lemmas.List.Edits.{between_more, swap_is}
 use Rattle.bit_addressing.specs.Row.{put, moved}

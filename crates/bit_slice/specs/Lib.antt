@@ -15,3 +15,4 @@ pub mod Texts
 pub mod Owned
 pub mod Pulls
 pub mod Clean
+pub mod Overwritten

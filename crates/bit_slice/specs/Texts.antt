@@ -1,5 +1,5 @@
 -- The digits that a list of bits is written as.
-use Rattle.std.specs.Prelude.{◌≡◌, ◌⊎◌, ℕ, zero, suc, ◌+◌, ◌*◌, Bool, true, false, cond, List, [], ◌∷◌, ◌++◌, length, take, drop, codes, refl}
+use Rattle.std.specs.Prelude.{◌≡◌, ◌⊎◌, ℕ, zero, suc, Bool, true, false, List, [], ◌∷◌, ◌++◌, length, take, drop, codes, refl}
 use Rattle.std.specs.Fmt.{digit_glyph}
 use Rattle.bit_addressing.specs.Row.{words_for}
 use Rattle.bit_addressing.specs.Binary.{value_after}

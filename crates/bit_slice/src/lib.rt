@@ -6,6 +6,7 @@
 mod counted;
 mod counted_mut;
 mod edits;
+mod held;
 mod iter;
 mod ops;
 mod run;
@@ -20,6 +21,11 @@ pub use counted_mut::CountedMut;
 pub use edits::{
     AndNot, combine_within, flip_in_vec, flip_words, reverse_words, rotate_words, shift_words_left,
     shift_words_right,
+};
+pub use held::{
+    combine_range_in_vec, combine_within_in_vec, copy_into_in_vec, fill_range_in_vec,
+    flip_range_in_vec, reverse_in_vec, rotate_in_vec, shift_left_in_vec, shift_right_in_vec,
+    store_be_in_vec, store_le_in_vec,
 };
 pub use iter::Iter;
 pub use ops::{combine_in_vec, combine_words, order_of_bits};

@@ -1,5 +1,4 @@
 mod compared;
 mod counted;
 mod orders;
-mod searched;
 mod views;

@@ -31,7 +31,10 @@ impl<A: BitWords, O: BitOrder> BitArray<A, O> {
 
 impl<A: BitViewSized, O: BitOrder> BitArray<A, O> {
     /// Makes each bit into the one that `F` makes of it and of the one at its index in a view, or of false past its end.
-    fn combine<F: BitOperator, U: BitStore, P: BitOrder>(&mut self, other: BitSlice<'_, U, P>)
+    pub(crate) fn combine<F: BitOperator, U: BitStore, P: BitOrder>(
+        &mut self,
+        other: BitSlice<'_, U, P>,
+    )
         ensures list { row A.Store.BitStore O.BitOrder (A.words self.new) ≡ combined F.made (row A.Store.BitStore O.BitOrder (A.words self.old)) (list_of other.entry) }
         ensures index { CombinesEach F.made (row A.Store.BitStore O.BitOrder (A.words self.old)) (list_of other.entry) (row A.Store.BitStore O.BitOrder (A.words self.new)) }
     {

@@ -32,7 +32,7 @@ impl<A: BitWords, O: BitOrder> BitArray<A, O> {
     /// The first bit, and a view of the others. None exactly where the array is empty.
     pub fn split_first(&self) -> Option<(bool, BitSlice<'_, A::Store, O>)>
         ensures none { IsNone result ↔ (A.Store.BITS * A.count ≡ 0) }
-        ensures both { IfSome result (λ r. (row A.Store.BitStore O.BitOrder (A.words self.now)) ≡ r.0 ∷ list_of r.1) }
+        ensures both { IfSome result (λ r. row A.Store.BitStore O.BitOrder (A.words self.now) ≡ r.0 ∷ list_of r.1) }
         ensures rest_len { IfSome result (λ r. len_of r.1 + 1 ≡ A.Store.BITS * A.count) }
     {
         self.as_bitslice().split_first()
@@ -41,7 +41,7 @@ impl<A: BitWords, O: BitOrder> BitArray<A, O> {
     /// The last bit, and a view of the others. None exactly where the array is empty.
     pub fn split_last(&self) -> Option<(bool, BitSlice<'_, A::Store, O>)>
         ensures none { IsNone result ↔ (A.Store.BITS * A.count ≡ 0) }
-        ensures both { IfSome result (λ r. (row A.Store.BitStore O.BitOrder (A.words self.now)) ≡ list_of r.1 ++ r.0 ∷ []) }
+        ensures both { IfSome result (λ r. row A.Store.BitStore O.BitOrder (A.words self.now) ≡ list_of r.1 ++ r.0 ∷ []) }
         ensures rest_len { IfSome result (λ r. len_of r.1 + 1 ≡ A.Store.BITS * A.count) }
     {
         self.as_bitslice().split_last()

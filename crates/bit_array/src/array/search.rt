@@ -21,6 +21,7 @@ impl<A: BitWords, O: BitOrder> BitArray<A, O> {
     pub fn first_one(&self) -> Option<usize>
         ensures value { result ≡ position (λ b. b) (row A.Store.BitStore O.BitOrder (A.words self.now)) }
         ensures inside { IfSome result (λ i. i < A.Store.BITS * A.count) }
+        ensures few { IfSome result (λ i. i < MAX_BITS) }
         ensures found { IfSome result (λ i. slice_get (row A.Store.BitStore O.BitOrder (A.words self.now)) i ≡ Some true) }
         ensures before { IfSome result (λ i. (j : ℕ) → j < i → slice_get (row A.Store.BitStore O.BitOrder (A.words self.now)) j ≡ Some false) }
         ensures none { IfNone result (EachIndex (row A.Store.BitStore O.BitOrder (A.words self.now)) (λ j. slice_get (row A.Store.BitStore O.BitOrder (A.words self.now)) j ≡ Some false)) }
@@ -32,6 +33,7 @@ impl<A: BitWords, O: BitOrder> BitArray<A, O> {
     pub fn first_zero(&self) -> Option<usize>
         ensures value { result ≡ position not (row A.Store.BitStore O.BitOrder (A.words self.now)) }
         ensures inside { IfSome result (λ i. i < A.Store.BITS * A.count) }
+        ensures few { IfSome result (λ i. i < MAX_BITS) }
         ensures found { IfSome result (λ i. slice_get (row A.Store.BitStore O.BitOrder (A.words self.now)) i ≡ Some false) }
         ensures before { IfSome result (λ i. (j : ℕ) → j < i → slice_get (row A.Store.BitStore O.BitOrder (A.words self.now)) j ≡ Some true) }
         ensures none { IfNone result (EachIndex (row A.Store.BitStore O.BitOrder (A.words self.now)) (λ j. slice_get (row A.Store.BitStore O.BitOrder (A.words self.now)) j ≡ Some true)) }
@@ -42,6 +44,7 @@ impl<A: BitWords, O: BitOrder> BitArray<A, O> {
     /// The index of the last bit that is true. None exactly where none is.
     pub fn last_one(&self) -> Option<usize>
         ensures inside { IfSome result (λ i. i < A.Store.BITS * A.count) }
+        ensures few { IfSome result (λ i. i < MAX_BITS) }
         ensures found { IfSome result (λ i. slice_get (row A.Store.BitStore O.BitOrder (A.words self.now)) i ≡ Some true) }
         ensures after { IfSome result (λ i. (j : ℕ) → i < j → j < A.Store.BITS * A.count → slice_get (row A.Store.BitStore O.BitOrder (A.words self.now)) j ≡ Some false) }
         ensures none { IfNone result (EachIndex (row A.Store.BitStore O.BitOrder (A.words self.now)) (λ j. slice_get (row A.Store.BitStore O.BitOrder (A.words self.now)) j ≡ Some false)) }
@@ -52,6 +55,7 @@ impl<A: BitWords, O: BitOrder> BitArray<A, O> {
     /// The index of the last bit that is false. None exactly where none is.
     pub fn last_zero(&self) -> Option<usize>
         ensures inside { IfSome result (λ i. i < A.Store.BITS * A.count) }
+        ensures few { IfSome result (λ i. i < MAX_BITS) }
         ensures found { IfSome result (λ i. slice_get (row A.Store.BitStore O.BitOrder (A.words self.now)) i ≡ Some false) }
         ensures after { IfSome result (λ i. (j : ℕ) → i < j → j < A.Store.BITS * A.count → slice_get (row A.Store.BitStore O.BitOrder (A.words self.now)) j ≡ Some true) }
         ensures none { IfNone result (EachIndex (row A.Store.BitStore O.BitOrder (A.words self.now)) (λ j. slice_get (row A.Store.BitStore O.BitOrder (A.words self.now)) j ≡ Some true)) }
@@ -64,6 +68,7 @@ impl<A: BitWords, O: BitOrder> BitArray<A, O> {
     pub fn next_one(&self, from: usize) -> Option<usize>
         ensures begins { IfSome result (λ i. from ≤ i) }
         ensures inside { IfSome result (λ i. i < A.Store.BITS * A.count) }
+        ensures few { IfSome result (λ i. i < MAX_BITS) }
         ensures found { IfSome result (λ i. slice_get (row A.Store.BitStore O.BitOrder (A.words self.now)) i ≡ Some true) }
         ensures before { IfSome result (λ i. (j : ℕ) → from ≤ j → j < i → slice_get (row A.Store.BitStore O.BitOrder (A.words self.now)) j ≡ Some false) }
         ensures none { IfNone result ((j : ℕ) → from ≤ j → j < A.Store.BITS * A.count → slice_get (row A.Store.BitStore O.BitOrder (A.words self.now)) j ≡ Some false) }
@@ -76,6 +81,7 @@ impl<A: BitWords, O: BitOrder> BitArray<A, O> {
     pub fn next_zero(&self, from: usize) -> Option<usize>
         ensures begins { IfSome result (λ i. from ≤ i) }
         ensures inside { IfSome result (λ i. i < A.Store.BITS * A.count) }
+        ensures few { IfSome result (λ i. i < MAX_BITS) }
         ensures found { IfSome result (λ i. slice_get (row A.Store.BitStore O.BitOrder (A.words self.now)) i ≡ Some false) }
         ensures before { IfSome result (λ i. (j : ℕ) → from ≤ j → j < i → slice_get (row A.Store.BitStore O.BitOrder (A.words self.now)) j ≡ Some true) }
         ensures none { IfNone result ((j : ℕ) → from ≤ j → j < A.Store.BITS * A.count → slice_get (row A.Store.BitStore O.BitOrder (A.words self.now)) j ≡ Some true) }

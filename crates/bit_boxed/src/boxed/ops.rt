@@ -30,7 +30,10 @@ impl<T: BitStore, O: BitOrder> BitBox<T, O> {
 
     /// Makes each bit into the one that `F` makes of it and of the one at its index in a view, or of false past its end.
     #[tactic(auto, using(bit_slice::proofs::Parts::shown_length))]
-    fn combine<F: BitOperator, U: BitStore, P: BitOrder>(&mut self, other: BitSlice<'_, U, P>)
+    pub(crate) fn combine<F: BitOperator, U: BitStore, P: BitOrder>(
+        &mut self,
+        other: BitSlice<'_, U, P>,
+    )
         ensures list { self.new.list ≡ combined F.made self.old.list (list_of other.entry) }
         ensures index { CombinesEach F.made self.old.list (list_of other.entry) self.new.list }
         ensures row { self.new.row ≡ put self.old.row self.old.head (combined F.made self.old.list (list_of other.entry)) }

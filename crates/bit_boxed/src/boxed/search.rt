@@ -19,6 +19,7 @@ impl<T: BitStore, O: BitOrder> BitBox<T, O> {
     pub fn first_one(&self) -> Option<usize>
         ensures value { result ≡ position (λ b. b) self.now.list }
         ensures inside { IfSome result (λ i. i < length self.now.list) }
+        ensures few { IfSome result (λ i. i < MAX_BITS) }
         ensures found { IfSome result (λ i. slice_get self.now.list i ≡ Some true) }
         ensures before { IfSome result (λ i. (j : ℕ) → j < i → slice_get self.now.list j ≡ Some false) }
         ensures none { IfNone result (EachIndex self.now.list (λ j. slice_get self.now.list j ≡ Some false)) }
@@ -30,6 +31,7 @@ impl<T: BitStore, O: BitOrder> BitBox<T, O> {
     pub fn first_zero(&self) -> Option<usize>
         ensures value { result ≡ position not self.now.list }
         ensures inside { IfSome result (λ i. i < length self.now.list) }
+        ensures few { IfSome result (λ i. i < MAX_BITS) }
         ensures found { IfSome result (λ i. slice_get self.now.list i ≡ Some false) }
         ensures before { IfSome result (λ i. (j : ℕ) → j < i → slice_get self.now.list j ≡ Some true) }
         ensures none { IfNone result (EachIndex self.now.list (λ j. slice_get self.now.list j ≡ Some true)) }
@@ -40,6 +42,7 @@ impl<T: BitStore, O: BitOrder> BitBox<T, O> {
     /// The index of the last bit that is true. None exactly where none is.
     pub fn last_one(&self) -> Option<usize>
         ensures inside { IfSome result (λ i. i < length self.now.list) }
+        ensures few { IfSome result (λ i. i < MAX_BITS) }
         ensures found { IfSome result (λ i. slice_get self.now.list i ≡ Some true) }
         ensures after { IfSome result (λ i. (j : ℕ) → i < j → j < length self.now.list → slice_get self.now.list j ≡ Some false) }
         ensures none { IfNone result (EachIndex self.now.list (λ j. slice_get self.now.list j ≡ Some false)) }
@@ -50,6 +53,7 @@ impl<T: BitStore, O: BitOrder> BitBox<T, O> {
     /// The index of the last bit that is false. None exactly where none is.
     pub fn last_zero(&self) -> Option<usize>
         ensures inside { IfSome result (λ i. i < length self.now.list) }
+        ensures few { IfSome result (λ i. i < MAX_BITS) }
         ensures found { IfSome result (λ i. slice_get self.now.list i ≡ Some false) }
         ensures after { IfSome result (λ i. (j : ℕ) → i < j → j < length self.now.list → slice_get self.now.list j ≡ Some true) }
         ensures none { IfNone result (EachIndex self.now.list (λ j. slice_get self.now.list j ≡ Some true)) }
@@ -62,6 +66,7 @@ impl<T: BitStore, O: BitOrder> BitBox<T, O> {
     pub fn next_one(&self, from: usize) -> Option<usize>
         ensures begins { IfSome result (λ i. from ≤ i) }
         ensures inside { IfSome result (λ i. i < length self.now.list) }
+        ensures few { IfSome result (λ i. i < MAX_BITS) }
         ensures found { IfSome result (λ i. slice_get self.now.list i ≡ Some true) }
         ensures before { IfSome result (λ i. (j : ℕ) → from ≤ j → j < i → slice_get self.now.list j ≡ Some false) }
         ensures none { IfNone result ((j : ℕ) → from ≤ j → j < length self.now.list → slice_get self.now.list j ≡ Some false) }
@@ -74,6 +79,7 @@ impl<T: BitStore, O: BitOrder> BitBox<T, O> {
     pub fn next_zero(&self, from: usize) -> Option<usize>
         ensures begins { IfSome result (λ i. from ≤ i) }
         ensures inside { IfSome result (λ i. i < length self.now.list) }
+        ensures few { IfSome result (λ i. i < MAX_BITS) }
         ensures found { IfSome result (λ i. slice_get self.now.list i ≡ Some false) }
         ensures before { IfSome result (λ i. (j : ℕ) → from ≤ j → j < i → slice_get self.now.list j ≡ Some true) }
         ensures none { IfNone result ((j : ℕ) → from ≤ j → j < length self.now.list → slice_get self.now.list j ≡ Some true) }

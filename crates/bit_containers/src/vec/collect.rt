@@ -26,6 +26,9 @@ impl<T: BitStore, O: BitOrder> BitVec<T, O> {
     /// Returns `TooLong` at the first bit with which the length would pass `MAX_BITS`, and `OutOfMemory` only where
     /// the length would pass the capacity and not `MAX_BITS`; then it pulls no more, and leaves the list. What was
     /// pulled is gone.
+    ///
+    /// The list is known of every source whose runs are: a `Vec<bool>`, an `Option<bool>`, the bits of another vector by
+    /// `into_iter` or `iter`, mapped or not. For a view or for words there are calls that copy by whole words.
     pub fn extend<I: IntoIterator<Item = bool>>(&mut self, iter: I) -> Result<(), GrowError>
         requires { IsFiniteIterable I.into_iter_gives I.IntoIter.can_next I.IntoIter.remaining iter }
         ensures joined { OnOk result (GivesAll I.into_iter_gives I.IntoIter.next_gives iter (λ bits. (self.new.list ≡ self.old.list ++ bits) × Grew T.BITS self.old self.new bits)) }

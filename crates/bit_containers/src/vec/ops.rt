@@ -1,12 +1,13 @@
 //! The vector compared and combined with views, and its operators.
-ghost use Rattle.std.specs.Prelude.{◌≡◌, ◌↔◌, IsTrue, not, map};
-ghost use Rattle.bit_addressing.specs.Row.{put};
-ghost use Rattle.bit_containers.specs.BitVec.{Stayed, IsClean};
-ghost use Rattle.bit_slice.specs.BitSlice.{list_of};
+ghost use Rattle.std.specs.Prelude.{◌≡◌, ◌+◌, ◌-◌, ◌≤◌, ◌<◌, ◌↔◌, false, ◌||◌, if◌then◌else◌, IsTrue, IsOk, OnOk, length, max, not, map, replicate};
+ghost use Rattle.bit_addressing.specs.Row.{put, sized};
+ghost use Rattle.bit_containers.specs.BitVec.{Stayed, IsClean, RefusesOnly};
+ghost use Rattle.bit_containers.specs.Making.{filled_up, CombinesAll};
+ghost use Rattle.bit_slice.specs.BitSlice.{len_of, list_of};
 ghost use Rattle.bit_slice.specs.Operators.{bits_cmp, combined, and_of, or_of, xor_of, AndsEach, OrsEach, XorsEach, CombinesEach, FlipsEach};
 
 use crate::vec::BitVec;
-use bit_addressing::{And, BitOperator, BitOrder, BitStore, Or, Xor, flip_bits_in_vec};
+use bit_addressing::{And, BitOperator, BitOrder, BitStore, GrowError, Or, Xor, flip_bits_in_vec};
 use bit_slice::{BitSlice, combine_in_vec};
 use std::cmp::Ordering;
 use std::ops::{BitAnd, BitAndAssign, BitOr, BitOrAssign, BitXor, BitXorAssign, Index, Not};
@@ -30,7 +31,10 @@ impl<T: BitStore, O: BitOrder> BitVec<T, O> {
 
     /// Makes each bit into the one that `F` makes of it and of the one at its index in a view, or of false past its end.
     #[tactic(auto, using(bit_slice::proofs::Parts::shown_length))]
-    fn combine<F: BitOperator, U: BitStore, P: BitOrder>(&mut self, other: BitSlice<'_, U, P>)
+    pub(crate) fn combine<F: BitOperator, U: BitStore, P: BitOrder>(
+        &mut self,
+        other: BitSlice<'_, U, P>,
+    )
         ensures list { self.new.list ≡ combined F.made self.old.list (list_of other.entry) }
         ensures index { CombinesEach F.made self.old.list (list_of other.entry) self.new.list }
         ensures row { self.new.row ≡ put self.old.row self.old.head (combined F.made self.old.list (list_of other.entry)) }
@@ -75,6 +79,94 @@ impl<T: BitStore, O: BitOrder> BitVec<T, O> {
         ensures stayed { Stayed self.old self.new }
     {
         self.combine::<Xor, U, P>(other);
+    }
+
+    // Appends false up to `n` bits where there are fewer.
+    #[tactic(auto, using(crate::proofs::Making::not_filled))]
+    fn fill_up(&mut self, n: usize) -> Result<(), GrowError>
+        ensures list { OnOk result (self.new.list ≡ filled_up self.old.list n) }
+        ensures len { OnOk result (length self.new.list ≡ max (length self.old.list) n) }
+        ensures head { self.new.head ≡ self.old.head }
+        ensures row { OnOk result (self.new.row ≡ put (sized T.BITS self.old.row (self.old.head + length self.new.list)) (self.old.head + length self.old.list) (replicate (n - length self.old.list) false)) }
+        ensures clean { OnOk result (IsClean T.BITS self.old → IsClean T.BITS self.new) }
+        ensures refusal { RefusesOnly result n self.old self.new }
+        ensures capacity { self.old.capacity ≤ self.new.capacity }
+        ensures no_memory { n ≤ length self.old.list → IsOk result × (self.new ≡ self.old) }
+    {
+        self.in_words();
+        if n > self.len {
+            self.resize(n, false)?;
+        }
+        Ok(())
+    }
+
+    // Makes each bit into the one that `F` makes of it and of the one at its index in a view. The shorter side
+    // counts as filled up with false, and the vector becomes as long as the longer one.
+    fn combine_growing<F: BitOperator, U: BitStore, P: BitOrder>(
+        &mut self,
+        other: BitSlice<'_, U, P>,
+    ) -> Result<(), GrowError>
+        ensures list { OnOk result (self.new.list ≡ combined F.made (filled_up self.old.list (len_of other.entry)) (list_of other.entry)) }
+        ensures len { OnOk result (length self.new.list ≡ max (length self.old.list) (len_of other.entry)) }
+        ensures index { OnOk result (CombinesAll F.made self.old.list (list_of other.entry) self.new.list) }
+        ensures head { self.new.head ≡ self.old.head }
+        ensures row { OnOk result (self.new.row ≡ put (sized T.BITS self.old.row (self.old.head + length self.new.list)) self.old.head self.new.list) }
+        ensures clean { OnOk result (IsClean T.BITS self.old → IsClean T.BITS self.new) }
+        ensures refusal { RefusesOnly result (len_of other.entry) self.old self.new }
+        ensures capacity { self.old.capacity ≤ self.new.capacity }
+        ensures no_memory { len_of other.entry ≤ length self.old.list → IsOk result × (self.new.capacity ≡ self.old.capacity) }
+    {
+        self.fill_up(other.len())?;
+        self.combine::<F, U, P>(other);
+        Ok(())
+    }
+
+    /// Sets each bit that is true in a view, which may be longer: the vector becomes as long as the longer of both, and
+    /// the shorter counts as filled up with false. It returns `TooLong` exactly where the view has more than `MAX_BITS`
+    /// bits, and `OutOfMemory` only where it has more than the capacity; a refusal leaves the vector. Where the
+    /// view is not longer it takes no memory and always succeeds.
+    ///
+    /// ```text
+    /// of the bits 1, 0 and a view of 0, 0, 0, 1:  v.or_growing(view)?     // 1, 0, 0, 1
+    /// ```
+    pub fn or_growing<U: BitStore, P: BitOrder>(
+        &mut self,
+        other: BitSlice<'_, U, P>,
+    ) -> Result<(), GrowError>
+        ensures list { OnOk result (self.new.list ≡ or_of (filled_up self.old.list (len_of other.entry)) (list_of other.entry)) }
+        ensures len { OnOk result (length self.new.list ≡ max (length self.old.list) (len_of other.entry)) }
+        ensures index { OnOk result (CombinesAll (λ x y. x || y) self.old.list (list_of other.entry) self.new.list) }
+        ensures head { self.new.head ≡ self.old.head }
+        ensures row { OnOk result (self.new.row ≡ put (sized T.BITS self.old.row (self.old.head + length self.new.list)) self.old.head self.new.list) }
+        ensures clean { OnOk result (IsClean T.BITS self.old → IsClean T.BITS self.new) }
+        ensures refusal { RefusesOnly result (len_of other.entry) self.old self.new }
+        ensures capacity { self.old.capacity ≤ self.new.capacity }
+        ensures no_memory { len_of other.entry ≤ length self.old.list → IsOk result × (self.new.capacity ≡ self.old.capacity) }
+    {
+        self.combine_growing::<Or, U, P>(other)
+    }
+
+    /// Flips each bit that is true in a view, which may be longer: the vector becomes as long as the longer of both, and
+    /// the shorter counts as filled up with false. It is refused like `or_growing`, and takes memory where that does.
+    ///
+    /// ```text
+    /// of the bits 1, 1 and a view of 1, 0, 1:  v.xor_growing(view)?      // 0, 1, 1
+    /// ```
+    pub fn xor_growing<U: BitStore, P: BitOrder>(
+        &mut self,
+        other: BitSlice<'_, U, P>,
+    ) -> Result<(), GrowError>
+        ensures list { OnOk result (self.new.list ≡ xor_of (filled_up self.old.list (len_of other.entry)) (list_of other.entry)) }
+        ensures len { OnOk result (length self.new.list ≡ max (length self.old.list) (len_of other.entry)) }
+        ensures index { OnOk result (CombinesAll (λ x y. if x then not y else y) self.old.list (list_of other.entry) self.new.list) }
+        ensures head { self.new.head ≡ self.old.head }
+        ensures row { OnOk result (self.new.row ≡ put (sized T.BITS self.old.row (self.old.head + length self.new.list)) self.old.head self.new.list) }
+        ensures clean { OnOk result (IsClean T.BITS self.old → IsClean T.BITS self.new) }
+        ensures refusal { RefusesOnly result (len_of other.entry) self.old self.new }
+        ensures capacity { self.old.capacity ≤ self.new.capacity }
+        ensures no_memory { len_of other.entry ≤ length self.old.list → IsOk result × (self.new.capacity ≡ self.old.capacity) }
+    {
+        self.combine_growing::<Xor, U, P>(other)
     }
 
     /// Flips the whole row: the bits of the list, and the dead ones too. Takes no memory.

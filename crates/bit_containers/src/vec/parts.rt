@@ -134,7 +134,7 @@ impl<T: BitStore, O: BitOrder> BitVec<T, O> {
         requires { length self.now.list ≤ 64 }
         ensures value { result ≡ value self.now.list }
         ensures digits { binary (length self.now.list) result ≡ self.now.list }
-        ensures below { result < 2 ^ (length self.now.list) }
+        ensures below { result < 2 ^ length self.now.list }
     {
         self.as_bitslice().load_be()
     }

@@ -63,6 +63,9 @@ impl<T: BitStore, O: BitOrder> BitVec<T, O> {
 
     /// Replaces the bits at a range of indices by what an iterator gives, once the splice is finished; until then it
     /// gives the bits of the range. Requires that the range lies in the length.
+    ///
+    /// The list is known where the source owns what it gives: a `Vec<bool>`, an `Option<bool>`, a vector's `into_iter`,
+    /// mapped or not. Of a source that borrows, as `iter()` or `by_ref()`, it can't be proved: collect it first.
     pub fn splice<R: RangeExt, U: IntoIterator<Item = bool>>(
         &mut self,
         range: R,

@@ -1,12 +1,9 @@
-use Rattle.std.proofs.Common.{◌&&◌, not, ◌+◌, slice_range, sym, ◌∙◌, ap}
+use Rattle.std.proofs.Common.{◌+◌, ◌∙◌, ap}
 use Rattle.bit_addressing.specs.Typed.{row}
 use Rattle.bit_addressing.proofs.lists.Shown.{length-run}
-use Rattle.bit_slice.proofs.Parts.{in_row, row_size}
-use Rattle.bit_slice.proofs.Shown.{shown_filled, put_all}
+use Rattle.bit_slice.proofs.Parts.{in_row}
 use Rattle.bit_slice.proofs.Ranges.{cleared_where, kept_where}
 use Rattle.std.proofs.Common.{slice_get}
-use Rattle.bit_slice.proofs.Combining.{length-combined}
-use Rattle.bit_slice.specs.Operators.{and_not_of}
 use Rattle.bit_slice.specs.BitSlice.{list_of as list_seen}
 use Rattle.bit_slice.specs.BitSliceMut.{list_of}
 use Rattle.bit_slice.proofs.slice_mut.BitSliceMut.and_not_bits.Goals as goal

@@ -1,0 +1,21 @@
+use Rattle.std.proofs.Common.{◌≡◌, ◌-◌, ◌++◌, take, replicate, false, length, ◌∙◌, ap, arith}
+use Rattle.std.proofs.lemmas.List.{length-append, length-take, length-replicate}
+use Rattle.bit_array.proofs.Arrays.{row_rewritten}
+use Rattle.bit_addressing.specs.Typed.{row}
+use Rattle.bit_array.proofs.array.BitArray.shift_right.Goals as goal
+
+pub returns : goal.returns
+returns g c =
+    let W = g.A.Store.BitStore in
+    let P = g.O.BitOrder in
+    let n = g.A.BitWords.count in
+    let old = c.as_raw_mut_slice-words.result.now in
+    let new = c.shift_words_right.new.words in
+    let same : length new ≡ n = c.shift_words_right.ensures.size ∙ c.as_raw_mut_slice-words.ensures.len in
+    let back = c.as_raw_mut_slice-words.ensures.value ∙ ap g.A.BitWords.words c.self.view_is in
+    let few = c.requires in
+    let size = c.len-len.ensures.value in
+    ap (row W P) (g.met.A.BitViewSized.kept c.self.inside.inner new same)
+    ∙ row_rewritten W P old new (λ l. replicate c.args.by false ++ take (c.len-len.result - c.args.by) l) n c.len-len.result c.as_raw_mut_slice-words.ensures.len c.len-len.ensures.value (λ xs e. omega (arith, e, few, size, length-append (replicate c.args.by false) (take (c.len-len.result - c.args.by) xs), length-take (c.len-len.result - c.args.by) xs, length-replicate c.args.by false)) c.shift_words_right.ensures.bits
+    ∙ ap (λ ws. replicate c.args.by false ++ take (c.len-len.result - c.args.by) (row W P ws)) back
+    ∙ ap (λ k. replicate c.args.by false ++ take (k - c.args.by) (row W P (g.A.BitWords.words c.args.self.now))) size

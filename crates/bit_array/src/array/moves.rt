@@ -1,0 +1,110 @@
+//! The bits of the array in another order, reversed, rotated and shifted, and combined with others of it.
+ghost use Rattle.std.specs.Prelude.{◌≡◌, ◌+◌, ◌-◌, ◌*◌, ◌≤◌, ◌++◌, drop, false, replicate, reverse, slice_range, take};
+ghost use Rattle.bit_addressing.specs.Range.{LiesIn};
+ghost use Rattle.bit_addressing.specs.Row.{put};
+ghost use Rattle.bit_addressing.specs.Typed.{row};
+ghost use Rattle.bit_slice.specs.Operators.{combined, and_of, or_of, xor_of};
+
+use crate::array::BitArray;
+use crate::sized::{BitViewSized, BitWords};
+use bit_addressing::{And, BitOperator, BitOrder, BitStore, Or, RangeExt, Xor};
+use bit_slice::{combine_within, reverse_words, rotate_words, shift_words_left, shift_words_right};
+
+impl<A: BitViewSized, O: BitOrder> BitArray<A, O> {
+    /// Reverses the bits.
+    pub fn reverse(&mut self)
+        ensures { row A.Store.BitStore O.BitOrder (A.words self.new) ≡ reverse (row A.Store.BitStore O.BitOrder (A.words self.old)) }
+    {
+        let len = self.len();
+        let words = self.inner.as_raw_mut_slice();
+        reverse_words::<A::Store, O>(words, 0, len);
+    }
+
+    /// Moves the first `by` bits after the others. Requires that `by` is at most the length.
+    pub fn rotate_left(&mut self, by: usize)
+        requires { by ≤ A.Store.BITS * A.count }
+        ensures { row A.Store.BitStore O.BitOrder (A.words self.new) ≡ drop by (row A.Store.BitStore O.BitOrder (A.words self.old)) ++ take by (row A.Store.BitStore O.BitOrder (A.words self.old)) }
+    {
+        let len = self.len();
+        let words = self.inner.as_raw_mut_slice();
+        rotate_words::<A::Store, O>(words, 0, len, by);
+    }
+
+    /// Moves the last `by` bits before the others. Requires that `by` is at most the length.
+    pub fn rotate_right(&mut self, by: usize)
+        requires { by ≤ A.Store.BITS * A.count }
+        ensures { row A.Store.BitStore O.BitOrder (A.words self.new) ≡ drop (A.Store.BITS * A.count - by) (row A.Store.BitStore O.BitOrder (A.words self.old)) ++ take (A.Store.BITS * A.count - by) (row A.Store.BitStore O.BitOrder (A.words self.old)) }
+    {
+        let len = self.len();
+        let words = self.inner.as_raw_mut_slice();
+        rotate_words::<A::Store, O>(words, 0, len, len - by);
+    }
+
+    /// Moves each bit `by` indices towards the front: the first `by` go, and the last `by` are false. Requires that
+    /// `by` is at most the length.
+    pub fn shift_left(&mut self, by: usize)
+        requires { by ≤ A.Store.BITS * A.count }
+        ensures { row A.Store.BitStore O.BitOrder (A.words self.new) ≡ drop by (row A.Store.BitStore O.BitOrder (A.words self.old)) ++ replicate by false }
+    {
+        let len = self.len();
+        let words = self.inner.as_raw_mut_slice();
+        shift_words_left::<A::Store, O>(words, 0, len, by);
+    }
+
+    /// Moves each bit `by` indices towards the end: the last `by` go, and the first `by` are false. Requires that
+    /// `by` is at most the length.
+    pub fn shift_right(&mut self, by: usize)
+        requires { by ≤ A.Store.BITS * A.count }
+        ensures { row A.Store.BitStore O.BitOrder (A.words self.new) ≡ replicate by false ++ take (A.Store.BITS * A.count - by) (row A.Store.BitStore O.BitOrder (A.words self.old)) }
+    {
+        let len = self.len();
+        let words = self.inner.as_raw_mut_slice();
+        shift_words_right::<A::Store, O>(words, 0, len, by);
+    }
+
+    // Makes each bit from `dest` on into the one that `F` makes of it and of the one at its index of a range, as if the
+    // range was read before any bit is written. Requires that the range lies in the length, and as many bits from `dest` on.
+    fn combine_within<F: BitOperator, R: RangeExt>(&mut self, range: R, dest: usize)
+        requires lies { LiesIn (R.start_of range) (R.end_of range (A.Store.BITS * A.count)) (A.Store.BITS * A.count) }
+        requires room { dest + (R.end_of range (A.Store.BITS * A.count) - R.start_of range) ≤ A.Store.BITS * A.count }
+        ensures { row A.Store.BitStore O.BitOrder (A.words self.new) ≡ put (row A.Store.BitStore O.BitOrder (A.words self.old)) dest (combined F.made (slice_range (row A.Store.BitStore O.BitOrder (A.words self.old)) dest (dest + (R.end_of range (A.Store.BITS * A.count) - R.start_of range))) (slice_range (row A.Store.BitStore O.BitOrder (A.words self.old)) (R.start_of range) (R.end_of range (A.Store.BITS * A.count)))) }
+    {
+        let range = range.normalize(self.len());
+        let count = range.end - range.start;
+        let words = self.inner.as_raw_mut_slice();
+        combine_within::<F, A::Store, O>(words, range.start, dest, count);
+    }
+
+    /// Clears each of the bits from `dest` on that is false at its index of a range, as if the range was
+    /// read before any bit is written. The two may overlap. Requires that the range lies in the length, and as
+    /// many bits from `dest` on.
+    pub fn and_within<R: RangeExt>(&mut self, range: R, dest: usize)
+        requires lies { LiesIn (R.start_of range) (R.end_of range (A.Store.BITS * A.count)) (A.Store.BITS * A.count) }
+        requires room { dest + (R.end_of range (A.Store.BITS * A.count) - R.start_of range) ≤ A.Store.BITS * A.count }
+        ensures { row A.Store.BitStore O.BitOrder (A.words self.new) ≡ put (row A.Store.BitStore O.BitOrder (A.words self.old)) dest (and_of (slice_range (row A.Store.BitStore O.BitOrder (A.words self.old)) dest (dest + (R.end_of range (A.Store.BITS * A.count) - R.start_of range))) (slice_range (row A.Store.BitStore O.BitOrder (A.words self.old)) (R.start_of range) (R.end_of range (A.Store.BITS * A.count)))) }
+    {
+        self.combine_within::<And, R>(range, dest);
+    }
+
+    /// Sets each of the bits from `dest` on that is true at its index of a range, as if the range was
+    /// read before any bit is written. The two may overlap. Requires that the range lies in the length, and as
+    /// many bits from `dest` on.
+    pub fn or_within<R: RangeExt>(&mut self, range: R, dest: usize)
+        requires lies { LiesIn (R.start_of range) (R.end_of range (A.Store.BITS * A.count)) (A.Store.BITS * A.count) }
+        requires room { dest + (R.end_of range (A.Store.BITS * A.count) - R.start_of range) ≤ A.Store.BITS * A.count }
+        ensures { row A.Store.BitStore O.BitOrder (A.words self.new) ≡ put (row A.Store.BitStore O.BitOrder (A.words self.old)) dest (or_of (slice_range (row A.Store.BitStore O.BitOrder (A.words self.old)) dest (dest + (R.end_of range (A.Store.BITS * A.count) - R.start_of range))) (slice_range (row A.Store.BitStore O.BitOrder (A.words self.old)) (R.start_of range) (R.end_of range (A.Store.BITS * A.count)))) }
+    {
+        self.combine_within::<Or, R>(range, dest);
+    }
+
+    /// Flips each of the bits from `dest` on that is true at its index of a range, as if the range was
+    /// read before any bit is written. The two may overlap. Requires that the range lies in the length, and as
+    /// many bits from `dest` on.
+    pub fn xor_within<R: RangeExt>(&mut self, range: R, dest: usize)
+        requires lies { LiesIn (R.start_of range) (R.end_of range (A.Store.BITS * A.count)) (A.Store.BITS * A.count) }
+        requires room { dest + (R.end_of range (A.Store.BITS * A.count) - R.start_of range) ≤ A.Store.BITS * A.count }
+        ensures { row A.Store.BitStore O.BitOrder (A.words self.new) ≡ put (row A.Store.BitStore O.BitOrder (A.words self.old)) dest (xor_of (slice_range (row A.Store.BitStore O.BitOrder (A.words self.old)) dest (dest + (R.end_of range (A.Store.BITS * A.count) - R.start_of range))) (slice_range (row A.Store.BitStore O.BitOrder (A.words self.old)) (R.start_of range) (R.end_of range (A.Store.BITS * A.count)))) }
+    {
+        self.combine_within::<Xor, R>(range, dest);
+    }
+}

@@ -1,0 +1,139 @@
+//! The bits of the box in another order, reversed, rotated and shifted, and combined with others of it.
+ghost use Rattle.std.specs.Prelude.{◌≡◌, ◌+◌, ◌-◌, ◌≤◌, ◌++◌, drop, false, length, replicate, reverse, slice_range, take};
+ghost use Rattle.bit_addressing.specs.Range.{LiesIn};
+ghost use Rattle.bit_addressing.specs.Row.{put};
+ghost use Rattle.bit_boxed.specs.BitBox.{IsClean, Stayed};
+ghost use Rattle.bit_slice.specs.Operators.{combined, and_of, or_of, xor_of};
+
+use crate::boxed::BitBox;
+use bit_addressing::{And, BitOperator, BitOrder, BitStore, Or, RangeExt, Xor};
+use bit_slice::{
+    combine_within_in_vec, reverse_in_vec, rotate_in_vec, shift_left_in_vec, shift_right_in_vec,
+};
+
+impl<T: BitStore, O: BitOrder> BitBox<T, O> {
+    /// Reverses the list. No dead bit changes. Takes no memory.
+    #[tactic(auto, using(bit_slice::proofs::Parts::shown_length))]
+    pub fn reverse(&mut self)
+        ensures list { self.new.list ≡ reverse self.old.list }
+        ensures row { self.new.row ≡ put self.old.row self.old.head (reverse self.old.list) }
+        ensures clean { IsClean T.BITS self.old → IsClean T.BITS self.new }
+        ensures stayed { Stayed self.old self.new }
+    {
+        let (head, len) = (self.head, self.len);
+        reverse_in_vec::<T, O>(&mut self.words, head, len);
+    }
+
+    /// Moves the first `by` bits after the others. No dead bit changes. Takes no memory. Requires that `by` is at
+    /// most the length.
+    #[tactic(auto, using(bit_slice::proofs::Parts::shown_length))]
+    pub fn rotate_left(&mut self, by: usize)
+        requires { by ≤ length self.old.list }
+        ensures list { self.new.list ≡ drop by self.old.list ++ take by self.old.list }
+        ensures row { self.new.row ≡ put self.old.row self.old.head (drop by self.old.list ++ take by self.old.list) }
+        ensures clean { IsClean T.BITS self.old → IsClean T.BITS self.new }
+        ensures stayed { Stayed self.old self.new }
+    {
+        let (head, len) = (self.head, self.len);
+        rotate_in_vec::<T, O>(&mut self.words, head, len, by);
+    }
+
+    /// Moves the last `by` bits before the others. No dead bit changes. Takes no memory. Requires that `by` is at
+    /// most the length.
+    #[tactic(auto, using(bit_slice::proofs::Parts::shown_length))]
+    pub fn rotate_right(&mut self, by: usize)
+        requires { by ≤ length self.old.list }
+        ensures list { self.new.list ≡ drop (length self.old.list - by) self.old.list ++ take (length self.old.list - by) self.old.list }
+        ensures row { self.new.row ≡ put self.old.row self.old.head (drop (length self.old.list - by) self.old.list ++ take (length self.old.list - by) self.old.list) }
+        ensures clean { IsClean T.BITS self.old → IsClean T.BITS self.new }
+        ensures stayed { Stayed self.old self.new }
+    {
+        let (head, len) = (self.head, self.len);
+        rotate_in_vec::<T, O>(&mut self.words, head, len, len - by);
+    }
+
+    /// Moves each bit `by` indices towards the front: the first `by` go, and the last `by` are false. No dead bit
+    /// changes. Takes no memory. Requires that `by` is at most the length.
+    #[tactic(auto, using(bit_slice::proofs::Parts::shown_length))]
+    pub fn shift_left(&mut self, by: usize)
+        requires { by ≤ length self.old.list }
+        ensures list { self.new.list ≡ drop by self.old.list ++ replicate by false }
+        ensures row { self.new.row ≡ put self.old.row self.old.head (drop by self.old.list ++ replicate by false) }
+        ensures clean { IsClean T.BITS self.old → IsClean T.BITS self.new }
+        ensures stayed { Stayed self.old self.new }
+    {
+        let (head, len) = (self.head, self.len);
+        shift_left_in_vec::<T, O>(&mut self.words, head, len, by);
+    }
+
+    /// Moves each bit `by` indices towards the end: the last `by` go, and the first `by` are false. No dead bit
+    /// changes. Takes no memory. Requires that `by` is at most the length.
+    #[tactic(auto, using(bit_slice::proofs::Parts::shown_length))]
+    pub fn shift_right(&mut self, by: usize)
+        requires { by ≤ length self.old.list }
+        ensures list { self.new.list ≡ replicate by false ++ take (length self.old.list - by) self.old.list }
+        ensures row { self.new.row ≡ put self.old.row self.old.head (replicate by false ++ take (length self.old.list - by) self.old.list) }
+        ensures clean { IsClean T.BITS self.old → IsClean T.BITS self.new }
+        ensures stayed { Stayed self.old self.new }
+    {
+        let (head, len) = (self.head, self.len);
+        shift_right_in_vec::<T, O>(&mut self.words, head, len, by);
+    }
+
+    // Makes each bit from `dest` on into the one that `F` makes of it and of the one at its index of a range, as if the
+    // range was read before any bit is written. Requires that the range lies in the length, and as many bits from `dest` on.
+    #[tactic(auto, using(bit_slice::proofs::Parts::shown_length))]
+    fn combine_within<F: BitOperator, R: RangeExt>(&mut self, range: R, dest: usize)
+        requires lies { LiesIn (R.start_of range) (R.end_of range (length self.old.list)) (length self.old.list) }
+        requires room { dest + (R.end_of range (length self.old.list) - R.start_of range) ≤ length self.old.list }
+        ensures list { self.new.list ≡ put self.old.list dest (combined F.made (slice_range self.old.list dest (dest + (R.end_of range (length self.old.list) - R.start_of range))) (slice_range self.old.list (R.start_of range) (R.end_of range (length self.old.list)))) }
+        ensures row { self.new.row ≡ put self.old.row (self.old.head + dest) (combined F.made (slice_range self.old.list dest (dest + (R.end_of range (length self.old.list) - R.start_of range))) (slice_range self.old.list (R.start_of range) (R.end_of range (length self.old.list)))) }
+        ensures clean { IsClean T.BITS self.old → IsClean T.BITS self.new }
+        ensures stayed { Stayed self.old self.new }
+    {
+        let (head, len) = (self.head, self.len);
+        combine_within_in_vec::<F, T, O, R>(&mut self.words, head, len, range, dest);
+    }
+
+    /// Clears each of the bits from `dest` on that is false at its index of a range, as if the range was
+    /// read before any bit is written. The two may overlap. Takes no memory. Requires that the range lies in the
+    /// length, and as many bits from `dest` on.
+    pub fn and_within<R: RangeExt>(&mut self, range: R, dest: usize)
+        requires lies { LiesIn (R.start_of range) (R.end_of range (length self.old.list)) (length self.old.list) }
+        requires room { dest + (R.end_of range (length self.old.list) - R.start_of range) ≤ length self.old.list }
+        ensures list { self.new.list ≡ put self.old.list dest (and_of (slice_range self.old.list dest (dest + (R.end_of range (length self.old.list) - R.start_of range))) (slice_range self.old.list (R.start_of range) (R.end_of range (length self.old.list)))) }
+        ensures row { self.new.row ≡ put self.old.row (self.old.head + dest) (and_of (slice_range self.old.list dest (dest + (R.end_of range (length self.old.list) - R.start_of range))) (slice_range self.old.list (R.start_of range) (R.end_of range (length self.old.list)))) }
+        ensures clean { IsClean T.BITS self.old → IsClean T.BITS self.new }
+        ensures stayed { Stayed self.old self.new }
+    {
+        self.combine_within::<And, R>(range, dest);
+    }
+
+    /// Sets each of the bits from `dest` on that is true at its index of a range, as if the range was
+    /// read before any bit is written. The two may overlap. Takes no memory. Requires that the range lies in the
+    /// length, and as many bits from `dest` on.
+    pub fn or_within<R: RangeExt>(&mut self, range: R, dest: usize)
+        requires lies { LiesIn (R.start_of range) (R.end_of range (length self.old.list)) (length self.old.list) }
+        requires room { dest + (R.end_of range (length self.old.list) - R.start_of range) ≤ length self.old.list }
+        ensures list { self.new.list ≡ put self.old.list dest (or_of (slice_range self.old.list dest (dest + (R.end_of range (length self.old.list) - R.start_of range))) (slice_range self.old.list (R.start_of range) (R.end_of range (length self.old.list)))) }
+        ensures row { self.new.row ≡ put self.old.row (self.old.head + dest) (or_of (slice_range self.old.list dest (dest + (R.end_of range (length self.old.list) - R.start_of range))) (slice_range self.old.list (R.start_of range) (R.end_of range (length self.old.list)))) }
+        ensures clean { IsClean T.BITS self.old → IsClean T.BITS self.new }
+        ensures stayed { Stayed self.old self.new }
+    {
+        self.combine_within::<Or, R>(range, dest);
+    }
+
+    /// Flips each of the bits from `dest` on that is true at its index of a range, as if the range was
+    /// read before any bit is written. The two may overlap. Takes no memory. Requires that the range lies in the
+    /// length, and as many bits from `dest` on.
+    pub fn xor_within<R: RangeExt>(&mut self, range: R, dest: usize)
+        requires lies { LiesIn (R.start_of range) (R.end_of range (length self.old.list)) (length self.old.list) }
+        requires room { dest + (R.end_of range (length self.old.list) - R.start_of range) ≤ length self.old.list }
+        ensures list { self.new.list ≡ put self.old.list dest (xor_of (slice_range self.old.list dest (dest + (R.end_of range (length self.old.list) - R.start_of range))) (slice_range self.old.list (R.start_of range) (R.end_of range (length self.old.list)))) }
+        ensures row { self.new.row ≡ put self.old.row (self.old.head + dest) (xor_of (slice_range self.old.list dest (dest + (R.end_of range (length self.old.list) - R.start_of range))) (slice_range self.old.list (R.start_of range) (R.end_of range (length self.old.list)))) }
+        ensures clean { IsClean T.BITS self.old → IsClean T.BITS self.new }
+        ensures stayed { Stayed self.old self.new }
+    {
+        self.combine_within::<Xor, R>(range, dest);
+    }
+}

@@ -1,0 +1,182 @@
+//! Changes of a part of the box, and of all of it.
+ghost use Rattle.std.specs.Option.{option_map};
+ghost use Rattle.std.specs.Prelude.{◌≡◌, ◌+◌, ◌-◌, ◌<◌, ◌≤◌, false, length, map, not, replicate, set, slice_get, slice_index_or, slice_range};
+ghost use Rattle.bit_addressing.specs.Range.{LiesIn};
+ghost use Rattle.bit_addressing.specs.Row.{binary, number_bits, put};
+ghost use Rattle.bit_boxed.specs.BitBox.{IsClean, Stayed};
+ghost use Rattle.bit_slice.specs.BitSlice.{len_of, list_of};
+ghost use Rattle.bit_slice.specs.Operators.{combined, and_of, or_of, xor_of, and_not_of};
+
+use crate::boxed::BitBox;
+use bit_addressing::{And, BitOperator, BitOrder, BitStore, Or, RangeExt, Xor};
+use bit_slice::{
+    AndNot, BitSlice, combine_range_in_vec, copy_into_in_vec, fill_range_in_vec, flip_range_in_vec,
+    store_be_in_vec, store_le_in_vec,
+};
+
+impl<T: BitStore, O: BitOrder> BitBox<T, O> {
+    /// Writes `bit` at each index of a range, and no other bit. Takes no memory. Requires that the range lies in
+    /// the length.
+    #[tactic(auto, using(bit_slice::proofs::Parts::shown_length))]
+    pub fn fill_range<R: RangeExt>(&mut self, range: R, bit: bool)
+        requires lies { LiesIn (R.start_of range) (R.end_of range (length self.old.list)) (length self.old.list) }
+        ensures list { self.new.list ≡ put self.old.list (R.start_of range) (replicate (R.end_of range (length self.old.list) - R.start_of range) bit) }
+        ensures row { self.new.row ≡ put self.old.row (self.old.head + R.start_of range) (replicate (R.end_of range (length self.old.list) - R.start_of range) bit) }
+        ensures clean { IsClean T.BITS self.old → IsClean T.BITS self.new }
+        ensures stayed { Stayed self.old self.new }
+    {
+        let (head, len) = (self.head, self.len);
+        fill_range_in_vec::<T, O, R>(&mut self.words, head, len, range, bit);
+    }
+
+    /// Flips the bit at each index of a range, and no other bit. Takes no memory. Requires that the range lies in
+    /// the length.
+    #[tactic(auto, using(bit_slice::proofs::Parts::shown_length))]
+    pub fn flip_range<R: RangeExt>(&mut self, range: R)
+        requires lies { LiesIn (R.start_of range) (R.end_of range (length self.old.list)) (length self.old.list) }
+        ensures list { self.new.list ≡ put self.old.list (R.start_of range) (map not (slice_range self.old.list (R.start_of range) (R.end_of range (length self.old.list)))) }
+        ensures row { self.new.row ≡ put self.old.row (self.old.head + R.start_of range) (map not (slice_range self.old.list (R.start_of range) (R.end_of range (length self.old.list)))) }
+        ensures clean { IsClean T.BITS self.old → IsClean T.BITS self.new }
+        ensures stayed { Stayed self.old self.new }
+    {
+        let (head, len) = (self.head, self.len);
+        flip_range_in_vec::<T, O, R>(&mut self.words, head, len, range);
+    }
+
+    /// Flips the bit at `i`, and no other bit. Takes no memory. Requires that `i` is below the length.
+    pub fn flip(&mut self, i: usize)
+        requires { i < length self.old.list }
+        ensures list { self.new.list ≡ set self.old.list i (not (slice_index_or self.old.list i false)) }
+        ensures row { self.new.row ≡ set self.old.row (self.old.head + i) (not (slice_index_or self.old.list i false)) }
+        ensures item { slice_get self.new.list i ≡ option_map not (slice_get self.old.list i) }
+        ensures clean { IsClean T.BITS self.old → IsClean T.BITS self.new }
+        ensures stayed { Stayed self.old self.new }
+    {
+        let bit = self[i];
+        self.set(i, !bit);
+    }
+
+    /// Clears each bit that is true in a view. No dead bit changes. Takes no memory.
+    pub fn and_not_bits<U: BitStore, P: BitOrder>(&mut self, other: BitSlice<'_, U, P>)
+        ensures list { self.new.list ≡ and_not_of self.old.list (list_of other.entry) }
+        ensures row { self.new.row ≡ put self.old.row self.old.head (and_not_of self.old.list (list_of other.entry)) }
+        ensures clean { IsClean T.BITS self.old → IsClean T.BITS self.new }
+        ensures stayed { Stayed self.old self.new }
+    {
+        self.combine::<AndNot, U, P>(other);
+    }
+
+    /// Writes the bits of a view, by whatever words and order, at the indices of a range, and no other bit. Takes
+    /// no memory. Requires that the range lies in the length, and is as long as the view.
+    #[tactic(auto, using(bit_slice::proofs::Parts::shown_length))]
+    pub fn copy_into<R: RangeExt, U: BitStore, P: BitOrder>(
+        &mut self,
+        range: R,
+        source: BitSlice<'_, U, P>,
+    )
+        requires lies { LiesIn (R.start_of range) (R.end_of range (length self.old.list)) (length self.old.list) }
+        requires same_len { len_of source ≡ R.end_of range (length self.old.list) - R.start_of range }
+        ensures list { self.new.list ≡ put self.old.list (R.start_of range) (list_of source.entry) }
+        ensures row { self.new.row ≡ put self.old.row (self.old.head + R.start_of range) (list_of source.entry) }
+        ensures clean { IsClean T.BITS self.old → IsClean T.BITS self.new }
+        ensures stayed { Stayed self.old self.new }
+    {
+        let (head, len) = (self.head, self.len);
+        copy_into_in_vec::<T, O, R, U, P>(&mut self.words, head, len, range, source);
+    }
+
+    // Makes each bit at the indices of a range into the one that `F` makes of it and of the one in a view, or of false
+    // past its end. Requires that the range lies in the length.
+    #[tactic(auto, using(bit_slice::proofs::Parts::shown_length))]
+    fn combine_range<F: BitOperator, R: RangeExt, U: BitStore, P: BitOrder>(
+        &mut self,
+        range: R,
+        other: BitSlice<'_, U, P>,
+    )
+        requires lies { LiesIn (R.start_of range) (R.end_of range (length self.old.list)) (length self.old.list) }
+        ensures list { self.new.list ≡ put self.old.list (R.start_of range) (combined F.made (slice_range self.old.list (R.start_of range) (R.end_of range (length self.old.list))) (list_of other.entry)) }
+        ensures row { self.new.row ≡ put self.old.row (self.old.head + R.start_of range) (combined F.made (slice_range self.old.list (R.start_of range) (R.end_of range (length self.old.list))) (list_of other.entry)) }
+        ensures clean { IsClean T.BITS self.old → IsClean T.BITS self.new }
+        ensures stayed { Stayed self.old self.new }
+    {
+        let (head, len) = (self.head, self.len);
+        combine_range_in_vec::<F, T, O, R, U, P>(&mut self.words, head, len, range, other);
+    }
+
+    /// Clears each bit at the indices of a range that is false in a view, or that the view is too short for: the
+    /// first bit of the view is for the first of the range. Takes no memory. Requires that the range lies in the
+    /// length.
+    pub fn and_range<R: RangeExt, U: BitStore, P: BitOrder>(
+        &mut self,
+        range: R,
+        other: BitSlice<'_, U, P>,
+    )
+        requires lies { LiesIn (R.start_of range) (R.end_of range (length self.old.list)) (length self.old.list) }
+        ensures list { self.new.list ≡ put self.old.list (R.start_of range) (and_of (slice_range self.old.list (R.start_of range) (R.end_of range (length self.old.list))) (list_of other.entry)) }
+        ensures row { self.new.row ≡ put self.old.row (self.old.head + R.start_of range) (and_of (slice_range self.old.list (R.start_of range) (R.end_of range (length self.old.list))) (list_of other.entry)) }
+        ensures clean { IsClean T.BITS self.old → IsClean T.BITS self.new }
+        ensures stayed { Stayed self.old self.new }
+    {
+        self.combine_range::<And, R, U, P>(range, other);
+    }
+
+    /// Sets each bit at the indices of a range that is true in a view: the first bit of the view is for the first
+    /// of the range. Takes no memory. Requires that the range lies in the length.
+    pub fn or_range<R: RangeExt, U: BitStore, P: BitOrder>(
+        &mut self,
+        range: R,
+        other: BitSlice<'_, U, P>,
+    )
+        requires lies { LiesIn (R.start_of range) (R.end_of range (length self.old.list)) (length self.old.list) }
+        ensures list { self.new.list ≡ put self.old.list (R.start_of range) (or_of (slice_range self.old.list (R.start_of range) (R.end_of range (length self.old.list))) (list_of other.entry)) }
+        ensures row { self.new.row ≡ put self.old.row (self.old.head + R.start_of range) (or_of (slice_range self.old.list (R.start_of range) (R.end_of range (length self.old.list))) (list_of other.entry)) }
+        ensures clean { IsClean T.BITS self.old → IsClean T.BITS self.new }
+        ensures stayed { Stayed self.old self.new }
+    {
+        self.combine_range::<Or, R, U, P>(range, other);
+    }
+
+    /// Flips each bit at the indices of a range that is true in a view: the first bit of the view is for the first
+    /// of the range. Takes no memory. Requires that the range lies in the length.
+    pub fn xor_range<R: RangeExt, U: BitStore, P: BitOrder>(
+        &mut self,
+        range: R,
+        other: BitSlice<'_, U, P>,
+    )
+        requires lies { LiesIn (R.start_of range) (R.end_of range (length self.old.list)) (length self.old.list) }
+        ensures list { self.new.list ≡ put self.old.list (R.start_of range) (xor_of (slice_range self.old.list (R.start_of range) (R.end_of range (length self.old.list))) (list_of other.entry)) }
+        ensures row { self.new.row ≡ put self.old.row (self.old.head + R.start_of range) (xor_of (slice_range self.old.list (R.start_of range) (R.end_of range (length self.old.list))) (list_of other.entry)) }
+        ensures clean { IsClean T.BITS self.old → IsClean T.BITS self.new }
+        ensures stayed { Stayed self.old self.new }
+    {
+        self.combine_range::<Xor, R, U, P>(range, other);
+    }
+
+    /// Writes the lowest bits of a number over the list, the least significant first. No dead bit changes. Takes
+    /// no memory. Requires at most 64 bits.
+    #[tactic(auto, using(bit_slice::proofs::Parts::shown_length))]
+    pub fn store_le(&mut self, number: u64)
+        requires { length self.old.list ≤ 64 }
+        ensures list { self.new.list ≡ number_bits number (length self.old.list) }
+        ensures row { self.new.row ≡ put self.old.row self.old.head (number_bits number (length self.old.list)) }
+        ensures clean { IsClean T.BITS self.old → IsClean T.BITS self.new }
+        ensures stayed { Stayed self.old self.new }
+    {
+        let (head, len) = (self.head, self.len);
+        store_le_in_vec::<T, O>(&mut self.words, head, len, number);
+    }
+
+    /// Writes the lowest bits of a number over the list, the most significant first. No dead bit changes. Takes
+    /// no memory. Requires at most 64 bits.
+    #[tactic(auto, using(bit_slice::proofs::Parts::shown_length))]
+    pub fn store_be(&mut self, number: u64)
+        requires { length self.old.list ≤ 64 }
+        ensures list { self.new.list ≡ binary (length self.old.list) number }
+        ensures row { self.new.row ≡ put self.old.row self.old.head (binary (length self.old.list) number) }
+        ensures clean { IsClean T.BITS self.old → IsClean T.BITS self.new }
+        ensures stayed { Stayed self.old self.new }
+    {
+        let (head, len) = (self.head, self.len);
+        store_be_in_vec::<T, O>(&mut self.words, head, len, number);
+    }
+}

@@ -1,0 +1,51 @@
+-- What was written in a list that stands in words behind a head, told by the row of the words.
+use Rattle.std.proofs.Common.{◌≡◌, ℕ, ◌+◌, ◌*◌, ◌≤◌, Bool, List, length, slice_range, refl, sym, ◌∙◌, ap, arith}
+use Rattle.std.specs.List.{refill}
+use Rattle.bit_addressing.specs.Bits.{IsWidth}
+use Rattle.bit_addressing.specs.declared.store.BitStore as store
+use Rattle.bit_addressing.specs.declared.order.BitOrder as order
+use Rattle.bit_addressing.specs.Row.{put}
+use Rattle.bit_addressing.specs.Typed.{row}
+use Rattle.bit_addressing.proofs.Rows.{width_positive}
+use Rattle.bit_addressing.proofs.lists.Shown.{shown_written}
+use Rattle.bit_slice.proofs.Clean.{Seen, clean_put, clean_whole}
+use Rattle.bit_slice.proofs.Parts.{in_row, refilled, shown_length}
+use Rattle.bit_slice.proofs.Shown.{shown_filled}
+use Rattle.bit_slice.specs.Overwritten.{list_in, IsWritten, IsRewritten}
+
+module _ {X Y : Type 0} (W : store.Ghosts X) (P : order.Ghosts Y) (old : List X) (n : ℕ) (count : n ≡ length old) (ws : List X) (head len : ℕ) (width : IsWidth W.BITS) (room : head + len ≤ W.BITS * length old) (size : length ws ≡ length old) where
+  abbrev seen_in : List X → Seen
+  seen_in ws = record { head = head; row = row W P ws; list = list_in W P ws head len }
+
+  -- what a vector of n words has behind the writes
+  abbrev new : List X
+  new = refill n old ws
+
+  same : ws ≡ new
+  same = sym (refilled n old ws (size ∙ sym count))
+
+  pub written : (start : ℕ) (bits : List Bool) → start + length bits ≤ len → row W P ws ≡ put (row W P old) (head + start) bits → IsWritten W P old new head len start bits
+  written start bits fits seen =
+      let is : row W P new ≡ put (row W P old) (head + start) bits = sym (ap (row W P) same) ∙ seen in
+      let long : length (list_in W P old head len) ≡ len = shown_length W P old head len room in
+      let list : list_in W P new head len ≡ put (list_in W P old head len) start bits =
+      ap (λ r. slice_range r head (head + len)) is ∙ shown_written (row W P old) bits head len start fits (in_row W P old (head + len) room) in
+      record {
+        row = is;
+        list = list;
+        clean = clean_put W.BITS (seen_in old) (seen_in new) start bits (width_positive W.BITS width) (omega (arith, long, fits)) refl list is;
+        size = sym (ap length same) ∙ size;
+      }
+
+  pub rewritten : (bits : List Bool) → length bits ≡ len → row W P ws ≡ put (row W P old) head bits → IsRewritten W P old new head len bits
+  rewritten bits full seen =
+      let is : row W P new ≡ put (row W P old) head bits = sym (ap (row W P) same) ∙ seen in
+      let long : length (list_in W P old head len) ≡ len = shown_length W P old head len room in
+      let list : list_in W P new head len ≡ bits =
+      ap (λ r. slice_range r head (head + len)) is ∙ shown_filled (row W P old) bits head len (sym full) (in_row W P old (head + len) room) in
+      record {
+        row = is;
+        list = list;
+        clean = clean_whole W.BITS (seen_in old) (seen_in new) bits (width_positive W.BITS width) (full ∙ sym long) refl list is;
+        size = sym (ap length same) ∙ size;
+      }

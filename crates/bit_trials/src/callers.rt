@@ -1,4 +1,4 @@
-//! Callers that know what they get from the contracts alone: none of them has an answer, and one loop has an invariant.
+//! Callers that know what they get from the contracts alone: none has an answer, and three loops have an invariant.
 
 mod arrays;
 mod bits;
@@ -6,9 +6,11 @@ mod growing;
 mod iterating;
 mod laws;
 mod lending;
+mod making;
 mod numbers;
 mod reading;
 mod removing;
 mod rules;
 mod views;
 mod words;
+mod writing;

@@ -4,6 +4,5 @@ pub mod Grids
 pub mod Members
 pub mod Ored
 pub mod Paths
-pub mod Searching
 pub mod Sequences
 pub mod Sieve

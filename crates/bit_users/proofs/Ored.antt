@@ -1,8 +1,8 @@
 -- Runs of bits that are or-ed into others, as numbers, in split words and in a list.
-use Rattle.std.proofs.Common.{◌≡◌, ℕ, ◌+◌, ◌-◌, ◌*◌, ◌<◌, ◌≤◌, Bool, true, false, ◌||◌, List, map, ◌++◌, length, get_or, slice_range, bit_or, refl, sym, ◌∙◌, ap, subst, inl, inr, arith}
+use Rattle.std.proofs.Common.{◌≡◌, ℕ, ◌+◌, ◌-◌, ◌*◌, ◌<◌, ◌≤◌, Bool, true, false, ◌||◌, List, map, ◌++◌, length, drop, get_or, slice_range, bit_or, refl, sym, ◌∙◌, ap, subst, inl, inr, arith}
 use Rattle.std.specs.Prelude.{◌⊎◌}
 use Rattle.std.proofs.lemmas.Bool.{cases_lt}
-use Rattle.std.proofs.lemmas.List.{map-id, get_or_past, get_or-append_right, get_or_append_left, length-append}
+use Rattle.std.proofs.lemmas.List.{take_at, map-id, get_or_past, get_or-append_right, get_or_append_left, length-append}
 use Rattle.std.specs.Simd.Lanes.{zip2}
 use Rattle.std.proofs.lemmas.Simd.{get_or-zip2, length-zip2}
 use Rattle.bit_addressing.specs.Bits.{has_bit}
@@ -18,8 +18,7 @@ use Rattle.bit_addressing.specs.declared.order.BitOrder as order
 use Rattle.bit_addressing.specs.Typed.{row}
 use Rattle.bit_addressing.proofs.Typed.{length_row}
 use Rattle.bit_slice.specs.declared.slice.BitSlice.{BitSlice}
-use Rattle.bit_slice.specs.BitSlice.{words_of, head_of, len_of, list_of}
-use Rattle.bit_users.proofs.Frames.{kept, shown_list}
+use Rattle.bit_slice.specs.BitSlice.{words_of, head_of, len_of, row_of as row_seen, list_of}
 use Rattle.bit_users.specs.Matrix.{IsOred}
 
 -- numbers of w digits that are or-ed are their digits or-ed
@@ -171,13 +170,23 @@ words_ored_back words front back new into i from n cut split many at fits inside
     (subst (λ l. IsOred (row_of place 64 front ++ row_of place 64 back) l into from n) (sym (row_append place 64 front new (omega arith)))
     (subst (λ k. IsOred (row_of place 64 front ++ row_of place 64 back) (row_of place 64 front ++ row_of place 64 new) k from n) begins ored))
 
+-- a list that is refilled with as many items is those
+kept : {X : Type 0} (xs ws : List X) (n : ℕ) → length ws ≡ n → refill n xs ws ≡ ws
+kept xs ws n size = take_at ws (drop (length ws) xs) n size
+
 -- what is or-ed in the row stands in the list that a view of it showed
 module _ {X Y : Type 0} {W : store.Ghosts X} {P : order.Ghosts Y} (view : BitSlice X Y W P) where
+  -- the list that a view shows, in the row of the words
+  shown_list : (words : List X) (list : List Bool) (head n : ℕ) → words_of view ≡ words → head_of view ≡ head → len_of view ≡ n → list_of view ≡ list → slice_range (row W P words) head (head + n) ≡ list
+  shown_list words list head n words_are is_head is_len is_list =
+      ap (λ ws. slice_range (row W P ws) head (head + n)) (sym words_are) ∙ ap (λ k. slice_range (row_seen view) k (k + n)) (sym is_head)
+      ∙ ap (λ m. slice_range (row_seen view) (head_of view) (head_of view + m)) (sym is_len) ∙ is_list
+
   pub landed_ored : (words new : List X) (list : List Bool) (head into from n : ℕ) → words_of view ≡ words → head_of view ≡ head → len_of view ≡ length list → list_of view ≡ list → into + n ≤ length list → from + n ≤ length list → length new ≡ length words
       → IsOred (row W P words) (row W P new) (head + into) (head + from) n → IsOred list (refill (length list) list (slice_range (row W P (refill (length words) words new)) head (head + length list))) into from n
   landed_ored words new list head into from n words_are is_head is_len is_list fits inside same ored =
       let size : ℕ = length list in
-      let shows : slice_range (row W P words) head (head + size) ≡ list = shown_list view words list head size words_are is_head is_len is_list in
+      let shows : slice_range (row W P words) head (head + size) ≡ list = shown_list words list head size words_are is_head is_len is_list in
       let long : length (row W P words) ≡ W.BITS * length words = length_row W.value P.place W.BITS words in
       let fewer : W.BITS * length view.words.now ≡ W.BITS * length words = ap (λ ws. W.BITS * length ws) words_are in
       let within = view.fits.room in

@@ -1,6 +1,5 @@
 pub mod FreeMap
 pub mod Matrix
-pub mod Search
 pub mod Sequence
 pub mod Table
 pub mod Wire

@@ -1,14 +1,12 @@
 //! An allocator's map of frames, one bit each.
-ghost use Rattle.std.specs.Prelude.{◌≡◌, ◌+◌, ◌≤◌, ◌<◌, ◌↔◌, ℕ, Bool, List, false, true, not, Err, IfOk, IsTrue, MatchOption, Some, length, replicate, set, slice_get};
+ghost use Rattle.std.specs.Prelude.{◌≡◌, ◌+◌, ◌≤◌, ◌<◌, ◌↔◌, ℕ, Bool, List, false, true, not, EachIndex, Err, IfNone, IfOk, IfSome, IsTrue, MatchOption, Some, length, replicate, set, slice_get};
 ghost use Rattle.std.specs.List.{count_by};
 ghost use Rattle.bit_addressing.specs.declared.errors.GrowError.TheVariants as errors;
 ghost use Rattle.bit_addressing.specs.declared.length.TheConstants.{MAX_BITS};
 ghost use Rattle.bit_addressing.specs.Row.{put};
 ghost use Rattle.bit_users.specs.FreeMap.{AreFree, IsFirstRun};
-ghost use Rattle.bit_users.specs.Search.{IsNext, NoneFrom};
 
-use crate::search::next_bit;
-use bit_addressing::{GrowError, Lsb0, fill_bits};
+use bit_addressing::{GrowError, Lsb0};
 use bit_containers::BitVec;
 use std::alloc::Global;
 use std::marker::Model;
@@ -80,9 +78,12 @@ impl FreeMap {
     /// Takes the lowest free frame, which is found by words. None exactly where no frame is free, and then
     /// nothing changes.
     pub fn take(&mut self) -> Option<usize>
-        ensures { MatchOption result ((self.new ≡ self.old) × NoneFrom false self.old 0) (λ frame. (self.new ≡ set self.old frame true) × IsNext false self.old 0 frame) }
+        ensures taken { IfSome result (λ frame. self.new ≡ set self.old frame true) }
+        ensures free { IfSome result (λ frame. slice_get self.old frame ≡ Some false) }
+        ensures lowest { IfSome result (λ frame. (j : ℕ) → j < frame → slice_get self.old j ≡ Some true) }
+        ensures none { IfNone result ((self.new ≡ self.old) × EachIndex self.old (λ j. slice_get self.old j ≡ Some true)) }
     {
-        match next_bit(self.taken.as_bitslice(), 0, false) {
+        match self.taken.first_zero() {
             None => None,
             Some(frame) => {
                 self.taken.set(frame, true);
@@ -102,7 +103,7 @@ impl FreeMap {
         match self.find_run(count) {
             None => None,
             Some(first) => {
-                self.mark(first, count, true);
+                self.taken.fill_range(first..first + count, true);
                 Some(first)
             }
         }
@@ -114,8 +115,8 @@ impl FreeMap {
         ensures { MatchOption result ((k : ℕ) → AreFree self.now count k → ⊥) (λ first. IsFirstRun self.now count first) }
     {
         let mut from = 0;
-        while let Some(first) = next_bit(self.taken.as_bitslice(), from, false) {
-            let end = next_bit(self.taken.as_bitslice(), first, true).unwrap_or(self.taken.len());
+        while let Some(first) = self.taken.next_zero(from) {
+            let end = self.taken.next_one(first).unwrap_or(self.taken.len());
             if end - first >= count {
                 return Some(first);
             }
@@ -134,16 +135,6 @@ impl FreeMap {
         ensures frames { length self.new ≡ length self.old }
         ensures restores { (before : List Bool) → AreFree before count first → self.old ≡ put before first (replicate count true) → self.new ≡ before }
     {
-        self.mark(first, count, false);
-    }
-
-    // Marks `count` frames from `first` on, by words.
-    fn mark(&mut self, first: usize, count: usize, taken: bool)
-        requires { first + count ≤ length self.old }
-        ensures { self.new ≡ put self.old first (replicate count taken) }
-    {
-        let from = self.taken.as_bitslice().head() + first;
-        let upto = from + count;
-        fill_bits::<usize, Lsb0>(self.taken.as_raw_mut_slice(), from, upto, taken);
+        self.taken.fill_range(first..first + count, false);
     }
 }

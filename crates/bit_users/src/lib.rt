@@ -6,7 +6,6 @@
 mod callers;
 mod free_map;
 mod matrix;
-mod search;
 mod sequence;
 mod table;
 #[cfg(test)]

@@ -1,5 +1,5 @@
 //! Callers that want exact words. Where words are computed from other words, one hint opens what computes.
-ghost use Rattle.std.specs.Prelude.{◌≡◌, true, false, [], ◌∷◌, if◌then◌else◌, IfOk};
+ghost use Rattle.std.specs.Prelude.{◌≡◌, true, false, [], ◌∷◌, if◌then◌else◌, length, IfOk};
 ghost use Rattle.bit_addressing.specs.Typed.{row};
 
 use bit_containers::{BitOrder, BitStore, BitVec, GrowError, Lsb0, Msb0};
@@ -110,4 +110,16 @@ pub fn shown_row<T: BitStore, O: BitOrder>(v: BitVec<T, O>) -> Vec<T>
     ensures { row T.BitStore O.BitOrder result.items ≡ v.row }
 {
     v.into_vec()
+}
+
+/// Whole words after whole words.
+pub fn words_of_both(mut v: BitVec<u8, Msb0>, more: &[u8]) -> Result<Vec<u8>, GrowError>
+    requires head { v.head ≡ 0 }
+    requires words { v.words ≡ 7 ∷ 9 ∷ [] }
+    requires whole { length v.list ≡ 16 }
+    requires more { more.now ≡ 5 ∷ [] }
+    ensures { IfOk result (λ words. words.items ≡ 7 ∷ 9 ∷ 5 ∷ []) }
+{
+    v.extend_from_raw_slice(more)?;
+    Ok(v.into_vec())
 }

@@ -4,7 +4,8 @@
 use crate::tests::holds;
 use bit_containers::array::BitArray;
 use bit_containers::{
-    BitOrder, BitSlice, BitStore, BitVec, Command, GrowError, IntoBitVec, Lsb0, Msb0, Reply, run,
+    BitOrder, BitSlice, BitStore, BitVec, Command, GrowError, IntoBitVec, Lsb0, Msb0,
+    ParseBitsError, Reply, ToBits, run,
 };
 use std::alloc::AllocError;
 use std::process::Abort;
@@ -132,6 +133,66 @@ fn growing_refused(rt: HostRuntime) {
         assert_eq!(rt; calls, called);
         stands(&rt, &v, answer);
         assert_eq!(rt; v.head(), 3);
+    }
+}
+
+/// A longer view, and one of as many bits, for which no memory is taken.
+#[test]
+fn combined_with_longer_refused(rt: HostRuntime) {
+    let words = [0xa8_u8, 0x07];
+    let view = BitSlice::<u8, Lsb0>::from_slice(&words).get_range(3..11);
+    let ones = [0xff_u8; 12];
+    let more = BitSlice::<u8, Msb0>::from_slice(&ones);
+    for xor in [false, true] {
+        let Ok(mut v) = BitVec::from_bitslice_headed(rt.alloc(), view) else {
+            return;
+        };
+        assert!(rt; v.xor_growing(more.get_range(..8)).is_ok());
+        holds(&rt, &v, b"01010000");
+        assert!(rt; v.xor_growing(more.get_range(..8)).is_ok());
+        let answer = if xor {
+            v.xor_growing(more)
+        } else {
+            v.or_growing(more)
+        };
+        match answer {
+            Ok(()) => assert!(rt; v.len() == 96 && v.count_ones() == if xor { 90 } else { 96 }),
+            Err(why) => {
+                assert!(rt; why == GrowError::OutOfMemory);
+                holds(&rt, &v, b"10101111");
+            }
+        }
+    }
+}
+
+/// Vectors of bytes, of indices and of text, copies of views, and bytes.
+#[test]
+fn other_makers_refused(rt: HostRuntime) {
+    let words = [0xa8_u8, 0x07];
+    let view = BitSlice::<u8, Lsb0>::from_slice(&words).get_range(3..11);
+    made(&rt, view.to_bitvec(rt.alloc()), b"10101111");
+    if let Ok(b) = view.to_bitbox(rt.alloc()) {
+        assert!(rt; b.len() == 8 && b.count_ones() == 6);
+    }
+    grown(
+        &rt,
+        BitVec::<u32, Lsb0>::from_bytes::<Lsb0>(rt.alloc(), &words),
+        b"0001010111100000",
+    );
+    grown(
+        &rt,
+        BitVec::<u32, Lsb0>::from_indices(rt.alloc(), 4, &[2]),
+        b"0010",
+    );
+    match BitVec::<u8, Msb0>::from_text(rt.alloc(), "[1, 0]") {
+        Ok(v) => holds(&rt, &v, b"10"),
+        Err(why) => assert!(rt; why == ParseBitsError::OutOfMemory),
+    }
+    let Ok(v) = BitVec::<u32, Lsb0>::from_bytes::<Lsb0>(rt.alloc(), &words) else {
+        return;
+    };
+    if let Ok(bytes) = v.to_bytes::<Lsb0>(rt.alloc()) {
+        assert_eq!(rt; bytes.as_slice(), words.as_slice());
     }
 }
 

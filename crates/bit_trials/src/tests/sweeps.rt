@@ -11,6 +11,7 @@ mod pairs;
 mod ranges;
 mod reading;
 mod rows;
+mod searched;
 mod views;
 mod words;
 

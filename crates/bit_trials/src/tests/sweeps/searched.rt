@@ -1,0 +1,323 @@
+//! Searches, indices, sets and changes of views at each head of a byte and lengths up to 17, beside plain loops.
+ghost use Rattle.std.specs.Prelude.{◌+◌, ◌≤◌, ◌<◌};
+
+use crate::tests::orders::Xor4;
+use crate::tests::sweeps::bits_of;
+use bit_addressing::{BitOrder, Lsb0, Msb0};
+use bit_slice::{BitSlice, run_mut};
+use std::process::Abort;
+
+const WORDS: [u8; 3] = [0b1101_0010, 0b0001_0111, 0b1010_0100];
+
+const OTHERS: [u16; 2] = [0b0110_1101_0011_1010, 0b1001_0010_1110_0101];
+
+// The first index from `from` on, and the last one, that has a bit.
+fn found<O: BitOrder>(rt: &impl Abort, head: usize, len: usize, bit: bool)
+    requires { head + len ≤ 24 }
+{
+    let words = WORDS;
+    let view = BitSlice::<u8, O>::from_slice(&words).get_range(head..head + len);
+    let (mut next, mut last) = (None, None);
+    for i in 0..len {
+        let (at, back) = (len - 1 - i, i);
+        if view[at] == bit {
+            next = Some(at);
+        }
+        if view[back] == bit {
+            last = Some(back);
+        }
+        let answer = if bit {
+            view.next_one(at)
+        } else {
+            view.next_zero(at)
+        };
+        assert_eq!(rt; answer, next);
+    }
+    let ends = if bit {
+        (view.first_one(), view.last_one())
+    } else {
+        (view.first_zero(), view.last_zero())
+    };
+    assert_eq!(rt; ends, (next, last));
+    let runs = if bit {
+        (view.leading_zeros(), view.trailing_zeros())
+    } else {
+        (view.leading_ones(), view.trailing_ones())
+    };
+    let (front, back) = match (next, last) {
+        (Some(i), Some(j)) => (i, (len - 1).wrapping_sub(j)),
+        _ => (len, len),
+    };
+    assert_eq!(rt; runs, (front, back));
+}
+
+// The indices of true and of false bits, from both ends.
+fn indices<O: BitOrder>(rt: &impl Abort, head: usize, len: usize)
+    requires { head + len ≤ 24 }
+{
+    let words = WORDS;
+    let view = BitSlice::<u8, O>::from_slice(&words).get_range(head..head + len);
+    let (mut ones, mut zeros) = (view.iter_ones(), view.iter_zeros());
+    assert_eq!(rt;
+        (ones.len(), zeros.len()),
+        (view.count_ones(), view.count_zeros())
+    );
+    for i in 0..len {
+        if view[i] {
+            assert_eq!(rt; ones.next(), Some(i));
+        }
+        if !view[len - 1 - i] {
+            assert_eq!(rt; zeros.next_back(), Some(len - 1 - i));
+        }
+    }
+    assert_eq!(rt; (ones.next(), ones.next_back()), (None, None));
+    assert_eq!(rt; (zeros.next(), zeros.next_back()), (None, None));
+}
+
+// Two views as sets, against a loop over the longer.
+fn sets<O: BitOrder, P: BitOrder>(rt: &impl Abort, head: usize, len: usize, other_len: usize)
+    requires first { head + len ≤ 24 }
+    requires second { other_len ≤ 24 }
+{
+    let (words, others) = (WORDS, OTHERS);
+    let left = BitSlice::<u8, O>::from_slice(&words).get_range(head..head + len);
+    let right = BitSlice::<u16, P>::from_slice(&others).get_range(3..3 + other_len);
+    let (mut and, mut or, mut xor, mut less) = (0usize, 0usize, 0usize, 0usize);
+    for i in 0..24 {
+        let (a, b) = (left.get(i) == Some(true), right.get(i) == Some(true));
+        and = and.wrapping_add(usize::from(a && b));
+        or = or.wrapping_add(usize::from(a || b));
+        xor = xor.wrapping_add(usize::from(a != b));
+        less = less.wrapping_add(usize::from(a && !b));
+    }
+    assert_eq!(rt;
+        (
+            left.count_and(right),
+            left.count_or(right),
+            left.count_xor(right)
+        ),
+        (and, or, xor)
+    );
+    assert_eq!(rt;
+        (left.is_subset(right), right.is_superset(left)),
+        (less == 0, less == 0)
+    );
+    assert_eq!(rt;
+        (left.intersects(right), left.is_disjoint(right)),
+        (and != 0, and == 0)
+    );
+}
+
+// Bits of a view of three words that were moved: bit `i` of the run is that of index `from(i)` before.
+fn moved<O: BitOrder>(rt: &impl Abort, words: [u8; 3], head: usize, len: usize, by: usize, kind: u8)
+    requires run { head + len ≤ 24 }
+    requires few { by ≤ len }
+{
+    let (old, new) = (bits_of::<O>(WORDS), bits_of::<O>(words));
+    for i in 0..24 {
+        if i < head || i >= head + len {
+            assert_eq!(rt; new[i], old[i]);
+            continue;
+        }
+        let k = i - head;
+        let from = match kind {
+            0 => Some(len - 1 - k),
+            1 => if k + by < len {
+                Some(k + by)
+            } else {
+                Some(k + by - len)
+            },
+            2 => if k >= by {
+                Some(k - by)
+            } else {
+                Some(k + len - by)
+            },
+            3 => if k + by < len { Some(k + by) } else { None },
+            _ => if k >= by { Some(k - by) } else { None },
+        };
+        assert_eq!(rt;
+            Some(new[i]),
+            from.map_or(Some(false), |j| old.get(head + j).copied())
+        );
+    }
+}
+
+// Each move of a view of the bits from `head` on.
+fn moves<O: BitOrder>(rt: &impl Abort, head: usize, len: usize, by: usize)
+    requires run { head + len ≤ 24 }
+    requires few { by ≤ len }
+{
+    for kind in 0..5u8 {
+        let mut words = WORDS;
+        let mut view = run_mut::<u8, O>(&mut words, head, head + len);
+        match kind {
+            0 => view.reverse(),
+            1 => view.rotate_left(by),
+            2 => view.rotate_right(by),
+            3 => view.shift_left(by),
+            _ => view.shift_right(by),
+        }
+        moved::<O>(rt, words, head, len, by, kind);
+    }
+}
+
+// Each change of a part, and of it by another, of a view of three words.
+fn changes<O: BitOrder>(rt: &impl Abort, head: usize, len: usize)
+    requires { head + len ≤ 24 }
+{
+    let (old, others) = (bits_of::<O>(WORDS), OTHERS);
+    let right = BitSlice::<u16, Msb0>::from_slice(&others).get_range(5..22);
+    for kind in 0..7u8 {
+        let mut words = WORDS;
+        let mut view = run_mut::<u8, O>(&mut words, 0, 24);
+        let range = head..head + len;
+        match kind {
+            0 => view.fill_range(range, true),
+            1 => view.flip_range(range),
+            2 => view.and_range(range, right),
+            3 => view.or_range(range, right),
+            4 => view.xor_range(range, right),
+            5 => run_mut::<u8, O>(&mut words, head, head + len).and_not_bits(right),
+            _ => run_mut::<u8, O>(&mut words, head, head + len).flip_all(),
+        }
+        let new = bits_of::<O>(words);
+        for i in 0..24 {
+            let there = i >= head && i < head + len;
+            let bit = there && right.get(i.wrapping_sub(head)) == Some(true);
+            let expected = match kind {
+                _ if !there => old[i],
+                0 => true,
+                1 => !old[i],
+                2 => old[i] && bit,
+                3 => old[i] || bit,
+                4 => old[i] != bit,
+                5 => old[i] && !bit,
+                _ => !old[i],
+            };
+            assert_eq!(rt; new[i], expected);
+        }
+    }
+}
+
+// The parts of a view, one after another.
+fn parts<O: BitOrder>(rt: &impl Abort, head: usize, len: usize, size: usize)
+    requires run { head + len ≤ 24 }
+    requires some { 0 < size }
+{
+    let words = WORDS;
+    let view = BitSlice::<u8, O>::from_slice(&words).get_range(head..head + len);
+    let mut at = 0usize;
+    for part in view.chunks(size) {
+        for j in 0..part.len() {
+            assert_eq!(rt; view.get(at.wrapping_add(j)), part.get(j));
+        }
+        at = at.wrapping_add(part.len());
+    }
+    assert_eq!(rt; at, len);
+    for part in view.rchunks(size) {
+        at = at.wrapping_sub(part.len());
+        for j in 0..part.len() {
+            assert_eq!(rt; view.get(at.wrapping_add(j)), part.get(j));
+        }
+    }
+    assert_eq!(rt; at, 0);
+    for part in view.windows(size) {
+        for j in 0..part.len() {
+            assert_eq!(rt; view.get(at.wrapping_add(j)), part.get(j));
+        }
+        at = at.wrapping_add(1);
+    }
+    assert_eq!(rt; at, (len + 1).saturating_sub(size));
+    let exact = view.chunks_exact(size);
+    assert_eq!(rt;
+        (exact.len(), exact.remainder().len()),
+        (len / size, len % size)
+    );
+}
+
+// A view as a number, in both directions.
+fn numbers<O: BitOrder>(rt: &impl Abort, head: usize, len: usize)
+    requires { head + len ≤ 24 }
+{
+    let words = WORDS;
+    let view = BitSlice::<u8, O>::from_slice(&words).get_range(head..head + len);
+    let (mut low_first, mut high_first) = (0u64, 0u64);
+    for i in 0..len {
+        high_first = high_first.wrapping_mul(2).wrapping_add(u64::from(view[i]));
+        low_first = low_first
+            .wrapping_mul(2)
+            .wrapping_add(u64::from(view[len - 1 - i]));
+    }
+    assert_eq!(rt; (view.load_le(), view.load_be()), (low_first, high_first));
+    let mut words = [0u8; 3];
+    run_mut::<u8, O>(&mut words, head, head + len).store_le(low_first);
+    let low = BitSlice::<u8, O>::from_slice(&words);
+    assert!(rt; low.get_range(head..head + len) == view);
+    let mut words = [0u8; 3];
+    run_mut::<u8, O>(&mut words, head, head + len).store_be(high_first);
+    let high = BitSlice::<u8, O>::from_slice(&words);
+    assert!(rt; high.get_range(head..head + len) == view);
+}
+
+// Where a part of a view stands first, and a part combined with another of the same view.
+fn found_in<O: BitOrder>(rt: &impl Abort, head: usize, len: usize)
+    requires { head + len ≤ 24 }
+{
+    let words = WORDS;
+    let all = BitSlice::<u8, O>::from_slice(&words);
+    let part = all.get_range(head..head + len);
+    let mut first = None;
+    for i in 0..24 - len + 1 {
+        let at = 24 - len - i;
+        let mut same = true;
+        for j in 0..len {
+            same = same && all.get(at + j) == part.get(j);
+        }
+        if same {
+            first = Some(at);
+        }
+    }
+    assert_eq!(rt; (all.find(part), all.contains(part)), (first, true));
+    for dest in 0..24 - len + 1 {
+        let mut changed = WORDS;
+        run_mut::<u8, O>(&mut changed, 0, 24).or_within(head..head + len, dest);
+        let new = BitSlice::<u8, O>::from_slice(&changed);
+        for i in 0..24 {
+            let there = i >= dest && part.get(i.wrapping_sub(dest)) == Some(true);
+            assert_eq!(rt; new.get(i) == Some(true), all[i] || there);
+        }
+    }
+}
+
+// Every call at one head and one length.
+fn each<O: BitOrder>(rt: &impl Abort, head: usize, len: usize)
+    requires { head + len ≤ 24 }
+{
+    found::<O>(rt, head, len, true);
+    found::<O>(rt, head, len, false);
+    indices::<O>(rt, head, len);
+    numbers::<O>(rt, head, len);
+    found_in::<O>(rt, head, len);
+    for size in [1, 3, 8] {
+        parts::<O>(rt, head, len, size);
+    }
+    changes::<O>(rt, head, len);
+    for other in [0, 5, len, 24] {
+        sets::<O, Lsb0>(rt, head, len, other);
+        sets::<O, Xor4>(rt, head, len, other);
+    }
+    for by in 0..len + 1 {
+        moves::<O>(rt, head, len, by);
+    }
+}
+
+#[test]
+fn beside_loops(rt: HostRuntime) {
+    for head in 0..8 {
+        for len in 0..18 {
+            each::<Lsb0>(&rt, head, len);
+            each::<Msb0>(&rt, head, len);
+            each::<Xor4>(&rt, head, len);
+        }
+    }
+}

@@ -5,6 +5,7 @@ use Rattle.std.proofs.lemmas.Bool.{cases_lt}
 use Rattle.std.proofs.lemmas.List.{ext_get_or}
 use Rattle.std.proofs.lemmas.Nat.{div-add-mod'}
 use Rattle.bit_addressing.specs.Bits.{has_bit, IsWidth}
+use Rattle.bit_addressing.specs.Order.{IsPermutation}
 use Rattle.bit_addressing.specs.Row.{row_of}
 use Rattle.bit_addressing.proofs.Chunks.{IsRead}
 use Rattle.bit_addressing.proofs.lists.Shown.{get_or-run, length-run}
@@ -47,6 +48,15 @@ row_from place w v at ms positive inside shows =
     ext_get_or false one (slice_range ms at (at + w)) (size ∙ omega arith) (λ i h.
     let below : i < w = omega arith in
     get_or-row_one place w v i positive below ∙ shows i below ∙ sym (get_or-run ms at w i below))
+
+-- a word has the same bits in two orders that have the same places
+pub same_word : (place other : ℕ → ℕ → ℕ) (w u v x : ℕ) → 0 < w → u ≡ w → IsPermutation w (place w) → ((i : ℕ) → i < w → place w i ≡ other w i) → ((p : ℕ) → p < w → has_bit v p ≡ has_bit x p) → row_of place w (v ∷ []) ≡ row_of other u (x ∷ [])
+same_word place other w u v x positive width lawful same bits =
+    rw width
+    (let size : length (row_of place w (v ∷ [])) ≡ w * 1 = length-row_of place w (v ∷ []) in
+    ext_get_or false (row_of place w (v ∷ [])) (row_of other w (x ∷ [])) (size ∙ sym (length-row_of other w (x ∷ []))) (λ i h.
+    let below : i < w = omega arith in
+    get_or-row_one place w v i positive below ∙ bits (place w i) (lawful.in_range i below) ∙ ap (has_bit x) (same i below) ∙ sym (get_or-row_one other w x i positive below)))
 
 -- the bits of x from its place 63 down are those of the list from `at` on, `got` of them, and those below are false
 pub record IsPacked (ms : List Bool) (at got x : ℕ) : Type 0 where

@@ -1,9 +1,10 @@
 -- Whole words copied, each out of two neighbours or a run.
-use Rattle.std.proofs.Common.{◌≡◌, ℕ, ◌+◌, ◌-◌, ◌*◌, ◌%◌, ◌^◌, ◌<◌, ◌≤◌, Bool, false, List, [], ◌∷◌, map, length, get_or, slice_range, refl, sym, ◌∙◌, ap, arith}
-use Rattle.std.proofs.lemmas.Nat.{div-mul-add, mod-mul-add, mul-add-lt}
+use Rattle.std.proofs.Common.{◌≡◌, ℕ, ◌+◌, ◌-◌, ◌*◌, ◌/◌, ◌%◌, ◌^◌, ◌<◌, ◌≤◌, Bool, false, List, [], ◌∷◌, map, length, get_or, slice_range, refl, sym, ◌∙◌, ap, arith}
+use Rattle.std.proofs.lemmas.Nat.{div-add-mod', div-mul-add, mod-mul-add, mul-add-lt}
 use Rattle.bit_addressing.specs.Bits.{has_bit}
 use Rattle.bit_addressing.specs.Row.{row_of, number_of}
-use Rattle.bit_addressing.proofs.lists.Sized.{right_sum}
+use Rattle.bit_addressing.proofs.lists.Sized.{one_more_word, right_sum}
+use Rattle.bit_addressing.proofs.Runs.{mul_mono}
 use Rattle.bit_addressing.proofs.Chunks.{run_placed, whole_is}
 use Rattle.bit_addressing.proofs.Typed.{row_read}
 
@@ -20,3 +21,19 @@ word_placed place w v made x a zs positive small inside fits is narrowed ordered
 
 pub split_sum : (w a b : ℕ) → a ≤ b → b * w ≡ a * w + (b - a) * w
 split_sum w a b h = let e : b ≡ a + (b - a) = omega arith in ap (λ n. n * w) e ∙ right_sum a (b - a) w
+
+-- a run that begins with a word
+pub begins_word : (at d w : ℕ) → d ≡ w → at % d ≡ 0 → at / d * w ≡ at
+begins_word at d w e none =
+    let split = div-add-mod' at d in
+    let wide : at / d * d ≡ at / d * w = ap (λ m. at / d * m) e in
+    omega arith
+
+-- a word of a run is in it
+pub word_in_run : (d w n t : ℕ) → d ≡ w → t < n / d → t * w + w ≤ n
+word_in_run d w n t e h =
+    let split = div-add-mod' n d in
+    let most = mul_mono (t + 1) (n / d) d (omega arith) in
+    let next = one_more_word t d in
+    let same : t * d + d ≡ t * w + w = ap (λ m. t * m + m) e in
+    omega arith

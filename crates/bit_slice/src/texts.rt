@@ -91,6 +91,7 @@ pub fn write_list<T: BitStore, O: BitOrder, W: fmt::Write>(
 }
 
 // The digit of the bits `from..upto` of a number, the first the most significant.
+#[inline(always)]
 fn digit_of_bits(chunk: u64, from: u8, upto: u8, upper: bool) -> u8
     requires ordered { from ≤ upto }
     requires few { upto ≤ from + 4 }
@@ -112,6 +113,7 @@ fn digit_of_bits(chunk: u64, from: u8, upto: u8, upper: bool) -> u8
 }
 
 // Writes the digits of `n` bits from index `from` on, in groups of `size`, the last perhaps short.
+#[inline(always)]
 fn write_groups<T: BitStore, O: BitOrder, W: fmt::Write>(
     view: BitSlice<'_, T, O>,
     size: u8,
@@ -141,6 +143,25 @@ fn write_groups<T: BitStore, O: BitOrder, W: fmt::Write>(
     f.write_str(text_of(&piece, digits as usize))
 }
 
+// Like `write_groups`, of 60 bits. It is compiled apart for each size: where the size is known, so are the shifts.
+fn write_sixty<T: BitStore, O: BitOrder, W: fmt::Write>(
+    view: BitSlice<'_, T, O>,
+    size: u8,
+    upper: bool,
+    from: usize,
+    f: &mut fmt::Formatter<W>,
+) -> fmt::Result
+    requires size { IsDigitSize size }
+    requires within { from + 60 ≤ len_of view }
+    ensures { WritesStyledOnOk W.write_str_gives f.old result (digits_from size upper (words_for size 60) (slice_range (list_of view.entry) from (from + 60))) f.new }
+{
+    match size {
+        1 => write_groups(view, 1, upper, from, 60, f),
+        3 => write_groups(view, 3, upper, from, 60, f),
+        _ => write_groups(view, 4, upper, from, 60, f),
+    }
+}
+
 /// Writes the list of a view as digits between brackets: each stands for the next `size` bits from the front on,
 /// its highest bit first, and what is left for the last may be fewer. It goes 60 bits at each call of the
 /// writer. Flags and widths have no effect. It takes no memory. Requires that a digit has 1, 3 or 4 bits, for
@@ -157,7 +178,7 @@ pub fn write_digits<T: BitStore, O: BitOrder, W: fmt::Write>(
     f.write_str("[")?;
     let len = view.len();
     for t in 0..len / 60 {
-        write_groups(view, size, upper, t * 60, 60, f)?;
+        write_sixty(view, size, upper, t * 60, f)?;
     }
     write_groups(view, size, upper, len / 60 * 60, (len % 60) as u8, f)?;
     f.write_str("]")

@@ -1,7 +1,7 @@
 //! Runs of up to 64 bits as numbers, whatever the words and the order that they lie in.
 //!
 //! Calls between words of two types or orders go through these numbers, 64 bits at a time.
-ghost use Rattle.std.specs.Prelude.{◌≡◌, ℕ, ◌+◌, ◌*◌, ◌/◌, ◌^◌, ◌<◌, ◌≤◌, [], ◌∷◌, length, slice_range};
+ghost use Rattle.std.specs.Prelude.{◌≡◌, ℕ, true, ◌+◌, ◌*◌, ◌/◌, ◌^◌, ◌<◌, ◌≤◌, [], ◌∷◌, length, slice_range};
 ghost use Rattle.bit_addressing.specs.Binary.{value};
 ghost use Rattle.bit_addressing.specs.Row.{binary, number_bits, number_of, put, row_of};
 ghost use Rattle.bit_addressing.specs.Typed.{row};
@@ -18,9 +18,9 @@ pub(crate) fn word_number<T: BitStore, O: BitOrder>(word: T) -> u64
     O::to_lsb0(word).to_u64()
 }
 
-/// The `n` bits of the row from `at` on as a number, the first at place 0: each word is read once.
-/// Requires that `n` is at most 64, and the run lies in the words.
-pub fn read_chunk<T: BitStore, O: BitOrder>(words: &[T], at: usize, n: u8) -> u64
+/// Like `read_chunk`, each word read once.
+#[inline(never)]
+fn read_over<T: BitStore, O: BitOrder>(words: &[T], at: usize, n: u8) -> u64
     requires few { n ≤ 64 }
     requires within { at + n ≤ T.BITS * length words.now }
     ensures { result ≡ number_of (slice_range (row T.BitStore O.BitOrder words.now) at (at + n)) }
@@ -39,6 +39,52 @@ pub fn read_chunk<T: BitStore, O: BitOrder>(words: &[T], at: usize, n: u8) -> u6
         got += T::BITS;
     }
     chunk & (u64::MAX >> (64 - n))
+}
+
+/// Whether two kinds of words have one width, and their bits lie in one order.
+#[inline(always)]
+pub(crate) fn are_alike<T: BitStore, O: BitOrder, U: BitStore, P: BitOrder>() -> bool
+    ensures { result ≡ true → (U.BITS ≡ T.BITS) × ((i : ℕ) → i < T.BITS → O.place T.BITS i ≡ P.place T.BITS i) }
+{
+    if T::BITS != U::BITS {
+        return false;
+    }
+    for i in 0..T::BITS {
+        let place = O::at(BitIdx::<T>::new_unchecked(i)).into_inner();
+        if place != P::at(BitIdx::<U>::new_unchecked(i)).into_inner() {
+            return false;
+        }
+    }
+    true
+}
+
+/// The word of another kind that is alike. Requires that both kinds have one width, and their bits lie in one order.
+#[inline(always)]
+pub(crate) fn word_alike<T: BitStore, O: BitOrder, U: BitStore, P: BitOrder>(word: U) -> T
+    requires width { U.BITS ≡ T.BITS }
+    requires order { (i : ℕ) → i < T.BITS → O.place T.BITS i ≡ P.place T.BITS i }
+    ensures { row T.BitStore O.BitOrder (result ∷ []) ≡ row U.BitStore P.BitOrder (word ∷ []) }
+{
+    T::from_u64(word.to_u64())
+}
+
+/// The `n` bits of the row from `at` on as a number, the first at place 0. Requires that `n` is at most 64, and the
+/// run lies in the words.
+#[inline(always)]
+pub fn read_chunk<T: BitStore, O: BitOrder>(words: &[T], at: usize, n: u8) -> u64
+    requires few { n ≤ 64 }
+    requires within { at + n ≤ T.BITS * length words.now }
+    ensures { result ≡ number_of (slice_range (row T.BitStore O.BitOrder words.now) at (at + n)) }
+{
+    if n == 0 {
+        return 0;
+    }
+    let width = T::BITS as usize;
+    let skip = (at % width) as u8;
+    if T::BITS - skip < n {
+        return read_over::<T, O>(words, at, n);
+    }
+    word_number::<T, O>(words[at / width]) >> skip & (u64::MAX >> (64 - n))
 }
 
 /// Writes the `n` lowest bits of a number at the places from `at` on, that of place 0 first, and no other
@@ -86,6 +132,7 @@ pub fn write_binary<T: BitStore, O: BitOrder>(words: &mut [T], at: usize, n: u8,
 
 /// A word whose indices from `low` on have the `n` bits of the row of `source` from `from` on.
 /// Requires that the indices are in the word, and the run lies in `source`.
+#[inline(always)]
 pub(crate) fn word_of_run<T: BitStore, O: BitOrder, U: BitStore, P: BitOrder>(
     source: &[U],
     from: usize,

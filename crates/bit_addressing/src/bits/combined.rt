@@ -5,7 +5,9 @@ ghost use Rattle.bit_addressing.specs.Bits.{has_bit};
 ghost use Rattle.bit_addressing.specs.Row.{put};
 ghost use Rattle.bit_addressing.specs.Typed.{row};
 
-use crate::bits::chunks::{block_at, blocks_behind, word_behind, word_of_run};
+use crate::bits::chunks::{
+    are_alike, block_at, blocks_behind, word_alike, word_behind, word_of_run,
+};
 use crate::bits::single::write_part;
 use crate::each_shift::each_shift;
 use crate::length::Span;
@@ -210,10 +212,33 @@ fn combine_whole<F: BitOperator, T: BitStore, O: BitOrder, U: BitStore, P: BitOr
     }
 }
 
-/// Makes each of `n` bits of `words`, from `at` on, into the bit that `F` makes of it and of the bit of
-/// `source` that stands as far after `from`, and changes no other bit. Requires that both runs lie in
-/// their words.
-pub fn combine_bits<F: BitOperator, T: BitStore, O: BitOrder, U: BitStore, P: BitOrder>(
+/// Like `combine_behind`, of words whose bits lie in one order: those of `source` from word `begin` on. Requires that
+/// both kinds of words have one width and order, and that the words are there.
+#[inline(always)]
+fn combine_alike<F: BitOperator, T: BitStore, O: BitOrder, U: BitStore, P: BitOrder>(
+    words: &mut [T],
+    first: usize,
+    last: usize,
+    source: &[U],
+    begin: usize,
+)
+    requires width { U.BITS ≡ T.BITS }
+    requires order { (i : ℕ) → i < T.BITS → O.place T.BITS i ≡ P.place T.BITS i }
+    requires ordered { first ≤ last }
+    requires target { last ≤ length words.old }
+    requires source { begin + (last - first) ≤ length source.now }
+    ensures bits { row T.BitStore O.BitOrder words.new ≡ put (row T.BitStore O.BitOrder words.old) (first * T.BITS) (zip2 F.made (slice_range (row T.BitStore O.BitOrder words.old) (first * T.BITS) (last * T.BITS)) (slice_range (row U.BitStore P.BitOrder source.now) (begin * T.BITS) (begin * T.BITS + (last - first) * T.BITS))) }
+    ensures size { length words.new ≡ length words.old }
+{
+    for k in first..last {
+        let new = word_alike::<T, O, U, P>(source[begin + (k - first)]);
+        words[k] = F::apply(words[k], new);
+    }
+}
+
+/// Like `combine_bits`, of runs that begin anywhere in words of any kinds.
+#[inline(never)]
+fn combine_apart<F: BitOperator, T: BitStore, O: BitOrder, U: BitStore, P: BitOrder>(
     words: &mut [T],
     at: usize,
     source: &[U],
@@ -247,4 +272,37 @@ pub fn combine_bits<F: BitOperator, T: BitStore, O: BitOrder, U: BitStore, P: Bi
     combine_whole::<F, T, O, U, P>(words, first + 1, last, source, from + (width - low));
     let new = word_of_run::<T, O, U, P>(source, from + (n - end), end as u8, 0);
     combine_part::<F, T, O>(words, last, 0, end, new);
+}
+
+/// Makes each of `n` bits of `words`, from `at` on, into the bit that `F` makes of it and of the bit of
+/// `source` that stands as far after `from`, and changes no other bit. Requires that both runs lie in
+/// their words.
+#[inline(always)]
+pub fn combine_bits<F: BitOperator, T: BitStore, O: BitOrder, U: BitStore, P: BitOrder>(
+    words: &mut [T],
+    at: usize,
+    source: &[U],
+    from: usize,
+    n: usize,
+)
+    requires target { at + n ≤ T.BITS * length words.old }
+    requires source { from + n ≤ U.BITS * length source.now }
+    requires target_fits { at + n < 2 ^ 64 }
+    requires source_fits { from + n < 2 ^ 64 }
+    ensures bits { row T.BitStore O.BitOrder words.new ≡ put (row T.BitStore O.BitOrder words.old) at (zip2 F.made (slice_range (row T.BitStore O.BitOrder words.old) at (at + n)) (slice_range (row U.BitStore P.BitOrder source.now) from (from + n))) }
+    ensures size { length words.new ≡ length words.old }
+{
+    let width = T::BITS as usize;
+    if at % width != 0 || from % width != 0 || !are_alike::<T, O, U, P>() {
+        combine_apart::<F, T, O, U, P>(words, at, source, from, n);
+        return;
+    }
+    let (first, begin, whole) = (at / width, from / width, n / width);
+    combine_alike::<F, T, O, U, P>(words, first, first + whole, source, begin);
+    let rest = n % width;
+    if rest == 0 {
+        return;
+    }
+    let new = word_alike::<T, O, U, P>(source[begin + whole]);
+    combine_part::<F, T, O>(words, first + whole, 0, rest, new);
 }

@@ -4,7 +4,9 @@ ghost use Rattle.std.specs.List.{count_by};
 ghost use Rattle.bit_addressing.specs.Row.{IsFirst, IsFirstDifference};
 ghost use Rattle.bit_addressing.specs.Typed.{row};
 
-use crate::bits::chunks::{block_at, blocks_behind, read_chunk, word_number};
+use crate::bits::chunks::{
+    are_alike, block_at, blocks_behind, read_chunk, word_alike, word_number,
+};
 use crate::index::BitIdx;
 use crate::length::Span;
 use crate::order::{BitOrder, Lsb0};
@@ -59,23 +61,6 @@ pub fn count_bits<T: BitStore, O: BitOrder>(words: &[T], from: usize, upto: usiz
     head.count_ones() as usize + whole + tail.count_ones() as usize
 }
 
-/// Whether both kinds of words are bytes whose bits lie in one order.
-#[inline(always)]
-fn are_bytes_alike<T: BitStore, O: BitOrder, U: BitStore, P: BitOrder>() -> bool
-    ensures { result ≡ true → (T.BITS ≡ 8) × (U.BITS ≡ 8) × ((i : ℕ) → i < 8 → O.place 8 i ≡ P.place 8 i) }
-{
-    if T::BITS != 8 || U::BITS != 8 {
-        return false;
-    }
-    for i in 0..8u8 {
-        let place = O::at(BitIdx::<T>::new_unchecked(i)).into_inner();
-        if place != P::at(BitIdx::<U>::new_unchecked(i)).into_inner() {
-            return false;
-        }
-    }
-    true
-}
-
 /// How many blocks of 64 bits, of the first `blocks` from words `k` and `l` on, are equal up to one that is not. It
 /// tells so of bytes in one order, whose blocks need no turning round, and of others 0. Requires that both rows have
 /// the blocks (docs/SPEED.md, "Rows of words", compare at equal heads).
@@ -92,7 +77,7 @@ fn equal_blocks<T: BitStore, O: BitOrder, U: BitStore, P: BitOrder>(
     ensures most { result ≤ blocks }
     ensures alike { slice_range (row T.BitStore O.BitOrder a.now) (k * T.BITS) (k * T.BITS + result * 64) ≡ slice_range (row U.BitStore P.BitOrder b.now) (l * U.BITS) (l * U.BITS + result * 64) }
 {
-    if !are_bytes_alike::<T, O, U, P>() {
+    if T::BITS != 8 || !are_alike::<T, O, U, P>() {
         return 0;
     }
     for t in 0..blocks {
@@ -162,8 +147,74 @@ fn differ_from<T: BitStore, O: BitOrder, U: BitStore, P: BitOrder>(
     Some(done + apart.trailing_zeros() as usize)
 }
 
+/// Like `differ_at`, from words `k` and `l` on, whose bits lie in one order: words are compared as they are. Requires that both
+/// kinds of words have one width and order.
+#[inline(always)]
+fn differ_alike<T: BitStore, O: BitOrder, U: BitStore, P: BitOrder>(
+    a: &[T],
+    k: usize,
+    b: &[U],
+    l: usize,
+    n: usize,
+) -> Option<usize>
+    requires width { U.BITS ≡ T.BITS }
+    requires order { (i : ℕ) → i < T.BITS → O.place T.BITS i ≡ P.place T.BITS i }
+    requires first { k * T.BITS + n ≤ T.BITS * length a.now }
+    requires second { l * T.BITS + n ≤ T.BITS * length b.now }
+    requires first_fits { k * T.BITS + n < 2 ^ 64 }
+    requires second_fits { l * T.BITS + n < 2 ^ 64 }
+    ensures { MatchOption result (slice_range (row T.BitStore O.BitOrder a.now) (k * T.BITS) (k * T.BITS + n) ≡ slice_range (row U.BitStore P.BitOrder b.now) (l * T.BITS) (l * T.BITS + n)) (λ d. IsFirstDifference (slice_range (row T.BitStore O.BitOrder a.now) (k * T.BITS) (k * T.BITS + n)) (slice_range (row U.BitStore P.BitOrder b.now) (l * T.BITS) (l * T.BITS + n)) d) }
+{
+    let width = T::BITS as usize;
+    let whole = n / width;
+    for t in 0..whole {
+        let left = a[k + t];
+        let right = word_alike::<T, O, U, P>(b[l + t]);
+        if left.to_u64() != right.to_u64() {
+            let apart = word_number::<T, O>(left) ^ word_number::<T, O>(right);
+            if apart != 0 {
+                return Some(t * width + apart.trailing_zeros() as usize);
+            }
+        }
+    }
+    let rest = (n % width) as u8;
+    let left = read_chunk::<T, O>(a, (k + whole) * width, rest);
+    let right = read_chunk::<U, P>(b, (l + whole) * width, rest);
+    let apart = left ^ right;
+    if apart == 0 {
+        return None;
+    }
+    Some(whole * width + apart.trailing_zeros() as usize)
+}
+
+/// Like `differ_from`, compiled once for runs that both begin with a word, and once for others.
+#[inline(never)]
+fn differ_apart<T: BitStore, O: BitOrder, U: BitStore, P: BitOrder>(
+    a: &[T],
+    k: usize,
+    skip: u8,
+    b: &[U],
+    l: usize,
+    over: u8,
+    n: usize,
+) -> Option<usize>
+    requires index { skip < T.BITS }
+    requires other_index { over < U.BITS }
+    requires first { k * T.BITS + skip + n ≤ T.BITS * length a.now }
+    requires second { l * U.BITS + over + n ≤ U.BITS * length b.now }
+    requires first_fits { k * T.BITS + skip + n < 2 ^ 64 }
+    requires second_fits { l * U.BITS + over + n < 2 ^ 64 }
+    ensures { MatchOption result (slice_range (row T.BitStore O.BitOrder a.now) (k * T.BITS + skip) (k * T.BITS + skip + n) ≡ slice_range (row U.BitStore P.BitOrder b.now) (l * U.BITS + over) (l * U.BITS + over + n)) (λ d. IsFirstDifference (slice_range (row T.BitStore O.BitOrder a.now) (k * T.BITS + skip) (k * T.BITS + skip + n)) (slice_range (row U.BitStore P.BitOrder b.now) (l * U.BITS + over) (l * U.BITS + over + n)) d) }
+{
+    if skip == 0 && over == 0 {
+        return differ_from::<T, O, U, P>(a, k, 0, b, l, 0, n);
+    }
+    differ_from::<T, O, U, P>(a, k, skip, b, l, over, n)
+}
+
 /// The first place at which the `n` bits of the row of `a` from `i` on and the `n` of `b` from `j` on
 /// differ. None exactly where the two runs are equal. Requires that both runs lie in their words.
+#[inline(always)]
 pub fn differ_at<T: BitStore, O: BitOrder, U: BitStore, P: BitOrder>(
     a: &[T],
     i: usize,
@@ -180,10 +231,10 @@ pub fn differ_at<T: BitStore, O: BitOrder, U: BitStore, P: BitOrder>(
     let (width, other) = (T::BITS as usize, U::BITS as usize);
     let (k, skip) = (i / width, (i % width) as u8);
     let (l, over) = (j / other, (j % other) as u8);
-    if skip == 0 && over == 0 {
-        return differ_from::<T, O, U, P>(a, k, 0, b, l, 0, n);
+    if skip == 0 && over == 0 && (T::BITS == 64 || n <= width) && are_alike::<T, O, U, P>() {
+        return differ_alike::<T, O, U, P>(a, k, b, l, n);
     }
-    differ_from::<T, O, U, P>(a, k, skip, b, l, over, n)
+    differ_apart::<T, O, U, P>(a, k, skip, b, l, over, n)
 }
 
 /// How many blocks of 64 bits, from place `from` on, have the other bit alone, up to one that does not or that has no block
@@ -246,9 +297,9 @@ fn find_by_chunks<T: BitStore, O: BitOrder>(
     Some(done + apart.trailing_zeros() as usize)
 }
 
-/// The first of the places `from..upto` that has this bit, counted from `from`. None exactly where there
-/// is none. Requires that `from` is at most `upto`, which is at most the row's length.
-pub fn find_bit<T: BitStore, O: BitOrder>(
+/// Like `find_bit`, by blocks and then by chunks of 64 bits.
+#[inline(never)]
+fn find_after<T: BitStore, O: BitOrder>(
     words: &[T],
     from: usize,
     upto: usize,
@@ -263,4 +314,33 @@ pub fn find_bit<T: BitStore, O: BitOrder>(
         return None;
     };
     Some(passed + at)
+}
+
+/// The first of the places `from..upto` that has this bit, counted from `from`. None exactly where there
+/// is none. Requires that `from` is at most `upto`, which is at most the row's length.
+#[inline(always)]
+pub fn find_bit<T: BitStore, O: BitOrder>(
+    words: &[T],
+    from: usize,
+    upto: usize,
+    bit: bool,
+) -> Option<usize>
+    requires ordered { from ≤ upto }
+    requires within { upto ≤ T.BITS * length words.now }
+    ensures { MatchOption result (slice_range (row T.BitStore O.BitOrder words.now) from upto ≡ replicate (upto - from) (not bit)) (λ k. IsFirst bit (slice_range (row T.BitStore O.BitOrder words.now) from upto) k) }
+{
+    if from == upto {
+        return None;
+    }
+    let width = T::BITS as usize;
+    let near = (width - from % width).min(upto - from);
+    let others = if bit { 0 } else { u64::MAX };
+    let apart = read_chunk::<T, O>(words, from, near as u8) ^ (others >> (64 - near));
+    if apart != 0 {
+        return Some(apart.trailing_zeros() as usize);
+    }
+    let Some(at) = find_after::<T, O>(words, from + near, upto, bit) else {
+        return None;
+    };
+    Some(near + at)
 }

@@ -1,4 +1,4 @@
-use Rattle.std.proofs.Common.{rules, arith}
+use Rattle.std.proofs.Common.{arith}
 use Rattle.bit_addressing.proofs.Words.{word_fits}
 use Rattle.bit_addressing.proofs.equal.equal_words.Goals as goal
 

@@ -28,15 +28,19 @@ module _ {X Y : Type 0} (value : X → ℕ) (given : Y → ℕ) (place other : �
       let inside : (i : ℕ) → i < 8 → place 8 i < 8 = subst (λ v. (i : ℕ) → i < v → place v i < v) ew lawful.in_range in
       rw (ew, eu) (runs_of_bytes n inside same (omega arith) (omega arith) alike)
 
+-- kinds of words that are alike, of which one is bytes, are bytes
+bytes : (place other : ℕ → ℕ → ℕ) (w u : ℕ) → w ≡ 8 → (u ≡ w) × ((i : ℕ) → i < w → place w i ≡ other w i) → (w ≡ 8) × (u ≡ 8) × ((i : ℕ) → i < 8 → place 8 i ≡ other 8 i)
+bytes place other w u eight alike = (eight, alike.0 ∙ eight, subst (λ v. (i : ℕ) → i < v → place v i ≡ other v i) eight alike.1)
+
 pub returns-then-pack-clause-alike : goal.returns-then-pack-clause-alike
 returns-then-pack-clause-alike g c =
-    let both = c.are_bytes_alike.ensures c.if-not-are_bytes_alike.false in
+    let both = bytes g.O.BitOrder.place g.P.BitOrder.place g.T.BitStore.BITS g.U.BitStore.BITS (sym c.BITS.ensures ∙ c.if-BITS-ne8.false) (c.are_alike.ensures c.if-not-are_alike.false) in
     runs g.T.BitStore.value g.U.BitStore.value g.O.BitOrder.place g.P.BitOrder.place c.args.a.now c.args.b.now c.args.k c.args.l g.T.BitStore.BITS g.U.BitStore.BITS c.loop-t.t c.args.blocks both.0 both.1
     (g.met.O.BitOrder.lawful g.T.BitStore.BITS g.met.T.BitStore.width) both.2 (omega arith) c.requires.first c.requires.second c.loop-t.invariant.alike
 
 pub loop-t-preserved : goal.loop-t-preserved
 loop-t-preserved g c =
-    let both = c.are_bytes_alike.ensures c.if-not-are_bytes_alike.false in
+    let both = bytes g.O.BitOrder.place g.P.BitOrder.place g.T.BitStore.BITS g.U.BitStore.BITS (sym c.BITS.ensures ∙ c.if-BITS-ne8.false) (c.are_alike.ensures c.if-not-are_alike.false) in
     let xs = row_of (λ w i. i) 8 (map g.T.BitStore.value c.args.a.now) in
     let ys = row_of (λ w i. i) 8 (map g.U.BitStore.value c.args.b.now) in
     let t = c.loop-t.t in
@@ -52,7 +56,7 @@ loop-t-preserved g c =
 
 pub returns-clause-alike : goal.returns-clause-alike
 returns-clause-alike g c =
-    let both = c.are_bytes_alike.ensures c.if-not-are_bytes_alike.false in
+    let both = bytes g.O.BitOrder.place g.P.BitOrder.place g.T.BitStore.BITS g.U.BitStore.BITS (sym c.BITS.ensures ∙ c.if-BITS-ne8.false) (c.are_alike.ensures c.if-not-are_alike.false) in
     let end : c.loop-t.t ≡ c.args.blocks = omega arith in
     runs g.T.BitStore.value g.U.BitStore.value g.O.BitOrder.place g.P.BitOrder.place c.args.a.now c.args.b.now c.args.k c.args.l g.T.BitStore.BITS g.U.BitStore.BITS c.args.blocks c.args.blocks both.0 both.1
     (g.met.O.BitOrder.lawful g.T.BitStore.BITS g.met.T.BitStore.width) both.2 (omega arith) c.requires.first c.requires.second

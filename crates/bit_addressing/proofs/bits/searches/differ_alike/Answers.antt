@@ -1,0 +1,152 @@
+use Rattle.std.proofs.Common.{◌≡◌, ℕ, ◌+◌, ◌*◌, ◌/◌, ◌%◌, ◌≤◌, ◌<◌, [], ◌∷◌, List, bit_xor, length, map, slice_range, w64, refl, sym, ◌∙◌, ap, subst, get_or, arith}
+use Rattle.std.specs.Int.{trailing_zeros}
+use Rattle.std.proofs.lemmas.Nat.{div-add-mod', xor_lt}
+use Rattle.bit_addressing.specs.Bits.{has_bit}
+use Rattle.bit_addressing.specs.Row.{number_of, row_of, IsFirstDifference}
+use Rattle.bit_addressing.specs.Typed.{row}
+use Rattle.bit_addressing.proofs.Differs.{AreAlike, alike_all, alike_more, alike_run, differ_here}
+use Rattle.bit_addressing.proofs.Packs.{same_word}
+use Rattle.bit_addressing.proofs.Rows.{width_positive}
+use Rattle.bit_addressing.proofs.Runs.{inside_words}
+use Rattle.bit_addressing.proofs.Wholes.{word_in_run}
+use Rattle.bit_addressing.proofs.lists.Shown.{length-run}
+use Rattle.bit_addressing.proofs.lists.Sized.{right_sum, one_more_word}
+use Rattle.bit_addressing.proofs.Typed.{length_row, row_whole}
+use Rattle.bit_addressing.proofs.bits.searches.differ_alike.Given as given
+use Rattle.bit_addressing.proofs.bits.searches.differ_alike.Goals as goal
+use Rattle.bit_addressing.proofs.bits.searches.differ_alike.Goals.{then-to_u64+else-apart-ne0, else-to_u64}
+
+-- where a word of a run begins, the width written otherwise
+word_begins : (k t d w : ℕ) → d ≡ w → (k + t) * d ≡ k * w + t * w
+word_begins k t d w e = ap (λ m. (k + t) * m) e ∙ right_sum k t w
+
+-- the bits of word t of a run that begins with word k
+module _ {X : Type 0} (value : X → ℕ) (place : ℕ → ℕ → ℕ) (w : ℕ) (positive : 0 < w) (ws : List X) where
+  word_of_run : (u d k n t : ℕ) (word : X) → u ≡ w → d ≡ w → t < n / d → k * w + n ≤ w * length ws → word ≡ get_or ws (k + t) word → row_of place u (value word ∷ []) ≡ slice_range (row_of place u (map value ws)) (k * w + t * w) (k * w + t * w + w)
+  word_of_run u d k n t word width e h inside is =
+      let within = word_in_run d w n t e h in
+      let at : k * w + t * w ≡ (k + t) * w = sym (right_sum k t w) in
+      let there : k + t < length ws = inside_words w (k + t) (length ws) (k * w + t * w) at (omega arith) in
+      rw width (row_whole value place w ws (k + t) (k * w + t * w) (k * w + t * w + w) word positive there is at (ap (λ m. m + w) at))
+
+first_in : (g : given.Over) (c : goal.Then-apart-ne0 g) → IsFirstDifference (slice_range (row g.T.BitStore g.O.BitOrder c.args.a.now) (c.args.k * g.T.BitStore.BITS) (c.args.k * g.T.BitStore.BITS + c.args.n)) (slice_range (row g.U.BitStore g.P.BitOrder c.args.b.now) (c.args.l * g.T.BitStore.BITS) (c.args.l * g.T.BitStore.BITS + c.args.n)) (c.loop-t.t * c.BITS-width.result + trailing_zeros w64 (bit_xor c.word_number.result c.word_number-then-to_u64.result))
+first_in g c =
+    let w = g.T.BitStore.BITS in
+    let u = g.U.BitStore.BITS in
+    let d = c.BITS-width.result in
+    let e = c.BITS-width.ensures in
+    let n = c.args.n in
+    let xs = row g.T.BitStore g.O.BitOrder c.args.a.now in
+    let ys = row g.U.BitStore g.P.BitOrder c.args.b.now in
+    let first : length xs ≡ w * length c.args.a.now = length_row g.T.BitStore.value g.O.BitOrder.place w c.args.a.now in
+    let second : length ys ≡ w * length c.args.b.now = length_row g.U.BitStore.value g.P.BitOrder.place u c.args.b.now ∙ ap (λ m. m * length c.args.b.now) c.requires.width in
+    let t = c.loop-t.t in
+    let i : ℕ = c.args.k * w in
+    let j : ℕ = c.args.l * w in
+    let k : ℕ = t * w in
+    let x = c.word_number.result in
+    let y = c.word_number-then-to_u64.result in
+    let positive = width_positive w g.met.T.BitStore.width in
+    let within = word_in_run d w n t e (omega arith) in
+    let left = word_of_run g.T.BitStore.value g.O.BitOrder.place w positive c.args.a.now w d c.args.k n t c.index-a-k.result refl e (omega arith) c.requires.first c.index-a-k.is in
+    let right = c.word_alike-right.ensures ∙ word_of_run g.U.BitStore.value g.P.BitOrder.place w positive c.args.b.now u d c.args.l n t c.index-b-l.result c.requires.width e (omega arith) (omega arith) c.index-b-l.is in
+    subst (λ m. IsFirstDifference (slice_range xs i (i + n)) (slice_range ys j (j + n)) (t * m + trailing_zeros w64 (bit_xor x y))) (sym e)
+    (differ_here xs ys i j k w x y (i + k) (j + k) refl refl (c.word_number.ensures ∙ ap number_of left) (c.word_number-then-to_u64.ensures ∙ ap number_of right)
+    n c.if-apart-ne0.true (xor_lt 64 x y c.word_number.type_inv c.word_number-then-to_u64.type_inv) (omega arith) (omega arith) (omega arith) c.loop-t.invariant.alike)
+
+pub returns-then-apart-ne0 : goal.returns-then-apart-ne0
+returns-then-apart-ne0 g c = first_in g c
+
+pub overflow_add-result : goal.overflow_add-result
+overflow_add-result g c =
+    let xs = row g.T.BitStore g.O.BitOrder c.args.a.now in
+    let i : ℕ = c.args.k * g.T.BitStore.BITS in
+    let first : length xs ≡ g.T.BitStore.BITS * length c.args.a.now = length_row g.T.BitStore.value g.O.BitOrder.place g.T.BitStore.BITS c.args.a.now in
+    let size = length-run xs i c.args.n (omega arith) in
+    let inside = (first_in g c).within in
+    omega arith
+
+pub loop-t-preserved : goal.loop-t-preserved
+loop-t-preserved g c =
+    let w = g.T.BitStore.BITS in
+    let u = g.U.BitStore.BITS in
+    let d = c.BITS-width.result in
+    let xs = row g.T.BitStore g.O.BitOrder c.args.a.now in
+    let ys = row g.U.BitStore g.P.BitOrder c.args.b.now in
+    let t = c.loop-t.t in
+    let i : ℕ = c.args.k * w in
+    let j : ℕ = c.args.l * w in
+    let k : ℕ = t * w in
+    let positive = width_positive w g.met.T.BitStore.width in
+    let other_positive = width_positive u g.met.U.BitStore.width in
+    let next : k + w ≡ (t + 1) * w = sym (one_more_word t w) in
+    let left = word_of_run g.T.BitStore.value g.O.BitOrder.place w positive c.args.a.now w d c.args.k c.args.n t c.index-a-k.result refl c.BITS-width.ensures (omega arith) c.requires.first c.index-a-k.is in
+    let right = c.word_alike-right.ensures ∙ word_of_run g.U.BitStore.value g.P.BitOrder.place w positive c.args.b.now u d c.args.l c.args.n t c.index-b-l.result c.requires.width c.BITS-width.ensures (omega arith) (omega arith) c.index-b-l.is in
+    let alike : AreAlike xs ys i j (k + w) = elim c.if-to_u64.branch [
+      | then-to_u64+else-apart-ne0 v ↦
+          alike_more xs ys i j k w v.word_number.result v.word_number-then-to_u64.result (i + k) (j + k) refl refl (v.word_number.ensures ∙ ap number_of left) (v.word_number-then-to_u64.ensures ∙ ap number_of right) v.if-apart-ne0.false c.loop-t.invariant.alike
+      | else-to_u64 v ↦
+          alike_run xs ys i j k w (i + k) (j + k) refl refl
+          (sym left
+          ∙ same_word g.O.BitOrder.place g.O.BitOrder.place w w (g.T.BitStore.value c.index-a-k.result) (g.T.BitStore.value c.word_alike-right.result) positive refl (g.met.O.BitOrder.lawful w g.met.T.BitStore.width) (λ p h. refl)
+          (λ p h. sym (c.to_u64.ensures.low p h) ∙ ap (λ m. has_bit m p) v.if-to_u64.false ∙ c.to_u64-in-loop-t.ensures.low p h)
+          ∙ right) c.loop-t.invariant.alike
+    ] in
+    record { alike = subst (AreAlike xs ys i j) next alike }
+
+pub returns-then-apart-eq0 : goal.returns-then-apart-eq0
+returns-then-apart-eq0 g c =
+    let w = g.T.BitStore.BITS in
+    let u = g.U.BitStore.BITS in
+    let d = c.BITS-width.result in
+    let e = c.BITS-width.ensures in
+    let n = c.args.n in
+    let xs = row g.T.BitStore g.O.BitOrder c.args.a.now in
+    let ys = row g.U.BitStore g.P.BitOrder c.args.b.now in
+    let first : length xs ≡ w * length c.args.a.now = length_row g.T.BitStore.value g.O.BitOrder.place w c.args.a.now in
+    let second : length ys ≡ w * length c.args.b.now = length_row g.U.BitStore.value g.P.BitOrder.place u c.args.b.now ∙ ap (λ m. m * length c.args.b.now) c.requires.width in
+    let i : ℕ = c.args.k * w in
+    let j : ℕ = c.args.l * w in
+    let whole : ℕ = n / d in
+    let split = div-add-mod' n d in
+    let wide : whole * d ≡ whole * w = ap (λ m. whole * m) e in
+    let all : c.loop-t.t ≡ whole = omega arith in
+    alike_all xs ys i j n (whole * w + n % d) (omega arith) (omega arith) (omega arith)
+    (alike_more xs ys i j (whole * w) (n % d) c.read_chunk-left.result c.read_chunk-right.result ((c.args.k + whole) * d) ((c.args.l + whole) * d) (word_begins c.args.k whole d w e) (word_begins c.args.l whole d w e) c.read_chunk-left.ensures c.read_chunk-right.ensures c.if-apart-eq0.true
+    (subst (λ m. AreAlike xs ys i j (m * w)) all c.loop-t.invariant.alike))
+
+last_in : (g : given.Over) (c : goal.Else-apart-eq0 g) → IsFirstDifference (slice_range (row g.T.BitStore g.O.BitOrder c.args.a.now) (c.args.k * g.T.BitStore.BITS) (c.args.k * g.T.BitStore.BITS + c.args.n)) (slice_range (row g.U.BitStore g.P.BitOrder c.args.b.now) (c.args.l * g.T.BitStore.BITS) (c.args.l * g.T.BitStore.BITS + c.args.n)) (c.args.n / c.BITS-width.result * c.BITS-width.result + trailing_zeros w64 (bit_xor c.read_chunk-left.result c.read_chunk-right.result))
+last_in g c =
+    let w = g.T.BitStore.BITS in
+    let u = g.U.BitStore.BITS in
+    let d = c.BITS-width.result in
+    let e = c.BITS-width.ensures in
+    let n = c.args.n in
+    let xs = row g.T.BitStore g.O.BitOrder c.args.a.now in
+    let ys = row g.U.BitStore g.P.BitOrder c.args.b.now in
+    let first : length xs ≡ w * length c.args.a.now = length_row g.T.BitStore.value g.O.BitOrder.place w c.args.a.now in
+    let second : length ys ≡ w * length c.args.b.now = length_row g.U.BitStore.value g.P.BitOrder.place u c.args.b.now ∙ ap (λ m. m * length c.args.b.now) c.requires.width in
+    let i : ℕ = c.args.k * w in
+    let j : ℕ = c.args.l * w in
+    let x = c.read_chunk-left.result in
+    let y = c.read_chunk-right.result in
+    let whole : ℕ = n / d in
+    let split = div-add-mod' n d in
+    let wide : whole * d ≡ whole * w = ap (λ m. whole * m) e in
+    let all : c.loop-t.t ≡ whole = omega arith in
+    subst (λ m. IsFirstDifference (slice_range xs i (i + n)) (slice_range ys j (j + n)) (m + trailing_zeros w64 (bit_xor x y))) (sym wide)
+    (differ_here xs ys i j (whole * w) (n % d) x y ((c.args.k + whole) * d) ((c.args.l + whole) * d) (word_begins c.args.k whole d w e) (word_begins c.args.l whole d w e) c.read_chunk-left.ensures c.read_chunk-right.ensures
+    n c.if-apart-eq0.false (xor_lt 64 x y c.read_chunk-left.type_inv c.read_chunk-right.type_inv) (omega arith) (omega arith) (omega arith)
+    (subst (λ m. AreAlike xs ys i j (m * w)) all c.loop-t.invariant.alike))
+
+pub overflow_add-result-2 : goal.overflow_add-result-2
+overflow_add-result-2 g c =
+    let xs = row g.T.BitStore g.O.BitOrder c.args.a.now in
+    let i : ℕ = c.args.k * g.T.BitStore.BITS in
+    let first : length xs ≡ g.T.BitStore.BITS * length c.args.a.now = length_row g.T.BitStore.value g.O.BitOrder.place g.T.BitStore.BITS c.args.a.now in
+    let size = length-run xs i c.args.n (omega arith) in
+    let inside = (last_in g c).within in
+    omega arith
+
+pub returns : goal.returns
+returns g c = last_in g c

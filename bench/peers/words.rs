@@ -1,0 +1,297 @@
+//! The calls of the bench on a vector of words written by hand. Prints what the program prints, each line after a name.
+use std::fmt::Write;
+use std::hint::black_box;
+use std::time::Instant;
+
+#[derive(Clone, Default)]
+struct Bits {
+    words: Vec<u64>,
+    len: usize,
+}
+
+fn bit_at(i: usize) -> bool {
+    (i as u64).wrapping_mul(0xD1342543DE82EF95).wrapping_add(0x2545F4914F6CDD1D) >> 61 & 1 == 1
+}
+
+impl Bits {
+    fn made(n: usize, seed: usize) -> Bits {
+        let mut made = Bits::default();
+        for i in 0..n {
+            made.push(bit_at(i + seed));
+        }
+        made
+    }
+
+    fn repeat(bit: bool, n: usize) -> Bits {
+        Bits { words: vec![if bit { !0 } else { 0 }; n.div_ceil(64)], len: n }.clean()
+    }
+
+    fn clean(mut self) -> Bits {
+        self.clear_rest();
+        self
+    }
+
+    fn clear_rest(&mut self) {
+        if self.len % 64 != 0 {
+            *self.words.last_mut().unwrap() &= (1 << self.len % 64) - 1;
+        }
+    }
+
+    fn push(&mut self, bit: bool) {
+        if self.len % 64 == 0 {
+            self.words.push(bit as u64);
+        } else {
+            *self.words.last_mut().unwrap() |= (bit as u64) << self.len % 64;
+        }
+        self.len += 1;
+    }
+
+    fn pop(&mut self) -> Option<bool> {
+        let i = self.len.checked_sub(1)?;
+        let bit = self.get(i);
+        self.words[i / 64] &= !(1 << i % 64);
+        if i % 64 == 0 {
+            self.words.pop();
+        }
+        self.len = i;
+        bit
+    }
+
+    fn get(&self, i: usize) -> Option<bool> {
+        (i < self.len).then(|| self.words[i / 64] >> i % 64 & 1 == 1)
+    }
+
+    fn set(&mut self, i: usize, bit: bool) {
+        let word = &mut self.words[i / 64];
+        *word = *word & !(1 << i % 64) | (bit as u64) << i % 64;
+    }
+
+    fn count_ones(&self) -> usize {
+        self.words.iter().map(|w| w.count_ones() as usize).sum()
+    }
+
+    fn and(&mut self, other: &Bits) {
+        for (a, b) in self.words.iter_mut().zip(&other.words) {
+            *a &= b;
+        }
+    }
+
+    fn insert(&mut self, i: usize, bit: bool) {
+        self.push(false);
+        let k = i / 64;
+        let mut carry = self.words[k] >> 63;
+        let low = (1u64 << i % 64) - 1;
+        self.words[k] = self.words[k] & low | (self.words[k] & !low) << 1 | (bit as u64) << i % 64;
+        for word in &mut self.words[k + 1..] {
+            let next = *word >> 63;
+            *word = *word << 1 | carry;
+            carry = next;
+        }
+        self.clear_rest();
+    }
+
+    fn remove(&mut self, i: usize) -> bool {
+        let bit = self.get(i).unwrap();
+        let k = i / 64;
+        let low = (1u64 << i % 64) - 1;
+        self.words[k] = self.words[k] & low | self.words[k] >> 1 & !low;
+        for j in k + 1..self.words.len() {
+            self.words[j - 1] |= self.words[j] << 63;
+            self.words[j] >>= 1;
+        }
+        self.len -= 1;
+        self.words.truncate(self.len.div_ceil(64));
+        bit
+    }
+
+    fn sum_of_ones(&self) -> usize {
+        let mut total = 0usize;
+        for (k, word) in self.words.iter().enumerate() {
+            let mut left = *word;
+            while left != 0 {
+                total = total.wrapping_add(k * 64 + left.trailing_zeros() as usize);
+                left &= left - 1;
+            }
+        }
+        total
+    }
+
+    fn shift_left(&mut self, by: usize) {
+        let (k, n) = (by / 64, by % 64);
+        let count = self.words.len();
+        for j in 0..count {
+            let low = self.words.get(j + k).copied().unwrap_or(0);
+            let high = self.words.get(j + k + 1).copied().unwrap_or(0);
+            self.words[j] = if n == 0 { low } else { low >> n | high << (64 - n) };
+        }
+    }
+
+    fn reverse(&mut self) {
+        self.words.reverse();
+        for word in &mut self.words {
+            *word = word.reverse_bits();
+        }
+        let spare = self.words.len() * 64 - self.len;
+        let len = self.len;
+        self.shift_left(spare);
+        self.len = len;
+    }
+
+    fn text(&self) -> String {
+        let mut text = String::from("[");
+        for i in 0..self.len {
+            if i > 0 {
+                text.push_str(", ");
+            }
+            text.push(if self.get(i) == Some(true) { '1' } else { '0' });
+        }
+        text + "]"
+    }
+
+    fn digits(&self, size: usize) -> String {
+        let mut text = String::from("[");
+        for i in (0..self.len).step_by(size) {
+            let mut digit = 0;
+            for k in i..(i + size).min(self.len) {
+                digit = digit * 2 + u32::from(self.get(k) == Some(true));
+            }
+            write!(text, "{digit:x}").unwrap();
+        }
+        text + "]"
+    }
+}
+
+fn timed<V, A>(name: &str, repetitions: usize, make: impl Fn() -> V, work: impl Fn(&mut V) -> A, check: impl Fn(&V, A) -> usize) {
+    let (mut best, mut sum) = (u128::MAX, 0);
+    for _ in 0..repetitions {
+        let mut value = black_box(make());
+        let start = Instant::now();
+        let answer = black_box(work(&mut value));
+        best = best.min(start.elapsed().as_nanos());
+        sum = check(black_box(&value), answer);
+    }
+    println!("{name} {best} {sum}");
+}
+
+fn large(n: usize, r: usize) {
+    let row = Bits::made(n, 0);
+    let other = Bits::made(n, 5);
+    let same = row.clone();
+    let none = || ();
+    let ones = |v: &Bits, _: ()| v.count_ones();
+    timed("push", r, none, |_| Bits::made(n, 0), |_, v| v.len);
+    timed("pop", r, || row.clone(), |v| { let mut t = 0; while let Some(b) = v.pop() { t += b as usize } t }, |_, t| t);
+    timed("get", r, none, |_| (0..row.len).filter(|i| row.get(*i) == Some(true)).count(), |_, t| t);
+    timed("for", r, none, |_| (0..row.len).fold(0usize, |t, i| t.wrapping_mul(3).wrapping_add((row.words[i / 64] >> i % 64 & 1) as usize)), |_, t| t);
+    timed("count_ones", r, none, |_| row.count_ones(), |_, t| t);
+    timed("equal", r, none, |_| row.len == same.len && row.words == same.words, |_, t| t as usize);
+    timed("and", r, || row.clone(), |v| v.and(&other), ones);
+    timed("not", r, || row.clone(), |v| { for w in &mut v.words { *w = !*w } v.clear_rest() }, ones);
+    timed("fill", r, || row.clone(), |v| { v.words.fill(!0); v.clear_rest() }, ones);
+    timed("clone", r, none, |_| row.clone(), |_, v| v.len);
+    timed("repeat", r, none, |_| Bits::repeat(true, n), |_, v| v.len);
+    timed("insert_front", r, || row.clone(), |v| v.insert(0, true), ones);
+    let part = Bits::made(n / 16, 0);
+    timed("text_list_16th", r, none, |_| part.text(), |_, s| s.len());
+    timed("text_binary_16th", r, none, |_| part.digits(1), |_, s| s.len());
+    timed("text_hex_16th", r, none, |_| part.digits(4), |_, s| s.len());
+}
+
+fn views(n: usize, r: usize) {
+    let row = Bits::made(n, 0);
+    let same = row.clone();
+    let none = || ();
+    let ones = |v: &Bits, _: ()| v.count_ones();
+    timed("ones_half", r, none, |_| row.sum_of_ones(), |_, t| t);
+    for (name, step) in [("ones_67th", 67), ("ones_5003rd", 5003)] {
+        let mut thin = Bits::repeat(false, n);
+        for i in (0..n).step_by(step) {
+            thin.set(i, true);
+        }
+        timed(name, r, none, |_| thin.sum_of_ones(), |_, t| t);
+    }
+    timed("is_subset", r, none, |_| row.words.iter().zip(&same.words).all(|(a, b)| a & !b == 0), |_, t| t as usize);
+    timed("count_xor", r, none, |_| row.words.iter().zip(&same.words).map(|(a, b)| (a ^ b).count_ones() as usize).sum::<usize>(), |_, t| t);
+    let copy_down = |v: &mut Bits| {
+        let last = n - 3;
+        let kept: Vec<bool> = (last..n).map(|i| v.get(i) == Some(true)).collect();
+        v.shift_left(3);
+        for (k, bit) in kept.iter().enumerate() {
+            v.set(last + k, *bit);
+        }
+    };
+    timed("copy_within", r, || row.clone(), copy_down, ones);
+    timed("reverse", r, || row.clone(), |v| v.reverse(), ones);
+    let rotate = |v: &mut Bits| {
+        let front = v.clone();
+        v.shift_left(1001);
+        for i in 0..1001 {
+            v.set(n - 1001 + i, front.get(i) == Some(true));
+        }
+    };
+    timed("rotate_left", r, || row.clone(), rotate, ones);
+    timed("shift_left", r, || row.clone(), |v| v.shift_left(1001), ones);
+}
+
+fn small(n: usize, r: usize) {
+    let family = || -> Vec<Bits> {
+        (0..64).map(|k| { let mut v = Bits::made(n, 0); if k % 2 == 0 { v.set(n - 1, false) } v }).collect()
+    };
+    let all = family();
+    let none = || ();
+    let ones = |all: &[Bits]| (0..64).map(|_| all.iter().map(|v| v.count_ones()).sum::<usize>()).sum::<usize>();
+    println!("bits {n} 0");
+    timed("small_equal", r, none, |_| all.iter().map(|a| all.iter().filter(|b| a.len == b.len && a.words == b.words).count()).sum::<usize>(), |_, t| t);
+    let before = |a: &Bits, b: &Bits| {
+        for (x, y) in a.words.iter().zip(&b.words) {
+            if x != y {
+                return y >> (x ^ y).trailing_zeros() & 1 == 1;
+            }
+        }
+        a.len < b.len
+    };
+    timed("small_cmp", r, none, |_| all.iter().map(|a| all.iter().filter(|b| before(a, b)).count()).sum::<usize>(), |_, t| t);
+    timed("small_and", r, family, |copies| { for a in copies.iter_mut() { for b in &all { a.and(b) } } }, |v, _| ones(v));
+    timed("small_count", r, none, |_| ones(black_box(&all)), |_, t| t);
+    timed("small_clone", r, none, |_| { let mut t = 0; for _ in 0..16 { for a in &all { t += black_box(a.clone()).len } } t }, |_, t| t);
+    let work = |v: &mut Bits| {
+        let mut total = 0usize;
+        for k in 0..4096usize {
+            let len = v.len;
+            v.insert(k % (len + 1), k % 3 == 0);
+            total += v.remove(k % 40 % v.len) as usize;
+        }
+        total
+    };
+    timed("small_insert", r, || Bits::made(n, 0), work, |_, t| t);
+}
+
+fn arrays(r: usize) {
+    let four = |k: u64| { let w = (k + 1).wrapping_mul(0x9E3779B97F4A7C15); [w, w.wrapping_mul(3), w.wrapping_mul(5), w.wrapping_mul(7)] };
+    let mix = |_: &mut ()| {
+        let (mut x, a, b, c) = (black_box(four(0)), black_box(four(1)), black_box(four(2)), black_box(four(3)));
+        for _ in 0..100000 {
+            for k in 0..4 {
+                x[k] = x[k] & a[k] ^ b[k] | c[k];
+            }
+            x = black_box(x);
+        }
+        x.iter().map(|w| w.count_ones() as usize).sum::<usize>()
+    };
+    timed("array256_mix", r, || (), mix, |_, t| t);
+    let equal = |_: &mut ()| {
+        let (a, b) = (black_box(four(1)), black_box(four(2)));
+        (0..100000u64).filter(|k| black_box(if k % 3 == 0 { a } else { b }) == a).count()
+    };
+    timed("array256_equal", r, || (), equal, |_, t| t);
+}
+
+fn main() {
+    let words: Vec<usize> = std::env::args().skip(1).map(|w| w.parse().unwrap()).collect();
+    let (n, r) = (words[0], words[1]);
+    large(n, r);
+    views(n, r);
+    small(50, r);
+    small(300, r);
+    arrays(r);
+}

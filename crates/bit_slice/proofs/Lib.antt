@@ -12,6 +12,7 @@ pub mod Ranges
 pub mod Pieces
 pub mod Sets
 pub mod Turned
+pub mod Moved
 pub mod Within
 pub mod Writing
 pub mod Digits

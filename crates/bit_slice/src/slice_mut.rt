@@ -12,6 +12,7 @@ ghost use Rattle.bit_slice.specs.Fits.{IsView};
 
 mod fields;
 mod moves;
+mod parts;
 mod ranges;
 
 use crate::counted_mut::CountedMut;

@@ -1,5 +1,5 @@
 //! The bits of a view in another order, reversed, rotated and shifted, and combined with others of the view.
-ghost use Rattle.std.specs.Prelude.{◌≡◌, ℕ, ◌+◌, ◌-◌, ◌*◌, ◌<◌, ◌≤◌, ◌++◌, drop, false, length, replicate, reverse, slice_get, slice_range, take};
+ghost use Rattle.std.specs.Prelude.{◌≡◌, ℕ, ◌+◌, ◌-◌, ◌*◌, ◌<◌, ◌≤◌, ◌++◌, Some, drop, false, length, replicate, reverse, slice_get, slice_range, take};
 ghost use Rattle.bit_addressing.specs.Range.{LiesIn};
 ghost use Rattle.bit_addressing.specs.Row.{put};
 ghost use Rattle.bit_slice.specs.Operators.{and_of, or_of, xor_of};
@@ -16,6 +16,7 @@ impl<'a, T: BitStore, O: BitOrder> BitSliceMut<'a, T, O> {
     pub fn reverse(&mut self)
         ensures row { row_of self.new ≡ put (row_of self.old) (head_of self.old) (reverse (list_of self.old)) }
         ensures list { list_of self.new ≡ reverse (list_of self.old) }
+        ensures index { (j : ℕ) → j < len_of self.old → slice_get (list_of self.new) j ≡ slice_get (list_of self.old) (len_of self.old - 1 - j) }
         ensures stays { Stays self.old self.new }
     {
         reverse_words::<T, O>(self.words, self.head, self.len);
@@ -27,6 +28,8 @@ impl<'a, T: BitStore, O: BitOrder> BitSliceMut<'a, T, O> {
         requires { by ≤ len_of self.old }
         ensures row { row_of self.new ≡ put (row_of self.old) (head_of self.old) (drop by (list_of self.old) ++ take by (list_of self.old)) }
         ensures list { list_of self.new ≡ drop by (list_of self.old) ++ take by (list_of self.old) }
+        ensures front { (j : ℕ) → j + by < len_of self.old → slice_get (list_of self.new) j ≡ slice_get (list_of self.old) (j + by) }
+        ensures back { (j : ℕ) → j < by → slice_get (list_of self.new) (len_of self.old - by + j) ≡ slice_get (list_of self.old) j }
         ensures stays { Stays self.old self.new }
     {
         rotate_words::<T, O>(self.words, self.head, self.len, by);
@@ -38,6 +41,8 @@ impl<'a, T: BitStore, O: BitOrder> BitSliceMut<'a, T, O> {
         requires { by ≤ len_of self.old }
         ensures row { row_of self.new ≡ put (row_of self.old) (head_of self.old) (drop (len_of self.old - by) (list_of self.old) ++ take (len_of self.old - by) (list_of self.old)) }
         ensures list { list_of self.new ≡ drop (len_of self.old - by) (list_of self.old) ++ take (len_of self.old - by) (list_of self.old) }
+        ensures front { (j : ℕ) → j < by → slice_get (list_of self.new) j ≡ slice_get (list_of self.old) (len_of self.old - by + j) }
+        ensures back { (j : ℕ) → j + by < len_of self.old → slice_get (list_of self.new) (j + by) ≡ slice_get (list_of self.old) j }
         ensures stays { Stays self.old self.new }
     {
         let front = self.len - by;
@@ -51,6 +56,8 @@ impl<'a, T: BitStore, O: BitOrder> BitSliceMut<'a, T, O> {
         requires { by ≤ len_of self.old }
         ensures row { row_of self.new ≡ put (row_of self.old) (head_of self.old) (drop by (list_of self.old) ++ replicate by false) }
         ensures list { list_of self.new ≡ drop by (list_of self.old) ++ replicate by false }
+        ensures kept { (j : ℕ) → j + by < len_of self.old → slice_get (list_of self.new) j ≡ slice_get (list_of self.old) (j + by) }
+        ensures cleared { (j : ℕ) → len_of self.old ≤ j + by → j < len_of self.old → slice_get (list_of self.new) j ≡ Some false }
         ensures stays { Stays self.old self.new }
     {
         shift_words_left::<T, O>(self.words, self.head, self.len, by);
@@ -63,6 +70,8 @@ impl<'a, T: BitStore, O: BitOrder> BitSliceMut<'a, T, O> {
         requires { by ≤ len_of self.old }
         ensures row { row_of self.new ≡ put (row_of self.old) (head_of self.old) (replicate by false ++ take (len_of self.old - by) (list_of self.old)) }
         ensures list { list_of self.new ≡ replicate by false ++ take (len_of self.old - by) (list_of self.old) }
+        ensures kept { (j : ℕ) → j + by < len_of self.old → slice_get (list_of self.new) (j + by) ≡ slice_get (list_of self.old) j }
+        ensures cleared { (j : ℕ) → j < by → slice_get (list_of self.new) j ≡ Some false }
         ensures stays { Stays self.old self.new }
     {
         shift_words_right::<T, O>(self.words, self.head, self.len, by);

@@ -1,5 +1,5 @@
 //! What views read and write.
-ghost use Rattle.std.specs.Prelude.{◌≡◌, ◌+◌, ◌*◌, ◌-◌, ◌<◌, ◌≤◌, true, false, length, set, swap, slice_get, Some};
+ghost use Rattle.std.specs.Prelude.{◌≡◌, ◌+◌, ◌*◌, ◌-◌, ◌<◌, ◌≤◌, true, false, count_by, length, set, swap, slice_get, slice_range, Some};
 ghost use Rattle.bit_addressing.specs.Typed.{row};
 ghost use Rattle.bit_slice.specs.BitSliceMut.{head_of, len_of, row_of, list_of, loan_of};
 ghost use Rattle.bit_addressing.specs.declared.length.TheConstants.{MAX_BITS};
@@ -61,6 +61,80 @@ fn count_two(words: &[u16]) -> usize
     ensures { result ≤ 32 }
 {
     BitSlice::<u16, Msb0>::from_slice(words).count_ones()
+}
+
+// What stands at an index after the others moved.
+fn shifted<T: BitStore, O: BitOrder>(view: &mut BitSliceMut<'_, T, O>) -> Option<bool>
+    requires { 5 < len_of view.old }
+    ensures value { result ≡ slice_get (list_of view.old) 5 }
+    ensures len { len_of view.new ≡ len_of view.old }
+{
+    view.shift_left(3);
+    view.get(2)
+}
+
+fn emptied<T: BitStore, O: BitOrder>(view: &mut BitSliceMut<'_, T, O>) -> Option<bool>
+    requires { len_of view.old ≡ 8 }
+    ensures { result ≡ Some false }
+{
+    view.shift_left(3);
+    view.get(6)
+}
+
+fn turned<T: BitStore, O: BitOrder>(view: &mut BitSliceMut<'_, T, O>) -> Option<bool>
+    requires { len_of view.old ≡ 8 }
+    ensures value { result ≡ slice_get (list_of view.old) 5 }
+    ensures len { len_of view.new ≡ len_of view.old }
+{
+    view.rotate_right(3);
+    view.get(0)
+}
+
+fn reversed<T: BitStore, O: BitOrder>(view: &mut BitSliceMut<'_, T, O>) -> Option<bool>
+    requires { len_of view.old ≡ 8 }
+    ensures value { result ≡ slice_get (list_of view.old) 5 }
+    ensures len { len_of view.new ≡ len_of view.old }
+{
+    view.reverse();
+    view.get(2)
+}
+
+// A part shows what it is lent.
+fn counted_part<T: BitStore, O: BitOrder>(words: &mut [T]) -> usize
+    requires some { 20 ≤ T.BITS * length words.old }
+    requires fits { T.BITS * length words.old ≤ MAX_BITS }
+    ensures { result ≡ count_by (λ b. b) (slice_range (row T.BitStore O.BitOrder words.old) 4 20) }
+{
+    let mut view = BitSliceMut::<T, O>::from_slice_mut(words);
+    let part = view.part_mut(4, 20);
+    part.count_ones()
+}
+
+#[test]
+fn moved_bits(rt: HostRuntime) {
+    // 0, 1, 1, 0, 0, 1, 0, 1
+    let mut words = [0x65_u8];
+    let mut view = BitSliceMut::<u8, Msb0>::from_slice_mut(&mut words);
+    assert_eq!(rt; turned(&mut view), Some(true));
+    // 1, 0, 1, 0, 1, 1, 0, 0
+    assert_eq!(rt; reversed(&mut view), Some(true));
+    // 0, 0, 1, 1, 0, 1, 0, 1
+    assert_eq!(rt; shifted(&mut view), Some(true));
+    // 1, 0, 1, 0, 1, 0, 0, 0
+    assert_eq!(rt; emptied(&mut view), Some(false));
+    assert_eq!(rt; words[0], 0x40);
+}
+
+#[test]
+fn part_lands(rt: HostRuntime) {
+    let mut words = [0x00ff_u16, 0x0000, 0xffff];
+    assert_eq!(rt; counted_part::<u16, Lsb0>(&mut words), 4);
+    let mut view = BitSliceMut::<u16, Lsb0>::from_slice_mut(&mut words);
+    let mut part = view.part_mut(4, 36);
+    assert!(rt; part.head() == 4 && part.len() == 32);
+    part.flip_all();
+    part.part_mut(12, 28).fill(false);
+    assert_eq!(rt; words.as_slice(), [0xff0f, 0x0000, 0xfff0].as_slice());
 }
 
 #[test]

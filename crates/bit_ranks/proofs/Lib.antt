@@ -1,0 +1,3 @@
+pub mod Halves
+pub mod Numbered
+pub mod Runs

@@ -1,7 +1,7 @@
 -- The ones of a number, divided at a place.
-use Rattle.std.proofs.Common.{◌≡◌, ℕ, zero, suc, ◌+◌, ◌-◌, ◌*◌, ◌/◌, ◌%◌, ◌^◌, ◌<◌, ◌≤◌, Bool, true, false, refl, sym, ◌∙◌, ap, arith}
+use Rattle.std.proofs.Common.{◌≡◌, ℕ, zero, suc, ◌+◌, ◌-◌, ◌*◌, ◌/◌, ◌%◌, ◌^◌, ◌<◌, ◌≤◌, true, refl, ◌∙◌, ap, arith}
 use Rattle.std.specs.Prelude.{count_ones, eqb, bit_and}
-use Rattle.std.proofs.lemmas.Nat.{ones_cat, shr_split, mod-pow-add, mod_below, pow_pos, and_mask, one_shl, pow_below, shr-shr}
+use Rattle.std.proofs.lemmas.Nat.{ones_cat, mod-pow-add, mod_below, pow_pos, and_mask, one_shl}
 use Rattle.std.proofs.Math.Nat.{pow-suc}
 use Rattle.std.proofs.lemmas.Nat.{ones_le_self}
 use Rattle.bit_ranks.specs.Ranks.{IsPower}

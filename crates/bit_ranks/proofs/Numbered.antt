@@ -1,10 +1,9 @@
 -- The bits of a list before an index, counted, and the bit with a number.
-use Rattle.std.proofs.Common.{◌≡◌, ◌↔◌, ℕ, zero, suc, ◌+◌, ◌-◌, ◌*◌, ◌/◌, ◌%◌, ◌^◌, ◌<◌, ◌≤◌, Bool, true, false, not, cond, List, [], ◌∷◌, ◌++◌, map, length, take, drop, get_or, count_by, slice_get, slice_range, Some, None, Option, IfSome, IfNone, refl, sym, ◌∙◌, ap, subst, inl, inr, arith, rules}
+use Rattle.std.proofs.Common.{◌≡◌, ◌↔◌, ℕ, suc, ◌+◌, ◌-◌, ◌*◌, ◌/◌, ◌%◌, ◌^◌, ◌<◌, ◌≤◌, Bool, true, false, not, cond, List, [], ◌∷◌, ◌++◌, map, length, take, drop, get_or, count_by, slice_get, slice_range, Some, None, Option, IfSome, IfNone, refl, sym, ◌∙◌, ap, inl, inr, arith}
 use Rattle.std.specs.Prelude.{count_ones, bit_and}
 use Rattle.std.specs.List.{filter, range_with_len}
-use Rattle.std.specs.Simd.Lanes.{mask_l}
 use Rattle.std.proofs.lemmas.Bool.{cases_lt}
-use Rattle.std.proofs.lemmas.List.{length-take, length-drop, length-append, length-map, take_all, take-map, get_or-append-add, get_or-map, get_or-take, get_or_past, get_or_append_left}
+use Rattle.std.proofs.lemmas.List.{length-take, length-append, length-map, take_all, take-map, get_or-append-add, get_or-map, get_or-take, get_or_past, get_or_append_left}
 use Rattle.std.proofs.lemmas.List.Elements.{filter-append}
 use Rattle.std.proofs.lemmas.List.Sums.{sum_by-append, count_by-le-length, count_by_more_yes}
 use Rattle.std.proofs.lemmas.Simd.{ones-mask_l}

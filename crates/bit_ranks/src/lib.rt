@@ -1,6 +1,8 @@
-//! Lists of bits whose bits are counted and found by number, and ascending numbers packed by them.
+//! Boxed lists of bits whose bits are counted before any index, and found by number.
 #![tactic(auto)]
 
+#[cfg(test)]
+mod callers;
 mod ones;
 mod ranks;
 #[cfg(test)]

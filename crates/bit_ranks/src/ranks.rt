@@ -252,7 +252,9 @@ fn counted<T: BitStore, O: BitOrder>(
     let mut counts = Vec::with_capacity(alloc, blocks)?;
     let mut total = 0;
     for block in 0..blocks {
-        total += view.get_range(block * BLOCK..(block + 1) * BLOCK).count_ones();
+        total += view
+            .get_range(block * BLOCK..(block + 1) * BLOCK)
+            .count_ones();
         counts.push_reserved(total);
     }
     Ok(counts)

@@ -119,7 +119,7 @@ fn plain_lists(rt: HostRuntime) {
 #[test]
 fn seven_bits(rt: HostRuntime) -> Result<(), Fail> {
     let bits = [false, true, true, false, true, false, false];
-    let ranks = ranked::<u8, Msb0>(rt.alloc(), bits.as_slice()).unwrap();
+    let ranks = ranked::<u8, Msb0>(rt.alloc(), bits.as_slice()).expect(&rt, "memory");
     assert_eq!(rt; ranks.len(), 7);
     assert!(rt; !ranks.is_empty());
     assert_eq!(rt; ranks.index_len(), 0);
@@ -130,8 +130,20 @@ fn seven_bits(rt: HostRuntime) -> Result<(), Fail> {
     assert_eq!(rt; ranks.select1(2), Some(4));
     assert_eq!(rt; ranks.select1(3), None);
     assert_eq!(rt; ranks.select0(1), Some(3));
-    assert_eq!(rt; ranks.iter_ones_from(0).collect::<Vec<usize>>(rt.alloc())?.as_slice(), [1, 2, 4].as_slice());
-    assert_eq!(rt; ranks.iter_ones_from(2).collect::<Vec<usize>>(rt.alloc())?.as_slice(), [4].as_slice());
+    assert_eq!(rt;
+        ranks
+            .iter_ones_from(0)
+            .collect::<Vec<usize>>(rt.alloc())?
+            .as_slice(),
+        [1, 2, 4].as_slice()
+    );
+    assert_eq!(rt;
+        ranks
+            .iter_ones_from(2)
+            .collect::<Vec<usize>>(rt.alloc())?
+            .as_slice(),
+        [4].as_slice()
+    );
     assert!(rt; ranks.iter_ones_from(3).next().is_none());
     assert_eq!(rt; ranks.as_bitslice().count_ones(), 3);
     assert_eq!(rt; ranks.into_bits().as_raw_slice(), [0x68].as_slice());

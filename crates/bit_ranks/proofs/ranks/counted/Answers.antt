@@ -1,4 +1,4 @@
-use Rattle.std.proofs.Common.{◌≡◌, ◌+◌, ◌*◌, [], ◌∷◌, ◌++◌, count_by, get_or, length, subst, sym, ap, ◌∙◌, arith, ◌<◌, ℕ, List, length-append}
+use Rattle.std.proofs.Common.{◌≡◌, ◌+◌, ◌*◌, [], ◌∷◌, count_by, get_or, length, subst, sym, ap, ◌∙◌, arith, ◌<◌, ℕ, List, length-append}
 use Rattle.bit_slice.specs.BitSlice.{list_of}
 use Rattle.bit_ranks.specs.Ranks.{ones_before}
 use Rattle.bit_ranks.proofs.Numbered.{parted, counts_more}

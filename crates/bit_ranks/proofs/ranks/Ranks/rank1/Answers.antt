@@ -1,4 +1,4 @@
-use Rattle.std.proofs.Common.{◌/◌, ◌*◌, ◌+◌, count_by, slice_range, sym, ap, ◌∙◌, arith}
+use Rattle.std.proofs.Common.{◌/◌, ◌*◌, count_by, slice_range, ap, ◌∙◌, arith}
 use Rattle.bit_ranks.proofs.Numbered.{parted}
 use Rattle.bit_ranks.proofs.ranks.Ranks.rank1.Goals as goal
 

@@ -1,4 +1,4 @@
-use Rattle.std.proofs.Common.{◌≡◌, ◌+◌, ◌<◌, length, map, slice_range, sym, ap, ◌∙◌, arith}
+use Rattle.std.proofs.Common.{length, map, slice_range, ap, ◌∙◌, arith}
 use Rattle.bit_addressing.specs.Row.{number_of}
 use Rattle.bit_ranks.specs.Ranks.{is_bit}
 use Rattle.bit_ranks.proofs.Numbered.{found_numbered, counted_more}

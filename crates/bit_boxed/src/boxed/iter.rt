@@ -137,7 +137,7 @@ impl<T: BitStore, O: BitOrder> IntoIter<T, O> {
         ensures words { let first = self.old.head / T.BITS in lent_words result ≡ slice_range self.old.words first (first + words_for T.BITS (lent_head result + lent_len result)) }
     {
         let (from, upto) = (self.from, self.upto);
-        self.inner.run_mut(from, upto)
+        self.inner.part_mut(from, upto)
     }
 
     /// Like `as_mut_bitslice`.

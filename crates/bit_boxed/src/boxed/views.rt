@@ -46,8 +46,12 @@ impl<T: BitStore, O: BitOrder> BitBox<T, O> {
         self.words.slice_mut(..count)
     }
 
-    // The view of the bits from index `from` up to index `upto`, for writing: what is written lands in the box.
-    pub(crate) fn run_mut(&mut self, from: usize, upto: usize) -> BitSliceMut<'_, T, O>
+    /// The part of the box from index `from` up to index `upto`, for writing: what is written lands in the box, and
+    /// the words around the part stay. Requires that `from..upto` is a range of the length.
+    ///
+    /// The clauses say of the part its list, head and words. What a caller's own proof has to know of the whole box
+    /// after a write is said by the calls that take a range: `fill_range`, `flip_range`, `copy_into` and `or_range`.
+    pub fn part_mut(&mut self, from: usize, upto: usize) -> BitSliceMut<'_, T, O>
         requires ordered { from ≤ upto }
         requires inside { upto ≤ length self.old.list }
         ensures* writes_back { sem 𝓛 (lends_run T.row O.row T.BitStore O.BitOrder self.entry ((self.old.head + from) / T.BITS) (loan_of result)) }

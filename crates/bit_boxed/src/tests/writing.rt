@@ -72,3 +72,17 @@ fn moved_about(rt: HostRuntime) {
     holds(&rt, &b, b"11000001");
     shows(&rt, &b, &[0x18, 0x04]);
 }
+
+/// What is written through a part lands in the box, and the bits around it stay.
+#[test]
+fn part_lands(rt: HostRuntime) {
+    let words = [0xa8_u8, 0x07];
+    let view = BitSlice::<u8, Lsb0>::from_slice(&words).get_range(3..11);
+    let mut b = ok(&rt, BitBox::from_bitslice_headed(rt.alloc(), view));
+    assert!(rt; b.len() == 8);
+    let mut part = b.part_mut(4, 7);
+    assert!(rt; part.head() == 7 && part.len() == 3);
+    part.fill(false);
+    holds(&rt, &b, b"10100001");
+    shows(&rt, &b, &[0x28, 0x04]);
+}

@@ -15,8 +15,8 @@ returns g c =
     let inv = c.self.invariant in
     let W = g.T.BitStore in
     let w = W.BITS in
-    let view = c.run_mut.result in
-    let made = c.run_mut.ensures in (
+    let view = c.part_mut.result in
+    let made = c.part_mut.ensures in (
       (
         refl,
         λ ws.

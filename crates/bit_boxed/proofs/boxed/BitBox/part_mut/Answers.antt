@@ -9,7 +9,7 @@ use Rattle.bit_slice.specs.BitSliceMut.{head_of, len_of}
 use Rattle.bit_slice.proofs.Parts.{part_room, part_shows}
 use Rattle.bit_boxed.specs.Lends.{with_words, written_over}
 use Rattle.bit_boxed.proofs.Boxes.{refilled, lands}
-use Rattle.bit_boxed.proofs.boxed.BitBox.run_mut.Goals as goal
+use Rattle.bit_boxed.proofs.boxed.BitBox.part_mut.Goals as goal
 
 pub overflow_add-first : goal.overflow_add-first
 overflow_add-first g c =

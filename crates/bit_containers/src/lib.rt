@@ -18,4 +18,6 @@ pub use bit_slice::{
     IterZeros, RChunks, Windows, combine_words, run_mut,
 };
 pub use machine::{Command, Reply, Stop, run};
-pub use vec::{BitVec, Drain, IntoBitVec, Items, ParseBitsError, Splice, ToBits};
+pub use vec::{
+    BitVec, Drain, FromBits, IntoBitVec, Items, ParseBitsError, Splice, ToBits, ToBytes,
+};

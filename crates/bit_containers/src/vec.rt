@@ -15,6 +15,7 @@ use std::alloc::{AllocError, Global};
 use std::marker::{Model, PhantomData};
 
 mod api;
+mod boxes;
 mod capacity;
 mod closures;
 mod collect;
@@ -40,6 +41,7 @@ mod traits;
 mod views;
 
 pub use bit_boxed::IntoIter;
+pub use boxes::{FromBits, ToBytes};
 pub use convert::IntoBitVec;
 pub use drain::Drain;
 pub use items::Items;

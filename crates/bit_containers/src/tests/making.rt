@@ -1,6 +1,7 @@
 //! Vectors made of views, of bytes, of indices and of text.
+use crate::boxed::BitBox;
 use crate::tests::{holds, of, ok, shows};
-use crate::{BitSlice, BitVec, Lsb0, Msb0, ParseBitsError, ToBits};
+use crate::{BitSlice, BitVec, FromBits, Lsb0, Msb0, ParseBitsError, ToBits, ToBytes};
 
 #[test]
 fn combined_with_longer(rt: HostRuntime) {
@@ -94,4 +95,31 @@ fn read_from_text(rt: HostRuntime) {
         let answer = BitVec::<u8, Lsb0>::from_text(rt.alloc(), text);
         assert!(rt; answer.is_err_and(|why| why == ParseBitsError::Wrong(at)));
     }
+}
+
+/// A box is made as a vector is, and its bytes are those of its list.
+#[test]
+fn boxes_made(rt: HostRuntime) {
+    let bytes = [0xa0, 0x01];
+    let b = ok(
+        &rt,
+        BitBox::<u16, Lsb0>::from_bytes::<Msb0>(rt.alloc(), &bytes),
+    );
+    assert_eq!(rt; b.as_raw_slice(), [0x8005].as_slice());
+    assert!(rt; b.len() == 16);
+    let back = ok(&rt, b.to_bytes::<Msb0>(rt.alloc()));
+    assert_eq!(rt; back.as_slice(), bytes.as_slice());
+    let part = ok(&rt, b.get_range(0..3).to_bytes::<Lsb0>(rt.alloc()));
+    assert_eq!(rt; part.as_slice(), [0x05].as_slice());
+    let b = ok(
+        &rt,
+        BitBox::<u8, Msb0>::from_indices(rt.alloc(), 5, &[3, 0]),
+    );
+    assert!(rt; b.len() == 5);
+    assert_eq!(rt; b.as_raw_slice(), [0x90].as_slice());
+    let b = ok(&rt, BitBox::<u8, Msb0>::from_text(rt.alloc(), "[0, 1, 1]"));
+    assert!(rt; b.len() == 3);
+    assert_eq!(rt; b.as_raw_slice(), [0x60].as_slice());
+    let answer = BitBox::<u8, Lsb0>::from_text(rt.alloc(), "012");
+    assert!(rt; answer.is_err_and(|why| why == ParseBitsError::Wrong(2)));
 }

@@ -7,6 +7,7 @@ ghost use Rattle.bit_containers.specs.BitVec.{IsClean};
 ghost use Rattle.bit_containers.specs.Making.{marked};
 
 use crate::vec::BitVec;
+use crate::vec::boxes::bytes_of;
 use bit_addressing::{BitOrder, BitStore, GrowError};
 use bit_slice::BitSlice;
 use std::alloc::{AllocError, Global};
@@ -44,12 +45,7 @@ impl<T: BitStore, O: BitOrder> BitVec<T, O> {
         ensures len { IfOk result (λ bytes. length bytes.items ≡ words_for 8 (length self.now.list)) }
         ensures memory { OnErr result (0 < length self.now.list) }
     {
-        let mut copy = BitVec::<u8, P>::new(alloc);
-        match copy.extend_from_bitslice(self.as_bitslice()) {
-            Ok(()) => Ok(copy.into_vec()),
-            Err(GrowError::TooLong) => Err(AllocError),
-            Err(GrowError::OutOfMemory) => Err(AllocError),
-        }
+        bytes_of::<P, T, O>(self.as_bitslice(), alloc)
     }
 
     /// The list of `len` bits that are true exactly at these indices, from head 0 on; an index may come twice. Returns

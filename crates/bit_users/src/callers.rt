@@ -27,6 +27,39 @@ pub fn inserted(set: &mut NumberSet, number: usize) -> bool
     set.contains(number)
 }
 
+/// A number that was put into a set that grows is in it, and was not in it before where the answer says so.
+pub fn inserted_anywhere(set: &mut NumberSet, number: usize) -> Result<bool, GrowError>
+    ensures { IfOk result (λ there. IsTrue there) }
+{
+    set.insert_growing(number)?;
+    Ok(set.contains(number))
+}
+
+/// What was put in again was there.
+pub fn twice(set: &mut NumberSet, number: usize) -> bool
+    requires { number < length set.old }
+    ensures { IsTrue result }
+{
+    set.insert(number);
+    !set.insert(number)
+}
+
+/// A set has all numbers of one that was united with it.
+pub fn united(set: &mut NumberSet, other: &NumberSet) -> Result<bool, GrowError>
+    ensures { IfOk result (λ all. IsTrue all) }
+{
+    set.unite(other)?;
+    Ok(other.is_subset(set))
+}
+
+/// What two sets share is nothing once one was taken out of the other.
+pub fn parted(set: &mut NumberSet, other: &NumberSet) -> bool
+    ensures { IsTrue result }
+{
+    set.subtract(other);
+    set.is_disjoint(other)
+}
+
 /// Another number is in a set exactly where it was.
 pub fn others_stay(set: &mut NumberSet, number: usize, other: usize) -> bool
     requires below { number < length set.old }

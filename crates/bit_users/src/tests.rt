@@ -83,6 +83,40 @@ fn sets_of_numbers(rt: HostRuntime) -> Result<(), Fail> {
 }
 
 #[test]
+fn sets_that_grow(rt: HostRuntime) -> Result<(), Fail> {
+    let mut low = NumberSet::from_numbers(rt.alloc(), 10, &[2, 7, 2])?;
+    assert_eq!(rt; low.insert_growing(70)?, true);
+    assert_eq!(rt; low.insert_growing(7)?, false);
+    assert_eq!(rt; low.bound(), 71);
+    let numbers = low.members(rt.alloc())?;
+    assert_eq!(rt; numbers.as_slice(), [2, 7, 70].as_slice());
+    let high = NumberSet::from_numbers(rt.alloc(), 200, &[7, 150])?;
+    low.unite(&high)?;
+    assert_eq!(rt; low.bound(), 200);
+    let numbers = low.members(rt.alloc())?;
+    assert_eq!(rt; numbers.as_slice(), [2, 7, 70, 150].as_slice());
+    assert!(rt; high.is_subset(&low) && low.is_superset(&high) && !low.is_subset(&high));
+    assert_eq!(rt; low.count_both(&high), 2);
+    Ok(())
+}
+
+#[test]
+fn sets_in_place(rt: HostRuntime) -> Result<(), Fail> {
+    let high = NumberSet::from_numbers(rt.alloc(), 200, &[7, 150])?;
+    let mut low = NumberSet::from_numbers(rt.alloc(), 200, &[2, 7, 70, 150])?;
+    low.subtract(&high);
+    assert!(rt; low.is_disjoint(&high) && low.min() == Some(2) && low.max() == Some(70));
+    assert_eq!(rt; low.iter().next_back(), Some(70));
+    low.intersect(&high);
+    assert!(rt; low.is_empty() && low.min().is_none() && low.max().is_none());
+    let mut again = NumberSet::from_bits(high.into_bits());
+    assert!(rt; again.contains(150) && again.count() == 2);
+    again.clear();
+    assert!(rt; again.is_empty());
+    Ok(())
+}
+
+#[test]
 fn primes(rt: HostRuntime) -> Result<(), Fail> {
     let primes = NumberSet::primes(rt.alloc(), 30)?;
     assert_eq!(rt;

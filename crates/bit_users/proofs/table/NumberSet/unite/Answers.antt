@@ -1,0 +1,13 @@
+use Rattle.std.proofs.Common.{◌≡◌, ◌∙◌, ap, sym, rules}
+use Rattle.std.proofs.lemmas.Result.{on_ok_weaker}
+use Rattle.bit_slice.specs.BitSlice.{len_of, list_of}
+use Rattle.bit_slice.specs.Operators.{or_of}
+use Rattle.bit_containers.specs.Making.{filled_up}
+use Rattle.bit_users.proofs.Members.{united}
+use Rattle.bit_users.proofs.table.NumberSet.unite.Goals as goal
+
+pub returns-clause-members : goal.returns-clause-members
+returns-clause-members c =
+    on_ok_weaker c.or_growing.result
+    (λ h. united c.args.self.now c.args.other.now c.or_growing.new.self.list (len_of c.as_bitslice.result) (c.as_bitslice.ensures.len ∙ search rules) (h ∙ search rules))
+    c.or_growing.ensures.list

@@ -1,12 +1,15 @@
 -- Runs of free frames: where one ends, and that none begins before it.
-use Rattle.std.proofs.Common.{◌≡◌, ◌≢◌, ℕ, ◌+◌, ◌-◌, ◌<◌, ◌≤◌, Bool, true, false, List, length, replicate, get_or, Option, Some, None, slice_get, sym, ◌∙◌, ap, inl, inr, arith}
+use Rattle.std.proofs.Common.{◌≡◌, ◌≢◌, ℕ, ◌+◌, ◌-◌, ◌<◌, ◌≤◌, Bool, true, false, List, length, replicate, get_or, Option, Some, None, slice_get, slice_range, sym, ◌∙◌, ap, inl, inr, arith}
 use Rattle.std.specs.Option.{IfSome, unwrap_or}
 use Rattle.std.proofs.lemmas.Bool.{cases_lt}
 use Rattle.std.proofs.lemmas.List.{ext_get_or, get_or-replicate, length-replicate}
-use Rattle.std.proofs.lemmas.Option.{get_or_from_slice_get, slice_get_within}
+use Rattle.std.proofs.lemmas.Option.{get_or_from_slice_get, slice_get-get_or, slice_get_within}
 use Rattle.bit_addressing.specs.Row.{put}
 use Rattle.bit_addressing.proofs.lists.Put.{length-put, put_before, put_behind, put_inside, put_none}
-use Rattle.bit_users.specs.FreeMap.{AreFree}
+use Rattle.std.specs.Prelude.{◌↔◌, EachIndex}
+use Rattle.bit_addressing.proofs.lists.Shown.{get_or-run, length-run}
+use Rattle.bit_slice.proofs.Ranges.{read_filled}
+use Rattle.bit_users.specs.FreeMap.{AreFree, AreTaken}
 
 other_bit : (o : Option Bool) → o ≡ Some true → o ≢ Some false
 other_bit o is e = some_apart (sym is ∙ e)
@@ -70,3 +73,23 @@ pub marked_length : (map : List Bool) (first count : ℕ) (taken : Bool) → fir
 marked_length map first count taken inside =
     let many = length-replicate count taken in
     length-put map (replicate count taken) first (omega arith)
+
+-- a frame of a run is the one at its index in the part of the map
+in_run : (map : List Bool) (first count i : ℕ) → first + count ≤ length map → i < count → slice_get (slice_range map first (first + count)) i ≡ slice_get map (first + i)
+in_run map first count i inside h =
+    let size = length-run map first count inside in
+    slice_get-get_or (slice_range map first (first + count)) i false (omega arith) ∙ ap Some (get_or-run map first count i h) ∙ sym (slice_get-get_or map (first + i) false (omega arith))
+
+-- frames are taken exactly where each bit of their part is true
+pub all_taken : (map : List Bool) (first count : ℕ) → first + count ≤ length map → EachIndex (slice_range map first (first + count)) (λ i. slice_get (slice_range map first (first + count)) i ≡ Some true) ↔ AreTaken map count first
+all_taken map first count inside =
+    let size = length-run map first count inside in (
+      (λ each i h. sym (in_run map first count i inside h) ∙ each i (omega arith)),
+      (λ taken i h. in_run map first count i inside (omega arith) ∙ taken i (omega arith)),
+    )
+
+-- frames that were marked as taken are
+pub marked_taken : (map now : List Bool) (first count : ℕ) → AreFree map count first → now ≡ put map first (replicate count true) → AreTaken now count first
+marked_taken map now first count free marked i h =
+    let last = slice_get_within map (first + (count - 1)) false (free (count - 1) (omega arith)) in
+    ap (λ l. slice_get l (first + i)) marked ∙ read_filled map first count true (omega arith) (first + i) (omega arith) (omega arith)

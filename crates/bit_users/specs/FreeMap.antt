@@ -1,5 +1,5 @@
 -- Maps of frames, as lists of truth values: item k says whether frame k is taken.
-use Rattle.std.specs.Prelude.{◌≡◌, ℕ, ◌+◌, ◌<◌, ◌≤◌, false, Bool, List, Some, length, slice_get}
+use Rattle.std.specs.Prelude.{◌≡◌, ℕ, ◌+◌, ◌<◌, ◌≤◌, false, true, Bool, List, Some, length, slice_get}
 
 -- the frame is there, and free
 abbrev pub IsFree : List Bool → ℕ → Type 0
@@ -8,6 +8,10 @@ IsFree map k = slice_get map k ≡ Some false
 -- so many frames in a row are there, and free, from this one on
 abbrev pub AreFree : List Bool → ℕ → ℕ → Type 0
 AreFree map count first = (i : ℕ) → i < count → IsFree map (first + i)
+
+-- so many frames in a row are there, and taken, from this one on
+abbrev pub AreTaken : List Bool → ℕ → ℕ → Type 0
+AreTaken map count first = (i : ℕ) → i < count → slice_get map (first + i) ≡ Some true
 
 -- such a run begins at this frame, and none at a lower one
 pub record IsFirstRun (map : List Bool) (count first : ℕ) : Type 0 where

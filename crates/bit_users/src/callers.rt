@@ -85,8 +85,21 @@ pub fn given_back(frames: &mut FreeMap, count: usize) -> Option<usize>
     ensures { frames.new ≡ frames.old }
 {
     let first = frames.take_run(count)?;
-    frames.give_back(first, count);
-    Some(first)
+    match frames.give_back(first, count) {
+        Ok(()) => Some(first),
+        Err(_) => None,
+    }
+}
+
+/// A run that was taken is given back without a refusal.
+pub fn never_refused(frames: &mut FreeMap, count: usize) -> bool
+    requires { 0 < count }
+    ensures { IsTrue result }
+{
+    match frames.take_run(count) {
+        None => true,
+        Some(first) => frames.give_back(first, count).is_ok(),
+    }
 }
 
 /// A list that was written as bytes is read back.

@@ -1,15 +1,19 @@
 //! An allocator's map of frames, one bit each.
-ghost use Rattle.std.specs.Prelude.{◌≡◌, ◌+◌, ◌≤◌, ◌<◌, ◌↔◌, ℕ, Bool, List, false, true, not, EachIndex, Err, IfNone, IfOk, IfSome, IsTrue, MatchOption, Some, length, replicate, set, slice_get};
+ghost use Rattle.std.specs.Prelude.{◌≡◌, ◌+◌, ◌≤◌, ◌<◌, ◌↔◌, ℕ, Bool, List, false, true, not, EachIndex, Err, IfNone, IfOk, IfSome, IsOk, IsTrue, MatchOption, OnErr, OnOk, Some, length, replicate, set, slice_get};
 ghost use Rattle.std.specs.List.{count_by};
 ghost use Rattle.bit_addressing.specs.declared.errors.GrowError.TheVariants as errors;
 ghost use Rattle.bit_addressing.specs.declared.length.TheConstants.{MAX_BITS};
 ghost use Rattle.bit_addressing.specs.Row.{put};
-ghost use Rattle.bit_users.specs.FreeMap.{AreFree, IsFirstRun};
+ghost use Rattle.bit_users.specs.FreeMap.{AreFree, AreTaken, IsFirstRun};
 
 use bit_addressing::{GrowError, Lsb0};
 use bit_containers::BitVec;
 use std::alloc::Global;
 use std::marker::Model;
+
+/// A frame that was given back is free already.
+#[derive(Debug, Drop, Clone, Copy, PartialEq, Eq)]
+pub struct NotTaken;
 
 /// Which of an allocator's frames are taken.
 ///
@@ -19,7 +23,7 @@ use std::marker::Model;
 /// let mut frames = FreeMap::new(alloc, 1024)?;
 /// frames.take()               // Some(0)
 /// frames.take_run(16)         // Some(1)
-/// frames.give_back(0, 1);
+/// frames.give_back(0, 1)      // Ok(()), and the second time Err(NotTaken)
 /// frames.count_free()         // 1008
 /// ```
 #[derive(Drop)]
@@ -125,16 +129,32 @@ impl FreeMap {
         None
     }
 
-    /// Gives `count` frames from `first` on back: they are free then, and no other frame changes. Where
-    /// they were taken out of a map in which they were free, that map is there again. Requires that they
-    /// are frames of the map.
+    /// Gives `count` frames from `first` on back: they are free then, and no other frame changes. Refused where one of
+    /// them is free already, and then nothing changes. Where they were taken out of a map in which they were
+    /// free, that map is there again. Requires that they are frames of the map.
     #[tactic(auto, using(crate::proofs::Frames::marked_length))]
-    pub fn give_back(&mut self, first: usize, count: usize)
+    pub fn give_back(&mut self, first: usize, count: usize) -> Result<(), NotTaken>
         requires { first + count ≤ length self.old }
-        ensures list { self.new ≡ put self.old first (replicate count false) }
+        ensures list { OnOk result (self.new ≡ put self.old first (replicate count false)) }
+        ensures taken { OnOk result (AreTaken self.old count first) }
+        ensures free { OnErr result (AreTaken self.old count first → ⊥) }
+        ensures refused { OnErr result (self.new ≡ self.old) }
         ensures frames { length self.new ≡ length self.old }
-        ensures restores { (before : List Bool) → AreFree before count first → self.old ≡ put before first (replicate count true) → self.new ≡ before }
+        ensures restores { (before : List Bool) → AreFree before count first → self.old ≡ put before first (replicate count true) → IsOk result × (self.new ≡ before) }
     {
+        if !self.are_taken(first, count) {
+            return Err(NotTaken);
+        }
         self.taken.fill_range(first..first + count, false);
+        Ok(())
+    }
+
+    // Whether `count` frames from `first` on are all taken. Requires that they are frames of the map.
+    #[tactic(auto, using(crate::proofs::Frames::all_taken))]
+    fn are_taken(&self, first: usize, count: usize) -> bool
+        requires { first + count ≤ length self.now }
+        ensures { IsTrue result ↔ AreTaken self.now count first }
+    {
+        self.taken.get_range(first..first + count).all()
     }
 }

@@ -1,5 +1,7 @@
 //! The users on real data, each call once.
-use crate::{Fault, FreeMap, Header, Matrix, NumberSet, are_of_one_list, from_bytes, to_bytes};
+use crate::{
+    Fault, FreeMap, Header, Matrix, NotTaken, NumberSet, are_of_one_list, from_bytes, to_bytes,
+};
 use bit_addressing::{GrowError, Lsb0, Msb0};
 use bit_containers::BitVec;
 use std::alloc::{AllocError, Global};
@@ -140,8 +142,8 @@ fn frames(rt: HostRuntime) -> Result<(), Fail> {
     assert_eq!(rt; map.take_run(30), None);
     assert_eq!(rt; map.take_run(29), Some(101));
     assert_eq!(rt; map.take(), None);
-    map.give_back(60, 8);
-    map.give_back(70, 5);
+    assert!(rt; map.give_back(60, 8).is_ok() && map.give_back(70, 5).is_ok());
+    assert!(rt; map.give_back(67, 3) == Err(NotTaken) && map.is_taken(68));
     assert_eq!(rt; map.count_free(), 13);
     assert_eq!(rt; map.take(), Some(60));
     assert_eq!(rt; map.take_run(8), None);

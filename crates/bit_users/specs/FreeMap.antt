@@ -5,11 +5,11 @@ use Rattle.std.specs.Prelude.{◌≡◌, ℕ, ◌+◌, ◌<◌, ◌≤◌, false
 abbrev pub IsFree : List Bool → ℕ → Type 0
 IsFree map k = slice_get map k ≡ Some false
 
--- so many frames in a row are there, and free, from this one on
+-- `count` frames in a row are there, and free, from this one on
 abbrev pub AreFree : List Bool → ℕ → ℕ → Type 0
 AreFree map count first = (i : ℕ) → i < count → IsFree map (first + i)
 
--- so many frames in a row are there, and taken, from this one on
+-- `count` frames in a row are there, and taken, from this one on
 abbrev pub AreTaken : List Bool → ℕ → ℕ → Type 0
 AreTaken map count first = (i : ℕ) → i < count → slice_get map (first + i) ≡ Some true
 

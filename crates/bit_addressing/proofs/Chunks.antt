@@ -14,6 +14,7 @@ use Rattle.bit_addressing.specs.Row.{row_of, number_of}
 use Rattle.bit_addressing.proofs.Words.{has_and, has_or, has_above, has_shr_low, has_shl_low, has_shl_high, same_word}
 use Rattle.bit_addressing.proofs.Rows.{length-row_of, get_or-row_one, word_below}
 use Rattle.bit_addressing.proofs.Typed.{row_read}
+use Rattle.bit_addressing.proofs.lists.Shown.{get_or-run}
 use Rattle.bit_addressing.proofs.lists.Sized.{one_more_word}
 
 one_if : (b : Bool) → eqb (cond b 1 0) 1 ≡ b
@@ -68,6 +69,16 @@ read_done ms at n got x so_far some enough few fits =
           let none : has_bit (2 ^ n - 1) i ≡ false = ap (λ m. eqb m 1) (bit_at_ones_above n i l) in
           rw none (and-false (has_bit x i) ∙ sym (get_or_past (slice_range ms at (at + n)) i false (omega arith)))
     ])
+
+-- 64 bits read at once
+pub read_block : (ms : List Bool) (at x : ℕ) → x ≡ number_of (slice_range ms at (at + 64)) → IsRead ms at 64 x
+read_block ms at x is =
+    let run : List Bool = slice_range ms at (at + 64) in
+    let size : length run ≤ 64 = simp (length-take, length-drop) (omega arith) in
+    record {
+      shown = λ i h q. ap (λ n. has_bit n i) is ∙ has_number run i ∙ get_or-run ms at 64 i h;
+      clear = λ i h. ap (λ n. has_bit n i) is ∙ has_number run i ∙ get_or_past run i false (omega arith);
+    }
 
 module _ {X : Type 0} (value : X → ℕ) (place : ℕ → ℕ → ℕ) (w : ℕ) (positive : 0 < w) (ws : List X) where
   -- the number of word k has the bits of the row from k * w on

@@ -8,6 +8,7 @@ pub mod Counting
 pub mod Finding
 pub mod Found
 pub mod Places
+pub mod Chunked
 pub mod Ranges
 pub mod Pieces
 pub mod Sets

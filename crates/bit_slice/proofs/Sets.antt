@@ -1,8 +1,9 @@
 -- Two lists of bits as sets of the indices of their true items.
-use Rattle.std.proofs.Common.{◌≡◌, ◌≢◌, ◌↔◌, ℕ, zero, suc, ◌+◌, ◌-◌, ◌*◌, ◌<◌, ◌≤◌, Bool, true, false, not, ◌&&◌, ◌||◌, cond, if◌then◌else◌, IsTrue, List, [], ◌∷◌, length, drop, get_or, count_by, slice_get, slice_range, Some, refl, sym, ◌∙◌, ap, inl, inr, arith}
+use Rattle.std.proofs.Common.{◌≡◌, ◌≢◌, ◌↔◌, ℕ, zero, suc, ◌+◌, ◌-◌, ◌*◌, ◌<◌, ◌≤◌, Bool, true, false, not, ◌&&◌, ◌||◌, cond, if◌then◌else◌, IsTrue, eqb, List, [], ◌∷◌, length, drop, get_or, count_by, slice_get, slice_range, Some, refl, sym, ◌∙◌, ap, inl, inr, arith}
 use Rattle.std.specs.Prelude.{SomeIndex, min}
 use Rattle.std.specs.List.{list_any}
 use Rattle.std.proofs.lemmas.Bool.{cases_lt, true≢false}
+use Rattle.std.proofs.lemmas.Bool.Decides.{eqb_tells}
 use Rattle.std.proofs.lemmas.List.{ext_get_or, get_or_past, take_all, length-drop}
 use Rattle.std.proofs.lemmas.List.Folds.{list_any-append}
 use Rattle.std.proofs.lemmas.List.Sums.{sum_by-cons}
@@ -57,6 +58,13 @@ some_where ms false e few h = absurd (h (sym (number_from_bits 0 ms (omega arith
 
 pub number_some : (ms : List Bool) → length ms ≤ 64 → number_of ms ≢ 0 → some_true ms ≡ true
 number_some ms few h = some_where ms (some_true ms) refl few h
+
+-- a number of up to 64 items tells whether one of them is true
+pub number_tells : (ms : List Bool) (x : ℕ) → length ms ≤ 64 → x ≡ number_of ms → not (eqb x 0) ≡ some_true ms
+number_tells ms x few is = elim (eqb_tells x 0) [
+  | inl e ↦ ap not e.0 ∙ sym (number_none ms (sym is ∙ e.1))
+  | inr e ↦ ap not e.0 ∙ sym (number_some ms few (λ none. e.1 (is ∙ none)))
+]
 
 -- ---- a run and the one after it
 

@@ -1,10 +1,11 @@
 -- Runs of a row that are reversed and rotated.
-use Rattle.std.proofs.Common.{◌≡◌, ℕ, ◌+◌, ◌-◌, ◌<◌, ◌≤◌, Bool, false, List, ◌++◌, length, take, drop, reverse, replicate, get_or, slice_range, refl, sym, ◌∙◌, ap, inl, inr, arith, rules}
+use Rattle.std.proofs.Common.{◌≡◌, ℕ, ◌+◌, ◌-◌, ◌*◌, ◌<◌, ◌≤◌, Bool, false, List, ◌++◌, length, take, drop, reverse, replicate, get_or, slice_range, refl, sym, ◌∙◌, ap, subst, inl, inr, arith, rules}
 use Rattle.std.proofs.lemmas.Bool.{cases_lt}
 use Rattle.std.proofs.lemmas.List.{ext_get_or, get_or-reverse, length-reverse, reverse-append, reverse-reverse, same_lists, places, length-append, length-take, length-drop, length-replicate}
 use Rattle.std.proofs.lemmas.List.FromFn.{length-map-range_with_len, get_or-map-range_with_len}
 use Rattle.bit_addressing.specs.Bits.{has_bit}
-use Rattle.bit_addressing.specs.Row.{put, moved, binary, number_bits}
+use Rattle.bit_addressing.specs.Row.{put, moved, binary, number_bits, row_of}
+use Rattle.bit_addressing.proofs.Rows.{length-row_of}
 use Rattle.bit_addressing.proofs.lists.Put.{length-put, put_before, put_inside, put_behind, put_joined}
 use Rattle.bit_addressing.proofs.lists.Shown.{length-run, get_or-run}
 use Rattle.bit_addressing.proofs.Combined.{put_later}
@@ -24,9 +25,25 @@ turned_bit x n at i zs is h =
     ∙ sym (get_or-map-range_with_len (λ k. has_bit x (n - 1 - k)) 0 n (n - 1 - i) (n - 1 - i) false (omega arith) (omega arith))
     ∙ ap (λ l. get_or l (n - 1 - i) false) is ∙ get_or-run zs at n (n - 1 - i) (omega arith)
 
+-- an item of a run that is reversed
+reversed_item : (zs : List Bool) (at n i : ℕ) → at + n ≤ length zs → i < n → get_or (reverse (slice_range zs at (at + n))) i false ≡ get_or zs (at + (n - 1 - i)) false
+reversed_item zs at n i room h =
+    let b : length (slice_range zs at (at + n)) ≡ n = length-run zs at n room in
+    let e : length (slice_range zs at (at + n)) - 1 - i ≡ n - 1 - i = omega (arith, b) in
+    get_or-reverse (slice_range zs at (at + n)) i false (omega (arith, b)) ∙ ap (λ k. get_or (slice_range zs at (at + n)) k false) e ∙ get_or-run zs at n (n - 1 - i) (omega arith)
+
 pub size_of_number : (x n : ℕ) → length (number_bits x n) ≡ n
 unfolding number_bits
 size_of_number x n = length-map-range_with_len (has_bit x) 0 n
+
+-- the number's bits are those digits reversed
+pub turned_number : (x n at : ℕ) (zs : List Bool) → at + n ≤ length zs → binary n x ≡ slice_range zs at (at + n) → number_bits x n ≡ reverse (slice_range zs at (at + n))
+turned_number x n at zs room is =
+    let a = size_of_number x n in
+    let b : length (slice_range zs at (at + n)) ≡ n = length-run zs at n room in
+    let d : length (reverse (slice_range zs at (at + n))) ≡ n = length-reverse (slice_range zs at (at + n)) ∙ b in
+    ext_get_or false (number_bits x n) (reverse (slice_range zs at (at + n))) (a ∙ sym d)
+    (λ i h. turned_bit x n at i zs is (omega (arith, a)) ∙ sym (reversed_item zs at n i room (omega (arith, a))))
 
 -- ---- a run that is reversed from both ends
 
@@ -55,54 +72,71 @@ turned_none xs head len = record {
   after = λ j a. refl;
 }
 
-module _ (xs zs : List Bool) (head len low high n x y : ℕ) (t : IsTurned xs zs head len low high) (few : n + n ≤ high - low) (room : head + len ≤ length xs)
-    (first : binary n x ≡ slice_range zs low (low + n)) (last : binary n y ≡ slice_range zs (high - n) (high - n + n)) where
+module _ (xs zs : List Bool) (head len low high n : ℕ) (t : IsTurned xs zs head len low high) (few : n + n ≤ high - low) (room : head + len ≤ length xs) where
+  abbrev upper_run : List Bool
+  upper_run = reverse (slice_range zs (high - n) (high - n + n))
+
+  abbrev lower_run : List Bool
+  lower_run = reverse (slice_range zs low (low + n))
+
   abbrev one : List Bool
-  one = put zs low (number_bits y n)
+  one = put zs low upper_run
 
   abbrev both : List Bool
-  both = put one (high - n) (number_bits x n)
+  both = put one (high - n) lower_run
+
+  inside : high ≤ length zs
+  inside = let s = t.size in let m = t.middle in let o = t.ordered in let g = t.begins in omega (arith, s, m, o, g, room)
+
+  length-upper : length upper_run ≡ n
+  length-upper = length-reverse (slice_range zs (high - n) (high - n + n)) ∙ length-run zs (high - n) n (omega (arith, inside, few))
+
+  length-lower : length lower_run ≡ n
+  length-lower = length-reverse (slice_range zs low (low + n)) ∙ length-run zs low n (omega (arith, inside, few))
 
   length-one : length one ≡ length zs
-  length-one = let b = size_of_number y n in let s = t.size in let m = t.middle in let o = t.ordered in length-put zs (number_bits y n) low (omega (arith, b, s, m, o, few, room))
+  length-one = let b = length-upper in let s = t.size in let m = t.middle in let o = t.ordered in length-put zs upper_run low (omega (arith, b, s, m, o, few, room))
 
   pub turned_more : IsTurned xs both head len (low + n) (high - n)
   turned_more =
-      let b = size_of_number y n in
-      let d = size_of_number x n in
+      let b = length-upper in
+      let d = length-lower in
       let s = t.size in
       let m = t.middle in
       let o = t.ordered in
       let g = t.begins in
       let e = length-one in
-      let inside : high ≤ length zs = omega (arith, s, m, o, g, room) in
-      let lower : (j : ℕ) → j < high - n → get_or both j false ≡ get_or one j false = λ j l. put_before one (number_bits x n) (high - n) j false (omega (arith, e, inside)) l in
+      let lower : (j : ℕ) → j < high - n → get_or both j false ≡ get_or one j false = λ j l. put_before one lower_run (high - n) j false (omega (arith, e, inside)) l in
       let upper : (j : ℕ) → high ≤ j → get_or both j false ≡ get_or zs j false = λ j l.
-      put_behind one (number_bits x n) (high - n) j false (omega (arith, d, e, inside, few, l)) (omega (arith, d, few, l))
-      ∙ put_behind zs (number_bits y n) low j false (omega (arith, b, inside, few, l)) (omega (arith, b, few, l)) in
+      put_behind one lower_run (high - n) j false (omega (arith, d, e, inside, few, l)) (omega (arith, d, few, l))
+      ∙ put_behind zs upper_run low j false (omega (arith, b, inside, few, l)) (omega (arith, b, few, l)) in
       record {
         begins = omega arith;
         ordered = omega arith;
         middle = omega arith;
-        size = length-put one (number_bits x n) (high - n) (omega (arith, d, e, inside, few)) ∙ e ∙ s;
+        size = length-put one lower_run (high - n) (omega (arith, d, e, inside, few)) ∙ e ∙ s;
         front = λ j a l. elim (cases_lt j low) [
-          | inl k ↦ lower j (omega arith) ∙ put_before zs (number_bits y n) low j false (omega arith) k ∙ t.front j a k
+          | inl k ↦ lower j (omega arith) ∙ put_before zs upper_run low j false (omega arith) k ∙ t.front j a k
           | inr k ↦
               let at : high - n + (n - 1 - (j - low)) ≡ head + (head + len) - 1 - j = omega arith in
-              lower j (omega arith) ∙ put_inside zs (number_bits y n) low j false (omega arith) k (omega (arith, b))
-              ∙ turned_bit y n (high - n) (j - low) zs last (omega arith) ∙ t.inner (high - n + (n - 1 - (j - low))) (omega arith) (omega arith) ∙ ap (λ i. get_or xs i false) at
+              lower j (omega arith) ∙ put_inside zs upper_run low j false (omega arith) k (omega (arith, b))
+              ∙ reversed_item zs (high - n) n (j - low) (omega (arith, inside, few)) (omega arith) ∙ t.inner (high - n + (n - 1 - (j - low))) (omega arith) (omega arith) ∙ ap (λ i. get_or xs i false) at
         ];
         back = λ j a l. elim (cases_lt j high) [
           | inl k ↦
               let at : low + (n - 1 - (j - (high - n))) ≡ head + (head + len) - 1 - j = omega arith in
-              put_inside one (number_bits x n) (high - n) j false (omega (arith, e, inside)) a (omega (arith, d, k, few))
-              ∙ turned_bit x n low (j - (high - n)) zs first (omega (arith, a, k, few)) ∙ t.inner (low + (n - 1 - (j - (high - n)))) (omega arith) (omega (arith, few, a, k)) ∙ ap (λ i. get_or xs i false) at
+              put_inside one lower_run (high - n) j false (omega (arith, e, inside)) a (omega (arith, d, k, few))
+              ∙ reversed_item zs low n (j - (high - n)) (omega (arith, inside, few)) (omega (arith, a, k, few)) ∙ t.inner (low + (n - 1 - (j - (high - n)))) (omega arith) (omega (arith, few, a, k)) ∙ ap (λ i. get_or xs i false) at
           | inr k ↦ upper j k ∙ t.back j k l
         ];
-        inner = λ j a l. lower j l ∙ put_behind zs (number_bits y n) low j false (omega (arith, b, inside, few)) (omega (arith, b, a)) ∙ t.inner j (omega arith) (omega (arith, l));
-        before = λ j a. lower j (omega arith) ∙ put_before zs (number_bits y n) low j false (omega arith) (omega arith) ∙ t.before j a;
+        inner = λ j a l. lower j l ∙ put_behind zs upper_run low j false (omega (arith, b, inside, few)) (omega (arith, b, a)) ∙ t.inner j (omega arith) (omega (arith, l));
+        before = λ j a. lower j (omega arith) ∙ put_before zs upper_run low j false (omega arith) (omega arith) ∙ t.before j a;
         after = λ j a. upper j (omega arith) ∙ t.after j a;
       }
+
+-- the same ends, written otherwise
+pub turned_to : (xs zs : List Bool) (head len low high l h : ℕ) → low ≡ l → high ≡ h → IsTurned xs zs head len low high → IsTurned xs zs head len l h
+turned_to xs zs head len low high l h el eh t = subst (λ n. IsTurned xs zs head len n h) el (subst (IsTurned xs zs head len low) eh t)
 
 pub turned_all : (xs zs : List Bool) (head len low high : ℕ) → IsTurned xs zs head len low high → high - low ≤ 1 → head + len ≤ length xs → zs ≡ put xs head (reverse (slice_range xs head (head + len)))
 turned_all xs zs head len low high t few room =
@@ -196,25 +230,37 @@ put_front xs ys zs d n is room = same_lists _ _ (search (rules, places)) (λ i e
 -- ---- shifted runs
 
 module _ (xs : List Bool) (head len by : ℕ) (inside : by ≤ len) (room : head + len ≤ length xs) where
-  pub shifted_left : put (moved xs (head + by) head (len - by)) (head + (len - by)) (replicate (head + len - (head + (len - by))) false) ≡ put xs head (drop by (slice_range xs head (head + len)) ++ replicate by false)
-  shifted_left =
+  -- the run's rest moved to its front, and as many bits as left it written after that
+  pub moved_front : (ys : List Bool) → length ys ≡ by → put (moved xs (head + by) head (len - by)) (head + (len - by)) ys ≡ put xs head (drop by (slice_range xs head (head + len)) ++ ys)
+  moved_front ys count =
       let n : ℕ = len - by in
       let end : head + by + n ≡ head + len = omega arith in
-      let count : head + len - (head + n) ≡ by = omega arith in
       let size : length (slice_range xs (head + by) (head + by + n)) ≡ n = length-run xs (head + by) n (omega arith) in
-      let zeros : length (replicate by false) ≡ by = length-replicate by false in
-      ap (λ k. put (moved xs (head + by) head n) (head + n) (replicate k false)) count
-      ∙ ap (λ l. put l (head + n) (replicate by false)) (sym (put_moved xs (head + by) head n (omega arith) (omega arith)))
-      ∙ put_joined xs (slice_range xs (head + by) (head + by + n)) (replicate by false) head (head + n) (omega (arith, size)) (omega (arith, zeros))
-      ∙ ap (λ l. put xs head (l ++ replicate by false)) (ap (slice_range xs (head + by)) end ∙ sym (rest_of_run xs head len by inside room))
+      ap (λ l. put l (head + n) ys) (sym (put_moved xs (head + by) head n (omega arith) (omega arith)))
+      ∙ put_joined xs (slice_range xs (head + by) (head + by + n)) ys head (head + n) (omega (arith, size)) (omega (arith, count))
+      ∙ ap (λ l. put xs head (l ++ ys)) (ap (slice_range xs (head + by)) end ∙ sym (rest_of_run xs head len by inside room))
+
+  -- the run's front moved to its end, and as many bits as left it written before that
+  pub moved_back : (ys : List Bool) → length ys ≡ by → put (moved xs head (head + by) (len - by)) head ys ≡ put xs head (ys ++ take (len - by) (slice_range xs head (head + len)))
+  moved_back ys count =
+      let n : ℕ = len - by in
+      let size : length (slice_range xs head (head + n)) ≡ n = length-run xs head n (omega arith) in
+      ap (λ l. put l head ys) (sym (put_moved xs head (head + by) n (omega arith) (omega arith)))
+      ∙ put_front xs ys (slice_range xs head (head + n)) head (head + by) (omega (arith, count)) (omega (arith, size))
+      ∙ ap (λ l. put xs head (ys ++ l)) (shows_fewer xs head n len (omega arith) room)
+
+  pub shifted_left : put (moved xs (head + by) head (len - by)) (head + (len - by)) (replicate (head + len - (head + (len - by))) false) ≡ put xs head (drop by (slice_range xs head (head + len)) ++ replicate by false)
+  shifted_left =
+      let count : head + len - (head + (len - by)) ≡ by = omega arith in
+      ap (λ k. put (moved xs (head + by) head (len - by)) (head + (len - by)) (replicate k false)) count ∙ moved_front (replicate by false) (length-replicate by false)
 
   pub shifted_right : put (moved xs head (head + by) (len - by)) head (replicate (head + by - head) false) ≡ put xs head (replicate by false ++ take (len - by) (slice_range xs head (head + len)))
   shifted_right =
-      let n : ℕ = len - by in
       let count : head + by - head ≡ by = omega arith in
-      let size : length (slice_range xs head (head + n)) ≡ n = length-run xs head n (omega arith) in
-      let zeros : length (replicate by false) ≡ by = length-replicate by false in
-      ap (λ k. put (moved xs head (head + by) n) head (replicate k false)) count
-      ∙ ap (λ l. put l head (replicate by false)) (sym (put_moved xs head (head + by) n (omega arith) (omega arith)))
-      ∙ put_front xs (replicate by false) (slice_range xs head (head + n)) head (head + by) (omega (arith, zeros)) (omega (arith, size))
-      ∙ ap (λ l. put xs head (replicate by false ++ l)) (shows_fewer xs head n len (omega arith) room)
+      ap (λ k. put (moved xs head (head + by) (len - by)) head (replicate k false)) count ∙ moved_back (replicate by false) (length-replicate by false)
+
+-- bits kept in words of 64 are read back
+pub kept_back : (words : List ℕ) (ys : List Bool) (n : ℕ) → length ys ≡ n → n ≤ 64 * length words → slice_range (put (row_of (λ w i. i) 64 words) 0 ys) 0 (0 + n) ≡ ys
+kept_back words ys n size room =
+    let all : length (row_of (λ w i. i) 64 words) ≡ 64 * length words = length-row_of (λ w i. i) 64 words in
+    shown_filled (row_of (λ w i. i) 64 words) ys 0 n (sym size) (omega arith)

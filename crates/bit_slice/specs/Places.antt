@@ -1,6 +1,7 @@
 -- Where a bit stands in a list, and the indices of the items that are true or false.
-use Rattle.std.specs.Prelude.{◌≡◌, ℕ, ◌+◌, ◌-◌, ◌<◌, ◌≤◌, Bool, false, true, not, List, [], ◌∷◌, length, slice_index_or, refl}
+use Rattle.std.specs.Prelude.{◌≡◌, ℕ, ◌+◌, ◌-◌, ◌<◌, ◌≤◌, Bool, false, true, not, List, [], ◌∷◌, length, slice_index_or, slice_range, refl}
 use Rattle.std.specs.List.{filter, range_with_len}
+use Rattle.bit_addressing.specs.Row.{number_of}
 
 -- no index from lo up to hi has this bit
 pub record IsAbsent (bit : Bool) (xs : List Bool) (lo hi : ℕ) : Type 0 where
@@ -19,6 +20,12 @@ pub record IsLast (bit : Bool) (xs : List Bool) (lo hi i : ℕ) : Type 0 where
   pub within : i < hi
   pub here : slice_index_or xs i false ≡ bit
   pub after : IsAbsent bit xs (i + 1) hi
+
+-- a number is that of the items from lo up to hi, which are at most 64
+pub record IsChunk (xs : List Bool) (lo hi chunk : ℕ) : Type 0 where
+  pub ordered : lo ≤ hi
+  pub few : hi ≤ lo + 64
+  pub number : chunk ≡ number_of (slice_range xs lo hi)
 
 -- the indices from lo up to hi whose items pass a test, ascending
 abbrev pub places_between : (Bool → Bool) → List Bool → ℕ → ℕ → List ℕ

@@ -7,7 +7,8 @@ ghost use Rattle.bit_addressing.specs.Typed.{row};
 ghost use Rattle.bit_slice.specs.Operators.{combined};
 
 use bit_addressing::{
-    BitOperator, BitOrder, BitStore, fill_bits, move_bits, read_binary, read_chunk, write_chunk,
+    BitOperator, BitOrder, BitStore, Lsb0, copy_bits, fill_bits, move_bits, read_binary,
+    read_chunk, write_chunk,
 };
 
 /// The bit is true where the old one is and the new one is not.
@@ -55,6 +56,23 @@ pub fn flip_in_vec<T: BitStore, O: BitOrder>(words: &mut Vec<T>, from: usize, up
     flip_words::<T, O>(words.as_mut_slice(), from, upto);
 }
 
+// Swaps the `n` bits from `front` on and the `n` from `back` on, each run reversed. Requires that the first ends before the other
+// begins, both lie in the words, and `n` is at most 64.
+#[inline(always)]
+fn swap_reversed<T: BitStore, O: BitOrder>(words: &mut [T], front: usize, back: usize, n: u8)
+    requires few { n ≤ 64 }
+    requires apart { front + n ≤ back }
+    requires within { back + n ≤ T.BITS * length words.old }
+    requires fits { back + n < 2 ^ 64 }
+    ensures bits { row T.BitStore O.BitOrder words.new ≡ put (put (row T.BitStore O.BitOrder words.old) front (reverse (slice_range (row T.BitStore O.BitOrder words.old) back (back + n)))) back (reverse (slice_range (row T.BitStore O.BitOrder words.old) front (front + n))) }
+    ensures size { length words.new ≡ length words.old }
+{
+    let lower = read_binary::<T, O>(words, front, n);
+    let upper = read_binary::<T, O>(words, back, n);
+    write_chunk::<T, O>(words, front, n, upper);
+    write_chunk::<T, O>(words, back, n, lower);
+}
+
 /// Reverses the `len` bits of the words' row from `head` on, up to 64 from each end at a time. No other bit changes.
 /// Requires that the run lies in the words.
 pub fn reverse_words<T: BitStore, O: BitOrder>(words: &mut [T], head: usize, len: usize)
@@ -63,22 +81,57 @@ pub fn reverse_words<T: BitStore, O: BitOrder>(words: &mut [T], head: usize, len
     ensures bits { row T.BitStore O.BitOrder words.new ≡ put (row T.BitStore O.BitOrder words.old) head (reverse (slice_range (row T.BitStore O.BitOrder words.old) head (head + len))) }
     ensures size { length words.new ≡ length words.old }
 {
-    let mut low = head;
-    let mut high = head + len;
-    while high - low > 1 {
-        let n = ((high - low) / 2).min(64);
-        let front = read_binary::<T, O>(words, low, n as u8);
-        let back = read_binary::<T, O>(words, high - n, n as u8);
-        write_chunk::<T, O>(words, low, n as u8, back);
-        write_chunk::<T, O>(words, high - n, n as u8, front);
-        low += n;
-        high -= n;
+    let end = head + len;
+    let pairs = len / 128;
+    for t in 0..pairs {
+        swap_reversed::<T, O>(words, head + t * 64, end - t * 64 - 64, 64);
     }
+    let (low, high) = (head + pairs * 64, end - pairs * 64);
+    let rest = (high - low) / 2;
+    swap_reversed::<T, O>(words, low, high - rest, rest as u8);
 }
 
-/// Moves the first `by` of the `len` bits of the words' row from `head` on after the others, by three reversals. No other
-/// bit changes. Requires that the run lies in the words, and `by` is at most its length.
-pub fn rotate_words<T: BitStore, O: BitOrder>(words: &mut [T], head: usize, len: usize, by: usize)
+// The bits that a rotation keeps beside the words: at most 16 words of 64.
+const KEPT: usize = 1024;
+
+// Like `rotate_words`, of at most 1024 bits that move after the others: they are kept while the others move.
+fn rotate_few<T: BitStore, O: BitOrder>(words: &mut [T], head: usize, len: usize, by: usize)
+    requires room { T.BITS * length words.old ≤ MAX_BITS + 2 * T.BITS }
+    requires within { head + len ≤ T.BITS * length words.old }
+    requires inside { by ≤ len }
+    requires few { by ≤ 1024 }
+    ensures bits { let bits = slice_range (row T.BitStore O.BitOrder words.old) head (head + len) in row T.BitStore O.BitOrder words.new ≡ put (row T.BitStore O.BitOrder words.old) head (drop by bits ++ take by bits) }
+    ensures size { length words.new ≡ length words.old }
+{
+    let mut kept = [0u64; 16];
+    copy_bits::<u64, Lsb0, T, O>(&mut kept, 0, words, head, by);
+    move_bits::<T, O>(words, head + by, head, len - by);
+    copy_bits::<T, O, u64, Lsb0>(words, head + (len - by), &kept, 0, by);
+}
+
+// Like `rotate_words`, where all but at most 1024 bits move after the others: these are kept while the first move.
+fn rotate_all_but_few<T: BitStore, O: BitOrder>(words: &mut [T], head: usize, len: usize, by: usize)
+    requires room { T.BITS * length words.old ≤ MAX_BITS + 2 * T.BITS }
+    requires within { head + len ≤ T.BITS * length words.old }
+    requires inside { by ≤ len }
+    requires few { len - by ≤ 1024 }
+    ensures bits { let bits = slice_range (row T.BitStore O.BitOrder words.old) head (head + len) in row T.BitStore O.BitOrder words.new ≡ put (row T.BitStore O.BitOrder words.old) head (drop by bits ++ take by bits) }
+    ensures size { length words.new ≡ length words.old }
+{
+    let rest = len - by;
+    let mut kept = [0u64; 16];
+    copy_bits::<u64, Lsb0, T, O>(&mut kept, 0, words, head + by, rest);
+    move_bits::<T, O>(words, head, head + rest, by);
+    copy_bits::<T, O, u64, Lsb0>(words, head, &kept, 0, rest);
+}
+
+// Like `rotate_words`, by three reversals.
+fn rotate_by_reversals<T: BitStore, O: BitOrder>(
+    words: &mut [T],
+    head: usize,
+    len: usize,
+    by: usize,
+)
     requires within { head + len ≤ T.BITS * length words.old }
     requires fits { head + len < 2 ^ 64 }
     requires inside { by ≤ len }
@@ -88,6 +141,24 @@ pub fn rotate_words<T: BitStore, O: BitOrder>(words: &mut [T], head: usize, len:
     reverse_words::<T, O>(words, head, by);
     reverse_words::<T, O>(words, head + by, len - by);
     reverse_words::<T, O>(words, head, len);
+}
+
+/// Moves the first `by` of the `len` bits of the words' row from `head` on after the others: in one pass where at most 1024 bits stand
+/// on one side, else by three reversals. No other bit changes. Requires that the run lies in the words, and `by` is at most its length.
+pub fn rotate_words<T: BitStore, O: BitOrder>(words: &mut [T], head: usize, len: usize, by: usize)
+    requires room { T.BITS * length words.old ≤ MAX_BITS + 2 * T.BITS }
+    requires within { head + len ≤ T.BITS * length words.old }
+    requires inside { by ≤ len }
+    ensures bits { let bits = slice_range (row T.BitStore O.BitOrder words.old) head (head + len) in row T.BitStore O.BitOrder words.new ≡ put (row T.BitStore O.BitOrder words.old) head (drop by bits ++ take by bits) }
+    ensures size { length words.new ≡ length words.old }
+{
+    if by <= KEPT {
+        rotate_few::<T, O>(words, head, len, by);
+    } else if len - by <= KEPT {
+        rotate_all_but_few::<T, O>(words, head, len, by);
+    } else {
+        rotate_by_reversals::<T, O>(words, head, len, by);
+    }
 }
 
 /// Moves the `len` bits of the words' row from `head` on `by` places towards the front: the first `by` go, and the last

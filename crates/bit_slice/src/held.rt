@@ -113,8 +113,8 @@ pub fn rotate_in_vec<T: BitStore, O: BitOrder>(
     len: usize,
     by: usize,
 )
+    requires room { T.BITS * length words.old.items ≤ MAX_BITS + 2 * T.BITS }
     requires within { head + len ≤ T.BITS * length words.old.items }
-    requires fits { head + len < 2 ^ 64 }
     requires inside { by ≤ len }
     ensures written { IsRewritten T.BitStore O.BitOrder words.old.items words.new.items head len (drop by (list_in T.BitStore O.BitOrder words.old.items head len) ++ take by (list_in T.BitStore O.BitOrder words.old.items head len)) }
     ensures capacity { vec_capacity words.new ≡ vec_capacity words.old }

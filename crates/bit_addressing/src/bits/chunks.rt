@@ -31,6 +31,11 @@ fn read_over<T: BitStore, O: BitOrder>(words: &[T], at: usize, n: u8) -> u64
     let width = T::BITS as usize;
     let mut k = at / width;
     let skip = (at % width) as u8;
+    let each = 64 / width;
+    if k + 2 * each <= words.len() {
+        let block = word_number::<u64, O>(block_at::<O, T, O>(words, k, skip));
+        return block & (u64::MAX >> (64 - n));
+    }
     let mut chunk = word_number::<T, O>(words[k]) >> skip;
     let mut got = T::BITS - skip;
     while got < n {

@@ -231,7 +231,7 @@ pub fn differ_at<T: BitStore, O: BitOrder, U: BitStore, P: BitOrder>(
     let (width, other) = (T::BITS as usize, U::BITS as usize);
     let (k, skip) = (i / width, (i % width) as u8);
     let (l, over) = (j / other, (j % other) as u8);
-    if skip == 0 && over == 0 && (T::BITS == 64 || n <= width) && are_alike::<T, O, U, P>() {
+    if skip == 0 && over == 0 && (T::BITS == 64 || n <= 512) && are_alike::<T, O, U, P>() {
         return differ_alike::<T, O, U, P>(a, k, b, l, n);
     }
     differ_apart::<T, O, U, P>(a, k, skip, b, l, over, n)

@@ -1,10 +1,10 @@
 //! The indices of a view's bits that are true, and of those that are false.
 ghost use Rattle.std.specs.Iterator.{YieldsFirst, YieldsLast};
 ghost use Rattle.std.specs.Iterator.Runs.{YieldsInOrder, YieldsInReverse};
-ghost use Rattle.std.specs.Prelude.{◌≡◌, ℕ, ◌+◌, ◌-◌, ◌*◌, ◌<◌, ◌≤◌, IfSome, Some, count_by, false, length, not, slice_get, true};
+ghost use Rattle.std.specs.Prelude.{◌≡◌, ◌≢◌, ℕ, ◌+◌, ◌-◌, ◌*◌, ◌<◌, ◌≤◌, [], ◌∷◌, IfSome, Some, count_by, false, length, not, slice_get, true};
 ghost use Rattle.std.specs.List.{All};
 ghost use Rattle.bit_slice.specs.BitSlice.{len_of, list_of};
-ghost use Rattle.bit_slice.specs.Places.{ones_of, zeros_of};
+ghost use Rattle.bit_slice.specs.Places.{IsChunk, ones_of, zeros_of};
 
 use crate::slice::BitSlice;
 use bit_addressing::{BitOrder, BitStore};
@@ -18,13 +18,18 @@ pub struct IterOnes<'a, T: BitStore, O: BitOrder> {
     view: BitSlice<'a, T, O>,
     from: usize,
     upto: usize,
-    ghost fits: { (from ≤ upto) × (upto ≤ len_of view) },
+    // The bits from index `from` up to `end`, which were read together, as a number.
+    chunk: u64,
+    end: usize,
+    ghost fits: { (end ≤ upto) × (upto ≤ len_of view) },
+    ghost read: { IsChunk (list_of view) from end chunk },
 }
 
 impl<'a, T: BitStore, O: BitOrder> BitSlice<'a, T, O> {
     ghost use Rattle.bit_slice.specs.Indices.{ones_left};
 
-    /// The indices of the bits that are true, ascending, from both ends. A step reads 64 bits at a time.
+    /// The indices of the bits that are true, ascending, from both ends. Bits are read 64 at a time.
+    #[tactic(auto, using(crate::proofs::Chunked::chunk_none))]
     pub fn iter_ones(self) -> IterOnes<'a, T, O>
         ensures list { ones_left result ≡ ones_of (list_of self.entry) }
         ensures count { length (ones_left result) ≡ count_by (λ b. b) (list_of self.entry) }
@@ -37,6 +42,8 @@ impl<'a, T: BitStore, O: BitOrder> BitSlice<'a, T, O> {
             view: self,
             from: 0,
             upto: self.len,
+            chunk: 0,
+            end: 0,
         }
     }
 }
@@ -49,6 +56,32 @@ impl<'a, T: BitStore, O: BitOrder> IterOnes<'a, T, O> {
         ensures { result ≡ length (ones_left self.now) }
     {
         self.view.get_range(self.from..self.upto).count_ones()
+    }
+
+    // Reads bits up to one that is true, or all of them. Requires that none is left of those that were read.
+    #[inline(always)]
+    fn read_on(&mut self)
+        requires { self.old.chunk ≡ 0 }
+        ensures left { ones_left self.new ≡ ones_left self.old }
+        ensures none { self.new.chunk ≡ 0 → ones_left self.new ≡ [] }
+    {
+        let (from, end, chunk) = self.view.chunk_with_one(self.end, self.upto);
+        self.from = from;
+        self.end = end;
+        self.chunk = chunk;
+    }
+
+    // The first index that is left. Requires that it is one of the bits that were read.
+    #[inline(always)]
+    fn take_first(&mut self) -> usize
+        requires { self.old.chunk ≢ 0 }
+        ensures { ones_left self.old ≡ result ∷ ones_left self.new }
+    {
+        let step = self.chunk.trailing_zeros();
+        let first = self.from + step as usize;
+        self.chunk = self.chunk >> step >> 1;
+        self.from = first + 1;
+        first
     }
 }
 
@@ -64,17 +97,16 @@ impl<'a, T: BitStore, O: BitOrder> Iterator for IterOnes<'a, T, O> {
     ghost remaining = { item_count ones_left };
 
     /// The first index that is left. None exactly where none is.
+    #[inline(always)]
     fn next(&mut self) -> Option<usize> {
-        match self.view.find_next(self.from, self.upto, true) {
-            None => {
-                self.from = self.upto;
-                None
-            }
-            Some(i) => {
-                self.from = i + 1;
-                Some(i)
-            }
+        if self.chunk != 0 {
+            return Some(self.take_first());
         }
+        self.read_on();
+        if self.chunk == 0 {
+            return None;
+        }
+        Some(self.take_first())
     }
 
     /// How many indices are left, twice: the bits that are left are counted.
@@ -95,14 +127,19 @@ impl<'a, T: BitStore, O: BitOrder> DoubleEndedIterator for IterOnes<'a, T, O> {
     ghost next_back_gives = { YieldsLast ones_left };
 
     /// The last index that is left. None exactly where none is.
+    #[tactic(auto, using(crate::proofs::Chunked::chunk_none))]
     fn next_back(&mut self) -> Option<usize> {
         match self.view.find_last(self.from, self.upto, true) {
             None => {
                 self.upto = self.from;
+                self.chunk = 0;
+                self.end = self.from;
                 None
             }
             Some(i) => {
                 self.upto = i;
+                self.chunk = 0;
+                self.end = self.from;
                 Some(i)
             }
         }

@@ -2,7 +2,7 @@
 ghost use Rattle.std.specs.Prelude.{◌≡◌, ℕ, ◌+◌, ◌-◌, ◌*◌, ◌<◌, ◌≤◌, ◌&&◌, ◌↔◌, Bool, IsTrue, IfNone, IfSome, EachIndex, SomeIndex, MatchOption, Some, false, length, not, replicate, slice_get, slice_range, true};
 ghost use Rattle.std.specs.List.{list_any, list_all, position, prefix_len, suffix_len};
 ghost use Rattle.bit_slice.specs.BitSlice.{head_of, len_of, list_of, words_of};
-ghost use Rattle.bit_slice.specs.Places.{IsAbsent, IsLast, IsNext};
+ghost use Rattle.bit_slice.specs.Places.{IsAbsent, IsChunk, IsLast, IsNext};
 
 use crate::slice::BitSlice;
 use bit_addressing::{BitOrder, BitStore, find_bit, read_chunk};
@@ -17,6 +17,42 @@ impl<'a, T: BitStore, O: BitOrder> BitSlice<'a, T, O> {
         match find_bit::<T, O>(self.words, self.head + from, self.head + upto, bit) {
             None => None,
             Some(k) => Some(from + k),
+        }
+    }
+
+    // The `n` bits from index `at` on as a number. Requires that the view has them, and `n` is at most 64.
+    #[inline(always)]
+    fn chunk_at(self, at: usize, n: usize) -> u64
+        requires few { n ≤ 64 }
+        requires inside { at + n ≤ len_of self }
+        ensures { IsChunk (list_of self.entry) at (at + n) result }
+    {
+        read_chunk::<T, O>(self.words, self.head + at, n as u8)
+    }
+
+    // The first bits from index `at` on, up to 64 that end with a word, of which one is true: where they begin, where they
+    // end, and they as a number. `upto` twice and 0 where none is true up to there.
+    #[inline(never)]
+    pub(crate) fn chunk_with_one(self, at: usize, upto: usize) -> (usize, usize, u64)
+        requires ordered { at ≤ upto }
+        requires inside { upto ≤ len_of self }
+        ensures begins { at ≤ result.0 }
+        ensures ends { result.1 ≤ upto }
+        ensures before { IsAbsent true (list_of self.entry) at result.0 }
+        ensures chunk { IsChunk (list_of self.entry) result.0 result.1 result.2 }
+        ensures none { result.2 ≡ 0 → result.0 ≡ upto }
+    {
+        let near = (64 - (self.head + at) % 64).min(upto - at);
+        let chunk = self.chunk_at(at, near);
+        if chunk != 0 {
+            return (at, at + near, chunk);
+        }
+        match self.find_next(at + near, upto, true) {
+            None => (upto, upto, 0),
+            Some(i) => {
+                let n = (64 - (self.head + i) % 64).min(upto - i);
+                (i, i + n, self.chunk_at(i, n))
+            }
         }
     }
 

@@ -10,6 +10,7 @@ use crate::slice::BitSlice;
 use bit_addressing::{And, BitOperator, BitOrder, BitStore, Or, Xor, read_chunk};
 
 // The `n` bits from index `at` on that the operator makes of two views, as a number.
+#[inline(always)]
 fn pair_chunk<F: BitOperator, T: BitStore, O: BitOrder, U: BitStore, P: BitOrder>(
     left: BitSlice<'_, T, O>,
     right: BitSlice<'_, U, P>,
@@ -38,15 +39,14 @@ fn count_pairs<F: BitOperator, T: BitStore, O: BitOrder, U: BitStore, P: BitOrde
     requires right { upto ≤ len_of right }
     ensures { result ≡ count_by (λ b. b) (slice_range (combined F.made (list_of left.entry) (list_of right.entry)) 0 upto) }
 {
+    let blocks = upto / 64;
     let mut count = 0usize;
-    let mut at = 0;
-    while at < upto {
-        let n = (upto - at).min(64);
-        let chunk = pair_chunk::<F, T, O, U, P>(left, right, at, n as u8);
+    for t in 0..blocks {
+        let chunk = pair_chunk::<F, T, O, U, P>(left, right, t * 64, 64);
         count += chunk.count_ones() as usize;
-        at += n;
     }
-    count
+    let rest = pair_chunk::<F, T, O, U, P>(left, right, blocks * 64, (upto % 64) as u8);
+    count + rest.count_ones() as usize
 }
 
 // Whether one of the first `upto` bits is true that the operator makes of two views.
@@ -60,15 +60,13 @@ fn any_pair<F: BitOperator, T: BitStore, O: BitOrder, U: BitStore, P: BitOrder>(
     requires right { upto ≤ len_of right }
     ensures { result ≡ list_any (λ b. b) (slice_range (combined F.made (list_of left.entry) (list_of right.entry)) 0 upto) }
 {
-    let mut at = 0;
-    while at < upto {
-        let n = (upto - at).min(64);
-        if pair_chunk::<F, T, O, U, P>(left, right, at, n as u8) != 0 {
+    let blocks = upto / 64;
+    for t in 0..blocks {
+        if pair_chunk::<F, T, O, U, P>(left, right, t * 64, 64) != 0 {
             return true;
         }
-        at += n;
     }
-    false
+    pair_chunk::<F, T, O, U, P>(left, right, blocks * 64, (upto % 64) as u8) != 0
 }
 
 impl<'a, T: BitStore, O: BitOrder> BitSlice<'a, T, O> {

@@ -24,6 +24,7 @@ impl<'a, T: BitStore, O: BitOrder> BitSliceMut<'a, T, O> {
 
     /// Moves the first `by` bits after the others, by whole words where it can. Requires that `by` is at
     /// most the length.
+    #[tactic(auto, using(crate::proofs::Parts::roomy))]
     pub fn rotate_left(&mut self, by: usize)
         requires { by ≤ len_of self.old }
         ensures row { row_of self.new ≡ put (row_of self.old) (head_of self.old) (drop by (list_of self.old) ++ take by (list_of self.old)) }
@@ -37,6 +38,7 @@ impl<'a, T: BitStore, O: BitOrder> BitSliceMut<'a, T, O> {
 
     /// Moves the last `by` bits before the others, by whole words where it can. Requires that `by` is at
     /// most the length.
+    #[tactic(auto, using(crate::proofs::Parts::roomy))]
     pub fn rotate_right(&mut self, by: usize)
         requires { by ≤ len_of self.old }
         ensures row { row_of self.new ≡ put (row_of self.old) (head_of self.old) (drop (len_of self.old - by) (list_of self.old) ++ take (len_of self.old - by) (list_of self.old)) }

@@ -1,6 +1,8 @@
-use Rattle.std.proofs.Common.{◌≡◌, ◌+◌, ◌-◌, ◌*◌, ◌/◌, ◌%◌, ◌^◌, ◌<◌, bit_or, length, sym, ap, subst, arith}
+use Rattle.std.proofs.Common.{◌≡◌, ◌+◌, ◌-◌, ◌*◌, ◌/◌, ◌%◌, ◌^◌, ◌<◌, bit_or, length, slice_range, sym, ◌∙◌, ap, subst, arith}
+use Rattle.std.proofs.lemmas.Nat.{div-add-mod'}
+use Rattle.bit_addressing.specs.Row.{number_of}
 use Rattle.bit_addressing.specs.Typed.{row}
-use Rattle.bit_addressing.proofs.Chunks.{IsRead, no_bits, read_first, read_next, read_done, reach_first, reach_next}
+use Rattle.bit_addressing.proofs.Chunks.{IsRead, no_bits, read_block, read_first, read_next, read_done, reach_first, reach_next}
 use Rattle.bit_addressing.proofs.Rows.{width_positive, width_small}
 use Rattle.bit_addressing.proofs.Runs.{inside_words}
 use Rattle.bit_addressing.proofs.Typed.{length_row}
@@ -8,6 +10,18 @@ use Rattle.bit_addressing.proofs.bits.chunks.read_over.Goals as goal
 
 pub returns-then-n-eq0 : goal.returns-then-n-eq0
 returns-then-n-eq0 g c = no_bits (row g.T.BitStore g.O.BitOrder c.args.words.now) c.args.at c.args.n c.if-n-eq0.true
+
+pub returns-then-k-each : goal.returns-then-k-each
+returns-then-k-each g c =
+    let w = g.T.BitStore.BITS in
+    let at = c.args.at in
+    let width = c.BITS-width.result in
+    let positive = width_positive w g.met.T.BitStore.width in
+    let zs = row g.T.BitStore g.O.BitOrder c.args.words.now in
+    let size : length zs ≡ w * length c.args.words.now = length_row g.T.BitStore.value g.O.BitOrder.place w c.args.words.now in
+    let here : at / width * w + at % width ≡ at = ap (λ n. at / width * n + at % width) (sym c.BITS-width.ensures) ∙ div-add-mod' at width in
+    let number : c.word_number-block.result ≡ number_of (slice_range zs at (at + 64)) = c.word_number-block.ensures ∙ ap number_of c.block_at.ensures ∙ ap (λ n. number_of (slice_range zs n (n + 64))) here in
+    read_done zs at c.args.n 64 c.word_number-block.result (read_block zs at c.word_number-block.result number) (omega arith) c.requires.few c.requires.few (omega arith)
 
 pub loop-got-init : goal.loop-got-init
 loop-got-init g c =

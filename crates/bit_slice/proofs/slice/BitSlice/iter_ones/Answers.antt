@@ -1,5 +1,6 @@
-use Rattle.std.proofs.Common.{true}
+use Rattle.std.proofs.Common.{true, arith}
 use Rattle.bit_slice.specs.BitSlice.{list_of}
+use Rattle.bit_slice.proofs.Chunked.{chunk_none}
 use Rattle.bit_slice.proofs.Parts.{shown_length}
 use Rattle.bit_slice.proofs.Places.{places_whole, places_count_all, all_inside, all_set, true_alone}
 use Rattle.bit_slice.proofs.Iteration.{ones_runs, ones_runs_back}
@@ -30,3 +31,6 @@ returns-clause-runs g c = ones_runs g.T.BitStore g.O.BitOrder
 
 pub returns-clause-runs_back : goal.returns-clause-runs_back
 returns-clause-runs_back g c = ones_runs_back g.T.BitStore g.O.BitOrder
+
+pub invariant_of-result : goal.invariant_of-result
+invariant_of-result g c = record { fits = omega arith; read = chunk_none (list_of c.args.self) 0 }

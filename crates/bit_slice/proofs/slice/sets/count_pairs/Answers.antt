@@ -1,4 +1,4 @@
-use Rattle.std.proofs.Common.{◌≡◌, ◌+◌, count_by, slice_range, refl, sym, ◌∙◌, ap, arith}
+use Rattle.std.proofs.Common.{◌≡◌, ℕ, ◌+◌, ◌*◌, ◌/◌, ◌%◌, count_by, slice_range, refl, sym, ◌∙◌, ap, arith}
 use Rattle.std.specs.Prelude.{count_ones}
 use Rattle.bit_addressing.proofs.Counts.{counted, counted_next, counted-le}
 use Rattle.bit_slice.specs.BitSlice.{list_of}
@@ -6,13 +6,24 @@ use Rattle.bit_slice.specs.Operators.{combined}
 use Rattle.bit_slice.proofs.Combining.{length-combined}
 use Rattle.bit_slice.proofs.Parts.{shown_length}
 use Rattle.bit_slice.proofs.Shown.{run_none}
+use Rattle.bit_slice.proofs.slice.sets.count_pairs.Given as given
 use Rattle.bit_slice.proofs.slice.sets.count_pairs.Goals as goal
+use Rattle.bit_slice.proofs.slice.sets.count_pairs.Goals.{After-pair_chunk-chunk, After-pair_chunk-rest}
 
-pub loop-at-init : goal.loop-at-init
-loop-at-init g c = record {
-  ends = omega arith;
-  counted = sym (ap (count_by (λ b. b)) (run_none (combined g.F.BitOperator.made (list_of c.args.left) (list_of c.args.right)) 0 0 (omega arith)));
-}
+pub loop-t-init : goal.loop-t-init
+loop-t-init g c = record { counted = sym (ap (count_by (λ b. b)) (run_none (combined g.F.BitOperator.made (list_of c.args.left) (list_of c.args.right)) 0 0 (omega arith))) }
+
+-- 64 bits more are counted
+more : (g : given.Over) (c : After-pair_chunk-chunk g) → c.loop-t.count + count_ones c.pair_chunk-chunk.result ≡ count_by (λ b. b) (slice_range (combined g.F.BitOperator.made (list_of c.args.left) (list_of c.args.right)) 0 ((c.loop-t.t + 1) * 64))
+more g c =
+    let v = c.args.left in
+    let cs = combined g.F.BitOperator.made (list_of v) (list_of c.args.right) in
+    let long = length-combined g.F.BitOperator.made (list_of v) (list_of c.args.right) in
+    let size = shown_length g.T.BitStore g.O.BitOrder v.words.now v.head v.len v.fits.room in
+    let at : ℕ = c.loop-t.t * 64 in
+    let end : ℕ = (c.loop-t.t + 1) * 64 in
+    counted_next cs 0 at end c.loop-t.count (count_ones c.pair_chunk-chunk.result) (omega arith) (omega arith) (omega (arith, long, size)) c.loop-t.invariant.counted
+    (counted cs at (at + 64) at end c.pair_chunk-chunk.result refl (omega arith) c.pair_chunk-chunk.ensures)
 
 pub overflow_add-count : goal.overflow_add-count
 overflow_add-count g c =
@@ -20,28 +31,34 @@ overflow_add-count g c =
     let cs = combined g.F.BitOperator.made (list_of v) (list_of c.args.right) in
     let long = length-combined g.F.BitOperator.made (list_of v) (list_of c.args.right) in
     let size = shown_length g.T.BitStore g.O.BitOrder v.words.now v.head v.len v.fits.room in
-    let at = c.loop-at.at in
-    let n = c.min-n.result in
-    let sum = counted_next cs 0 at (at + n) c.loop-at.count (count_ones c.pair_chunk-chunk.result) (omega arith) (omega arith) (omega (arith, long, size)) c.loop-at.invariant.counted
-    (counted cs at (at + n) at (at + n) c.pair_chunk-chunk.result refl refl c.pair_chunk-chunk.ensures) in
-    let most = counted-le cs 0 (at + n) (c.loop-at.count + count_ones c.pair_chunk-chunk.result) (omega arith) (omega (arith, long, size)) sum in
+    let end : ℕ = (c.loop-t.t + 1) * 64 in
+    let most = counted-le cs 0 end (c.loop-t.count + count_ones c.pair_chunk-chunk.result) (omega arith) (omega (arith, long, size)) (more g c) in
     omega (arith, most)
 
-pub loop-at-preserved : goal.loop-at-preserved
-loop-at-preserved g c =
+pub loop-t-preserved : goal.loop-t-preserved
+loop-t-preserved g c = record { counted = more g c }
+
+-- the last bits, fewer than 64, are counted too
+all : (g : given.Over) (c : After-pair_chunk-rest g) → c.loop-t.count + count_ones c.pair_chunk-rest.result ≡ count_by (λ b. b) (slice_range (combined g.F.BitOperator.made (list_of c.args.left) (list_of c.args.right)) 0 c.args.upto)
+all g c =
     let v = c.args.left in
     let cs = combined g.F.BitOperator.made (list_of v) (list_of c.args.right) in
     let long = length-combined g.F.BitOperator.made (list_of v) (list_of c.args.right) in
     let size = shown_length g.T.BitStore g.O.BitOrder v.words.now v.head v.len v.fits.room in
-    let at = c.loop-at.at in
-    let n = c.min-n.result in
-    record {
-      ends = omega arith;
-      counted = counted_next cs 0 at (at + n) c.loop-at.count (count_ones c.pair_chunk-chunk.result) (omega arith) (omega arith) (omega (arith, long, size)) c.loop-at.invariant.counted
-          (counted cs at (at + n) at (at + n) c.pair_chunk-chunk.result refl refl c.pair_chunk-chunk.ensures);
-    }
+    let at : ℕ = c.args.upto / 64 * 64 in
+    let done : c.loop-t.t * 64 ≡ at = omega arith in
+    counted_next cs 0 at c.args.upto c.loop-t.count (count_ones c.pair_chunk-rest.result) (omega arith) (omega arith) (omega (arith, long, size))
+    (c.loop-t.invariant.counted ∙ ap (λ k. count_by (λ b. b) (slice_range cs 0 k)) done)
+    (counted cs at (at + c.args.upto % 64) at c.args.upto c.pair_chunk-rest.result refl (omega arith) c.pair_chunk-rest.ensures)
 
 pub returns : goal.returns
-returns g c =
-    let end : c.loop-at.at ≡ c.args.upto = omega arith in
-    c.loop-at.invariant.counted ∙ ap (λ k. count_by (λ b. b) (slice_range (combined g.F.BitOperator.made (list_of c.args.left) (list_of c.args.right)) 0 k)) end
+returns g c = all g c
+
+pub overflow_add-result : goal.overflow_add-result
+overflow_add-result g c =
+    let v = c.args.left in
+    let cs = combined g.F.BitOperator.made (list_of v) (list_of c.args.right) in
+    let long = length-combined g.F.BitOperator.made (list_of v) (list_of c.args.right) in
+    let size = shown_length g.T.BitStore g.O.BitOrder v.words.now v.head v.len v.fits.room in
+    let most = counted-le cs 0 c.args.upto (c.loop-t.count + count_ones c.pair_chunk-rest.result) (omega arith) (omega (arith, long, size)) (all g c) in
+    omega (arith, most)

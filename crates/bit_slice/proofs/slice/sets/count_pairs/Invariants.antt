@@ -1,13 +1,7 @@
-use Rattle.std.proofs.Common.{◌≡◌, ◌-◌, ◌≤◌, count_by, slice_range}
+use Rattle.std.proofs.Common.{◌≡◌, ◌*◌, count_by, slice_range}
 use Rattle.bit_slice.specs.BitSlice.{list_of}
 use Rattle.bit_slice.specs.Operators.{combined}
 use Rattle.bit_slice.proofs.slice.sets.count_pairs.Given as goal
 
-abbrev pub invariant-loop-at : goal.invariant-loop-at
-invariant-loop-at g l = record {
-  ends : l.at ≤ l.upto;
-  counted : l.count ≡ count_by (λ b. b) (slice_range (combined g.F.BitOperator.made (list_of l.left) (list_of l.right)) 0 l.at);
-}
-
-abbrev pub decreases-loop-at : goal.decreases-loop-at
-decreases-loop-at g l = l.upto - l.at
+abbrev pub invariant-loop-t : goal.invariant-loop-t
+invariant-loop-t g l = record { counted : l.count ≡ count_by (λ b. b) (slice_range (combined g.F.BitOperator.made (list_of l.left) (list_of l.right)) 0 (l.t * 64)) }

@@ -9,4 +9,4 @@ returns g c =
     let s = c.args.self.now in
     let v = s.view in
     let size = shown_length g.T.BitStore g.O.BitOrder v.words.now v.head v.len v.fits.room in
-    c.count_ones.ensures.value ∙ ap (count_by (λ b. b)) c.get_range.ensures.list ∙ sym (places_count (λ b. b) (list_of v) s.from s.upto s.fits.0 (omega (arith, size, s.fits)))
+    c.count_ones.ensures.value ∙ ap (count_by (λ b. b)) c.get_range.ensures.list ∙ sym (places_count (λ b. b) (list_of v) s.from s.upto (omega (arith, s.read.ordered, s.fits.0)) (omega (arith, size, s.fits)))

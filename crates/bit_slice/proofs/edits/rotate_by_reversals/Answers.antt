@@ -3,7 +3,7 @@ use Rattle.bit_addressing.specs.Row.{put}
 use Rattle.bit_addressing.specs.Typed.{row}
 use Rattle.bit_slice.proofs.Parts.{in_row}
 use Rattle.bit_slice.proofs.Turned.{rotated}
-use Rattle.bit_slice.proofs.edits.rotate_words.Goals as goal
+use Rattle.bit_slice.proofs.edits.rotate_by_reversals.Goals as goal
 
 pub returns-clause-bits : goal.returns-clause-bits
 returns-clause-bits g c =

@@ -11,6 +11,12 @@ use Rattle.bit_addressing.proofs.Combined.{put_later}
 use Rattle.bit_addressing.proofs.lists.Shown.{length-between}
 use Rattle.bit_slice.specs.Operators.{combined}
 
+-- of two lists of one length
+pub zipped : (f : Bool → Bool → Bool) (xs ys : List Bool) → length xs ≡ length ys → combined f xs ys ≡ zip2 f xs ys
+zipped f [] ys h = refl
+zipped f (x ∷ xs) [] h = cc
+zipped f (x ∷ xs) (y ∷ ys) h = ap (λ l. f x y ∷ l) (zipped f xs ys (omega arith))
+
 -- what stands on both sides, and behind it what the left has alone
 split : (f : Bool → Bool → Bool) (n : ℕ) (xs ys : List Bool) → n ≡ min (length xs) (length ys) → combined f xs ys ≡ zip2 f (take n xs) (take n ys) ++ map (λ x. f x false) (drop n xs)
 split f zero [] ys h = refl

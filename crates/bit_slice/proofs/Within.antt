@@ -15,18 +15,6 @@ use Rattle.bit_slice.proofs.Turned.{put_front}
 use Rattle.bit_addressing.proofs.Runs.{slices_joined}
 use Rattle.bit_slice.specs.Operators.{combined}
 
--- the number that is made of two others stands for what is made of their lists
-pub made_number : (f : Bool → Bool → Bool) (x y z n : ℕ) (xs ys : List Bool) → length xs ≡ n → n ≤ 64 → x ≡ number_of xs → y ≡ number_of ys
-    → ((p : ℕ) → p < 64 → has_bit z p ≡ f (has_bit x p) (has_bit y p)) → number_bits z n ≡ combined f xs ys
-unfolding number_bits
-made_number f x y z n xs ys size few ex ey made =
-    let long = length-combined f xs ys in
-    let count = length-map-range_with_len (has_bit z) 0 n in
-    ext_get_or false (number_bits z n) (combined f xs ys) (count ∙ sym (long ∙ size))
-    (λ i h. get_or-map-range_with_len (has_bit z) 0 n i i false (omega (arith, h, count)) (omega arith) ∙ made i (omega (arith, h, count, few))
-    ∙ ap (λ b. f b (has_bit y i)) (ap (λ k. has_bit k i) ex ∙ has_number xs i) ∙ ap (f (get_or xs i false)) (ap (λ k. has_bit k i) ey ∙ has_number ys i)
-    ∙ sym (item_combined f xs ys i (omega (arith, h, count, size))))
-
 combined_joined : (f : Bool → Bool → Bool) (is bs cs ds : List Bool) → length is ≡ length bs → combined f is bs ++ combined f cs ds ≡ combined f (is ++ cs) (bs ++ ds)
 combined_joined f [] [] cs ds e = refl
 combined_joined f [] (b ∷ bs) cs ds e = absurd (omega (arith, e))

@@ -7,7 +7,7 @@ ghost use Rattle.bit_addressing.specs.Typed.{row};
 ghost use Rattle.bit_slice.specs.Operators.{combined};
 
 use bit_addressing::{
-    BitOperator, BitOrder, BitStore, Lsb0, copy_bits, fill_bits, move_bits, read_binary,
+    BitOperator, BitOrder, BitStore, Lsb0, combine_bits, copy_bits, fill_bits, move_bits, read_binary,
     read_chunk, write_chunk,
 };
 
@@ -91,7 +91,7 @@ pub fn reverse_words<T: BitStore, O: BitOrder>(words: &mut [T], head: usize, len
     swap_reversed::<T, O>(words, low, high - rest, rest as u8);
 }
 
-// The bits that a rotation keeps beside the words: at most 16 words of 64.
+// The bits that a call keeps beside the words, at most: 16 words of 64.
 const KEPT: usize = 1024;
 
 // Like `rotate_words`, of at most 1024 bits that move after the others: they are kept while the others move.
@@ -197,23 +197,24 @@ pub fn shift_words_right<T: BitStore, O: BitOrder>(
     fill_bits::<T, O>(words, head, head + by, false);
 }
 
-// Combines the `n` bits from `at` on with those from `from` on, up to 64 at a time.
-fn combine_chunk<F: BitOperator, T: BitStore, O: BitOrder>(
+// Combines the `n` bits from `at` on with those from `from` on, at most 1024: these are kept first, and then combined by words.
+fn combine_piece<F: BitOperator, T: BitStore, O: BitOrder>(
     words: &mut [T],
     from: usize,
     at: usize,
-    n: u8,
+    n: usize,
 )
-    requires few { n ≤ 64 }
+    requires few { n ≤ 1024 }
     requires source { from + n ≤ T.BITS * length words.old }
     requires target { at + n ≤ T.BITS * length words.old }
+    requires source_fits { from + n < 2 ^ 64 }
     requires fits { at + n < 2 ^ 64 }
     ensures bits { row T.BitStore O.BitOrder words.new ≡ put (row T.BitStore O.BitOrder words.old) at (combined F.made (slice_range (row T.BitStore O.BitOrder words.old) at (at + n)) (slice_range (row T.BitStore O.BitOrder words.old) from (from + n))) }
     ensures size { length words.new ≡ length words.old }
 {
-    let new = read_chunk::<T, O>(words, from, n);
-    let old = read_chunk::<T, O>(words, at, n);
-    write_chunk::<T, O>(words, at, n, F::apply::<u64>(old, new));
+    let mut kept = [0u64; 16];
+    copy_bits::<u64, Lsb0, T, O>(&mut kept, 0, words, from, n);
+    combine_bits::<F, T, O, u64, Lsb0>(words, at, &kept, 0, n);
 }
 
 // Like `combine_within`, from the front on. Requires that the bits are not combined with such as stand before them.
@@ -233,8 +234,8 @@ fn combine_upward<F: BitOperator, T: BitStore, O: BitOrder>(
 {
     let mut done = 0;
     while done < n {
-        let m = (n - done).min(64);
-        combine_chunk::<F, T, O>(words, from + done, at + done, m as u8);
+        let m = (n - done).min(KEPT);
+        combine_piece::<F, T, O>(words, from + done, at + done, m);
         done += m;
     }
 }
@@ -256,14 +257,14 @@ fn combine_downward<F: BitOperator, T: BitStore, O: BitOrder>(
 {
     let mut left = n;
     while left > 0 {
-        let m = left.min(64);
+        let m = left.min(KEPT);
         left -= m;
-        combine_chunk::<F, T, O>(words, from + left, at + left, m as u8);
+        combine_piece::<F, T, O>(words, from + left, at + left, m);
     }
 }
 
 /// Combines the `n` bits of the words' row from `at` on with those from `from` on, as if they were read before any is
-/// written, 64 at a time. The runs may overlap. No other bit changes. Requires that both runs lie in the words.
+/// written, by words. The runs may overlap. No other bit changes. Requires that both runs lie in the words.
 pub fn combine_within<F: BitOperator, T: BitStore, O: BitOrder>(
     words: &mut [T],
     from: usize,

@@ -23,8 +23,8 @@ loop-left-preserved g c =
     let was = c.loop-left.invariant.bits ∙ ap (λ k. put xs (c.args.at + k) (combined g.F.BitOperator.made (slice_range xs (c.args.at + k) (c.args.at + c.args.n)) (slice_range xs (c.args.from + k) (c.args.from + c.args.n)))) less in
     record {
       ends = omega arith;
-      size = c.combine_chunk.ensures.size ∙ c.loop-left.invariant.size;
-      bits = c.combine_chunk.ensures.bits ∙ rest_more g.F.BitOperator.made xs c.args.from c.args.at c.args.n source target zs (c.loop-left.left - m) m c.requires.order was (omega arith);
+      size = c.combine_piece.ensures.size ∙ c.loop-left.invariant.size;
+      bits = c.combine_piece.ensures.bits ∙ rest_more g.F.BitOperator.made xs c.args.from c.args.at c.args.n source target zs (c.loop-left.left - m) m c.requires.order was (omega arith);
     }
 
 pub returns-clause-bits : goal.returns-clause-bits

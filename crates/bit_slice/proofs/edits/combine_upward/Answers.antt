@@ -20,8 +20,8 @@ loop-done-preserved g c =
     let target = in_row g.T.BitStore g.O.BitOrder c.args.words.now (c.args.at + c.args.n) c.requires.target in
     record {
       ends = omega arith;
-      size = c.combine_chunk.ensures.size ∙ c.loop-done.invariant.size;
-      bits = c.combine_chunk.ensures.bits ∙ front_more g.F.BitOperator.made xs c.args.from c.args.at c.args.n source target zs c.loop-done.done c.min-m.result c.requires.order c.loop-done.invariant.bits (omega arith);
+      size = c.combine_piece.ensures.size ∙ c.loop-done.invariant.size;
+      bits = c.combine_piece.ensures.bits ∙ front_more g.F.BitOperator.made xs c.args.from c.args.at c.args.n source target zs c.loop-done.done c.min-m.result c.requires.order c.loop-done.invariant.bits (omega arith);
     }
 
 pub returns-clause-bits : goal.returns-clause-bits

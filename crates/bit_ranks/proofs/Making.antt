@@ -1,10 +1,11 @@
 -- The two lists of ascending numbers, made one number at a time.
 use Rattle.std.proofs.Common.{◌≡◌, ℕ, zero, suc, ◌+◌, ◌-◌, ◌*◌, ◌/◌, ◌%◌, ◌^◌, ◌<◌, ◌≤◌, Bool, true, false, List, [], ◌∷◌, ◌++◌, length, take, drop, set, replicate, get_or, slice_get, slice_range, Some, None, refl, sym, ◌∙◌, ap, subst, inl, inr, arith}
 use Rattle.std.proofs.Common.{rules}
+use Rattle.std.specs.Prelude.{Result, Ok, Err, IfOk}
 use Rattle.std.specs.List.{All}
 use Rattle.std.specs.List.Sorted.{IsNonDecreasing}
 use Rattle.std.proofs.lemmas.Bool.{cases_lt}
-use Rattle.std.proofs.lemmas.List.{ext_get_or, get_or_default, get_or-take, get_or-set_other, get_or-replicate, length-take, length-take-le, places, same_lists, take_more}
+use Rattle.std.proofs.lemmas.List.{ext_get_or, get_or_default, get_or-take, get_or-set_other, get_or-replicate, length-take, length-take-le, places, same_lists, take_at, take_more, length_push, get_or_push, get_or_append_left}
 use Rattle.std.proofs.lemmas.List.Sorted.{IsNonDecreasingBy-push, IsNonDecreasingBy-short}
 use Rattle.std.proofs.lemmas.Nat.{mod_below, pow_pos}
 use Rattle.std.proofs.Math.Nat.{div-le_of_le-mul, div-lt_iff_lt-mul, le-div_iff_mul-le, div-mul-le_self}
@@ -15,7 +16,7 @@ use Rattle.bit_addressing.proofs.Words.{has_low}
 use Rattle.bit_addressing.specs.declared.length.TheConstants.{MAX_BITS}
 use Rattle.bit_slice.specs.Places.{ones_of}
 use Rattle.bit_slice.proofs.Places.{places_none, places_whole}
-use Rattle.bit_ranks.specs.Sorted.{IsPacked, high_len, high_places, last_of, low_part, low_width, numbers_of}
+use Rattle.bit_ranks.specs.Sorted.{IsFirstDescent, IsPacked, high_len, high_places, last_of, low_part, low_width, numbers_of}
 use Rattle.bit_ranks.proofs.Packed.{length_places, low_inside, no_places, packed_is, places_more}
 use Rattle.bit_ranks.proofs.Places.{one_set}
 
@@ -27,6 +28,29 @@ ascends_more xs i h up next =
     subst IsNonDecreasing (sym (take_more xs i 0 h))
     (IsNonDecreasingBy-push (λ x. x) (take i xs) (get_or xs i 0) up
     (λ d some. let before : length (take i xs) - 1 ≡ i - 1 = omega arith in omega (arith, ap (λ k. get_or (take i xs) k d) before, get_or-take i xs (i - 1) d (omega arith), get_or_default xs (i - 1) d 0 (omega arith), next (omega arith))))
+
+module _ (xs : List ℕ) (x last : ℕ) (up : IsNonDecreasing xs) (is : 0 < length xs → last ≡ get_or xs (length xs - 1) 0) (none : length xs ≡ 0 → last ≡ 0) where
+  -- a number that is not below the last
+  pub ascends_pushed : last ≤ x → IsNonDecreasing (xs ++ x ∷ [])
+  ascends_pushed h = IsNonDecreasingBy-push (λ n. n) xs x up (λ d some. omega (arith, get_or_default xs (length xs - 1) d 0 (omega arith), is some))
+
+  -- a number that is
+  pub descends_pushed : (i : ℕ) → length xs ≡ i → x < last → IsFirstDescent (xs ++ x ∷ []) i × (length (xs ++ x ∷ []) ≡ i + 1)
+  descends_pushed i size h =
+      let long = length_push xs x in
+      let some : 0 < length xs = elim (cases_lt 0 (length xs)) [
+        | inl l ↦ l
+        | inr l ↦ absurd (omega (arith, none (omega arith)))
+      ] in
+      let here : get_or (xs ++ x ∷ []) i 0 ≡ x = get_or_push xs x 0 i size in
+      let previous : get_or (xs ++ x ∷ []) (i - 1) 0 ≡ get_or xs (i - 1) 0 = get_or_append_left xs (x ∷ []) 0 (i - 1) (omega arith) in
+      let at : get_or xs (length xs - 1) 0 ≡ get_or xs (i - 1) 0 = ap (λ n. get_or xs (n - 1) 0) size in
+      (record {
+        after_one = omega arith;
+        inside = omega arith;
+        below = omega (arith, is some);
+        before = subst IsNonDecreasing (sym (take_at xs (x ∷ []) i size)) up;
+      }, omega arith)
 
 -- ---- the ones
 
@@ -108,3 +132,8 @@ module _ (w : ℕ) (high low : List Bool) (xs : List ℕ) (ones : ones_of high �
         width = width ∙ ap low_width (sym made_view);
         size = size ∙ ap (λ v. length xs + last_of xs / 2 ^ v) width ∙ ap high_len (sym made_view);
       }
+
+-- what follows where a call succeeds
+pub ok_then : {X E : Type 0} (r : Result X E) {P Q : X → Type 0} → IfOk r P → ((x : X) → P x → Q x) → IfOk r Q
+ok_then (Ok x) h more = more x h
+ok_then (Err e) h more = tt

@@ -1,8 +1,10 @@
 //! Sorted numbers, made of a list that ascends.
 ghost use Rattle.std.specs.Prelude.{◌≡◌, ◌≢◌, ℕ, ◌+◌, ◌*◌, ◌/◌, ◌%◌, ◌^◌, ◌<◌, ◌≤◌, ◌↔◌, Err, IfErr, IfNone, IfOk, IfSome, OnErr, length, max, slice_index_or};
+ghost use Rattle.std.specs.Iterator.{IsFiniteIterable};
 ghost use Rattle.std.specs.List.Sorted.{IsNonDecreasing};
 ghost use Rattle.bit_addressing.specs.declared.length.TheConstants.{MAX_BITS};
 ghost use Rattle.bit_slice.specs.Places.{ones_of};
+ghost use Rattle.bit_slice.specs.Pulls.{GivesAll, GivesFirst, RunsThrough};
 ghost use Rattle.bit_ranks.specs.Sorted.{IsFirstDescent, high_len, high_places, last_of, log2_of, low_len, low_part};
 ghost use Rattle.bit_ranks.specs.declared.sorted.making.SortedError.TheVariants as errors;
 
@@ -41,6 +43,26 @@ impl SortedNumbers {
             None => from_ascending(alloc, numbers),
         }
     }
+
+    /// The numbers that an iterator gives before its first None. Like `from_slice`, and nothing is pulled after a number
+    /// that is below the one before. Takes memory for all numbers, 64 bits each, until it returns.
+    pub fn from_numbers<I: IntoIterator<Item = u64>>(
+        alloc: Global,
+        iter: I,
+    ) -> Result<Self, SortedError>
+        requires { IsFiniteIterable I.into_iter_gives I.IntoIter.can_next I.IntoIter.remaining iter }
+        ensures list { IfOk result (λ s. GivesAll I.into_iter_gives I.IntoIter.next_gives iter (λ numbers. s ≡ numbers)) }
+        ensures runs { IfOk result (λ s. RunsThrough I.into_iter_gives I.IntoIter.next_gives iter (λ numbers. s ≡ numbers)) }
+        ensures ascends { IfOk result (λ s. IsNonDecreasing s) }
+        ensures descends { (i : ℕ) → result ≡ Err (errors.Descends i) → GivesFirst I.into_iter_gives I.IntoIter.next_gives iter (λ numbers. IsFirstDescent numbers i × (length numbers ≡ i + 1)) }
+        ensures too_long { result ≡ Err errors.TooLong → GivesAll I.into_iter_gives I.IntoIter.next_gives iter (λ numbers. IsNonDecreasing numbers × (MAX_BITS < max (high_len numbers) (low_len numbers))) }
+        ensures memory { result ≡ Err errors.OutOfMemory → GivesFirst I.into_iter_gives I.IntoIter.next_gives iter (λ numbers. IsNonDecreasing numbers × (0 < length numbers)) }
+    {
+        match collected(alloc, iter) {
+            Ok(numbers) => from_ascending(alloc, numbers.as_slice()),
+            Err(why) => Err(why),
+        }
+    }
 }
 
 // The place of the first number that is below the one before.
@@ -59,10 +81,36 @@ fn first_descent(numbers: &[u64]) -> Option<usize>
     None
 }
 
+// The numbers that an iterator gives, where they ascend.
+fn collected<I: IntoIterator<Item = u64>>(alloc: Global, iter: I) -> Result<Vec<u64>, SortedError>
+    requires { IsFiniteIterable I.into_iter_gives I.IntoIter.can_next I.IntoIter.remaining iter }
+    ensures list { IfOk result (λ v. GivesAll I.into_iter_gives I.IntoIter.next_gives iter (λ numbers. v.items ≡ numbers)) }
+    ensures first { IfOk result (λ v. GivesFirst I.into_iter_gives I.IntoIter.next_gives iter (λ numbers. v.items ≡ numbers)) }
+    ensures runs { IfOk result (λ v. RunsThrough I.into_iter_gives I.IntoIter.next_gives iter (λ numbers. v.items ≡ numbers)) }
+    ensures ascends { IfOk result (λ v. IsNonDecreasing v.items) }
+    ensures descends { (i : ℕ) → result ≡ Err (errors.Descends i) → GivesFirst I.into_iter_gives I.IntoIter.next_gives iter (λ numbers. IsFirstDescent numbers i × (length numbers ≡ i + 1)) }
+    ensures short { result ≢ Err errors.TooLong }
+    ensures memory { result ≡ Err errors.OutOfMemory → GivesFirst I.into_iter_gives I.IntoIter.next_gives iter (λ numbers. IsNonDecreasing numbers × (0 < length numbers)) }
+{
+    let mut numbers = Vec::new(alloc);
+    let mut last = 0;
+    for number in iter {
+        if number < last {
+            return Err(SortedError::Descends(numbers.len()));
+        }
+        let Ok(()) = numbers.push(number) else {
+            return Err(SortedError::OutOfMemory);
+        };
+        last = number;
+    }
+    Ok(numbers)
+}
+
 // The numbers of a slice that ascends.
 fn from_ascending(alloc: Global, numbers: &[u64]) -> Result<SortedNumbers, SortedError>
     requires { IsNonDecreasing numbers.now }
     ensures list { IfOk result (λ s. s ≡ numbers.now) }
+    ensures ascends { IfOk result (λ s. IsNonDecreasing s) }
     ensures why { IfErr result (λ why. (i : ℕ) → why ≢ errors.Descends i) }
     ensures too_long { (result ≡ Err errors.TooLong) ↔ (MAX_BITS < max (high_len numbers.now) (low_len numbers.now)) }
     ensures memory { result ≡ Err errors.OutOfMemory → 0 < length numbers.now }

@@ -1,4 +1,5 @@
 use Rattle.std.proofs.Common.{◌≡◌, ℕ, ◌+◌, ◌-◌, ◌*◌, ◌/◌, ◌%◌, ◌^◌, ◌<◌, ◌≤◌, get_or, length, refl, subst, sym, ap, ◌∙◌, arith}
+use Rattle.std.specs.List.Sorted.{IsNonDecreasing}
 use Rattle.bit_slice.specs.Places.{ones_of}
 use Rattle.bit_ranks.specs.Sorted.{log2_of}
 use Rattle.bit_ranks.proofs.Making.{made_packed, made_view}
@@ -28,3 +29,12 @@ returns-in-Ok-new-clause-list c =
     let same : high ≡ c.in-Ok.high.list = ap (λ b. b.list) c.in-Ok-new.ensures.bits ∙ c.in-Ok-into_boxed_bitslice.ensures.list in
     let ones = ap (λ l. ones_of l) same ∙ c.in-Ok.ensures.ones in
     made_view w high c.in-Ok-low_bits.low.list xs ones c.in-Ok-low_bits.ensures.each
+
+pub returns-in-Ok-new-clause-ascends : goal.returns-in-Ok-new-clause-ascends
+returns-in-Ok-new-clause-ascends c =
+    let xs = c.args.numbers.now in
+    let w = c.width_for-width.result in
+    let high = c.in-Ok-new.high.list in
+    let same : high ≡ c.in-Ok.high.list = ap (λ b. b.list) c.in-Ok-new.ensures.bits ∙ c.in-Ok-into_boxed_bitslice.ensures.list in
+    let ones = ap (λ l. ones_of l) same ∙ c.in-Ok.ensures.ones in
+    subst IsNonDecreasing (sym (made_view w high c.in-Ok-low_bits.low.list xs ones c.in-Ok-low_bits.ensures.each)) c.requires

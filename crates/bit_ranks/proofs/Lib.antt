@@ -1,3 +1,7 @@
 pub mod Halves
+pub mod Making
 pub mod Numbered
+pub mod Packed
+pub mod Places
 pub mod Runs
+pub mod Searched

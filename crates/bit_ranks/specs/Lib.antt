@@ -1,2 +1,3 @@
 pub mod Ones
 pub mod Ranks
+pub mod Sorted

@@ -5,9 +5,11 @@
 mod callers;
 mod ones;
 mod ranks;
+mod sorted;
 #[cfg(test)]
 mod tests;
 mod word;
 
 pub use ones::OnesFrom;
 pub use ranks::Ranks;
+pub use sorted::{SortedError, SortedNumbers};

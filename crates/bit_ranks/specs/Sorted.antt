@@ -1,0 +1,87 @@
+-- Ascending numbers in two lists: ones whose places say the high bits of each, and its low bits in binary.
+use Rattle.std.specs.Prelude.{◌≡◌, ℕ, ◌+◌, ◌-◌, ◌*◌, ◌/◌, ◌^◌, ◌<◌, ◌≤◌, leb, Bool, true, false, List, [], ◌∷◌, All, count_by, length, map, slice_index_or, slice_range, take, refl}
+use Rattle.std.specs.List.{range_with_len}
+use Rattle.std.specs.List.Sorted.{IsNonDecreasing}
+use Rattle.bit_addressing.specs.Binary.{value}
+use Rattle.bit_addressing.specs.declared.length.TheConstants.{MAX_BITS}
+use Rattle.bit_slice.specs.Places.{ones_of}
+
+-- the high bits of number k: how many zeros stand before the one number k
+abbrev pub high_part : List Bool → ℕ → ℕ
+high_part high k = slice_index_or (ones_of high) k 0 - k
+
+-- the low bits of number k: what its w digits write
+abbrev pub low_part : ℕ → List Bool → ℕ → ℕ
+low_part w low k = value (slice_range low (k * w) (k * w + w))
+
+-- number k of two lists, of which w bits are low
+abbrev pub number_at : ℕ → List Bool → List Bool → ℕ → ℕ
+number_at w high low k = high_part high k * 2 ^ w + low_part w low k
+
+-- the first n numbers of two lists
+unfoldable pub numbers_of : ℕ → ℕ → List Bool → List Bool → List ℕ
+numbers_of n w high low = map (number_at w high low) (range_with_len 0 n)
+
+-- the last number, or 0 where there is none
+abbrev pub last_of : List ℕ → ℕ
+last_of xs = slice_index_or xs (length xs - 1) 0
+
+-- how many of the powers 2, 4, 8, .. 2 ^ 63 a number reaches: its logarithm
+unfoldable pub log2_of : ℕ → ℕ
+log2_of n = count_by (λ j. leb (2 ^ (j + 1)) n) (range_with_len 0 63)
+
+-- how many bits of each number are low: the logarithm of the mean gap
+abbrev pub low_width : List ℕ → ℕ
+low_width xs = log2_of (last_of xs / length xs)
+
+-- how many bits the list of high parts takes: a one for each number, and a zero for each step of the last one's high part
+abbrev pub high_len : List ℕ → ℕ
+high_len xs = length xs + last_of xs / 2 ^ low_width xs
+
+-- how many bits the list of low parts takes
+abbrev pub low_len : List ℕ → ℕ
+low_len xs = length xs * low_width xs
+
+-- the places of the ones of the first n numbers, of which w bits are low
+unfoldable pub high_places : ℕ → List ℕ → ℕ → List ℕ
+high_places w xs n = map (λ k. slice_index_or xs k 0 / 2 ^ w + k) (range_with_len 0 n)
+
+-- i is the first place whose number is below the one before
+pub record IsFirstDescent (xs : List ℕ) (i : ℕ) : Type 0 where
+  pub after_one : 0 < i
+  pub inside : i < length xs
+  pub below : slice_index_or xs i 0 < slice_index_or xs (i - 1) 0
+  pub before : IsNonDecreasing (take i xs)
+
+-- these n numbers ascend, fit in 64 bits, and have as many low bits as their mean gap wants
+pub record IsPacked (n w : ℕ) (high low : List Bool) : Type 0 where
+  pub ones : length (ones_of high) ≡ n
+  pub lows : length low ≡ n * w
+  pub few : n * w ≤ MAX_BITS
+  pub narrow : w < 64
+  pub ascends : IsNonDecreasing (numbers_of n w high low)
+  pub fits : All (λ number. number < 2 ^ 64) (numbers_of n w high low)
+  pub width : w ≡ low_width (numbers_of n w high low)
+  pub size : length high ≡ high_len (numbers_of n w high low)
+
+-- of 2, 3, 9 and 9 one bit is low
+abbrev four : List ℕ
+four = 2 ∷ 3 ∷ 9 ∷ 9 ∷ []
+
+abbrev four_high : List Bool
+four_high = false ∷ true ∷ true ∷ false ∷ false ∷ false ∷ true ∷ true ∷ []
+
+abbrev four_low : List Bool
+four_low = false ∷ true ∷ true ∷ true ∷ []
+
+one_low_bit : low_width four ≡ 1
+unfolding log2_of
+one_low_bit = refl
+
+eight_high_bits : high_len four ≡ length four_high
+unfolding log2_of
+eight_high_bits = refl
+
+four_packed : numbers_of 4 1 four_high four_low ≡ four
+unfolding numbers_of
+four_packed = refl

@@ -1,0 +1,103 @@
+//! Ascending numbers in little more memory than their gaps need.
+ghost use Rattle.std.specs.Prelude.{◌≡◌, ℕ, ◌+◌, ◌*◌, ◌/◌, ◌^◌, ◌<◌, ◌≤◌, ◌↔◌, All, IsTrue, length, slice_get};
+ghost use Rattle.std.specs.List.Sorted.{IsNonDecreasing};
+ghost use Rattle.bit_addressing.specs.declared.length.TheConstants.{MAX_BITS};
+ghost use Rattle.bit_ranks.specs.Sorted.{last_of, low_part, low_width};
+
+mod making;
+mod search;
+
+use crate::ranks::Ranks;
+use bit_containers::{BitVec, Lsb0};
+pub use making::SortedError;
+use std::marker::Model;
+
+/// An ascending list of numbers, equal ones allowed, in about two bits a number more than the logarithm of their mean gap.
+///
+/// Each number is in two parts: its low bits stand in binary in one list, and its high bits are a one in another, which
+/// has as many zeros before it as they say. The numbers can't be changed.
+///
+/// In contracts sorted numbers are the list of the numbers.
+///
+/// ```text
+/// let numbers = SortedNumbers::from_slice(alloc, &[2, 3, 9, 9])?;
+/// numbers.get(1)              // Some(3)
+/// numbers.next_at_least(4)    // Some((2, 9))
+/// numbers.contains(4)         // false
+/// ```
+#[derive(Drop)]
+pub struct SortedNumbers {
+    high: Ranks<u64, Lsb0>,
+    low: BitVec<u64, Lsb0>,
+    width: u8,
+    len: usize,
+}
+
+impl Model for SortedNumbers {
+    ghost use Rattle.std.specs.Prelude.{ℕ, List};
+    ghost use Rattle.std.specs.Coded.{coded_list, coded_ℕ};
+    ghost use Rattle.bit_ranks.specs.Sorted.{IsPacked, numbers_of};
+
+    ghost Value = { List ℕ };
+
+    ghost coded = { coded_list coded_ℕ };
+
+    ghost view = { λ s. numbers_of s.len s.width s.high.list s.low.list };
+
+    ghost invariant = { λ s. IsPacked s.len s.width s.high.list s.low.list };
+}
+
+impl SortedNumbers {
+    /// How many numbers there are.
+    pub fn len(&self) -> usize
+        ensures { result ≡ length self.now }
+    {
+        self.len
+    }
+
+    /// Whether there is no number.
+    pub fn is_empty(&self) -> bool
+        ensures { IsTrue result ↔ (length self.now ≡ 0) }
+    {
+        self.len() == 0
+    }
+
+    /// How many bits the two lists take, without the counts of the first: for each number of bits `w` with which no number
+    /// passes `len` times 2 to the `w`, at most `w + 2` bits a number.
+    pub fn size_in_bits(&self) -> usize
+        ensures value { result ≡ length self.now * (low_width self.now + 1) + last_of self.now / 2 ^ low_width self.now }
+        ensures bound { (w : ℕ) → All (λ number. number ≤ length self.now * 2 ^ w) self.now → result ≤ (w + 2) * length self.now }
+    {
+        self.high.len() + self.low.len()
+    }
+
+    /// The number at `k`, in constant time. None exactly where `k` is at or past the length.
+    ///
+    /// ```text
+    /// of 2, 3, 9, 9:  numbers.get(2) == Some(9)
+    /// ```
+    pub fn get(&self, k: usize) -> Option<u64>
+        ensures value { result ≡ slice_get self.now k }
+        ensures ascends { IsNonDecreasing self.now }
+    {
+        match self.high.select1(k) {
+            None => None,
+            Some(place) => {
+                let low = low_bits_at(&self.low, self.width, k);
+                Some((((place - k) as u64) << self.width) + low)
+            }
+        }
+    }
+}
+
+// The low bits of number `k`.
+#[inline(always)]
+fn low_bits_at(low: &BitVec<u64, Lsb0>, width: u8, k: usize) -> u64
+    requires narrow { width < 64 }
+    requires inside { k * width + width ≤ length low.now.list }
+    requires few { k * width ≤ MAX_BITS }
+    ensures value { result ≡ low_part width low.now.list k }
+    ensures below { result < 2 ^ width }
+{
+    low.read_binary(k * width as usize, width)
+}

@@ -1,12 +1,20 @@
 -- Where the bits of a matrix lie, and what becomes of them.
-use Rattle.std.proofs.Common.{◌≡◌, ◌≢◌, ℕ, ◌+◌, ◌*◌, ◌<◌, ◌≤◌, Bool, true, false, ◌||◌, List, length, set, get_or, refl, sym, ◌∙◌, ap, subst, inl, inr, arith}
+use Rattle.std.proofs.Common.{◌≡◌, ◌≢◌, ℕ, ◌+◌, ◌-◌, ◌*◌, ◌<◌, ◌≤◌, Bool, true, false, ◌||◌, List, [], ◌∷◌, ◌++◌, Some, length, map, set, get_or, slice_get, slice_range, refl, sym, ◌∙◌, ap, subst, inl, inr, arith}
 use Rattle.std.specs.Prelude.{◌⊎◌, ◌↔◌}
 use Rattle.std.proofs.lemmas.Bool.{cases_lt, cases_eq, true≢false}
 use Rattle.std.proofs.lemmas.Bool.Decides.{nat_tests}
-use Rattle.std.proofs.lemmas.List.{get_or-set_other}
+use Rattle.std.proofs.lemmas.List.{get_or-set_other, map-append}
 use Rattle.std.proofs.Math.Nat.{mul-le-mul_right}
-use Rattle.bit_addressing.specs.Row.{moved, source_of}
+use Rattle.std.proofs.lemmas.Option.{slice_get-get_or}
+use Rattle.bit_addressing.specs.Row.{moved, put, source_of}
+use Rattle.bit_addressing.specs.Text.{digit_of}
 use Rattle.bit_addressing.proofs.lists.Moved.{get_or-moved}
+use Rattle.bit_addressing.proofs.lists.Put.{put_before, put_behind, put_inside}
+use Rattle.bit_addressing.proofs.lists.Shown.{get_or-run, length-run}
+use Rattle.bit_slice.specs.Operators.{combined}
+use Rattle.bit_slice.proofs.Combining.{length-combined}
+use Rattle.bit_slice.proofs.Ranges.{item_combined}
+use Rattle.bit_containers.proofs.Removing.{run_back}
 use Rattle.bit_users.specs.Matrix.{Grid, AreAlike, IsPath, IsSet, item}
 use Rattle.bit_users.proofs.Paths.{ArePathsBelow, all_paths}
 
@@ -120,3 +128,63 @@ copied_elsewhere xs rows columns i j from to n all size row inside apart =
     let within = place_inside rows columns i j row inside in
     let ends : to * columns + n ≡ to * columns + columns = ap (λ k. to * columns + k) all in
     bit_left xs (from * columns) (to * columns) n (i * columns + j) (omega arith) (elim (place_apart i j to columns inside apart) [ inl low ↦ inl low | inr high ↦ inr (omega arith) ])
+
+-- ---- a row in whose place other bits were put
+
+module _ (xs ys : List Bool) (rows columns into : ℕ) (size : length xs ≡ rows * columns) (row : into < rows) (many : length ys ≡ columns) where
+  pub row_put : (j : ℕ) → j < columns → get_or (put xs (into * columns) ys) (into * columns + j) false ≡ get_or ys j false
+  row_put j inside =
+      let up = row_ends into rows columns row in
+      let at : into * columns + j - into * columns ≡ j = omega arith in
+      put_inside xs ys (into * columns) (into * columns + j) false (omega arith) (omega arith) (omega arith) ∙ ap (λ k. get_or ys k false) at
+
+  pub row_kept : (i j : ℕ) → j < columns → i ≢ into → get_or (put xs (into * columns) ys) (i * columns + j) false ≡ get_or xs (i * columns + j) false
+  row_kept i j inside apart =
+      let up = row_ends into rows columns row in
+      elim (place_apart i j into columns inside apart) [
+        | inl low ↦ put_before xs ys (into * columns) (i * columns + j) false (omega arith) low
+        | inr high ↦ put_behind xs ys (into * columns) (i * columns + j) false (omega arith) (omega arith)
+      ]
+
+-- what combining it with other bits makes of the bits of a matrix
+module _ (f : Bool → Bool → Bool) (old new : Grid) (ys : List Bool) (into n : ℕ) (size : length old.bits ≡ old.rows * old.columns) (row : into < old.rows) (all : n ≡ old.columns) (wide : new.columns ≡ old.columns)
+    (made : new.bits ≡ put old.bits (into * old.columns) (combined f (slice_range old.bits (into * old.columns) (into * old.columns + n)) ys)) where
+  run : List Bool
+  run = slice_range old.bits (into * old.columns) (into * old.columns + n)
+
+  run_long : length run ≡ old.columns
+  unfolding run
+  run_long = let up = row_ends into old.rows old.columns row in length-run old.bits (into * old.columns) n (omega arith) ∙ all
+
+  many : length (combined f run ys) ≡ old.columns
+  many = length-combined f run ys ∙ run_long
+
+  pub row_combined : (j : ℕ) → j < old.columns → item new into j ≡ f (item old into j) (get_or ys j false)
+  unfolding run
+  row_combined j inside =
+      let long = run_long in
+      ap (λ k. get_or new.bits (into * k + j) false) wide ∙ ap (λ l. get_or l (into * old.columns + j) false) made
+      ∙ row_put old.bits (combined f run ys) old.rows old.columns into size row many j inside
+      ∙ item_combined f run ys j (omega arith) ∙ ap (λ b. f b (get_or ys j false)) (get_or-run old.bits (into * old.columns) n j (omega arith))
+
+  pub row_uncombined : (i j : ℕ) → i < old.rows → j < old.columns → i ≢ into → item new i j ≡ item old i j
+  unfolding run
+  row_uncombined i j low inside apart =
+      ap (λ k. get_or new.bits (i * k + j) false) wide ∙ ap (λ l. get_or l (i * old.columns + j) false) made
+      ∙ row_kept old.bits (combined f run ys) old.rows old.columns into size row many i j inside apart
+
+-- a bit of a row is the one at its column in the row's part of the list
+pub row_item : (xs : List Bool) (start columns end j : ℕ) → end ≡ start + columns → j < columns → get_or (slice_range xs start end) j false ≡ get_or xs (start + j) false
+row_item xs start columns end j ends inside = ap (λ e. get_or (slice_range xs start e) j false) ends ∙ get_or-run xs start columns j inside
+
+pub row_some : (xs : List Bool) (start columns end j : ℕ) → end ≡ start + columns → start + columns ≤ length xs → j < columns → slice_get (slice_range xs start end) j ≡ Some (get_or xs (start + j) false)
+row_some xs start columns end j ends room inside =
+    let long : length (slice_range xs start end) ≡ columns = ap (λ e. length (slice_range xs start e)) ends ∙ length-run xs start columns room in
+    slice_get-get_or (slice_range xs start end) j false (omega arith) ∙ ap Some (row_item xs start columns end j ends inside)
+
+-- one digit more of a row
+pub digit_more : (xs : List Bool) (start n : ℕ) (written : List ℕ) → start + n < length xs → written ≡ digit_of (get_or xs (start + n) false) ∷ [] → map digit_of (slice_range xs start (start + n)) ++ written ≡ map digit_of (slice_range xs start (start + (n + 1)))
+digit_more xs start n written inside is =
+    let last : start + (n + 1) - 1 ≡ start + n = omega arith in
+    ap (λ l. map digit_of (slice_range xs start (start + n)) ++ l) is ∙ sym (map-append digit_of (slice_range xs start (start + n)) (get_or xs (start + n) false ∷ []))
+    ∙ ap (map digit_of) (sym (run_back xs start (start + (n + 1)) (omega arith) (omega arith) ∙ ap (λ k. slice_range xs start k ++ get_or xs k false ∷ []) last))

@@ -2,7 +2,7 @@ pub mod Fields
 pub mod Frames
 pub mod Grids
 pub mod Members
-pub mod Ored
+pub mod ModTwo
 pub mod Paths
 pub mod Sequences
 pub mod Sieve

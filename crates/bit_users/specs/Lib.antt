@@ -1,3 +1,4 @@
+pub mod Elimination
 pub mod FreeMap
 pub mod Matrix
 pub mod Sequence

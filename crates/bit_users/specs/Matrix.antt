@@ -1,5 +1,8 @@
 -- Matrices of truth values, and paths in the graphs whose edges are their set bits.
-use Rattle.std.specs.Prelude.{◌≡◌, ℕ, ◌+◌, ◌*◌, ◌<◌, ◌≤◌, ◌⊎◌, Bool, true, false, ◌||◌, List, [], ◌∷◌, length, replicate, slice_index_or, refl}
+use Rattle.std.specs.Prelude.{◌≡◌, ◌≢◌, ◌==◌, ℕ, zero, suc, ◌+◌, ◌*◌, ◌<◌, ◌≤◌, ◌⊎◌, Bool, true, false, not, ◌&&◌, ◌||◌, if◌then◌else◌, List, [], ◌∷◌, ◌++◌, codes, length, map, replicate, slice_index_or, slice_range, refl}
+use Rattle.std.specs.Cmp.{IsEquivalence, and_equiv, nat_eq_equiv, on_equiv}
+use Rattle.bit_addressing.specs.Text.{digit_of}
+use Rattle.bit_slice.specs.Comparisons.{bits_equal, bits_equiv}
 use Rattle.std.proofs.Common.{lit<}
 use Rattle.std.specs.Coded.{Coded, code_by, coded×, coded_list, coded_ℕ, coded_bool}
 use Rattle.bit_addressing.specs.declared.length.TheConstants.{MAX_BITS}
@@ -44,11 +47,57 @@ IsWalk edge i (k ∷ ks) j = edge i k × IsWalk edge k ks j
 abbrev pub IsPath : (ℕ → ℕ → Type 0) → ℕ → ℕ → Type 0
 IsPath edge i j = (between : List ℕ) × IsWalk edge i between j
 
--- the bits of a list from `from` on are or-ed into those from `into` on, so many of them, and no other bit changes
-pub record IsOred (old new : List Bool) (into from count : ℕ) : Type 0 where
-  pub size : length new ≡ length old
-  pub run : (t : ℕ) → t < count → slice_index_or new (into + t) false ≡ (slice_index_or old (into + t) false || slice_index_or old (from + t) false)
-  pub others : (x : ℕ) → (x < into) ⊎ (into + count ≤ x) → slice_index_or new x false ≡ slice_index_or old x false
+-- one of the first n values of a test is true
+abbrev pub any_below : (ℕ → Bool) → ℕ → Bool
+any_below f zero = false
+any_below f (suc n) = any_below f n || f n
+
+-- the sum of two bits mod 2: one of them is set, and not both
+abbrev pub plus_mod_2 : Bool → Bool → Bool
+plus_mod_2 x y = if x then not y else y
+
+-- the sum mod 2 of the first n values of a function
+abbrev pub sum_mod_2 : (ℕ → Bool) → ℕ → Bool
+sum_mod_2 f zero = false
+sum_mod_2 f (suc n) = plus_mod_2 (sum_mod_2 f n) (f n)
+
+-- the bit of a product over or and and: a middle index has a bit in row i on the left, and in column j on the right
+abbrev pub product : Grid → Grid → ℕ → ℕ → Bool
+product a b i j = any_below (λ k. item a i k && item b k j) a.columns
+
+-- the bit of a product mod 2: an odd number of middle indices has both bits
+abbrev pub product_mod_2 : Grid → Grid → ℕ → ℕ → Bool
+product_mod_2 a b i j = sum_mod_2 (λ k. item a i k && item b k j) a.columns
+
+-- the product mod 2 of two matrices is the identity
+abbrev pub AreInverse : Grid → Grid → Type 0
+AreInverse a b = (i j : ℕ) → i < a.rows → j < b.columns → product_mod_2 a b i j ≡ (i == j)
+
+-- b is the inverse of a mod 2: of its size, and both products are the identity
+pub record IsInverse (a b : Grid) : Type 0 where
+  pub alike : AreAlike b a
+  pub left : AreInverse b a
+  pub right : AreInverse a b
+
+-- whether two matrices are of one size and have the same bits
+abbrev pub grid_equal : Grid → Grid → Bool
+grid_equal m n = (m.rows == n.rows) && ((m.columns == n.columns) && bits_equal m.bits n.bits)
+
+pub grid_equiv : IsEquivalence grid_equal
+grid_equiv = and_equiv (on_equiv (λ m. m.rows) nat_eq_equiv) (and_equiv (on_equiv (λ m. m.columns) nat_eq_equiv) (on_equiv (λ m. m.bits) bits_equiv))
+
+-- the digits of row i, and the end of a line
+abbrev pub row_text : Grid → ℕ → List ℕ
+row_text m i = map digit_of (slice_range m.bits (i * m.columns) (i * m.columns + m.columns)) ++ 10 ∷ []
+
+-- the lines of the first n rows
+abbrev pub rows_text : Grid → ℕ → List ℕ
+rows_text m zero = []
+rows_text m (suc n) = rows_text m n ++ row_text m n
+
+-- a line for each row
+abbrev pub grid_text : Grid → List ℕ
+grid_text m = rows_text m m.rows
 
 -- of three nodes: an edge from 0 to 1, and one from 1 to 2
 abbrev line : Grid
@@ -70,3 +119,27 @@ no_edge_along = refl
 -- but a path over 1 does
 path_along : IsPath (IsSet line) 0 2
 path_along = (1 ∷ [], (first_edge, second_edge))
+
+-- its paths of two edges
+two_edges : product line line 0 2 ≡ true
+two_edges = refl
+
+one_edge_alone : product line line 0 1 ≡ false
+one_edge_alone = refl
+
+-- two rows of which the first is the sum of both
+sheared : Grid
+sheared = record { rows = 2; columns = 2; bits = true ∷ true ∷ false ∷ true ∷ [] }
+
+-- added twice it is gone: this matrix is its own inverse
+twice_gone : product_mod_2 sheared sheared 0 1 ≡ false
+unfolding sheared
+twice_gone = refl
+
+diagonal : product_mod_2 sheared sheared 0 0 ≡ true
+unfolding sheared
+diagonal = refl
+
+two_lines : grid_text sheared ≡ codes "11\n01\n"
+unfolding sheared
+two_lines = refl

@@ -1,6 +1,6 @@
 //! What the authors of such things rely on, as callers that need no proof of their own.
-ghost use Rattle.std.specs.Prelude.{◌≡◌, ◌≢◌, ◌<◌, ◌≤◌, ◌⊎◌, ◌↔◌, ℕ, IfOk, IsTrue, Some, length};
-ghost use Rattle.bit_users.specs.Matrix.{IsPath, IsSet, item};
+ghost use Rattle.std.specs.Prelude.{◌≡◌, ◌≢◌, ◌==◌, ◌<◌, ◌≤◌, ◌⊎◌, ◌↔◌, ℕ, IfOk, IfSome, IsTrue, Some, length};
+ghost use Rattle.bit_users.specs.Matrix.{IsPath, IsSet, item, product};
 ghost use Rattle.bit_users.specs.Table.{IsIn, IsPrime};
 ghost use Rattle.bit_users.specs.Wire.{Fits};
 
@@ -156,4 +156,54 @@ pub fn joined(matrix: &mut Matrix, into: usize, from: usize, column: usize) -> b
 {
     matrix.or_row(into, from);
     matrix.get(into, column)
+}
+
+/// A matrix times its inverse is the identity.
+pub fn undone(
+    matrix: &Matrix,
+    alloc: Global,
+    row: usize,
+    column: usize,
+) -> Result<Option<bool>, GrowError>
+    requires square { matrix.now.rows ≡ matrix.now.columns }
+    requires row { row < matrix.now.rows }
+    requires column { column < matrix.now.columns }
+    ensures { IfOk result (λ found. IfSome found (λ bit. bit ≡ (row == column))) }
+{
+    let Ok(Some(inverse)) = matrix.inverse_mod_2(alloc) else {
+        return Ok(None);
+    };
+    let product = matrix.times_mod_2(&inverse, alloc)?;
+    Ok(Some(product.get(row, column)))
+}
+
+/// Where paths of two edges lead.
+pub fn two_edges(graph: &Matrix, alloc: Global, from: usize, to: usize) -> Result<bool, GrowError>
+    requires square { graph.now.rows ≡ graph.now.columns }
+    requires from { from < graph.now.rows }
+    requires to { to < graph.now.columns }
+    ensures { IfOk result (λ leads. leads ≡ product graph.now graph.now from to) }
+{
+    Ok(graph.times(graph, alloc)?.get(from, to))
+}
+
+/// Rows that are swapped twice are where they were.
+pub fn swapped_twice(matrix: &mut Matrix, a: usize, b: usize, column: usize) -> bool
+    requires a { a < matrix.old.rows }
+    requires b { b < matrix.old.rows }
+    requires column { column < matrix.old.columns }
+    ensures { result ≡ item matrix.old a column }
+{
+    matrix.swap_rows(a, b);
+    matrix.swap_rows(a, b);
+    matrix.get(a, column)
+}
+
+/// A bit of a row's view is the one of the matrix.
+pub fn in_a_row(matrix: &Matrix, row: usize, column: usize) -> Option<bool>
+    requires row { row < matrix.now.rows }
+    requires column { column < matrix.now.columns }
+    ensures { result ≡ Some (item matrix.now row column) }
+{
+    matrix.row(row).get(column)
 }

@@ -1,4 +1,6 @@
 //! The users on real data, each call once.
+mod matrices;
+
 use crate::{
     Fault, FreeMap, Header, Matrix, NotTaken, NumberSet, are_of_one_list, from_bytes, to_bytes,
 };

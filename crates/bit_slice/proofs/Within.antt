@@ -1,15 +1,11 @@
 -- Runs of a row that are combined with other runs of the same row, a number of bits at a time.
-use Rattle.std.proofs.Common.{◌≡◌, ℕ, ◌+◌, ◌-◌, ◌<◌, ◌≤◌, Bool, false, List, [], ◌∷◌, ◌++◌, length, get_or, slice_range, refl, sym, ◌∙◌, ap, arith, rules}
-use Rattle.std.proofs.lemmas.List.{ext_get_or, same_lists, places}
-use Rattle.std.proofs.lemmas.List.FromFn.{length-map-range_with_len, get_or-map-range_with_len}
-use Rattle.bit_addressing.specs.Bits.{has_bit}
-use Rattle.bit_addressing.specs.Row.{put, number_bits, number_of}
-use Rattle.bit_addressing.proofs.Chunks.{has_number}
+use Rattle.std.proofs.Common.{◌≡◌, ℕ, ◌+◌, ◌-◌, ◌≤◌, Bool, List, [], ◌∷◌, ◌++◌, length, slice_range, refl, sym, ◌∙◌, ap, arith, rules}
+use Rattle.std.proofs.lemmas.List.{same_lists, places}
+use Rattle.bit_addressing.specs.Row.{put}
 use Rattle.bit_addressing.proofs.Combined.{put_later}
 use Rattle.bit_addressing.proofs.lists.Put.{put_joined, put_none}
 use Rattle.bit_addressing.proofs.lists.Shown.{length-run}
 use Rattle.bit_slice.proofs.Combining.{length-combined}
-use Rattle.bit_slice.proofs.Ranges.{item_combined}
 use Rattle.bit_slice.proofs.Shown.{run_none}
 use Rattle.bit_slice.proofs.Turned.{put_front}
 use Rattle.bit_addressing.proofs.Runs.{slices_joined}

@@ -7,8 +7,8 @@ ghost use Rattle.bit_addressing.specs.Typed.{row};
 ghost use Rattle.bit_slice.specs.Operators.{combined};
 
 use bit_addressing::{
-    BitOperator, BitOrder, BitStore, Lsb0, combine_bits, copy_bits, fill_bits, move_bits, read_binary,
-    read_chunk, write_chunk,
+    BitOperator, BitOrder, BitStore, Lsb0, combine_bits, copy_bits, fill_bits, move_bits,
+    read_binary, read_chunk, write_chunk,
 };
 
 /// The bit is true where the old one is and the new one is not.

@@ -143,7 +143,7 @@ pub fn byte_of_a_view<T: BitStore, O: BitOrder>(
     alloc: Global,
     view: BitSlice<'_, T, O>,
 ) -> Result<Vec<u8>, AllocError>
-    requires { list_of view.entry ≡ false ∷ false ∷ true ∷ [] }
+    requires { list_of view ≡ false ∷ false ∷ true ∷ [] }
     ensures { IfOk result (λ bytes. bytes.items ≡ 32 ∷ []) }
 {
     view.to_bytes::<Msb0>(alloc)

@@ -1,4 +1,4 @@
-use Rattle.std.proofs.Common.{◌≡◌, ◌+◌, length, slice_range, sym, ◌∙◌, ap, arith}
+use Rattle.std.proofs.Common.{◌≡◌, ◌+◌, length, slice_range, sym, ◌∙◌, ap}
 use Rattle.std.specs.Simd.Lanes.{zip2}
 use Rattle.bit_addressing.specs.Row.{put}
 use Rattle.bit_addressing.specs.Typed.{row}

@@ -1,4 +1,4 @@
-use Rattle.std.proofs.Common.{◌+◌, ◌*◌, reverse, slice_range, ◌∙◌, ap, arith}
+use Rattle.std.proofs.Common.{◌+◌, reverse, slice_range, ◌∙◌, ap, arith}
 use Rattle.bit_addressing.specs.Row.{number_bits, put}
 use Rattle.bit_addressing.specs.Typed.{row}
 use Rattle.bit_slice.proofs.Parts.{in_row}

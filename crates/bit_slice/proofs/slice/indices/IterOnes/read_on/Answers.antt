@@ -1,4 +1,4 @@
-use Rattle.std.proofs.Common.{true, refl, sym, arith}
+use Rattle.std.proofs.Common.{true, refl, arith}
 use Rattle.bit_slice.specs.BitSlice.{list_of}
 use Rattle.bit_slice.proofs.Chunked.{absent_joined, chunk_absent}
 use Rattle.bit_slice.proofs.Places.{places_later}

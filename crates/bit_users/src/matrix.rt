@@ -52,7 +52,7 @@ impl Model for Matrix {
 }
 
 impl Matrix {
-    /// A matrix of false bits. `TooLong` exactly where they pass `MAX_BITS`; takes no memory for no bit.
+    /// A matrix of false bits. Returns `TooLong` where there would be more than `MAX_BITS` of them, and only there; takes no memory for no bit.
     pub fn new(alloc: Global, rows: usize, columns: usize) -> Result<Self, GrowError>
         ensures zeros { IfOk result (λ m. m ≡ zeros rows columns) }
         ensures too_long { (result ≡ Err errors.TooLong) ↔ (MAX_BITS < rows * columns) }

@@ -124,6 +124,10 @@ impl<T: BitStore, O: BitOrder> BitBox<T, O> {
     }
 
     /// The empty box: head 0, and no word. It always succeeds, and takes no memory.
+    ///
+    /// ```text
+    /// BitBox::<u8, Lsb0>::empty(alloc)? holds nothing
+    /// ```
     pub fn empty(alloc: Global) -> Result<Self, AllocError>
         ensures words { IfOk result (λ b. b.words ≡ []) }
         ensures head { IfOk result (λ b. b.head ≡ 0) }
@@ -252,6 +256,10 @@ impl<T: BitStore, O: BitOrder> BitBox<T, O> {
     /// nothing after that None. Returns `TooLong` at the first bit with which the length would pass `MAX_BITS`, and
     /// `OutOfMemory` only where there is a bit, and no more than `MAX_BITS` were pulled; then it pulls no more.
     /// What was pulled is gone.
+    ///
+    /// ```text
+    /// BitBox::<u8, Lsb0>::from_bits(alloc, Some(true))? holds 1
+    /// ```
     pub fn from_bits<I: IntoIterator<Item = bool>>(
         alloc: Global,
         iter: I,

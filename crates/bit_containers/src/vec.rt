@@ -105,6 +105,10 @@ impl<T: BitStore, O: BitOrder> BitVec<T, O> {
     }
 
     /// Like `new`.
+    ///
+    /// ```text
+    /// BitVec::<u8, Lsb0>::empty(alloc) holds nothing
+    /// ```
     pub fn empty(alloc: Global) -> Self
         ensures words { result.words ≡ [] }
         ensures row { result.row ≡ [] }
@@ -118,6 +122,10 @@ impl<T: BitStore, O: BitOrder> BitVec<T, O> {
 
     /// The empty vector, with room for `n` bits. Returns `TooLong` exactly where they pass `MAX_BITS`,
     /// and takes no memory for no bit.
+    ///
+    /// ```text
+    /// BitVec::<u8, Lsb0>::with_capacity(alloc, 100)? holds nothing
+    /// ```
     pub fn with_capacity(alloc: Global, n: usize) -> Result<Self, GrowError>
         ensures words { IfOk result (λ v. v.words ≡ []) }
         ensures head { IfOk result (λ v. v.head ≡ 0) }
@@ -134,6 +142,10 @@ impl<T: BitStore, O: BitOrder> BitVec<T, O> {
 
     /// The list of `n` times `bit`, from head 0 on: all bits of the words are `bit`, dead ones too. Returns
     /// `TooLong` exactly where they pass `MAX_BITS`, and takes no memory for no bit.
+    ///
+    /// ```text
+    /// BitVec::<u8, Lsb0>::repeat(alloc, true, 3)? holds 111
+    /// ```
     pub fn repeat(alloc: Global, bit: bool, n: usize) -> Result<Self, GrowError>
         ensures head { IfOk result (λ v. v.head ≡ 0) }
         ensures list { IfOk result (λ v. v.list ≡ replicate n bit) }
@@ -186,6 +198,10 @@ impl<T: BitStore, O: BitOrder> BitVec<T, O> {
     }
 
     /// All bits of one word: head 0. Takes memory.
+    ///
+    /// ```text
+    /// BitVec::<u8, Lsb0>::from_element(alloc, 3)? holds 11000000
+    /// ```
     pub fn from_element(alloc: Global, word: T) -> Result<Self, AllocError>
         ensures words { IfOk result (λ v. v.words ≡ word ∷ []) }
         ensures head { IfOk result (λ v. v.head ≡ 0) }

@@ -15,6 +15,10 @@ use std::cmp::Ordering;
 
 impl<'a, T: BitStore, O: BitOrder> BitSlice<'a, T, O> {
     /// Whether both views have the same bits, 64 at a time.
+    ///
+    /// ```text
+    /// of 01101001 and 01101001: bits.eq_bits(other) == true
+    /// ```
     pub fn eq_bits<U: BitStore, P: BitOrder>(self, other: BitSlice<'_, U, P>) -> bool
         ensures { IsTrue result ↔ (list_seen self.entry ≡ list_seen other.entry) }
     {
@@ -24,6 +28,10 @@ impl<'a, T: BitStore, O: BitOrder> BitSlice<'a, T, O> {
 
     /// How the bits of both views are ordered, 64 at a time: the first that differ decide, false before
     /// true, and where none do the shorter view comes first.
+    ///
+    /// ```text
+    /// of 01101001 and 0111: bits.cmp_bits(other) == Ordering::Less
+    /// ```
     pub fn cmp_bits<U: BitStore, P: BitOrder>(self, other: BitSlice<'_, U, P>) -> Ordering
         ensures { result ≡ bits_cmp (list_seen self.entry) (list_seen other.entry) }
     {
@@ -91,6 +99,10 @@ impl<'a, T: BitStore, O: BitOrder> BitSliceMut<'a, T, O> {
     ghost use Rattle.bit_slice.specs.BitSliceMut.{words_of, head_of, len_of, row_of, list_of, Stays};
 
     /// Like `BitSlice::eq_bits`.
+    ///
+    /// ```text
+    /// of 01101001 and 01101001: bits.eq_bits(other) == true
+    /// ```
     pub fn eq_bits<U: BitStore, P: BitOrder>(&self, other: BitSlice<'_, U, P>) -> bool
         ensures { IsTrue result ↔ (list_of self.now ≡ list_seen other.entry) }
     {
@@ -98,6 +110,10 @@ impl<'a, T: BitStore, O: BitOrder> BitSliceMut<'a, T, O> {
     }
 
     /// Like `BitSlice::cmp_bits`.
+    ///
+    /// ```text
+    /// of 01101001 and 0111: bits.cmp_bits(other) == Ordering::Less
+    /// ```
     pub fn cmp_bits<U: BitStore, P: BitOrder>(&self, other: BitSlice<'_, U, P>) -> Ordering
         ensures { result ≡ bits_cmp (list_of self.now) (list_seen other.entry) }
     {
@@ -119,6 +135,10 @@ impl<'a, T: BitStore, O: BitOrder> BitSliceMut<'a, T, O> {
     }
 
     /// Clears each bit that is false in `other`, or that `other` is too short for.
+    ///
+    /// ```text
+    /// of 01101001 and 01010101: bits.and_bits(other) leaves 01000001
+    /// ```
     pub fn and_bits<U: BitStore, P: BitOrder>(&mut self, other: BitSlice<'_, U, P>)
         ensures row { row_of self.new ≡ put (row_of self.old) (head_of self.old) (and_of (list_of self.old) (list_seen other.entry)) }
         ensures list { list_of self.new ≡ and_of (list_of self.old) (list_seen other.entry) }
@@ -130,6 +150,10 @@ impl<'a, T: BitStore, O: BitOrder> BitSliceMut<'a, T, O> {
     }
 
     /// Sets each bit that is true in `other`.
+    ///
+    /// ```text
+    /// of 01101001 and 01010101: bits.or_bits(other) leaves 01111101
+    /// ```
     pub fn or_bits<U: BitStore, P: BitOrder>(&mut self, other: BitSlice<'_, U, P>)
         ensures row { row_of self.new ≡ put (row_of self.old) (head_of self.old) (or_of (list_of self.old) (list_seen other.entry)) }
         ensures list { list_of self.new ≡ or_of (list_of self.old) (list_seen other.entry) }
@@ -141,6 +165,10 @@ impl<'a, T: BitStore, O: BitOrder> BitSliceMut<'a, T, O> {
     }
 
     /// Flips each bit that is true in `other`.
+    ///
+    /// ```text
+    /// of 01101001 and 01010101: bits.xor_bits(other) leaves 00111100
+    /// ```
     pub fn xor_bits<U: BitStore, P: BitOrder>(&mut self, other: BitSlice<'_, U, P>)
         ensures row { row_of self.new ≡ put (row_of self.old) (head_of self.old) (xor_of (list_of self.old) (list_seen other.entry)) }
         ensures list { list_of self.new ≡ xor_of (list_of self.old) (list_seen other.entry) }

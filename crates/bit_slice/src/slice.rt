@@ -137,6 +137,10 @@ impl<'a, T: BitStore, O: BitOrder> BitSlice<'a, T, O> {
     }
 
     /// How many bits the view has.
+    ///
+    /// ```text
+    /// of 01101001: bits.len() == 8
+    /// ```
     pub fn len(self) -> usize
         ensures value { result ≡ len_of self.entry }
         ensures list { result ≡ length (list_of self.entry) }
@@ -146,6 +150,10 @@ impl<'a, T: BitStore, O: BitOrder> BitSlice<'a, T, O> {
     }
 
     /// Whether the view has no bit.
+    ///
+    /// ```text
+    /// of 01101001: bits.is_empty() == false
+    /// ```
     pub fn is_empty(self) -> bool
         ensures { IsTrue result ↔ (len_of self.entry ≡ 0) }
     {
@@ -153,6 +161,10 @@ impl<'a, T: BitStore, O: BitOrder> BitSlice<'a, T, O> {
     }
 
     /// The index of the view's first bit in its first word, below `T::BITS`.
+    ///
+    /// ```text
+    /// of 01101001: bits.head() == 0
+    /// ```
     pub fn head(self) -> usize
         ensures value { result ≡ head_of self.entry }
         ensures in_word { result < T.BITS }
@@ -170,6 +182,10 @@ impl<'a, T: BitStore, O: BitOrder> BitSlice<'a, T, O> {
     }
 
     /// The bit at index `i`. None exactly where the view is too short.
+    ///
+    /// ```text
+    /// of 01101001: bits.get(1) == Some(true)
+    /// ```
     pub fn get(self, i: usize) -> Option<bool>
         ensures { result ≡ slice_get (list_of self.entry) i }
     {
@@ -180,6 +196,10 @@ impl<'a, T: BitStore, O: BitOrder> BitSlice<'a, T, O> {
     }
 
     /// The part of the view at a range of indices. Requires that the range lies in the view's length.
+    ///
+    /// ```text
+    /// of 01101001: bits.get_range(1..5) shows 1101
+    /// ```
     pub fn get_range<R: RangeExt>(self, range: R) -> Self
         requires lies { LiesIn (R.start_of range) (R.end_of range (len_of self)) (len_of self) }
         ensures list { list_of result ≡ slice_range (list_of self.entry) (R.start_of range) (R.end_of range (len_of self.entry)) }
@@ -198,6 +218,10 @@ impl<'a, T: BitStore, O: BitOrder> BitSlice<'a, T, O> {
     }
 
     /// The first bit. None exactly where the view is empty.
+    ///
+    /// ```text
+    /// of 01101001: bits.first() == Some(false)
+    /// ```
     pub fn first(self) -> Option<bool>
         ensures { result ≡ slice_get (list_of self.entry) 0 }
     {
@@ -205,6 +229,10 @@ impl<'a, T: BitStore, O: BitOrder> BitSlice<'a, T, O> {
     }
 
     /// The last bit. None exactly where the view is empty.
+    ///
+    /// ```text
+    /// of 01101001: bits.last() == Some(true)
+    /// ```
     pub fn last(self) -> Option<bool>
         ensures { result ≡ slice_get (list_of self.entry) (len_of self.entry - 1) }
     {
@@ -215,6 +243,10 @@ impl<'a, T: BitStore, O: BitOrder> BitSlice<'a, T, O> {
     }
 
     /// The bits of the view, from both ends.
+    ///
+    /// ```text
+    /// of 01101001: bits.iter() gives false, true, true, false, true, false, false, true
+    /// ```
     pub fn iter(self) -> Iter<'a, T, O>
         ensures list { rest_of result ≡ list_of self.entry }
         ensures few { length (rest_of result) ≤ MAX_BITS }
@@ -225,6 +257,10 @@ impl<'a, T: BitStore, O: BitOrder> BitSlice<'a, T, O> {
     }
 
     /// How many bits are true, by whole words where it can.
+    ///
+    /// ```text
+    /// of 01101001: bits.count_ones() == 4
+    /// ```
     pub fn count_ones(self) -> usize
         ensures value { result ≡ count_by (λ b. b) (list_of self.entry) }
         ensures few { result ≤ len_of self.entry }
@@ -233,6 +269,10 @@ impl<'a, T: BitStore, O: BitOrder> BitSlice<'a, T, O> {
     }
 
     /// How many bits are false.
+    ///
+    /// ```text
+    /// of 01101001: bits.count_zeros() == 4
+    /// ```
     pub fn count_zeros(self) -> usize
         ensures value { result ≡ count_by not (list_of self.entry) }
         ensures with_ones { result + count_by (λ b. b) (list_of self.entry) ≡ length (list_of self.entry) }
@@ -242,6 +282,10 @@ impl<'a, T: BitStore, O: BitOrder> BitSlice<'a, T, O> {
     }
 
     /// Whether some bit is true, 64 at a time. Of an empty view it is false.
+    ///
+    /// ```text
+    /// of 01101001: bits.any() == true
+    /// ```
     pub fn any(self) -> bool
         ensures value { result ≡ list_any (λ b. b) (list_of self.entry) }
         ensures index { IsTrue result ↔ SomeIndex (list_of self.entry) (λ i. slice_get (list_of self.entry) i ≡ Some true) }
@@ -250,6 +294,10 @@ impl<'a, T: BitStore, O: BitOrder> BitSlice<'a, T, O> {
     }
 
     /// Whether every bit is true, 64 at a time. Of an empty view it is true.
+    ///
+    /// ```text
+    /// of 01101001: bits.all() == false
+    /// ```
     pub fn all(self) -> bool
         ensures value { result ≡ list_all (λ b. b) (list_of self.entry) }
         ensures index { IsTrue result ↔ EachIndex (list_of self.entry) (λ i. slice_get (list_of self.entry) i ≡ Some true) }

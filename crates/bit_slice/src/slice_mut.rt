@@ -90,6 +90,10 @@ impl<'a, T: BitStore, O: BitOrder> BitSliceMut<'a, T, O> {
     }
 
     /// The same bits for reading.
+    ///
+    /// ```text
+    /// of 01101001: bits.as_bitslice() shows 01101001
+    /// ```
     pub fn as_bitslice(&self) -> BitSlice<'_, T, O>
         ensures words { words_seen result ≡ words_of self.now }
         ensures head { head_seen result ≡ head_of self.now }
@@ -134,6 +138,10 @@ impl<'a, T: BitStore, O: BitOrder> BitSliceMut<'a, T, O> {
     }
 
     /// How many bits the view has.
+    ///
+    /// ```text
+    /// of 01101001: bits.len() == 8
+    /// ```
     pub fn len(&self) -> usize
         ensures value { result ≡ len_of self.now }
         ensures list { result ≡ length (list_of self.now) }
@@ -143,6 +151,10 @@ impl<'a, T: BitStore, O: BitOrder> BitSliceMut<'a, T, O> {
     }
 
     /// Whether the view has no bit.
+    ///
+    /// ```text
+    /// of 01101001: bits.is_empty() == false
+    /// ```
     pub fn is_empty(&self) -> bool
         ensures { IsTrue result ↔ (len_of self.now ≡ 0) }
     {
@@ -150,6 +162,10 @@ impl<'a, T: BitStore, O: BitOrder> BitSliceMut<'a, T, O> {
     }
 
     /// The index of the view's first bit in its first word, below `T::BITS`.
+    ///
+    /// ```text
+    /// of 01101001: bits.head() == 0
+    /// ```
     pub fn head(&self) -> usize
         ensures value { result ≡ head_of self.now }
         ensures in_word { result < T.BITS }
@@ -158,6 +174,10 @@ impl<'a, T: BitStore, O: BitOrder> BitSliceMut<'a, T, O> {
     }
 
     /// The bit at index `i`. None exactly where the view is too short.
+    ///
+    /// ```text
+    /// of 01101001: bits.get(1) == Some(true)
+    /// ```
     pub fn get(&self, i: usize) -> Option<bool>
         ensures { result ≡ slice_get (list_of self.now) i }
     {
@@ -166,6 +186,10 @@ impl<'a, T: BitStore, O: BitOrder> BitSliceMut<'a, T, O> {
 
     /// The part of the view at a range of indices, for reading. Requires that the range lies in the
     /// view's length.
+    ///
+    /// ```text
+    /// of 01101001: bits.get_range(1..5) shows 1101
+    /// ```
     pub fn get_range<R: RangeExt>(&self, range: R) -> BitSlice<'_, T, O>
         requires lies { LiesIn (R.start_of range) (R.end_of range (len_of self.now)) (len_of self.now) }
         ensures list { list_seen result ≡ slice_range (list_of self.now) (R.start_of range) (R.end_of range (len_of self.now)) }
@@ -177,6 +201,10 @@ impl<'a, T: BitStore, O: BitOrder> BitSliceMut<'a, T, O> {
     }
 
     /// The first bit. None exactly where the view is empty.
+    ///
+    /// ```text
+    /// of 01101001: bits.first() == Some(false)
+    /// ```
     pub fn first(&self) -> Option<bool>
         ensures { result ≡ slice_get (list_of self.now) 0 }
     {
@@ -184,6 +212,10 @@ impl<'a, T: BitStore, O: BitOrder> BitSliceMut<'a, T, O> {
     }
 
     /// The last bit. None exactly where the view is empty.
+    ///
+    /// ```text
+    /// of 01101001: bits.last() == Some(true)
+    /// ```
     pub fn last(&self) -> Option<bool>
         ensures { result ≡ slice_get (list_of self.now) (len_of self.now - 1) }
     {
@@ -191,6 +223,10 @@ impl<'a, T: BitStore, O: BitOrder> BitSliceMut<'a, T, O> {
     }
 
     /// The bits of the view, from both ends.
+    ///
+    /// ```text
+    /// of 01101001: bits.iter() gives false, true, true, false, true, false, false, true
+    /// ```
     pub fn iter(&self) -> Iter<'_, T, O>
         ensures list { rest_of result ≡ list_of self.now }
         ensures few { length (rest_of result) ≤ MAX_BITS }
@@ -201,6 +237,10 @@ impl<'a, T: BitStore, O: BitOrder> BitSliceMut<'a, T, O> {
     }
 
     /// How many bits are true.
+    ///
+    /// ```text
+    /// of 01101001: bits.count_ones() == 4
+    /// ```
     pub fn count_ones(&self) -> usize
         ensures value { result ≡ count_by (λ b. b) (list_of self.now) }
         ensures few { result ≤ len_of self.now }
@@ -209,6 +249,10 @@ impl<'a, T: BitStore, O: BitOrder> BitSliceMut<'a, T, O> {
     }
 
     /// How many bits are false.
+    ///
+    /// ```text
+    /// of 01101001: bits.count_zeros() == 4
+    /// ```
     pub fn count_zeros(&self) -> usize
         ensures value { result ≡ count_by not (list_of self.now) }
         ensures with_ones { result + count_by (λ b. b) (list_of self.now) ≡ length (list_of self.now) }
@@ -218,6 +262,10 @@ impl<'a, T: BitStore, O: BitOrder> BitSliceMut<'a, T, O> {
     }
 
     /// Whether some bit is true. Of an empty view it is false.
+    ///
+    /// ```text
+    /// of 01101001: bits.any() == true
+    /// ```
     pub fn any(&self) -> bool
         ensures value { result ≡ list_any (λ b. b) (list_of self.now) }
         ensures index { IsTrue result ↔ SomeIndex (list_of self.now) (λ i. slice_get (list_of self.now) i ≡ Some true) }
@@ -226,6 +274,10 @@ impl<'a, T: BitStore, O: BitOrder> BitSliceMut<'a, T, O> {
     }
 
     /// Whether every bit is true. Of an empty view it is true.
+    ///
+    /// ```text
+    /// of 01101001: bits.all() == false
+    /// ```
     pub fn all(&self) -> bool
         ensures value { result ≡ list_all (λ b. b) (list_of self.now) }
         ensures index { IsTrue result ↔ EachIndex (list_of self.now) (λ i. slice_get (list_of self.now) i ≡ Some true) }
@@ -234,6 +286,10 @@ impl<'a, T: BitStore, O: BitOrder> BitSliceMut<'a, T, O> {
     }
 
     /// Writes `b` at index `i`. Requires that `i` is below the length.
+    ///
+    /// ```text
+    /// of 01101001: bits.set(0, true) leaves 11101001
+    /// ```
     pub fn set(&mut self, i: usize, b: bool)
         requires { i < len_of self.old }
         ensures row { row_of self.new ≡ set (row_of self.old) (head_of self.old + i) b }
@@ -245,6 +301,10 @@ impl<'a, T: BitStore, O: BitOrder> BitSliceMut<'a, T, O> {
 
     /// Writes `b` at index `i`, and returns the bit that was there. Requires that `i` is below the
     /// length.
+    ///
+    /// ```text
+    /// of 01101001: bits.replace(0, true) == false
+    /// ```
     pub fn replace(&mut self, i: usize, b: bool) -> bool
         requires { i < len_of self.old }
         ensures old { slice_get (list_of self.old) i ≡ Some result }
@@ -258,6 +318,10 @@ impl<'a, T: BitStore, O: BitOrder> BitSliceMut<'a, T, O> {
     }
 
     /// Swaps the bits at indices `i` and `j`. Requires that both are below the length.
+    ///
+    /// ```text
+    /// of 01101001: bits.swap(0, 1) leaves 10101001
+    /// ```
     pub fn swap(&mut self, i: usize, j: usize)
         requires first { i < len_of self.old }
         requires second { j < len_of self.old }
@@ -269,6 +333,10 @@ impl<'a, T: BitStore, O: BitOrder> BitSliceMut<'a, T, O> {
     }
 
     /// Writes `b` at every index, by whole words where it can.
+    ///
+    /// ```text
+    /// of 01101001: bits.fill(true) leaves 11111111
+    /// ```
     pub fn fill(&mut self, b: bool)
         ensures row { row_of self.new ≡ put (row_of self.old) (head_of self.old) (replicate (len_of self.old) b) }
         ensures list { list_of self.new ≡ replicate (len_of self.old) b }
@@ -280,6 +348,10 @@ impl<'a, T: BitStore, O: BitOrder> BitSliceMut<'a, T, O> {
 
     /// Copies the bits at a range of indices to the places from `dest` on, as if they were read before
     /// any is written. The runs may overlap. Requires that the range and the places lie in the view.
+    ///
+    /// ```text
+    /// of 01101001: bits.copy_within(2..5, 0) leaves 10101001
+    /// ```
     #[tactic(auto, using(crate::proofs::Parts::roomy))]
     pub fn copy_within<R: RangeExt>(&mut self, range: R, dest: usize)
         requires lies { LiesIn (R.start_of range) (R.end_of range (len_of self.old)) (len_of self.old) }
@@ -295,6 +367,10 @@ impl<'a, T: BitStore, O: BitOrder> BitSliceMut<'a, T, O> {
 
     /// Writes the bits of another view, of any word type and order, in its order. Each word of it is
     /// read once. Requires equal lengths.
+    ///
+    /// ```text
+    /// of 01101001 and 01010101: bits.clone_from_bitslice(other) leaves 01010101
+    /// ```
     pub fn clone_from_bitslice<U: BitStore, P: BitOrder>(&mut self, source: BitSlice<'_, U, P>)
         requires { len_seen source ≡ len_of self.old }
         ensures row { row_of self.new ≡ put (row_of self.old) (head_of self.old) (list_seen source.entry) }

@@ -20,6 +20,10 @@ use std::marker::Model;
 
 impl<A: BitWords, O: BitOrder> BitArray<A, O> {
     /// The bits in order, from both ends.
+    ///
+    /// ```text
+    /// of 01101001: bits.iter() gives false, true, true, false, true, false, false, true
+    /// ```
     #[tactic(auto, using(bit_slice::proofs::Parts::shown_length))]
     pub fn iter(&self) -> Iter<'_, A::Store, O>
         ensures list { rest_lent result ≡ row A.Store.BitStore O.BitOrder (A.words self.now) }

@@ -12,6 +12,10 @@ use bit_slice::{combine_within, reverse_words, rotate_words, shift_words_left, s
 
 impl<A: BitViewSized, O: BitOrder> BitArray<A, O> {
     /// Reverses the bits.
+    ///
+    /// ```text
+    /// of 01101001: bits.reverse() leaves 10010110
+    /// ```
     pub fn reverse(&mut self)
         ensures { row A.Store.BitStore O.BitOrder (A.words self.new) ≡ reverse (row A.Store.BitStore O.BitOrder (A.words self.old)) }
     {
@@ -21,6 +25,10 @@ impl<A: BitViewSized, O: BitOrder> BitArray<A, O> {
     }
 
     /// Moves the first `by` bits after the others. Requires that `by` is at most the length.
+    ///
+    /// ```text
+    /// of 01101001: bits.rotate_left(2) leaves 10100101
+    /// ```
     pub fn rotate_left(&mut self, by: usize)
         requires { by ≤ A.Store.BITS * A.count }
         ensures { row A.Store.BitStore O.BitOrder (A.words self.new) ≡ drop by (row A.Store.BitStore O.BitOrder (A.words self.old)) ++ take by (row A.Store.BitStore O.BitOrder (A.words self.old)) }
@@ -31,6 +39,10 @@ impl<A: BitViewSized, O: BitOrder> BitArray<A, O> {
     }
 
     /// Moves the last `by` bits before the others. Requires that `by` is at most the length.
+    ///
+    /// ```text
+    /// of 01101001: bits.rotate_right(2) leaves 01011010
+    /// ```
     pub fn rotate_right(&mut self, by: usize)
         requires { by ≤ A.Store.BITS * A.count }
         ensures { row A.Store.BitStore O.BitOrder (A.words self.new) ≡ drop (A.Store.BITS * A.count - by) (row A.Store.BitStore O.BitOrder (A.words self.old)) ++ take (A.Store.BITS * A.count - by) (row A.Store.BitStore O.BitOrder (A.words self.old)) }
@@ -42,6 +54,10 @@ impl<A: BitViewSized, O: BitOrder> BitArray<A, O> {
 
     /// Moves each bit `by` indices towards the front: the first `by` go, and the last `by` are false. Requires that
     /// `by` is at most the length.
+    ///
+    /// ```text
+    /// of 01101001: bits.shift_left(2) leaves 10100100
+    /// ```
     pub fn shift_left(&mut self, by: usize)
         requires { by ≤ A.Store.BITS * A.count }
         ensures { row A.Store.BitStore O.BitOrder (A.words self.new) ≡ drop by (row A.Store.BitStore O.BitOrder (A.words self.old)) ++ replicate by false }
@@ -53,6 +69,10 @@ impl<A: BitViewSized, O: BitOrder> BitArray<A, O> {
 
     /// Moves each bit `by` indices towards the end: the last `by` go, and the first `by` are false. Requires that
     /// `by` is at most the length.
+    ///
+    /// ```text
+    /// of 01101001: bits.shift_right(2) leaves 00011010
+    /// ```
     pub fn shift_right(&mut self, by: usize)
         requires { by ≤ A.Store.BITS * A.count }
         ensures { row A.Store.BitStore O.BitOrder (A.words self.new) ≡ replicate by false ++ take (A.Store.BITS * A.count - by) (row A.Store.BitStore O.BitOrder (A.words self.old)) }
@@ -78,6 +98,10 @@ impl<A: BitViewSized, O: BitOrder> BitArray<A, O> {
     /// Clears each of the bits from `dest` on that is false at its index of a range, as if the range was
     /// read before any bit is written. The two may overlap. Requires that the range lies in the length, and as
     /// many bits from `dest` on.
+    ///
+    /// ```text
+    /// of 01101001: bits.and_within(4..8, 0) leaves 00001001
+    /// ```
     pub fn and_within<R: RangeExt>(&mut self, range: R, dest: usize)
         requires lies { LiesIn (R.start_of range) (R.end_of range (A.Store.BITS * A.count)) (A.Store.BITS * A.count) }
         requires room { dest + (R.end_of range (A.Store.BITS * A.count) - R.start_of range) ≤ A.Store.BITS * A.count }
@@ -89,6 +113,10 @@ impl<A: BitViewSized, O: BitOrder> BitArray<A, O> {
     /// Sets each of the bits from `dest` on that is true at its index of a range, as if the range was
     /// read before any bit is written. The two may overlap. Requires that the range lies in the length, and as
     /// many bits from `dest` on.
+    ///
+    /// ```text
+    /// of 01101001: bits.or_within(4..8, 0) leaves 11111001
+    /// ```
     pub fn or_within<R: RangeExt>(&mut self, range: R, dest: usize)
         requires lies { LiesIn (R.start_of range) (R.end_of range (A.Store.BITS * A.count)) (A.Store.BITS * A.count) }
         requires room { dest + (R.end_of range (A.Store.BITS * A.count) - R.start_of range) ≤ A.Store.BITS * A.count }
@@ -100,6 +128,10 @@ impl<A: BitViewSized, O: BitOrder> BitArray<A, O> {
     /// Flips each of the bits from `dest` on that is true at its index of a range, as if the range was
     /// read before any bit is written. The two may overlap. Requires that the range lies in the length, and as
     /// many bits from `dest` on.
+    ///
+    /// ```text
+    /// of 01101001: bits.xor_within(4..8, 0) leaves 11111001
+    /// ```
     pub fn xor_within<R: RangeExt>(&mut self, range: R, dest: usize)
         requires lies { LiesIn (R.start_of range) (R.end_of range (A.Store.BITS * A.count)) (A.Store.BITS * A.count) }
         requires room { dest + (R.end_of range (A.Store.BITS * A.count) - R.start_of range) ≤ A.Store.BITS * A.count }

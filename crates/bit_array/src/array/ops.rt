@@ -14,6 +14,10 @@ use std::ops::{BitAnd, BitAndAssign, BitOr, BitOrAssign, BitXor, BitXorAssign, I
 impl<A: BitWords, O: BitOrder> BitArray<A, O> {
     /// Whether the array and a view, whose words and order may be others, have the same bits. The view's head
     /// doesn't count.
+    ///
+    /// ```text
+    /// of 01101001 and 01101001: bits.eq_bits(other) == true
+    /// ```
     pub fn eq_bits<U: BitStore, P: BitOrder>(&self, other: BitSlice<'_, U, P>) -> bool
         ensures { IsTrue result ↔ (row A.Store.BitStore O.BitOrder (A.words self.now) ≡ list_of other.entry) }
     {
@@ -22,6 +26,10 @@ impl<A: BitWords, O: BitOrder> BitArray<A, O> {
 
     /// How the bits of the array and those of a view are ordered: the first that differ decide, false before
     /// true, and where none do the shorter comes first.
+    ///
+    /// ```text
+    /// of 01101001 and 0111: bits.cmp_bits(other) == Ordering::Less
+    /// ```
     pub fn cmp_bits<U: BitStore, P: BitOrder>(&self, other: BitSlice<'_, U, P>) -> Ordering
         ensures { result ≡ bits_cmp (row A.Store.BitStore O.BitOrder (A.words self.now)) (list_of other.entry) }
     {
@@ -43,6 +51,10 @@ impl<A: BitViewSized, O: BitOrder> BitArray<A, O> {
     }
 
     /// Clears each bit that is false in a view, or that the view is too short for.
+    ///
+    /// ```text
+    /// of 01101001 and 01010101: bits.and_bits(other) leaves 01000001
+    /// ```
     pub fn and_bits<U: BitStore, P: BitOrder>(&mut self, other: BitSlice<'_, U, P>)
         ensures list { row A.Store.BitStore O.BitOrder (A.words self.new) ≡ and_of (row A.Store.BitStore O.BitOrder (A.words self.old)) (list_of other.entry) }
         ensures index { AndsEach (row A.Store.BitStore O.BitOrder (A.words self.old)) (list_of other.entry) (row A.Store.BitStore O.BitOrder (A.words self.new)) }
@@ -51,6 +63,10 @@ impl<A: BitViewSized, O: BitOrder> BitArray<A, O> {
     }
 
     /// Sets each bit that is true in a view; bits of the view past the length don't count.
+    ///
+    /// ```text
+    /// of 01101001 and 01010101: bits.or_bits(other) leaves 01111101
+    /// ```
     pub fn or_bits<U: BitStore, P: BitOrder>(&mut self, other: BitSlice<'_, U, P>)
         ensures list { row A.Store.BitStore O.BitOrder (A.words self.new) ≡ or_of (row A.Store.BitStore O.BitOrder (A.words self.old)) (list_of other.entry) }
         ensures index { OrsEach (row A.Store.BitStore O.BitOrder (A.words self.old)) (list_of other.entry) (row A.Store.BitStore O.BitOrder (A.words self.new)) }
@@ -59,6 +75,10 @@ impl<A: BitViewSized, O: BitOrder> BitArray<A, O> {
     }
 
     /// Flips each bit that is true in a view; bits of the view past the length don't count.
+    ///
+    /// ```text
+    /// of 01101001 and 01010101: bits.xor_bits(other) leaves 00111100
+    /// ```
     pub fn xor_bits<U: BitStore, P: BitOrder>(&mut self, other: BitSlice<'_, U, P>)
         ensures list { row A.Store.BitStore O.BitOrder (A.words self.new) ≡ xor_of (row A.Store.BitStore O.BitOrder (A.words self.old)) (list_of other.entry) }
         ensures index { XorsEach (row A.Store.BitStore O.BitOrder (A.words self.old)) (list_of other.entry) (row A.Store.BitStore O.BitOrder (A.words self.new)) }
@@ -67,6 +87,10 @@ impl<A: BitViewSized, O: BitOrder> BitArray<A, O> {
     }
 
     /// Flips every bit.
+    ///
+    /// ```text
+    /// of 01101001: bits.flip_all() leaves 10010110
+    /// ```
     #[tactic(auto, using(bit_slice::proofs::Rules::item_of_not))]
     pub fn flip_all(&mut self)
         ensures list { row A.Store.BitStore O.BitOrder (A.words self.new) ≡ map not (row A.Store.BitStore O.BitOrder (A.words self.old)) }

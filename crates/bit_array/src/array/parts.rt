@@ -18,6 +18,10 @@ impl<A: BitWords, O: BitOrder> BitArray<A, O> {
 
     /// The views of the bits before index `mid`, and of those from it on. Requires that `mid` is at most the
     /// length.
+    ///
+    /// ```text
+    /// of 01101001: bits.split_at(3).1 shows 01001
+    /// ```
     pub fn split_at(&self, mid: usize) -> (BitSlice<'_, A::Store, O>, BitSlice<'_, A::Store, O>)
         requires { mid ≤ A.Store.BITS * A.count }
         ensures front { list_of result.0 ≡ take mid (row A.Store.BitStore O.BitOrder (A.words self.now)) }
@@ -48,6 +52,10 @@ impl<A: BitWords, O: BitOrder> BitArray<A, O> {
     }
 
     /// Whether the array begins with the bits of `other`.
+    ///
+    /// ```text
+    /// of 01101001 and 0110: bits.starts_with(other) == true
+    /// ```
     pub fn starts_with<U: BitStore, P: BitOrder>(&self, other: BitSlice<'_, U, P>) -> bool
         ensures { IsTrue result ↔ (take (len_of other.entry) (row A.Store.BitStore O.BitOrder (A.words self.now)) ≡ list_of other.entry) }
     {
@@ -55,6 +63,10 @@ impl<A: BitWords, O: BitOrder> BitArray<A, O> {
     }
 
     /// Whether the array ends with the bits of `other`.
+    ///
+    /// ```text
+    /// of 01101001 and 001: bits.ends_with(other) == true
+    /// ```
     pub fn ends_with<U: BitStore, P: BitOrder>(&self, other: BitSlice<'_, U, P>) -> bool
         ensures { IsTrue result ↔ (drop (A.Store.BITS * A.count - len_of other.entry) (row A.Store.BitStore O.BitOrder (A.words self.now)) ≡ list_of other.entry) }
     {
@@ -63,6 +75,10 @@ impl<A: BitWords, O: BitOrder> BitArray<A, O> {
 
     /// The view of the chunk of number `k`, of `size` bits: that which `chunks(size)` gives after `k` others.
     /// Requires that it begins before the end.
+    ///
+    /// ```text
+    /// of 01101001: bits.chunk(3, 1) shows 010
+    /// ```
     pub fn chunk(&self, size: usize, k: usize) -> BitSlice<'_, A::Store, O>
         requires some { 0 < size }
         requires begins { k * size < A.Store.BITS * A.count }
@@ -74,6 +90,10 @@ impl<A: BitWords, O: BitOrder> BitArray<A, O> {
 
     /// Views of the parts of `size` bits side by side, from the front and from the end. The last has the bits
     /// that are left, so it may be shorter. Requires that `size` is not 0.
+    ///
+    /// ```text
+    /// of 01101001: bits.chunks(3).len() == 3
+    /// ```
     pub fn chunks(&self, size: usize) -> Chunks<'_, A::Store, O>
         requires some { 0 < size }
         ensures list { chunks_left result ≡ chunks_of size (row A.Store.BitStore O.BitOrder (A.words self.now)) }
@@ -86,6 +106,10 @@ impl<A: BitWords, O: BitOrder> BitArray<A, O> {
 
     /// Views of the parts of `size` bits side by side, from the front and from the end, as many as have that
     /// many bits. Those that are left are the iterator's `remainder`. Requires that `size` is not 0.
+    ///
+    /// ```text
+    /// of 01101001: bits.chunks_exact(3).len() == 2
+    /// ```
     pub fn chunks_exact(&self, size: usize) -> ChunksExact<'_, A::Store, O>
         requires some { 0 < size }
         ensures list { exact_chunks_left result ≡ exact_chunks_of size (row A.Store.BitStore O.BitOrder (A.words self.now)) }
@@ -98,6 +122,10 @@ impl<A: BitWords, O: BitOrder> BitArray<A, O> {
 
     /// Views of the parts of `size` bits side by side, beginning at the end. The last, at the front, has the
     /// bits that are left, so it may be shorter. Requires that `size` is not 0.
+    ///
+    /// ```text
+    /// of 01101001: bits.rchunks(3).len() == 3
+    /// ```
     pub fn rchunks(&self, size: usize) -> RChunks<'_, A::Store, O>
         requires some { 0 < size }
         ensures list { back_chunks_left result ≡ back_chunks_of size (row A.Store.BitStore O.BitOrder (A.words self.now)) }
@@ -110,6 +138,10 @@ impl<A: BitWords, O: BitOrder> BitArray<A, O> {
 
     /// Views of each `size` neighbouring bits. There are none where the array is shorter. Requires that `size`
     /// is not 0.
+    ///
+    /// ```text
+    /// of 01101001: bits.windows(3).len() == 6
+    /// ```
     pub fn windows(&self, size: usize) -> Windows<'_, A::Store, O>
         requires some { 0 < size }
         ensures list { windows_left result ≡ windows_of size (row A.Store.BitStore O.BitOrder (A.words self.now)) }
@@ -122,6 +154,10 @@ impl<A: BitWords, O: BitOrder> BitArray<A, O> {
 
     /// The number whose least significant bit is the first of the list, and whose next bits are the next of it,
     /// whatever the order of bits in a word. Requires at most 64 bits.
+    ///
+    /// ```text
+    /// of 01101001: bits.load_le() == 150
+    /// ```
     pub fn load_le(&self) -> u64
         requires { A.Store.BITS * A.count ≤ 64 }
         ensures value { result ≡ number_of (row A.Store.BitStore O.BitOrder (A.words self.now)) }
@@ -132,6 +168,10 @@ impl<A: BitWords, O: BitOrder> BitArray<A, O> {
 
     /// The number that the bits of the list write in binary, the first the most significant, whatever the order
     /// of bits in a word. Requires at most 64 bits.
+    ///
+    /// ```text
+    /// of 01101001: bits.load_be() == 105
+    /// ```
     pub fn load_be(&self) -> u64
         requires { A.Store.BITS * A.count ≤ 64 }
         ensures value { result ≡ value (row A.Store.BitStore O.BitOrder (A.words self.now)) }

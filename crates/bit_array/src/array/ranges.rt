@@ -17,6 +17,10 @@ use bit_slice::{AndNot, BitSlice, combine_words, flip_words};
 
 impl<A: BitViewSized, O: BitOrder> BitArray<A, O> {
     /// Writes `bit` at each index of a range, and no other bit. Requires that the range lies in the length.
+    ///
+    /// ```text
+    /// of 01101001: bits.fill_range(2..6, true) leaves 01111101
+    /// ```
     pub fn fill_range<R: RangeExt>(&mut self, range: R, bit: bool)
         requires lies { LiesIn (R.start_of range) (R.end_of range (A.Store.BITS * A.count)) (A.Store.BITS * A.count) }
         ensures { row A.Store.BitStore O.BitOrder (A.words self.new) ≡ put (row A.Store.BitStore O.BitOrder (A.words self.old)) (R.start_of range) (replicate (R.end_of range (A.Store.BITS * A.count) - R.start_of range) bit) }
@@ -27,6 +31,10 @@ impl<A: BitViewSized, O: BitOrder> BitArray<A, O> {
     }
 
     /// Flips the bit at each index of a range, and no other bit. Requires that the range lies in the length.
+    ///
+    /// ```text
+    /// of 01101001: bits.flip_range(1..4) leaves 00011001
+    /// ```
     pub fn flip_range<R: RangeExt>(&mut self, range: R)
         requires lies { LiesIn (R.start_of range) (R.end_of range (A.Store.BITS * A.count)) (A.Store.BITS * A.count) }
         ensures { row A.Store.BitStore O.BitOrder (A.words self.new) ≡ put (row A.Store.BitStore O.BitOrder (A.words self.old)) (R.start_of range) (map not (slice_range (row A.Store.BitStore O.BitOrder (A.words self.old)) (R.start_of range) (R.end_of range (A.Store.BITS * A.count)))) }
@@ -37,6 +45,10 @@ impl<A: BitViewSized, O: BitOrder> BitArray<A, O> {
     }
 
     /// Flips the bit at `i`, and no other bit. Requires that `i` is below the length.
+    ///
+    /// ```text
+    /// of 01101001: bits.flip(2) leaves 01001001
+    /// ```
     pub fn flip(&mut self, i: usize)
         requires { i < A.Store.BITS * A.count }
         ensures list { row A.Store.BitStore O.BitOrder (A.words self.new) ≡ set (row A.Store.BitStore O.BitOrder (A.words self.old)) i (not (slice_index_or (row A.Store.BitStore O.BitOrder (A.words self.old)) i false)) }
@@ -47,6 +59,10 @@ impl<A: BitViewSized, O: BitOrder> BitArray<A, O> {
     }
 
     /// Clears each bit that is true in a view.
+    ///
+    /// ```text
+    /// of 01101001 and 01010101: bits.and_not_bits(other) leaves 00101000
+    /// ```
     pub fn and_not_bits<U: BitStore, P: BitOrder>(&mut self, other: BitSlice<'_, U, P>)
         ensures { row A.Store.BitStore O.BitOrder (A.words self.new) ≡ and_not_of (row A.Store.BitStore O.BitOrder (A.words self.old)) (list_of other.entry) }
     {
@@ -55,6 +71,10 @@ impl<A: BitViewSized, O: BitOrder> BitArray<A, O> {
 
     /// Writes the bits of a view, by whatever words and order, at the indices of a range, and no other bit. Requires
     /// that the range lies in the length, and is as long as the view.
+    ///
+    /// ```text
+    /// of 01101001 and 0101: bits.copy_into(1..5, other) leaves 00101001
+    /// ```
     pub fn copy_into<R: RangeExt, U: BitStore, P: BitOrder>(
         &mut self,
         range: R,
@@ -88,6 +108,10 @@ impl<A: BitViewSized, O: BitOrder> BitArray<A, O> {
 
     /// Clears each bit at the indices of a range that is false in a view, or that the view is too short for: the
     /// first bit of the view is for the first of the range. Requires that the range lies in the length.
+    ///
+    /// ```text
+    /// of 01101001 and 0101: bits.and_range(1..5, other) leaves 00101001
+    /// ```
     pub fn and_range<R: RangeExt, U: BitStore, P: BitOrder>(
         &mut self,
         range: R,
@@ -101,6 +125,10 @@ impl<A: BitViewSized, O: BitOrder> BitArray<A, O> {
 
     /// Sets each bit at the indices of a range that is true in a view: the first bit of the view is for the first
     /// of the range. Requires that the range lies in the length.
+    ///
+    /// ```text
+    /// of 01101001 and 0101: bits.or_range(1..5, other) leaves 01101001
+    /// ```
     pub fn or_range<R: RangeExt, U: BitStore, P: BitOrder>(
         &mut self,
         range: R,
@@ -114,6 +142,10 @@ impl<A: BitViewSized, O: BitOrder> BitArray<A, O> {
 
     /// Flips each bit at the indices of a range that is true in a view: the first bit of the view is for the first
     /// of the range. Requires that the range lies in the length.
+    ///
+    /// ```text
+    /// of 01101001 and 0101: bits.xor_range(1..5, other) leaves 01000001
+    /// ```
     pub fn xor_range<R: RangeExt, U: BitStore, P: BitOrder>(
         &mut self,
         range: R,
@@ -126,6 +158,10 @@ impl<A: BitViewSized, O: BitOrder> BitArray<A, O> {
     }
 
     /// Writes the lowest bits of a number over all bits, the least significant first. Requires at most 64 bits.
+    ///
+    /// ```text
+    /// of 01101001: bits.store_le(5) leaves 10100000
+    /// ```
     pub fn store_le(&mut self, number: u64)
         requires { A.Store.BITS * A.count ≤ 64 }
         ensures { row A.Store.BitStore O.BitOrder (A.words self.new) ≡ number_bits number (A.Store.BITS * A.count) }
@@ -136,6 +172,10 @@ impl<A: BitViewSized, O: BitOrder> BitArray<A, O> {
     }
 
     /// Writes the lowest bits of a number over all bits, the most significant first. Requires at most 64 bits.
+    ///
+    /// ```text
+    /// of 01101001: bits.store_be(5) leaves 00000101
+    /// ```
     pub fn store_be(&mut self, number: u64)
         requires { A.Store.BITS * A.count ≤ 64 }
         ensures { row A.Store.BitStore O.BitOrder (A.words self.new) ≡ binary (A.Store.BITS * A.count) number }

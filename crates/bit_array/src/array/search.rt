@@ -18,6 +18,10 @@ impl<A: BitWords, O: BitOrder> BitArray<A, O> {
     ghost use Rattle.bit_slice.specs.Indices.{ones_left, zeros_left};
 
     /// The index of the first bit that is true. None exactly where none is.
+    ///
+    /// ```text
+    /// of 01101001: bits.first_one() == Some(1)
+    /// ```
     pub fn first_one(&self) -> Option<usize>
         ensures value { result ≡ position (λ b. b) (row A.Store.BitStore O.BitOrder (A.words self.now)) }
         ensures inside { IfSome result (λ i. i < A.Store.BITS * A.count) }
@@ -30,6 +34,10 @@ impl<A: BitWords, O: BitOrder> BitArray<A, O> {
     }
 
     /// The index of the first bit that is false. None exactly where none is.
+    ///
+    /// ```text
+    /// of 01101001: bits.first_zero() == Some(0)
+    /// ```
     pub fn first_zero(&self) -> Option<usize>
         ensures value { result ≡ position not (row A.Store.BitStore O.BitOrder (A.words self.now)) }
         ensures inside { IfSome result (λ i. i < A.Store.BITS * A.count) }
@@ -42,6 +50,10 @@ impl<A: BitWords, O: BitOrder> BitArray<A, O> {
     }
 
     /// The index of the last bit that is true. None exactly where none is.
+    ///
+    /// ```text
+    /// of 01101001: bits.last_one() == Some(7)
+    /// ```
     pub fn last_one(&self) -> Option<usize>
         ensures inside { IfSome result (λ i. i < A.Store.BITS * A.count) }
         ensures few { IfSome result (λ i. i < MAX_BITS) }
@@ -53,6 +65,10 @@ impl<A: BitWords, O: BitOrder> BitArray<A, O> {
     }
 
     /// The index of the last bit that is false. None exactly where none is.
+    ///
+    /// ```text
+    /// of 01101001: bits.last_zero() == Some(6)
+    /// ```
     pub fn last_zero(&self) -> Option<usize>
         ensures inside { IfSome result (λ i. i < A.Store.BITS * A.count) }
         ensures few { IfSome result (λ i. i < MAX_BITS) }
@@ -65,6 +81,10 @@ impl<A: BitWords, O: BitOrder> BitArray<A, O> {
 
     /// The index of the first bit from index `from` on that is true. None exactly where none is, as where
     /// `from` is the length or more.
+    ///
+    /// ```text
+    /// of 01101001: bits.next_one(3) == Some(4)
+    /// ```
     pub fn next_one(&self, from: usize) -> Option<usize>
         ensures begins { IfSome result (λ i. from ≤ i) }
         ensures inside { IfSome result (λ i. i < A.Store.BITS * A.count) }
@@ -78,6 +98,10 @@ impl<A: BitWords, O: BitOrder> BitArray<A, O> {
 
     /// The index of the first bit from index `from` on that is false. None exactly where none is, as where
     /// `from` is the length or more.
+    ///
+    /// ```text
+    /// of 01101001: bits.next_zero(1) == Some(3)
+    /// ```
     pub fn next_zero(&self, from: usize) -> Option<usize>
         ensures begins { IfSome result (λ i. from ≤ i) }
         ensures inside { IfSome result (λ i. i < A.Store.BITS * A.count) }
@@ -90,6 +114,10 @@ impl<A: BitWords, O: BitOrder> BitArray<A, O> {
     }
 
     /// How many bits at the front are true, up to the first that is false.
+    ///
+    /// ```text
+    /// of 01101001: bits.leading_ones() == 0
+    /// ```
     pub fn leading_ones(&self) -> usize
         ensures value { result ≡ prefix_len (λ b. b) (row A.Store.BitStore O.BitOrder (A.words self.now)) }
         ensures most { result ≤ A.Store.BITS * A.count }
@@ -100,6 +128,10 @@ impl<A: BitWords, O: BitOrder> BitArray<A, O> {
     }
 
     /// How many bits at the front are false, up to the first that is true.
+    ///
+    /// ```text
+    /// of 01101001: bits.leading_zeros() == 1
+    /// ```
     pub fn leading_zeros(&self) -> usize
         ensures value { result ≡ prefix_len not (row A.Store.BitStore O.BitOrder (A.words self.now)) }
         ensures most { result ≤ A.Store.BITS * A.count }
@@ -110,6 +142,10 @@ impl<A: BitWords, O: BitOrder> BitArray<A, O> {
     }
 
     /// How many bits at the end are true, after the last that is false.
+    ///
+    /// ```text
+    /// of 01101001: bits.trailing_ones() == 1
+    /// ```
     pub fn trailing_ones(&self) -> usize
         ensures value { result ≡ suffix_len (λ b. b) (row A.Store.BitStore O.BitOrder (A.words self.now)) }
         ensures most { result ≤ A.Store.BITS * A.count }
@@ -120,6 +156,10 @@ impl<A: BitWords, O: BitOrder> BitArray<A, O> {
     }
 
     /// How many bits at the end are false, after the last that is true.
+    ///
+    /// ```text
+    /// of 01101001: bits.trailing_zeros() == 0
+    /// ```
     pub fn trailing_zeros(&self) -> usize
         ensures value { result ≡ suffix_len not (row A.Store.BitStore O.BitOrder (A.words self.now)) }
         ensures most { result ≤ A.Store.BITS * A.count }
@@ -130,6 +170,10 @@ impl<A: BitWords, O: BitOrder> BitArray<A, O> {
     }
 
     /// Whether no bit is true. Of an empty array it is true.
+    ///
+    /// ```text
+    /// of 01101001: bits.not_any() == false
+    /// ```
     pub fn not_any(&self) -> bool
         ensures value { result ≡ not (list_any (λ b. b) (row A.Store.BitStore O.BitOrder (A.words self.now))) }
         ensures index { IsTrue result ↔ EachIndex (row A.Store.BitStore O.BitOrder (A.words self.now)) (λ i. slice_get (row A.Store.BitStore O.BitOrder (A.words self.now)) i ≡ Some false) }
@@ -138,6 +182,10 @@ impl<A: BitWords, O: BitOrder> BitArray<A, O> {
     }
 
     /// Whether some bit is false. Of an empty array it is false.
+    ///
+    /// ```text
+    /// of 01101001: bits.not_all() == true
+    /// ```
     pub fn not_all(&self) -> bool
         ensures value { result ≡ not (list_all (λ b. b) (row A.Store.BitStore O.BitOrder (A.words self.now))) }
         ensures index { IsTrue result ↔ SomeIndex (row A.Store.BitStore O.BitOrder (A.words self.now)) (λ i. slice_get (row A.Store.BitStore O.BitOrder (A.words self.now)) i ≡ Some false) }
@@ -146,6 +194,10 @@ impl<A: BitWords, O: BitOrder> BitArray<A, O> {
     }
 
     /// Whether some bit is true and some bit is false.
+    ///
+    /// ```text
+    /// of 01101001: bits.some() == true
+    /// ```
     pub fn some(&self) -> bool
         ensures value { result ≡ (list_any (λ b. b) (row A.Store.BitStore O.BitOrder (A.words self.now)) && not (list_all (λ b. b) (row A.Store.BitStore O.BitOrder (A.words self.now)))) }
         ensures one { IsTrue result → SomeIndex (row A.Store.BitStore O.BitOrder (A.words self.now)) (λ i. slice_get (row A.Store.BitStore O.BitOrder (A.words self.now)) i ≡ Some true) }
@@ -155,6 +207,10 @@ impl<A: BitWords, O: BitOrder> BitArray<A, O> {
     }
 
     /// The indices of the bits that are true, ascending, from both ends. A step reads 64 bits at a time.
+    ///
+    /// ```text
+    /// of 01101001: bits.iter_ones() gives 1, 2, 4, 7
+    /// ```
     pub fn iter_ones(&self) -> IterOnes<'_, A::Store, O>
         ensures list { ones_left result ≡ ones_of (row A.Store.BitStore O.BitOrder (A.words self.now)) }
         ensures count { length (ones_left result) ≡ count_by (λ b. b) (row A.Store.BitStore O.BitOrder (A.words self.now)) }
@@ -168,6 +224,10 @@ impl<A: BitWords, O: BitOrder> BitArray<A, O> {
     }
 
     /// The indices of the bits that are false, ascending, from both ends. A step reads 64 bits at a time.
+    ///
+    /// ```text
+    /// of 01101001: bits.iter_zeros() gives 0, 3, 5, 6
+    /// ```
     pub fn iter_zeros(&self) -> IterZeros<'_, A::Store, O>
         ensures list { zeros_left result ≡ zeros_of (row A.Store.BitStore O.BitOrder (A.words self.now)) }
         ensures count { length (zeros_left result) ≡ count_by not (row A.Store.BitStore O.BitOrder (A.words self.now)) }
@@ -182,6 +242,10 @@ impl<A: BitWords, O: BitOrder> BitArray<A, O> {
 
     /// The first index from which on the bits of `other` stand, of any word type and order. None exactly where
     /// they stand nowhere. Each index is tried, 64 bits at a time, up to the first that differs.
+    ///
+    /// ```text
+    /// of 01101001 and 001: bits.find(other) == Some(5)
+    /// ```
     pub fn find<U: BitStore, P: BitOrder>(&self, other: BitSlice<'_, U, P>) -> Option<usize>
         ensures inside { IfSome result (λ i. i + len_of other.entry ≤ A.Store.BITS * A.count) }
         ensures few { IfSome result (λ i. i + len_of other.entry ≤ MAX_BITS) }
@@ -193,6 +257,10 @@ impl<A: BitWords, O: BitOrder> BitArray<A, O> {
     }
 
     /// Whether the bits of `other` stand somewhere in the array.
+    ///
+    /// ```text
+    /// of 01101001 and 001: bits.contains(other) == true
+    /// ```
     pub fn contains<U: BitStore, P: BitOrder>(&self, other: BitSlice<'_, U, P>) -> bool
         ensures found { IsTrue result → ((i : ℕ) × (part (len_of other.entry) (row A.Store.BitStore O.BitOrder (A.words self.now)) i ≡ list_of other.entry)) }
         ensures none { (j : ℕ) → j + len_of other.entry ≤ A.Store.BITS * A.count → part (len_of other.entry) (row A.Store.BitStore O.BitOrder (A.words self.now)) j ≡ list_of other.entry → IsTrue result }

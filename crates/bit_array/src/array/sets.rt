@@ -13,6 +13,10 @@ use bit_slice::BitSlice;
 impl<A: BitWords, O: BitOrder> BitArray<A, O> {
     /// Whether each index that is true is true in `other`, 64 at a time. An index that `other` is too short for
     /// is false there.
+    ///
+    /// ```text
+    /// of 01101001 and 01101111: bits.is_subset(other) == true
+    /// ```
     pub fn is_subset<U: BitStore, P: BitOrder>(&self, other: BitSlice<'_, U, P>) -> bool
         ensures value { result ≡ not (list_any (λ b. b) (and_not_of (row A.Store.BitStore O.BitOrder (A.words self.now)) (list_of other.entry))) }
         ensures index { IsTrue result ↔ ((j : ℕ) → slice_get (row A.Store.BitStore O.BitOrder (A.words self.now)) j ≡ Some true → slice_get (list_of other.entry) j ≡ Some true) }
@@ -22,6 +26,10 @@ impl<A: BitWords, O: BitOrder> BitArray<A, O> {
     }
 
     /// Whether each index that is true in `other` is true, 64 at a time.
+    ///
+    /// ```text
+    /// of 01101001 and 01000001: bits.is_superset(other) == true
+    /// ```
     pub fn is_superset<U: BitStore, P: BitOrder>(&self, other: BitSlice<'_, U, P>) -> bool
         ensures value { result ≡ not (list_any (λ b. b) (and_not_of (list_of other.entry) (row A.Store.BitStore O.BitOrder (A.words self.now)))) }
         ensures index { IsTrue result ↔ ((j : ℕ) → slice_get (list_of other.entry) j ≡ Some true → slice_get (row A.Store.BitStore O.BitOrder (A.words self.now)) j ≡ Some true) }
@@ -31,6 +39,10 @@ impl<A: BitWords, O: BitOrder> BitArray<A, O> {
     }
 
     /// Whether no index is true both here and in `other`, 64 at a time.
+    ///
+    /// ```text
+    /// of 01101001 and 10010110: bits.is_disjoint(other) == true
+    /// ```
     pub fn is_disjoint<U: BitStore, P: BitOrder>(&self, other: BitSlice<'_, U, P>) -> bool
         ensures value { result ≡ not (list_any (λ b. b) (and_of (row A.Store.BitStore O.BitOrder (A.words self.now)) (list_of other.entry))) }
         ensures index { IsTrue result ↔ ((j : ℕ) → slice_get (row A.Store.BitStore O.BitOrder (A.words self.now)) j ≡ Some true → slice_get (list_of other.entry) j ≢ Some true) }
@@ -39,6 +51,10 @@ impl<A: BitWords, O: BitOrder> BitArray<A, O> {
     }
 
     /// Whether an index is true both here and in `other`, 64 at a time.
+    ///
+    /// ```text
+    /// of 01101001 and 11110000: bits.intersects(other) == true
+    /// ```
     pub fn intersects<U: BitStore, P: BitOrder>(&self, other: BitSlice<'_, U, P>) -> bool
         ensures value { result ≡ list_any (λ b. b) (and_of (row A.Store.BitStore O.BitOrder (A.words self.now)) (list_of other.entry)) }
         ensures index { IsTrue result ↔ SomeIndex (row A.Store.BitStore O.BitOrder (A.words self.now)) (λ j. (slice_get (row A.Store.BitStore O.BitOrder (A.words self.now)) j ≡ Some true) × (slice_get (list_of other.entry) j ≡ Some true)) }
@@ -47,6 +63,10 @@ impl<A: BitWords, O: BitOrder> BitArray<A, O> {
     }
 
     /// How many indices are true both here and in `other`, 64 at a time.
+    ///
+    /// ```text
+    /// of 01101001 and 11110000: bits.count_and(other) == 2
+    /// ```
     pub fn count_and<U: BitStore, P: BitOrder>(&self, other: BitSlice<'_, U, P>) -> usize
         ensures value { result ≡ count_by (λ b. b) (and_of (row A.Store.BitStore O.BitOrder (A.words self.now)) (list_of other.entry)) }
         ensures few { result ≤ A.Store.BITS * A.count }
@@ -56,6 +76,10 @@ impl<A: BitWords, O: BitOrder> BitArray<A, O> {
 
     /// How many indices are true here or in `other`, 64 at a time. The shorter list counts as filled up with
     /// false.
+    ///
+    /// ```text
+    /// of 01101001 and 11110000: bits.count_or(other) == 6
+    /// ```
     pub fn count_or<U: BitStore, P: BitOrder>(&self, other: BitSlice<'_, U, P>) -> usize
         ensures value { result ≡ count_by (λ b. b) (or_of (row A.Store.BitStore O.BitOrder (A.words self.now)) (list_of other.entry)) + count_by (λ b. b) (drop (A.Store.BITS * A.count) (list_of other.entry)) }
         ensures with_and { result + count_by (λ b. b) (and_of (row A.Store.BitStore O.BitOrder (A.words self.now)) (list_of other.entry)) ≡ count_by (λ b. b) (row A.Store.BitStore O.BitOrder (A.words self.now)) + count_by (λ b. b) (list_of other.entry) }
@@ -65,6 +89,10 @@ impl<A: BitWords, O: BitOrder> BitArray<A, O> {
 
     /// How many indices differ from those of `other`, 64 at a time. The shorter list counts as filled up with
     /// false.
+    ///
+    /// ```text
+    /// of 01101001 and 11110000: bits.count_xor(other) == 4
+    /// ```
     pub fn count_xor<U: BitStore, P: BitOrder>(&self, other: BitSlice<'_, U, P>) -> usize
         ensures value { result ≡ count_by (λ b. b) (xor_of (row A.Store.BitStore O.BitOrder (A.words self.now)) (list_of other.entry)) + count_by (λ b. b) (drop (A.Store.BITS * A.count) (list_of other.entry)) }
         ensures with_and { result + 2 * count_by (λ b. b) (and_of (row A.Store.BitStore O.BitOrder (A.words self.now)) (list_of other.entry)) ≡ count_by (λ b. b) (row A.Store.BitStore O.BitOrder (A.words self.now)) + count_by (λ b. b) (list_of other.entry) }

@@ -17,6 +17,10 @@ use bit_slice::BitSlice;
 
 impl<A: BitWords, O: BitOrder> BitArray<A, O> {
     /// How many bits the array has.
+    ///
+    /// ```text
+    /// of 01101001: bits.len() == 8
+    /// ```
     pub fn len(&self) -> usize
         ensures value { result ≡ A.Store.BITS * A.count }
         ensures list { result ≡ length (row A.Store.BitStore O.BitOrder (A.words self.now)) }
@@ -26,6 +30,10 @@ impl<A: BitWords, O: BitOrder> BitArray<A, O> {
     }
 
     /// Whether the array has no bit.
+    ///
+    /// ```text
+    /// of 01101001: bits.is_empty() == false
+    /// ```
     pub fn is_empty(&self) -> bool
         ensures { IsTrue result ↔ (A.Store.BITS * A.count ≡ 0) }
     {
@@ -33,6 +41,10 @@ impl<A: BitWords, O: BitOrder> BitArray<A, O> {
     }
 
     /// The head, which is 0.
+    ///
+    /// ```text
+    /// of 01101001: bits.head() == 0
+    /// ```
     pub fn head(&self) -> usize
         ensures { result ≡ 0 }
     {
@@ -40,6 +52,10 @@ impl<A: BitWords, O: BitOrder> BitArray<A, O> {
     }
 
     /// The bit at `i`. None exactly where `i` is the length or more.
+    ///
+    /// ```text
+    /// of 01101001: bits.get(1) == Some(true)
+    /// ```
     #[tactic(auto, using(bit_slice::proofs::Parts::shown_length))]
     pub fn get(&self, i: usize) -> Option<bool>
         ensures value { result ≡ slice_get (row A.Store.BitStore O.BitOrder (A.words self.now)) i }
@@ -49,6 +65,10 @@ impl<A: BitWords, O: BitOrder> BitArray<A, O> {
     }
 
     /// The view of the bits at a range of indices, for reading. Requires that the range lies in the length.
+    ///
+    /// ```text
+    /// of 01101001: bits.get_range(1..5) shows 1101
+    /// ```
     pub fn get_range<R: RangeExt>(&self, range: R) -> BitSlice<'_, A::Store, O>
         requires lies { LiesIn (R.start_of range) (R.end_of range (A.Store.BITS * A.count)) (A.Store.BITS * A.count) }
         ensures list { list_of result ≡ slice_range (row A.Store.BitStore O.BitOrder (A.words self.now)) (R.start_of range) (R.end_of range (A.Store.BITS * A.count)) }
@@ -60,6 +80,10 @@ impl<A: BitWords, O: BitOrder> BitArray<A, O> {
     }
 
     /// The first bit. None exactly where the array is empty.
+    ///
+    /// ```text
+    /// of 01101001: bits.first() == Some(false)
+    /// ```
     pub fn first(&self) -> Option<bool>
         ensures { result ≡ slice_get (row A.Store.BitStore O.BitOrder (A.words self.now)) 0 }
     {
@@ -67,6 +91,10 @@ impl<A: BitWords, O: BitOrder> BitArray<A, O> {
     }
 
     /// The last bit. None exactly where the array is empty.
+    ///
+    /// ```text
+    /// of 01101001: bits.last() == Some(true)
+    /// ```
     pub fn last(&self) -> Option<bool>
         ensures { result ≡ slice_get (row A.Store.BitStore O.BitOrder (A.words self.now)) (A.Store.BITS * A.count - 1) }
     {
@@ -74,6 +102,10 @@ impl<A: BitWords, O: BitOrder> BitArray<A, O> {
     }
 
     /// How many bits are true.
+    ///
+    /// ```text
+    /// of 01101001: bits.count_ones() == 4
+    /// ```
     pub fn count_ones(&self) -> usize
         ensures value { result ≡ count_by (λ bit. bit) (row A.Store.BitStore O.BitOrder (A.words self.now)) }
         ensures few { result ≤ A.Store.BITS * A.count }
@@ -82,6 +114,10 @@ impl<A: BitWords, O: BitOrder> BitArray<A, O> {
     }
 
     /// How many bits are false.
+    ///
+    /// ```text
+    /// of 01101001: bits.count_zeros() == 4
+    /// ```
     pub fn count_zeros(&self) -> usize
         ensures value { result ≡ count_by not (row A.Store.BitStore O.BitOrder (A.words self.now)) }
         ensures with_ones { result + count_by (λ bit. bit) (row A.Store.BitStore O.BitOrder (A.words self.now)) ≡ length (row A.Store.BitStore O.BitOrder (A.words self.now)) }
@@ -91,6 +127,10 @@ impl<A: BitWords, O: BitOrder> BitArray<A, O> {
     }
 
     /// Whether some bit is true. Of an empty array it is false.
+    ///
+    /// ```text
+    /// of 01101001: bits.any() == true
+    /// ```
     pub fn any(&self) -> bool
         ensures value { result ≡ list_any (λ bit. bit) (row A.Store.BitStore O.BitOrder (A.words self.now)) }
         ensures index { IsTrue result ↔ SomeIndex (row A.Store.BitStore O.BitOrder (A.words self.now)) (λ i. slice_get (row A.Store.BitStore O.BitOrder (A.words self.now)) i ≡ Some true) }
@@ -99,6 +139,10 @@ impl<A: BitWords, O: BitOrder> BitArray<A, O> {
     }
 
     /// Whether every bit is true. Of an empty array it is true.
+    ///
+    /// ```text
+    /// of 01101001: bits.all() == false
+    /// ```
     pub fn all(&self) -> bool
         ensures value { result ≡ list_all (λ bit. bit) (row A.Store.BitStore O.BitOrder (A.words self.now)) }
         ensures index { IsTrue result ↔ EachIndex (row A.Store.BitStore O.BitOrder (A.words self.now)) (λ i. slice_get (row A.Store.BitStore O.BitOrder (A.words self.now)) i ≡ Some true) }
@@ -109,6 +153,10 @@ impl<A: BitWords, O: BitOrder> BitArray<A, O> {
 
 impl<A: BitViewSized, O: BitOrder> BitArray<A, O> {
     /// Writes the bit at `i`, and no other bit. Requires that `i` is below the length.
+    ///
+    /// ```text
+    /// of 01101001: bits.set(0, true) leaves 11101001
+    /// ```
     #[tactic(auto, using(bit_slice::proofs::Parts::row_size))]
     pub fn set(&mut self, i: usize, bit: bool)
         requires { i < A.Store.BITS * A.count }
@@ -119,6 +167,10 @@ impl<A: BitViewSized, O: BitOrder> BitArray<A, O> {
     }
 
     /// Writes the bit at `i`, and returns the one that was there. Requires that `i` is below the length.
+    ///
+    /// ```text
+    /// of 01101001: bits.replace(0, true) == false
+    /// ```
     pub fn replace(&mut self, i: usize, bit: bool) -> bool
         requires { i < A.Store.BITS * A.count }
         ensures old { slice_get (row A.Store.BitStore O.BitOrder (A.words self.old)) i ≡ Some result }
@@ -130,6 +182,10 @@ impl<A: BitViewSized, O: BitOrder> BitArray<A, O> {
     }
 
     /// Swaps the bits at `i` and `j`, and changes no other bit. Requires that both are below the length.
+    ///
+    /// ```text
+    /// of 01101001: bits.swap(0, 1) leaves 10101001
+    /// ```
     pub fn swap(&mut self, i: usize, j: usize)
         requires first { i < A.Store.BITS * A.count }
         requires second { j < A.Store.BITS * A.count }
@@ -139,6 +195,10 @@ impl<A: BitViewSized, O: BitOrder> BitArray<A, O> {
     }
 
     /// Makes every bit `bit`.
+    ///
+    /// ```text
+    /// of 01101001: bits.fill(true) leaves 11111111
+    /// ```
     pub fn fill(&mut self, bit: bool)
         ensures { row A.Store.BitStore O.BitOrder (A.words self.new) ≡ replicate (A.Store.BITS * A.count) bit }
     {
@@ -148,6 +208,10 @@ impl<A: BitViewSized, O: BitOrder> BitArray<A, O> {
 
     /// Copies the bits of a range to index `dest`, as if they were copied out first. No other bit changes. Requires
     /// that the range lies in the length and that its bits have room from `dest` on.
+    ///
+    /// ```text
+    /// of 01101001: bits.copy_within(2..5, 0) leaves 10101001
+    /// ```
     pub fn copy_within<R: RangeExt>(&mut self, range: R, dest: usize)
         requires lies { LiesIn (R.start_of range) (R.end_of range (A.Store.BITS * A.count)) (A.Store.BITS * A.count) }
         requires room { dest + (R.end_of range (A.Store.BITS * A.count) - R.start_of range) ≤ A.Store.BITS * A.count }
@@ -179,6 +243,10 @@ impl<A: BitViewSized, O: BitOrder> BitArray<A, O> {
 
     /// Writes the bits of a view, by whatever words and order, over those of the array. Requires that the view
     /// has as many bits as the array.
+    ///
+    /// ```text
+    /// of 01101001 and 01010101: bits.clone_from_bitslice(other) leaves 01010101
+    /// ```
     pub fn clone_from_bitslice<U: BitStore, P: BitOrder>(&mut self, source: BitSlice<'_, U, P>)
         requires { len_of source ≡ A.Store.BITS * A.count }
         ensures { row A.Store.BitStore O.BitOrder (A.words self.new) ≡ list_of source.entry }

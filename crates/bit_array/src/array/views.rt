@@ -14,6 +14,10 @@ use bit_slice::{BitSlice, BitSliceMut};
 
 impl<A: BitWords, O: BitOrder> BitArray<A, O> {
     /// The view of the array's bits, for reading.
+    ///
+    /// ```text
+    /// of 01101001: bits.as_bitslice() shows 01101001
+    /// ```
     pub fn as_bitslice(&self) -> BitSlice<'_, A::Store, O>
         ensures words { words_of result ≡ A.words self.now }
         ensures head { head_of result ≡ 0 }
@@ -24,6 +28,10 @@ impl<A: BitWords, O: BitOrder> BitArray<A, O> {
     }
 
     /// Like `as_bitslice`.
+    ///
+    /// ```text
+    /// of 01101001: bits.as_slice() shows 01101001
+    /// ```
     pub fn as_slice(&self) -> BitSlice<'_, A::Store, O>
         ensures words { words_of result ≡ A.words self.now }
         ensures head { head_of result ≡ 0 }

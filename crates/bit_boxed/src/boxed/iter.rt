@@ -23,6 +23,10 @@ use std::marker::Model;
 
 impl<T: BitStore, O: BitOrder> BitBox<T, O> {
     /// The bits in order, from both ends.
+    ///
+    /// ```text
+    /// of 01101001: bits.iter() gives false, true, true, false, true, false, false, true
+    /// ```
     pub fn iter(&self) -> Iter<'_, T, O>
         ensures list { rest_lent result ≡ self.now.list }
         ensures few { length (rest_lent result) ≤ MAX_BITS }

@@ -13,6 +13,10 @@ use bit_slice::{
 
 impl<T: BitStore, O: BitOrder> BitBox<T, O> {
     /// Reverses the list. No dead bit changes. Takes no memory.
+    ///
+    /// ```text
+    /// of 01101001: bits.reverse() leaves 10010110
+    /// ```
     #[tactic(auto, using(bit_slice::proofs::Parts::shown_length))]
     pub fn reverse(&mut self)
         ensures list { self.new.list ≡ reverse self.old.list }
@@ -26,6 +30,10 @@ impl<T: BitStore, O: BitOrder> BitBox<T, O> {
 
     /// Moves the first `by` bits after the others. No dead bit changes. Takes no memory. Requires that `by` is at
     /// most the length.
+    ///
+    /// ```text
+    /// of 01101001: bits.rotate_left(2) leaves 10100101
+    /// ```
     #[tactic(auto, using(bit_slice::proofs::Parts::shown_length))]
     pub fn rotate_left(&mut self, by: usize)
         requires { by ≤ length self.old.list }
@@ -40,6 +48,10 @@ impl<T: BitStore, O: BitOrder> BitBox<T, O> {
 
     /// Moves the last `by` bits before the others. No dead bit changes. Takes no memory. Requires that `by` is at
     /// most the length.
+    ///
+    /// ```text
+    /// of 01101001: bits.rotate_right(2) leaves 01011010
+    /// ```
     #[tactic(auto, using(bit_slice::proofs::Parts::shown_length))]
     pub fn rotate_right(&mut self, by: usize)
         requires { by ≤ length self.old.list }
@@ -54,6 +66,10 @@ impl<T: BitStore, O: BitOrder> BitBox<T, O> {
 
     /// Moves each bit `by` indices towards the front: the first `by` go, and the last `by` are false. No dead bit
     /// changes. Takes no memory. Requires that `by` is at most the length.
+    ///
+    /// ```text
+    /// of 01101001: bits.shift_left(2) leaves 10100100
+    /// ```
     #[tactic(auto, using(bit_slice::proofs::Parts::shown_length))]
     pub fn shift_left(&mut self, by: usize)
         requires { by ≤ length self.old.list }
@@ -68,6 +84,10 @@ impl<T: BitStore, O: BitOrder> BitBox<T, O> {
 
     /// Moves each bit `by` indices towards the end: the last `by` go, and the first `by` are false. No dead bit
     /// changes. Takes no memory. Requires that `by` is at most the length.
+    ///
+    /// ```text
+    /// of 01101001: bits.shift_right(2) leaves 00011010
+    /// ```
     #[tactic(auto, using(bit_slice::proofs::Parts::shown_length))]
     pub fn shift_right(&mut self, by: usize)
         requires { by ≤ length self.old.list }
@@ -98,6 +118,10 @@ impl<T: BitStore, O: BitOrder> BitBox<T, O> {
     /// Clears each of the bits from `dest` on that is false at its index of a range, as if the range was
     /// read before any bit is written. The two may overlap. Takes no memory. Requires that the range lies in the
     /// length, and as many bits from `dest` on.
+    ///
+    /// ```text
+    /// of 01101001: bits.and_within(4..8, 0) leaves 00001001
+    /// ```
     pub fn and_within<R: RangeExt>(&mut self, range: R, dest: usize)
         requires lies { LiesIn (R.start_of range) (R.end_of range (length self.old.list)) (length self.old.list) }
         requires room { dest + (R.end_of range (length self.old.list) - R.start_of range) ≤ length self.old.list }
@@ -112,6 +136,10 @@ impl<T: BitStore, O: BitOrder> BitBox<T, O> {
     /// Sets each of the bits from `dest` on that is true at its index of a range, as if the range was
     /// read before any bit is written. The two may overlap. Takes no memory. Requires that the range lies in the
     /// length, and as many bits from `dest` on.
+    ///
+    /// ```text
+    /// of 01101001: bits.or_within(4..8, 0) leaves 11111001
+    /// ```
     pub fn or_within<R: RangeExt>(&mut self, range: R, dest: usize)
         requires lies { LiesIn (R.start_of range) (R.end_of range (length self.old.list)) (length self.old.list) }
         requires room { dest + (R.end_of range (length self.old.list) - R.start_of range) ≤ length self.old.list }
@@ -126,6 +154,10 @@ impl<T: BitStore, O: BitOrder> BitBox<T, O> {
     /// Flips each of the bits from `dest` on that is true at its index of a range, as if the range was
     /// read before any bit is written. The two may overlap. Takes no memory. Requires that the range lies in the
     /// length, and as many bits from `dest` on.
+    ///
+    /// ```text
+    /// of 01101001: bits.xor_within(4..8, 0) leaves 11111001
+    /// ```
     pub fn xor_within<R: RangeExt>(&mut self, range: R, dest: usize)
         requires lies { LiesIn (R.start_of range) (R.end_of range (length self.old.list)) (length self.old.list) }
         requires room { dest + (R.end_of range (length self.old.list) - R.start_of range) ≤ length self.old.list }

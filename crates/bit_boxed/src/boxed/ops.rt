@@ -14,6 +14,10 @@ use std::ops::{BitAnd, BitAndAssign, BitOr, BitOrAssign, BitXor, BitXorAssign, I
 impl<T: BitStore, O: BitOrder> BitBox<T, O> {
     /// Whether the box and a view, whose words and order may be others, have the same bits. Heads and dead
     /// bits don't count.
+    ///
+    /// ```text
+    /// of 01101001 and 01101001: bits.eq_bits(other) == true
+    /// ```
     pub fn eq_bits<U: BitStore, P: BitOrder>(&self, other: BitSlice<'_, U, P>) -> bool
         ensures { IsTrue result ↔ (self.now.list ≡ list_of other.entry) }
     {
@@ -22,6 +26,10 @@ impl<T: BitStore, O: BitOrder> BitBox<T, O> {
 
     /// How the bits of the box and those of a view are ordered: the first that differ decide, false before
     /// true, and where none do the shorter comes first.
+    ///
+    /// ```text
+    /// of 01101001 and 0111: bits.cmp_bits(other) == Ordering::Less
+    /// ```
     pub fn cmp_bits<U: BitStore, P: BitOrder>(&self, other: BitSlice<'_, U, P>) -> Ordering
         ensures { result ≡ bits_cmp self.now.list (list_of other.entry) }
     {
@@ -46,6 +54,10 @@ impl<T: BitStore, O: BitOrder> BitBox<T, O> {
 
     /// Clears each bit that is false in a view, or that the view is too short for. No dead bit changes. Takes
     /// no memory.
+    ///
+    /// ```text
+    /// of 01101001 and 01010101: bits.and_bits(other) leaves 01000001
+    /// ```
     pub fn and_bits<U: BitStore, P: BitOrder>(&mut self, other: BitSlice<'_, U, P>)
         ensures list { self.new.list ≡ and_of self.old.list (list_of other.entry) }
         ensures index { AndsEach self.old.list (list_of other.entry) self.new.list }
@@ -58,6 +70,10 @@ impl<T: BitStore, O: BitOrder> BitBox<T, O> {
 
     /// Sets each bit that is true in a view; bits of the view past the length don't count. No dead bit changes.
     /// Takes no memory.
+    ///
+    /// ```text
+    /// of 01101001 and 01010101: bits.or_bits(other) leaves 01111101
+    /// ```
     pub fn or_bits<U: BitStore, P: BitOrder>(&mut self, other: BitSlice<'_, U, P>)
         ensures list { self.new.list ≡ or_of self.old.list (list_of other.entry) }
         ensures index { OrsEach self.old.list (list_of other.entry) self.new.list }
@@ -70,6 +86,10 @@ impl<T: BitStore, O: BitOrder> BitBox<T, O> {
 
     /// Flips each bit that is true in a view; bits of the view past the length don't count. No dead bit
     /// changes. Takes no memory.
+    ///
+    /// ```text
+    /// of 01101001 and 01010101: bits.xor_bits(other) leaves 00111100
+    /// ```
     pub fn xor_bits<U: BitStore, P: BitOrder>(&mut self, other: BitSlice<'_, U, P>)
         ensures list { self.new.list ≡ xor_of self.old.list (list_of other.entry) }
         ensures index { XorsEach self.old.list (list_of other.entry) self.new.list }
@@ -81,6 +101,10 @@ impl<T: BitStore, O: BitOrder> BitBox<T, O> {
     }
 
     /// Flips every bit of all the words, dead bits included.
+    ///
+    /// ```text
+    /// of 01101001: bits.flip_all() leaves 10010110
+    /// ```
     #[tactic(auto, using(bit_slice::proofs::Parts::shown_length, bit_slice::proofs::Rules::item_of_not))]
     pub fn flip_all(&mut self)
         ensures list { self.new.list ≡ map not self.old.list }

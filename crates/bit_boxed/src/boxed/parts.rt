@@ -16,6 +16,10 @@ impl<T: BitStore, O: BitOrder> BitBox<T, O> {
 
     /// The views of the bits before index `mid`, and of those from it on. Requires that `mid` is at most the
     /// length.
+    ///
+    /// ```text
+    /// of 01101001: bits.split_at(3).1 shows 01001
+    /// ```
     pub fn split_at(&self, mid: usize) -> (BitSlice<'_, T, O>, BitSlice<'_, T, O>)
         requires { mid ≤ length self.now.list }
         ensures front { list_of result.0 ≡ take mid self.now.list }
@@ -46,6 +50,10 @@ impl<T: BitStore, O: BitOrder> BitBox<T, O> {
     }
 
     /// Whether the box begins with the bits of `other`.
+    ///
+    /// ```text
+    /// of 01101001 and 0110: bits.starts_with(other) == true
+    /// ```
     pub fn starts_with<U: BitStore, P: BitOrder>(&self, other: BitSlice<'_, U, P>) -> bool
         ensures { IsTrue result ↔ (take (len_of other.entry) self.now.list ≡ list_of other.entry) }
     {
@@ -53,6 +61,10 @@ impl<T: BitStore, O: BitOrder> BitBox<T, O> {
     }
 
     /// Whether the box ends with the bits of `other`.
+    ///
+    /// ```text
+    /// of 01101001 and 001: bits.ends_with(other) == true
+    /// ```
     pub fn ends_with<U: BitStore, P: BitOrder>(&self, other: BitSlice<'_, U, P>) -> bool
         ensures { IsTrue result ↔ (drop (length self.now.list - len_of other.entry) self.now.list ≡ list_of other.entry) }
     {
@@ -61,6 +73,10 @@ impl<T: BitStore, O: BitOrder> BitBox<T, O> {
 
     /// The view of the chunk of number `k`, of `size` bits: that which `chunks(size)` gives after `k` others.
     /// Requires that it begins before the end.
+    ///
+    /// ```text
+    /// of 01101001: bits.chunk(3, 1) shows 010
+    /// ```
     pub fn chunk(&self, size: usize, k: usize) -> BitSlice<'_, T, O>
         requires some { 0 < size }
         requires begins { k * size < length self.now.list }
@@ -72,6 +88,10 @@ impl<T: BitStore, O: BitOrder> BitBox<T, O> {
 
     /// Views of the parts of `size` bits side by side, from the front and from the end. The last has the bits
     /// that are left, so it may be shorter. Requires that `size` is not 0.
+    ///
+    /// ```text
+    /// of 01101001: bits.chunks(3).len() == 3
+    /// ```
     pub fn chunks(&self, size: usize) -> Chunks<'_, T, O>
         requires some { 0 < size }
         ensures list { chunks_left result ≡ chunks_of size self.now.list }
@@ -84,6 +104,10 @@ impl<T: BitStore, O: BitOrder> BitBox<T, O> {
 
     /// Views of the parts of `size` bits side by side, from the front and from the end, as many as have that
     /// many bits. Those that are left are the iterator's `remainder`. Requires that `size` is not 0.
+    ///
+    /// ```text
+    /// of 01101001: bits.chunks_exact(3).len() == 2
+    /// ```
     pub fn chunks_exact(&self, size: usize) -> ChunksExact<'_, T, O>
         requires some { 0 < size }
         ensures list { exact_chunks_left result ≡ exact_chunks_of size self.now.list }
@@ -96,6 +120,10 @@ impl<T: BitStore, O: BitOrder> BitBox<T, O> {
 
     /// Views of the parts of `size` bits side by side, beginning at the end. The last, at the front, has the
     /// bits that are left, so it may be shorter. Requires that `size` is not 0.
+    ///
+    /// ```text
+    /// of 01101001: bits.rchunks(3).len() == 3
+    /// ```
     pub fn rchunks(&self, size: usize) -> RChunks<'_, T, O>
         requires some { 0 < size }
         ensures list { back_chunks_left result ≡ back_chunks_of size self.now.list }
@@ -108,6 +136,10 @@ impl<T: BitStore, O: BitOrder> BitBox<T, O> {
 
     /// Views of each `size` neighbouring bits. There are none where the box is shorter. Requires that `size` is
     /// not 0.
+    ///
+    /// ```text
+    /// of 01101001: bits.windows(3).len() == 6
+    /// ```
     pub fn windows(&self, size: usize) -> Windows<'_, T, O>
         requires some { 0 < size }
         ensures list { windows_left result ≡ windows_of size self.now.list }
@@ -120,6 +152,10 @@ impl<T: BitStore, O: BitOrder> BitBox<T, O> {
 
     /// The number whose least significant bit is the first of the list, and whose next bits are the next of it,
     /// whatever the order of bits in a word. Requires at most 64 bits.
+    ///
+    /// ```text
+    /// of 01101001: bits.load_le() == 150
+    /// ```
     pub fn load_le(&self) -> u64
         requires { length self.now.list ≤ 64 }
         ensures value { result ≡ number_of self.now.list }
@@ -130,6 +166,10 @@ impl<T: BitStore, O: BitOrder> BitBox<T, O> {
 
     /// The number that the bits of the list write in binary, the first the most significant, whatever the order
     /// of bits in a word. Requires at most 64 bits.
+    ///
+    /// ```text
+    /// of 01101001: bits.load_be() == 105
+    /// ```
     pub fn load_be(&self) -> u64
         requires { length self.now.list ≤ 64 }
         ensures value { result ≡ value self.now.list }

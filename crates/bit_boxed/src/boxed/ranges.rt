@@ -17,6 +17,10 @@ use bit_slice::{
 impl<T: BitStore, O: BitOrder> BitBox<T, O> {
     /// Writes `bit` at each index of a range, and no other bit. Takes no memory. Requires that the range lies in
     /// the length.
+    ///
+    /// ```text
+    /// of 01101001: bits.fill_range(2..6, true) leaves 01111101
+    /// ```
     #[tactic(auto, using(bit_slice::proofs::Parts::shown_length))]
     pub fn fill_range<R: RangeExt>(&mut self, range: R, bit: bool)
         requires lies { LiesIn (R.start_of range) (R.end_of range (length self.old.list)) (length self.old.list) }
@@ -31,6 +35,10 @@ impl<T: BitStore, O: BitOrder> BitBox<T, O> {
 
     /// Flips the bit at each index of a range, and no other bit. Takes no memory. Requires that the range lies in
     /// the length.
+    ///
+    /// ```text
+    /// of 01101001: bits.flip_range(1..4) leaves 00011001
+    /// ```
     #[tactic(auto, using(bit_slice::proofs::Parts::shown_length))]
     pub fn flip_range<R: RangeExt>(&mut self, range: R)
         requires lies { LiesIn (R.start_of range) (R.end_of range (length self.old.list)) (length self.old.list) }
@@ -44,6 +52,10 @@ impl<T: BitStore, O: BitOrder> BitBox<T, O> {
     }
 
     /// Flips the bit at `i`, and no other bit. Takes no memory. Requires that `i` is below the length.
+    ///
+    /// ```text
+    /// of 01101001: bits.flip(2) leaves 01001001
+    /// ```
     pub fn flip(&mut self, i: usize)
         requires { i < length self.old.list }
         ensures list { self.new.list ≡ set self.old.list i (not (slice_index_or self.old.list i false)) }
@@ -57,6 +69,10 @@ impl<T: BitStore, O: BitOrder> BitBox<T, O> {
     }
 
     /// Clears each bit that is true in a view. No dead bit changes. Takes no memory.
+    ///
+    /// ```text
+    /// of 01101001 and 01010101: bits.and_not_bits(other) leaves 00101000
+    /// ```
     pub fn and_not_bits<U: BitStore, P: BitOrder>(&mut self, other: BitSlice<'_, U, P>)
         ensures list { self.new.list ≡ and_not_of self.old.list (list_of other.entry) }
         ensures row { self.new.row ≡ put self.old.row self.old.head (and_not_of self.old.list (list_of other.entry)) }
@@ -68,6 +84,10 @@ impl<T: BitStore, O: BitOrder> BitBox<T, O> {
 
     /// Writes the bits of a view, by whatever words and order, at the indices of a range, and no other bit. Takes
     /// no memory. Requires that the range lies in the length, and is as long as the view.
+    ///
+    /// ```text
+    /// of 01101001 and 0101: bits.copy_into(1..5, other) leaves 00101001
+    /// ```
     #[tactic(auto, using(bit_slice::proofs::Parts::shown_length))]
     pub fn copy_into<R: RangeExt, U: BitStore, P: BitOrder>(
         &mut self,
@@ -106,6 +126,10 @@ impl<T: BitStore, O: BitOrder> BitBox<T, O> {
     /// Clears each bit at the indices of a range that is false in a view, or that the view is too short for: the
     /// first bit of the view is for the first of the range. Takes no memory. Requires that the range lies in the
     /// length.
+    ///
+    /// ```text
+    /// of 01101001 and 0101: bits.and_range(1..5, other) leaves 00101001
+    /// ```
     pub fn and_range<R: RangeExt, U: BitStore, P: BitOrder>(
         &mut self,
         range: R,
@@ -122,6 +146,10 @@ impl<T: BitStore, O: BitOrder> BitBox<T, O> {
 
     /// Sets each bit at the indices of a range that is true in a view: the first bit of the view is for the first
     /// of the range. Takes no memory. Requires that the range lies in the length.
+    ///
+    /// ```text
+    /// of 01101001 and 0101: bits.or_range(1..5, other) leaves 01101001
+    /// ```
     pub fn or_range<R: RangeExt, U: BitStore, P: BitOrder>(
         &mut self,
         range: R,
@@ -138,6 +166,10 @@ impl<T: BitStore, O: BitOrder> BitBox<T, O> {
 
     /// Flips each bit at the indices of a range that is true in a view: the first bit of the view is for the first
     /// of the range. Takes no memory. Requires that the range lies in the length.
+    ///
+    /// ```text
+    /// of 01101001 and 0101: bits.xor_range(1..5, other) leaves 01000001
+    /// ```
     pub fn xor_range<R: RangeExt, U: BitStore, P: BitOrder>(
         &mut self,
         range: R,
@@ -154,6 +186,10 @@ impl<T: BitStore, O: BitOrder> BitBox<T, O> {
 
     /// Writes the lowest bits of a number over the list, the least significant first. No dead bit changes. Takes
     /// no memory. Requires at most 64 bits.
+    ///
+    /// ```text
+    /// of 01101001: bits.store_le(5) leaves 10100000
+    /// ```
     #[tactic(auto, using(bit_slice::proofs::Parts::shown_length))]
     pub fn store_le(&mut self, number: u64)
         requires { length self.old.list ≤ 64 }
@@ -168,6 +204,10 @@ impl<T: BitStore, O: BitOrder> BitBox<T, O> {
 
     /// Writes the lowest bits of a number over the list, the most significant first. No dead bit changes. Takes
     /// no memory. Requires at most 64 bits.
+    ///
+    /// ```text
+    /// of 01101001: bits.store_be(5) leaves 00000101
+    /// ```
     #[tactic(auto, using(bit_slice::proofs::Parts::shown_length))]
     pub fn store_be(&mut self, number: u64)
         requires { length self.old.list ≤ 64 }

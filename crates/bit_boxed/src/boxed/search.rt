@@ -16,6 +16,10 @@ impl<T: BitStore, O: BitOrder> BitBox<T, O> {
     ghost use Rattle.bit_slice.specs.Indices.{ones_left, zeros_left};
 
     /// The index of the first bit that is true. None exactly where none is.
+    ///
+    /// ```text
+    /// of 01101001: bits.first_one() == Some(1)
+    /// ```
     pub fn first_one(&self) -> Option<usize>
         ensures value { result ≡ position (λ b. b) self.now.list }
         ensures inside { IfSome result (λ i. i < length self.now.list) }
@@ -28,6 +32,10 @@ impl<T: BitStore, O: BitOrder> BitBox<T, O> {
     }
 
     /// The index of the first bit that is false. None exactly where none is.
+    ///
+    /// ```text
+    /// of 01101001: bits.first_zero() == Some(0)
+    /// ```
     pub fn first_zero(&self) -> Option<usize>
         ensures value { result ≡ position not self.now.list }
         ensures inside { IfSome result (λ i. i < length self.now.list) }
@@ -40,6 +48,10 @@ impl<T: BitStore, O: BitOrder> BitBox<T, O> {
     }
 
     /// The index of the last bit that is true. None exactly where none is.
+    ///
+    /// ```text
+    /// of 01101001: bits.last_one() == Some(7)
+    /// ```
     pub fn last_one(&self) -> Option<usize>
         ensures inside { IfSome result (λ i. i < length self.now.list) }
         ensures few { IfSome result (λ i. i < MAX_BITS) }
@@ -51,6 +63,10 @@ impl<T: BitStore, O: BitOrder> BitBox<T, O> {
     }
 
     /// The index of the last bit that is false. None exactly where none is.
+    ///
+    /// ```text
+    /// of 01101001: bits.last_zero() == Some(6)
+    /// ```
     pub fn last_zero(&self) -> Option<usize>
         ensures inside { IfSome result (λ i. i < length self.now.list) }
         ensures few { IfSome result (λ i. i < MAX_BITS) }
@@ -63,6 +79,10 @@ impl<T: BitStore, O: BitOrder> BitBox<T, O> {
 
     /// The index of the first bit from index `from` on that is true. None exactly where none is, as where
     /// `from` is the length or more.
+    ///
+    /// ```text
+    /// of 01101001: bits.next_one(3) == Some(4)
+    /// ```
     pub fn next_one(&self, from: usize) -> Option<usize>
         ensures begins { IfSome result (λ i. from ≤ i) }
         ensures inside { IfSome result (λ i. i < length self.now.list) }
@@ -76,6 +96,10 @@ impl<T: BitStore, O: BitOrder> BitBox<T, O> {
 
     /// The index of the first bit from index `from` on that is false. None exactly where none is, as where
     /// `from` is the length or more.
+    ///
+    /// ```text
+    /// of 01101001: bits.next_zero(1) == Some(3)
+    /// ```
     pub fn next_zero(&self, from: usize) -> Option<usize>
         ensures begins { IfSome result (λ i. from ≤ i) }
         ensures inside { IfSome result (λ i. i < length self.now.list) }
@@ -88,6 +112,10 @@ impl<T: BitStore, O: BitOrder> BitBox<T, O> {
     }
 
     /// How many bits at the front are true, up to the first that is false.
+    ///
+    /// ```text
+    /// of 01101001: bits.leading_ones() == 0
+    /// ```
     pub fn leading_ones(&self) -> usize
         ensures value { result ≡ prefix_len (λ b. b) self.now.list }
         ensures most { result ≤ length self.now.list }
@@ -98,6 +126,10 @@ impl<T: BitStore, O: BitOrder> BitBox<T, O> {
     }
 
     /// How many bits at the front are false, up to the first that is true.
+    ///
+    /// ```text
+    /// of 01101001: bits.leading_zeros() == 1
+    /// ```
     pub fn leading_zeros(&self) -> usize
         ensures value { result ≡ prefix_len not self.now.list }
         ensures most { result ≤ length self.now.list }
@@ -108,6 +140,10 @@ impl<T: BitStore, O: BitOrder> BitBox<T, O> {
     }
 
     /// How many bits at the end are true, after the last that is false.
+    ///
+    /// ```text
+    /// of 01101001: bits.trailing_ones() == 1
+    /// ```
     pub fn trailing_ones(&self) -> usize
         ensures value { result ≡ suffix_len (λ b. b) self.now.list }
         ensures most { result ≤ length self.now.list }
@@ -118,6 +154,10 @@ impl<T: BitStore, O: BitOrder> BitBox<T, O> {
     }
 
     /// How many bits at the end are false, after the last that is true.
+    ///
+    /// ```text
+    /// of 01101001: bits.trailing_zeros() == 0
+    /// ```
     pub fn trailing_zeros(&self) -> usize
         ensures value { result ≡ suffix_len not self.now.list }
         ensures most { result ≤ length self.now.list }
@@ -128,6 +168,10 @@ impl<T: BitStore, O: BitOrder> BitBox<T, O> {
     }
 
     /// Whether no bit is true. Of an empty box it is true.
+    ///
+    /// ```text
+    /// of 01101001: bits.not_any() == false
+    /// ```
     pub fn not_any(&self) -> bool
         ensures value { result ≡ not (list_any (λ b. b) self.now.list) }
         ensures index { IsTrue result ↔ EachIndex self.now.list (λ i. slice_get self.now.list i ≡ Some false) }
@@ -136,6 +180,10 @@ impl<T: BitStore, O: BitOrder> BitBox<T, O> {
     }
 
     /// Whether some bit is false. Of an empty box it is false.
+    ///
+    /// ```text
+    /// of 01101001: bits.not_all() == true
+    /// ```
     pub fn not_all(&self) -> bool
         ensures value { result ≡ not (list_all (λ b. b) self.now.list) }
         ensures index { IsTrue result ↔ SomeIndex self.now.list (λ i. slice_get self.now.list i ≡ Some false) }
@@ -144,6 +192,10 @@ impl<T: BitStore, O: BitOrder> BitBox<T, O> {
     }
 
     /// Whether some bit is true and some bit is false.
+    ///
+    /// ```text
+    /// of 01101001: bits.some() == true
+    /// ```
     pub fn some(&self) -> bool
         ensures value { result ≡ (list_any (λ b. b) self.now.list && not (list_all (λ b. b) self.now.list)) }
         ensures one { IsTrue result → SomeIndex self.now.list (λ i. slice_get self.now.list i ≡ Some true) }
@@ -153,6 +205,10 @@ impl<T: BitStore, O: BitOrder> BitBox<T, O> {
     }
 
     /// The indices of the bits that are true, ascending, from both ends. A step reads 64 bits at a time.
+    ///
+    /// ```text
+    /// of 01101001: bits.iter_ones() gives 1, 2, 4, 7
+    /// ```
     pub fn iter_ones(&self) -> IterOnes<'_, T, O>
         ensures list { ones_left result ≡ ones_of self.now.list }
         ensures count { length (ones_left result) ≡ count_by (λ b. b) self.now.list }
@@ -166,6 +222,10 @@ impl<T: BitStore, O: BitOrder> BitBox<T, O> {
     }
 
     /// The indices of the bits that are false, ascending, from both ends. A step reads 64 bits at a time.
+    ///
+    /// ```text
+    /// of 01101001: bits.iter_zeros() gives 0, 3, 5, 6
+    /// ```
     pub fn iter_zeros(&self) -> IterZeros<'_, T, O>
         ensures list { zeros_left result ≡ zeros_of self.now.list }
         ensures count { length (zeros_left result) ≡ count_by not self.now.list }
@@ -180,6 +240,10 @@ impl<T: BitStore, O: BitOrder> BitBox<T, O> {
 
     /// The first index from which on the bits of `other` stand, of any word type and order. None exactly where
     /// they stand nowhere. Each index is tried, 64 bits at a time, up to the first that differs.
+    ///
+    /// ```text
+    /// of 01101001 and 001: bits.find(other) == Some(5)
+    /// ```
     pub fn find<U: BitStore, P: BitOrder>(&self, other: BitSlice<'_, U, P>) -> Option<usize>
         ensures inside { IfSome result (λ i. i + len_of other.entry ≤ length self.now.list) }
         ensures few { IfSome result (λ i. i + len_of other.entry ≤ MAX_BITS) }
@@ -191,6 +255,10 @@ impl<T: BitStore, O: BitOrder> BitBox<T, O> {
     }
 
     /// Whether the bits of `other` stand somewhere in the box.
+    ///
+    /// ```text
+    /// of 01101001 and 001: bits.contains(other) == true
+    /// ```
     pub fn contains<U: BitStore, P: BitOrder>(&self, other: BitSlice<'_, U, P>) -> bool
         ensures found { IsTrue result → ((i : ℕ) × (part (len_of other.entry) self.now.list i ≡ list_of other.entry)) }
         ensures none { (j : ℕ) → j + len_of other.entry ≤ length self.now.list → part (len_of other.entry) self.now.list j ≡ list_of other.entry → IsTrue result }

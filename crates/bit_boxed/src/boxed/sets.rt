@@ -11,6 +11,10 @@ use bit_slice::BitSlice;
 impl<T: BitStore, O: BitOrder> BitBox<T, O> {
     /// Whether each index that is true is true in `other`, 64 at a time. An index that `other` is too short for
     /// is false there.
+    ///
+    /// ```text
+    /// of 01101001 and 01101111: bits.is_subset(other) == true
+    /// ```
     pub fn is_subset<U: BitStore, P: BitOrder>(&self, other: BitSlice<'_, U, P>) -> bool
         ensures value { result ≡ not (list_any (λ b. b) (and_not_of self.now.list (list_of other.entry))) }
         ensures index { IsTrue result ↔ ((j : ℕ) → slice_get self.now.list j ≡ Some true → slice_get (list_of other.entry) j ≡ Some true) }
@@ -20,6 +24,10 @@ impl<T: BitStore, O: BitOrder> BitBox<T, O> {
     }
 
     /// Whether each index that is true in `other` is true, 64 at a time.
+    ///
+    /// ```text
+    /// of 01101001 and 01000001: bits.is_superset(other) == true
+    /// ```
     pub fn is_superset<U: BitStore, P: BitOrder>(&self, other: BitSlice<'_, U, P>) -> bool
         ensures value { result ≡ not (list_any (λ b. b) (and_not_of (list_of other.entry) self.now.list)) }
         ensures index { IsTrue result ↔ ((j : ℕ) → slice_get (list_of other.entry) j ≡ Some true → slice_get self.now.list j ≡ Some true) }
@@ -29,6 +37,10 @@ impl<T: BitStore, O: BitOrder> BitBox<T, O> {
     }
 
     /// Whether no index is true both here and in `other`, 64 at a time.
+    ///
+    /// ```text
+    /// of 01101001 and 10010110: bits.is_disjoint(other) == true
+    /// ```
     pub fn is_disjoint<U: BitStore, P: BitOrder>(&self, other: BitSlice<'_, U, P>) -> bool
         ensures value { result ≡ not (list_any (λ b. b) (and_of self.now.list (list_of other.entry))) }
         ensures index { IsTrue result ↔ ((j : ℕ) → slice_get self.now.list j ≡ Some true → slice_get (list_of other.entry) j ≢ Some true) }
@@ -37,6 +49,10 @@ impl<T: BitStore, O: BitOrder> BitBox<T, O> {
     }
 
     /// Whether an index is true both here and in `other`, 64 at a time.
+    ///
+    /// ```text
+    /// of 01101001 and 11110000: bits.intersects(other) == true
+    /// ```
     pub fn intersects<U: BitStore, P: BitOrder>(&self, other: BitSlice<'_, U, P>) -> bool
         ensures value { result ≡ list_any (λ b. b) (and_of self.now.list (list_of other.entry)) }
         ensures index { IsTrue result ↔ SomeIndex self.now.list (λ j. (slice_get self.now.list j ≡ Some true) × (slice_get (list_of other.entry) j ≡ Some true)) }
@@ -45,6 +61,10 @@ impl<T: BitStore, O: BitOrder> BitBox<T, O> {
     }
 
     /// How many indices are true both here and in `other`, 64 at a time.
+    ///
+    /// ```text
+    /// of 01101001 and 11110000: bits.count_and(other) == 2
+    /// ```
     pub fn count_and<U: BitStore, P: BitOrder>(&self, other: BitSlice<'_, U, P>) -> usize
         ensures value { result ≡ count_by (λ b. b) (and_of self.now.list (list_of other.entry)) }
         ensures few { result ≤ length self.now.list }
@@ -54,6 +74,10 @@ impl<T: BitStore, O: BitOrder> BitBox<T, O> {
 
     /// How many indices are true here or in `other`, 64 at a time. The shorter list counts as filled up with
     /// false.
+    ///
+    /// ```text
+    /// of 01101001 and 11110000: bits.count_or(other) == 6
+    /// ```
     pub fn count_or<U: BitStore, P: BitOrder>(&self, other: BitSlice<'_, U, P>) -> usize
         ensures value { result ≡ count_by (λ b. b) (or_of self.now.list (list_of other.entry)) + count_by (λ b. b) (drop (length self.now.list) (list_of other.entry)) }
         ensures with_and { result + count_by (λ b. b) (and_of self.now.list (list_of other.entry)) ≡ count_by (λ b. b) self.now.list + count_by (λ b. b) (list_of other.entry) }
@@ -63,6 +87,10 @@ impl<T: BitStore, O: BitOrder> BitBox<T, O> {
 
     /// How many indices differ from those of `other`, 64 at a time. The shorter list counts as filled up with
     /// false.
+    ///
+    /// ```text
+    /// of 01101001 and 11110000: bits.count_xor(other) == 4
+    /// ```
     pub fn count_xor<U: BitStore, P: BitOrder>(&self, other: BitSlice<'_, U, P>) -> usize
         ensures value { result ≡ count_by (λ b. b) (xor_of self.now.list (list_of other.entry)) + count_by (λ b. b) (drop (length self.now.list) (list_of other.entry)) }
         ensures with_and { result + 2 * count_by (λ b. b) (and_of self.now.list (list_of other.entry)) ≡ count_by (λ b. b) self.now.list + count_by (λ b. b) (list_of other.entry) }

@@ -13,6 +13,10 @@ use bit_slice::{BitSlice, BitSliceMut};
 
 impl<T: BitStore, O: BitOrder> BitBox<T, O> {
     /// The view of the box's bits, for reading: of its visible words.
+    ///
+    /// ```text
+    /// of 01101001: bits.as_bitslice() shows 01101001
+    /// ```
     pub fn as_bitslice(&self) -> BitSlice<'_, T, O>
         ensures words { words_of result ≡ take (words_for T.BITS (self.now.head + length self.now.list)) self.now.words }
         ensures head { head_of result ≡ self.now.head }

@@ -12,6 +12,10 @@ use bit_addressing::{
 
 impl<T: BitStore, O: BitOrder> BitVec<T, O> {
     /// The length, in bits.
+    ///
+    /// ```text
+    /// of 01101001: bits.len() == 8
+    /// ```
     pub fn len(&self) -> usize
         ensures value { result ≡ length self.now.list }
         ensures bound { result ≤ MAX_BITS }
@@ -21,6 +25,10 @@ impl<T: BitStore, O: BitOrder> BitVec<T, O> {
     }
 
     /// The head: the index, in the first word, at which the list begins.
+    ///
+    /// ```text
+    /// of 01101001: bits.head() == 0
+    /// ```
     pub fn head(&self) -> usize
         ensures value { result ≡ self.now.head }
         ensures bound { result < T.BITS }
@@ -29,6 +37,10 @@ impl<T: BitStore, O: BitOrder> BitVec<T, O> {
     }
 
     /// Whether there is no bit.
+    ///
+    /// ```text
+    /// of 01101001: bits.is_empty() == false
+    /// ```
     pub fn is_empty(&self) -> bool
         ensures { IsTrue result ↔ (length self.now.list ≡ 0) }
     {
@@ -38,6 +50,10 @@ impl<T: BitStore, O: BitOrder> BitVec<T, O> {
     /// Appends a bit at the end. Where the visible words are full a word of zero comes first, and no
     /// other dead bit changes. Returns `TooLong` exactly where the length would pass `MAX_BITS`, and
     /// `OutOfMemory` only where it would pass the capacity. A refusal leaves the vector.
+    ///
+    /// ```text
+    /// of 011: bits.push(true)? leaves 0111
+    /// ```
     #[tactic(auto, using(bit_slice::proofs::Parts::shown_length))]
     pub fn push(&mut self, bit: bool) -> Result<(), GrowError>
         ensures list { OnOk result (self.new.list ≡ self.old.list ++ bit ∷ []) }
@@ -60,6 +76,10 @@ impl<T: BitStore, O: BitOrder> BitVec<T, O> {
     /// Takes the last bit. None exactly where the vector is empty. A word that is left with no bit of the
     /// vector is dropped, and nothing is written. Takes no memory. The bit can be put back: as many bits as
     /// before fit, with no new memory.
+    ///
+    /// ```text
+    /// of 0111: bits.pop() == Some(true)
+    /// ```
     #[tactic(auto, using(bit_slice::proofs::Parts::shown_length))]
     pub fn pop(&mut self) -> Option<bool>
         ensures answer { MatchOption result (length self.old.list ≡ 0) (λ bit. self.old.list ≡ self.new.list ++ bit ∷ []) }
@@ -83,6 +103,10 @@ impl<T: BitStore, O: BitOrder> BitVec<T, O> {
 
     /// Keeps the first `n` bits, or all where there are no more. The words are cut to the visible ones, and
     /// nothing is written. The capacity stays. Takes no memory.
+    ///
+    /// ```text
+    /// of 0110: bits.truncate(2) leaves 01
+    /// ```
     #[tactic(auto, using(bit_slice::proofs::Parts::shown_length))]
     pub fn truncate(&mut self, n: usize)
         ensures list { self.new.list ≡ take n self.old.list }
@@ -97,6 +121,10 @@ impl<T: BitStore, O: BitOrder> BitVec<T, O> {
     /// Puts a bit before the one at `i`, or at the end where `i` is the length; the rest moves up after it,
     /// by one counted move. It is refused like `push`, and a refusal leaves the vector. Requires that `i`
     /// is at most the length. What becomes of dead bits is open.
+    ///
+    /// ```text
+    /// of 011: bits.insert(1, false)? leaves 0011
+    /// ```
     #[tactic(auto, using(bit_slice::proofs::Parts::shown_length))]
     pub fn insert(&mut self, i: usize, bit: bool) -> Result<(), GrowError>
         requires { i ≤ length self.old.list }
@@ -117,6 +145,10 @@ impl<T: BitStore, O: BitOrder> BitVec<T, O> {
 
     /// Takes the bit at `i`; those after it move down, by one counted move. Takes no memory. Requires that `i` is
     /// below the length. What becomes of dead bits is open.
+    ///
+    /// ```text
+    /// of 011: bits.remove(1) == true
+    /// ```
     #[tactic(auto, using(bit_slice::proofs::Parts::shown_length))]
     pub fn remove(&mut self, i: usize) -> bool
         requires { i < length self.old.list }
@@ -137,6 +169,10 @@ impl<T: BitStore, O: BitOrder> BitVec<T, O> {
 
     /// Takes the bit at `i`, and puts the last one in its place. Nothing moves, and no memory is taken.
     /// Requires that `i` is below the length. What becomes of dead bits is open.
+    ///
+    /// ```text
+    /// of 0111: bits.swap_remove(0) == false
+    /// ```
     #[tactic(auto, using(bit_slice::proofs::Parts::shown_length))]
     pub fn swap_remove(&mut self, i: usize) -> bool
         requires { i < length self.old.list }

@@ -14,6 +14,10 @@ impl<T: BitStore, O: BitOrder> BitVec<T, O> {
     /// first, and then the calls, once for each index and in their order. Where it grows it is refused like `push`,
     /// and a refusal leaves the vector, with no call made. Where it shrinks it is like `truncate`, and makes no
     /// call.
+    ///
+    /// ```text
+    /// of 0110: bits.resize_with(6, |i| i == 5)? leaves 011001
+    /// ```
     pub fn resize_with<F: FnMut(usize) -> bool>(
         &mut self,
         n: usize,
@@ -77,6 +81,10 @@ impl<T: BitStore, O: BitOrder> BitVec<T, O> {
     /// Keeps the bits at which `f` returns true, in order. `f` is called once for each bit, with its index and the
     /// bit, by ascending index. The bits that stay are gathered in words, and each word is stored once. Takes no
     /// memory. What becomes of dead bits is open.
+    ///
+    /// ```text
+    /// of 0110: bits.retain(|i, bit| *bit || i == 0) leaves 011
+    /// ```
     pub fn retain<F: FnMut(usize, &bool) -> bool>(&mut self, mut f: F)
         requires { F.IsAlwaysCallable f }
         ensures list { (answers : List Bool) × (last : F) × AnswersAtEach F.step f 0 self.old.list answers last × (self.new.list ≡ kept self.old.list answers) }

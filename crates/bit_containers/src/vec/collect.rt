@@ -29,6 +29,10 @@ impl<T: BitStore, O: BitOrder> BitVec<T, O> {
     ///
     /// The list is known of every source whose runs are: a `Vec<bool>`, an `Option<bool>`, the bits of another vector by
     /// `into_iter` or `iter`, mapped or not. For a view or for words there are calls that copy by whole words.
+    ///
+    /// ```text
+    /// of 01: bits.extend(Some(true))? leaves 011
+    /// ```
     pub fn extend<I: IntoIterator<Item = bool>>(&mut self, iter: I) -> Result<(), GrowError>
         requires { IsFiniteIterable I.into_iter_gives I.IntoIter.can_next I.IntoIter.remaining iter }
         ensures joined { OnOk result (GivesAll I.into_iter_gives I.IntoIter.next_gives iter (λ bits. (self.new.list ≡ self.old.list ++ bits) × Grew T.BITS self.old self.new bits)) }
@@ -111,6 +115,10 @@ impl<T: BitStore, O: BitOrder> BitVec<T, O> {
 
     /// The bits that an iterator gives before its first None, from head 0 on: the words are canonical. It is refused
     /// like `extend`.
+    ///
+    /// ```text
+    /// BitVec::<u8, Lsb0>::from_bits(alloc, Some(true))? holds 1
+    /// ```
     pub fn from_bits<I: IntoIterator<Item = bool>>(
         alloc: Global,
         iter: I,
@@ -133,6 +141,10 @@ impl<T: BitStore, O: BitOrder> BitVec<T, O> {
     /// Appends all bits of the words that an iterator gives before its first None, and pulls nothing after that
     /// None. Returns `TooLong` at the first word with which the length would pass `MAX_BITS`; otherwise as
     /// `extend`.
+    ///
+    /// ```text
+    /// of 01: bits.extend_words(Some(3))? leaves 0111000000
+    /// ```
     pub fn extend_words<I: IntoIterator<Item = T>>(&mut self, iter: I) -> Result<(), GrowError>
         requires { IsFiniteIterable I.into_iter_gives I.IntoIter.can_next I.IntoIter.remaining iter }
         ensures joined { OnOk result (GivesAll I.into_iter_gives I.IntoIter.next_gives iter (λ words. (self.new.list ≡ self.old.list ++ row T.BitStore O.BitOrder words) × Grew T.BITS self.old self.new (row T.BitStore O.BitOrder words))) }
@@ -183,6 +195,10 @@ impl<T: BitStore, O: BitOrder> BitVec<T, O> {
 
     /// The words that an iterator gives before its first None, as they are: head 0. Returns `TooLong` at the
     /// first word with which the length would pass `MAX_BITS`; otherwise it is refused like `from_bits`.
+    ///
+    /// ```text
+    /// BitVec::<u8, Lsb0>::from_words(alloc, Some(3))? holds 11000000
+    /// ```
     pub fn from_words<I: IntoIterator<Item = T>>(alloc: Global, iter: I) -> Result<Self, GrowError>
         requires { IsFiniteIterable I.into_iter_gives I.IntoIter.can_next I.IntoIter.remaining iter }
         ensures words { IfOk result (λ v. GivesAll I.into_iter_gives I.IntoIter.next_gives iter (λ words. v.words ≡ words)) }

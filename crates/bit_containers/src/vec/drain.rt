@@ -179,6 +179,10 @@ impl<T: BitStore, O: BitOrder> BitVec<T, O> {
 
     /// Takes the bits at a range of indices out: the iterator gives them, and when it ends they are gone, whatever it
     /// gave. What becomes of dead bits is open. Requires that the range lies in the length.
+    ///
+    /// ```text
+    /// of 01101001: bits.drain(1..3) gives true, true
+    /// ```
     pub fn drain<R: RangeExt>(&mut self, range: R) -> Drain<'_, T, O>
         requires lies { LiesIn (R.start_of range) (R.end_of range (length self.old.list)) (length self.old.list) }
         ensures list { drain_rest result ≡ slice_range self.old.list (R.start_of range) (R.end_of range (length self.old.list)) }

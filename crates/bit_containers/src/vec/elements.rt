@@ -27,6 +27,10 @@ fn set_words_in_vec<T: BitStore>(words: &mut Vec<T>, word: T)
 
 impl<T: BitStore, O: BitOrder> BitVec<T, O> {
     /// Makes every visible word `word`: live bits are written too, and dead ones. Takes no memory.
+    ///
+    /// ```text
+    /// of 0110: bits.set_elements(3) leaves 1100
+    /// ```
     #[tactic(auto, using(bit_slice::proofs::Parts::shown_length))]
     pub fn set_elements(&mut self, word: T)
         ensures words { self.new.words ≡ replicate (length self.old.words) word }
@@ -40,6 +44,10 @@ impl<T: BitStore, O: BitOrder> BitVec<T, O> {
     /// Makes the length `n`: bits of the visible words that become live are those that stood there, and nothing
     /// is written. Takes no memory. Requires that the visible words have `n` bits from the head on, and they
     /// are at most `MAX_BITS`.
+    ///
+    /// ```text
+    /// of 0110: bits.set_len(2) leaves 01
+    /// ```
     #[tactic(auto, using(bit_slice::proofs::Parts::shown_length, crate::proofs::Elements::run_kept))]
     pub fn set_len(&mut self, n: usize)
         requires visible { self.old.head + n ≤ T.BITS * length self.old.words }

@@ -17,6 +17,10 @@ impl<T: BitStore, O: BitOrder> BitVec<T, O> {
     /// Appends the bits of a view at the end, by whole words; the view may be by other words and another order. Words
     /// of zero come first, as many as the visible ones lack. Returns `TooLong` exactly where the length would pass
     /// `MAX_BITS`, and `OutOfMemory` only where it would pass the capacity. A refusal leaves the vector.
+    ///
+    /// ```text
+    /// of 01 and 10: bits.extend_from_bitslice(other)? leaves 0110
+    /// ```
     #[tactic(auto, using(bit_slice::proofs::Parts::shown_length))]
     pub fn extend_from_bitslice<U: BitStore, P: BitOrder>(
         &mut self,
@@ -41,6 +45,10 @@ impl<T: BitStore, O: BitOrder> BitVec<T, O> {
     }
 
     /// Like `extend_from_bitslice`.
+    ///
+    /// ```text
+    /// of 01 and 10: bits.extend_from_slice(other)? leaves 0110
+    /// ```
     pub fn extend_from_slice<U: BitStore, P: BitOrder>(
         &mut self,
         view: BitSlice<'_, U, P>,
@@ -76,6 +84,10 @@ impl<T: BitStore, O: BitOrder> BitVec<T, O> {
 
     /// Keeps the first `n` bits, or fills the list up to `n` with `bit`, by whole words. Where it grows it is
     /// refused like `push`, and a refusal leaves the vector. Where it shrinks it is like `truncate`.
+    ///
+    /// ```text
+    /// of 0110: bits.resize(6, true)? leaves 011011
+    /// ```
     #[tactic(auto, using(bit_slice::proofs::Parts::shown_length))]
     pub fn resize(&mut self, n: usize, bit: bool) -> Result<(), GrowError>
         ensures list { OnOk result (self.new.list ≡ take n self.old.list ++ replicate (n - length self.old.list) bit) }
@@ -103,6 +115,10 @@ impl<T: BitStore, O: BitOrder> BitVec<T, O> {
 
     /// Appends all bits of these words. It is refused like `extend_from_bitslice`. Where the vector is whole
     /// words from head 0, its words are the old ones and then these.
+    ///
+    /// ```text
+    /// of 01: bits.extend_from_raw_slice(&[3])? leaves 0111000000
+    /// ```
     #[tactic(auto, using(bit_slice::proofs::Parts::row_size))]
     pub fn extend_from_raw_slice(&mut self, words: &[T]) -> Result<(), GrowError>
         ensures len { OnOk result (length self.new.list ≡ length self.old.list + T.BITS * length words.now) }
@@ -125,6 +141,10 @@ impl<T: BitStore, O: BitOrder> BitVec<T, O> {
 
     /// Appends the bits at a range of indices once more, by one move of whole words. It is refused
     /// like `extend_from_bitslice`. Requires that the range lies in the length.
+    ///
+    /// ```text
+    /// of 0110: bits.extend_from_within(1..3)? leaves 011011
+    /// ```
     #[tactic(auto, using(bit_slice::proofs::Parts::shown_length))]
     pub fn extend_from_within<R: RangeExt>(&mut self, range: R) -> Result<(), GrowError>
         requires lies { LiesIn (R.start_of range) (R.end_of range (length self.old.list)) (length self.old.list) }

@@ -14,6 +14,10 @@ use bit_slice::Iter;
 
 impl<T: BitStore, O: BitOrder> BitVec<T, O> {
     /// The bits in order, from both ends.
+    ///
+    /// ```text
+    /// of 01101001: bits.iter() gives false, true, true, false, true, false, false, true
+    /// ```
     pub fn iter(&self) -> Iter<'_, T, O>
         ensures list { rest_of result ≡ self.now.list }
         ensures few { length (rest_of result) ≤ MAX_BITS }

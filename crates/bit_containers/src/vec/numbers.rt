@@ -31,6 +31,10 @@ impl<T: BitStore, O: BitOrder> BitVec<T, O> {
     /// Writes a number in binary over the `n` bits from `at` on, the most significant digit first, and changes no other
     /// bit; digits above the `n` lowest are left out. Takes no memory. Requires that `n` is at most 64 and that the bits lie
     /// in the length.
+    ///
+    /// ```text
+    /// of 0000: bits.write_binary(1, 3, 5) leaves 0101
+    /// ```
     #[tactic(auto, using(bit_slice::proofs::Parts::shown_length))]
     pub fn write_binary(&mut self, at: usize, n: u8, number: u64)
         requires few { n ≤ 64 }
@@ -50,6 +54,10 @@ impl<T: BitStore, O: BitOrder> BitVec<T, O> {
     /// Appends a number in binary by `n` digits, the most significant first; digits above the `n` lowest are left out. Returns
     /// `TooLong` exactly where the length would pass `MAX_BITS`, and `OutOfMemory` only where it would pass the capacity; the
     /// vector is as it was then. Requires that `n` is at most 64.
+    ///
+    /// ```text
+    /// of 01: bits.push_binary(3, 5)? leaves 01101
+    /// ```
     #[tactic(auto, using(bit_slice::proofs::Parts::shown_length))]
     pub fn push_binary(&mut self, n: u8, number: u64) -> Result<(), GrowError>
         requires { n ≤ 64 }

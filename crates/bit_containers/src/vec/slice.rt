@@ -15,6 +15,10 @@ use bit_slice::BitSlice;
 
 impl<T: BitStore, O: BitOrder> BitVec<T, O> {
     /// The bit at `i`. None exactly where `i` is the length or more.
+    ///
+    /// ```text
+    /// of 01101001: bits.get(1) == Some(true)
+    /// ```
     pub fn get(&self, i: usize) -> Option<bool>
         ensures { result ≡ slice_get self.now.list i }
     {
@@ -26,6 +30,10 @@ impl<T: BitStore, O: BitOrder> BitVec<T, O> {
     }
 
     /// The first bit. None exactly where the vector is empty.
+    ///
+    /// ```text
+    /// of 01101001: bits.first() == Some(false)
+    /// ```
     pub fn first(&self) -> Option<bool>
         ensures { result ≡ slice_get self.now.list 0 }
     {
@@ -33,6 +41,10 @@ impl<T: BitStore, O: BitOrder> BitVec<T, O> {
     }
 
     /// The last bit. None exactly where the vector is empty.
+    ///
+    /// ```text
+    /// of 01101001: bits.last() == Some(true)
+    /// ```
     pub fn last(&self) -> Option<bool>
         ensures { result ≡ slice_get self.now.list (length self.now.list - 1) }
     {
@@ -40,6 +52,10 @@ impl<T: BitStore, O: BitOrder> BitVec<T, O> {
     }
 
     /// How many bits are true.
+    ///
+    /// ```text
+    /// of 01101001: bits.count_ones() == 4
+    /// ```
     pub fn count_ones(&self) -> usize
         ensures value { result ≡ count_by (λ bit. bit) self.now.list }
         ensures few { result ≤ length self.now.list }
@@ -48,6 +64,10 @@ impl<T: BitStore, O: BitOrder> BitVec<T, O> {
     }
 
     /// How many bits are false.
+    ///
+    /// ```text
+    /// of 01101001: bits.count_zeros() == 4
+    /// ```
     pub fn count_zeros(&self) -> usize
         ensures value { result ≡ count_by not self.now.list }
         ensures with_ones { result + count_by (λ bit. bit) self.now.list ≡ length self.now.list }
@@ -57,6 +77,10 @@ impl<T: BitStore, O: BitOrder> BitVec<T, O> {
     }
 
     /// Whether some bit is true. Of an empty vector it is false.
+    ///
+    /// ```text
+    /// of 01101001: bits.any() == true
+    /// ```
     pub fn any(&self) -> bool
         ensures value { result ≡ list_any (λ bit. bit) self.now.list }
         ensures index { IsTrue result ↔ SomeIndex self.now.list (λ i. slice_get self.now.list i ≡ Some true) }
@@ -65,6 +89,10 @@ impl<T: BitStore, O: BitOrder> BitVec<T, O> {
     }
 
     /// Whether every bit is true. Of an empty vector it is true.
+    ///
+    /// ```text
+    /// of 01101001: bits.all() == false
+    /// ```
     pub fn all(&self) -> bool
         ensures value { result ≡ list_all (λ bit. bit) self.now.list }
         ensures index { IsTrue result ↔ EachIndex self.now.list (λ i. slice_get self.now.list i ≡ Some true) }
@@ -73,6 +101,10 @@ impl<T: BitStore, O: BitOrder> BitVec<T, O> {
     }
 
     /// Writes the bit at `i`, and no other bit. Takes no memory. Requires that `i` is below the length.
+    ///
+    /// ```text
+    /// of 01101001: bits.set(0, true) leaves 11101001
+    /// ```
     #[tactic(auto, using(bit_slice::proofs::Parts::shown_length))]
     pub fn set(&mut self, i: usize, bit: bool)
         requires { i < length self.old.list }
@@ -86,6 +118,10 @@ impl<T: BitStore, O: BitOrder> BitVec<T, O> {
 
     /// Writes the bit at `i`, and returns the one that was there. Takes no memory. Requires that `i` is below
     /// the length.
+    ///
+    /// ```text
+    /// of 01101001: bits.replace(0, true) == false
+    /// ```
     pub fn replace(&mut self, i: usize, bit: bool) -> bool
         requires { i < length self.old.list }
         ensures old { slice_get self.old.list i ≡ Some result }
@@ -100,6 +136,10 @@ impl<T: BitStore, O: BitOrder> BitVec<T, O> {
     }
 
     /// Swaps the bits at `i` and `j`, and changes no other bit. Takes no memory. Requires that both are below the length.
+    ///
+    /// ```text
+    /// of 01101001: bits.swap(0, 1) leaves 10101001
+    /// ```
     #[tactic(auto, using(bit_slice::proofs::Parts::shown_length))]
     pub fn swap(&mut self, i: usize, j: usize)
         requires first { i < length self.old.list }
@@ -114,6 +154,10 @@ impl<T: BitStore, O: BitOrder> BitVec<T, O> {
     }
 
     /// Makes every bit of the list `bit`, and changes no dead bit. Takes no memory.
+    ///
+    /// ```text
+    /// of 01101001: bits.fill(true) leaves 11111111
+    /// ```
     #[tactic(auto, using(bit_slice::proofs::Parts::shown_length))]
     pub fn fill(&mut self, bit: bool)
         ensures list { self.new.list ≡ replicate (length self.old.list) bit }
@@ -127,6 +171,10 @@ impl<T: BitStore, O: BitOrder> BitVec<T, O> {
 
     /// Copies the bits of a range to index `dest`, as if they were copied out first. No other bit changes, dead bits
     /// included. Takes no memory. Requires that the range lies in the length and that its bits have room from `dest` on.
+    ///
+    /// ```text
+    /// of 01101001: bits.copy_within(2..5, 0) leaves 10101001
+    /// ```
     pub fn copy_within<R: RangeExt>(&mut self, range: R, dest: usize)
         requires lies { LiesIn (R.start_of range) (R.end_of range (length self.old.list)) (length self.old.list) }
         requires room { dest + (R.end_of range (length self.old.list) - R.start_of range) ≤ length self.old.list }
@@ -165,6 +213,10 @@ impl<T: BitStore, O: BitOrder> BitVec<T, O> {
 
     /// Writes the bits of a view, by whatever words and order, over those of the list. No dead bit changes.
     /// Takes no memory. Requires that the view has as many bits as the vector.
+    ///
+    /// ```text
+    /// of 01101001 and 01010101: bits.clone_from_bitslice(other) leaves 01010101
+    /// ```
     #[tactic(auto, using(bit_slice::proofs::Parts::shown_length))]
     pub fn clone_from_bitslice<U: BitStore, P: BitOrder>(&mut self, source: BitSlice<'_, U, P>)
         requires { len_of source ≡ length self.old.list }

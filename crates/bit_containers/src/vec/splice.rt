@@ -35,6 +35,10 @@ impl<T: BitStore, O: BitOrder> BitVec<T, O> {
     ghost use Rattle.bit_containers.specs.Splice.{splice_rest, splice_vector, splice_lender, SpliceIsReady};
 
     /// Drops all bits. The words are dropped too, and the capacity stays. Takes no memory.
+    ///
+    /// ```text
+    /// of 0110: bits.clear() leaves nothing
+    /// ```
     pub fn clear(&mut self)
         ensures list { self.new.list ≡ [] }
         ensures row { Shrank T.BITS self.old self.new 0 }
@@ -45,6 +49,10 @@ impl<T: BitStore, O: BitOrder> BitVec<T, O> {
     /// Cuts the vector at `at`, and returns what was after: a clean vector, which begins at head 0. Takes memory
     /// where a bit is after, and is refused only then; a refusal leaves the vector. Requires that `at` is at most
     /// the length.
+    ///
+    /// ```text
+    /// of 01101001: bits.split_off(3)?.as_bitslice() shows 01001
+    /// ```
     pub fn split_off(&mut self, at: usize) -> Result<Self, AllocError>
         requires { at ≤ length self.old.list }
         ensures left { OnOk result (self.new.list ≡ take at self.old.list) }
@@ -66,6 +74,10 @@ impl<T: BitStore, O: BitOrder> BitVec<T, O> {
     ///
     /// The list is known where the source owns what it gives: a `Vec<bool>`, an `Option<bool>`, a vector's `into_iter`,
     /// mapped or not. Of a source that borrows, as `iter()` or `by_ref()`, it can't be proved: collect it first.
+    ///
+    /// ```text
+    /// of 0110: bits.splice(1..3, Some(false)).finish()? leaves 000
+    /// ```
     pub fn splice<R: RangeExt, U: IntoIterator<Item = bool>>(
         &mut self,
         range: R,

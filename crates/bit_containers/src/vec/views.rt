@@ -16,6 +16,10 @@ impl<T: BitStore, O: BitOrder> BitVec<T, O> {
     ghost use Rattle.bit_containers.specs.Lends.{lends_words, lends_view};
 
     /// The view of the vector's bits, for reading.
+    ///
+    /// ```text
+    /// of 01101001: bits.as_bitslice() shows 01101001
+    /// ```
     pub fn as_bitslice(&self) -> BitSlice<'_, T, O>
         ensures words { words_of result ≡ self.now.words }
         ensures row { row_of result ≡ self.now.row }
@@ -27,6 +31,10 @@ impl<T: BitStore, O: BitOrder> BitVec<T, O> {
     }
 
     /// Like `as_bitslice`.
+    ///
+    /// ```text
+    /// of 01101001: bits.as_slice() shows 01101001
+    /// ```
     pub fn as_slice(&self) -> BitSlice<'_, T, O>
         ensures words { words_of result ≡ self.now.words }
         ensures row { row_of result ≡ self.now.row }
@@ -63,6 +71,10 @@ impl<T: BitStore, O: BitOrder> BitVec<T, O> {
     }
 
     /// The view of the bits at a range of indices, for reading. Requires that the range lies in the length.
+    ///
+    /// ```text
+    /// of 01101001: bits.get_range(1..5) shows 1101
+    /// ```
     pub fn get_range<R: RangeExt>(&self, range: R) -> BitSlice<'_, T, O>
         requires lies { LiesIn (R.start_of range) (R.end_of range (length self.now.list)) (length self.now.list) }
         ensures list { list_of result ≡ slice_range self.now.list (R.start_of range) (R.end_of range (length self.now.list)) }

@@ -14,6 +14,10 @@ impl<'a, T: BitStore, O: BitOrder> BitSlice<'a, T, O> {
 
     /// The chunk of number `k`, of `size` bits: that which `chunks(size)` gives after `k` others. Requires
     /// that it begins before the end.
+    ///
+    /// ```text
+    /// of 01101001: bits.chunk(3, 1) shows 010
+    /// ```
     pub fn chunk(self, size: usize, k: usize) -> Self
         requires some { 0 < size }
         requires begins { k * size < len_of self }
@@ -27,6 +31,10 @@ impl<'a, T: BitStore, O: BitOrder> BitSlice<'a, T, O> {
 
     /// The parts of `size` bits side by side, from the front and from the end. The last has the bits that
     /// are left, so it may be shorter. Requires that `size` is not 0.
+    ///
+    /// ```text
+    /// of 01101001: bits.chunks(3).len() == 3
+    /// ```
     pub fn chunks(self, size: usize) -> Chunks<'a, T, O>
         requires some { 0 < size }
         ensures list { chunks_left result ≡ chunks_of size (list_of self.entry) }
@@ -44,6 +52,10 @@ impl<'a, T: BitStore, O: BitOrder> BitSlice<'a, T, O> {
 
     /// The parts of `size` bits side by side, from the front and from the end, as many as have that many
     /// bits. Those that are left are the iterator's `remainder`. Requires that `size` is not 0.
+    ///
+    /// ```text
+    /// of 01101001: bits.chunks_exact(3).len() == 2
+    /// ```
     pub fn chunks_exact(self, size: usize) -> ChunksExact<'a, T, O>
         requires some { 0 < size }
         ensures list { exact_chunks_left result ≡ exact_chunks_of size (list_of self.entry) }
@@ -61,6 +73,10 @@ impl<'a, T: BitStore, O: BitOrder> BitSlice<'a, T, O> {
 
     /// The parts of `size` bits side by side, beginning at the end of the view. The last, at its front, has
     /// the bits that are left, so it may be shorter. Requires that `size` is not 0.
+    ///
+    /// ```text
+    /// of 01101001: bits.rchunks(3).len() == 3
+    /// ```
     pub fn rchunks(self, size: usize) -> RChunks<'a, T, O>
         requires some { 0 < size }
         ensures list { back_chunks_left result ≡ back_chunks_of size (list_of self.entry) }
@@ -77,6 +93,10 @@ impl<'a, T: BitStore, O: BitOrder> BitSlice<'a, T, O> {
     }
 
     /// Each `size` neighbouring bits. There are none where the view is shorter. Requires that `size` is not 0.
+    ///
+    /// ```text
+    /// of 01101001: bits.windows(3).len() == 6
+    /// ```
     pub fn windows(self, size: usize) -> Windows<'a, T, O>
         requires some { 0 < size }
         ensures list { windows_left result ≡ windows_of size (list_of self.entry) }

@@ -10,6 +10,10 @@ use bit_addressing::{BitOrder, BitStore, read_binary, read_chunk};
 impl<'a, T: BitStore, O: BitOrder> BitSlice<'a, T, O> {
     /// The number whose least significant bit is the first of the view, and whose next bits are the next of
     /// it, whatever the order of bits in a word. Requires at most 64 bits.
+    ///
+    /// ```text
+    /// of 01101001: bits.load_le() == 150
+    /// ```
     pub fn load_le(self) -> u64
         requires { len_of self ≤ 64 }
         ensures value { result ≡ number_of (list_of self.entry) }
@@ -20,6 +24,10 @@ impl<'a, T: BitStore, O: BitOrder> BitSlice<'a, T, O> {
 
     /// The number that the bits of the view write in binary, the first the most significant, whatever the
     /// order of bits in a word. Requires at most 64 bits.
+    ///
+    /// ```text
+    /// of 01101001: bits.load_be() == 105
+    /// ```
     pub fn load_be(self) -> u64
         requires { len_of self ≤ 64 }
         ensures value { result ≡ value (list_of self.entry) }

@@ -9,6 +9,10 @@ use bit_addressing::{BitOrder, BitStore};
 impl<'a, T: BitStore, O: BitOrder> BitSlice<'a, T, O> {
     /// The first index from which on the bits of `other` stand, of any word type and order. None exactly
     /// where they stand nowhere. Each index is tried, 64 bits at a time, up to the first that differs.
+    ///
+    /// ```text
+    /// of 01101001 and 001: bits.find(other) == Some(5)
+    /// ```
     pub fn find<U: BitStore, P: BitOrder>(self, other: BitSlice<'_, U, P>) -> Option<usize>
         ensures inside { IfSome result (λ i. i + len_of other.entry ≤ len_of self.entry) }
         ensures found { IfSome result (λ i. part (len_of other.entry) (list_of self.entry) i ≡ list_of other.entry) }
@@ -30,6 +34,10 @@ impl<'a, T: BitStore, O: BitOrder> BitSlice<'a, T, O> {
     }
 
     /// Whether the bits of `other` stand somewhere in the view.
+    ///
+    /// ```text
+    /// of 01101001 and 001: bits.contains(other) == true
+    /// ```
     pub fn contains<U: BitStore, P: BitOrder>(self, other: BitSlice<'_, U, P>) -> bool
         ensures found { IsTrue result → ((i : ℕ) × (part (len_of other.entry) (list_of self.entry) i ≡ list_of other.entry)) }
         ensures none { (j : ℕ) → j + len_of other.entry ≤ len_of self.entry → part (len_of other.entry) (list_of self.entry) j ≡ list_of other.entry → IsTrue result }

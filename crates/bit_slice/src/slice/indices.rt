@@ -29,6 +29,10 @@ impl<'a, T: BitStore, O: BitOrder> BitSlice<'a, T, O> {
     ghost use Rattle.bit_slice.specs.Indices.{ones_left};
 
     /// The indices of the bits that are true, ascending, from both ends. Bits are read 64 at a time.
+    ///
+    /// ```text
+    /// of 01101001: bits.iter_ones() gives 1, 2, 4, 7
+    /// ```
     #[tactic(auto, using(crate::proofs::Chunked::chunk_none))]
     pub fn iter_ones(self) -> IterOnes<'a, T, O>
         ensures list { ones_left result ≡ ones_of (list_of self.entry) }
@@ -170,6 +174,10 @@ impl<'a, T: BitStore, O: BitOrder> BitSlice<'a, T, O> {
     ghost use Rattle.bit_slice.specs.Indices.{zeros_left};
 
     /// The indices of the bits that are false, ascending, from both ends. A step reads 64 bits at a time.
+    ///
+    /// ```text
+    /// of 01101001: bits.iter_zeros() gives 0, 3, 5, 6
+    /// ```
     pub fn iter_zeros(self) -> IterZeros<'a, T, O>
         ensures list { zeros_left result ≡ zeros_of (list_of self.entry) }
         ensures count { length (zeros_left result) ≡ count_by not (list_of self.entry) }

@@ -7,6 +7,10 @@ use bit_addressing::{BitOrder, BitStore};
 
 impl<'a, T: BitStore, O: BitOrder> BitSlice<'a, T, O> {
     /// The bits before index `mid`, and those from it on. Requires that `mid` is at most the length.
+    ///
+    /// ```text
+    /// of 01101001: bits.split_at(3).1 shows 01001
+    /// ```
     pub fn split_at(self, mid: usize) -> (Self, Self)
         requires { mid ≤ len_of self }
         ensures front { list_of result.0 ≡ take mid (list_of self.entry) }
@@ -44,6 +48,10 @@ impl<'a, T: BitStore, O: BitOrder> BitSlice<'a, T, O> {
     }
 
     /// Whether the view begins with the bits of `other`.
+    ///
+    /// ```text
+    /// of 01101001 and 0110: bits.starts_with(other) == true
+    /// ```
     pub fn starts_with<U: BitStore, P: BitOrder>(self, other: BitSlice<'_, U, P>) -> bool
         ensures { IsTrue result ↔ (take (len_of other.entry) (list_of self.entry) ≡ list_of other.entry) }
     {
@@ -51,6 +59,10 @@ impl<'a, T: BitStore, O: BitOrder> BitSlice<'a, T, O> {
     }
 
     /// Whether the view ends with the bits of `other`.
+    ///
+    /// ```text
+    /// of 01101001 and 001: bits.ends_with(other) == true
+    /// ```
     pub fn ends_with<U: BitStore, P: BitOrder>(self, other: BitSlice<'_, U, P>) -> bool
         ensures { IsTrue result ↔ (drop (len_of self.entry - len_of other.entry) (list_of self.entry) ≡ list_of other.entry) }
     {

@@ -77,6 +77,10 @@ impl<'a, T: BitStore, O: BitOrder> BitSlice<'a, T, O> {
     }
 
     /// The index of the first bit that is true. None exactly where none is.
+    ///
+    /// ```text
+    /// of 01101001: bits.first_one() == Some(1)
+    /// ```
     pub fn first_one(self) -> Option<usize>
         ensures value { result ≡ position (λ b. b) (list_of self.entry) }
         ensures inside { IfSome result (λ i. i < len_of self.entry) }
@@ -88,6 +92,10 @@ impl<'a, T: BitStore, O: BitOrder> BitSlice<'a, T, O> {
     }
 
     /// The index of the first bit that is false. None exactly where none is.
+    ///
+    /// ```text
+    /// of 01101001: bits.first_zero() == Some(0)
+    /// ```
     pub fn first_zero(self) -> Option<usize>
         ensures value { result ≡ position not (list_of self.entry) }
         ensures inside { IfSome result (λ i. i < len_of self.entry) }
@@ -99,6 +107,10 @@ impl<'a, T: BitStore, O: BitOrder> BitSlice<'a, T, O> {
     }
 
     /// The index of the last bit that is true. None exactly where none is.
+    ///
+    /// ```text
+    /// of 01101001: bits.last_one() == Some(7)
+    /// ```
     pub fn last_one(self) -> Option<usize>
         ensures inside { IfSome result (λ i. i < len_of self.entry) }
         ensures found { IfSome result (λ i. slice_get (list_of self.entry) i ≡ Some true) }
@@ -109,6 +121,10 @@ impl<'a, T: BitStore, O: BitOrder> BitSlice<'a, T, O> {
     }
 
     /// The index of the last bit that is false. None exactly where none is.
+    ///
+    /// ```text
+    /// of 01101001: bits.last_zero() == Some(6)
+    /// ```
     pub fn last_zero(self) -> Option<usize>
         ensures inside { IfSome result (λ i. i < len_of self.entry) }
         ensures found { IfSome result (λ i. slice_get (list_of self.entry) i ≡ Some false) }
@@ -120,6 +136,10 @@ impl<'a, T: BitStore, O: BitOrder> BitSlice<'a, T, O> {
 
     /// The index of the first bit from index `from` on that is true. None exactly where none is, as
     /// where `from` is the length or more.
+    ///
+    /// ```text
+    /// of 01101001: bits.next_one(3) == Some(4)
+    /// ```
     pub fn next_one(self, from: usize) -> Option<usize>
         ensures begins { IfSome result (λ i. from ≤ i) }
         ensures inside { IfSome result (λ i. i < len_of self.entry) }
@@ -132,6 +152,10 @@ impl<'a, T: BitStore, O: BitOrder> BitSlice<'a, T, O> {
 
     /// The index of the first bit from index `from` on that is false. None exactly where none is, as
     /// where `from` is the length or more.
+    ///
+    /// ```text
+    /// of 01101001: bits.next_zero(1) == Some(3)
+    /// ```
     pub fn next_zero(self, from: usize) -> Option<usize>
         ensures begins { IfSome result (λ i. from ≤ i) }
         ensures inside { IfSome result (λ i. i < len_of self.entry) }
@@ -143,6 +167,10 @@ impl<'a, T: BitStore, O: BitOrder> BitSlice<'a, T, O> {
     }
 
     /// How many bits at the front are true, up to the first that is false.
+    ///
+    /// ```text
+    /// of 01101001: bits.leading_ones() == 0
+    /// ```
     pub fn leading_ones(self) -> usize
         ensures value { result ≡ prefix_len (λ b. b) (list_of self.entry) }
         ensures most { result ≤ len_of self.entry }
@@ -156,6 +184,10 @@ impl<'a, T: BitStore, O: BitOrder> BitSlice<'a, T, O> {
     }
 
     /// How many bits at the front are false, up to the first that is true.
+    ///
+    /// ```text
+    /// of 01101001: bits.leading_zeros() == 1
+    /// ```
     pub fn leading_zeros(self) -> usize
         ensures value { result ≡ prefix_len not (list_of self.entry) }
         ensures most { result ≤ len_of self.entry }
@@ -169,6 +201,10 @@ impl<'a, T: BitStore, O: BitOrder> BitSlice<'a, T, O> {
     }
 
     /// How many bits at the end are true, after the last that is false.
+    ///
+    /// ```text
+    /// of 01101001: bits.trailing_ones() == 1
+    /// ```
     pub fn trailing_ones(self) -> usize
         ensures value { result ≡ suffix_len (λ b. b) (list_of self.entry) }
         ensures most { result ≤ len_of self.entry }
@@ -182,6 +218,10 @@ impl<'a, T: BitStore, O: BitOrder> BitSlice<'a, T, O> {
     }
 
     /// How many bits at the end are false, after the last that is true.
+    ///
+    /// ```text
+    /// of 01101001: bits.trailing_zeros() == 0
+    /// ```
     pub fn trailing_zeros(self) -> usize
         ensures value { result ≡ suffix_len not (list_of self.entry) }
         ensures most { result ≤ len_of self.entry }
@@ -195,6 +235,10 @@ impl<'a, T: BitStore, O: BitOrder> BitSlice<'a, T, O> {
     }
 
     /// Whether no bit is true. Of an empty view it is true.
+    ///
+    /// ```text
+    /// of 01101001: bits.not_any() == false
+    /// ```
     pub fn not_any(self) -> bool
         ensures value { result ≡ not (list_any (λ b. b) (list_of self.entry)) }
         ensures index { IsTrue result ↔ EachIndex (list_of self.entry) (λ i. slice_get (list_of self.entry) i ≡ Some false) }
@@ -203,6 +247,10 @@ impl<'a, T: BitStore, O: BitOrder> BitSlice<'a, T, O> {
     }
 
     /// Whether some bit is false. Of an empty view it is false.
+    ///
+    /// ```text
+    /// of 01101001: bits.not_all() == true
+    /// ```
     pub fn not_all(self) -> bool
         ensures value { result ≡ not (list_all (λ b. b) (list_of self.entry)) }
         ensures index { IsTrue result ↔ SomeIndex (list_of self.entry) (λ i. slice_get (list_of self.entry) i ≡ Some false) }
@@ -211,6 +259,10 @@ impl<'a, T: BitStore, O: BitOrder> BitSlice<'a, T, O> {
     }
 
     /// Whether some bit is true and some bit is false.
+    ///
+    /// ```text
+    /// of 01101001: bits.some() == true
+    /// ```
     pub fn some(self) -> bool
         ensures value { result ≡ (list_any (λ b. b) (list_of self.entry) && not (list_all (λ b. b) (list_of self.entry))) }
         ensures one { IsTrue result → SomeIndex (list_of self.entry) (λ i. slice_get (list_of self.entry) i ≡ Some true) }

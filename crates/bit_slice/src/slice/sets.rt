@@ -71,6 +71,10 @@ fn any_pair<F: BitOperator, T: BitStore, O: BitOrder, U: BitStore, P: BitOrder>(
 
 impl<'a, T: BitStore, O: BitOrder> BitSlice<'a, T, O> {
     /// How many indices are true in both views, 64 at a time.
+    ///
+    /// ```text
+    /// of 01101001 and 11110000: bits.count_and(other) == 2
+    /// ```
     pub fn count_and<U: BitStore, P: BitOrder>(self, other: BitSlice<'_, U, P>) -> usize
         ensures value { result ≡ count_by (λ b. b) (and_of (list_of self.entry) (list_of other.entry)) }
         ensures few { result ≤ len_of self.entry }
@@ -80,6 +84,10 @@ impl<'a, T: BitStore, O: BitOrder> BitSlice<'a, T, O> {
 
     /// How many indices are true in one of the views or in both, 64 at a time. The shorter view counts as
     /// filled up with false.
+    ///
+    /// ```text
+    /// of 01101001 and 11110000: bits.count_or(other) == 6
+    /// ```
     pub fn count_or<U: BitStore, P: BitOrder>(self, other: BitSlice<'_, U, P>) -> usize
         ensures value { result ≡ count_by (λ b. b) (or_of (list_of self.entry) (list_of other.entry)) + count_by (λ b. b) (drop (len_of self.entry) (list_of other.entry)) }
         ensures with_and { result + count_by (λ b. b) (and_of (list_of self.entry) (list_of other.entry)) ≡ count_by (λ b. b) (list_of self.entry) + count_by (λ b. b) (list_of other.entry) }
@@ -92,6 +100,10 @@ impl<'a, T: BitStore, O: BitOrder> BitSlice<'a, T, O> {
     }
 
     /// How many indices differ, 64 at a time. The shorter view counts as filled up with false.
+    ///
+    /// ```text
+    /// of 01101001 and 11110000: bits.count_xor(other) == 4
+    /// ```
     pub fn count_xor<U: BitStore, P: BitOrder>(self, other: BitSlice<'_, U, P>) -> usize
         ensures value { result ≡ count_by (λ b. b) (xor_of (list_of self.entry) (list_of other.entry)) + count_by (λ b. b) (drop (len_of self.entry) (list_of other.entry)) }
         ensures with_and { result + 2 * count_by (λ b. b) (and_of (list_of self.entry) (list_of other.entry)) ≡ count_by (λ b. b) (list_of self.entry) + count_by (λ b. b) (list_of other.entry) }
@@ -116,6 +128,10 @@ impl<'a, T: BitStore, O: BitOrder> BitSlice<'a, T, O> {
 
     /// Whether each index that is true is true in `other`, 64 at a time. An index that `other` is too
     /// short for is false there.
+    ///
+    /// ```text
+    /// of 01101001 and 01101111: bits.is_subset(other) == true
+    /// ```
     pub fn is_subset<U: BitStore, P: BitOrder>(self, other: BitSlice<'_, U, P>) -> bool
         ensures value { result ≡ not (list_any (λ b. b) (and_not_of (list_of self.entry) (list_of other.entry))) }
         ensures index { IsTrue result ↔ ((j : ℕ) → slice_get (list_of self.entry) j ≡ Some true → slice_get (list_of other.entry) j ≡ Some true) }
@@ -125,6 +141,10 @@ impl<'a, T: BitStore, O: BitOrder> BitSlice<'a, T, O> {
     }
 
     /// Whether each index that is true in `other` is true, 64 at a time.
+    ///
+    /// ```text
+    /// of 01101001 and 01000001: bits.is_superset(other) == true
+    /// ```
     pub fn is_superset<U: BitStore, P: BitOrder>(self, other: BitSlice<'_, U, P>) -> bool
         ensures value { result ≡ not (list_any (λ b. b) (and_not_of (list_of other.entry) (list_of self.entry))) }
         ensures index { IsTrue result ↔ ((j : ℕ) → slice_get (list_of other.entry) j ≡ Some true → slice_get (list_of self.entry) j ≡ Some true) }
@@ -134,6 +154,10 @@ impl<'a, T: BitStore, O: BitOrder> BitSlice<'a, T, O> {
     }
 
     /// Whether an index is true in both views, 64 at a time.
+    ///
+    /// ```text
+    /// of 01101001 and 11110000: bits.intersects(other) == true
+    /// ```
     pub fn intersects<U: BitStore, P: BitOrder>(self, other: BitSlice<'_, U, P>) -> bool
         ensures value { result ≡ list_any (λ b. b) (and_of (list_of self.entry) (list_of other.entry)) }
         ensures index { IsTrue result ↔ SomeIndex (list_of self.entry) (λ j. (slice_get (list_of self.entry) j ≡ Some true) × (slice_get (list_of other.entry) j ≡ Some true)) }
@@ -142,6 +166,10 @@ impl<'a, T: BitStore, O: BitOrder> BitSlice<'a, T, O> {
     }
 
     /// Whether no index is true in both views, 64 at a time.
+    ///
+    /// ```text
+    /// of 01101001 and 10010110: bits.is_disjoint(other) == true
+    /// ```
     pub fn is_disjoint<U: BitStore, P: BitOrder>(self, other: BitSlice<'_, U, P>) -> bool
         ensures value { result ≡ not (list_any (λ b. b) (and_of (list_of self.entry) (list_of other.entry))) }
         ensures index { IsTrue result ↔ ((j : ℕ) → slice_get (list_of self.entry) j ≡ Some true → slice_get (list_of other.entry) j ≢ Some true) }

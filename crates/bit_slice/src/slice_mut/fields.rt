@@ -9,6 +9,10 @@ use bit_addressing::{BitOrder, BitStore, write_binary, write_chunk};
 impl<'a, T: BitStore, O: BitOrder> BitSliceMut<'a, T, O> {
     /// Writes the lowest bits of a number, the least significant first: what `load_le` reads. Requires at
     /// most 64 bits.
+    ///
+    /// ```text
+    /// of 01101001: bits.store_le(5) leaves 10100000
+    /// ```
     pub fn store_le(&mut self, number: u64)
         requires { len_of self.old ≤ 64 }
         ensures row { row_of self.new ≡ put (row_of self.old) (head_of self.old) (number_bits number (len_of self.old)) }
@@ -20,6 +24,10 @@ impl<'a, T: BitStore, O: BitOrder> BitSliceMut<'a, T, O> {
 
     /// Writes the lowest bits of a number, the most significant first: what `load_be` reads. Requires at
     /// most 64 bits.
+    ///
+    /// ```text
+    /// of 01101001: bits.store_be(5) leaves 00000101
+    /// ```
     pub fn store_be(&mut self, number: u64)
         requires { len_of self.old ≤ 64 }
         ensures row { row_of self.new ≡ put (row_of self.old) (head_of self.old) (binary (len_of self.old) number) }

@@ -13,6 +13,10 @@ use bit_addressing::{And, BitOrder, BitStore, Or, RangeExt, Xor};
 
 impl<'a, T: BitStore, O: BitOrder> BitSliceMut<'a, T, O> {
     /// Reverses the bits of the view, up to 64 from each end at a time.
+    ///
+    /// ```text
+    /// of 01101001: bits.reverse() leaves 10010110
+    /// ```
     pub fn reverse(&mut self)
         ensures row { row_of self.new ≡ put (row_of self.old) (head_of self.old) (reverse (list_of self.old)) }
         ensures list { list_of self.new ≡ reverse (list_of self.old) }
@@ -24,6 +28,10 @@ impl<'a, T: BitStore, O: BitOrder> BitSliceMut<'a, T, O> {
 
     /// Moves the first `by` bits after the others, by whole words where it can. Requires that `by` is at
     /// most the length.
+    ///
+    /// ```text
+    /// of 01101001: bits.rotate_left(2) leaves 10100101
+    /// ```
     #[tactic(auto, using(crate::proofs::Parts::roomy))]
     pub fn rotate_left(&mut self, by: usize)
         requires { by ≤ len_of self.old }
@@ -38,6 +46,10 @@ impl<'a, T: BitStore, O: BitOrder> BitSliceMut<'a, T, O> {
 
     /// Moves the last `by` bits before the others, by whole words where it can. Requires that `by` is at
     /// most the length.
+    ///
+    /// ```text
+    /// of 01101001: bits.rotate_right(2) leaves 01011010
+    /// ```
     #[tactic(auto, using(crate::proofs::Parts::roomy))]
     pub fn rotate_right(&mut self, by: usize)
         requires { by ≤ len_of self.old }
@@ -53,6 +65,10 @@ impl<'a, T: BitStore, O: BitOrder> BitSliceMut<'a, T, O> {
 
     /// Moves each bit `by` indices towards the front, by whole words where it can: the first `by` go, and
     /// the last `by` are false. Requires that `by` is at most the length.
+    ///
+    /// ```text
+    /// of 01101001: bits.shift_left(2) leaves 10100100
+    /// ```
     #[tactic(auto, using(crate::proofs::Parts::roomy))]
     pub fn shift_left(&mut self, by: usize)
         requires { by ≤ len_of self.old }
@@ -67,6 +83,10 @@ impl<'a, T: BitStore, O: BitOrder> BitSliceMut<'a, T, O> {
 
     /// Moves each bit `by` indices towards the end, by whole words where it can: the last `by` go, and the
     /// first `by` are false. Requires that `by` is at most the length.
+    ///
+    /// ```text
+    /// of 01101001: bits.shift_right(2) leaves 00011010
+    /// ```
     #[tactic(auto, using(crate::proofs::Parts::roomy))]
     pub fn shift_right(&mut self, by: usize)
         requires { by ≤ len_of self.old }
@@ -82,6 +102,10 @@ impl<'a, T: BitStore, O: BitOrder> BitSliceMut<'a, T, O> {
     /// Clears each of the bits from `dest` on that is false at its index of a range of the same
     /// view, as if the range was read before any bit is written. The two may overlap. Requires that the
     /// range lies in the view, and as many bits from `dest` on.
+    ///
+    /// ```text
+    /// of 01101001: bits.and_within(4..8, 0) leaves 00001001
+    /// ```
     pub fn and_within<R: RangeExt>(&mut self, range: R, dest: usize)
         requires lies { LiesIn (R.start_of range) (R.end_of range (len_of self.old)) (len_of self.old) }
         requires room { dest + (R.end_of range (len_of self.old) - R.start_of range) ≤ len_of self.old }
@@ -97,6 +121,10 @@ impl<'a, T: BitStore, O: BitOrder> BitSliceMut<'a, T, O> {
     /// Sets each of the bits from `dest` on that is true at its index of a range of the same
     /// view, as if the range was read before any bit is written. The two may overlap. Requires that the
     /// range lies in the view, and as many bits from `dest` on.
+    ///
+    /// ```text
+    /// of 01101001: bits.or_within(4..8, 0) leaves 11111001
+    /// ```
     pub fn or_within<R: RangeExt>(&mut self, range: R, dest: usize)
         requires lies { LiesIn (R.start_of range) (R.end_of range (len_of self.old)) (len_of self.old) }
         requires room { dest + (R.end_of range (len_of self.old) - R.start_of range) ≤ len_of self.old }
@@ -112,6 +140,10 @@ impl<'a, T: BitStore, O: BitOrder> BitSliceMut<'a, T, O> {
     /// Flips each of the bits from `dest` on that is true at its index of a range of the same
     /// view, as if the range was read before any bit is written. The two may overlap. Requires that the
     /// range lies in the view, and as many bits from `dest` on.
+    ///
+    /// ```text
+    /// of 01101001: bits.xor_within(4..8, 0) leaves 11111001
+    /// ```
     pub fn xor_within<R: RangeExt>(&mut self, range: R, dest: usize)
         requires lies { LiesIn (R.start_of range) (R.end_of range (len_of self.old)) (len_of self.old) }
         requires room { dest + (R.end_of range (len_of self.old) - R.start_of range) ≤ len_of self.old }

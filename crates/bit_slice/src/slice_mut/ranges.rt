@@ -18,6 +18,10 @@ use bit_addressing::{
 impl<'a, T: BitStore, O: BitOrder> BitSliceMut<'a, T, O> {
     /// Writes `bit` at each index of a range, by whole words where it can. Requires that the range lies
     /// in the view's length.
+    ///
+    /// ```text
+    /// of 01101001: bits.fill_range(2..6, true) leaves 01111101
+    /// ```
     pub fn fill_range<R: RangeExt>(&mut self, range: R, bit: bool)
         requires lies { LiesIn (R.start_of range) (R.end_of range (len_of self.old)) (len_of self.old) }
         ensures row { row_of self.new ≡ put (row_of self.old) (head_of self.old + R.start_of range) (replicate (R.end_of range (len_of self.old) - R.start_of range) bit) }
@@ -34,6 +38,10 @@ impl<'a, T: BitStore, O: BitOrder> BitSliceMut<'a, T, O> {
 
     /// Flips the bit at each index of a range, 64 at a time. Requires that the range lies in the view's
     /// length.
+    ///
+    /// ```text
+    /// of 01101001: bits.flip_range(1..4) leaves 00011001
+    /// ```
     pub fn flip_range<R: RangeExt>(&mut self, range: R)
         requires lies { LiesIn (R.start_of range) (R.end_of range (len_of self.old)) (len_of self.old) }
         ensures row { row_of self.new ≡ put (row_of self.old) (head_of self.old + R.start_of range) (map not (slice_range (list_of self.old) (R.start_of range) (R.end_of range (len_of self.old)))) }
@@ -48,6 +56,10 @@ impl<'a, T: BitStore, O: BitOrder> BitSliceMut<'a, T, O> {
     }
 
     /// Flips the bit at index `i`. Requires that `i` is below the length.
+    ///
+    /// ```text
+    /// of 01101001: bits.flip(2) leaves 01001001
+    /// ```
     pub fn flip(&mut self, i: usize)
         requires { i < len_of self.old }
         ensures row { row_of self.new ≡ set (row_of self.old) (head_of self.old + i) (not (slice_index_or (list_of self.old) i false)) }
@@ -60,6 +72,10 @@ impl<'a, T: BitStore, O: BitOrder> BitSliceMut<'a, T, O> {
     }
 
     /// Flips every bit of the view, 64 at a time.
+    ///
+    /// ```text
+    /// of 01101001: bits.flip_all() leaves 10010110
+    /// ```
     pub fn flip_all(&mut self)
         ensures row { row_of self.new ≡ put (row_of self.old) (head_of self.old) (map not (list_of self.old)) }
         ensures list { list_of self.new ≡ map not (list_of self.old) }
@@ -70,6 +86,10 @@ impl<'a, T: BitStore, O: BitOrder> BitSliceMut<'a, T, O> {
     }
 
     /// Clears each bit that is true in `other`.
+    ///
+    /// ```text
+    /// of 01101001 and 01010101: bits.and_not_bits(other) leaves 00101000
+    /// ```
     pub fn and_not_bits<U: BitStore, P: BitOrder>(&mut self, other: BitSlice<'_, U, P>)
         ensures row { row_of self.new ≡ put (row_of self.old) (head_of self.old) (and_not_of (list_of self.old) (list_seen other.entry)) }
         ensures list { list_of self.new ≡ and_not_of (list_of self.old) (list_seen other.entry) }
@@ -83,6 +103,10 @@ impl<'a, T: BitStore, O: BitOrder> BitSliceMut<'a, T, O> {
 
     /// Writes the bits of another view, of any word type and order, at the indices of a range. Requires
     /// that the range lies in the view's length, and is as long as the other view.
+    ///
+    /// ```text
+    /// of 01101001 and 0101: bits.copy_into(1..5, other) leaves 00101001
+    /// ```
     pub fn copy_into<R: RangeExt, U: BitStore, P: BitOrder>(
         &mut self,
         range: R,
@@ -130,6 +154,10 @@ impl<'a, T: BitStore, O: BitOrder> BitSliceMut<'a, T, O> {
 
     /// Clears each bit at the indices of a range that is false in `other`, or that `other` is too short
     /// for: the first bit of `other` is for the first of the range. Requires that the range lies in the view's length.
+    ///
+    /// ```text
+    /// of 01101001 and 0101: bits.and_range(1..5, other) leaves 00101001
+    /// ```
     pub fn and_range<R: RangeExt, U: BitStore, P: BitOrder>(
         &mut self,
         range: R,
@@ -147,6 +175,10 @@ impl<'a, T: BitStore, O: BitOrder> BitSliceMut<'a, T, O> {
 
     /// Sets each bit at the indices of a range that is true in `other`: the first bit of `other` is for
     /// the first of the range. Requires that the range lies in the view's length.
+    ///
+    /// ```text
+    /// of 01101001 and 0101: bits.or_range(1..5, other) leaves 01101001
+    /// ```
     pub fn or_range<R: RangeExt, U: BitStore, P: BitOrder>(
         &mut self,
         range: R,
@@ -164,6 +196,10 @@ impl<'a, T: BitStore, O: BitOrder> BitSliceMut<'a, T, O> {
 
     /// Flips each bit at the indices of a range that is true in `other`: the first bit of `other` is for
     /// the first of the range. Requires that the range lies in the view's length.
+    ///
+    /// ```text
+    /// of 01101001 and 0101: bits.xor_range(1..5, other) leaves 01000001
+    /// ```
     pub fn xor_range<R: RangeExt, U: BitStore, P: BitOrder>(
         &mut self,
         range: R,

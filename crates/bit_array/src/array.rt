@@ -64,6 +64,10 @@ impl<A: BitWords, O: BitOrder> BitArray<A, O> {
     }
 
     /// All bits false. Requires that they are at most `MAX_BITS`, as `fits` tests.
+    ///
+    /// ```text
+    /// BitArray::<u8, Lsb0>::zero() holds 00000000
+    /// ```
     pub fn zero() -> Self
         requires { A.Store.BITS * A.count ≤ MAX_BITS }
         ensures words { A.words result ≡ replicate A.count A.Store.ZERO }
@@ -78,6 +82,10 @@ impl<A: BitWords, O: BitOrder> BitArray<A, O> {
 
     /// The bits of these words, which are kept as they are. Requires that they are at most `MAX_BITS`, as
     /// `fits` tests.
+    ///
+    /// ```text
+    /// BitArray::<u8, Lsb0>::new(3) holds 11000000
+    /// ```
     #[tactic(auto, using(bit_slice::proofs::Parts::row_size))]
     pub fn new(inner: A) -> Self
         requires { A.Store.BITS * A.count ≤ MAX_BITS }
@@ -92,6 +100,10 @@ impl<A: BitWords, O: BitOrder> BitArray<A, O> {
     }
 
     /// The words, as they are.
+    ///
+    /// ```text
+    /// of 01101001: bits.into_inner() == 150
+    /// ```
     pub fn into_inner(self) -> A
         ensures value { result ≡ self }
         ensures words { A.words result ≡ words_for_list A.Store.BitStore O.BitOrder (row A.Store.BitStore O.BitOrder (A.words self)) }

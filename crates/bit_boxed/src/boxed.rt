@@ -222,6 +222,10 @@ impl<T: BitStore, O: BitOrder> BitBox<T, O> {
 
     /// The bits of a view, from head 0 on, by whole words: the words are canonical, those of the list and
     /// then false. Takes memory where the view has a bit, and is refused only then.
+    ///
+    /// ```text
+    /// of 0110: BitBox::from_bitslice(alloc, bits.as_bitslice())?.as_bitslice() shows 0110
+    /// ```
     pub fn from_bitslice(alloc: Global, view: BitSlice<'_, T, O>) -> Result<Self, AllocError>
         ensures list { IfOk result (λ b. b.list ≡ list_of view.entry) }
         ensures len { IfOk result (λ b. length b.list ≡ len_of view.entry) }
@@ -237,6 +241,10 @@ impl<T: BitStore, O: BitOrder> BitBox<T, O> {
 
     /// The bits of a view: its head is kept, its words are copied, and their dead bits are false. Takes
     /// memory where the view has a word, and is refused only then.
+    ///
+    /// ```text
+    /// of 0110: BitBox::from_bitslice_headed(alloc, bits.as_bitslice())?.as_bitslice() shows 0110
+    /// ```
     pub fn from_bitslice_headed(alloc: Global, view: BitSlice<'_, T, O>) -> Result<Self, AllocError>
         ensures head { IfOk result (λ b. b.head ≡ head_of view.entry) }
         ensures list { IfOk result (λ b. b.list ≡ list_of view.entry) }
@@ -284,6 +292,10 @@ impl<T: BitStore, O: BitOrder> BitBox<T, O> {
     }
 
     /// All the words, as they are. Takes no memory.
+    ///
+    /// ```text
+    /// of 0110: bits.into_boxed_slice().len() == 1
+    /// ```
     pub fn into_boxed_slice(self) -> BoxedSlice<T>
         ensures words { boxed_slice_items result ≡ self.words }
         ensures row { row T.BitStore O.BitOrder (boxed_slice_items result) ≡ self.row }
@@ -295,6 +307,10 @@ impl<T: BitStore, O: BitOrder> BitBox<T, O> {
 
     /// Makes the head 0: the list moves to the beginning of the words, by one counted move. The words stay as
     /// many. Takes no memory.
+    ///
+    /// ```text
+    /// of 0110: bits.force_align() leaves 0110
+    /// ```
     #[tactic(auto, using(bit_slice::proofs::Parts::shown_length))]
     pub fn force_align(&mut self)
         ensures head { self.new.head ≡ 0 }
@@ -308,6 +324,10 @@ impl<T: BitStore, O: BitOrder> BitBox<T, O> {
     }
 
     /// Makes every dead bit of all the words `bit`, and changes no bit of the list. Takes no memory.
+    ///
+    /// ```text
+    /// of 0110: bits.fill_uninitialized(true) leaves 0110
+    /// ```
     #[tactic(auto, using(bit_slice::proofs::Parts::shown_length))]
     pub fn fill_uninitialized(&mut self, bit: bool)
         ensures list { self.new.list ≡ self.old.list }

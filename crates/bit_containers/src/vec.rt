@@ -88,6 +88,10 @@ impl<T: BitStore, O: BitOrder> Model for BitVec<T, O> {
 
 impl<T: BitStore, O: BitOrder> BitVec<T, O> {
     /// The empty vector: head 0, and no word. Takes no memory.
+    ///
+    /// ```text
+    /// BitVec::<u8, Lsb0>::new(alloc) holds nothing
+    /// ```
     pub fn new(alloc: Global) -> Self
         ensures words { result.words ≡ [] }
         ensures row { result.row ≡ [] }
@@ -178,6 +182,10 @@ impl<T: BitStore, O: BitOrder> BitVec<T, O> {
     }
 
     /// All bits of these words, which are kept: head 0. Takes no memory. Requires that they fit, as `fits` tests.
+    ///
+    /// ```text
+    /// of 0110: BitVec::<u8, Lsb0>::from_vec(bits.into_vec()).as_bitslice() shows 01100000
+    /// ```
     pub fn from_vec(words: Vec<T>) -> Self
         requires { T.BITS * length words.items ≤ MAX_BITS }
         ensures words { result.words ≡ words.items }
@@ -217,6 +225,10 @@ impl<T: BitStore, O: BitOrder> BitVec<T, O> {
 
     /// All bits of these words, which are copied: head 0. Takes memory where there is a word, and is refused
     /// only then. Requires that they fit, as `fits` tests.
+    ///
+    /// ```text
+    /// BitVec::<u8, Lsb0>::from_slice(alloc, &[3])? holds 11000000
+    /// ```
     pub fn from_slice(alloc: Global, words: &[T]) -> Result<Self, AllocError>
         requires { T.BITS * length words.now ≤ MAX_BITS }
         ensures words { IfOk result (λ v. v.words ≡ words.now) }
@@ -272,6 +284,10 @@ impl<T: BitStore, O: BitOrder> BitVec<T, O> {
 
     /// The bits of a view, from head 0 on, by whole words: the words are canonical, those of the list and
     /// then false. Takes memory where the view has a bit, and is refused only then.
+    ///
+    /// ```text
+    /// of 0110: BitVec::from_bitslice(alloc, bits.as_bitslice())?.as_bitslice() shows 0110
+    /// ```
     pub fn from_bitslice(alloc: Global, view: BitSlice<'_, T, O>) -> Result<Self, AllocError>
         ensures list { IfOk result (λ v. v.list ≡ list_of view.entry) }
         ensures len { IfOk result (λ v. length v.list ≡ len_of view.entry) }
@@ -289,6 +305,10 @@ impl<T: BitStore, O: BitOrder> BitVec<T, O> {
 
     /// The bits of a view: its head is kept, its words are copied, and their dead bits are false. Takes
     /// memory where the view has a word, and is refused only then.
+    ///
+    /// ```text
+    /// of 0110: BitVec::from_bitslice_headed(alloc, bits.as_bitslice())?.as_bitslice() shows 0110
+    /// ```
     #[tactic(auto, using(bit_slice::proofs::Parts::shown_length))]
     pub fn from_bitslice_headed(alloc: Global, view: BitSlice<'_, T, O>) -> Result<Self, AllocError>
         ensures head { IfOk result (λ v. v.head ≡ head_of view.entry) }
@@ -311,6 +331,10 @@ impl<T: BitStore, O: BitOrder> BitVec<T, O> {
     }
 
     /// The visible words, as they are. Takes no memory.
+    ///
+    /// ```text
+    /// of 01101001: bits.into_vec()[0] == 150
+    /// ```
     pub fn into_vec(self) -> Vec<T>
         ensures words { result.items ≡ self.words }
         ensures row { row T.BitStore O.BitOrder result.items ≡ self.row }
@@ -326,6 +350,10 @@ impl<T: BitStore, O: BitOrder> BitVec<T, O> {
 
     /// Makes the head 0: the list moves to the beginning of the words, by one counted move, and the words
     /// are cut to the visible ones. Takes no memory.
+    ///
+    /// ```text
+    /// of 0110: bits.force_align() leaves 0110
+    /// ```
     #[tactic(auto, using(bit_slice::proofs::Parts::shown_length))]
     pub fn force_align(&mut self)
         ensures head { self.new.head ≡ 0 }
@@ -341,6 +369,10 @@ impl<T: BitStore, O: BitOrder> BitVec<T, O> {
 
     /// Makes every dead bit `bit`, and changes no bit of the list. Takes no memory. Where the head is 0 and
     /// `bit` is false, the words are canonical: those of the list and then false.
+    ///
+    /// ```text
+    /// of 0110: bits.set_uninitialized(true) leaves 0110
+    /// ```
     #[tactic(auto, using(bit_slice::proofs::Parts::shown_length))]
     pub fn set_uninitialized(&mut self, bit: bool)
         ensures list { self.new.list ≡ self.old.list }

@@ -116,6 +116,10 @@ impl<'a, T: BitStore, O: BitOrder> BitSlice<'a, T, O> {
     }
 
     /// The words that the view borrows: as many as its head and length take.
+    ///
+    /// ```text
+    /// of 01101001: bits.as_raw_slice()[0] == 150
+    /// ```
     pub fn as_raw_slice(self) -> &'a [T]
         ensures words { result.now ≡ words_of self.entry }
         ensures exact { length result.now ≡ words_for T.BITS (head_of self.entry + len_of self.entry) }
@@ -126,6 +130,10 @@ impl<'a, T: BitStore, O: BitOrder> BitSlice<'a, T, O> {
     }
 
     /// The view with a meter at 0, for comparisons and counts whose word reads are counted.
+    ///
+    /// ```text
+    /// of 01101001: bits.counted().count_ones_counted() == 4
+    /// ```
     pub fn counted(self) -> Counted<'a, T, O>
         ensures words { words_counted result ≡ words_of self.entry }
         ensures head { head_counted result ≡ head_of self.entry }

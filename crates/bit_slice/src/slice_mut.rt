@@ -104,6 +104,10 @@ impl<'a, T: BitStore, O: BitOrder> BitSliceMut<'a, T, O> {
     }
 
     /// The words that the view borrows: as many as its head and length take.
+    ///
+    /// ```text
+    /// of 01101001: bits.as_raw_slice()[0] == 150
+    /// ```
     pub fn as_raw_slice(&self) -> &[T]
         ensures words { result.now ≡ words_of self.now }
         ensures exact { length result.now ≡ words_for T.BITS (head_of self.now + len_of self.now) }
@@ -114,6 +118,10 @@ impl<'a, T: BitStore, O: BitOrder> BitSliceMut<'a, T, O> {
     }
 
     /// The words that the view borrows, for writing: what is written into them stands in the view.
+    ///
+    /// ```text
+    /// of 01101001: bits.as_raw_mut_slice()[0] = 3 leaves 11000000
+    /// ```
     pub fn as_raw_mut_slice(&mut self) -> &mut [T]
         ensures* writes_back { sem 𝓛 (lends_words T.row O.row T.BitStore O.BitOrder self.entry result.ghost_name) }
         ensures words { result.now ≡ words_of self.old }

@@ -34,6 +34,10 @@ impl<A: BitWords, O: BitOrder> BitArray<A, O> {
     }
 
     /// The first bit, and a view of the others. None exactly where the array is empty.
+    ///
+    /// ```text
+    /// of 01101001: bits.split_first().is_some() == true
+    /// ```
     pub fn split_first(&self) -> Option<(bool, BitSlice<'_, A::Store, O>)>
         ensures none { IsNone result ↔ (A.Store.BITS * A.count ≡ 0) }
         ensures both { IfSome result (λ r. row A.Store.BitStore O.BitOrder (A.words self.now) ≡ r.0 ∷ list_of r.1) }
@@ -43,6 +47,10 @@ impl<A: BitWords, O: BitOrder> BitArray<A, O> {
     }
 
     /// The last bit, and a view of the others. None exactly where the array is empty.
+    ///
+    /// ```text
+    /// of 01101001: bits.split_last().is_some() == true
+    /// ```
     pub fn split_last(&self) -> Option<(bool, BitSlice<'_, A::Store, O>)>
         ensures none { IsNone result ↔ (A.Store.BITS * A.count ≡ 0) }
         ensures both { IfSome result (λ r. row A.Store.BitStore O.BitOrder (A.words self.now) ≡ list_of r.1 ++ r.0 ∷ []) }

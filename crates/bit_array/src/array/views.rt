@@ -42,6 +42,10 @@ impl<A: BitWords, O: BitOrder> BitArray<A, O> {
     }
 
     /// The words.
+    ///
+    /// ```text
+    /// of 01101001: bits.as_raw_slice()[0] == 150
+    /// ```
     #[tactic(auto, using(crate::proofs::Arrays::words_of_bits))]
     pub fn as_raw_slice(&self) -> &[A::Store]
         ensures words { result.now ≡ A.words self.now }
@@ -57,6 +61,10 @@ impl<A: BitWords, O: BitOrder> BitArray<A, O> {
 
 impl<A: BitViewSized, O: BitOrder> BitArray<A, O> {
     /// The view of the array's bits, for writing: what is written lands in the array.
+    ///
+    /// ```text
+    /// of 01101001: bits.as_mut_bitslice().fill(true) leaves 11111111
+    /// ```
     pub fn as_mut_bitslice(&mut self) -> BitSliceMut<'_, A::Store, O>
         ensures* writes_back { sem 𝓛 (lends_view (the_row A.row O.row A.Store.row A.BitWords A.Store.BitStore O.BitOrder) A.Store.row self.entry (A.refilled self.old) (loan_of result)) }
         ensures words { lent_words result ≡ A.words self.old }
@@ -68,6 +76,10 @@ impl<A: BitViewSized, O: BitOrder> BitArray<A, O> {
     }
 
     /// Like `as_mut_bitslice`.
+    ///
+    /// ```text
+    /// of 01101001: bits.as_mut_slice().fill(true) leaves 11111111
+    /// ```
     pub fn as_mut_slice(&mut self) -> BitSliceMut<'_, A::Store, O>
         ensures* writes_back { sem 𝓛 (lends_view (the_row A.row O.row A.Store.row A.BitWords A.Store.BitStore O.BitOrder) A.Store.row self.entry (A.refilled self.old) (loan_of result)) }
         ensures words { lent_words result ≡ A.words self.old }
@@ -79,6 +91,10 @@ impl<A: BitViewSized, O: BitOrder> BitArray<A, O> {
     }
 
     /// The words, for writing: what is written lands in the array.
+    ///
+    /// ```text
+    /// of 01101001: bits.as_raw_mut_slice()[0] = 3 leaves 11000000
+    /// ```
     pub fn as_raw_mut_slice(&mut self) -> &mut [A::Store]
         ensures* writes_back { sem 𝓛 (lends_words (the_row A.row O.row A.Store.row A.BitWords A.Store.BitStore O.BitOrder) A.Store.row self.entry (A.refilled self.old) result) }
         ensures words { result.now ≡ A.words self.old }

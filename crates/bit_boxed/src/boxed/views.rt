@@ -28,6 +28,10 @@ impl<T: BitStore, O: BitOrder> BitBox<T, O> {
     }
 
     /// The view of the box's bits, for writing: what is written lands in the box.
+    ///
+    /// ```text
+    /// of 01101001: bits.as_mut_bitslice().fill(true) leaves 11111111
+    /// ```
     pub fn as_mut_bitslice(&mut self) -> BitSliceMut<'_, T, O>
         ensures* writes_back { sem 𝓛 (lends_view T.row O.row T.BitStore O.BitOrder self.entry (loan_of result)) }
         ensures words { lent_words result ≡ take (words_for T.BITS (self.old.head + length self.old.list)) self.old.words }
@@ -55,6 +59,10 @@ impl<T: BitStore, O: BitOrder> BitBox<T, O> {
     ///
     /// The clauses say of the part its list, head and words. What a caller's own proof has to know of the whole box
     /// after a write is said by the calls that take a range: `fill_range`, `flip_range`, `copy_into` and `or_range`.
+    ///
+    /// ```text
+    /// of 01101001: bits.part_mut(1, 4).fill(false) leaves 00001001
+    /// ```
     pub fn part_mut(&mut self, from: usize, upto: usize) -> BitSliceMut<'_, T, O>
         requires ordered { from ≤ upto }
         requires inside { upto ≤ length self.old.list }
@@ -75,6 +83,10 @@ impl<T: BitStore, O: BitOrder> BitBox<T, O> {
     }
 
     /// All the words that the box owns.
+    ///
+    /// ```text
+    /// of 01101001: bits.as_raw_slice()[0] == 150
+    /// ```
     pub fn as_raw_slice(&self) -> &[T]
         ensures words { result.now ≡ self.now.words }
         ensures row { row T.BitStore O.BitOrder result.now ≡ self.now.row }
@@ -87,6 +99,10 @@ impl<T: BitStore, O: BitOrder> BitBox<T, O> {
     }
 
     /// All the words that the box owns, for writing: what is written lands in the row, live bits and dead ones.
+    ///
+    /// ```text
+    /// of 01101001: bits.as_raw_mut_slice()[0] = 3 leaves 11000000
+    /// ```
     pub fn as_raw_mut_slice(&mut self) -> &mut [T]
         ensures* writes_back { sem 𝓛 (lends_words T.row O.row T.BitStore O.BitOrder self.entry result) }
         ensures value { result.now ≡ self.old.words }

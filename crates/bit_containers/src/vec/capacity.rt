@@ -11,6 +11,10 @@ use std::alloc::{AllocError, Global};
 impl<T: BitStore, O: BitOrder> BitVec<T, O> {
     /// How many bits the vector has room for without new memory: those of the words that its memory holds,
     /// or `usize::MAX` if they are more, and of these all from the head on.
+    ///
+    /// ```text
+    /// of 0110: bits.capacity() % 8 == 0
+    /// ```
     pub fn capacity(&self) -> usize
         ensures value { result ≡ self.now.capacity }
         ensures enough { length self.now.list ≤ result }
@@ -35,6 +39,10 @@ impl<T: BitStore, O: BitOrder> BitVec<T, O> {
     /// Makes room for `more` bits more, and for some beyond them where memory is taken. Words and list stay.
     /// Returns `TooLong` exactly where the length would pass `MAX_BITS`, and `OutOfMemory` only where it
     /// would pass the capacity.
+    ///
+    /// ```text
+    /// of 0110: bits.reserve(100)? leaves 0110
+    /// ```
     pub fn reserve(&mut self, more: usize) -> Result<(), GrowError>
         ensures kept { IsKept self.old self.new }
         ensures room { OnOk result (length self.old.list + more ≤ self.new.capacity) }
@@ -48,6 +56,10 @@ impl<T: BitStore, O: BitOrder> BitVec<T, O> {
     }
 
     /// Makes room for `more` bits more, and takes memory for no word beyond them. Otherwise as `reserve`.
+    ///
+    /// ```text
+    /// of 0110: bits.reserve_exact(100)? leaves 0110
+    /// ```
     pub fn reserve_exact(&mut self, more: usize) -> Result<(), GrowError>
         ensures kept { IsKept self.old self.new }
         ensures room { OnOk result (length self.old.list + more ≤ self.new.capacity) }
@@ -61,6 +73,10 @@ impl<T: BitStore, O: BitOrder> BitVec<T, O> {
     }
 
     /// Gives back memory that no visible word takes, where it can. Words and list stay. It always succeeds.
+    ///
+    /// ```text
+    /// of 0110: bits.shrink_to_fit()? leaves 0110
+    /// ```
     pub fn shrink_to_fit(&mut self) -> Result<(), AllocError>
         ensures kept { IsKept self.old self.new }
         ensures succeeds { IsOk result }

@@ -37,6 +37,10 @@ impl<T: BitStore, O: BitOrder> BitVec<T, O> {
 
     /// Like `resize_with`, with a function that is lent: it ends in the state that the last call left, and where the
     /// vector shrinks or is refused, in the one that it had.
+    ///
+    /// ```text
+    /// of 0110: bits.resize_by(6, &mut |i: usize| i == 5)? leaves 011001
+    /// ```
     pub fn resize_by<F: FnMut(usize) -> bool>(
         &mut self,
         n: usize,
@@ -96,6 +100,10 @@ impl<T: BitStore, O: BitOrder> BitVec<T, O> {
 
     /// Like `retain`, with a function that is lent: it ends in the state that the last call left, and where there is
     /// no bit in the one that it had.
+    ///
+    /// ```text
+    /// of 0110: bits.retain_by(&mut |_i: usize, bit: &bool| *bit) leaves 11
+    /// ```
     pub fn retain_by<F: FnMut(usize, &bool) -> bool>(&mut self, f: &mut F)
         requires { F.IsAlwaysCallable f.old }
         ensures list { (answers : List Bool) × AnswersAtEach F.step f.old 0 self.old.list answers f.new × (self.new.list ≡ kept self.old.list answers) }

@@ -51,6 +51,10 @@ impl<T: BitStore, O: BitOrder> BitVec<T, O> {
 
     /// The box of the same words, head and list. Memory that no word takes is given back, and it always
     /// succeeds.
+    ///
+    /// ```text
+    /// of 0110: bits.into_boxed_bitslice()?.as_bitslice() shows 0110
+    /// ```
     pub fn into_boxed_bitslice(self) -> Result<BitBox<T, O>, AllocError>
         ensures words { IfOk result (λ b. b.words ≡ self.words) }
         ensures row { IfOk result (λ b. b.row ≡ self.row) }

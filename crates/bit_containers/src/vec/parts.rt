@@ -32,6 +32,10 @@ impl<T: BitStore, O: BitOrder> BitVec<T, O> {
     }
 
     /// The first bit, and a view of the others. None exactly where the vector is empty.
+    ///
+    /// ```text
+    /// of 01101001: bits.split_first().is_some() == true
+    /// ```
     pub fn split_first(&self) -> Option<(bool, BitSlice<'_, T, O>)>
         ensures none { IsNone result ↔ (length self.now.list ≡ 0) }
         ensures both { IfSome result (λ r. self.now.list ≡ r.0 ∷ list_of r.1) }
@@ -41,6 +45,10 @@ impl<T: BitStore, O: BitOrder> BitVec<T, O> {
     }
 
     /// The last bit, and a view of the others. None exactly where the vector is empty.
+    ///
+    /// ```text
+    /// of 01101001: bits.split_last().is_some() == true
+    /// ```
     pub fn split_last(&self) -> Option<(bool, BitSlice<'_, T, O>)>
         ensures none { IsNone result ↔ (length self.now.list ≡ 0) }
         ensures both { IfSome result (λ r. self.now.list ≡ list_of r.1 ++ r.0 ∷ []) }

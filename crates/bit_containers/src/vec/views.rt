@@ -46,6 +46,10 @@ impl<T: BitStore, O: BitOrder> BitVec<T, O> {
     }
 
     /// The view of the vector's bits, for writing: what is written lands in the vector.
+    ///
+    /// ```text
+    /// of 01101001: bits.as_mut_bitslice().fill(true) leaves 11111111
+    /// ```
     pub fn as_mut_bitslice(&mut self) -> BitSliceMut<'_, T, O>
         ensures* writes_back { sem 𝓛 (lends_view T.row O.row T.BitStore O.BitOrder self.entry (loan_of result)) }
         ensures words { lent_words result ≡ self.old.words }
@@ -59,6 +63,10 @@ impl<T: BitStore, O: BitOrder> BitVec<T, O> {
     }
 
     /// Like `as_mut_bitslice`.
+    ///
+    /// ```text
+    /// of 01101001: bits.as_mut_slice().fill(true) leaves 11111111
+    /// ```
     pub fn as_mut_slice(&mut self) -> BitSliceMut<'_, T, O>
         ensures* writes_back { sem 𝓛 (lends_view T.row O.row T.BitStore O.BitOrder self.entry (loan_of result)) }
         ensures words { lent_words result ≡ self.old.words }
@@ -86,6 +94,10 @@ impl<T: BitStore, O: BitOrder> BitVec<T, O> {
     }
 
     /// The visible words.
+    ///
+    /// ```text
+    /// of 01101001: bits.as_raw_slice()[0] == 150
+    /// ```
     pub fn as_raw_slice(&self) -> &[T]
         ensures words { result.now ≡ self.now.words }
         ensures row { row T.BitStore O.BitOrder result.now ≡ self.now.row }
@@ -100,6 +112,10 @@ impl<T: BitStore, O: BitOrder> BitVec<T, O> {
     }
 
     /// The visible words, for writing: what is written lands in the row, live bits and dead ones.
+    ///
+    /// ```text
+    /// of 01101001: bits.as_raw_mut_slice()[0] = 3 leaves 11000000
+    /// ```
     pub fn as_raw_mut_slice(&mut self) -> &mut [T]
         ensures* writes_back { sem 𝓛 (lends_words T.row O.row T.BitStore O.BitOrder self.entry result) }
         ensures value { result.now ≡ self.old.words }

@@ -23,6 +23,10 @@ impl<'a, T: BitStore, O: BitOrder> BitSlice<'a, T, O> {
     }
 
     /// The first bit, and the others. None exactly where the view is empty.
+    ///
+    /// ```text
+    /// of 01101001: bits.split_first().is_some() == true
+    /// ```
     pub fn split_first(self) -> Option<(bool, Self)>
         ensures none { IsNone result ↔ (len_of self.entry ≡ 0) }
         ensures both { IfSome result (λ r. list_of self.entry ≡ r.0 ∷ list_of r.1) }
@@ -35,6 +39,10 @@ impl<'a, T: BitStore, O: BitOrder> BitSlice<'a, T, O> {
     }
 
     /// The last bit, and the others. None exactly where the view is empty.
+    ///
+    /// ```text
+    /// of 01101001: bits.split_last().is_some() == true
+    /// ```
     pub fn split_last(self) -> Option<(bool, Self)>
         ensures none { IsNone result ↔ (len_of self.entry ≡ 0) }
         ensures both { IfSome result (λ r. list_of self.entry ≡ list_of r.1 ++ r.0 ∷ []) }

@@ -44,13 +44,15 @@ module _ (xs : List ℕ) (x last : ℕ) (up : IsNonDecreasing xs) (is : 0 < leng
       ] in
       let here : get_or (xs ++ x ∷ []) i 0 ≡ x = get_or_push xs x 0 i size in
       let previous : get_or (xs ++ x ∷ []) (i - 1) 0 ≡ get_or xs (i - 1) 0 = get_or_append_left xs (x ∷ []) 0 (i - 1) (omega arith) in
-      let at : get_or xs (length xs - 1) 0 ≡ get_or xs (i - 1) 0 = ap (λ n. get_or xs (n - 1) 0) size in
-      (record {
-        after_one = omega arith;
-        inside = omega arith;
-        below = omega (arith, is some);
-        before = subst IsNonDecreasing (sym (take_at xs (x ∷ []) i size)) up;
-      }, omega arith)
+      let at : get_or xs (length xs - 1) 0 ≡ get_or xs (i - 1) 0 = ap (λ n. get_or xs (n - 1) 0) size in (
+        record {
+          after_one = omega arith;
+          inside = omega arith;
+          below = omega (arith, is some);
+          before = subst IsNonDecreasing (sym (take_at xs (x ∷ []) i size)) up;
+        },
+        omega arith,
+      )
 
 -- ---- the ones
 

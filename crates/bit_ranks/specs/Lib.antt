@@ -1,3 +1,4 @@
+pub mod Numbers
 pub mod Ones
 pub mod Ranks
 pub mod Sorted

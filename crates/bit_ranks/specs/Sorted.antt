@@ -5,6 +5,7 @@ use Rattle.std.specs.List.Sorted.{IsNonDecreasing}
 use Rattle.bit_addressing.specs.Binary.{value}
 use Rattle.bit_addressing.specs.declared.length.TheConstants.{MAX_BITS}
 use Rattle.bit_slice.specs.Places.{ones_of}
+use Rattle.bit_ranks.specs.Ranks.{ones_before}
 
 -- the high bits of number k: how many zeros stand before the one number k
 abbrev pub high_part : List Bool → ℕ → ℕ
@@ -63,6 +64,13 @@ pub record IsPacked (n w : ℕ) (high low : List Bool) : Type 0 where
   pub fits : All (λ number. number < 2 ^ 64) (numbers_of n w high low)
   pub width : w ≡ low_width (numbers_of n w high low)
   pub size : length high ≡ high_len (numbers_of n w high low)
+
+-- number `at` is the first whose one stands at `place` or after it
+pub record IsNextFrom (n w : ℕ) (high low : List Bool) (at place : ℕ) : Type 0 where
+  pub packed : IsPacked n w high low
+  pub inside : at ≤ n
+  pub reached : place ≤ length high
+  pub before : ones_before high place ≡ at
 
 -- of 2, 3, 9 and 9 one bit is low
 abbrev four : List ℕ

@@ -4,11 +4,13 @@ ghost use Rattle.std.specs.List.Sorted.{IsNonDecreasing};
 ghost use Rattle.bit_addressing.specs.declared.length.TheConstants.{MAX_BITS};
 ghost use Rattle.bit_ranks.specs.Sorted.{last_of, low_part, low_width};
 
+mod iter;
 mod making;
 mod search;
 
 use crate::ranks::Ranks;
 use bit_containers::{BitVec, Lsb0};
+pub use iter::Numbers;
 pub use making::SortedError;
 use std::marker::Model;
 

@@ -8,8 +8,8 @@ pub returns-in-Ok-clause-runs : goal.returns-in-Ok-clause-runs
 returns-in-Ok-clause-runs g c =
     let e = c.from_ascending.ensures in
     ok_then c.from_ascending.result e.list (λ s is.
-      let same : s ≡ c.in-Ok.numbers.items = is ∙ c.as_slice.ensures.value in
-      subst (λ v. RunsThrough g.I.IntoIterator.into_iter_gives g.I.IntoIter.Iterator.next_gives c.args.iter (λ numbers. v ≡ numbers)) (sym same) c.in-Ok.ensures.runs)
+    let same : s ≡ c.in-Ok.numbers.items = is ∙ c.as_slice.ensures.value in
+    subst (λ v. RunsThrough g.I.IntoIterator.into_iter_gives g.I.IntoIter.Iterator.next_gives c.args.iter (λ numbers. v ≡ numbers)) (sym same) c.in-Ok.ensures.runs)
 
 pub returns-in-Ok-clause-memory : goal.returns-in-Ok-clause-memory
 returns-in-Ok-clause-memory g c is =

@@ -1,16 +1,14 @@
 -- The first of packed numbers that is large enough.
-use Rattle.std.proofs.Common.{◌≡◌, ◌↔◌, ℕ, suc, ◌+◌, ◌-◌, ◌*◌, ◌/◌, ◌%◌, ◌^◌, ◌<◌, ◌≤◌, Bool, true, false, cond, List, [], ◌∷◌, length, take, get_or, slice_get, slice_range, Some, None, refl, sym, ◌∙◌, ap, subst, inl, inr, arith}
+use Rattle.std.proofs.Common.{◌≡◌, ℕ, suc, ◌+◌, ◌-◌, ◌*◌, ◌/◌, ◌%◌, ◌^◌, ◌<◌, ◌≤◌, Bool, true, false, cond, List, [], ◌∷◌, length, take, get_or, slice_range, refl, sym, ◌∙◌, ap, subst, inl, inr, arith}
 use Rattle.std.specs.List.{All}
-use Rattle.std.specs.List.Sorted.{IsNonDecreasing}
 use Rattle.std.proofs.lemmas.Bool.{cases_lt}
-use Rattle.std.proofs.lemmas.List.{get_or_default, get_or-take, length-take, length-take-le}
-use Rattle.std.proofs.lemmas.Nat.{div-add-mod', mod_below, pow_pos, pow-add}
+use Rattle.std.proofs.lemmas.List.{get_or_default, get_or-take, length-take}
+use Rattle.std.proofs.lemmas.Nat.{div-add-mod', mod_below, pow_pos}
 use Rattle.std.proofs.Math.Nat.{div-mul-le_self, mod-eq-sub-div-mul, mod-eq_of_lt, mul-le-mul_right}
 use Rattle.std.proofs.Math.Nat.{pow-suc}
-use Rattle.bit_addressing.specs.Binary.{value, value_after}
+use Rattle.bit_addressing.specs.Binary.{value_after}
 use Rattle.bit_addressing.proofs.lists.Shown.{length-run}
-use Rattle.bit_slice.specs.Places.{ones_of}
-use Rattle.bit_ranks.specs.Sorted.{number_at, high_part, low_part, numbers_of, IsPacked}
+use Rattle.bit_ranks.specs.Sorted.{high_part, low_part, numbers_of, IsPacked}
 use Rattle.bit_ranks.proofs.Packed.{length_numbers, number_is, low_inside}
 
 below_after : (n : ℕ) (xs : List Bool) → value_after n xs < (n + 1) * 2 ^ length xs

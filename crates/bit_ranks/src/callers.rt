@@ -1,5 +1,5 @@
 //! Callers of ranks and of sorted numbers: what each proves stands in its clauses, and none has a file.
-ghost use Rattle.std.specs.Prelude.{◌≡◌, ◌+◌, ◌<◌, ◌≤◌, false, true, IfOk, IfSome, IsTrue, Some, length, slice_get};
+ghost use Rattle.std.specs.Prelude.{◌≡◌, ◌<◌, ◌≤◌, false, true, IfOk, IfSome, IsTrue, Some, length, slice_get};
 ghost use Rattle.bit_ranks.specs.Ranks.{ones_before};
 
 use crate::{Ranks, SortedError, SortedNumbers};
@@ -83,14 +83,13 @@ pub fn place_of_first(numbers: &SortedNumbers, x: u64) -> Option<u64>
     numbers.get(k)
 }
 
-pub fn next_is_larger(numbers: &SortedNumbers, k: usize) -> bool
-    requires { k + 1 < length numbers.now }
-    ensures { IsTrue result }
+pub fn later_is_as_large(numbers: &SortedNumbers, k: usize, later: usize) -> Option<bool>
+    requires { k ≤ later }
+    ensures { IfSome result (λ larger. IsTrue larger) }
 {
-    match (numbers.get(k), numbers.get(k + 1)) {
-        (Some(number), Some(next)) => number <= next,
-        _ => false,
-    }
+    let number = numbers.get(k)?;
+    let next = numbers.get(later)?;
+    Some(number <= next)
 }
 
 pub fn all_counted(numbers: &SortedNumbers) -> usize

@@ -1,4 +1,4 @@
-use Rattle.std.proofs.Common.{◌≡◌, ◌-◌, ◌*◌, ◌/◌, ◌%◌, ◌^◌, ◌<◌, ◌≤◌, length, slice_get, refl, sym, arith}
+use Rattle.std.proofs.Common.{◌-◌, ◌*◌, ◌/◌, ◌%◌, ◌^◌, refl, sym, arith}
 use Rattle.std.proofs.lemmas.Option.{get_or_from_slice_get, slice_get_within}
 use Rattle.bit_ranks.proofs.Packed.{ends_there}
 use Rattle.bit_ranks.proofs.Searched.{IsBound, all_below, bound_found, lows_ascend, none_reaches, one_reaches, rest_of}

@@ -1,6 +1,5 @@
-use Rattle.std.proofs.Common.{◌≡◌, ◌-◌, ◌<◌, ◌≤◌, false, refl, subst, sym, arith}
+use Rattle.std.proofs.Common.{false, refl, arith}
 use Rattle.std.proofs.lemmas.Option.{get_or_from_slice_get}
-use Rattle.bit_ranks.specs.Sorted.{high_part}
 use Rattle.bit_ranks.proofs.Places.{few_ones, no_later, ones_later, ones_sooner}
 use Rattle.bit_ranks.proofs.sorted.search.upto_high.Goals as goal
 

@@ -1,4 +1,4 @@
-use Rattle.std.proofs.Common.{◌≡◌, ◌-◌, length, Some, sym, ap, arith}
+use Rattle.std.proofs.Common.{sym}
 use Rattle.bit_slice.specs.BitSlice.{list_of}
 use Rattle.bit_ranks.proofs.Left.{numbers_count}
 use Rattle.bit_ranks.proofs.sorted.iter.NumbersExactSizeIterator.len.Goals as goal

@@ -1,7 +1,7 @@
-use Rattle.std.proofs.Common.{◌≡◌, ℕ, ◌+◌, ◌-◌, ◌*◌, ◌%◌, ◌^◌, ◌<◌, ◌≤◌, [], ◌∷◌, drop, length, slice_range, Some, sym, ap, ◌∙◌, arith}
+use Rattle.std.proofs.Common.{◌≡◌, ◌+◌, ◌-◌, ◌*◌, ◌%◌, ◌^◌, ap, ◌∙◌, arith}
 use Rattle.bit_addressing.specs.Binary.{value}
-use Rattle.bit_slice.specs.BitSlice.{len_of, list_of}
-use Rattle.bit_ranks.specs.Sorted.{low_part, numbers_of}
+use Rattle.bit_slice.specs.BitSlice.{list_of}
+use Rattle.bit_ranks.specs.Sorted.{low_part}
 use Rattle.bit_ranks.proofs.Left.{left_after, low_there, none_left_over, number_found, numbers_count, numbers_over, numbers_split, still_left, sum_fits}
 use Rattle.bit_ranks.proofs.sorted.iter.NumbersIterator.next.Goals as goal
 

@@ -122,12 +122,13 @@ module _ (w : ℕ) (high low : List Bool) (xs : List ℕ) (ones : ones_of high �
   pub made_view : numbers_of (length xs) w high low ≡ xs
   made_view = packed_is (length xs) w high low xs refl ones lows
 
-  pub made_packed : IsNonDecreasing xs → last_of xs < 2 ^ 64 → w ≡ low_width xs → w < 64 → length high ≡ length xs + last_of xs / 2 ^ w → length low ≡ length xs * w → length xs * w ≤ MAX_BITS → IsPacked (length xs) w high low
-  made_packed up fits width narrow size lens few =
+  pub made_packed : IsNonDecreasing xs → last_of xs < 2 ^ 64 → w ≡ low_width xs → w < 64 → length high ≡ length xs + last_of xs / 2 ^ w → length low ≡ length xs * w → length xs * w ≤ MAX_BITS → length high ≤ MAX_BITS → IsPacked (length xs) w high low
+  made_packed up fits width narrow size lens few held =
       record {
         ones = ap length ones ∙ length_places w xs (length xs);
         lows = lens;
         few = few;
+        held = held;
         narrow = narrow;
         ascends = subst IsNonDecreasing (sym made_view) up;
         fits = subst (All (λ number. number < 2 ^ 64)) (sym made_view) (λ k d h. omega (arith, up k (length xs - 1) 0 (omega arith) (omega arith), get_or_default xs k d 0 h));

@@ -59,11 +59,27 @@ pub record IsPacked (n w : ℕ) (high low : List Bool) : Type 0 where
   pub ones : length (ones_of high) ≡ n
   pub lows : length low ≡ n * w
   pub few : n * w ≤ MAX_BITS
+  pub held : length high ≤ MAX_BITS
   pub narrow : w < 64
   pub ascends : IsNonDecreasing (numbers_of n w high low)
   pub fits : All (λ number. number < 2 ^ 64) (numbers_of n w high low)
   pub width : w ≡ low_width (numbers_of n w high low)
   pub size : length high ≡ high_len (numbers_of n w high low)
+
+-- r numbers have high bits of at most h, and the first after them has its one at index r + h or after it
+pub record IsUptoHigh (high : List Bool) (h r : ℕ) : Type 0 where
+  pub within : r ≤ length (ones_of high)
+  pub before : (k : ℕ) → k < r → high_part high k ≤ h
+  pub after : (k : ℕ) → r ≤ k → k < length (ones_of high) → h < high_part high k
+  pub next : ones_before high (r + h) ≡ r
+  pub reached : r + h ≤ length high
+
+-- the numbers start .. end are those with the high bits h
+pub record AreSameHigh (high : List Bool) (h start end : ℕ) : Type 0 where
+  pub ordered : start ≤ end
+  pub before : (k : ℕ) → k < start → high_part high k < h
+  pub same : (k : ℕ) → start ≤ k → k < end → high_part high k ≡ h
+  pub upto : IsUptoHigh high h end
 
 -- number `at` is the first whose one stands at `place` or after it
 pub record IsNextFrom (n w : ℕ) (high low : List Bool) (at place : ℕ) : Type 0 where

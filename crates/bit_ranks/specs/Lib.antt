@@ -2,3 +2,4 @@ pub mod Numbers
 pub mod Ones
 pub mod Ranks
 pub mod Sorted
+pub mod SortedErrors

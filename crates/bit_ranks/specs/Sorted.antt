@@ -1,5 +1,5 @@
 -- Ascending numbers in two lists: ones whose places say the high bits of each, and its low bits in binary.
-use Rattle.std.specs.Prelude.{◌≡◌, ℕ, ◌+◌, ◌-◌, ◌*◌, ◌/◌, ◌^◌, ◌<◌, ◌≤◌, leb, Bool, true, false, List, [], ◌∷◌, All, count_by, length, map, slice_index_or, slice_range, take, refl}
+use Rattle.std.specs.Prelude.{◌≡◌, ℕ, ◌+◌, ◌-◌, ◌*◌, ◌/◌, ◌^◌, ◌<◌, ◌≤◌, leb, Bool, true, false, List, [], ◌∷◌, All, count_by, length, map, max, slice_index_or, slice_range, take, refl}
 use Rattle.std.specs.List.{range_with_len}
 use Rattle.std.specs.List.Sorted.{IsNonDecreasing}
 use Rattle.bit_addressing.specs.Binary.{value}
@@ -42,6 +42,10 @@ high_len xs = length xs + last_of xs / 2 ^ low_width xs
 -- how many bits the list of low parts takes
 abbrev pub low_len : List ℕ → ℕ
 low_len xs = length xs * low_width xs
+
+-- one of the two lists has more bits than a container holds
+abbrev pub IsTooLong : List ℕ → Type 0
+IsTooLong xs = MAX_BITS < max (high_len xs) (low_len xs)
 
 -- the places of the ones of the first n numbers, of which w bits are low
 unfoldable pub high_places : ℕ → List ℕ → ℕ → List ℕ

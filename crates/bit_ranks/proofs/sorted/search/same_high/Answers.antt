@@ -1,4 +1,4 @@
-use Rattle.std.proofs.Common.{◌≡◌, ◌+◌, ◌-◌, ◌<◌, ◌≤◌, refl, ◌∙◌, arith}
+use Rattle.std.proofs.Common.{◌≡◌, ◌+◌, ◌-◌, refl, ◌∙◌, arith}
 use Rattle.bit_ranks.proofs.Places.{no_later, same_from, zeros_after}
 use Rattle.bit_ranks.proofs.sorted.search.same_high.Goals as goal
 

@@ -1,5 +1,4 @@
-use Rattle.std.proofs.Common.{◌≡◌, ◌+◌, ◌-◌, ◌<◌, ◌≤◌, false, true, length, slice_get, subst, sym, ap, ◌∙◌, arith}
-use Rattle.bit_slice.specs.Places.{ones_of}
+use Rattle.std.proofs.Common.{slice_get, subst, sym, ap, ◌∙◌, arith}
 use Rattle.bit_ranks.specs.Sorted.{IsUptoHigh}
 use Rattle.bit_ranks.proofs.Places.{last_zeros, next_zeros, upto_end, upto_place, whole_count}
 use Rattle.bit_ranks.proofs.sorted.search.upto_zero.Goals as goal

@@ -1,4 +1,4 @@
-use Rattle.std.proofs.Common.{◌≡◌, ◌+◌, ◌≤◌, slice_range, ap, ◌∙◌, arith}
+use Rattle.std.proofs.Common.{slice_range, ap, ◌∙◌, arith}
 use Rattle.bit_addressing.specs.Row.{number_of}
 use Rattle.bit_ranks.proofs.Numbered.{at_most_index, ones_more}
 use Rattle.bit_ranks.proofs.ranks.Ranks.rank1.Goals as goal

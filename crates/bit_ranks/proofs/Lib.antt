@@ -1,4 +1,5 @@
 pub mod Halves
+pub mod Left
 pub mod Making
 pub mod Numbered
 pub mod Packed

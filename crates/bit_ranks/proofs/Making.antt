@@ -1,14 +1,14 @@
 -- The two lists of ascending numbers, made one number at a time.
-use Rattle.std.proofs.Common.{◌≡◌, ℕ, zero, suc, ◌+◌, ◌-◌, ◌*◌, ◌/◌, ◌%◌, ◌^◌, ◌<◌, ◌≤◌, Bool, true, false, List, [], ◌∷◌, ◌++◌, length, take, drop, set, replicate, get_or, slice_get, slice_range, Some, None, refl, sym, ◌∙◌, ap, subst, inl, inr, arith}
+use Rattle.std.proofs.Common.{◌≡◌, ℕ, zero, suc, ◌+◌, ◌-◌, ◌*◌, ◌/◌, ◌%◌, ◌^◌, ◌<◌, ◌≤◌, Bool, true, false, List, [], ◌∷◌, ◌++◌, length, take, set, replicate, get_or, slice_range, refl, sym, ◌∙◌, ap, subst, inl, inr, arith}
 use Rattle.std.proofs.Common.{rules}
 use Rattle.std.specs.Prelude.{Result, Ok, Err, IfOk}
 use Rattle.std.specs.List.{All}
 use Rattle.std.specs.List.Sorted.{IsNonDecreasing}
 use Rattle.std.proofs.lemmas.Bool.{cases_lt}
-use Rattle.std.proofs.lemmas.List.{ext_get_or, get_or_default, get_or-take, get_or-set_other, get_or-replicate, length-take, length-take-le, places, same_lists, take_at, take_more, length_push, get_or_push, get_or_append_left}
-use Rattle.std.proofs.lemmas.List.Sorted.{IsNonDecreasingBy-push, IsNonDecreasingBy-short}
+use Rattle.std.proofs.lemmas.List.{ext_get_or, get_or_default, get_or-take, get_or-set_other, length-take-le, places, same_lists, take_at, take_more, length_push, get_or_push, get_or_append_left}
+use Rattle.std.proofs.lemmas.List.Sorted.{IsNonDecreasingBy-push}
 use Rattle.std.proofs.lemmas.Nat.{mod_below, pow_pos}
-use Rattle.std.proofs.Math.Nat.{div-le_of_le-mul, div-lt_iff_lt-mul, le-div_iff_mul-le, div-mul-le_self}
+use Rattle.std.proofs.Math.Nat.{le-div_iff_mul-le, div-mul-le_self}
 use Rattle.bit_addressing.specs.Binary.{value}
 use Rattle.bit_addressing.specs.Row.{binary}
 use Rattle.bit_addressing.proofs.Binary.{get_or-binary, length-binary, value_of_binary}
@@ -122,12 +122,13 @@ module _ (w : ℕ) (high low : List Bool) (xs : List ℕ) (ones : ones_of high �
   pub made_view : numbers_of (length xs) w high low ≡ xs
   made_view = packed_is (length xs) w high low xs refl ones lows
 
-  pub made_packed : IsNonDecreasing xs → last_of xs < 2 ^ 64 → w ≡ low_width xs → w < 64 → length high ≡ length xs + last_of xs / 2 ^ w → length low ≡ length xs * w → length xs * w ≤ MAX_BITS → IsPacked (length xs) w high low
-  made_packed up fits width narrow size lens few =
+  pub made_packed : IsNonDecreasing xs → last_of xs < 2 ^ 64 → w ≡ low_width xs → w < 64 → length high ≡ length xs + last_of xs / 2 ^ w → length low ≡ length xs * w → length xs * w ≤ MAX_BITS → length high ≤ MAX_BITS → IsPacked (length xs) w high low
+  made_packed up fits width narrow size lens few held =
       record {
         ones = ap length ones ∙ length_places w xs (length xs);
         lows = lens;
         few = few;
+        held = held;
         narrow = narrow;
         ascends = subst IsNonDecreasing (sym made_view) up;
         fits = subst (All (λ number. number < 2 ^ 64)) (sym made_view) (λ k d h. omega (arith, up k (length xs - 1) 0 (omega arith) (omega arith), get_or_default xs k d 0 h));

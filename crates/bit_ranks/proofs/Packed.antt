@@ -1,14 +1,13 @@
 -- Ascending numbers in two lists.
-use Rattle.std.proofs.Common.{◌≡◌, ℕ, zero, suc, ◌+◌, ◌-◌, ◌*◌, ◌/◌, ◌%◌, ◌^◌, ◌<◌, ◌≤◌, Bool, true, false, cond, leb, List, [], ◌∷◌, ◌++◌, map, length, take, drop, get_or, count_by, slice_get, slice_range, Some, None, refl, sym, ◌∙◌, ap, subst, inl, inr, ◌⊎◌, arith}
+use Rattle.std.proofs.Common.{◌≡◌, ℕ, zero, suc, ◌+◌, ◌-◌, ◌*◌, ◌/◌, ◌%◌, ◌^◌, ◌<◌, ◌≤◌, Bool, true, false, cond, leb, List, [], ◌∷◌, ◌++◌, length, get_or, count_by, slice_get, Some, None, refl, sym, ◌∙◌, ap, subst, inl, inr, ◌⊎◌, arith}
 use Rattle.std.specs.List.{All, range_with_len}
-use Rattle.std.specs.List.Sorted.{IsNonDecreasing}
 use Rattle.std.proofs.lemmas.Bool.{cases_lt, le-leb, lt-leb}
-use Rattle.std.proofs.lemmas.List.{ext_get_or, get_or_default}
+use Rattle.std.proofs.lemmas.List.{ext_get_or}
 use Rattle.std.proofs.lemmas.List.FromFn.{length-map-range_with_len, get_or-map-range_with_len, map-range_with_len_more}
 use Rattle.std.proofs.lemmas.List.Sums.{sum_by-cons}
 use Rattle.std.proofs.lemmas.Nat.{div-add-mod', leading_top, pow-add}
 use Rattle.std.proofs.lemmas.Option.{slice_get-get_or, slice_get_past, slice_get_within, get_or_from_slice_get}
-use Rattle.std.proofs.Math.Nat.{mul-le-mul, mul-le-mul_left, mul-le-mul_right, div-lt_iff_lt-mul, div-le_of_le-mul, lt-div-mul-add, div-mul-le_self, mod-eq_of_lt, div-eq_of_lt, div-le_self, mul-div-le, le_of_mul-le-mul_left, pow-suc}
+use Rattle.std.proofs.Math.Nat.{mul-le-mul_left, mul-le-mul_right, div-lt_iff_lt-mul, div-le_of_le-mul, lt-div-mul-add, mod-eq_of_lt, div-eq_of_lt, div-le_self, mul-div-le, le_of_mul-le-mul_left, pow-suc}
 use Rattle.std.proofs.Math.Pow.{pow_mono, pow_pos}
 use Rattle.bit_slice.specs.Places.{ones_of}
 use Rattle.bit_ranks.specs.Sorted.{number_at, high_part, low_part, numbers_of, high_len, high_places, log2_of, last_of, low_width, IsPacked}

@@ -7,13 +7,13 @@ use Rattle.std.proofs.lemmas.List.{append-nil, length-set, length-take, get_or-s
 use Rattle.std.proofs.lemmas.List.Elements.{filter-append, filter_passes, All-filter}
 use Rattle.std.proofs.lemmas.List.FromFn.{length-range_with_len, get_or-range_with_len}
 use Rattle.std.proofs.lemmas.List.Kept.{IsStrictlyIncreasing-filter, AllPairs-from_increasing}
-use Rattle.std.proofs.lemmas.Option.{slice_get-get_or, slice_get_within}
+use Rattle.std.proofs.lemmas.Option.{get_or_from_slice_get, slice_get-get_or, slice_get_within}
 use Rattle.bit_slice.specs.Places.{ones_of}
-use Rattle.bit_slice.proofs.Places.{places_none, ranges_joined}
+use Rattle.bit_slice.proofs.Places.{places_count, places_none, ranges_joined}
 use Rattle.bit_slice.proofs.Rules.{zeros_and_ones}
 use Rattle.bit_ranks.specs.Ranks.{ones_before, zeros_before}
-use Rattle.bit_ranks.specs.Sorted.{high_part}
-use Rattle.bit_ranks.proofs.Numbered.{around, as_many, before_end, index_numbered, more_before, one_more, at_most_index}
+use Rattle.bit_ranks.specs.Sorted.{AreSameHigh, IsUptoHigh, high_part}
+use Rattle.bit_ranks.proofs.Numbered.{around, as_many, before_end, index_numbered, more_before, one_more, at_most_index, parted}
 
 range_increases : (a n : ℕ) → IsStrictlyIncreasing (range_with_len a n)
 range_increases a n k h =
@@ -117,6 +117,95 @@ no_later xs high k few below =
     let at = one.inside in
     let value = high_is_zeros xs k below in
     omega (arith, more_before not xs i (length xs) (omega arith) (omega arith), before_end not xs (length xs) refl)
+
+-- ---- the first zero from an index on
+
+-- where no zero stands between two indices, as many stand before both
+zeros_kept : (xs : List Bool) (from upto : ℕ) → from ≤ upto → upto ≤ length xs → ((j : ℕ) → from ≤ j → j < upto → slice_get xs j ≡ Some true) → zeros_before xs upto ≡ zeros_before xs from
+zeros_kept xs from upto h l set =
+    let none = places_none not false refl refl xs from upto (record { each = λ j a b. get_or_from_slice_get xs j true false (set j a b) }) in
+    omega (arith, parted not xs from upto h l, places_count not xs from upto h l, ap length none)
+
+module _ (xs : List Bool) (from high : ℕ) (inside : from ≤ length xs) (zeros : zeros_before xs from ≡ high) where
+  pub next_zeros : (place : ℕ) → from ≤ place → slice_get xs place ≡ Some false → ((j : ℕ) → from ≤ j → j < place → slice_get xs j ≡ Some true) → zeros_before xs place ≡ high
+  next_zeros place h found set = zeros_kept xs from place h (let l = slice_get_within xs place false found in omega arith) set ∙ zeros
+
+  pub last_zeros : ((j : ℕ) → from ≤ j → j < length xs → slice_get xs j ≡ Some true) → count_by not xs ≡ high
+  last_zeros set = sym (before_end not xs (length xs) refl) ∙ zeros_kept xs from (length xs) inside (omega arith) set ∙ zeros
+
+-- all ones and all zeros
+pub whole_count : (xs : List Bool) → length (ones_of xs) + count_by not xs ≡ length xs
+whole_count xs =
+    let all = as_many (λ b. b) xs (length xs) (omega arith) in
+    let zeros = before_end not xs (length xs) refl in
+    omega (arith, parts_before xs (length xs) (omega arith))
+
+pub ones_at_end : (xs : List Bool) (n : ℕ) → n ≡ length xs → ones_before xs n ≡ length (ones_of xs)
+ones_at_end xs n is = ap (ones_before xs) is ∙ sym (as_many (λ b. b) xs (length xs) (omega arith))
+
+-- before the one of a number with these high bits stand as many ones as its place says
+pub ones_of_same : (xs : List Bool) (k high : ℕ) → k < length (ones_of xs) → high_part xs k ≡ high → (ones_before xs (k + high) ≡ k) × (k + high ≤ length xs)
+ones_of_same xs k high h part =
+    let one = one_numbered xs k h in
+    let at : get_or (ones_of xs) k 0 ≡ k + high = omega (arith, number_of_one xs k h) in
+    let inside = one.inside in
+    (ap (ones_before xs) (sym at) ∙ one.before, omega arith)
+
+-- ---- the numbers with as many high bits
+
+pub upto_place : (xs : List Bool) (h place : ℕ) → slice_get xs place ≡ Some false → zeros_before xs place ≡ h → IsUptoHigh xs h (place - h)
+upto_place xs h place found zeros =
+    let inside = slice_get_within xs place false found in
+    let here = get_or_from_slice_get xs place false false found in
+    let parts = parts_before xs place (omega arith) in
+    let back : place - h + h ≡ place = omega arith in
+    record {
+      within = few_ones xs h place inside here zeros;
+      before = ones_sooner xs h place inside here zeros;
+      after = ones_later xs h place inside here zeros;
+      next = let same = ap (ones_before xs) back in omega arith;
+      reached = omega arith;
+    }
+
+pub upto_end : (xs : List Bool) (h : ℕ) → count_by not xs ≡ h → IsUptoHigh xs h (length (ones_of xs))
+upto_end xs h zeros =
+    let whole = whole_count xs in
+    record {
+      within = omega arith;
+      before = λ k l. no_later xs h k (omega arith) l;
+      after = λ k a b. absurd (omega arith);
+      next = ones_at_end xs (length (ones_of xs) + h) (omega arith);
+      reached = omega arith;
+    }
+
+pub same_first : (xs : List Bool) (end : ℕ) → IsUptoHigh xs 0 end → AreSameHigh xs 0 0 end
+same_first xs end upto = record { ordered = omega arith; before = λ k l. absurd (omega arith); same = λ k a b. omega (arith, upto.before k b); upto = upto }
+
+-- from a zero on
+pub same_from : (xs : List Bool) (h place end : ℕ) → 0 < h → slice_get xs place ≡ Some false → zeros_before xs place ≡ h - 1 → IsUptoHigh xs h end → place + 1 ≤ end + h → AreSameHigh xs h (place + 1 - h) end
+same_from xs h place end some found zeros upto begins =
+    let first = upto_place xs (h - 1) place found zeros in
+    let inside = slice_get_within xs place false found in
+    let parts = parts_before xs place (omega arith) in
+    record {
+      ordered = omega arith;
+      before = λ k l. omega (arith, first.before k (omega arith));
+      same = λ k a b. let within = upto.within in omega (arith, upto.before k b, first.after k (omega arith) (omega arith));
+      upto = upto;
+    }
+
+pub zeros_after : (xs : List Bool) (place h : ℕ) → slice_get xs place ≡ Some false → zeros_before xs place ≡ h → zeros_before xs (place + 1) ≡ h + 1
+zeros_after xs place h found zeros = one_more not xs place (slice_get_within xs place false found) (ap not (get_or_from_slice_get xs place false false found)) ∙ ap (λ n. n + 1) zeros
+
+-- before each of them, and the first after them, stand as many ones as its place says
+pub next_stands : (xs : List Bool) (h start end k : ℕ) → AreSameHigh xs h start end → start ≤ k → k ≤ end → (ones_before xs (k + h) ≡ k) × (k + h ≤ length xs)
+next_stands xs h start end k same a b = elim (cases_lt k end) [
+  | inl l ↦ let within = same.upto.within in ones_of_same xs k h (omega arith) (same.same k a l)
+  | inr l ↦
+      let e : k ≡ end = omega arith in
+      let reached = same.upto.reached in
+      (ap (λ n. ones_before xs (n + h)) e ∙ same.upto.next ∙ sym e, omega arith)
+]
 
 -- ---- one more one
 

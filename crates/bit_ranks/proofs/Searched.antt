@@ -1,16 +1,16 @@
 -- The first of packed numbers that is large enough.
-use Rattle.std.proofs.Common.{◌≡◌, ◌↔◌, ℕ, suc, ◌+◌, ◌-◌, ◌*◌, ◌/◌, ◌%◌, ◌^◌, ◌<◌, ◌≤◌, Bool, true, false, cond, List, [], ◌∷◌, length, take, get_or, slice_get, slice_range, Some, None, refl, sym, ◌∙◌, ap, subst, inl, inr, arith}
+use Rattle.std.proofs.Common.{◌≡◌, ℕ, suc, ◌+◌, ◌-◌, ◌*◌, ◌/◌, ◌%◌, ◌^◌, ◌<◌, ◌≤◌, Bool, true, false, cond, List, [], ◌∷◌, length, take, get_or, slice_range, refl, sym, ◌∙◌, ap, subst, inl, inr, arith}
 use Rattle.std.specs.List.{All}
-use Rattle.std.specs.List.Sorted.{IsNonDecreasing}
 use Rattle.std.proofs.lemmas.Bool.{cases_lt}
-use Rattle.std.proofs.lemmas.List.{get_or_default, get_or-take, length-take, length-take-le}
-use Rattle.std.proofs.lemmas.Nat.{div-add-mod', mod_below, pow_pos, pow-add}
+use Rattle.std.proofs.lemmas.List.{get_or_default, get_or-take, length-take}
+use Rattle.std.proofs.lemmas.Nat.{div-add-mod', mod_below, pow_pos}
 use Rattle.std.proofs.Math.Nat.{div-mul-le_self, mod-eq-sub-div-mul, mod-eq_of_lt, mul-le-mul_right}
 use Rattle.std.proofs.Math.Nat.{pow-suc}
-use Rattle.bit_addressing.specs.Binary.{value, value_after}
+use Rattle.bit_addressing.specs.Binary.{value_after}
+use Rattle.bit_addressing.specs.declared.length.TheConstants.{MAX_BITS}
 use Rattle.bit_addressing.proofs.lists.Shown.{length-run}
-use Rattle.bit_slice.specs.Places.{ones_of}
-use Rattle.bit_ranks.specs.Sorted.{number_at, high_part, low_part, numbers_of, IsPacked}
+use Rattle.bit_ranks.specs.Sorted.{AreSameHigh, IsNextFrom, high_part, low_part, numbers_of, IsPacked}
+use Rattle.bit_ranks.proofs.Places.{next_stands}
 use Rattle.bit_ranks.proofs.Packed.{length_numbers, number_is, low_inside}
 
 below_after : (n : ℕ) (xs : List Bool) → value_after n xs < (n + 1) * 2 ^ length xs
@@ -45,10 +45,19 @@ pub record IsBound (xs : List ℕ) (x k : ℕ) : Type 0 where
   pub below : (j : ℕ) → j < k → j < length xs → get_or xs j 0 < x
   pub above : k < length xs → x ≤ get_or xs k 0
 
-module _ (n w : ℕ) (high low : List Bool) (packed : IsPacked n w high low) (x start end : ℕ) (within : end ≤ n)
-    (before : (k : ℕ) → k < start → high_part high k < x / 2 ^ w)
-    (same : (k : ℕ) → start ≤ k → k < end → high_part high k ≡ x / 2 ^ w)
-    (after : (k : ℕ) → end ≤ k → k < n → x / 2 ^ w < high_part high k) where
+module _ (n w : ℕ) (high low : List Bool) (packed : IsPacked n w high low) (x start end : ℕ) (same_high : AreSameHigh high (x / 2 ^ w) start end) where
+  within : end ≤ n
+  within = let a = same_high.upto.within in let b = packed.ones in omega arith
+
+  before : (k : ℕ) → k < start → high_part high k < x / 2 ^ w
+  before = same_high.before
+
+  same : (k : ℕ) → start ≤ k → k < end → high_part high k ≡ x / 2 ^ w
+  same = same_high.same
+
+  after : (k : ℕ) → end ≤ k → k < n → x / 2 ^ w < high_part high k
+  after k a b = let c = packed.ones in same_high.upto.after k a (omega arith)
+
   fits_low : (k : ℕ) → k < n → low_part w low k < 2 ^ w
   fits_low k h = let all = packed.lows in low_below w low k (omega (arith, low_inside k n w h))
 
@@ -90,12 +99,32 @@ module _ (n w : ℕ) (high low : List Bool) (packed : IsPacked n w high low) (x 
   pub bound_found : (xs : List ℕ) (rest k : ℕ) → numbers_of n w high low ≡ xs → rest ≡ x % 2 ^ w → start ≤ k → k ≤ end → ((j : ℕ) → start ≤ j → j < k → low_part w low j < rest) → ((j : ℕ) → k ≤ j → j < end → rest ≤ low_part w low j) → IsBound xs x k
   bound_found xs rest k view is a b less more = subst (λ l. IsBound l x k) view (found_at k a b (λ j c d. omega (arith, is, less j c d)) (λ j c d. omega (arith, is, more j c d)))
 
+  -- from there on the number at that place is found
+  pub next_from : (k : ℕ) → start ≤ k → k ≤ end → IsNextFrom n w high low k (k + x / 2 ^ w)
+  next_from k a b =
+      let stands = next_stands high (x / 2 ^ w) start end k same_high a b in
+      record { packed = packed; inside = let c = within in omega arith; reached = stands.1; before = stands.0 }
+
+  pub room_for : (k : ℕ) → start ≤ k → k ≤ end → k + x / 2 ^ w ≤ MAX_BITS
+  room_for k a b = let c = (next_from k a b).reached in let d = packed.held in omega arith
+
 -- the low bits of a number
 pub rest_of : (x w : ℕ) → x < 2 ^ 64 → x - x / 2 ^ w * 2 ^ w % 2 ^ 64 ≡ x % 2 ^ w
 rest_of x w h =
     let most = div-mul-le_self x (2 ^ w) in
     let fits : x / 2 ^ w * 2 ^ w % 2 ^ 64 ≡ x / 2 ^ w * 2 ^ w = mod-eq_of_lt (omega arith) in
     ap (λ p. x - p) fits ∙ sym (mod-eq-sub-div-mul x (2 ^ w))
+
+-- where all high bits are below those of x, all numbers are below x
+pub all_lower : (n w : ℕ) (high low : List Bool) (xs : List ℕ) (x : ℕ) → IsPacked n w high low → numbers_of n w high low ≡ xs → ((k : ℕ) → k < n → high_part high k < x / 2 ^ w) → All (λ number. number < x) xs
+all_lower n w high low xs x packed view lower = subst (All (λ number. number < x)) view (λ k d h.
+    let size = length_numbers n w high low in
+    let below : k < n = omega arith in
+    let all = packed.lows in
+    let part : (high_part high k + 1) * 2 ^ w ≤ x / 2 ^ w * 2 ^ w = mul-le-mul_right (2 ^ w) (let p = lower k below in omega arith) in
+    let step : (high_part high k + 1) * 2 ^ w ≡ high_part high k * 2 ^ w + 2 ^ w = omega arith in
+    let whole = div-mul-le_self x (2 ^ w) in
+    omega (arith, number_is n w high low k d below, low_below w low k (omega (arith, low_inside k n w below))))
 
 -- ---- what a search gave
 

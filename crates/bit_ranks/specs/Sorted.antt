@@ -1,10 +1,11 @@
 -- Ascending numbers in two lists: ones whose places say the high bits of each, and its low bits in binary.
-use Rattle.std.specs.Prelude.{◌≡◌, ℕ, ◌+◌, ◌-◌, ◌*◌, ◌/◌, ◌^◌, ◌<◌, ◌≤◌, leb, Bool, true, false, List, [], ◌∷◌, All, count_by, length, map, slice_index_or, slice_range, take, refl}
+use Rattle.std.specs.Prelude.{◌≡◌, ℕ, ◌+◌, ◌-◌, ◌*◌, ◌/◌, ◌^◌, ◌<◌, ◌≤◌, leb, Bool, true, false, List, [], ◌∷◌, All, count_by, length, map, max, slice_index_or, slice_range, take, refl}
 use Rattle.std.specs.List.{range_with_len}
 use Rattle.std.specs.List.Sorted.{IsNonDecreasing}
 use Rattle.bit_addressing.specs.Binary.{value}
 use Rattle.bit_addressing.specs.declared.length.TheConstants.{MAX_BITS}
 use Rattle.bit_slice.specs.Places.{ones_of}
+use Rattle.bit_ranks.specs.Ranks.{ones_before}
 
 -- the high bits of number k: how many zeros stand before the one number k
 abbrev pub high_part : List Bool → ℕ → ℕ
@@ -42,6 +43,10 @@ high_len xs = length xs + last_of xs / 2 ^ low_width xs
 abbrev pub low_len : List ℕ → ℕ
 low_len xs = length xs * low_width xs
 
+-- one of the two lists has more bits than a container holds
+abbrev pub IsTooLong : List ℕ → Type 0
+IsTooLong xs = MAX_BITS < max (high_len xs) (low_len xs)
+
 -- the places of the ones of the first n numbers, of which w bits are low
 unfoldable pub high_places : ℕ → List ℕ → ℕ → List ℕ
 high_places w xs n = map (λ k. slice_index_or xs k 0 / 2 ^ w + k) (range_with_len 0 n)
@@ -58,11 +63,34 @@ pub record IsPacked (n w : ℕ) (high low : List Bool) : Type 0 where
   pub ones : length (ones_of high) ≡ n
   pub lows : length low ≡ n * w
   pub few : n * w ≤ MAX_BITS
+  pub held : length high ≤ MAX_BITS
   pub narrow : w < 64
   pub ascends : IsNonDecreasing (numbers_of n w high low)
   pub fits : All (λ number. number < 2 ^ 64) (numbers_of n w high low)
   pub width : w ≡ low_width (numbers_of n w high low)
   pub size : length high ≡ high_len (numbers_of n w high low)
+
+-- r numbers have high bits of at most h, and the first after them has its one at index r + h or after it
+pub record IsUptoHigh (high : List Bool) (h r : ℕ) : Type 0 where
+  pub within : r ≤ length (ones_of high)
+  pub before : (k : ℕ) → k < r → high_part high k ≤ h
+  pub after : (k : ℕ) → r ≤ k → k < length (ones_of high) → h < high_part high k
+  pub next : ones_before high (r + h) ≡ r
+  pub reached : r + h ≤ length high
+
+-- the numbers start .. end are those with the high bits h
+pub record AreSameHigh (high : List Bool) (h start end : ℕ) : Type 0 where
+  pub ordered : start ≤ end
+  pub before : (k : ℕ) → k < start → high_part high k < h
+  pub same : (k : ℕ) → start ≤ k → k < end → high_part high k ≡ h
+  pub upto : IsUptoHigh high h end
+
+-- number `at` is the first whose one stands at `place` or after it
+pub record IsNextFrom (n w : ℕ) (high low : List Bool) (at place : ℕ) : Type 0 where
+  pub packed : IsPacked n w high low
+  pub inside : at ≤ n
+  pub reached : place ≤ length high
+  pub before : ones_before high place ≡ at
 
 -- of 2, 3, 9 and 9 one bit is low
 abbrev four : List ℕ

@@ -12,4 +12,4 @@ mod word;
 
 pub use ones::OnesFrom;
 pub use ranks::Ranks;
-pub use sorted::{SortedError, SortedNumbers};
+pub use sorted::{Numbers, SortedError, SortedNumbers};

@@ -4,12 +4,15 @@ ghost use Rattle.std.specs.List.Sorted.{IsNonDecreasing};
 ghost use Rattle.bit_addressing.specs.declared.length.TheConstants.{MAX_BITS};
 ghost use Rattle.bit_ranks.specs.Sorted.{last_of, low_part, low_width};
 
+mod errors;
+mod iter;
 mod making;
 mod search;
 
 use crate::ranks::Ranks;
 use bit_containers::{BitVec, Lsb0};
-pub use making::SortedError;
+pub use errors::SortedError;
+pub use iter::Numbers;
 use std::marker::Model;
 
 /// An ascending list of numbers, equal ones allowed, in about two bits a number more than the logarithm of their mean gap.
@@ -62,8 +65,12 @@ impl SortedNumbers {
         self.len() == 0
     }
 
-    /// How many bits the two lists take, without the counts of the first: for each number of bits `w` with which no number
-    /// passes `len` times 2 to the `w`, at most `w + 2` bits a number.
+    /// How many bits the two lists take, without the counts of the ones: at most `w + 2` for each number, where none is larger
+    /// than `len` times 2 to the `w`.
+    ///
+    /// ```text
+    /// of 2, 3, 9, 9:  numbers.size_in_bits() == 12    // 8 bits for the high parts, 4 for the low ones
+    /// ```
     pub fn size_in_bits(&self) -> usize
         ensures value { result ≡ length self.now * (low_width self.now + 1) + last_of self.now / 2 ^ low_width self.now }
         ensures bound { (w : ℕ) → All (λ number. number ≤ length self.now * 2 ^ w) self.now → result ≤ (w + 2) * length self.now }
@@ -71,7 +78,8 @@ impl SortedNumbers {
         self.high.len() + self.low.len()
     }
 
-    /// The number at `k`, in constant time. None exactly where `k` is at or past the length.
+    /// The number at `k`. None exactly where `k` is at or past the length. One `select1`, and then its low bits are read at
+    /// once.
     ///
     /// ```text
     /// of 2, 3, 9, 9:  numbers.get(2) == Some(9)

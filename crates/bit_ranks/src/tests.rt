@@ -1,11 +1,13 @@
 //! The calls beside plain loops over the bits, and each call once.
+mod sorted;
+
 use crate::Ranks;
 use bit_containers::{BitOrder, BitStore, BitVec, Lsb0, Msb0};
 use std::alloc::Global;
 use std::test::Fail;
 
 // The next state of a generator of pseudo-random numbers; its high bits are the random ones.
-fn next_state(state: u64) -> u64 {
+pub(crate) fn next_state(state: u64) -> u64 {
     state
         .wrapping_mul(6364136223846793005)
         .wrapping_add(1442695040888963407)

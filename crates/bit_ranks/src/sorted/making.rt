@@ -5,24 +5,14 @@ ghost use Rattle.std.specs.List.Sorted.{IsNonDecreasing};
 ghost use Rattle.bit_addressing.specs.declared.length.TheConstants.{MAX_BITS};
 ghost use Rattle.bit_slice.specs.Places.{ones_of};
 ghost use Rattle.bit_slice.specs.Pulls.{GivesAll, GivesFirst, RunsThrough};
-ghost use Rattle.bit_ranks.specs.Sorted.{IsFirstDescent, high_len, high_places, last_of, log2_of, low_len, low_part};
-ghost use Rattle.bit_ranks.specs.declared.sorted.making.SortedError.TheVariants as errors;
+ghost use Rattle.bit_ranks.specs.Sorted.{IsFirstDescent, IsTooLong, high_places, last_of, log2_of, low_part};
+ghost use Rattle.bit_ranks.specs.declared.sorted.errors.SortedError.TheVariants as errors;
 
 use crate::ranks::Ranks;
 use crate::sorted::SortedNumbers;
+use crate::sorted::errors::SortedError;
 use bit_containers::{BitVec, GrowError, Lsb0, MAX_BITS};
 use std::alloc::Global;
-
-/// Why numbers are not packed.
-#[derive(Clone, Copy, PartialEq, Eq, Debug)]
-pub enum SortedError {
-    /// The place of the first number that is below the one before.
-    Descends(usize),
-    /// One of the two lists would have more than `MAX_BITS` bits.
-    TooLong,
-    /// Memory was refused.
-    OutOfMemory,
-}
 
 impl SortedNumbers {
     /// The numbers of a slice. `Descends` at the first that is below the one before, `TooLong` where one of the two lists
@@ -35,7 +25,7 @@ impl SortedNumbers {
         ensures list { IfOk result (λ s. s ≡ numbers.now) }
         ensures ascends { IfOk result (λ s. IsNonDecreasing s) }
         ensures descends { (i : ℕ) → (result ≡ Err (errors.Descends i)) ↔ IsFirstDescent numbers.now i }
-        ensures too_long { (result ≡ Err errors.TooLong) ↔ (IsNonDecreasing numbers.now × (MAX_BITS < max (high_len numbers.now) (low_len numbers.now))) }
+        ensures too_long { (result ≡ Err errors.TooLong) ↔ (IsNonDecreasing numbers.now × IsTooLong numbers.now) }
         ensures memory { result ≡ Err errors.OutOfMemory → IsNonDecreasing numbers.now × (0 < length numbers.now) }
     {
         match first_descent(numbers) {
@@ -55,7 +45,7 @@ impl SortedNumbers {
         ensures runs { IfOk result (λ s. RunsThrough I.into_iter_gives I.IntoIter.next_gives iter (λ numbers. s ≡ numbers)) }
         ensures ascends { IfOk result (λ s. IsNonDecreasing s) }
         ensures descends { (i : ℕ) → result ≡ Err (errors.Descends i) → GivesFirst I.into_iter_gives I.IntoIter.next_gives iter (λ numbers. IsFirstDescent numbers i × (length numbers ≡ i + 1)) }
-        ensures too_long { result ≡ Err errors.TooLong → GivesAll I.into_iter_gives I.IntoIter.next_gives iter (λ numbers. IsNonDecreasing numbers × (MAX_BITS < max (high_len numbers) (low_len numbers))) }
+        ensures too_long { result ≡ Err errors.TooLong → GivesAll I.into_iter_gives I.IntoIter.next_gives iter (λ numbers. IsNonDecreasing numbers × IsTooLong numbers) }
         ensures memory { result ≡ Err errors.OutOfMemory → GivesFirst I.into_iter_gives I.IntoIter.next_gives iter (λ numbers. IsNonDecreasing numbers × (0 < length numbers)) }
     {
         match collected(alloc, iter) {
@@ -112,7 +102,7 @@ fn from_ascending(alloc: Global, numbers: &[u64]) -> Result<SortedNumbers, Sorte
     ensures list { IfOk result (λ s. s ≡ numbers.now) }
     ensures ascends { IfOk result (λ s. IsNonDecreasing s) }
     ensures why { IfErr result (λ why. (i : ℕ) → why ≢ errors.Descends i) }
-    ensures too_long { (result ≡ Err errors.TooLong) ↔ (MAX_BITS < max (high_len numbers.now) (low_len numbers.now)) }
+    ensures too_long { (result ≡ Err errors.TooLong) ↔ IsTooLong numbers.now }
     ensures memory { result ≡ Err errors.OutOfMemory → 0 < length numbers.now }
 {
     let len = numbers.len();

@@ -1,9 +1,10 @@
 //! The first number that is large enough.
-ghost use Rattle.std.specs.Prelude.{◌≡◌, ℕ, ◌*◌, ◌<◌, ◌≤◌, ◌↔◌, All, Contains, IfSome, IsTrue, None, Some, length, slice_get, take};
+ghost use Rattle.std.specs.Prelude.{◌≡◌, ℕ, ◌+◌, ◌*◌, ◌<◌, ◌≤◌, ◌↔◌, All, Contains, IfNone, IfSome, IsTrue, None, Some, length, slice_get, take};
 ghost use Rattle.std.specs.List.Sorted.{IsNonDecreasing};
 ghost use Rattle.bit_addressing.specs.declared.length.TheConstants.{MAX_BITS};
 ghost use Rattle.bit_slice.specs.Places.{ones_of};
-ghost use Rattle.bit_ranks.specs.Sorted.{high_part, low_part};
+ghost use Rattle.bit_ranks.specs.Ranks.{zeros_before};
+ghost use Rattle.bit_ranks.specs.Sorted.{AreSameHigh, IsUptoHigh, high_part, low_part};
 
 use crate::ranks::Ranks;
 use crate::sorted::{SortedNumbers, low_bits_at};
@@ -11,8 +12,8 @@ use bit_containers::{BitVec, Lsb0};
 use std::ops::Range;
 
 impl SortedNumbers {
-    /// The first number that is at least `x`, after its place. None exactly where all numbers are below `x`. Two zeros
-    /// are selected, and the numbers between them, which have the high bits of `x`, are searched by halves.
+    /// The first number that is at least `x`, after its place. None exactly where all numbers are below `x`. One zero is
+    /// selected, and the numbers with the high bits of `x`, whose ones stand from it on, are searched by halves.
     ///
     /// ```text
     /// of 2, 3, 9, 9:  numbers.next_at_least(4) == Some((2, 9))
@@ -25,16 +26,23 @@ impl SortedNumbers {
         ensures ascends { IsNonDecreasing self.now }
     {
         let high = x >> self.width;
-        let same = same_high(&self.high, self.len, high as usize);
-        let rest = x - (high << self.width);
-        let k = first_low(&self.low, self.width, same.start, same.end, rest);
-        match self.get(k) {
+        match same_high(&self.high, self.len, high as usize) {
             None => None,
-            Some(number) => Some((k, number)),
+            Some(same) => {
+                let rest = x - (high << self.width);
+                let k = first_low(&self.low, self.width, same.start, same.end, rest);
+                match self.high.as_bitslice().next_one(k + high as usize) {
+                    None => None,
+                    Some(place) => {
+                        let low = low_bits_at(&self.low, self.width, k);
+                        Some((k, (((place - k) as u64) << self.width) + low))
+                    }
+                }
+            }
         }
     }
 
-    /// Whether `x` is one of the numbers.
+    /// Whether `x` is one of the numbers. Like `next_at_least`.
     pub fn contains(&self, x: u64) -> bool
         ensures { IsTrue result ↔ Contains self.now x }
     {
@@ -45,33 +53,37 @@ impl SortedNumbers {
     }
 }
 
-// The places of the numbers with these high bits: their ones stand between two zeros.
+// The places of the numbers with these high bits: their ones stand between two zeros. None where there are too few zeros
+// for such numbers, or for larger ones.
 #[inline(always)]
-fn same_high(ones: &Ranks<u64, Lsb0>, len: usize, high: usize) -> Range<usize>
+fn same_high(ones: &Ranks<u64, Lsb0>, len: usize, high: usize) -> Option<Range<usize>>
     requires { length (ones_of ones.now.list) ≡ len }
-    ensures ordered { result.start ≤ result.end }
-    ensures within { result.end ≤ len }
-    ensures before { (k : ℕ) → k < result.start → high_part ones.now.list k < high }
-    ensures same { (k : ℕ) → result.start ≤ k → k < result.end → high_part ones.now.list k ≡ high }
-    ensures after { (k : ℕ) → result.end ≤ k → k < len → high < high_part ones.now.list k }
+    ensures some { IfSome result (λ same. AreSameHigh ones.now.list high same.start same.end) }
+    ensures none { IfNone result ((k : ℕ) → k < len → high_part ones.now.list k < high) }
 {
-    let start = if high == 0 {
-        0
-    } else {
-        upto_high(ones, len, high - 1)
-    };
-    start..upto_high(ones, len, high)
+    if high == 0 {
+        return Some(0..upto_zero(ones, len, 0, 0));
+    }
+    match ones.select0(high - 1) {
+        None => None,
+        Some(place) => {
+            let end = upto_zero(ones, len, place + 1, high);
+            Some(place + 1 - high..end)
+        }
+    }
 }
 
-// How many numbers have at most these high bits: how many ones stand before the zero with that number.
+// How many numbers have at most these high bits: how many ones stand before the first zero from an index on, before which
+// as many zeros stand as the high bits say.
 #[inline(always)]
-fn upto_high(ones: &Ranks<u64, Lsb0>, len: usize, high: usize) -> usize
-    requires { length (ones_of ones.now.list) ≡ len }
-    ensures within { result ≤ len }
-    ensures before { (k : ℕ) → k < result → high_part ones.now.list k ≤ high }
-    ensures after { (k : ℕ) → result ≤ k → k < len → high < high_part ones.now.list k }
+fn upto_zero(ones: &Ranks<u64, Lsb0>, len: usize, from: usize, high: usize) -> usize
+    requires count { length (ones_of ones.now.list) ≡ len }
+    requires inside { from ≤ length ones.now.list }
+    requires zeros { zeros_before ones.now.list from ≡ high }
+    ensures begins { from ≤ result + high }
+    ensures upto { IsUptoHigh ones.now.list high result }
 {
-    match ones.select0(high) {
+    match ones.as_bitslice().next_zero(from) {
         None => len,
         Some(place) => place - high,
     }

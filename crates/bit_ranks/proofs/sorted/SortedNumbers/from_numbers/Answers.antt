@@ -1,4 +1,4 @@
-use Rattle.std.proofs.Common.{◌≡◌, ◌<◌, length, subst, sym, ap, ◌∙◌, arith}
+use Rattle.std.proofs.Common.{◌≡◌, length, subst, sym, ap, ◌∙◌, arith}
 use Rattle.std.specs.List.Sorted.{IsNonDecreasing}
 use Rattle.bit_slice.specs.Pulls.{RunsThrough}
 use Rattle.bit_ranks.proofs.Making.{ok_then}

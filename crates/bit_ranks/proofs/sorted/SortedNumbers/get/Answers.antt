@@ -1,6 +1,5 @@
-use Rattle.std.proofs.Common.{◌≡◌, ℕ, ◌+◌, ◌-◌, ◌*◌, ◌/◌, ◌%◌, ◌^◌, ◌<◌, ◌≤◌, length, slice_get, Some, sym, ap, ◌∙◌, arith}
+use Rattle.std.proofs.Common.{slice_get, Some, sym, ap, ◌∙◌, arith}
 use Rattle.bit_slice.specs.Places.{ones_of}
-use Rattle.bit_ranks.specs.Sorted.{number_at, high_part}
 use Rattle.bit_ranks.proofs.Packed.{ends_there, low_inside, number_absent, number_fits, number_there, shifted}
 use Rattle.bit_ranks.proofs.sorted.SortedNumbers.get.Goals as goal
 

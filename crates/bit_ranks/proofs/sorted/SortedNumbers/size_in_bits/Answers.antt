@@ -1,4 +1,4 @@
-use Rattle.std.proofs.Common.{◌≡◌, ◌+◌, ◌*◌, ◌/◌, ◌^◌, ◌≤◌, length, arith}
+use Rattle.std.proofs.Common.{arith}
 use Rattle.bit_ranks.proofs.Packed.{size_is, size_within}
 use Rattle.bit_ranks.proofs.sorted.SortedNumbers.size_in_bits.Goals as goal
 

@@ -1,4 +1,4 @@
-use Rattle.std.proofs.Common.{◌≡◌, ◌-◌, ◌<◌, ◌≤◌, get_or, take}
+use Rattle.std.proofs.Common.{◌≡◌, ◌-◌, ◌<◌, get_or, take}
 use Rattle.std.specs.List.Sorted.{IsNonDecreasing}
 use Rattle.bit_ranks.proofs.sorted.making.first_descent.Given as goal
 

@@ -1,4 +1,4 @@
-use Rattle.std.proofs.Common.{◌≡◌, ℕ, ◌+◌, ◌-◌, ◌*◌, ◌/◌, ◌%◌, ◌^◌, ◌<◌, ◌≤◌, get_or, length, refl, subst, sym, ap, ◌∙◌, arith}
+use Rattle.std.proofs.Common.{◌≡◌, ◌+◌, ◌/◌, ◌^◌, length, subst, sym, ap, ◌∙◌, arith}
 use Rattle.std.specs.List.Sorted.{IsNonDecreasing}
 use Rattle.bit_slice.specs.Places.{ones_of}
 use Rattle.bit_ranks.specs.Sorted.{log2_of}
@@ -19,7 +19,7 @@ invariant_of-result c =
     made_packed w high c.in-Ok-low_bits.low.list xs ones c.in-Ok-low_bits.ensures.each c.requires (let v = last.value in let f = last.fits in omega arith)
     (width.value ∙ ap (λ l. log2_of (l / length xs)) last.value) width.narrow
     (ap length same ∙ c.in-Ok.ensures.len ∙ lens.high ∙ ap (λ l. length xs + l / 2 ^ w) last.value)
-    (c.in-Ok-low_bits.ensures.len ∙ lens.low) (let l = lens.low in omega arith)
+    (c.in-Ok-low_bits.ensures.len ∙ lens.low) (let l = lens.low in omega arith) (let l = ap length same ∙ c.in-Ok.ensures.len in omega arith)
 
 pub returns-in-Ok-new-clause-list : goal.returns-in-Ok-new-clause-list
 returns-in-Ok-new-clause-list c =

@@ -1,4 +1,4 @@
-use Rattle.std.proofs.Common.{◌≡◌, ℕ, ◌+◌, ◌-◌, ◌*◌, ◌/◌, ◌%◌, ◌^◌, ◌<◌, ◌≤◌, false, get_or, length, replicate, take, refl, subst, sym, ap, ◌∙◌, arith}
+use Rattle.std.proofs.Common.{◌+◌, ◌/◌, ◌^◌, get_or, length, subst, sym, ap, ◌∙◌, arith}
 use Rattle.std.proofs.Common.{true}
 use Rattle.std.proofs.lemmas.List.{length-set}
 use Rattle.bit_ranks.proofs.Making.{AreMarked, marked_more, none_marked, place_inside}

@@ -1,4 +1,4 @@
-use Rattle.std.proofs.Common.{◌≡◌, ℕ, ◌+◌, ◌-◌, ◌*◌, ◌/◌, ◌%◌, ◌^◌, ◌<◌, ◌≤◌, false, get_or, length, replicate, take, refl, subst, sym, ap, ◌∙◌, arith}
+use Rattle.std.proofs.Common.{◌/◌, sym, ap, arith}
 use Rattle.std.proofs.Math.Nat.{div-zero}
 use Rattle.bit_ranks.proofs.Packed.{log2_is, log2_small}
 use Rattle.bit_ranks.proofs.sorted.making.width_for.Goals as goal

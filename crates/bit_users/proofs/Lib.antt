@@ -2,6 +2,7 @@ pub mod Fields
 pub mod Frames
 pub mod Grids
 pub mod Members
+pub mod Merging
 pub mod ModTwo
 pub mod Paths
 pub mod Sequences

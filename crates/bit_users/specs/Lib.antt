@@ -1,6 +1,7 @@
 pub mod Elimination
 pub mod FreeMap
 pub mod Matrix
+pub mod Merged
 pub mod Sequence
 pub mod Table
 pub mod Wire

@@ -15,5 +15,5 @@ mod wire;
 pub use free_map::{FreeMap, NotTaken};
 pub use matrix::Matrix;
 pub use sequence::{Fault, are_of_one_list, from_bytes, to_bytes};
-pub use table::NumberSet;
+pub use table::{Merged, NumberSet};
 pub use wire::Header;

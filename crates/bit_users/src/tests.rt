@@ -1,5 +1,6 @@
 //! The users on real data, each call once.
 mod matrices;
+mod sets;
 
 use crate::{
     Fault, FreeMap, Header, Matrix, NotTaken, NumberSet, are_of_one_list, from_bytes, to_bytes,
@@ -109,10 +110,10 @@ fn sets_in_place(rt: HostRuntime) -> Result<(), Fail> {
     let high = NumberSet::from_numbers(rt.alloc(), 200, &[7, 150])?;
     let mut low = NumberSet::from_numbers(rt.alloc(), 200, &[2, 7, 70, 150])?;
     low.subtract(&high);
-    assert!(rt; low.is_disjoint(&high) && low.min() == Some(2) && low.max() == Some(70));
+    assert!(rt; low.is_disjoint(&high) && low.first() == Some(2) && low.last() == Some(70));
     assert_eq!(rt; low.iter().next_back(), Some(70));
     low.intersect(&high);
-    assert!(rt; low.is_empty() && low.min().is_none() && low.max().is_none());
+    assert!(rt; low.is_empty() && low.first().is_none() && low.last().is_none());
     let mut again = NumberSet::from_bits(high.into_bits());
     assert!(rt; again.contains(150) && again.count() == 2);
     again.clear();

@@ -6,4 +6,5 @@ pub mod Merging
 pub mod ModTwo
 pub mod Paths
 pub mod Sequences
+pub mod Served
 pub mod Sieve

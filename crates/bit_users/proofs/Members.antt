@@ -105,7 +105,7 @@ outside_bit xs a b bit k ordered inside out =
       | inr high ↦ put_behind xs (replicate (b - a) bit) a k false (omega arith) (omega arith)
     ]
 
-in_range : (k a b : ℕ) → ((a ≤ k) × (k < b)) ⊎ ((k < a) ⊎ (b ≤ k))
+pub in_range : (k a b : ℕ) → ((a ≤ k) × (k < b)) ⊎ ((k < a) ⊎ (b ≤ k))
 in_range k a b = elim (cases_lt k a) [ inl low ↦ inr (inl low) | inr l ↦ elim (cases_lt k b) [ inl m ↦ inl (l, m) | inr m ↦ inr (inr m) ] ]
 
 pub filled_in : (xs : List Bool) (a b : ℕ) → a ≤ b → b ≤ length xs → (k : ℕ) → IsIn (put xs a (replicate (b - a) true)) k ↔ (((a ≤ k) × (k < b)) ⊎ IsIn xs k)

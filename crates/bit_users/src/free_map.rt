@@ -1,13 +1,17 @@
 //! An allocator's map of frames, one bit each.
-ghost use Rattle.std.specs.Prelude.{◌≡◌, ◌+◌, ◌≤◌, ◌<◌, ◌↔◌, ℕ, Bool, List, false, true, not, EachIndex, Err, IfNone, IfOk, IfSome, IsOk, IsTrue, MatchOption, OnErr, OnOk, Some, length, replicate, set, slice_get};
+ghost use Rattle.std.specs.Prelude.{◌≡◌, ◌+◌, ◌-◌, ◌++◌, ◌≤◌, ◌<◌, ◌↔◌, ℕ, Bool, List, false, true, not, EachIndex, Err, IfNone, IfOk, IfSome, IsOk, IsTrue, MatchOption, OnErr, OnOk, Some, length, replicate, set, slice_get};
 ghost use Rattle.std.specs.List.{count_by};
 ghost use Rattle.bit_addressing.specs.declared.errors.GrowError.TheVariants as errors;
 ghost use Rattle.bit_addressing.specs.declared.length.TheConstants.{MAX_BITS};
 ghost use Rattle.bit_addressing.specs.Row.{put};
 ghost use Rattle.bit_users.specs.FreeMap.{AreFree, AreTaken, IsFirstRun};
 
+mod fits;
+mod serving;
+
 use bit_addressing::{GrowError, Lsb0};
 use bit_containers::BitVec;
+pub use serving::{Reply, Request};
 use std::alloc::Global;
 use std::marker::Model;
 
@@ -127,6 +131,17 @@ impl FreeMap {
             from = end;
         }
         None
+    }
+
+    /// Makes the map one of `frames` frames; those that are added are free. `TooLong` exactly where they pass `MAX_BITS`;
+    /// refused, nothing changes. Requires that there are not fewer than now.
+    pub fn grow(&mut self, frames: usize) -> Result<(), GrowError>
+        requires { length self.old ≤ frames }
+        ensures list { OnOk result (self.new ≡ self.old ++ replicate (frames - length self.old) false) }
+        ensures too_long { (result ≡ Err errors.TooLong) ↔ ((length self.old < frames) × (MAX_BITS < frames)) }
+        ensures refused { OnErr result (self.new ≡ self.old) }
+    {
+        self.taken.resize(frames, false)
     }
 
     /// Gives `count` frames from `first` on back: they are free then, and no other frame changes. Refused where one of

@@ -13,7 +13,7 @@ use Rattle.bit_addressing.proofs.lists.Shown.{get_or-run, length-run}
 use Rattle.bit_slice.proofs.Ranges.{read_filled}
 use Rattle.bit_users.specs.FreeMap.{AreFree, AreTaken}
 
-other_bit : (o : Option Bool) → o ≡ Some true → o ≢ Some false
+pub other_bit : (o : Option Bool) → o ≡ Some true → o ≢ Some false
 other_bit o is e = some_apart (sym is ∙ e)
   where
     some_apart : Some true ≢ Some false

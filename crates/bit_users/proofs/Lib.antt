@@ -1,3 +1,5 @@
+pub mod Blocks
+pub mod Counted
 pub mod Fields
 pub mod Frames
 pub mod Grids

@@ -1,7 +1,7 @@
 //! Runs of frames at a multiple of a number, and in the shortest place that is long enough.
-ghost use Rattle.std.specs.Prelude.{◌≡◌, ◌%◌, ◌<◌, ℕ, true, MatchOption, length, replicate};
+ghost use Rattle.std.specs.Prelude.{◌≡◌, ◌%◌, ◌<◌, ◌≤◌, ℕ, true, IfNone, IfSome, MatchOption, Some, length, replicate};
 ghost use Rattle.bit_addressing.specs.Row.{put};
-ghost use Rattle.bit_users.specs.FreeMap.{AreFree, IsFirstAligned};
+ghost use Rattle.bit_users.specs.FreeMap.{AreFree, IsBestBelow, IsBestFit, IsFirstAligned};
 
 use crate::free_map::FreeMap;
 
@@ -21,7 +21,7 @@ impl FreeMap {
         match self.find_aligned(count, align) {
             None => None,
             Some(first) => {
-                self.taken.fill_range(first..first + count, true);
+                self.mark_taken(first, count);
                 Some(first)
             }
         }
@@ -44,4 +44,75 @@ impl FreeMap {
         }
         None
     }
+
+    /// Takes `count` free frames in a row where they fit best: the first of a run of free frames that is shortest among those
+    /// that are long enough, and of such the lowest. None exactly where no run is long enough, and then nothing
+    /// changes. Requires that `count` is at least 1.
+    ///
+    /// ```text
+    /// frames.take_best_fit(2)         // Some(9), where frames 4 to 7 and 9 to 10 are free
+    /// ```
+    #[tactic(auto, using(crate::proofs::Frames::marked_length))]
+    pub fn take_best_fit(&mut self, count: usize) -> Option<usize>
+        requires { 0 < count }
+        ensures run { MatchOption result ((self.new ≡ self.old) × ((k : ℕ) → AreFree self.old count k → ⊥)) (λ first. (self.new ≡ put self.old first (replicate count true)) × IsBestFit self.old count first) }
+        ensures frames { length self.new ≡ length self.old }
+    {
+        match self.find_best_fit(count) {
+            None => None,
+            Some(first) => {
+                self.mark_taken(first, count);
+                Some(first)
+            }
+        }
+    }
+
+    // The lowest of the shortest runs of free frames that are long enough.
+    fn find_best_fit(&self, count: usize) -> Option<usize>
+        requires { 0 < count }
+        ensures { MatchOption result ((k : ℕ) → AreFree self.now count k → ⊥) (λ first. IsBestFit self.now count first) }
+    {
+        match self.best_run(count) {
+            None => None,
+            Some((first, _)) => Some(first),
+        }
+    }
+
+    // The first frame and the length of the best of all runs of free frames.
+    fn best_run(&self, count: usize) -> Option<(usize, usize)>
+        requires { 0 < count }
+        ensures { IsBestBelow self.now count (length self.now) result }
+    {
+        let mut best = None;
+        let mut from = 0;
+        while let Some(first) = self.taken.next_zero(from) {
+            from = self.taken.next_one(first).unwrap_or(self.taken.len());
+            best = better(best, first, from - first, count);
+        }
+        best
+    }
+}
+
+// The best run so far and one more that lies higher: the shorter that is long enough.
+fn better(
+    best: Option<(usize, usize)>,
+    first: usize,
+    len: usize,
+    count: usize,
+) -> Option<(usize, usize)>
+    ensures short { len < count → result ≡ best }
+    ensures alone { count ≤ len → IfNone best (result ≡ Some (first, len)) }
+    ensures kept { count ≤ len → IfSome best (λ b. b.1 ≤ len → result ≡ best) }
+    ensures shorter { count ≤ len → IfSome best (λ b. len < b.1 → result ≡ Some (first, len)) }
+{
+    if len < count {
+        return best;
+    }
+    let Some((_, shortest)) = best else {
+        return Some((first, len));
+    };
+    if shortest <= len {
+        return best;
+    }
+    Some((first, len))
 }

@@ -47,8 +47,7 @@ module _ (map : List Bool) (from first end : ℕ) (later : from ≤ first) (some
   best_more count None result was short alone kept shorter = elim (cases_lt (end - first) count) [
     | inl few ↦ subst (λ r. IsBestBelow map count end r) (sym (short few)) (λ k m below block. elim (blocks_below k m below block) [ inl low ↦ was k m low block | inr this ↦ (let e = this.1 in omega arith) ])
     | inr enough ↦
-        subst (λ r. IsBestBelow map count end r) (sym (alone enough))
-        (
+        subst (λ r. IsBestBelow map count end r) (sym (alone enough)) (
           some,
           is_block,
           enough,
@@ -62,8 +61,7 @@ module _ (map : List Bool) (from first end : ℕ) (later : from ≤ first) (some
       let lower = was.0 in
       elim (cases_lt (end - first) count) [
         | inl few ↦
-            subst (λ r. IsBestBelow map count end r) (sym (short few))
-            (
+            subst (λ r. IsBestBelow map count end r) (sym (short few)) (
               omega arith,
               was.1,
               was.2,
@@ -71,8 +69,7 @@ module _ (map : List Bool) (from first end : ℕ) (later : from ≤ first) (some
             )
         | inr enough ↦ elim (cases_lt (end - first) b.1) [
           | inl less ↦
-              subst (λ r. IsBestBelow map count end r) (sym (shorter enough less))
-              (
+              subst (λ r. IsBestBelow map count end r) (sym (shorter enough less)) (
                 some,
                 is_block,
                 enough,
@@ -82,8 +79,7 @@ module _ (map : List Bool) (from first end : ℕ) (later : from ≤ first) (some
                 ],
               )
           | inr more ↦
-              subst (λ r. IsBestBelow map count end r) (sym (kept enough more))
-              (
+              subst (λ r. IsBestBelow map count end r) (sym (kept enough more)) (
                 omega arith,
                 was.1,
                 was.2,
@@ -161,7 +157,14 @@ best_fits map count b some is =
     record {
       inside = omega arith;
       free = λ i h. block.free i (omega arith);
-      shortest = (b.1, (block, enough, λ k m other long.
-          let first : k + 0 ≡ k = omega arith in
-          is.3 k m (slice_get_within map k false (subst (λ x. IsFree map x) first (other.free 0 other.some))) other long));
+      shortest = (
+        b.1,
+        (
+          block,
+          enough,
+          λ k m other long.
+              let first : k + 0 ≡ k = omega arith in
+              is.3 k m (slice_get_within map k false (subst (λ x. IsFree map x) first (other.free 0 other.some))) other long,
+        ),
+      );
     }

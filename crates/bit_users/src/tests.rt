@@ -1,4 +1,5 @@
 //! The users on real data, each call once.
+mod frames;
 mod matrices;
 mod sets;
 
@@ -136,7 +137,7 @@ fn primes(rt: HostRuntime) -> Result<(), Fail> {
 }
 
 #[test]
-fn frames(rt: HostRuntime) -> Result<(), Fail> {
+fn frames_of_a_map(rt: HostRuntime) -> Result<(), Fail> {
     let mut map = FreeMap::new(rt.alloc(), 130)?;
     assert_eq!(rt; map.frames(), 130);
     assert_eq!(rt; map.take(), Some(0));

@@ -16,4 +16,4 @@ pub use free_map::{FreeMap, NotTaken, Reply, Request};
 pub use matrix::Matrix;
 pub use sequence::{Fault, are_of_one_list, from_bytes, to_bytes};
 pub use table::{Merged, NumberSet};
-pub use wire::Header;
+pub use wire::{Header, HeaderFault};

@@ -4,7 +4,8 @@ mod matrices;
 mod sets;
 
 use crate::{
-    Fault, FreeMap, Header, Matrix, NotTaken, NumberSet, are_of_one_list, from_bytes, to_bytes,
+    Fault, FreeMap, Header, HeaderFault, Matrix, NotTaken, NumberSet, are_of_one_list, from_bytes,
+    to_bytes,
 };
 use bit_addressing::{GrowError, Lsb0, Msb0};
 use bit_containers::BitVec;
@@ -34,6 +35,19 @@ fn a_header_is_read(rt: HostRuntime) {
     assert_eq!(rt; header.source, 0xc0a80001);
     assert_eq!(rt; header.destination, 0xc0a800c7);
     assert!(rt; Header::read(&BYTES[..19]).is_none());
+}
+
+#[test]
+fn reserved_values_of_a_header(rt: HostRuntime) {
+    let mut bytes = BYTES;
+    assert!(rt; Header::read_checked(bytes.as_slice()).is_ok());
+    assert!(rt; Header::read_checked(&bytes[..19]) == Err(HeaderFault::TooShort));
+    bytes[6] = 0xc0;
+    assert!(rt; Header::read_checked(bytes.as_slice()) == Err(HeaderFault::ReservedFlag));
+    bytes[0] = 0x46;
+    assert!(rt; Header::read_checked(bytes.as_slice()) == Err(HeaderFault::Options));
+    bytes[0] = 0x66;
+    assert!(rt; Header::read_checked(bytes.as_slice()) == Err(HeaderFault::Version));
 }
 
 #[test]

@@ -53,13 +53,3 @@ pub one_taken : (map : List Bool) (frame : ℕ) → frame < length map → slice
 one_taken map frame inside free =
     ap (λ l. count_by not l + 1) (put_one map frame true inside)
     ∙ taken_count map frame 1 (omega arith) (λ i h. (let at : frame + i ≡ frame = omega arith in ap (slice_get map) at ∙ free))
-
--- frames that are added are free
-pub added_count : (map : List Bool) (n : ℕ) → count_by not (map ++ replicate n false) ≡ count_by not map + n
-added_count map n =
-    let f = λ (b : Bool). cond (not b) 1 0 in
-    let more : sum_by f (replicate n false) ≡ n * 1 = sum_by-replicate f n false in
-    sum_by-append f map (replicate n false) ∙ ap (λ k. count_by not map + k) (more ∙ omega arith)
-
-pub all_free : (n : ℕ) → count_by not (replicate n false) ≡ n
-all_free n = (let f = λ (b : Bool). cond (not b) 1 0 in sum_by-replicate f n false ∙ omega arith)

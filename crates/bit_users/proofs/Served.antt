@@ -14,6 +14,7 @@ use Rattle.bit_users.proofs.Members.{filled_in, filled_out, in_range}
 
 -- one request more
 pub served_more : (old mid new : List Bool) (qs : List Request) (rs : List Reply) (q : Request) (r : Reply) → HaveServed old qs rs mid → IsServed mid q r new → HaveServed old (qs ++ q ∷ []) (rs ++ r ∷ []) new
+unfolding HaveServed
 served_more old mid new [] [] q r was step = (new, subst (λ m. IsServed m q r new) was step, refl)
 served_more old mid new [] (s ∷ rs) q r was step = absurd was
 served_more old mid new (p ∷ qs) [] q r was step = absurd was
@@ -63,6 +64,7 @@ first_does does q p r s frame e d h =
 
 -- a frame that is taken is not handed out by a later request, unless one before that gives it back
 not_again : (qs : List Request) (rs : List Reply) (map last : List Bool) (frame : ℕ) → HaveServed map qs rs last → IsIn map frame → (j : ℕ) → At HandsOut qs rs j frame → ((k : ℕ) → k < j → At TakesBack qs rs k frame → ⊥) → ⊥
+unfolding HaveServed
 not_again [] rs map last frame served here j at stays = let e = at.1.1.0 in cc
 not_again (q ∷ qs) [] map last frame served here j at stays = absurd served
 not_again (q ∷ qs) (r ∷ rs) map last frame served here zero at stays =
@@ -74,6 +76,7 @@ not_again (q ∷ qs) (r ∷ rs) map last frame served here (suc j) at stays =
     (λ k l h. stays (suc k) (omega arith) h)
 
 pub never_twice : (qs : List Request) (rs : List Reply) (map last : List Bool) → HaveServed map qs rs last → IsNeverTwice qs rs
+unfolding HaveServed
 never_twice [] rs map last served i j frame order one two stays = let e = one.1.1.0 in cc
 never_twice (q ∷ qs) [] map last served i j frame order one two stays = absurd served
 never_twice (q ∷ qs) (r ∷ rs) map last served i zero frame order one two stays = absurd (omega arith)
@@ -92,3 +95,7 @@ served_next old mid new qs rs i d r size inside was step =
 -- all requests of a list
 pub served_all : (old new : List Bool) (qs : List Request) (rs : List Reply) (i : ℕ) → length rs ≡ length qs → length qs ≤ i → HaveServed old (take i qs) (take i rs) new → HaveServed old qs rs new
 served_all old new qs rs i size past was = subst (λ l. HaveServed old l rs new) (take_all i qs past) (subst (λ l. HaveServed old (take i qs) l new) (take_all i rs (omega arith)) was)
+
+pub served_none : (map : List Bool) → HaveServed map [] [] map
+unfolding HaveServed
+served_none map = refl

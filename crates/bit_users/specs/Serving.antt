@@ -17,7 +17,7 @@ IsServed old (GiveBack first count) GivenBack new = (first + count ≤ length ol
 IsServed old (GiveBack first count) Refused new = ((length old < first + count) ⊎ (AreTaken old count first → ⊥)) × (new ≡ old)
 
 -- a map, requests, the reply to each, and the map after all of them
-abbrev pub HaveServed : List Bool → List Request → List Reply → List Bool → Type 0
+unfoldable pub HaveServed : List Bool → List Request → List Reply → List Bool → Type 0
 HaveServed old [] [] new = new ≡ old
 HaveServed old [] (r ∷ rs) new = ⊥
 HaveServed old (q ∷ qs) [] new = ⊥

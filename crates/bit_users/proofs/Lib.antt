@@ -1,8 +1,12 @@
+pub mod Blocks
+pub mod Counted
 pub mod Fields
 pub mod Frames
 pub mod Grids
 pub mod Members
+pub mod Merging
 pub mod ModTwo
 pub mod Paths
 pub mod Sequences
+pub mod Served
 pub mod Sieve

@@ -1,10 +1,18 @@
 //! What the authors of such things rely on, as callers that need no proof of their own.
-ghost use Rattle.std.specs.Prelude.{◌≡◌, ◌≢◌, ◌==◌, ◌<◌, ◌≤◌, ◌⊎◌, ◌↔◌, ℕ, IfOk, IfSome, IsTrue, Some, length};
+ghost use Rattle.std.specs.Prelude.{◌≡◌, ◌≢◌, ◌==◌, ◌%◌, ◌<◌, ◌≤◌, ◌⊎◌, ◌↔◌, ℕ, false, IfOk, IfSome, IsTrue, Some, length};
+ghost use Rattle.bit_containers.specs.Making.{filled_up};
+ghost use Rattle.bit_slice.specs.Operators.{or_of};
+ghost use Rattle.bit_slice.specs.Places.{ones_of};
+ghost use Rattle.bit_users.specs.FreeMap.{AreFree};
 ghost use Rattle.bit_users.specs.Matrix.{IsPath, IsSet, item, product};
+ghost use Rattle.bit_users.specs.Serving.{IsNeverTwice};
 ghost use Rattle.bit_users.specs.Table.{IsIn, IsPrime};
 ghost use Rattle.bit_users.specs.Wire.{Fits};
 
-use crate::{Fault, FreeMap, Header, Matrix, NumberSet, are_of_one_list, from_bytes, to_bytes};
+use crate::{
+    Fault, FreeMap, Header, Matrix, NumberSet, Reply, Request, are_of_one_list, from_bytes,
+    to_bytes,
+};
 use bit_addressing::{BitOrder, BitStore, GrowError, Msb0};
 use bit_containers::BitVec;
 use std::alloc::{AllocError, Global};
@@ -206,4 +214,76 @@ pub fn in_a_row(matrix: &Matrix, row: usize, column: usize) -> Option<bool>
     ensures { result ≡ Some (item matrix.now row column) }
 {
     matrix.row(row).get(column)
+}
+
+/// The numbers of either set, collected.
+pub fn numbers_of_either(
+    alloc: Global,
+    set: &NumberSet,
+    other: &NumberSet,
+) -> Result<Vec<usize>, AllocError>
+    ensures { IfOk result (λ numbers. numbers.items ≡ ones_of (or_of (filled_up set.now (length other.now)) other.now)) }
+{
+    set.iter_union(other).collect(alloc)
+}
+
+/// Numbers that were put in as a range are in the set.
+pub fn inserted_range(set: &mut NumberSet, start: usize, end: usize, number: usize) -> bool
+    requires ordered { start ≤ number }
+    requires inside { number < end }
+    requires below { end ≤ length set.old }
+    ensures { IsTrue result }
+{
+    set.insert_range(start..end);
+    set.contains(number)
+}
+
+/// A number that is in both sets is in neither's alone.
+pub fn toggled(set: &mut NumberSet, other: &NumberSet, number: usize) -> Result<bool, GrowError>
+    requires set { IsIn set.old number }
+    requires other { IsIn other.now number }
+    ensures { IfOk result (λ there. there ≡ false) }
+{
+    set.toggle(other)?;
+    Ok(set.contains(number))
+}
+
+/// A copy of a set has its numbers and its bound.
+pub fn copied(set: &NumberSet) -> Result<bool, AllocError>
+    ensures { IfOk result (λ same. IsTrue same) }
+{
+    let copy = set.clone()?;
+    Ok(copy == *set)
+}
+
+/// An aligned run begins at a multiple, and was free.
+pub fn taken_at_a_multiple(frames: &mut FreeMap, count: usize, align: usize) -> Option<usize>
+    requires some { 0 < count }
+    requires align { 0 < align }
+    ensures { IfSome result (λ first. (first % align ≡ 0) × AreFree frames.old count first) }
+{
+    frames.take_aligned(count, align)
+}
+
+/// A run that was taken where it fits best is given back.
+pub fn fitted_and_given_back(frames: &mut FreeMap, count: usize) -> Option<usize>
+    requires { 0 < count }
+    ensures { frames.new ≡ frames.old }
+{
+    let first = frames.take_best_fit(count)?;
+    match frames.give_back(first, count) {
+        Ok(()) => Some(first),
+        Err(_) => None,
+    }
+}
+
+/// No frame is handed out twice, whatever is asked.
+pub fn served(
+    frames: &mut FreeMap,
+    alloc: Global,
+    requests: &[Request],
+) -> Result<Vec<Reply>, AllocError>
+    ensures { IfOk result (λ replies. IsNeverTwice requests.now replies.items) }
+{
+    frames.serve(alloc, requests)
 }

@@ -1,13 +1,17 @@
 //! An allocator's map of frames, one bit each.
-ghost use Rattle.std.specs.Prelude.{◌≡◌, ◌+◌, ◌≤◌, ◌<◌, ◌↔◌, ℕ, Bool, List, false, true, not, EachIndex, Err, IfNone, IfOk, IfSome, IsOk, IsTrue, MatchOption, OnErr, OnOk, Some, length, replicate, set, slice_get};
+ghost use Rattle.std.specs.Prelude.{◌≡◌, ◌+◌, ◌-◌, ◌++◌, ◌≤◌, ◌<◌, ◌↔◌, ℕ, Bool, List, false, true, not, EachIndex, Err, IfNone, IfOk, IfSome, IsOk, IsTrue, MatchOption, OnErr, OnOk, Some, length, replicate, set, slice_get};
 ghost use Rattle.std.specs.List.{count_by};
 ghost use Rattle.bit_addressing.specs.declared.errors.GrowError.TheVariants as errors;
 ghost use Rattle.bit_addressing.specs.declared.length.TheConstants.{MAX_BITS};
 ghost use Rattle.bit_addressing.specs.Row.{put};
 ghost use Rattle.bit_users.specs.FreeMap.{AreFree, AreTaken, IsFirstRun};
 
+mod fits;
+mod serving;
+
 use bit_addressing::{GrowError, Lsb0};
 use bit_containers::BitVec;
+pub use serving::{Reply, Request};
 use std::alloc::Global;
 use std::marker::Model;
 
@@ -29,12 +33,13 @@ pub struct NotTaken;
 #[derive(Drop)]
 pub struct FreeMap {
     taken: BitVec<usize, Lsb0>,
+    free: usize,
 }
 
 impl Model for FreeMap {
-    ghost use Rattle.std.specs.Prelude.{◌≤◌, Bool, List, length};
+    ghost use Rattle.std.specs.Prelude.{Bool, List};
     ghost use Rattle.std.specs.Coded.{coded_list, coded_bool};
-    ghost use Rattle.bit_addressing.specs.declared.length.TheConstants.{MAX_BITS};
+    ghost use Rattle.bit_users.specs.FreeMap.{IsCounted};
 
     ghost Value = { List Bool };
 
@@ -42,7 +47,7 @@ impl Model for FreeMap {
 
     ghost view = { λ m. m.taken.list };
 
-    ghost invariant = { λ m. length m.taken.list ≤ MAX_BITS };
+    ghost invariant = { λ m. IsCounted m.taken.list m.free };
 }
 
 impl FreeMap {
@@ -54,7 +59,10 @@ impl FreeMap {
         ensures memory { result ≡ Err errors.OutOfMemory → 0 < frames }
     {
         let taken = BitVec::repeat(alloc, false, frames)?;
-        Ok(FreeMap { taken })
+        Ok(FreeMap {
+            taken,
+            free: frames,
+        })
     }
 
     /// How many frames there are.
@@ -72,11 +80,11 @@ impl FreeMap {
         self.taken[frame]
     }
 
-    /// How many frames are free, counted by words.
+    /// How many frames are free. The map keeps the count.
     pub fn count_free(&self) -> usize
         ensures { result ≡ count_by not self.now }
     {
-        self.taken.count_zeros()
+        self.free
     }
 
     /// Takes the lowest free frame, which is found by words. None exactly where no frame is free, and then
@@ -91,6 +99,7 @@ impl FreeMap {
             None => None,
             Some(frame) => {
                 self.taken.set(frame, true);
+                self.free -= 1;
                 Some(frame)
             }
         }
@@ -107,10 +116,21 @@ impl FreeMap {
         match self.find_run(count) {
             None => None,
             Some(first) => {
-                self.taken.fill_range(first..first + count, true);
+                self.mark_taken(first, count);
                 Some(first)
             }
         }
+    }
+
+    // Marks free frames as taken. Requires that they are frames of the map, and free.
+    #[tactic(auto, using(crate::proofs::Counted::taken_count, crate::proofs::Frames::marked_length))]
+    fn mark_taken(&mut self, first: usize, count: usize)
+        requires inside { first + count ≤ length self.old }
+        requires free { AreFree self.old count first }
+        ensures { self.new ≡ put self.old first (replicate count true) }
+    {
+        self.taken.fill_range(first..first + count, true);
+        self.free -= count;
     }
 
     // The lowest frame with which a run of so many free frames begins.
@@ -127,6 +147,20 @@ impl FreeMap {
             from = end;
         }
         None
+    }
+
+    /// Makes the map one of `frames` frames; those that are added are free. `TooLong` exactly where they pass `MAX_BITS`;
+    /// refused, nothing changes. Requires that there are not fewer than now.
+    pub fn grow(&mut self, frames: usize) -> Result<(), GrowError>
+        requires { length self.old ≤ frames }
+        ensures list { OnOk result (self.new ≡ self.old ++ replicate (frames - length self.old) false) }
+        ensures too_long { (result ≡ Err errors.TooLong) ↔ ((length self.old < frames) × (MAX_BITS < frames)) }
+        ensures refused { OnErr result (self.new ≡ self.old) }
+    {
+        let added = frames - self.taken.len();
+        self.taken.resize(frames, false)?;
+        self.free += added;
+        Ok(())
     }
 
     /// Gives `count` frames from `first` on back: they are free then, and no other frame changes. Refused where one of
@@ -146,6 +180,7 @@ impl FreeMap {
             return Err(NotTaken);
         }
         self.taken.fill_range(first..first + count, false);
+        self.free += count;
         Ok(())
     }
 

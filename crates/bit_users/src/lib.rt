@@ -12,8 +12,8 @@ mod table;
 mod tests;
 mod wire;
 
-pub use free_map::{FreeMap, NotTaken};
+pub use free_map::{FreeMap, NotTaken, Reply, Request};
 pub use matrix::Matrix;
 pub use sequence::{Fault, are_of_one_list, from_bytes, to_bytes};
-pub use table::NumberSet;
-pub use wire::Header;
+pub use table::{Merged, NumberSet};
+pub use wire::{Header, HeaderFault};

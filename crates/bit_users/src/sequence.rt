@@ -1,5 +1,5 @@
 //! A list of truth values as bytes, and back.
-ghost use Rattle.std.specs.Prelude.{◌≡◌, ◌≤◌, ◌↔◌, Bool, List, Err, IfOk, IfErr, IsTrue, length};
+ghost use Rattle.std.specs.Prelude.{◌≡◌, ◌+◌, ◌*◌, ◌≤◌, ◌↔◌, Bool, List, Err, IfOk, IfErr, IsTrue, length};
 ghost use Rattle.bit_addressing.specs.declared.errors.GrowError.TheVariants.{OutOfMemory};
 ghost use Rattle.bit_addressing.specs.declared.length.TheConstants.{MAX_BITS};
 ghost use Rattle.bit_users.specs.Sequence.{AreBytesOf};
@@ -60,10 +60,12 @@ pub fn are_of_one_list(left: &[u8], right: &[u8]) -> bool
 }
 
 /// The list whose bytes these are. They are `Broken` exactly where they are those of no list of at most
-/// `MAX_BITS` bits, so memory is refused only for a list that is there. Takes memory.
+/// `MAX_BITS` bits, so memory is refused only for a list that is there, whose bits are no more than those of the bytes after the
+/// first eight: a wrong length asks for no memory. Takes memory.
 pub fn from_bytes(alloc: Global, bytes: &[u8]) -> Result<BitVec<u8, Msb0>, Fault>
     ensures read { IfOk result (λ bits. AreBytesOf bits.list bytes.now) }
     ensures list { IfOk result (λ read. (bits : List Bool) → length bits ≤ MAX_BITS → AreBytesOf bits bytes.now → read.list ≡ bits) }
+    ensures small { IfOk result (λ read. 64 + length read.list ≤ 8 * length bytes.now) }
     ensures memory { result ≡ Err faults.OutOfMemory → (bits : List Bool) × (length bits ≤ MAX_BITS) × AreBytesOf bits bytes.now }
     ensures broken { result ≡ Err faults.Broken → (bits : List Bool) → length bits ≤ MAX_BITS → AreBytesOf bits bytes.now → ⊥ }
 {

@@ -1,8 +1,11 @@
 //! The users on real data, each call once.
+mod frames;
 mod matrices;
+mod sets;
 
 use crate::{
-    Fault, FreeMap, Header, Matrix, NotTaken, NumberSet, are_of_one_list, from_bytes, to_bytes,
+    Fault, FreeMap, Header, HeaderFault, Matrix, NotTaken, NumberSet, are_of_one_list, from_bytes,
+    to_bytes,
 };
 use bit_addressing::{GrowError, Lsb0, Msb0};
 use bit_containers::BitVec;
@@ -32,6 +35,19 @@ fn a_header_is_read(rt: HostRuntime) {
     assert_eq!(rt; header.source, 0xc0a80001);
     assert_eq!(rt; header.destination, 0xc0a800c7);
     assert!(rt; Header::read(&BYTES[..19]).is_none());
+}
+
+#[test]
+fn reserved_values_of_a_header(rt: HostRuntime) {
+    let mut bytes = BYTES;
+    assert!(rt; Header::read_checked(bytes.as_slice()).is_ok());
+    assert!(rt; Header::read_checked(&bytes[..19]) == Err(HeaderFault::TooShort));
+    bytes[6] = 0xc0;
+    assert!(rt; Header::read_checked(bytes.as_slice()) == Err(HeaderFault::ReservedFlag));
+    bytes[0] = 0x46;
+    assert!(rt; Header::read_checked(bytes.as_slice()) == Err(HeaderFault::Options));
+    bytes[0] = 0x66;
+    assert!(rt; Header::read_checked(bytes.as_slice()) == Err(HeaderFault::Version));
 }
 
 #[test]
@@ -109,10 +125,10 @@ fn sets_in_place(rt: HostRuntime) -> Result<(), Fail> {
     let high = NumberSet::from_numbers(rt.alloc(), 200, &[7, 150])?;
     let mut low = NumberSet::from_numbers(rt.alloc(), 200, &[2, 7, 70, 150])?;
     low.subtract(&high);
-    assert!(rt; low.is_disjoint(&high) && low.min() == Some(2) && low.max() == Some(70));
+    assert!(rt; low.is_disjoint(&high) && low.first() == Some(2) && low.last() == Some(70));
     assert_eq!(rt; low.iter().next_back(), Some(70));
     low.intersect(&high);
-    assert!(rt; low.is_empty() && low.min().is_none() && low.max().is_none());
+    assert!(rt; low.is_empty() && low.first().is_none() && low.last().is_none());
     let mut again = NumberSet::from_bits(high.into_bits());
     assert!(rt; again.contains(150) && again.count() == 2);
     again.clear();
@@ -135,7 +151,7 @@ fn primes(rt: HostRuntime) -> Result<(), Fail> {
 }
 
 #[test]
-fn frames(rt: HostRuntime) -> Result<(), Fail> {
+fn frames_of_a_map(rt: HostRuntime) -> Result<(), Fail> {
     let mut map = FreeMap::new(rt.alloc(), 130)?;
     assert_eq!(rt; map.frames(), 130);
     assert_eq!(rt; map.take(), Some(0));

@@ -1,13 +1,28 @@
 //! The header of an IPv4 packet: thirteen fields of unequal widths, and the 20 bytes that they make.
-ghost use Rattle.std.specs.Prelude.{◌≡◌, ◌+◌, ◌-◌, ◌*◌, ◌^◌, ◌<◌, ◌≤◌, IfOk, IfErr, MatchOption, length, slice_range, take};
+ghost use Rattle.std.specs.Prelude.{◌≡◌, ◌≢◌, ◌+◌, ◌-◌, ◌*◌, ◌^◌, ◌<◌, ◌≤◌, ◌↔◌, Err, IfOk, IfErr, MatchOption, length, slice_range, take};
 ghost use Rattle.bit_addressing.specs.declared.errors.GrowError.TheVariants.{OutOfMemory};
 ghost use Rattle.bit_addressing.specs.Row.{binary, row_of};
 ghost use Rattle.bit_containers.specs.BitVec.{IsClean};
 ghost use Rattle.bit_users.specs.Wire.{bits_of, bytes_of, Fits};
+ghost use Rattle.bit_users.specs.declared.wire.Header.{Header as HeaderRecord};
+ghost use Rattle.bit_users.specs.declared.wire.HeaderFault.TheVariants as faults;
 
 use bit_addressing::{GrowError, Msb0, read_binary};
 use bit_containers::BitVec;
 use std::alloc::Global;
+
+/// Why bytes are not the header of an IPv4 packet without options.
+#[derive(Clone, Copy, PartialEq, Eq, Debug)]
+pub enum HeaderFault {
+    /// There are fewer than 20.
+    TooShort,
+    /// The version is not 4.
+    Version,
+    /// The header has not 5 words, so it has options or is too short.
+    Options,
+    /// The flag that is reserved is true.
+    ReservedFlag,
+}
 
 /// The header of an IPv4 packet that has no options. Its fields come in this order, the most significant
 /// bit of each first.
@@ -91,6 +106,35 @@ impl Header {
             source: field(bytes, 96, 32) as u32,
             destination: field(bytes, 128, 32) as u32,
         })
+    }
+
+    /// Like `read`, but a header whose reserved values differ from those of a packet without options is refused, and by the first
+    /// that does: the version has to be 4, the header 5 words, and the reserved flag false.
+    ///
+    /// ```text
+    /// Header::read_checked(&bytes)     // Err(HeaderFault::Version) for a packet of version 6
+    /// ```
+    pub fn read_checked(bytes: &[u8]) -> Result<Header, HeaderFault>
+        ensures header { IfOk result (λ h. Fits h × (take 20 bytes.now ≡ bytes_of h)) }
+        ensures checked { IfOk result (λ h. (h.version ≡ 4) × (h.header_words ≡ 5) × (h.flags < 4)) }
+        ensures too_short { (result ≡ Err faults.TooShort) ↔ (length bytes.now < 20) }
+        ensures version { result ≡ Err faults.Version → (h : HeaderRecord) × ((take 20 bytes.now ≡ bytes_of h) × (h.version ≢ 4)) }
+        ensures options { result ≡ Err faults.Options → (h : HeaderRecord) × ((take 20 bytes.now ≡ bytes_of h) × (h.version ≡ 4) × (h.header_words ≢ 5)) }
+        ensures reserved { result ≡ Err faults.ReservedFlag → (h : HeaderRecord) × ((take 20 bytes.now ≡ bytes_of h) × (h.version ≡ 4) × (h.header_words ≡ 5) × (4 ≤ h.flags)) }
+    {
+        let Some(header) = Self::read(bytes) else {
+            return Err(HeaderFault::TooShort);
+        };
+        if header.version != 4 {
+            return Err(HeaderFault::Version);
+        }
+        if header.header_words != 5 {
+            return Err(HeaderFault::Options);
+        }
+        if header.flags >= 4 {
+            return Err(HeaderFault::ReservedFlag);
+        }
+        Ok(header)
     }
 
     // The fields' bits, joined.

@@ -1,5 +1,6 @@
 use Rattle.std.proofs.Common.{ℕ, ◌+◌, ◌-◌, ◌*◌, ◌^◌, ◌<◌, length, map, slice_range, take, drop, refl, sym, ◌∙◌, ap, arith}
 use Rattle.std.proofs.Math.Facts.{Fits-lt-pow, Fits-of_lt}
+use Rattle.std.proofs.lemmas.List.{length-drop}
 use Rattle.bit_addressing.specs.Row.{row_of, words_for}
 use Rattle.bit_addressing.proofs.lists.Sized.{room}
 use Rattle.bit_users.proofs.Sequences.{all_words, length_read, no_stray, one_list, read_is, row_end, row_seen, shown_few, shown_small, small, stray, not_longer, words_count}
@@ -60,3 +61,13 @@ returns-in-Err-clause-memory c refused =
     let are = read_is bytes c.copy_from_slice.new.self list len end c.if-bytes-lt8.false (λ i. Fits-lt-pow (c.type_inv.bytes i)) c.copy_from_slice.ensures.after c.from_le_bytes-len.ensures (c.if-words-elts.false ∙ c.elts.ensures.value) refl
     (no_stray _ len end c.find_bit.result c.find_bit.ensures (sym c.is_some.ensures ∙ c.if-is_some.false)) refl in
     (list, shown_few row list len refl c.if-len-gt-MAX_BITS.false, are)
+
+pub returns-in-Ok-clause-small : goal.returns-in-Ok-clause-small
+returns-in-Ok-clause-small c =
+    let list = c.in-Ok.bits.list in
+    let bytes = c.args.bytes.now in
+    let count = words_count list bytes (returns-in-Ok-clause-read c) in
+    let inside = (room 8 (length list) (omega arith)).0 in
+    let rest = length-drop 8 bytes in
+    let enough = c.if-bytes-lt8.false in
+    omega arith

@@ -3,7 +3,7 @@ use Rattle.std.proofs.Common.{◌≡◌, ◌↔◌, ℕ, suc, ◌+◌, ◌-◌, 
 use Rattle.std.specs.Prelude.{count_ones, bit_and}
 use Rattle.std.specs.List.{filter, range_with_len}
 use Rattle.std.proofs.lemmas.Bool.{cases_lt}
-use Rattle.std.proofs.lemmas.List.{map-id, length-take, length-append, length-map, take_all, take-map, get_or-append-add, get_or-map, get_or-take, get_or_past, get_or_append_left}
+use Rattle.std.proofs.lemmas.List.{length-take, length-append, length-map, take_all, take-map, get_or-append-add, get_or-map, get_or-take, get_or_past, get_or_append_left}
 use Rattle.std.proofs.lemmas.List.Elements.{filter-append}
 use Rattle.std.proofs.lemmas.List.Sums.{sum_by-append, count_by-le-length, count_by_more_yes}
 use Rattle.std.proofs.lemmas.Simd.{ones-mask_l}
@@ -161,13 +161,6 @@ pub counted_more : (bit : Bool) (xs : List Bool) (from upto left k word : ℕ) �
 counted_more bit xs from upto left k word h l is before few =
     let here = ap count_ones is ∙ ones_number (is_bit bit) (slice_range xs from upto) in
     omega (arith, parted (is_bit bit) xs from upto h l)
-
--- the ones up to a word, and those in it
-pub ones_more : (xs : List Bool) (from upto count word : ℕ) → from ≤ upto → upto ≤ length xs → word ≡ number_of (slice_range xs from upto) → count ≡ ones_before xs from → count + count_ones word ≡ ones_before xs upto
-ones_more xs from upto count word h l is before =
-    let ms : List Bool = slice_range xs from upto in
-    let here = ap count_ones is ∙ ap (λ zs. count_ones (number_of zs)) (sym (map-id ms)) ∙ ones_number (λ b. b) ms in
-    omega (arith, parted (λ b. b) xs from upto h l)
 
 -- the bit that was found in a word
 pub found_numbered : (bit : Bool) (xs : List Bool) (from upto left k word r : ℕ) → from ≤ upto → upto ≤ length xs → upto - from ≤ 64 → word ≡ number_of (map (is_bit bit) (slice_range xs from upto)) → count_before bit xs from + left ≡ k → has_bit word r ≡ true → count_ones (word % 2 ^ r) ≡ left → IsNumbered bit xs k (from + r)

@@ -125,7 +125,7 @@ impl<T: BitStore, O: BitOrder> Ranks<T, O> {
         self.rank0(self.len())
     }
 
-    /// How many ones stand before index `i`: one count is read, and fewer than 512 bits are counted, 64 at a time. Requires
+    /// How many ones stand before index `i`: one count is read, and fewer than 512 bits are counted by words. Requires
     /// that `i` is at most the length.
     pub fn rank1(&self, i: usize) -> usize
         requires { i ≤ length self.now.list }
@@ -133,15 +133,7 @@ impl<T: BitStore, O: BitOrder> Ranks<T, O> {
         ensures few { result ≤ i }
     {
         let block = i / BLOCK;
-        let mut from = block * BLOCK;
-        let mut count = self.ones_to(block);
-        'words: while from < i {
-            let upto = (from + 64).min(i);
-            let word = self.bits.get_range(from..upto).load_le();
-            count += word.count_ones() as usize;
-            from = upto;
-        }
-        count
+        self.ones_to(block) + self.bits.get_range(block * BLOCK..i).count_ones()
     }
 
     /// How many zeros stand before index `i`. Like `rank1`.

@@ -1,17 +1,43 @@
 //! Sets of numbers on small examples.
 use crate::NumberSet;
+use bit_addressing::GrowError;
+use std::alloc::Global;
 use std::test::Fail;
 
+/// Two sets with two numbers in common; a test is told nothing of them.
+fn two_sets(alloc: Global) -> Result<(NumberSet, NumberSet), GrowError> {
+    let small = NumberSet::from_numbers(alloc, 70, &[0, 3, 5, 69])?;
+    let large = NumberSet::from_numbers(alloc, 200, &[3, 4, 69, 199])?;
+    Ok((small, large))
+}
+
 #[test]
-fn numbers_of_two_sets(rt: HostRuntime) -> Result<(), Fail> {
-    let small = NumberSet::from_numbers(rt.alloc(), 70, &[0, 3, 5, 69])?;
-    let large = NumberSet::from_numbers(rt.alloc(), 200, &[3, 4, 69, 199])?;
+fn numbers_of_either_set(rt: HostRuntime) -> Result<(), Fail> {
+    let (small, large) = two_sets(rt.alloc())?;
     let union: Vec<usize> = small.iter_union(&large).collect(rt.alloc())?;
     assert_eq!(rt; union.as_slice(), [0, 3, 4, 5, 69, 199].as_slice());
+    Ok(())
+}
+
+#[test]
+fn numbers_of_both_sets(rt: HostRuntime) -> Result<(), Fail> {
+    let (small, large) = two_sets(rt.alloc())?;
     let both: Vec<usize> = small.iter_intersection(&large).collect(rt.alloc())?;
     assert_eq!(rt; both.as_slice(), [3, 69].as_slice());
+    Ok(())
+}
+
+#[test]
+fn numbers_of_the_first_set_alone(rt: HostRuntime) -> Result<(), Fail> {
+    let (small, large) = two_sets(rt.alloc())?;
     let first: Vec<usize> = large.iter_difference(&small).collect(rt.alloc())?;
     assert_eq!(rt; first.as_slice(), [4, 199].as_slice());
+    Ok(())
+}
+
+#[test]
+fn numbers_of_one_set_alone(rt: HostRuntime) -> Result<(), Fail> {
+    let (small, large) = two_sets(rt.alloc())?;
     let one: Vec<usize> = small.iter_symmetric_difference(&large).collect(rt.alloc())?;
     assert_eq!(rt; one.as_slice(), [0, 4, 5, 199].as_slice());
     Ok(())

@@ -34,7 +34,7 @@ impl<T: BitStore, O: BitOrder> BitVec<T, O> {
     /// ```text
     /// of 01101001: bits.rotate_left(2) leaves 10100101
     /// ```
-    #[tactic(auto, using(bit_slice::proofs::Parts::shown_length))]
+    #[tactic(auto, using(bit_slice::proofs::Parts::shown_length, crate::proofs::Vectors::few_words, bit_addressing::proofs::Rows::width_positive))]
     pub fn rotate_left(&mut self, by: usize)
         requires { by ≤ length self.old.list }
         ensures list { self.new.list ≡ drop by self.old.list ++ take by self.old.list }
@@ -52,7 +52,7 @@ impl<T: BitStore, O: BitOrder> BitVec<T, O> {
     /// ```text
     /// of 01101001: bits.rotate_right(2) leaves 01011010
     /// ```
-    #[tactic(auto, using(bit_slice::proofs::Parts::shown_length))]
+    #[tactic(auto, using(bit_slice::proofs::Parts::shown_length, crate::proofs::Vectors::few_words, bit_addressing::proofs::Rows::width_positive))]
     pub fn rotate_right(&mut self, by: usize)
         requires { by ≤ length self.old.list }
         ensures list { self.new.list ≡ drop (length self.old.list - by) self.old.list ++ take (length self.old.list - by) self.old.list }

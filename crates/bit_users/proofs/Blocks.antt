@@ -126,7 +126,7 @@ end_of map first e (suc fuel) past from free = elim (free_or_not map e) [
   | inr none ↦ (e, (omega arith, free, none))
 ]
 
--- where no longest run is long enough, so many free frames in a row are nowhere
+-- where no longest run is long enough, that many free frames in a row are nowhere
 pub none_free : (map : List Bool) (count : ℕ) → 0 < count → IsBestBelow map count (length map) None → (k : ℕ) → AreFree map count k → ⊥
 none_free map count some none k free =
     let start : k + 0 ≡ k = omega arith in

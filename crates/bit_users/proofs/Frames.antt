@@ -27,7 +27,7 @@ after_run map first n (Some k) size inside begins found =
     let within = slice_get_within map k true found in
     (other_bit (slice_get map k) found, begins, omega arith)
 
--- no run of so many begins at or before a frame of a shorter one
+-- no run of that many begins at or before a frame of a shorter one
 pub no_run : (map : List Bool) (from first end count : ℕ) → 0 < count → ((j : ℕ) → from ≤ j → j < first → slice_get map j ≡ Some true) → ((i : ℕ) → i < from → AreFree map count i → ⊥) → slice_get map end ≢ Some false → end - first < count → (i : ℕ) → i < end → AreFree map count i → ⊥
 no_run map from first end count some before none taken short i below free = elim (cases_lt i from) [
   | inl l ↦ none i l free
@@ -150,7 +150,7 @@ no_early map from first count align some before none i below multiple free = eli
       other_bit (slice_get map i) (before i l below) (ap (slice_get map) (sym here) ∙ free 0 some)
 ]
 
--- no run of so many at a multiple begins before the end of a run of free frames in which it has no room
+-- no run of that many at a multiple begins before the end of a run of free frames in which it has no room
 pub no_aligned : (map : List Bool) (from first end count align : ℕ) → 0 < count → 0 < align → ((j : ℕ) → from ≤ j → j < first → slice_get map j ≡ Some true) → ((i : ℕ) → i < from → i % align ≡ 0 → AreFree map count i → ⊥) → slice_get map end ≢ Some false
     → end < first + (align - first % align) % align + count → (i : ℕ) → i < end → i % align ≡ 0 → AreFree map count i → ⊥
 no_aligned map from first end count align some wide before none taken short i below multiple free = elim (cases_lt i first) [

@@ -100,7 +100,7 @@ eqb_turned a b = elim (cases_eq a b) [
   | inr apart ↦ ne_eqb a b apart ∙ sym (ne_eqb b a (λ e. apart (sym e)))
 ]
 
--- the same with the factor behind
+-- the same with the factor after it
 pub one_sum : (f : ℕ → Bool) (p n : ℕ) → p < n → sum_below (λ k. f k && (k == p)) n ≡ f p
 one_sum f p n inside = sums_same (λ k. f k && (k == p)) (λ k. (p == k) && f k) n (λ k h. and_turned (f k) (k == p) ∙ ap (λ b. b && f k) (eqb_turned k p)) ∙ sum_one f p n inside
   where

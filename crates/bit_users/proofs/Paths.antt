@@ -17,7 +17,7 @@ IsPathBelow edge k i j = (between : List ℕ) × (AreBelow k between × IsWalk e
 pub record ArePathsBelow (edge now : ℕ → ℕ → Type 0) (k : ℕ) : Type 0 where
   pub paths : (i j : ℕ) → now i j ↔ IsPathBelow edge k i j
 
--- two walks, one behind the other
+-- two walks, one after the other
 walks_joined : (edge : ℕ → ℕ → Type 0) (i : ℕ) (before : List ℕ) (k : ℕ) (behind : List ℕ) (j : ℕ) → IsWalk edge i before k → IsWalk edge k behind j → IsWalk edge i (before ++ k ∷ behind) j
 walks_joined edge i [] k behind j to from = (to, from)
 walks_joined edge i (x ∷ xs) k behind j to from = (to.0, walks_joined edge x xs k behind j to.1 from)

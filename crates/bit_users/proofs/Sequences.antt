@@ -36,7 +36,7 @@ words_count bits bytes are =
     let same = ap length are.rest in
     omega arith
 
--- behind the list a row has false alone
+-- after the list a row has false alone
 behind : (w : ℕ) (xs : List Bool) (b j : ℕ) → length xs ≤ j → get_or (sized w xs b) j false ≡ false
 unfolding sized
 behind w xs b j past =
@@ -48,7 +48,7 @@ behind w xs b j past =
       | inr l ↦ get_or_past (replicate (n - length xs) false) (j - length (take n xs)) false (let e = length-replicate (n - length xs) false in omega arith)
     ]
 
--- a bit that is set behind the list is none of its row's
+-- a bit that is set after the list is none of its row's
 pub stray : (row bits : List Bool) (len end : ℕ) (r : Option ℕ) → row ≡ sized 8 bits (length bits) → len ≡ length bits
     → MatchOption r (slice_range row len end ≡ replicate (end - len) false) (λ k. IsFirst true (slice_range row len end) k) → is_some r ≡ true → len ≤ end → end ≤ length row → ⊥
 stray row bits len end None is at none some ordered inside = true≢false (sym some)
@@ -58,12 +58,12 @@ stray row bits len end (Some k) is at first some ordered inside =
     let within = first.within in
     true≢false (sym first.here ∙ ap (λ e. get_or (slice_range row len e) k false) (sym back) ∙ get_or-run row len (end - len) k (omega arith) ∙ ap (λ l. get_or l (len + k) false) is ∙ behind 8 bits (length bits) (len + k) (omega arith))
 
--- no bit is set behind the list
+-- no bit is set after the list
 pub no_stray : (row : List Bool) (len end : ℕ) (r : Option ℕ) → MatchOption r (slice_range row len end ≡ replicate (end - len) false) (λ k. IsFirst true (slice_range row len end) k) → is_some r ≡ false → slice_range row len end ≡ replicate (end - len) false
 no_stray row len end None none is = none
 no_stray row len end (Some k) first is = absurd (true≢false is)
 
--- a row that is false behind its first bits is those and then false
+-- a row that is false after its first bits is those and then false
 pub row_is : (row : List Bool) (len end : ℕ) → length row ≡ 8 * words_for 8 len → end ≡ length row → len ≤ end → slice_range row len end ≡ replicate (end - len) false → row ≡ sized 8 (slice_range row 0 (0 + len)) len
 row_is row len end long all inside clear =
     let none : 0 + len ≡ len = omega arith in

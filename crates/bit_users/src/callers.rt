@@ -35,7 +35,7 @@ pub fn inserted(set: &mut NumberSet, number: usize) -> bool
     set.contains(number)
 }
 
-/// A number that was put into a set that grows is in it, and was not in it before where the answer says so.
+/// A number that was put into a set that grows is in it, and was not in it before where the result says so.
 pub fn inserted_anywhere(set: &mut NumberSet, number: usize) -> Result<bool, GrowError>
     ensures { IfOk result (λ there. IsTrue there) }
 {

@@ -133,7 +133,7 @@ impl FreeMap {
         self.free -= count;
     }
 
-    // The lowest frame with which a run of so many free frames begins.
+    // The lowest frame at which a run of `count` free frames begins.
     fn find_run(&self, count: usize) -> Option<usize>
         requires { 0 < count }
         ensures { MatchOption result ((k : ℕ) → AreFree self.now count k → ⊥) (λ first. IsFirstRun self.now count first) }

@@ -27,7 +27,7 @@ impl FreeMap {
         }
     }
 
-    // The lowest multiple of `align` with which a run of so many free frames begins.
+    // The lowest multiple of `align` at which a run of `count` free frames begins.
     fn find_aligned(&self, count: usize, align: usize) -> Option<usize>
         requires count { 0 < count }
         requires align { 0 < align }

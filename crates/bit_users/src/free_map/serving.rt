@@ -9,7 +9,7 @@ use std::alloc::{AllocError, Global};
 /// What is asked of a map of frames.
 #[derive(Debug, Clone, Copy, PartialEq, Eq)]
 pub enum Request {
-    /// The lowest run of so many free frames.
+    /// The lowest run of this many free frames.
     Take(usize),
     /// So many frames, from this one on, are given back: the first, and how many.
     GiveBack(usize, usize),

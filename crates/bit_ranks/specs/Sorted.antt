@@ -58,7 +58,7 @@ pub record IsFirstDescent (xs : List ℕ) (i : ℕ) : Type 0 where
   pub below : slice_index_or xs i 0 < slice_index_or xs (i - 1) 0
   pub before : IsNonDecreasing (take i xs)
 
--- these n numbers ascend, fit in 64 bits, and have as many low bits as their mean gap wants
+-- these n numbers ascend, fit in 64 bits, and have as many low bits as their mean gap needs
 pub record IsPacked (n w : ℕ) (high low : List Bool) : Type 0 where
   pub ones : length (ones_of high) ≡ n
   pub lows : length low ≡ n * w

@@ -16,7 +16,7 @@ IsPrime p = (2 ≤ p) × ((d : ℕ) → 2 ≤ d → d < p → p % d ≢ 0)
 abbrev pub IsSieved : ℕ → ℕ → Type 0
 IsSieved d k = (2 ≤ k) × ((e : ℕ) → 2 ≤ e → e < d → e < k → k % e ≢ 0)
 
--- numbers, each after the first behind a comma and a space
+-- numbers, each after the first with a comma and a space before it
 abbrev pub numbers_text : List ℕ → List ℕ
 numbers_text [] = []
 numbers_text (n ∷ ns) = decimal n ++ flat_map (λ k. 44 ∷ 32 ∷ decimal k) ns

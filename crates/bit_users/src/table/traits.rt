@@ -82,7 +82,7 @@ impl Hash for NumberSet {
     }
 }
 
-/// `{`, the numbers, ascending, joined by `, `, and `}`.
+/// `{`, the numbers, ascending, with `, ` between two, and `}`.
 ///
 /// ```text
 /// println!(rt; "{set}")?;      // {1, 4, 9}

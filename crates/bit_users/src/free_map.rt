@@ -149,12 +149,13 @@ impl FreeMap {
         None
     }
 
-    /// Makes the map one of `frames` frames; those that are added are free. `TooLong` exactly where they pass `MAX_BITS`;
-    /// refused, nothing changes. Requires that there are not fewer than now.
+    /// Makes the map one of `frames` frames; those that are added are free. `TooLong` exactly where they pass `MAX_BITS`, and
+    /// memory is taken only where a frame is added; refused, nothing changes. Requires that there are not fewer than now.
     pub fn grow(&mut self, frames: usize) -> Result<(), GrowError>
         requires { length self.old ≤ frames }
         ensures list { OnOk result (self.new ≡ self.old ++ replicate (frames - length self.old) false) }
         ensures too_long { (result ≡ Err errors.TooLong) ↔ ((length self.old < frames) × (MAX_BITS < frames)) }
+        ensures memory { result ≡ Err errors.OutOfMemory → length self.old < frames }
         ensures refused { OnErr result (self.new ≡ self.old) }
     {
         let added = frames - self.taken.len();

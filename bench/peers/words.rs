@@ -161,6 +161,104 @@ impl Bits {
     }
 }
 
+/// How many ones stand before each block of 512 bits: in all before each 65536 bits, and from there on.
+struct Index {
+    long: Vec<u64>,
+    short: Vec<u16>,
+    ones: usize,
+}
+
+impl Index {
+    fn made(row: &Bits) -> Index {
+        let mut index = Index { long: Vec::new(), short: Vec::new(), ones: 0 };
+        for (k, block) in row.words.chunks(8).enumerate() {
+            if k % 128 == 0 {
+                index.long.push(index.ones as u64);
+            }
+            index.short.push((index.ones as u64 - index.long[k / 128]) as u16);
+            index.ones += block.iter().map(|w| w.count_ones() as usize).sum::<usize>();
+        }
+        index
+    }
+
+    fn before_block(&self, k: usize) -> usize {
+        self.long[k / 128] as usize + self.short[k] as usize
+    }
+
+    fn rank(&self, row: &Bits, i: usize) -> usize {
+        let k = i / 512;
+        if k == self.short.len() {
+            return self.ones;
+        }
+        let words = &row.words[k * 8..i / 64];
+        let rest = row.words.get(i / 64).map_or(0, |w| w & ((1 << i % 64) - 1));
+        self.before_block(k) + words.iter().map(|w| w.count_ones() as usize).sum::<usize>() + rest.count_ones() as usize
+    }
+
+    fn select(&self, row: &Bits, n: usize) -> Option<usize> {
+        if n >= self.ones {
+            return None;
+        }
+        let (mut low, mut high) = (0, self.short.len());
+        while high - low > 1 {
+            let middle = (low + high) / 2;
+            if self.before_block(middle) <= n {
+                low = middle;
+            } else {
+                high = middle;
+            }
+        }
+        let mut left = n - self.before_block(low);
+        let mut k = low * 8;
+        while row.words[k].count_ones() as usize <= left {
+            left -= row.words[k].count_ones() as usize;
+            k += 1;
+        }
+        let mut word = row.words[k];
+        for _ in 0..left {
+            word &= word - 1;
+        }
+        Some(k * 64 + word.trailing_zeros() as usize)
+    }
+}
+
+const LOOKUPS: usize = 65536;
+
+fn mixed(k: usize, most: usize) -> usize {
+    ((k as u64).wrapping_mul(0x9E3779B97F4A7C15) >> 24) as usize % most.max(1)
+}
+
+fn lookups(f: impl Fn(usize) -> usize) -> usize {
+    (0..LOOKUPS).fold(0, |total: usize, k| total.wrapping_add(f(k)))
+}
+
+fn ranks(n: usize, r: usize) {
+    let none = || ();
+    let row = Bits::made(n, 0);
+    timed("ranks_made", r, none, |_| Index::made(&row), |_, t| t.ones);
+    let mut thin = Bits::repeat(false, n);
+    for i in (0..n).step_by(100) {
+        thin.set(i, true);
+    }
+    for (name, row) in [("half", &row), ("100th", &thin)] {
+        let index = Index::made(row);
+        timed(&format!("rank_{name}"), r, none, |_| lookups(|k| index.rank(row, mixed(k, n))), |_, t| t);
+        timed(&format!("select_{name}"), r, none, |_| lookups(|k| index.select(row, mixed(k, index.ones)).unwrap_or(0)), |_, t| t);
+    }
+    let count = n / 16;
+    let mut numbers = Vec::new();
+    let mut last = 0u64;
+    for k in 0..count {
+        last += mixed(k, 1000) as u64;
+        numbers.push(last);
+    }
+    timed("sorted_get", r, none, |_| lookups(|k| numbers[mixed(k, count)] as usize), |_, t| t);
+    timed("sorted_next", r, none, |_| lookups(|k| {
+        let at = numbers.partition_point(|x| *x < mixed(k, count * 500) as u64);
+        if at < count { at } else { 0 }
+    }), |_, t| t);
+}
+
 fn timed<V, A>(name: &str, repetitions: usize, make: impl Fn() -> V, work: impl Fn(&mut V) -> A, check: impl Fn(&V, A) -> usize) {
     let (mut best, mut sum) = (u128::MAX, 0);
     for _ in 0..repetitions {
@@ -291,6 +389,7 @@ fn main() {
     let (n, r) = (words[0], words[1]);
     large(n, r);
     views(n, r);
+    ranks(n, r);
     small(50, r);
     small(300, r);
     arrays(r);

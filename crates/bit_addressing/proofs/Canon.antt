@@ -34,13 +34,6 @@ list_of_sized : (w : ℕ) (bits : List Bool) → 0 < w → take (length bits) (s
 unfolding sized
 list_of_sized w bits positive = rw (take_all (w * words_for w (length bits)) bits ((room w (length bits) positive).0)) (take_at bits (replicate (w * words_for w (length bits) - length bits) false) (length bits) refl)
 
--- canonical words are equal, and as long, exactly where the lists are equal
-pub canonical_words : (place : ℕ → ℕ → ℕ) (w : ℕ) (xs ys : List ℕ) (a b : List Bool) → 0 < w → IsPermutation w (place w) → AreWords w xs → AreWords w ys → IsCanonical place w xs a → IsCanonical place w ys b → (a ≡ b) ↔ ((length a ≡ length b) × (xs ≡ ys))
-canonical_words place w xs ys a b positive lawful low_x low_y x y = (
-  λ e. (ap length e, words_from_row place w xs ys positive lawful low_x low_y (x.count ∙ ap (λ l. words_for w (length l)) e ∙ sym y.count) (x.row ∙ ap (λ l. sized w l (length l)) e ∙ sym y.row)),
-  λ h. sym (list_of_sized w a positive) ∙ ap (take (length a)) (sym x.row ∙ ap (row_of place w) h.1 ∙ y.row) ∙ ap (λ n. take n (sized w b (length b))) h.0 ∙ list_of_sized w b positive,
-)
-
 -- ---- the words of a row
 
 -- a bit at place q, and no other

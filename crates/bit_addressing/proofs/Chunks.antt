@@ -10,11 +10,12 @@ use Rattle.std.proofs.Math.Pow.{pow_mono}
 use Rattle.std.specs.Int.Bits.{mask_lt}
 use Rattle.std.proofs.lemmas.Simd.{bit_mask_l, mask_l-lt}
 use Rattle.bit_addressing.specs.Bits.{has_bit}
-use Rattle.bit_addressing.specs.Row.{row_of, number_of}
+use Rattle.std.proofs.lemmas.List.FromFn.{length-map-range_with_len, get_or-map-range_with_len}
+use Rattle.bit_addressing.specs.Row.{number_bits, row_of, number_of}
 use Rattle.bit_addressing.proofs.Words.{has_and, has_or, has_above, has_shr_low, has_shl_low, has_shl_high, same_word}
 use Rattle.bit_addressing.proofs.Rows.{length-row_of, get_or-row_one, word_below}
 use Rattle.bit_addressing.proofs.Typed.{row_read}
-use Rattle.bit_addressing.proofs.lists.Shown.{get_or-run}
+use Rattle.bit_addressing.proofs.lists.Shown.{get_or-run, length-run}
 use Rattle.bit_addressing.proofs.lists.Sized.{one_more_word}
 
 one_if : (b : Bool) → eqb (cond b 1 0) 1 ≡ b
@@ -160,3 +161,15 @@ whole_is place w v zs n a from upto en ea eu is =
     let one : List Bool = row_of place w (v ∷ []) in
     let size : length one ≡ w * 1 = length-row_of place w (v ∷ []) in
     sym (take_all (0 + n - 0) one (omega arith)) ∙ is ∙ rw (ea, eu, en) refl
+
+-- the bits of a word of 64 bits from its lowest place
+pub lowest_bits : (x n : ℕ) → n ≤ 64 → slice_range (row_of (λ w i. i) 64 (x ∷ [])) 0 (0 + n) ≡ number_bits x n
+unfolding number_bits
+lowest_bits x n few =
+    let one : List Bool = row_of (λ w i. i) 64 (x ∷ []) in
+    let size : length one ≡ 64 * 1 = length-row_of (λ w i. i) 64 (x ∷ []) in
+    let left : length (slice_range one 0 (0 + n)) ≡ n = length-run one 0 n (omega arith) in
+    ext_get_or false (slice_range one 0 (0 + n)) (number_bits x n) (left ∙ sym (length-map-range_with_len (has_bit x) 0 n))
+    (λ i h.
+    let below : i < n = omega arith in
+    get_or-run one 0 n i below ∙ get_or-row_one (λ w i. i) 64 x (0 + i) (omega arith) (omega arith) ∙ ap (has_bit x) (omega arith) ∙ sym (get_or-map-range_with_len (has_bit x) 0 n i i false below (omega arith)))

@@ -13,7 +13,7 @@ use Rattle.bit_addressing.proofs.Wholes.{split_sum}
 use Rattle.bit_addressing.proofs.Rows.{length-row_of, get_or-row_one}
 use Rattle.bit_addressing.proofs.lists.Shown.{length-between}
 
-zip2-append : (f : Bool → Bool → Bool) (xs us ys vs : List Bool) → length xs ≡ length ys → zip2 f (xs ++ us) (ys ++ vs) ≡ zip2 f xs ys ++ zip2 f us vs
+pub zip2-append : (f : Bool → Bool → Bool) (xs us ys vs : List Bool) → length xs ≡ length ys → zip2 f (xs ++ us) (ys ++ vs) ≡ zip2 f xs ys ++ zip2 f us vs
 zip2-append f [] us [] vs h = refl
 zip2-append f [] us (y ∷ ys) vs h = cc
 zip2-append f (x ∷ xs) us [] vs h = cc

@@ -95,7 +95,7 @@ none_set (x ∷ xs) h =
     rw first rest
 
 -- as many are set among the places of an order
-permuted : (w : ℕ) (place : ℕ → ℕ) (xs ys : List Bool) → IsPermutation w place → length xs ≡ w → length ys ≡ w → ((i : ℕ) → i < w → get_or ys i false ≡ get_or xs (place i) false) → ones ys ≡ ones xs
+pub permuted : (w : ℕ) (place : ℕ → ℕ) (xs ys : List Bool) → IsPermutation w place → length xs ≡ w → length ys ≡ w → ((i : ℕ) → i < w → get_or ys i false ≡ get_or xs (place i) false) → ones ys ≡ ones xs
 permuted w place xs ys lawful size long same =
     let wide : length (clear place xs w) ≡ w = length-clear place xs w ∙ size in
     let none : ones (clear place xs w) ≡ 0 = none_set (clear place xs w)

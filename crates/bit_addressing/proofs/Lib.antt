@@ -15,6 +15,7 @@ pub mod Reverse
 pub mod Wholes
 pub mod Combined
 pub mod Packs
+pub mod Pairs
 pub mod Blocks
 pub mod Shifts
 pub mod Counts

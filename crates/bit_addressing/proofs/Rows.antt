@@ -128,13 +128,17 @@ module _ (place : ℕ → ℕ → ℕ) (w : ℕ) where
       sym (take_at (row_of place w (take n words)) (row_of place w (drop n words)) (w * n) (length-row_of (take n words) ∙ ap (λ l. w * l) (length-take-le n words h)))
       ∙ ap (take (w * n)) (sym (row_append (take n words) (drop n words) positive) ∙ ap (row_of place w) (take-append-drop n words))
 
-  pub row_zeros : (n : ℕ) → 0 < w → row_of place w (replicate n 0) ≡ replicate (w * n) false
-  row_zeros n positive = same_rows (replicate n 0) (replicate (w * n) false)
+  -- the bits of copies of one word
+  pub row_copies : (n v : ℕ) (b : Bool) → 0 < w → ((i : ℕ) → i < w → has_bit v (place w i) ≡ b) → row_of place w (replicate n v) ≡ replicate (w * n) b
+  row_copies n v b positive all = same_rows (replicate n v) (replicate (w * n) b)
       (simp length-replicate)
       (λ j h.
-      let k : j / w < n = word_below w j n positive (subst (λ l. j < w * l) (length-replicate n 0) h) in
-      ap (λ x. has_bit x (place w (j % w))) (get_or-replicate n (j / w) 0 0 k) ∙ has_none (place w (j % w))
-      ∙ sym (get_or-replicate (w * n) j false false (subst (λ l. j < w * l) (length-replicate n 0) h)))
+      let k : j / w < n = word_below w j n positive (subst (λ l. j < w * l) (length-replicate n v) h) in
+      ap (λ x. has_bit x (place w (j % w))) (get_or-replicate n (j / w) v 0 k) ∙ all (j % w) (mod-lt j positive)
+      ∙ sym (get_or-replicate (w * n) j b false (subst (λ l. j < w * l) (length-replicate n v) h)))
+
+  pub row_zeros : (n : ℕ) → 0 < w → row_of place w (replicate n 0) ≡ replicate (w * n) false
+  row_zeros n positive = row_copies n 0 false positive (λ i _. has_none (place w i))
 
   -- the words cut to those for b bits, or filled up with zeros to them
   pub row_cut : (words : List ℕ) (b : ℕ) → 0 < w → words_for w b ≤ length words → row_of place w (take (words_for w b) words) ≡ sized w (row_of place w words) b

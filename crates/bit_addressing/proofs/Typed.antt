@@ -8,7 +8,7 @@ use Rattle.bit_addressing.specs.Order.{IsPermutation}
 use Rattle.bit_addressing.specs.Row.{row_of, words_for, put, sized}
 use Rattle.bit_addressing.proofs.lists.Sized.{room, length-sized}
 use Rattle.bit_addressing.proofs.lists.Put.{put_one}
-use Rattle.bit_addressing.proofs.Rows.{resized, word_below, row_set, row_cut, row_flipped, row_blended, row_stored, row_within, get_or-row_of, length-row_of}
+use Rattle.bit_addressing.proofs.Rows.{resized, row_append, row_copies, word_below, row_set, row_cut, row_flipped, row_blended, row_stored, row_within, get_or-row_of, length-row_of}
 
 module _ {X : Type 0} (value : X → ℕ) (place : ℕ → ℕ → ℕ) (w : ℕ) where
   pub length_row : (ws : List X) → length (row_of place w (map value ws)) ≡ w * length ws
@@ -70,6 +70,13 @@ module _ {X : Type 0} (value : X → ℕ) (place : ℕ → ℕ → ℕ) (w : ℕ
       rw (map-append, length-map, ← take-map value n ws, map_replicate value (n - length ws) blank, none) refl
       in
       ap (row_of place w) numbers ∙ resized place w (map value ws) b n positive is
+
+  -- copies of a word whose bits are all the same, after other words
+  pub row_appended : (ws : List X) (x : X) (n : ℕ) (b : Bool) → 0 < w → ((i : ℕ) → i < w → has_bit (value x) (place w i) ≡ b) → row_of place w (map value (ws ++ replicate n x)) ≡ row_of place w (map value ws) ++ replicate (w * n) b
+  row_appended ws x n b positive all =
+      ap (row_of place w) (map-append value ws (replicate n x) ∙ ap (λ l. map value ws ++ l) (map_replicate value n x))
+      ∙ row_append place w (map value ws) (replicate n (value x)) positive
+      ∙ ap (λ l. row_of place w (map value ws) ++ l) (row_copies place w n (value x) b positive all)
 
   -- the list of a container is in its row
   pub in_row : (ws : List X) (b : ℕ) → 0 < w → length ws ≡ words_for w b → b ≤ length (row_of place w (map value ws))

@@ -9,6 +9,7 @@ pub(crate) mod chunks;
 pub(crate) mod combined;
 pub(crate) mod copies;
 pub(crate) mod growth;
+pub(crate) mod pairs;
 pub(crate) mod searches;
 pub(crate) mod single;
 pub(crate) mod vectors;

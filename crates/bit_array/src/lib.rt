@@ -2,12 +2,8 @@
 #![tactic(auto)]
 
 mod array;
-#[cfg(test)]
-mod callers;
 mod errors;
 mod sized;
-#[cfg(test)]
-mod tests;
 
 pub use array::{BitArray, IntoIter};
 pub use errors::TryFromBitSliceError;

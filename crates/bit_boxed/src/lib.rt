@@ -2,9 +2,5 @@
 #![tactic(auto)]
 
 mod boxed;
-#[cfg(test)]
-mod callers;
-#[cfg(test)]
-mod tests;
 
 pub use boxed::{BitBox, IntoIter};

@@ -102,7 +102,3 @@ clean_aligned w old new head list row clean =
 pub clean_words : {X Y : Type 0} (W : store.Ghosts X) (P : order.Ghosts Y) (v : Held X) (items : List X) → IsWidth W.BITS → items ≡ words_from W P v.row → IsClean W.BITS v → items ≡ words_for_list W P v.list
 clean_words W P v items width from clean =
     from ∙ ap (λ r. map W.number (packed P.place W.BITS r)) clean.row ∙ ap (map W.number) (packed_sized P.place W.BITS v.list (length v.list) (width_positive W.BITS width) refl)
-
--- two copies of one list, of one type, have the same words
-pub equal_copies : {X Y : Type 0} (W : store.Ghosts X) (P : order.Ghosts Y) (a b : Held X) → IsWidth W.BITS → a.words ≡ words_from W P a.row → b.words ≡ words_from W P b.row → IsClean W.BITS a → IsClean W.BITS b → a.list ≡ b.list → a.words ≡ b.words
-equal_copies W P a b width first second clean other same = clean_words W P a a.words width first clean ∙ ap (words_for_list W P) same ∙ sym (clean_words W P b b.words width second other)

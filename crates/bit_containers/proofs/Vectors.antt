@@ -16,7 +16,10 @@ use Rattle.bit_addressing.proofs.Typed.{length_row}
 use Rattle.bit_addressing.specs.declared.length.TheConstants.{MAX_BITS}
 use Rattle.bit_slice.proofs.Parts.{in_row, shown_length}
 use Rattle.bit_containers.specs.BitVec.{IsVector, bits_in}
-use Rattle.bit_containers.specs.BitVec.{IsKept}
+use Rattle.bit_containers.specs.BitVec.{Held, IsKept}
+use Rattle.bit_containers.specs.Lends.{with_words}
+use Rattle.bit_boxed.proofs.Boxes.{lands as box_lands}
+use Rattle.std.specs.List.{refill}
 
 mul_one_more : (w n : ℕ) → w * (n + 1) ≡ w * n + w
 mul_one_more w n = grind arith
@@ -61,6 +64,23 @@ pub refilled : {X Y : Type 0} {size : ℕ} (W : store.Ghosts X) (P : order.Ghost
 refilled W P old new head len same v =
     let fits : head + len ≤ W.BITS * length new = rw same v.fits in
     record { head_below = v.head_below; len_small = v.len_small; count = same ∙ v.count; fits = fits; shows = shown_length W P new head len fits }
+
+module _ {X Y : Type 0} (W : store.Ghosts X) (P : order.Ghosts Y) (head len cap : ℕ) where
+  -- a vector of these words, where its invariant holds
+  abbrev holding : List X → Held X
+  holding ws = record { words = ws; row = row W P ws; head = head; list = slice_range (row W P ws) head (head + len); capacity = cap }
+
+  -- other words, as many: like those of a box, with a capacity beside them
+  pub lands : {size : ℕ} (n : ℕ) (xs : List X) → n ≡ length xs → 0 < W.BITS → IsVector W.BITS (length xs) head len size → (ws : List X) → holding (refill n xs ws) ≡ with_words W P (holding xs) ws
+  lands n xs e positive v ws =
+      ap (λ b. record { words = b.words; row = b.row; head = b.head; list = b.list; capacity = cap })
+      (box_lands W P head len n xs e (record {
+        head_below = v.head_below;
+        len_small = v.len_small;
+        fits = v.fits;
+        few = few W.BITS (length xs) head len MAX_BITS positive v.head_below v.len_small v.count;
+        shows = v.shows;
+      }) ws)
 
 -- a bit more than those of the list has room within the capacity
 pub room_in : (w words head len : ℕ) → 0 < w → len < bits_in w words head → words_for w (head + len + 1) ≤ words

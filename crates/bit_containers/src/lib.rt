@@ -3,8 +3,6 @@
 #![tactic(auto)]
 
 mod machine;
-#[cfg(test)]
-mod tests;
 pub mod vec;
 
 pub use bit_addressing::{
@@ -15,7 +13,7 @@ pub use bit_array as array;
 pub use bit_boxed as boxed;
 pub use bit_slice::{
     AndNot, BitSlice, BitSliceMut, Chunks, ChunksExact, Counted, CountedMut, Iter, IterOnes,
-    IterZeros, RChunks, Windows, combine_words, run_mut,
+    IterZeros, RChunks, Windows, combine_words, run_mut, split_run_mut,
 };
 pub use machine::{Command, Reply, Stop, run};
 pub use vec::{

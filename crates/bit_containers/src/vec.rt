@@ -7,8 +7,8 @@ ghost use Rattle.bit_containers.specs.BitVec.{Stayed, IsClean, bits_in};
 ghost use Rattle.bit_slice.specs.BitSlice.{words_of, head_of, len_of, row_of, list_of};
 
 use bit_addressing::{
-    BitOrder, BitStore, GrowError, Lsb0, MAX_BITS, cut_words_in_vec, exact_words, fill_bits_in_vec,
-    fill_outside_in_vec, move_bits_in_vec, resize_words_in_vec,
+    BitOrder, BitStore, GrowError, Lsb0, MAX_BITS, append_run_in_vec, cut_words_in_vec, elts,
+    exact_words, fill_outside_in_vec, move_bits_in_vec,
 };
 use bit_slice::BitSlice;
 use std::alloc::{AllocError, Global};
@@ -163,9 +163,8 @@ impl<T: BitStore, O: BitOrder> BitVec<T, O> {
             return Err(GrowError::TooLong);
         }
         let mut words = Vec::new(alloc);
-        resize_words_in_vec::<T, O>(&mut words, n)?;
-        let all = T::BITS as usize * words.len();
-        fill_bits_in_vec::<T, O>(&mut words, 0, all, bit);
+        let all = T::BITS as usize * elts::<T>(n);
+        append_run_in_vec::<T, O>(&mut words, 0, all, bit)?;
         Ok(BitVec {
             words,
             head: 0,
@@ -294,6 +293,9 @@ impl<T: BitStore, O: BitOrder> BitVec<T, O> {
         ensures clean { IfOk result (λ v. IsClean T.BITS v) }
         ensures memory { OnErr result (0 < len_of view.entry) }
     {
+        if view.head() == 0 && !view.is_empty() {
+            return Self::from_bitslice_headed(alloc, view);
+        }
         let mut copy = Self::new(alloc);
         let _len = view.len();
         match copy.extend_from_bitslice(view) {

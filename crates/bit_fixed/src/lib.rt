@@ -2,11 +2,7 @@
 #![tactic(auto)]
 
 mod bits;
-#[cfg(test)]
-mod callers;
 mod machine;
-#[cfg(test)]
-mod tests;
 
 pub use bit_containers::{Reply, Stop};
 pub use bits::Bits;

@@ -209,10 +209,6 @@ module _ (bit : Bool) (xs : List Bool) (k : ℕ) where
       let passes = passes_here bit (get_or xs i false) (get_or_from_slice_get xs i bit false here) in
       ap Some (same_index (is_bit bit) xs j i some.inside inside (passes_here bit (get_or xs j false) some.here) passes (some.before ∙ sym before))
 
-  pub given_none : (r : Option ℕ) → IfSome r (λ i. IsNumbered bit xs k i) → IfNone r (count_by (is_bit bit) xs ≤ k) → (r ≡ None) ↔ (count_by (is_bit bit) xs ≤ k)
-  given_none None some none = (λ e. none, λ h. refl)
-  given_none (Some i) some none = (λ e. absurd (cc), λ h. absurd (omega (arith, not_all (is_bit bit) xs i some.inside (passes_here bit (get_or xs i false) some.here), some.before)))
-
 -- the indices from number k on begin at its index
 pub rest_numbered : (xs : List Bool) (i k : ℕ) → i < length xs → get_or xs i false ≡ true → ones_before xs i ≡ k → places_between (λ b. b) xs i (length xs) ≡ drop k (ones_of xs)
 rest_numbered xs i k h is before =

@@ -178,9 +178,6 @@ upto_end xs h zeros =
       reached = omega arith;
     }
 
-pub same_first : (xs : List Bool) (end : ℕ) → IsUptoHigh xs 0 end → AreSameHigh xs 0 0 end
-same_first xs end upto = record { ordered = omega arith; before = λ k l. absurd (omega arith); same = λ k a b. omega (arith, upto.before k b); upto = upto }
-
 -- from a zero on
 pub same_from : (xs : List Bool) (h place end : ℕ) → 0 < h → slice_get xs place ≡ Some false → zeros_before xs place ≡ h - 1 → IsUptoHigh xs h end → place + 1 ≤ end + h → AreSameHigh xs h (place + 1 - h) end
 same_from xs h place end some found zeros upto begins =

@@ -105,9 +105,6 @@ module _ (n w : ℕ) (high low : List Bool) (packed : IsPacked n w high low) (x 
       let stands = next_stands high (x / 2 ^ w) start end k same_high a b in
       record { packed = packed; inside = let c = within in omega arith; reached = stands.1; before = stands.0 }
 
-  pub room_for : (k : ℕ) → start ≤ k → k ≤ end → k + x / 2 ^ w ≤ MAX_BITS
-  room_for k a b = let c = (next_from k a b).reached in let d = packed.held in omega arith
-
 -- the low bits of a number
 pub rest_of : (x w : ℕ) → x < 2 ^ 64 → x - x / 2 ^ w * 2 ^ w % 2 ^ 64 ≡ x % 2 ^ w
 rest_of x w h =

@@ -20,17 +20,6 @@ absent_joined bit xs lo middle hi first rest = record {
   ];
 }
 
--- a run without a bit, and then the first index that has it
-pub next_after_absent : (bit : Bool) (xs : List Bool) (lo middle hi i : ℕ) → lo ≤ middle → IsAbsent bit xs lo middle → IsNext bit xs middle hi i → IsNext bit xs lo hi i
-next_after_absent bit xs lo middle hi i ordered first next =
-    let b = next.begins in
-    record {
-      begins = omega arith;
-      within = next.within;
-      here = next.here;
-      before = absent_joined bit xs lo middle i first next.before;
-    }
-
 -- no item
 pub chunk_none : (xs : List Bool) (at : ℕ) → IsChunk xs at at 0
 chunk_none xs at =

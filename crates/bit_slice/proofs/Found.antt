@@ -168,14 +168,6 @@ module _ (xs : List Bool) (lo n : ℕ) (bit : Bool) (size : length xs ≡ n) whe
   each_other h j a b = item_is xs j (not bit) (omega arith) (h.each j a b)
 
 module _ (xs : List Bool) (lo n : ℕ) (bit : Bool) (size : length xs ≡ n) where
-  pub next_begins : (r : Option ℕ) → MatchOption r (IsAbsent bit xs lo n) (λ i. IsNext bit xs lo n i) → IfSome r (λ i. lo ≤ i)
-  next_begins None h = tt
-  next_begins (Some i) h = h.begins
-
-  pub next_inside : (r : Option ℕ) → MatchOption r (IsAbsent bit xs lo n) (λ i. IsNext bit xs lo n i) → IfSome r (λ i. i < n)
-  next_inside None h = tt
-  next_inside (Some i) h = h.within
-
   pub next_found : (r : Option ℕ) → MatchOption r (IsAbsent bit xs lo n) (λ i. IsNext bit xs lo n i) → IfSome r (λ i. slice_get xs i ≡ Some bit)
   next_found None h = tt
   next_found (Some i) h = let w = h.within in item_is xs i bit (omega arith) h.here

@@ -1,5 +1,5 @@
 -- What stands in a list after it was reversed, rotated or shifted, read by index.
-use Rattle.std.proofs.Common.{◌≡◌, ℕ, ◌+◌, ◌-◌, ◌<◌, ◌≤◌, Bool, false, List, ◌++◌, length, take, drop, reverse, replicate, get_or, Some, slice_get, sym, ◌∙◌, ap, arith}
+use Rattle.std.proofs.Common.{◌≡◌, ℕ, ◌+◌, ◌-◌, ◌<◌, ◌≤◌, Bool, false, List, ◌++◌, length, take, drop, reverse, replicate, get_or, Some, slice_get, refl, sym, ◌∙◌, ap, arith}
 use Rattle.std.proofs.lemmas.List.{get_or-drop, get_or-take, get_or-reverse, get_or-replicate, get_or_append_left, get_or-append-add, length-append, length-drop, length-take, length-reverse, length-replicate}
 use Rattle.std.proofs.lemmas.Option.{slice_get-get_or}
 
@@ -61,3 +61,36 @@ module _ (xs : List Bool) (n by : ℕ) (size : length xs ≡ n) (inside : by ≤
   read_cleared ys j h =
       let size_of : length (replicate by false) ≡ by = length-replicate by false in
       read_first (replicate by false) ys j (omega (arith, size_of, h)) ∙ slice_get-get_or (replicate by false) j false (omega (arith, size_of, h)) ∙ ap Some (get_or-replicate by j false false h)
+
+-- the same of a list that is said to be another, as the calls of containers say it
+module _ (xs ys : List Bool) where
+  pub reversed_at : (j : ℕ) → ys ≡ reverse xs → j < length xs → slice_get ys j ≡ slice_get xs (length xs - 1 - j)
+  reversed_at j is h = rw is (read_reversed xs (length xs) j refl h)
+
+  pub rotated_front : (by j : ℕ) → ys ≡ drop by xs ++ take by xs → by ≤ length xs → j + by < length xs → slice_get ys j ≡ slice_get xs (j + by)
+  rotated_front by j is inside h = rw is (read_later xs (take by xs) (length xs) by refl inside j h)
+
+  pub rotated_back : (by j : ℕ) → ys ≡ drop by xs ++ take by xs → by ≤ length xs → j < by → slice_get ys (length xs - by + j) ≡ slice_get xs j
+  rotated_back by j is inside h = rw is (read_turned xs (length xs) by refl inside j h)
+
+  pub rotated_right_front : (by j : ℕ) → ys ≡ drop (length xs - by) xs ++ take (length xs - by) xs → by ≤ length xs → j < by → slice_get ys j ≡ slice_get xs (length xs - by + j)
+  rotated_right_front by j is inside h =
+      let e : j + (length xs - by) ≡ length xs - by + j = omega arith in
+      rotated_front (length xs - by) j is (omega arith) (omega (arith, inside, h)) ∙ ap (slice_get xs) e
+
+  pub rotated_right_back : (by j : ℕ) → ys ≡ drop (length xs - by) xs ++ take (length xs - by) xs → by ≤ length xs → j + by < length xs → slice_get ys (j + by) ≡ slice_get xs j
+  rotated_right_back by j is inside h =
+      let e : j + by ≡ length xs - (length xs - by) + j = omega (arith, inside) in
+      ap (slice_get ys) e ∙ rotated_back (length xs - by) j is (omega arith) (omega (arith, inside, h))
+
+  pub shifted_left_at : (by j : ℕ) → ys ≡ drop by xs ++ replicate by false → by ≤ length xs → j + by < length xs → slice_get ys j ≡ slice_get xs (j + by)
+  shifted_left_at by j is inside h = rw is (read_later xs (replicate by false) (length xs) by refl inside j h)
+
+  pub shifted_left_end : (by j : ℕ) → ys ≡ drop by xs ++ replicate by false → by ≤ length xs → length xs ≤ j + by → j < length xs → slice_get ys j ≡ Some false
+  shifted_left_end by j is inside a b = rw is (read_emptied xs (length xs) by refl inside j a b)
+
+  pub shifted_right_at : (by j : ℕ) → ys ≡ replicate by false ++ take (length xs - by) xs → by ≤ length xs → j + by < length xs → slice_get ys (j + by) ≡ slice_get xs j
+  shifted_right_at by j is inside h = rw is (read_behind xs (length xs) by refl inside j h)
+
+  pub shifted_right_front : (by j : ℕ) → ys ≡ replicate by false ++ take (length xs - by) xs → by ≤ length xs → j < by → slice_get ys j ≡ Some false
+  shifted_right_front by j is inside h = rw is (read_cleared xs (length xs) by refl inside (take (length xs - by) xs) j h)

@@ -51,7 +51,7 @@ pub words_cut : {X : Type 0} (ws : List X) (first count : ℕ) → first + count
 words_cut ws first count h = simp (length-take, length-drop) (omega arith)
 
 module _ (place : ℕ → ℕ → ℕ) (w : ℕ) where
-  row_drop : (n : ℕ) (words : List ℕ) → 0 < w → n ≤ length words → row_of place w (drop n words) ≡ drop (w * n) (row_of place w words)
+  pub row_drop : (n : ℕ) (words : List ℕ) → 0 < w → n ≤ length words → row_of place w (drop n words) ≡ drop (w * n) (row_of place w words)
   row_drop n words positive h =
       sym (drop_at (row_of place w (take n words)) (row_of place w (drop n words)) (w * n) (length-row_of place w (take n words) ∙ ap (λ l. w * l) (length-take-le n words h)))
       ∙ ap (drop (w * n)) (sym (row_append place w (take n words) (drop n words) positive) ∙ ap (row_of place w) (take-append-drop n words))

@@ -12,8 +12,6 @@ mod ops;
 mod run;
 mod slice;
 mod slice_mut;
-#[cfg(test)]
-mod tests;
 mod texts;
 
 pub use counted::Counted;
@@ -29,7 +27,7 @@ pub use held::{
 };
 pub use iter::Iter;
 pub use ops::{combine_in_vec, combine_words, order_of_bits};
-pub use run::run_mut;
+pub use run::{run_mut, split_run_mut};
 pub use slice::BitSlice;
 pub use slice::chunks::{Chunks, ChunksExact, RChunks, Windows};
 pub use slice::indices::{IterOnes, IterZeros};

@@ -31,6 +31,40 @@ pub fn run_mut<T: BitStore, O: BitOrder>(
     BitSliceMut::from_parts_mut(&mut words[run.first..run.end], run.head, run.len)
 }
 
+/// Two views of words, for writing: the bits from `from` up to `at`, and those from there up to `upto`. Requires that
+/// `at` is the first bit of a word, so that no word is in both, and that the bits lie in the words and both parts together have at most `MAX_BITS` bits.
+///
+/// The clauses say of each part its list, head and length. What is written through them is in the words afterwards, and the other
+/// bits stay, which no clause says: a caller whose own proof needs it writes one run after the other, by `run_mut` or the calls
+/// that take a range.
+///
+/// ```text
+/// let (mut left, mut right) = split_run_mut::<u8, Lsb0>(&mut words, 3, 8, 20);
+/// left.fill(false);
+/// right.flip_all();               // of ff ff ff: the words are 07 00 f0
+/// ```
+pub fn split_run_mut<T: BitStore, O: BitOrder>(
+    words: &mut [T],
+    from: usize,
+    at: usize,
+    upto: usize,
+) -> (BitSliceMut<'_, T, O>, BitSliceMut<'_, T, O>)
+    requires ordered { from ≤ at }
+    requires after { at ≤ upto }
+    requires inside { upto ≤ T.BITS * length words.old }
+    requires edge { at % T.BITS ≡ 0 }
+    requires few { upto - from ≤ MAX_BITS }
+    ensures left_head { head_of result.0 ≡ from % T.BITS }
+    ensures left_len { len_of result.0 ≡ at - from }
+    ensures left { list_of result.0 ≡ slice_range (row T.BitStore O.BitOrder words.old) from at }
+    ensures right_head { head_of result.1 ≡ 0 }
+    ensures right_len { len_of result.1 ≡ upto - at }
+    ensures right { list_of result.1 ≡ slice_range (row T.BitStore O.BitOrder words.old) at upto }
+{
+    let (left, right) = words.split_at_mut(at / T::BITS as usize);
+    (run_mut(left, from, at), run_mut(right, 0, upto - at))
+}
+
 // Where a run of bits lies in words: the words that have it, the place where it begins in them, and its length.
 #[derive(Drop)]
 struct Run {

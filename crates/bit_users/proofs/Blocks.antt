@@ -1,10 +1,10 @@
 -- Longest runs of free frames, and the best of them.
-use Rattle.std.proofs.Common.{◌≡◌, ◌≢◌, ℕ, zero, suc, ◌+◌, ◌-◌, ◌<◌, ◌≤◌, Bool, true, false, List, length, Option, Some, None, slice_get, refl, sym, ◌∙◌, ap, subst, inl, inr, arith}
+use Rattle.std.proofs.Common.{◌≡◌, ◌≢◌, ℕ, zero, suc, ◌+◌, ◌-◌, ◌<◌, ◌≤◌, Bool, true, false, List, length, Option, Some, None, slice_get, refl, sym, subst, inl, inr, arith}
 use Rattle.std.specs.Prelude.{◌⊎◌}
 use Rattle.std.specs.Option.{IfNone, IfSome}
 use Rattle.std.proofs.lemmas.Bool.{cases_lt, cases_eq}
 use Rattle.std.proofs.lemmas.Option.{slice_get_within}
-use Rattle.bit_users.specs.FreeMap.{AreFree, IsBestBelow, IsBestFit, IsBlock, IsFree, IsShortest}
+use Rattle.bit_users.specs.FreeMap.{AreFree, IsBestBelow, IsBestFit, IsBlock, IsFree}
 use Rattle.bit_users.proofs.Frames.{other_bit}
 
 -- what a search for the next run has found: it begins at `first`, after taken frames from `from` on, and ends at `end`

@@ -6,11 +6,13 @@ use Rattle.std.proofs.lemmas.Bool.Decides.{nat_tests}
 use Rattle.std.proofs.lemmas.List.{get_or-set_other, map-append}
 use Rattle.std.proofs.Math.Nat.{mul-le-mul_right}
 use Rattle.std.proofs.lemmas.Option.{slice_get-get_or}
-use Rattle.bit_addressing.specs.Row.{moved, put, source_of}
+use Rattle.bit_addressing.specs.Bits.{has_bit}
+use Rattle.bit_addressing.specs.Row.{moved, put, row_of, source_of}
 use Rattle.bit_addressing.specs.Text.{digit_of}
+use Rattle.bit_addressing.proofs.Rows.{get_or-row_one, length-row_of}
 use Rattle.bit_addressing.proofs.lists.Moved.{get_or-moved}
 use Rattle.bit_addressing.proofs.lists.Put.{put_before, put_behind, put_inside}
-use Rattle.bit_addressing.proofs.lists.Shown.{get_or-run, length-run}
+use Rattle.bit_addressing.proofs.lists.Shown.{get_or-run, length-between, length-run}
 use Rattle.bit_slice.specs.Operators.{combined}
 use Rattle.bit_slice.proofs.Combining.{length-combined}
 use Rattle.bit_slice.proofs.Ranges.{item_combined}
@@ -129,22 +131,72 @@ copied_elsewhere xs rows columns i j from to n all size row inside apart =
     let ends : to * columns + n ≡ to * columns + columns = ap (λ k. to * columns + k) all in
     bit_left xs (from * columns) (to * columns) n (i * columns + j) (omega arith) (elim (place_apart i j to columns inside apart) [ inl low ↦ inl low | inr high ↦ inr (omega arith) ])
 
+-- ---- a part of a row in whose place other bits were put
+
+module _ (xs ys : List Bool) (rows columns row column count start : ℕ) (size : length xs ≡ rows * columns) (inside : row < rows) (within : column + count ≤ columns) (many : length ys ≡ count) (at : start ≡ row * columns + column) where
+  pub part_put : (j : ℕ) → j < count → get_or (put xs start ys) (row * columns + (column + j)) false ≡ get_or ys j false
+  part_put j below =
+      let up = row_ends row rows columns inside in
+      let back : row * columns + (column + j) - start ≡ j = omega arith in
+      put_inside xs ys start (row * columns + (column + j)) false (omega arith) (omega arith) (omega arith) ∙ ap (λ k. get_or ys k false) back
+
+  out : (i j : ℕ) → j < columns → (i ≢ row) ⊎ ((j < column) ⊎ (column + count ≤ j)) → (i * columns + j < start) ⊎ (start + count ≤ i * columns + j)
+  out i j below apart = elim (cases_eq i row) [
+    | inl same ↦
+        let line : i * columns ≡ row * columns = ap (λ k. k * columns) same in
+        elim apart [
+          | inl other ↦ absurd (other same)
+          | inr beside ↦ elim beside [ inl low ↦ inl (omega arith) | inr high ↦ inr (omega arith) ]
+        ]
+    | inr other ↦ elim (place_apart i j row columns below other) [ inl low ↦ inl (omega arith) | inr high ↦ inr (omega arith) ]
+  ]
+
+  pub part_kept : (i j : ℕ) → j < columns → (i ≢ row) ⊎ ((j < column) ⊎ (column + count ≤ j)) → get_or (put xs start ys) (i * columns + j) false ≡ get_or xs (i * columns + j) false
+  part_kept i j below apart =
+      let up = row_ends row rows columns inside in
+      elim (out i j below apart) [
+        | inl low ↦ put_before xs ys start (i * columns + j) false (omega arith) low
+        | inr high ↦ put_behind xs ys start (i * columns + j) false (omega arith) (omega arith)
+      ]
+
+-- the same of a matrix
+module _ (old new : Grid) (ys : List Bool) (row column count start : ℕ) (size : length old.bits ≡ old.rows * old.columns) (inside : row < old.rows) (within : column + count ≤ old.columns) (many : length ys ≡ count) (at : start ≡ row * old.columns + column)
+    (wide : new.columns ≡ old.columns) (made : new.bits ≡ put old.bits start ys) where
+  pub part_written : (j : ℕ) → j < count → item new row (column + j) ≡ get_or ys j false
+  part_written j below =
+      ap (λ k. get_or new.bits (row * k + (column + j)) false) wide ∙ ap (λ l. get_or l (row * old.columns + (column + j)) false) made
+      ∙ part_put old.bits ys old.rows old.columns row column count start size inside within many at j below
+
+  pub part_unwritten : (i j : ℕ) → j < old.columns → (i ≢ row) ⊎ ((j < column) ⊎ (column + count ≤ j)) → item new i j ≡ item old i j
+  part_unwritten i j below apart =
+      ap (λ k. get_or new.bits (i * k + j) false) wide ∙ ap (λ l. get_or l (i * old.columns + j) false) made
+      ∙ part_kept old.bits ys old.rows old.columns row column count start size inside within many at i j below apart
+
+-- the first bits of a word
+pub length-first_bits : (number count : ℕ) → count ≤ 64 → length (slice_range (row_of (λ w i. i) 64 (number ∷ [])) 0 count) ≡ count
+length-first_bits number count few =
+    let size = length-row_of (λ w i. i) 64 (number ∷ []) in
+    length-between (row_of (λ w i. i) 64 (number ∷ [])) 0 count (omega arith) ∙ omega arith
+
+pub get_or-first_bits : (number count j : ℕ) → j < count → count ≤ 64 → get_or (slice_range (row_of (λ w i. i) 64 (number ∷ [])) 0 count) j false ≡ has_bit number j
+get_or-first_bits number count j below few =
+    let at : 0 + j ≡ j = omega arith in
+    let upto : 0 + count ≡ count = omega arith in
+    ap (λ k. get_or (slice_range (row_of (λ w i. i) 64 (number ∷ [])) 0 k) j false) (sym upto)
+    ∙ get_or-run (row_of (λ w i. i) 64 (number ∷ [])) 0 count j below
+    ∙ ap (λ k. get_or (row_of (λ w i. i) 64 (number ∷ [])) k false) at
+    ∙ get_or-row_one (λ w i. i) 64 number j (omega arith) (omega arith)
+
 -- ---- a row in whose place other bits were put
 
 module _ (xs ys : List Bool) (rows columns into : ℕ) (size : length xs ≡ rows * columns) (row : into < rows) (many : length ys ≡ columns) where
   pub row_put : (j : ℕ) → j < columns → get_or (put xs (into * columns) ys) (into * columns + j) false ≡ get_or ys j false
   row_put j inside =
-      let up = row_ends into rows columns row in
-      let at : into * columns + j - into * columns ≡ j = omega arith in
-      put_inside xs ys (into * columns) (into * columns + j) false (omega arith) (omega arith) (omega arith) ∙ ap (λ k. get_or ys k false) at
+      let from : into * columns + j ≡ into * columns + (0 + j) = omega arith in
+      ap (λ k. get_or (put xs (into * columns) ys) k false) from ∙ part_put xs ys rows columns into 0 columns (into * columns) size row (omega arith) many (omega arith) j inside
 
   pub row_kept : (i j : ℕ) → j < columns → i ≢ into → get_or (put xs (into * columns) ys) (i * columns + j) false ≡ get_or xs (i * columns + j) false
-  row_kept i j inside apart =
-      let up = row_ends into rows columns row in
-      elim (place_apart i j into columns inside apart) [
-        | inl low ↦ put_before xs ys (into * columns) (i * columns + j) false (omega arith) low
-        | inr high ↦ put_behind xs ys (into * columns) (i * columns + j) false (omega arith) (omega arith)
-      ]
+  row_kept i j inside apart = part_kept xs ys rows columns into 0 columns (into * columns) size row (omega arith) many (omega arith) i j inside (inl apart)
 
 -- what combining it with other bits makes of the bits of a matrix
 module _ (f : Bool → Bool → Bool) (old new : Grid) (ys : List Bool) (into n : ℕ) (size : length old.bits ≡ old.rows * old.columns) (row : into < old.rows) (all : n ≡ old.columns) (wide : new.columns ≡ old.columns)

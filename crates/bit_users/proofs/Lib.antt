@@ -2,11 +2,15 @@ pub mod Blocks
 pub mod Counted
 pub mod Fields
 pub mod Frames
+pub mod FullRank
 pub mod Grids
 pub mod Members
 pub mod Merging
 pub mod ModTwo
 pub mod Paths
+pub mod Ranks
+pub mod Retaining
 pub mod Sequences
 pub mod Served
 pub mod Sieve
+pub mod Turning

@@ -1,5 +1,5 @@
 -- The numbers of two sets, one by one.
-use Rattle.std.proofs.Common.{◌≡◌, ℕ, ◌+◌, ◌-◌, ◌<◌, ◌≤◌, Bool, true, false, not, List, length, max, get_or, replicate, refl, sym, ◌∙◌, ap, inl, inr, arith}
+use Rattle.std.proofs.Common.{◌≡◌, ℕ, ◌+◌, ◌-◌, ◌<◌, ◌≤◌, Bool, true, false, List, length, max, get_or, replicate, refl, sym, ◌∙◌, ap, inl, inr, arith}
 use Rattle.std.specs.Iterator.{YieldsFirst}
 use Rattle.std.specs.Iterator.Runs.{YieldsInOrder}
 use Rattle.std.specs.Prelude.{◌⊎◌, ◌↔◌, IsTrue}

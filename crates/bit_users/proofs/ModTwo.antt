@@ -1,25 +1,25 @@
 -- Sums and products mod 2 of square matrices, as functions of a row and a column.
 use Rattle.std.proofs.Common.{◌≡◌, ◌≢◌, ℕ, zero, suc, ◌+◌, ◌<◌, ◌≤◌, Bool, true, false, not, ◌&&◌, refl, sym, ◌∙◌, ap, inl, inr, arith, ltb, eq-eqb}
 use Rattle.std.proofs.lemmas.Bool.{cases_eq, cases_lt, ne_eqb, lt-ltb, le-ltb, true≢false}
-use Rattle.std.specs.Prelude.{◌==◌, if◌then◌else◌}
+use Rattle.std.specs.Prelude.{◌==◌}
 use Rattle.bit_users.specs.Elimination.{AreLinked, AreUnits, IsAdded}
 use Rattle.bit_users.specs.Matrix.{plus_mod_2 as plus, sum_mod_2 as sum_below}
 
-plus_false : (x : Bool) → plus x false ≡ x
+pub plus_false : (x : Bool) → plus x false ≡ x
 plus_false true = refl
 plus_false false = refl
 
-plus_same : (x : Bool) → plus x x ≡ false
+pub plus_same : (x : Bool) → plus x x ≡ false
 plus_same true = refl
 plus_same false = refl
 
-plus_comm : (x y : Bool) → plus x y ≡ plus y x
+pub plus_comm : (x y : Bool) → plus x y ≡ plus y x
 plus_comm true true = refl
 plus_comm true false = refl
 plus_comm false true = refl
 plus_comm false false = refl
 
-plus_assoc : (x y z : Bool) → plus (plus x y) z ≡ plus x (plus y z)
+pub plus_assoc : (x y z : Bool) → plus (plus x y) z ≡ plus x (plus y z)
 plus_assoc true true true = refl
 plus_assoc true true false = refl
 plus_assoc true false z = refl
@@ -28,21 +28,25 @@ plus_assoc false y z = refl
 plus_middle : (a b c d : Bool) → plus (plus a b) (plus c d) ≡ plus (plus a c) (plus b d)
 plus_middle a b c d = plus_assoc a b (plus c d) ∙ ap (plus a) (sym (plus_assoc b c d) ∙ ap (λ x. plus x d) (plus_comm b c) ∙ plus_assoc c b d) ∙ sym (plus_assoc a c (plus b d))
 
-and_plus : (c x y : Bool) → (c && plus x y) ≡ plus (c && x) (c && y)
+pub and_plus : (c x y : Bool) → (c && plus x y) ≡ plus (c && x) (c && y)
 and_plus true x y = refl
 and_plus false x y = refl
 
-plus_and : (x y c : Bool) → (plus x y && c) ≡ plus (x && c) (y && c)
+pub plus_and : (x y c : Bool) → (plus x y && c) ≡ plus (x && c) (y && c)
 plus_and true true true = refl
 plus_and true true false = refl
 plus_and true false c = sym (plus_false (true && c))
 plus_and false y c = refl
 
-and_false : (c : Bool) → (c && false) ≡ false
+pub and_false : (c : Bool) → (c && false) ≡ false
 and_false true = refl
 and_false false = refl
 
-and_assoc : (a b c : Bool) → ((a && b) && c) ≡ (a && (b && c))
+pub and_one : (x : Bool) → (x && true) ≡ x
+and_one true = refl
+and_one false = refl
+
+pub and_assoc : (a b c : Bool) → ((a && b) && c) ≡ (a && (b && c))
 and_assoc true b c = refl
 and_assoc false b c = refl
 
@@ -51,7 +55,7 @@ pub sums_same : (f g : ℕ → Bool) (n : ℕ) → ((k : ℕ) → k < n → f k 
 sums_same f g zero same = refl
 sums_same f g (suc n) same = ap (λ x. plus x (f n)) (sums_same f g n (λ k h. same k (omega arith))) ∙ ap (plus (sum_below g n)) (same n (omega arith))
 
-sum_none : (n : ℕ) → sum_below (λ k. false) n ≡ false
+pub sum_none : (n : ℕ) → sum_below (λ k. false) n ≡ false
 sum_none zero = refl
 sum_none (suc n) = plus_false (sum_below (λ k. false) n) ∙ sum_none n
 
@@ -211,7 +215,7 @@ column_gone w n c inside one none i h =
 
 module _ (a w r : ℕ → ℕ → Bool) (n : ℕ) (linked : AreLinked a w r n) where
   -- what undoes r makes a of w
-  made_back : (k j : ℕ) → k < n → j < n → a k j ≡ sum_below (λ l. linked.undone.0 k l && w l j) n
+  pub made_back : (k j : ℕ) → k < n → j < n → a k j ≡ sum_below (λ l. linked.undone.0 k l && w l j) n
   made_back k j h m =
       sym (sum_one (λ i. a i j) k n h)
       ∙ sums_same (λ i. (k == i) && a i j) (λ i. sum_below (λ l. linked.undone.0 k l && r l i) n && a i j) n (λ i l. ap (λ b. b && a i j) (sym (linked.undone.1 k i h l)))

@@ -1,9 +1,8 @@
 -- What lists of requests leave of a map of frames, and that no frame is handed out twice.
-use Rattle.std.proofs.Common.{◌≡◌, ◌≢◌, ℕ, zero, suc, ◌+◌, ◌-◌, ◌<◌, ◌≤◌, Bool, true, false, List, [], ◌∷◌, ◌++◌, Some, get_or, replicate, length, set, slice_get, take, refl, sym, ◌∙◌, ap, subst, inl, inr, arith}
+use Rattle.std.proofs.Common.{◌≡◌, ℕ, zero, suc, ◌+◌, ◌-◌, ◌<◌, ◌≤◌, Bool, true, false, List, [], ◌∷◌, ◌++◌, Some, get_or, replicate, length, set, slice_get, take, refl, sym, ◌∙◌, ap, subst, inl, inr, arith}
 use Rattle.std.specs.Prelude.{◌⊎◌}
 use Rattle.std.proofs.lemmas.List.{take_all, take_more, take_more_set}
 use Rattle.bit_addressing.specs.Row.{put}
-use Rattle.bit_users.specs.FreeMap.{AreFree, AreTaken, IsFirstRun}
 use Rattle.bit_users.specs.Serving.{At, HandsOut, HaveServed, IsNeverTwice, IsServed, TakesBack}
 use Rattle.bit_users.specs.Table.{IsIn}
 use Rattle.bit_users.specs.declared.free_map.serving.Request.{Request}

@@ -1,8 +1,12 @@
 pub mod Elimination
 pub mod FreeMap
+pub mod InTurn
 pub mod Matrix
 pub mod Merged
+pub mod Rank
+pub mod Reduction
 pub mod Sequence
 pub mod Serving
+pub mod Squares
 pub mod Table
 pub mod Wire

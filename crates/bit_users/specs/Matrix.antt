@@ -1,5 +1,5 @@
 -- Matrices of truth values, and paths in the graphs whose edges are their set bits.
-use Rattle.std.specs.Prelude.{◌≡◌, ◌≢◌, ◌==◌, ℕ, zero, suc, ◌+◌, ◌*◌, ◌<◌, ◌≤◌, ◌⊎◌, Bool, true, false, not, ◌&&◌, ◌||◌, if◌then◌else◌, List, [], ◌∷◌, ◌++◌, codes, length, map, replicate, slice_index_or, slice_range, refl}
+use Rattle.std.specs.Prelude.{◌≡◌, ◌==◌, ℕ, zero, suc, ◌+◌, ◌*◌, ◌<◌, ◌≤◌, Bool, true, false, not, ◌&&◌, ◌||◌, if◌then◌else◌, List, [], ◌∷◌, ◌++◌, codes, map, replicate, slice_index_or, slice_range, refl}
 use Rattle.std.specs.Cmp.{IsEquivalence, and_equiv, nat_eq_equiv, on_equiv}
 use Rattle.bit_addressing.specs.Text.{digit_of}
 use Rattle.bit_slice.specs.Comparisons.{bits_equal, bits_equiv}

@@ -1,10 +1,12 @@
 //! What the authors of such things rely on, as callers that need no proof of their own.
-ghost use Rattle.std.specs.Prelude.{◌≡◌, ◌≢◌, ◌==◌, ◌%◌, ◌<◌, ◌≤◌, ◌⊎◌, ◌↔◌, ℕ, false, IfOk, IfSome, IsTrue, Some, length};
+ghost use Rattle.std.specs.Prelude.{◌≡◌, ◌≢◌, ◌==◌, ◌%◌, ◌<◌, ◌≤◌, ◌⊎◌, ◌↔◌, ℕ, false, IfOk, IfSome, IsTrue, Some, length, Contains};
+ghost use Rattle.std.specs.List.{filter};
 ghost use Rattle.bit_containers.specs.Making.{filled_up};
 ghost use Rattle.bit_slice.specs.Operators.{or_of};
 ghost use Rattle.bit_slice.specs.Places.{ones_of};
 ghost use Rattle.bit_users.specs.FreeMap.{AreFree};
 ghost use Rattle.bit_users.specs.Matrix.{IsPath, IsSet, item, product};
+ghost use Rattle.bit_users.specs.Rank.{IsRank};
 ghost use Rattle.bit_users.specs.Serving.{IsNeverTwice};
 ghost use Rattle.bit_users.specs.Table.{IsIn, IsPrime};
 ghost use Rattle.bit_users.specs.Wire.{Fits};
@@ -286,4 +288,29 @@ pub fn served(
     ensures { IfOk result (λ replies. IsNeverTwice requests.now replies.items) }
 {
     frames.serve(alloc, requests)
+}
+
+/// The odd numbers stay.
+#[tactic(auto, using(crate::proofs::Retaining::in_turn_filter))]
+pub fn odd_kept(set: &mut NumberSet)
+    ensures { ones_of set.new ≡ filter (λ number. number % 2 == 1) (ones_of set.old) }
+{
+    set.retain(|number| number % 2 == 1);
+}
+
+/// A set of the numbers of a vector has each of them, and no other.
+pub fn collected(alloc: Global, numbers: Vec<usize>) -> Result<NumberSet, GrowError>
+    ensures { IfOk result (λ s. (k : ℕ) → IsIn s k ↔ Contains numbers.items k) }
+{
+    NumberSet::from_iter(alloc, numbers)
+}
+
+/// No matrix has a rank above the smaller of its sizes.
+pub fn rank_within_sizes(matrix: &Matrix, alloc: Global) -> Result<usize, AllocError>
+    ensures rows { IfOk result (λ rank. rank ≤ matrix.now.rows) }
+    ensures columns { IfOk result (λ rank. rank ≤ matrix.now.columns) }
+    ensures rank { IfOk result (λ rank. IsRank matrix.now rank) }
+{
+    let rank = matrix.rank_mod_2(alloc)?;
+    Ok(rank)
 }

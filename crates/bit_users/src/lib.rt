@@ -8,8 +8,6 @@ mod free_map;
 mod matrix;
 mod sequence;
 mod table;
-#[cfg(test)]
-mod tests;
 mod wire;
 
 pub use free_map::{FreeMap, NotTaken, Reply, Request};

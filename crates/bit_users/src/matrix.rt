@@ -8,6 +8,8 @@ ghost use Rattle.bit_users.specs.Matrix.{AreAlike, IsSet, item, plus_mod_2, zero
 mod elimination;
 mod graph;
 mod products;
+mod rank;
+mod squares;
 mod traits;
 mod transpose;
 

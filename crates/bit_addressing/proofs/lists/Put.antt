@@ -1,5 +1,5 @@
 -- A list with others written over a part of it.
-use Rattle.std.proofs.Common.{◌≡◌, ℕ, ◌+◌, ◌-◌, ◌<◌, ◌≤◌, Bool, List, [], ◌∷◌, ◌++◌, length, take, drop, set, replicate, get_or, sym, ◌∙◌, ap, arith}
+use Rattle.std.proofs.Common.{◌≡◌, ℕ, ◌+◌, ◌-◌, ◌<◌, ◌≤◌, Bool, false, List, [], ◌∷◌, ◌++◌, length, take, drop, set, replicate, get_or, sym, ◌∙◌, ap, arith}
 use Rattle.std.proofs.lemmas.List.{places, same_lists, set_split, length-take, length-drop, length-append, take-append-drop}
 use Rattle.std.proofs.Common.{add-one, add-zero, rules}
 use Rattle.bit_addressing.specs.Row.{put, filled}
@@ -42,3 +42,9 @@ put_behind xs ys d j b h k = grind (arith, places)
 pub put_joined : (xs ys zs : List Bool) (d n : ℕ) → n ≡ d + length ys → n + length zs ≤ length xs → put (put xs d ys) n zs ≡ put xs d (ys ++ zs)
 unfolding put
 put_joined xs ys zs d n is h = same_lists _ _ (search (rules, places)) (λ i b below. grind (arith, places))
+
+-- items are appended, those from an index on are written over as far as the old ones go, and the last ones become false
+pub run_appended : (xs : List Bool) (n end upto : ℕ) (b : Bool) → end ≤ length xs → length xs ≤ upto → upto ≤ length xs + n
+    → put (put (xs ++ replicate n b) end (replicate (length xs - end) b)) upto (replicate (length xs + n - upto) false) ≡ put (xs ++ replicate n false) end (replicate (upto - end) b)
+unfolding put
+run_appended xs n end upto b within grown room = same_lists _ _ (search (rules, places)) (λ i d below. grind (arith, places))

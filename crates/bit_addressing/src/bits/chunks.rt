@@ -7,7 +7,9 @@ ghost use Rattle.bit_addressing.specs.Row.{binary, number_bits, number_of, put, 
 ghost use Rattle.bit_addressing.specs.Typed.{row};
 
 use crate::bits::copies::copy_bits;
+use crate::bits::single::write_part;
 use crate::index::BitIdx;
+use crate::length::Span;
 use crate::order::{BitOrder, Lsb0};
 use crate::store::BitStore;
 
@@ -94,6 +96,7 @@ pub fn read_chunk<T: BitStore, O: BitOrder>(words: &[T], at: usize, n: u8) -> u6
 
 /// Writes the `n` lowest bits of a number at the places from `at` on, that of place 0 first, and no other
 /// bit: what `read_chunk` reads. Requires that `n` is at most 64, and the run lies in the words.
+#[inline(always)]
 pub fn write_chunk<T: BitStore, O: BitOrder>(words: &mut [T], at: usize, n: u8, chunk: u64)
     requires few { n ≤ 64 }
     requires within { at + n ≤ T.BITS * length words.old }
@@ -101,7 +104,44 @@ pub fn write_chunk<T: BitStore, O: BitOrder>(words: &mut [T], at: usize, n: u8, 
     ensures bits { row T.BitStore O.BitOrder words.new ≡ put (row T.BitStore O.BitOrder words.old) at (number_bits chunk n) }
     ensures size { length words.new ≡ length words.old }
 {
-    copy_bits::<T, O, u64, Lsb0>(words, at, &[chunk], 0, n as usize);
+    if n == 0 {
+        return;
+    }
+    let width = T::BITS as usize;
+    let low = at % width;
+    let high = low + n as usize;
+    if width < high {
+        write_over::<T, O>(words, at, n, chunk);
+        return;
+    }
+    let new = word_of_run::<T, O, u64, Lsb0>(&[chunk], 0, n, low as u8);
+    write_part::<T, O>(words, at / width, low, high, new);
+}
+
+// Like `write_chunk`, of bits that lie in several words: two of them are written by themselves.
+fn write_over<T: BitStore, O: BitOrder>(words: &mut [T], at: usize, n: u8, chunk: u64)
+    requires some { 0 < n }
+    requires few { n ≤ 64 }
+    requires within { at + n ≤ T.BITS * length words.old }
+    requires fits { at + n < 2 ^ 64 }
+    ensures bits { row T.BitStore O.BitOrder words.new ≡ put (row T.BitStore O.BitOrder words.old) at (number_bits chunk n) }
+    ensures size { length words.new ≡ length words.old }
+{
+    let Span {
+        first,
+        low,
+        last,
+        end,
+    } = Span::of::<T>(at, at + n as usize);
+    if last != first + 1 {
+        copy_bits::<T, O, u64, Lsb0>(words, at, &[chunk], 0, n as usize);
+        return;
+    }
+    let split = T::BITS - low as u8;
+    let front = word_of_run::<T, O, u64, Lsb0>(&[chunk], 0, split, low as u8);
+    write_part::<T, O>(words, first, low, T::BITS as usize, front);
+    let back = word_of_run::<T, O, u64, Lsb0>(&[chunk], split as usize, end as u8, 0);
+    write_part::<T, O>(words, last, 0, end, back);
 }
 
 /// The number that the `n` bits of the row from `at` on write in binary, the most significant digit

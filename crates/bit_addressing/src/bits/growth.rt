@@ -1,8 +1,10 @@
 //! Words grown or cut to a number of bits.
-ghost use Rattle.std.specs.Prelude.{◌≡◌, ◌+◌, ◌*◌, ◌^◌, ◌<◌, ◌≤◌, ◌++◌, [], ◌∷◌, length, take, OnOk, OnErr, vec_capacity};
+ghost use Rattle.std.specs.Prelude.{◌≡◌, ◌+◌, ◌-◌, ◌*◌, ◌^◌, ◌<◌, ◌≤◌, ◌++◌, [], ◌∷◌, length, replicate, take, OnOk, OnErr, vec_capacity};
 ghost use Rattle.bit_addressing.specs.Row.{words_for, put, sized};
 ghost use Rattle.bit_addressing.specs.Typed.{row};
 
+use crate::bits::single::repeated;
+use crate::bits::vectors::fill_bits_in_vec;
 use crate::index::BitIdx;
 use crate::length::elts;
 use crate::order::BitOrder;
@@ -11,6 +13,7 @@ use std::alloc::AllocError;
 
 /// Cuts the words to those for `bits` bits, or fills them up with words of zero. Takes memory.
 /// It is refused only where the capacity, in words, is too small.
+#[inline(always)]
 pub fn resize_words_in_vec<T: BitStore, O: BitOrder>(
     words: &mut Vec<T>,
     bits: usize,
@@ -22,8 +25,46 @@ pub fn resize_words_in_vec<T: BitStore, O: BitOrder>(
     ensures full { OnErr result (vec_capacity words.old < words_for T.BITS bits) }
     ensures unchanged { OnErr result (words.new.items ≡ words.old.items) }
 {
-    let count = elts::<T>(bits);
+    let (count, old) = (elts::<T>(bits), words.len());
+    if count == old {
+        return Ok(());
+    }
+    if count > old && count - old == 1 {
+        push_word(words, T::ZERO)?;
+        return Ok(());
+    }
     words.resize(count, T::ZERO)?;
+    Ok(())
+}
+
+/// Appends words up to those for `upto` bits, and writes `bit` over the bits from `end` up to `upto`, each word once; the
+/// other bits of a word that is added are false. Takes memory where a word is added. Requires that `end` is at most `upto`, and
+/// that the words are those for `end` bits. It is refused only where the capacity, in words, is too small.
+pub fn append_run_in_vec<T: BitStore, O: BitOrder>(
+    words: &mut Vec<T>,
+    end: usize,
+    upto: usize,
+    bit: bool,
+) -> Result<(), AllocError>
+    requires ordered { end ≤ upto }
+    requires count { length words.old.items ≡ words_for T.BITS end }
+    requires fits { upto + T.BITS ≤ 2 ^ 64 }
+    ensures bits { OnOk result (row T.BitStore O.BitOrder words.new.items ≡ put (sized T.BITS (row T.BitStore O.BitOrder words.old.items) upto) end (replicate (upto - end) bit)) }
+    ensures size { OnOk result (length words.new.items ≡ words_for T.BITS upto) }
+    ensures room { OnOk result (upto ≤ T.BITS * length words.new.items) }
+    ensures capacity { vec_capacity words.old ≤ vec_capacity words.new }
+    ensures full { OnErr result (vec_capacity words.old < words_for T.BITS upto) }
+    ensures unchanged { OnErr result (words.new.items ≡ words.old.items) }
+{
+    let (count, old) = (elts::<T>(upto), words.len());
+    if count == old {
+        fill_bits_in_vec::<T, O>(words, end, upto, bit);
+        return Ok(());
+    }
+    let width = T::BITS as usize;
+    words.resize(count, repeated::<T>(bit))?;
+    fill_bits_in_vec::<T, O>(words, end, width * old, bit);
+    fill_bits_in_vec::<T, O>(words, upto, width * count, false);
     Ok(())
 }
 

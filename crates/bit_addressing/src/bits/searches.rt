@@ -1,13 +1,14 @@
 //! Bits counted and compared, by whole words.
-ghost use Rattle.std.specs.Prelude.{◌≡◌, ℕ, true, ◌+◌, ◌-◌, ◌*◌, ◌/◌, ◌^◌, ◌<◌, ◌≤◌, length, slice_range, MatchOption, not, replicate};
+ghost use Rattle.std.specs.Prelude.{◌≡◌, ℕ, true, ◌+◌, ◌-◌, ◌*◌, ◌/◌, ◌^◌, ◌<◌, ◌≤◌, length, slice_range, MatchOption, not, replicate, [], ◌∷◌, if◌then◌else◌, ◌&&◌, false, ltb, slice_index_or};
 ghost use Rattle.std.specs.List.{count_by};
+ghost use Rattle.bit_addressing.specs.Bits.{has_bit};
 ghost use Rattle.bit_addressing.specs.Row.{IsFirst, IsFirstDifference};
 ghost use Rattle.bit_addressing.specs.Typed.{row};
 
 use crate::bits::chunks::{
     are_alike, block_at, blocks_behind, read_chunk, word_alike, word_number,
 };
-use crate::index::BitIdx;
+use crate::index::{BitEnd, BitIdx};
 use crate::length::Span;
 use crate::order::{BitOrder, Lsb0};
 use crate::store::BitStore;
@@ -61,33 +62,6 @@ pub fn count_bits<T: BitStore, O: BitOrder>(words: &[T], from: usize, upto: usiz
     head.count_ones() as usize + whole + tail.count_ones() as usize
 }
 
-/// How many blocks of 64 bits, of the first `blocks` from words `k` and `l` on, are equal up to one that is not. It
-/// tells so of bytes in one order, whose blocks need no turning round, and of others 0. Requires that both rows have
-/// the blocks (docs/SPEED.md, "Rows of words", compare at equal heads).
-#[inline(always)]
-fn equal_blocks<T: BitStore, O: BitOrder, U: BitStore, P: BitOrder>(
-    a: &[T],
-    k: usize,
-    b: &[U],
-    l: usize,
-    blocks: usize,
-) -> usize
-    requires first { k * T.BITS + blocks * 64 ≤ T.BITS * length a.now }
-    requires second { l * U.BITS + blocks * 64 ≤ U.BITS * length b.now }
-    ensures most { result ≤ blocks }
-    ensures alike { slice_range (row T.BitStore O.BitOrder a.now) (k * T.BITS) (k * T.BITS + result * 64) ≡ slice_range (row U.BitStore P.BitOrder b.now) (l * U.BITS) (l * U.BITS + result * 64) }
-{
-    if T::BITS != 8 || !are_alike::<T, O, U, P>() {
-        return 0;
-    }
-    for t in 0..blocks {
-        if Lsb0::pack(a, k + t * 8) != Lsb0::pack(b, l + t * 8) {
-            return t;
-        }
-    }
-    blocks
-}
-
 /// Like `differ_at`, from index `skip` of word `k` and index `over` of word `l` on. It is inlined, and compiled apart
 /// for runs that begin at a word's first bit.
 #[inline(always)]
@@ -113,12 +87,7 @@ fn differ_from<T: BitStore, O: BitOrder, U: BitStore, P: BitOrder>(
     let j = l * U::BITS as usize + over as usize;
     let room = blocks_behind::<T>(a.len(), k).min(blocks_behind::<U>(b.len(), l));
     let blocks = room.min(n / 64);
-    let start = if skip == 0 && over == 0 {
-        equal_blocks::<T, O, U, P>(a, k, b, l, blocks)
-    } else {
-        0
-    };
-    for t in start..blocks {
+    for t in 0..blocks {
         let left = block_at::<O, T, O>(a, k + t * each, skip);
         let right = block_at::<O, U, P>(b, l + t * others, over);
         if left != right {
@@ -147,10 +116,138 @@ fn differ_from<T: BitStore, O: BitOrder, U: BitStore, P: BitOrder>(
     Some(done + apart.trailing_zeros() as usize)
 }
 
-/// Like `differ_at`, from words `k` and `l` on, whose bits lie in one order: words are compared as they are. Requires that both
-/// kinds of words have one width and order.
+/// How many of the first `count` words from words `k` and `l` on are equal, by turns of `each` words up to one that is not. A
+/// turn is tested once, so that the compiler compares its words side by side (docs/SPEED.md, "The bench", equal). Requires that
+/// both kinds of words have one width and order, and that the words are there.
+#[inline(always)]
+fn equal_turns<T: BitStore, O: BitOrder, U: BitStore, P: BitOrder>(
+    a: &[T],
+    k: usize,
+    b: &[U],
+    l: usize,
+    count: usize,
+    each: usize,
+) -> usize
+    requires width { U.BITS ≡ T.BITS }
+    requires order { (i : ℕ) → i < T.BITS → O.place T.BITS i ≡ P.place T.BITS i }
+    requires some { 0 < each }
+    requires first { k + count ≤ length a.now }
+    requires second { l + count ≤ length b.now }
+    ensures most { result ≤ count }
+    ensures alike { slice_range (row T.BitStore O.BitOrder a.now) (k * T.BITS) (k * T.BITS + result * T.BITS) ≡ slice_range (row U.BitStore P.BitOrder b.now) (l * T.BITS) (l * T.BITS + result * T.BITS) }
+{
+    for t in 0..count / each {
+        let done = t * each;
+        let mut apart = T::ZERO;
+        for i in 0..each {
+            let other = word_alike::<T, O, U, P>(b[l + (done + i)]);
+            apart = apart.or(a[k + (done + i)].xor(other));
+        }
+        if apart.to_u64() != 0 {
+            return done;
+        }
+    }
+    count / each * each
+}
+
+/// Like `equal_turns`, by turns of 64 bits, and before them by turns of 1024 where the run is long.
+#[inline(always)]
+fn equal_front<T: BitStore, O: BitOrder, U: BitStore, P: BitOrder>(
+    a: &[T],
+    k: usize,
+    b: &[U],
+    l: usize,
+    count: usize,
+    long: bool,
+) -> usize
+    requires width { U.BITS ≡ T.BITS }
+    requires order { (i : ℕ) → i < T.BITS → O.place T.BITS i ≡ P.place T.BITS i }
+    requires first { k + count ≤ length a.now }
+    requires second { l + count ≤ length b.now }
+    ensures most { result ≤ count }
+    ensures alike { slice_range (row T.BitStore O.BitOrder a.now) (k * T.BITS) (k * T.BITS + result * T.BITS) ≡ slice_range (row U.BitStore P.BitOrder b.now) (l * T.BITS) (l * T.BITS + result * T.BITS) }
+{
+    let width = T::BITS as usize;
+    let far = if long {
+        equal_turns::<T, O, U, P>(a, k, b, l, count, 1024 / width)
+    } else {
+        0
+    };
+    if T::BITS == 64 {
+        return far;
+    }
+    far + equal_turns::<T, O, U, P>(a, k + far, b, l + far, count - far, 64 / width)
+}
+
+/// The word whose bits are those of two words that differ, below index `n`. Requires that both kinds of words have one width and
+/// order, and at least `n` bits.
+#[inline(always)]
+fn first_bits_apart<T: BitStore, O: BitOrder, U: BitStore, P: BitOrder>(
+    left: T,
+    right: U,
+    n: u8,
+) -> T
+    requires width { U.BITS ≡ T.BITS }
+    requires order { (i : ℕ) → i < T.BITS → O.place T.BITS i ≡ P.place T.BITS i }
+    requires few { n ≤ T.BITS }
+    ensures { (i : ℕ) → i < T.BITS → has_bit (T.value result) (O.place T.BITS i) ≡ ((if slice_index_or (row T.BitStore O.BitOrder (left ∷ [])) i false then not (slice_index_or (row U.BitStore P.BitOrder (right ∷ [])) i false) else slice_index_or (row U.BitStore P.BitOrder (right ∷ [])) i false) && ltb i n) }
+{
+    let mask = O::mask(BitIdx::<T>::new_unchecked(0), BitEnd::<T>::new_unchecked(n));
+    left.xor(word_alike::<T, O, U, P>(right)).and(mask)
+}
+
+/// Like `differ_at`, from words `k` and `l` on, whose bits lie in one order: words are compared as they are, and many at a time where
+/// the run is long. Requires that both kinds of words have one width and order.
 #[inline(always)]
 fn differ_alike<T: BitStore, O: BitOrder, U: BitStore, P: BitOrder>(
+    a: &[T],
+    k: usize,
+    b: &[U],
+    l: usize,
+    n: usize,
+    long: bool,
+) -> Option<usize>
+    requires width { U.BITS ≡ T.BITS }
+    requires order { (i : ℕ) → i < T.BITS → O.place T.BITS i ≡ P.place T.BITS i }
+    requires first { k * T.BITS + n ≤ T.BITS * length a.now }
+    requires second { l * T.BITS + n ≤ T.BITS * length b.now }
+    requires first_fits { k * T.BITS + n < 2 ^ 64 }
+    requires second_fits { l * T.BITS + n < 2 ^ 64 }
+    ensures { MatchOption result (slice_range (row T.BitStore O.BitOrder a.now) (k * T.BITS) (k * T.BITS + n) ≡ slice_range (row U.BitStore P.BitOrder b.now) (l * T.BITS) (l * T.BITS + n)) (λ d. IsFirstDifference (slice_range (row T.BitStore O.BitOrder a.now) (k * T.BITS) (k * T.BITS + n)) (slice_range (row U.BitStore P.BitOrder b.now) (l * T.BITS) (l * T.BITS + n)) d) }
+{
+    let width = T::BITS as usize;
+    let whole = n / width;
+    let start = equal_front::<T, O, U, P>(a, k, b, l, whole, long);
+    for t in start..whole {
+        let left = a[k + t];
+        let right = word_alike::<T, O, U, P>(b[l + t]);
+        if left.to_u64() != right.to_u64() {
+            let apart = word_number::<T, O>(left) ^ word_number::<T, O>(right);
+            if apart != 0 {
+                return Some(t * width + apart.trailing_zeros() as usize);
+            }
+        }
+    }
+    let rest = (n % width) as u8;
+    if T::BITS < 64 && rest > 0 {
+        let apart = first_bits_apart::<T, O, U, P>(a[k + whole], b[l + whole], rest);
+        if apart.to_u64() == 0 {
+            return None;
+        }
+        return Some(whole * width + word_number::<T, O>(apart).trailing_zeros() as usize);
+    }
+    let left = read_chunk::<T, O>(a, (k + whole) * width, rest);
+    let right = read_chunk::<U, P>(b, (l + whole) * width, rest);
+    let apart = left ^ right;
+    if apart == 0 {
+        return None;
+    }
+    Some(whole * width + apart.trailing_zeros() as usize)
+}
+
+/// Like `differ_alike`, of a long run.
+#[inline(never)]
+fn differ_long<T: BitStore, O: BitOrder, U: BitStore, P: BitOrder>(
     a: &[T],
     k: usize,
     b: &[U],
@@ -165,26 +262,7 @@ fn differ_alike<T: BitStore, O: BitOrder, U: BitStore, P: BitOrder>(
     requires second_fits { l * T.BITS + n < 2 ^ 64 }
     ensures { MatchOption result (slice_range (row T.BitStore O.BitOrder a.now) (k * T.BITS) (k * T.BITS + n) ≡ slice_range (row U.BitStore P.BitOrder b.now) (l * T.BITS) (l * T.BITS + n)) (λ d. IsFirstDifference (slice_range (row T.BitStore O.BitOrder a.now) (k * T.BITS) (k * T.BITS + n)) (slice_range (row U.BitStore P.BitOrder b.now) (l * T.BITS) (l * T.BITS + n)) d) }
 {
-    let width = T::BITS as usize;
-    let whole = n / width;
-    for t in 0..whole {
-        let left = a[k + t];
-        let right = word_alike::<T, O, U, P>(b[l + t]);
-        if left.to_u64() != right.to_u64() {
-            let apart = word_number::<T, O>(left) ^ word_number::<T, O>(right);
-            if apart != 0 {
-                return Some(t * width + apart.trailing_zeros() as usize);
-            }
-        }
-    }
-    let rest = (n % width) as u8;
-    let left = read_chunk::<T, O>(a, (k + whole) * width, rest);
-    let right = read_chunk::<U, P>(b, (l + whole) * width, rest);
-    let apart = left ^ right;
-    if apart == 0 {
-        return None;
-    }
-    Some(whole * width + apart.trailing_zeros() as usize)
+    differ_alike::<T, O, U, P>(a, k, b, l, n, true)
 }
 
 /// Like `differ_from`, compiled once for runs that both begin with a word, and once for others.
@@ -231,8 +309,11 @@ pub fn differ_at<T: BitStore, O: BitOrder, U: BitStore, P: BitOrder>(
     let (width, other) = (T::BITS as usize, U::BITS as usize);
     let (k, skip) = (i / width, (i % width) as u8);
     let (l, over) = (j / other, (j % other) as u8);
-    if skip == 0 && over == 0 && (T::BITS == 64 || n <= 512) && are_alike::<T, O, U, P>() {
-        return differ_alike::<T, O, U, P>(a, k, b, l, n);
+    if skip == 0 && over == 0 && are_alike::<T, O, U, P>() {
+        if n > 512 {
+            return differ_long::<T, O, U, P>(a, k, b, l, n);
+        }
+        return differ_alike::<T, O, U, P>(a, k, b, l, n, false);
     }
     differ_apart::<T, O, U, P>(a, k, skip, b, l, over, n)
 }

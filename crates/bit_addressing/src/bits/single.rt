@@ -89,7 +89,7 @@ pub(crate) fn shr_behind<T: BitStore>(word: T, count: u8) -> T
 }
 
 /// The word whose bits are all `bit`.
-fn repeated<T: BitStore>(bit: bool) -> T
+pub(crate) fn repeated<T: BitStore>(bit: bool) -> T
     ensures { (p : ℕ) → p < T.BITS → has_bit (T.value result) p ≡ bit }
 {
     if bit { T::ZERO.not() } else { T::ZERO }

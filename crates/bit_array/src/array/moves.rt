@@ -1,5 +1,5 @@
 //! The bits of the array in another order, reversed, rotated and shifted, and combined with others of it.
-ghost use Rattle.std.specs.Prelude.{◌≡◌, ◌+◌, ◌-◌, ◌*◌, ◌≤◌, ◌++◌, drop, false, replicate, reverse, slice_range, take};
+ghost use Rattle.std.specs.Prelude.{◌≡◌, ℕ, ◌+◌, ◌-◌, ◌*◌, ◌<◌, ◌≤◌, ◌++◌, Some, drop, false, replicate, reverse, slice_get, slice_range, take};
 ghost use Rattle.bit_addressing.specs.Range.{LiesIn};
 ghost use Rattle.bit_addressing.specs.Row.{put};
 ghost use Rattle.bit_addressing.specs.Typed.{row};
@@ -17,7 +17,8 @@ impl<A: BitViewSized, O: BitOrder> BitArray<A, O> {
     /// of 01101001: bits.reverse() leaves 10010110
     /// ```
     pub fn reverse(&mut self)
-        ensures { row A.Store.BitStore O.BitOrder (A.words self.new) ≡ reverse (row A.Store.BitStore O.BitOrder (A.words self.old)) }
+        ensures list { row A.Store.BitStore O.BitOrder (A.words self.new) ≡ reverse (row A.Store.BitStore O.BitOrder (A.words self.old)) }
+        ensures index { (j : ℕ) → j < A.Store.BITS * A.count → slice_get (row A.Store.BitStore O.BitOrder (A.words self.new)) j ≡ slice_get (row A.Store.BitStore O.BitOrder (A.words self.old)) (A.Store.BITS * A.count - 1 - j) }
     {
         let len = self.len();
         let words = self.inner.as_raw_mut_slice();
@@ -31,7 +32,9 @@ impl<A: BitViewSized, O: BitOrder> BitArray<A, O> {
     /// ```
     pub fn rotate_left(&mut self, by: usize)
         requires { by ≤ A.Store.BITS * A.count }
-        ensures { row A.Store.BitStore O.BitOrder (A.words self.new) ≡ drop by (row A.Store.BitStore O.BitOrder (A.words self.old)) ++ take by (row A.Store.BitStore O.BitOrder (A.words self.old)) }
+        ensures list { row A.Store.BitStore O.BitOrder (A.words self.new) ≡ drop by (row A.Store.BitStore O.BitOrder (A.words self.old)) ++ take by (row A.Store.BitStore O.BitOrder (A.words self.old)) }
+        ensures front { (j : ℕ) → j + by < A.Store.BITS * A.count → slice_get (row A.Store.BitStore O.BitOrder (A.words self.new)) j ≡ slice_get (row A.Store.BitStore O.BitOrder (A.words self.old)) (j + by) }
+        ensures back { (j : ℕ) → j < by → slice_get (row A.Store.BitStore O.BitOrder (A.words self.new)) (A.Store.BITS * A.count - by + j) ≡ slice_get (row A.Store.BitStore O.BitOrder (A.words self.old)) j }
     {
         let len = self.len();
         let words = self.inner.as_raw_mut_slice();
@@ -45,7 +48,9 @@ impl<A: BitViewSized, O: BitOrder> BitArray<A, O> {
     /// ```
     pub fn rotate_right(&mut self, by: usize)
         requires { by ≤ A.Store.BITS * A.count }
-        ensures { row A.Store.BitStore O.BitOrder (A.words self.new) ≡ drop (A.Store.BITS * A.count - by) (row A.Store.BitStore O.BitOrder (A.words self.old)) ++ take (A.Store.BITS * A.count - by) (row A.Store.BitStore O.BitOrder (A.words self.old)) }
+        ensures list { row A.Store.BitStore O.BitOrder (A.words self.new) ≡ drop (A.Store.BITS * A.count - by) (row A.Store.BitStore O.BitOrder (A.words self.old)) ++ take (A.Store.BITS * A.count - by) (row A.Store.BitStore O.BitOrder (A.words self.old)) }
+        ensures front { (j : ℕ) → j < by → slice_get (row A.Store.BitStore O.BitOrder (A.words self.new)) j ≡ slice_get (row A.Store.BitStore O.BitOrder (A.words self.old)) (A.Store.BITS * A.count - by + j) }
+        ensures back { (j : ℕ) → j + by < A.Store.BITS * A.count → slice_get (row A.Store.BitStore O.BitOrder (A.words self.new)) (j + by) ≡ slice_get (row A.Store.BitStore O.BitOrder (A.words self.old)) j }
     {
         let len = self.len();
         let words = self.inner.as_raw_mut_slice();
@@ -60,7 +65,9 @@ impl<A: BitViewSized, O: BitOrder> BitArray<A, O> {
     /// ```
     pub fn shift_left(&mut self, by: usize)
         requires { by ≤ A.Store.BITS * A.count }
-        ensures { row A.Store.BitStore O.BitOrder (A.words self.new) ≡ drop by (row A.Store.BitStore O.BitOrder (A.words self.old)) ++ replicate by false }
+        ensures list { row A.Store.BitStore O.BitOrder (A.words self.new) ≡ drop by (row A.Store.BitStore O.BitOrder (A.words self.old)) ++ replicate by false }
+        ensures kept { (j : ℕ) → j + by < A.Store.BITS * A.count → slice_get (row A.Store.BitStore O.BitOrder (A.words self.new)) j ≡ slice_get (row A.Store.BitStore O.BitOrder (A.words self.old)) (j + by) }
+        ensures cleared { (j : ℕ) → A.Store.BITS * A.count ≤ j + by → j < A.Store.BITS * A.count → slice_get (row A.Store.BitStore O.BitOrder (A.words self.new)) j ≡ Some false }
     {
         let len = self.len();
         let words = self.inner.as_raw_mut_slice();
@@ -75,7 +82,9 @@ impl<A: BitViewSized, O: BitOrder> BitArray<A, O> {
     /// ```
     pub fn shift_right(&mut self, by: usize)
         requires { by ≤ A.Store.BITS * A.count }
-        ensures { row A.Store.BitStore O.BitOrder (A.words self.new) ≡ replicate by false ++ take (A.Store.BITS * A.count - by) (row A.Store.BitStore O.BitOrder (A.words self.old)) }
+        ensures list { row A.Store.BitStore O.BitOrder (A.words self.new) ≡ replicate by false ++ take (A.Store.BITS * A.count - by) (row A.Store.BitStore O.BitOrder (A.words self.old)) }
+        ensures kept { (j : ℕ) → j + by < A.Store.BITS * A.count → slice_get (row A.Store.BitStore O.BitOrder (A.words self.new)) (j + by) ≡ slice_get (row A.Store.BitStore O.BitOrder (A.words self.old)) j }
+        ensures cleared { (j : ℕ) → j < by → slice_get (row A.Store.BitStore O.BitOrder (A.words self.new)) j ≡ Some false }
     {
         let len = self.len();
         let words = self.inner.as_raw_mut_slice();

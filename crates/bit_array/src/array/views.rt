@@ -1,5 +1,6 @@
 //! Views of the array, and its words.
-ghost use Rattle.std.specs.Prelude.{◌≡◌, ℕ, ◌*◌, length};
+ghost use Rattle.std.specs.Prelude.{◌≡◌, ℕ, ◌+◌, ◌-◌, ◌*◌, ◌/◌, ◌%◌, ◌≤◌, length, slice_range};
+ghost use Rattle.bit_addressing.specs.Row.{words_for};
 ghost use Rattle.std.specs.Borrow.{sem};
 ghost use Rattle.bit_addressing.specs.Typed.{row, words_from, words_for_list};
 ghost use Rattle.bit_slice.specs.BitSlice.{words_of, head_of, len_of, list_of};
@@ -10,7 +11,7 @@ ghost use Rattle.bit_array.specs.contracts.array.BitArray.{the_row};
 use crate::array::BitArray;
 use crate::sized::{BitViewSized, BitWords};
 use bit_addressing::{BitOrder, BitStore, exact_words};
-use bit_slice::{BitSlice, BitSliceMut};
+use bit_slice::{BitSlice, BitSliceMut, run_mut};
 
 impl<A: BitWords, O: BitOrder> BitArray<A, O> {
     /// The view of the array's bits, for reading.
@@ -88,6 +89,26 @@ impl<A: BitViewSized, O: BitOrder> BitArray<A, O> {
         ensures list { lent_list result ≡ row A.Store.BitStore O.BitOrder (A.words self.old) }
     {
         self.as_mut_bitslice()
+    }
+
+    /// The part of the array from index `from` up to index `upto`, for writing. Requires that `from..upto` is a range of the
+    /// length.
+    ///
+    /// The clauses say of the part its list, head and words. What is written through it is in the array afterwards, and the other bits
+    /// stay, which no clause says: a caller whose own proof needs it calls `fill_range`, `flip_range`, `copy_into` or `or_range`.
+    ///
+    /// ```text
+    /// of 01101001: bits.part_mut(1, 4).fill(false) leaves 00001001
+    /// ```
+    pub fn part_mut(&mut self, from: usize, upto: usize) -> BitSliceMut<'_, A::Store, O>
+        requires ordered { from ≤ upto }
+        requires inside { upto ≤ A.Store.BITS * A.count }
+        ensures words { lent_words result ≡ slice_range (A.words self.old) (from / A.Store.BITS) (from / A.Store.BITS + words_for A.Store.BITS (from % A.Store.BITS + (upto - from))) }
+        ensures head { lent_head result ≡ from % A.Store.BITS }
+        ensures len { lent_len result ≡ upto - from }
+        ensures list { lent_list result ≡ slice_range (row A.Store.BitStore O.BitOrder (A.words self.old)) from upto }
+    {
+        run_mut::<A::Store, O>(self.inner.as_raw_mut_slice(), from, upto)
     }
 
     /// The words, for writing: what is written lands in the array.

@@ -1,5 +1,5 @@
 //! The bits of the box in another order, reversed, rotated and shifted, and combined with others of it.
-ghost use Rattle.std.specs.Prelude.{◌≡◌, ◌+◌, ◌-◌, ◌≤◌, ◌++◌, drop, false, length, replicate, reverse, slice_range, take};
+ghost use Rattle.std.specs.Prelude.{◌≡◌, ℕ, ◌+◌, ◌-◌, ◌<◌, ◌≤◌, ◌++◌, Some, drop, false, length, replicate, reverse, slice_get, slice_range, take};
 ghost use Rattle.bit_addressing.specs.Range.{LiesIn};
 ghost use Rattle.bit_addressing.specs.Row.{put};
 ghost use Rattle.bit_boxed.specs.BitBox.{IsClean, Stayed};
@@ -17,9 +17,10 @@ impl<T: BitStore, O: BitOrder> BitBox<T, O> {
     /// ```text
     /// of 01101001: bits.reverse() leaves 10010110
     /// ```
-    #[tactic(auto, using(bit_slice::proofs::Parts::shown_length))]
+    #[tactic(auto, using(bit_slice::proofs::Parts::shown_length, bit_slice::proofs::Moved::reversed_at))]
     pub fn reverse(&mut self)
         ensures list { self.new.list ≡ reverse self.old.list }
+        ensures index { (j : ℕ) → j < length self.old.list → slice_get self.new.list j ≡ slice_get self.old.list (length self.old.list - 1 - j) }
         ensures row { self.new.row ≡ put self.old.row self.old.head (reverse self.old.list) }
         ensures clean { IsClean T.BITS self.old → IsClean T.BITS self.new }
         ensures stayed { Stayed self.old self.new }
@@ -34,10 +35,12 @@ impl<T: BitStore, O: BitOrder> BitBox<T, O> {
     /// ```text
     /// of 01101001: bits.rotate_left(2) leaves 10100101
     /// ```
-    #[tactic(auto, using(bit_slice::proofs::Parts::shown_length))]
+    #[tactic(auto, using(bit_slice::proofs::Parts::shown_length, bit_slice::proofs::Moved::rotated_front, bit_slice::proofs::Moved::rotated_back))]
     pub fn rotate_left(&mut self, by: usize)
         requires { by ≤ length self.old.list }
         ensures list { self.new.list ≡ drop by self.old.list ++ take by self.old.list }
+        ensures front { (j : ℕ) → j + by < length self.old.list → slice_get self.new.list j ≡ slice_get self.old.list (j + by) }
+        ensures back { (j : ℕ) → j < by → slice_get self.new.list (length self.old.list - by + j) ≡ slice_get self.old.list j }
         ensures row { self.new.row ≡ put self.old.row self.old.head (drop by self.old.list ++ take by self.old.list) }
         ensures clean { IsClean T.BITS self.old → IsClean T.BITS self.new }
         ensures stayed { Stayed self.old self.new }
@@ -52,10 +55,12 @@ impl<T: BitStore, O: BitOrder> BitBox<T, O> {
     /// ```text
     /// of 01101001: bits.rotate_right(2) leaves 01011010
     /// ```
-    #[tactic(auto, using(bit_slice::proofs::Parts::shown_length))]
+    #[tactic(auto, using(bit_slice::proofs::Parts::shown_length, bit_slice::proofs::Moved::rotated_right_front, bit_slice::proofs::Moved::rotated_right_back))]
     pub fn rotate_right(&mut self, by: usize)
         requires { by ≤ length self.old.list }
         ensures list { self.new.list ≡ drop (length self.old.list - by) self.old.list ++ take (length self.old.list - by) self.old.list }
+        ensures front { (j : ℕ) → j < by → slice_get self.new.list j ≡ slice_get self.old.list (length self.old.list - by + j) }
+        ensures back { (j : ℕ) → j + by < length self.old.list → slice_get self.new.list (j + by) ≡ slice_get self.old.list j }
         ensures row { self.new.row ≡ put self.old.row self.old.head (drop (length self.old.list - by) self.old.list ++ take (length self.old.list - by) self.old.list) }
         ensures clean { IsClean T.BITS self.old → IsClean T.BITS self.new }
         ensures stayed { Stayed self.old self.new }
@@ -70,10 +75,12 @@ impl<T: BitStore, O: BitOrder> BitBox<T, O> {
     /// ```text
     /// of 01101001: bits.shift_left(2) leaves 10100100
     /// ```
-    #[tactic(auto, using(bit_slice::proofs::Parts::shown_length))]
+    #[tactic(auto, using(bit_slice::proofs::Parts::shown_length, bit_slice::proofs::Moved::shifted_left_at, bit_slice::proofs::Moved::shifted_left_end))]
     pub fn shift_left(&mut self, by: usize)
         requires { by ≤ length self.old.list }
         ensures list { self.new.list ≡ drop by self.old.list ++ replicate by false }
+        ensures kept { (j : ℕ) → j + by < length self.old.list → slice_get self.new.list j ≡ slice_get self.old.list (j + by) }
+        ensures cleared { (j : ℕ) → length self.old.list ≤ j + by → j < length self.old.list → slice_get self.new.list j ≡ Some false }
         ensures row { self.new.row ≡ put self.old.row self.old.head (drop by self.old.list ++ replicate by false) }
         ensures clean { IsClean T.BITS self.old → IsClean T.BITS self.new }
         ensures stayed { Stayed self.old self.new }
@@ -88,10 +95,12 @@ impl<T: BitStore, O: BitOrder> BitBox<T, O> {
     /// ```text
     /// of 01101001: bits.shift_right(2) leaves 00011010
     /// ```
-    #[tactic(auto, using(bit_slice::proofs::Parts::shown_length))]
+    #[tactic(auto, using(bit_slice::proofs::Parts::shown_length, bit_slice::proofs::Moved::shifted_right_at, bit_slice::proofs::Moved::shifted_right_front))]
     pub fn shift_right(&mut self, by: usize)
         requires { by ≤ length self.old.list }
         ensures list { self.new.list ≡ replicate by false ++ take (length self.old.list - by) self.old.list }
+        ensures kept { (j : ℕ) → j + by < length self.old.list → slice_get self.new.list (j + by) ≡ slice_get self.old.list j }
+        ensures cleared { (j : ℕ) → j < by → slice_get self.new.list j ≡ Some false }
         ensures row { self.new.row ≡ put self.old.row self.old.head (replicate by false ++ take (length self.old.list - by) self.old.list) }
         ensures clean { IsClean T.BITS self.old → IsClean T.BITS self.new }
         ensures stayed { Stayed self.old self.new }

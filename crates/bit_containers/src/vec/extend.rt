@@ -8,7 +8,7 @@ ghost use Rattle.bit_slice.specs.BitSlice.{len_of, list_of};
 
 use crate::vec::BitVec;
 use bit_addressing::{
-    BitOrder, BitStore, GrowError, MAX_BITS, RangeExt, copy_bits_in_vec, fill_bits_in_vec,
+    BitOrder, BitStore, GrowError, MAX_BITS, RangeExt, append_run_in_vec, copy_bits_in_vec,
     move_bits_in_vec, resize_words_in_vec, write_chunk_in_vec,
 };
 use bit_slice::BitSlice;
@@ -107,8 +107,7 @@ impl<T: BitStore, O: BitOrder> BitVec<T, O> {
             return Err(GrowError::TooLong);
         }
         let (end, upto) = (self.head + self.len, self.head + n);
-        resize_words_in_vec::<T, O>(&mut self.words, upto)?;
-        fill_bits_in_vec::<T, O>(&mut self.words, end, upto, bit);
+        append_run_in_vec::<T, O>(&mut self.words, end, upto, bit)?;
         self.len = n;
         Ok(())
     }

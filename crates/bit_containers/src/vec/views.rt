@@ -9,11 +9,11 @@ ghost use Rattle.bit_slice.specs.BitSliceMut.{words_of as lent_words, head_of as
 ghost use Rattle.bit_containers.specs.BitVec.{IsClean};
 
 use crate::vec::BitVec;
-use bit_addressing::{BitOrder, BitStore, RangeExt, exact_words};
+use bit_addressing::{BitOrder, BitStore, RangeExt, elts, exact_words};
 use bit_slice::{BitSlice, BitSliceMut};
 
 impl<T: BitStore, O: BitOrder> BitVec<T, O> {
-    ghost use Rattle.bit_containers.specs.Lends.{lends_words, lends_view};
+    ghost use Rattle.bit_containers.specs.Lends.{lends_run, lends_words, lends_view};
 
     /// The view of the vector's bits, for reading.
     ///
@@ -76,6 +76,32 @@ impl<T: BitStore, O: BitOrder> BitVec<T, O> {
         ensures list { lent_list result ≡ self.old.list }
     {
         self.as_mut_bitslice()
+    }
+
+    /// The part of the vector from index `from` up to index `upto`, for writing: what is written lands in the vector, and
+    /// the words around the part stay. Takes no memory. Requires that `from..upto` is a range of the length.
+    ///
+    /// The clauses say of the part its list, head and words. What a caller's own proof has to know of the whole vector
+    /// after a write is said by the calls that take a range: `fill_range`, `flip_range`, `copy_into` and `or_range`.
+    ///
+    /// ```text
+    /// of 01101001: bits.part_mut(1, 4).fill(false) leaves 00001001
+    /// ```
+    pub fn part_mut(&mut self, from: usize, upto: usize) -> BitSliceMut<'_, T, O>
+        requires ordered { from ≤ upto }
+        requires inside { upto ≤ length self.old.list }
+        ensures* writes_back { sem 𝓛 (lends_run T.row O.row T.BitStore O.BitOrder self.entry ((self.old.head + from) / T.BITS) (loan_of result)) }
+        ensures words { let first = (self.old.head + from) / T.BITS in lent_words result ≡ slice_range self.old.words first (first + words_for T.BITS (lent_head result + lent_len result)) }
+        ensures head { lent_head result ≡ (self.old.head + from) % T.BITS }
+        ensures len { lent_len result ≡ upto - from }
+        ensures list { lent_list result ≡ slice_range self.old.list from upto }
+    {
+        let width = T::BITS as usize;
+        let at = self.head + from;
+        let (head, first) = (at % width, at / width);
+        let len = upto - from;
+        let count = elts::<T>(head + len);
+        BitSliceMut::from_parts_mut(self.words.slice_mut(first..first + count), head, len)
     }
 
     /// The view of the bits at a range of indices, for reading. Requires that the range lies in the length.

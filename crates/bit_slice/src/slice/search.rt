@@ -30,9 +30,30 @@ impl<'a, T: BitStore, O: BitOrder> BitSlice<'a, T, O> {
         read_chunk::<T, O>(self.words, self.head + at, n as u8)
     }
 
-    // The first bits from index `at` on, up to 64 that end with a word, of which one is true: where they begin, where they
-    // end, and they as a number. `upto` twice and 0 where none is true up to there.
+    // Like `chunk_with_one`, where the first bits are searched by the call that finds a bit.
     #[inline(never)]
+    fn chunk_found(self, at: usize, upto: usize) -> (usize, usize, u64)
+        requires ordered { at ≤ upto }
+        requires inside { upto ≤ len_of self }
+        ensures begins { at ≤ result.0 }
+        ensures ends { result.1 ≤ upto }
+        ensures before { IsAbsent true (list_of self.entry) at result.0 }
+        ensures chunk { IsChunk (list_of self.entry) result.0 result.1 result.2 }
+        ensures none { result.2 ≡ 0 → result.0 ≡ upto }
+    {
+        match self.find_next(at, upto, true) {
+            None => (upto, upto, 0),
+            Some(i) => {
+                let n = (64 - (self.head + i) % 64).min(upto - i);
+                (i, i + n, self.chunk_at(i, n))
+            }
+        }
+    }
+
+    // The first bits from index `at` on, up to 64 that end with a word, of which one is true: where they begin, where they
+    // end, and they as a number. `upto` twice and 0 where none is true up to there. The bits up to the next word's end are
+    // read without a call, since most searches end there (docs/SPEED.md, "The bench", ones 67th).
+    #[inline(always)]
     pub(crate) fn chunk_with_one(self, at: usize, upto: usize) -> (usize, usize, u64)
         requires ordered { at ≤ upto }
         requires inside { upto ≤ len_of self }
@@ -47,13 +68,7 @@ impl<'a, T: BitStore, O: BitOrder> BitSlice<'a, T, O> {
         if chunk != 0 {
             return (at, at + near, chunk);
         }
-        match self.find_next(at + near, upto, true) {
-            None => (upto, upto, 0),
-            Some(i) => {
-                let n = (64 - (self.head + i) % 64).min(upto - i);
-                (i, i + n, self.chunk_at(i, n))
-            }
-        }
+        self.chunk_found(at + near, upto)
     }
 
     // The last index from `from` up to `upto` with this bit, 64 at a time.

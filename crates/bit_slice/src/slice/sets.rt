@@ -7,7 +7,9 @@ ghost use Rattle.bit_slice.specs.Operators.{combined, and_of, or_of, xor_of, and
 
 use crate::edits::AndNot;
 use crate::slice::BitSlice;
-use bit_addressing::{And, BitOperator, BitOrder, BitStore, Or, Xor, read_chunk};
+use bit_addressing::{
+    And, BitOperator, BitOrder, BitStore, Or, Xor, count_blocks, false_blocks, read_chunk,
+};
 
 // The `n` bits from index `at` on that the operator makes of two views, as a number.
 #[inline(always)]
@@ -28,7 +30,8 @@ fn pair_chunk<F: BitOperator, T: BitStore, O: BitOrder, U: BitStore, P: BitOrder
     F::apply::<u64>(old, new)
 }
 
-// How many of the first `upto` bits are true that the operator makes of two views.
+// How many of the first `upto` bits are true that the operator makes of two views: those of whole words that lie alike first, and
+// the others 64 at a time.
 fn count_pairs<F: BitOperator, T: BitStore, O: BitOrder, U: BitStore, P: BitOrder>(
     left: BitSlice<'_, T, O>,
     right: BitSlice<'_, U, P>,
@@ -39,9 +42,11 @@ fn count_pairs<F: BitOperator, T: BitStore, O: BitOrder, U: BitStore, P: BitOrde
     requires right { upto ≤ len_of right }
     ensures { result ≡ count_by (λ b. b) (slice_range (combined F.made (list_of left.entry) (list_of right.entry)) 0 upto) }
 {
+    let (a, i, b, j) = (left.words, left.head, right.words, right.head);
+    let (start, front) = count_blocks::<F, T, O, U, P>(a, i, b, j, upto);
     let blocks = upto / 64;
-    let mut count = 0usize;
-    for t in 0..blocks {
+    let mut count = front;
+    for t in start..blocks {
         let chunk = pair_chunk::<F, T, O, U, P>(left, right, t * 64, 64);
         count += chunk.count_ones() as usize;
     }
@@ -49,7 +54,8 @@ fn count_pairs<F: BitOperator, T: BitStore, O: BitOrder, U: BitStore, P: BitOrde
     count + rest.count_ones() as usize
 }
 
-// Whether one of the first `upto` bits is true that the operator makes of two views.
+// Whether one of the first `upto` bits is true that the operator makes of two views: by many words at a time up to the first
+// that has one, and then 64 at a time.
 fn any_pair<F: BitOperator, T: BitStore, O: BitOrder, U: BitStore, P: BitOrder>(
     left: BitSlice<'_, T, O>,
     right: BitSlice<'_, U, P>,
@@ -60,8 +66,10 @@ fn any_pair<F: BitOperator, T: BitStore, O: BitOrder, U: BitStore, P: BitOrder>(
     requires right { upto ≤ len_of right }
     ensures { result ≡ list_any (λ b. b) (slice_range (combined F.made (list_of left.entry) (list_of right.entry)) 0 upto) }
 {
+    let (a, i, b, j) = (left.words, left.head, right.words, right.head);
+    let start = false_blocks::<F, T, O, U, P>(a, i, b, j, upto);
     let blocks = upto / 64;
-    for t in 0..blocks {
+    for t in start..blocks {
         if pair_chunk::<F, T, O, U, P>(left, right, t * 64, 64) != 0 {
             return true;
         }

@@ -28,7 +28,7 @@ pub enum Reply {
 
 impl FreeMap {
     /// Serves requests one after another, and returns the reply to each. No frame is handed out twice, unless a
-    /// request between gave it back. Takes memory for the replies alone, and first; refused, nothing changes.
+    /// request between gave it back. Takes memory for the replies alone, and first: refused, there is a request, and nothing changes.
     ///
     /// ```text
     /// frames.serve(alloc, &[Request::Take(4), Request::GiveBack(0, 2), Request::Take(1)])?
@@ -37,9 +37,11 @@ impl FreeMap {
     pub fn serve(&mut self, alloc: Global, requests: &[Request]) -> Result<Vec<Reply>, AllocError>
         ensures served { IfOk result (λ replies. HaveServed self.old requests.now replies.items self.new) }
         ensures never_twice { IfOk result (λ replies. IsNeverTwice requests.now replies.items) }
+        ensures memory { OnErr result (0 < length requests.now) }
         ensures refused { OnErr result (self.new ≡ self.old) }
     {
-        let mut replies = vec![in alloc; Reply::Refused; requests.len()]?;
+        let mut replies = Vec::with_capacity(alloc, requests.len())?;
+        replies.resize(requests.len(), Reply::Refused)?;
         for (i, request) in requests.iter().enumerate() {
             replies[i] = self.serve_one(*request);
         }

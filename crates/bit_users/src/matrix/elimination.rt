@@ -1,14 +1,15 @@
 //! The inverse of a matrix mod 2, by elimination.
-ghost use Rattle.std.specs.Prelude.{◌≡◌, ◌≢◌, ◌+◌, ◌<◌, ◌≤◌, ℕ, Bool, false, true, IfNone, IfOk, IfSome, MatchOption, OnErr};
+ghost use Rattle.std.specs.Prelude.{◌≡◌, ◌≢◌, ◌+◌, ◌<◌, ◌≤◌, ◌↔◌, ℕ, Bool, false, true, IfNone, IfOk, IfSome, IsSome, MatchOption, OnErr};
 ghost use Rattle.bit_users.specs.Elimination.{AreLinked, AreUnits, IsAdded};
 ghost use Rattle.bit_users.specs.Matrix.{AreAlike, Grid, IsInverse, item};
+ghost use Rattle.bit_users.specs.Rank.{IsRank};
 
 use crate::matrix::Matrix;
 use std::alloc::{AllocError, Global};
 
 impl Matrix {
     /// The inverse mod 2, by Gauss-Jordan elimination over whole rows: the products with it are the identity from both
-    /// sides. None exactly where no matrix is the inverse. Takes memory where there is a bit, and is refused only
+    /// sides. None exactly where no matrix is the inverse, which is where the rank is less than the number of rows. Takes memory where there is a bit, and is refused only
     /// then. Requires that the matrix is square.
     ///
     /// ```text
@@ -18,6 +19,7 @@ impl Matrix {
         requires { self.now.rows ≡ self.now.columns }
         ensures inverse { IfOk result (λ found. IfSome found (λ m. IsInverse self.now m)) }
         ensures none { IfOk result (λ found. IfNone found ((m : Grid) → IsInverse self.now m → ⊥)) }
+        ensures full_rank { IfOk result (λ found. IsSome found ↔ IsRank self.now self.now.rows) }
         ensures memory { OnErr result (0 < self.now.rows) }
     {
         let mut work = self.clone()?;

@@ -1,13 +1,22 @@
-//! Rows into columns.
-ghost use Rattle.std.specs.Prelude.{◌≡◌, ◌≢◌, ◌*◌, ◌<◌, ℕ, IfOk, OnErr};
+//! Rows into columns, by squares of 64 x 64 bits.
+ghost use Rattle.std.specs.Prelude.{◌≡◌, ◌≢◌, ◌+◌, ◌*◌, ◌<◌, ◌≤◌, ◌⊎◌, ℕ, IfOk, OnErr};
+ghost use Rattle.bit_addressing.specs.Bits.{has_bit};
 ghost use Rattle.bit_users.specs.Matrix.{AreAlike, item};
+ghost use Rattle.bit_users.specs.Squares.{square_bit};
 
 use crate::matrix::Matrix;
+use crate::matrix::squares::turn;
+use bit_addressing::Lsb0;
+use bit_containers::BitSlice;
 use std::alloc::{AllocError, Global};
 
 impl Matrix {
-    /// The matrix whose rows are the columns of this one. Takes memory where there is a bit, and is refused
-    /// only then.
+    /// The matrix whose rows are the columns of this one, by squares of 64 x 64 bits. Takes memory where there is a bit, and is
+    /// refused only then.
+    ///
+    /// ```text
+    /// of the rows 110 and 001: m.transpose(alloc)? has the rows 10, 10 and 01
+    /// ```
     pub fn transpose(&self, alloc: Global) -> Result<Self, AllocError>
         ensures rows { IfOk result (λ m. m.rows ≡ self.now.columns) }
         ensures columns { IfOk result (λ m. m.columns ≡ self.now.rows) }
@@ -17,23 +26,84 @@ impl Matrix {
         let Ok(mut turned) = Self::new(alloc, self.columns(), self.rows()) else {
             return Err(AllocError);
         };
-        for row in 0..self.rows() {
-            self.write_row_as_column(row, &mut turned);
+        if self.rows() == 0 {
+            return Ok(turned);
+        }
+        for band in 0..self.columns().div_ceil(64) {
+            self.turn_band(64 * band, &mut turned);
         }
         Ok(turned)
     }
 
-    // Writes a row into the column of its index in a matrix that is turned against this one.
-    fn write_row_as_column(&self, row: usize, turned: &mut Self)
-        requires row { row < self.now.rows }
+    // Writes up to 64 columns, from `left` on, as rows of their indices into a matrix that is turned against this one.
+    fn turn_band(&self, left: usize, turned: &mut Self)
+        requires left { left < self.now.columns }
         requires rows { turned.old.rows ≡ self.now.columns }
         requires columns { turned.old.columns ≡ self.now.rows }
         ensures alike { AreAlike turned.new turned.old }
-        ensures column { (i : ℕ) → i < self.now.columns → item turned.new i row ≡ item self.now row i }
-        ensures others { (i j : ℕ) → i < self.now.columns → j < self.now.rows → j ≢ row → item turned.new i j ≡ item turned.old i j }
+        ensures band { (i j : ℕ) → left ≤ i → i < left + 64 → i < self.now.columns → j < self.now.rows → item turned.new i j ≡ item self.now j i }
+        ensures others { (i j : ℕ) → i < self.now.columns → j < self.now.rows → (i < left) ⊎ (left + 64 ≤ i) → item turned.new i j ≡ item turned.old i j }
     {
-        for column in 0..self.columns() {
-            turned.set(column, row, self.get(row, column));
+        for part in 0..self.rows().div_ceil(64) {
+            let mut square = self.read_square(64 * part, left);
+            turn(&mut square);
+            turned.write_square(left, 64 * part, &square);
         }
+    }
+
+    // Up to 64 rows from `top` on, and of each up to 64 columns from `left` on.
+    fn read_square(&self, top: usize, left: usize) -> [u64; 64]
+        requires top { top < self.now.rows }
+        requires left { left < self.now.columns }
+        ensures { (i j : ℕ) → i < 64 → j < 64 → top + i < self.now.rows → left + j < self.now.columns → square_bit result i j ≡ item self.now (top + i) (left + j) }
+    {
+        let mut square = [0u64; 64];
+        let count = (self.columns() - left).min(64);
+        for row in 0..(self.rows() - top).min(64) {
+            square[row] = self.read_part(top + row, left, count);
+        }
+        square
+    }
+
+    // Writes such a square, as far as there are rows and columns.
+    fn write_square(&mut self, top: usize, left: usize, square: &[u64; 64])
+        requires top { top < self.old.rows }
+        requires left { left < self.old.columns }
+        ensures alike { AreAlike self.new self.old }
+        ensures inside { (i j : ℕ) → i < 64 → j < 64 → top + i < self.old.rows → left + j < self.old.columns → item self.new (top + i) (left + j) ≡ square_bit square.now i j }
+        ensures others { (i j : ℕ) → i < self.old.rows → j < self.old.columns → (i < top) ⊎ (top + 64 ≤ i) ⊎ (j < left) ⊎ (left + 64 ≤ j) → item self.new i j ≡ item self.old i j }
+    {
+        let count = (self.columns() - left).min(64);
+        for row in 0..(self.rows() - top).min(64) {
+            self.write_part(top + row, left, count, square[row]);
+        }
+    }
+
+    // Up to 64 bits of a row, from a column on, as a number: bit `j` is the one in column `column + j`.
+    fn read_part(&self, row: usize, column: usize, count: usize) -> u64
+        requires row { row < self.now.rows }
+        requires few { count ≤ 64 }
+        requires within { column + count ≤ self.now.columns }
+        ensures { (j : ℕ) → j < count → has_bit result j ≡ item self.now row (column + j) }
+    {
+        let start = row * self.columns + column;
+        self.bits.get_range(start..start + count).load_le()
+    }
+
+    // Writes such a number.
+    fn write_part(&mut self, row: usize, column: usize, count: usize, number: u64)
+        requires row { row < self.old.rows }
+        requires few { count ≤ 64 }
+        requires within { column + count ≤ self.old.columns }
+        ensures alike { AreAlike self.new self.old }
+        ensures part { (j : ℕ) → j < count → item self.new row (column + j) ≡ has_bit number j }
+        ensures others { (i j : ℕ) → i < self.old.rows → j < self.old.columns → (i ≢ row) ⊎ (j < column) ⊎ (column + count ≤ j) → item self.new i j ≡ item self.old i j }
+    {
+        let start = row * self.columns + column;
+        let words = [number];
+        self.bits.copy_into(
+            start..start + count,
+            BitSlice::<u64, Lsb0>::from_slice(&words).get_range(0..count),
+        );
     }
 }

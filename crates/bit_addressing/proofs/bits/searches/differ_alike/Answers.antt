@@ -1,17 +1,22 @@
-use Rattle.std.proofs.Common.{◌≡◌, ℕ, ◌+◌, ◌*◌, ◌/◌, ◌%◌, ◌≤◌, ◌<◌, [], ◌∷◌, List, bit_xor, length, map, slice_range, w64, refl, sym, ◌∙◌, ap, subst, get_or, arith}
+use Rattle.std.proofs.Common.{◌≡◌, ◌≢◌, ℕ, Bool, true, false, not, ◌&&◌, if◌then◌else◌, inl, inr, ◌+◌, ◌*◌, ◌/◌, ◌%◌, ◌≤◌, ◌<◌, [], mod-lt, ◌∷◌, List, bit_xor, length, map, slice_range, w64, refl, sym, ◌∙◌, ap, subst, get_or, arith}
 use Rattle.std.specs.Int.{trailing_zeros}
+use Rattle.std.specs.Prelude.{ltb}
+use Rattle.std.proofs.lemmas.Bool.{cases_lt, le-ltb, lt-ltb}
+use Rattle.std.proofs.lemmas.List.{get_or_past}
 use Rattle.std.proofs.lemmas.Nat.{div-add-mod', xor_lt}
 use Rattle.bit_addressing.specs.Bits.{has_bit}
 use Rattle.bit_addressing.specs.Row.{number_of, row_of, IsFirstDifference}
 use Rattle.bit_addressing.specs.Typed.{row}
-use Rattle.bit_addressing.proofs.Differs.{AreAlike, alike_all, alike_more, alike_run, differ_here}
+use Rattle.bit_addressing.proofs.Differs.{AreAlike, alike_all, alike_each, alike_more, alike_run, bit_here, differ_by, differ_here, same_if, turned_none, word_here}
+use Rattle.bit_addressing.proofs.Chunks.{has_number}
 use Rattle.bit_addressing.proofs.Packs.{same_word}
-use Rattle.bit_addressing.proofs.Rows.{width_positive}
+use Rattle.bit_addressing.proofs.Rows.{get_or-row_one, width_positive}
 use Rattle.bit_addressing.proofs.Runs.{inside_words}
 use Rattle.bit_addressing.proofs.Wholes.{word_in_run}
+use Rattle.bit_addressing.proofs.Words.{has_none}
 use Rattle.bit_addressing.proofs.lists.Shown.{length-run}
 use Rattle.bit_addressing.proofs.lists.Sized.{right_sum, one_more_word}
-use Rattle.bit_addressing.proofs.Typed.{length_row, row_whole}
+use Rattle.bit_addressing.proofs.Typed.{length_row}
 use Rattle.bit_addressing.proofs.bits.searches.differ_alike.Given as given
 use Rattle.bit_addressing.proofs.bits.searches.differ_alike.Goals as goal
 use Rattle.bit_addressing.proofs.bits.searches.differ_alike.Goals.{then-to_u64+else-apart-ne0, else-to_u64}
@@ -26,8 +31,7 @@ module _ {X : Type 0} (value : X → ℕ) (place : ℕ → ℕ → ℕ) (w : ℕ
   word_of_run u d k n t word width e h inside is =
       let within = word_in_run d w n t e h in
       let at : k * w + t * w ≡ (k + t) * w = sym (right_sum k t w) in
-      let there : k + t < length ws = inside_words w (k + t) (length ws) (k * w + t * w) at (omega arith) in
-      rw width (row_whole value place w ws (k + t) (k * w + t * w) (k * w + t * w + w) word positive there is at (ap (λ m. m + w) at))
+      word_here value place w u ws k t word positive width (inside_words w (k + t) (length ws) (k * w + t * w) at (omega arith)) is
 
 first_in : (g : given.Over) (c : goal.Then-apart-ne0 g) → IsFirstDifference (slice_range (row g.T.BitStore g.O.BitOrder c.args.a.now) (c.args.k * g.T.BitStore.BITS) (c.args.k * g.T.BitStore.BITS + c.args.n)) (slice_range (row g.U.BitStore g.P.BitOrder c.args.b.now) (c.args.l * g.T.BitStore.BITS) (c.args.l * g.T.BitStore.BITS + c.args.n)) (c.loop-t.t * c.BITS-width.result + trailing_zeros w64 (bit_xor c.word_number.result c.word_number-then-to_u64.result))
 first_in g c =
@@ -150,3 +154,116 @@ overflow_add-result-2 g c =
 
 pub returns : goal.returns
 returns g c = last_in g c
+
+and_true : (b : Bool) → (b && true) ≡ b
+and_true true = refl
+and_true false = refl
+
+and_false : (b : Bool) → (b && false) ≡ false
+and_false true = refl
+and_false false = refl
+
+-- the word whose bits are those that differ below index `rest`, of word s of two runs that begin with words k and l
+module _ {X Y : Type 0} (value : X → ℕ) (other : Y → ℕ) (place order : ℕ → ℕ → ℕ) (w u : ℕ) (a : List X) (b : List Y) (k l s rest v : ℕ) (x : X) (y : Y) (positive : 0 < w) (width : u ≡ w) (few : rest ≤ w)
+    (bits : (q : ℕ) → q < w → has_bit v (place w q) ≡ ((if get_or (row_of place w (value x ∷ [])) q false then not (get_or (row_of order u (other y ∷ [])) q false) else get_or (row_of order u (other y ∷ [])) q false) && ltb q rest)) where
+  apart_past : (q : ℕ) → q < w → rest ≤ q → has_bit v (place w q) ≡ false
+  apart_past q h past = bits q h ∙ ap (λ t. (if get_or (row_of place w (value x ∷ [])) q false then not (get_or (row_of order u (other y ∷ [])) q false) else get_or (row_of order u (other y ∷ [])) q false) && t) (le-ltb q rest past)
+      ∙ and_false (if get_or (row_of place w (value x ∷ [])) q false then not (get_or (row_of order u (other y ∷ [])) q false) else get_or (row_of order u (other y ∷ [])) q false)
+
+  module _ (here : k + s < length a) (there : l + s < length b) (is_x : x ≡ get_or a (k + s) x) (is_y : y ≡ get_or b (l + s) y) where
+    tells_apart : (q : ℕ) → q < rest → has_bit v (place w q) ≡ (if get_or (row_of place w (map value a)) (k * w + (s * w + q)) false then not (get_or (row_of order u (map other b)) (l * w + (s * w + q)) false) else get_or (row_of order u (map other b)) (l * w + (s * w + q)) false)
+    tells_apart q h =
+        let inside : q < w = omega arith in
+        bits q inside
+        ∙ ap (λ t. (if get_or (row_of place w (value x ∷ [])) q false then not (get_or (row_of order u (other y ∷ [])) q false) else get_or (row_of order u (other y ∷ [])) q false) && t) (lt-ltb q rest h)
+        ∙ and_true (if get_or (row_of place w (value x ∷ [])) q false then not (get_or (row_of order u (other y ∷ [])) q false) else get_or (row_of order u (other y ∷ [])) q false)
+        ∙ ap (λ t. if t then not (get_or (row_of order u (other y ∷ [])) q false) else get_or (row_of order u (other y ∷ [])) q false) (bit_here value place w w a k s x positive refl here is_x q inside)
+        ∙ ap (λ t. if get_or (row_of place w (map value a)) (k * w + (s * w + q)) false then not t else t) (bit_here other order w u b l s y positive width there is_y q inside)
+
+pub returns-then-to_u64-eq0 : goal.returns-then-to_u64-eq0
+returns-then-to_u64-eq0 g c =
+    let w = g.T.BitStore.BITS in
+    let u = g.U.BitStore.BITS in
+    let d = c.BITS-width.result in
+    let e = c.BITS-width.ensures in
+    let n = c.args.n in
+    let k = c.args.k in
+    let l = c.args.l in
+    let a = c.args.a.now in
+    let b = c.args.b.now in
+    let place = g.O.BitOrder.place in
+    let xs = row g.T.BitStore g.O.BitOrder a in
+    let ys = row g.U.BitStore g.P.BitOrder b in
+    let first : length xs ≡ w * length a = length_row g.T.BitStore.value place w a in
+    let second : length ys ≡ w * length b = length_row g.U.BitStore.value g.P.BitOrder.place u b ∙ ap (λ m. m * length b) c.requires.width in
+    let whole : ℕ = n / d in
+    let rest : ℕ = n % d in
+    let positive = width_positive w g.met.T.BitStore.width in
+    let split = div-add-mod' n d in
+    let under : n % d < d = mod-lt n (omega arith) in
+    let wide : whole * d ≡ whole * w = ap (λ m. whole * m) e in
+    let all : c.loop-t.t ≡ whole = omega arith in
+    let few : rest ≤ w = omega arith in
+    let here : k + whole < length a = inside_words w (k + whole) (length a) (k * w + whole * w) (sym (right_sum k whole w)) (omega arith) in
+    let there : l + whole < length b = inside_words w (l + whole) (length b) (l * w + whole * w) (sym (right_sum l whole w)) (omega arith) in
+    let v = g.T.BitStore.value c.first_bits_apart-apart.result in
+    let tells = tells_apart g.T.BitStore.value g.U.BitStore.value place g.P.BitOrder.place w u a b k l whole rest v c.index-a-k-then-rest-gt0.result c.index-b-l-then-rest-gt0.result positive c.requires.width few c.first_bits_apart-apart.ensures here there c.index-a-k-then-rest-gt0.is c.index-b-l-then-rest-gt0.is in
+    let clear : (q : ℕ) → q < rest → has_bit v (place w q) ≡ false = λ q h.
+    let p : ℕ = place w q in
+    let below = (g.met.O.BitOrder.lawful w g.met.T.BitStore.width).in_range q (omega arith) in
+    sym (c.to_u64-then-rest-gt0.ensures.low p below) ∙ ap (λ m. has_bit m p) c.if-to_u64-eq0.true ∙ has_none p in
+    alike_all xs ys (k * w) (l * w) n (whole * w + rest) (omega arith) (omega arith) (omega arith)
+    (alike_each xs ys (k * w) (l * w) (whole * w) rest (λ q h. same_if (get_or xs (k * w + (whole * w + q)) false) (get_or ys (l * w + (whole * w + q)) false) (sym (tells q h) ∙ clear q h))
+    (subst (λ m. AreAlike xs ys (k * w) (l * w) (m * w)) all c.loop-t.invariant.alike))
+
+pub returns-then-rest-gt0 : goal.returns-then-rest-gt0
+returns-then-rest-gt0 g c =
+    let w = g.T.BitStore.BITS in
+    let u = g.U.BitStore.BITS in
+    let d = c.BITS-width.result in
+    let e = c.BITS-width.ensures in
+    let n = c.args.n in
+    let k = c.args.k in
+    let l = c.args.l in
+    let a = c.args.a.now in
+    let b = c.args.b.now in
+    let place = g.O.BitOrder.place in
+    let xs = row g.T.BitStore g.O.BitOrder a in
+    let ys = row g.U.BitStore g.P.BitOrder b in
+    let first : length xs ≡ w * length a = length_row g.T.BitStore.value place w a in
+    let second : length ys ≡ w * length b = length_row g.U.BitStore.value g.P.BitOrder.place u b ∙ ap (λ m. m * length b) c.requires.width in
+    let whole : ℕ = n / d in
+    let rest : ℕ = n % d in
+    let positive = width_positive w g.met.T.BitStore.width in
+    let lawful = g.met.O.BitOrder.lawful w g.met.T.BitStore.width in
+    let split = div-add-mod' n d in
+    let under : n % d < d = mod-lt n (omega arith) in
+    let wide : whole * d ≡ whole * w = ap (λ m. whole * m) e in
+    let all : c.loop-t.t ≡ whole = omega arith in
+    let few : rest ≤ w = omega arith in
+    let here : k + whole < length a = inside_words w (k + whole) (length a) (k * w + whole * w) (sym (right_sum k whole w)) (omega arith) in
+    let there : l + whole < length b = inside_words w (l + whole) (length b) (l * w + whole * w) (sym (right_sum l whole w)) (omega arith) in
+    let v = g.T.BitStore.value c.first_bits_apart-apart.result in
+    let z = c.word_number-then-rest-gt0.result in
+    let one : List Bool = row g.T.BitStore g.O.BitOrder (c.first_bits_apart-apart.result ∷ []) in
+    let size : length one ≡ w * 1 = length_row g.T.BitStore.value place w (c.first_bits_apart-apart.result ∷ []) in
+    let number : (q : ℕ) → has_bit z q ≡ get_or one q false = λ q. ap (λ m. has_bit m q) c.word_number-then-rest-gt0.ensures ∙ has_number one q in
+    let turned : (q : ℕ) → q < w → has_bit z q ≡ has_bit v (place w q) = λ q h. number q ∙ get_or-row_one place w v q positive h in
+    let tells = tells_apart g.T.BitStore.value g.U.BitStore.value place g.P.BitOrder.place w u a b k l whole rest v c.index-a-k-then-rest-gt0.result c.index-b-l-then-rest-gt0.result positive c.requires.width few c.first_bits_apart-apart.ensures here there c.index-a-k-then-rest-gt0.is c.index-b-l-then-rest-gt0.is in
+    let past : (q : ℕ) → rest ≤ q → has_bit z q ≡ false = λ q h. elim (cases_lt q w) [
+      | inl m ↦ turned q m ∙ apart_past g.T.BitStore.value g.U.BitStore.value place g.P.BitOrder.place w u a b k l whole rest v c.index-a-k-then-rest-gt0.result c.index-b-l-then-rest-gt0.result positive c.requires.width few c.first_bits_apart-apart.ensures q m h
+      | inr m ↦ number q ∙ get_or_past one q false (omega arith)
+    ] in
+    let some : z ≢ 0 = λ none. c.if-to_u64-eq0.false (turned_none w (place w) v z c.to_u64-then-rest-gt0.result lawful turned c.to_u64-then-rest-gt0.ensures.low c.to_u64-then-rest-gt0.ensures.high c.to_u64-then-rest-gt0.type_inv none) in
+    subst (λ m. IsFirstDifference (slice_range xs (k * w) (k * w + n)) (slice_range ys (l * w) (l * w + n)) (m + trailing_zeros w64 z)) (sym wide)
+    (differ_by xs ys (k * w) (l * w) (whole * w) rest z (λ q h. turned q (omega arith) ∙ tells q h) past n some c.word_number-then-rest-gt0.type_inv (omega arith) (omega arith) (omega arith)
+    (subst (λ m. AreAlike xs ys (k * w) (l * w) (m * w)) all c.loop-t.invariant.alike))
+
+pub overflow_add-result-then-rest-gt0 : goal.overflow_add-result-then-rest-gt0
+overflow_add-result-then-rest-gt0 g c =
+    let xs = row g.T.BitStore g.O.BitOrder c.args.a.now in
+    let i : ℕ = c.args.k * g.T.BitStore.BITS in
+    let first : length xs ≡ g.T.BitStore.BITS * length c.args.a.now = length_row g.T.BitStore.value g.O.BitOrder.place g.T.BitStore.BITS c.args.a.now in
+    let size = length-run xs i c.args.n (omega arith) in
+    let inside = (returns-then-rest-gt0 g c).within in
+    omega arith

@@ -9,31 +9,11 @@ use Rattle.bit_addressing.proofs.Blocks.{stands}
 use Rattle.bit_addressing.proofs.Typed.{length_row}
 use Rattle.bit_addressing.proofs.bits.searches.differ_from.Given as given
 use Rattle.bit_addressing.proofs.bits.searches.differ_from.Goals as goal
-use Rattle.bit_addressing.proofs.bits.searches.differ_from.Goals.{then-left-right+else-apart-ne0, else-left-right, then-skip-eq0+then-over-eq0, else-skip-eq0}
+use Rattle.bit_addressing.proofs.bits.searches.differ_from.Goals.{then-left-right+else-apart-ne0, else-left-right}
 
 -- where a chunk stands, its width written otherwise
 starts : (width w k skip at : ℕ) → width ≡ w → k * width + skip + at ≡ k * w + skip + at
 starts width w k skip at wide = ap (λ n. k * n + skip + at) wide
-
-pub loop-t-init : goal.loop-t-init
-loop-t-init g c =
-    let xs = row g.T.BitStore g.O.BitOrder c.args.a.now in
-    let ys = row g.U.BitStore g.P.BitOrder c.args.b.now in
-    let i : ℕ = c.args.k * g.T.BitStore.BITS in
-    let j : ℕ = c.args.l * g.U.BitStore.BITS in
-    let alike : AreAlike xs ys (i + c.args.skip) (j + c.args.over) (c.if-skip-eq0.start * 64) = elim c.if-skip-eq0.branch [
-      | then-skip-eq0+then-over-eq0 w ↦
-          let n : ℕ = w.equal_blocks-start.result * 64 in
-          let first : i ≡ i + c.args.skip = omega arith in
-          let second : j ≡ j + c.args.over = omega arith in
-          let front : 0 + n ≡ c.if-skip-eq0.start * 64 = omega arith in
-          subst (λ m. AreAlike xs ys m (j + c.args.over) (c.if-skip-eq0.start * 64)) first
-          (subst (λ m. AreAlike xs ys i m (c.if-skip-eq0.start * 64)) second
-          (subst (AreAlike xs ys i j) front
-          (alike_run xs ys i j 0 n i j (omega arith) (omega arith) w.equal_blocks-start.ensures.alike (λ q h. absurd (omega arith)))))
-      | else-skip-eq0 w ↦ λ q h. absurd (omega arith)
-    ] in
-    record { alike = alike }
 
 pub returns-then-apart-ne0 : goal.returns-then-apart-ne0
 returns-then-apart-ne0 g c =

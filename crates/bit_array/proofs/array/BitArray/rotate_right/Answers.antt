@@ -1,11 +1,13 @@
-use Rattle.std.proofs.Common.{◌≡◌, ◌-◌, ◌++◌, drop, take, length, ◌∙◌, ap, arith}
+use Rattle.std.proofs.Common.{◌≡◌, ◌-◌, ◌++◌, drop, take, length, ◌∙◌, ap, arith, ◌+◌, ◌*◌, slice_get, sym}
 use Rattle.bit_slice.proofs.Turned.{rotated_length}
 use Rattle.bit_array.proofs.Arrays.{row_rewritten}
 use Rattle.bit_addressing.specs.Typed.{row}
+use Rattle.bit_addressing.proofs.Typed.{length_row}
+use Rattle.bit_slice.proofs.Moved.{read_later, read_turned}
 use Rattle.bit_array.proofs.array.BitArray.rotate_right.Goals as goal
 
-pub returns : goal.returns
-returns g c =
+pub returns-clause-list : goal.returns-clause-list
+returns-clause-list g c =
     let W = g.A.Store.BitStore in
     let P = g.O.BitOrder in
     let n = g.A.BitWords.count in
@@ -19,3 +21,23 @@ returns g c =
     ∙ row_rewritten W P old new (λ l. drop (c.len-len.result - c.args.by) l ++ take (c.len-len.result - c.args.by) l) n c.len-len.result c.as_raw_mut_slice-words.ensures.len c.len-len.ensures.value (λ xs e. rotated_length xs (c.len-len.result - c.args.by) (omega (arith, e)) ∙ e) c.rotate_words.ensures.bits
     ∙ ap (λ ws. drop (c.len-len.result - c.args.by) (row W P ws) ++ take (c.len-len.result - c.args.by) (row W P ws)) back
     ∙ ap (λ k. drop (k - c.args.by) (row W P (g.A.BitWords.words c.args.self.now)) ++ take (k - c.args.by) (row W P (g.A.BitWords.words c.args.self.now))) size
+
+pub returns-clause-front : goal.returns-clause-front
+returns-clause-front g c j h =
+    let W = g.A.Store.BitStore in
+    let P = g.O.BitOrder in
+    let old = row W P (g.A.BitWords.words c.args.self.now) in
+    let n = W.BITS * g.A.BitWords.count in
+    let size : length old ≡ n = length_row W.value P.place W.BITS (g.A.BitWords.words c.args.self.now) ∙ ap (λ m. W.BITS * m) (ap length (sym (c.as_raw_mut_slice-words.ensures.value ∙ ap g.A.BitWords.words c.self.view_is)) ∙ c.as_raw_mut_slice-words.ensures.len) in
+    let e : j + (n - c.args.by) ≡ n - c.args.by + j = omega arith in
+    ap (λ l. slice_get l j) (returns-clause-list g c) ∙ read_later old (take (n - c.args.by) old) n (n - c.args.by) size (omega arith) j (omega (arith, h, c.requires)) ∙ ap (slice_get old) e
+
+pub returns-clause-back : goal.returns-clause-back
+returns-clause-back g c j h =
+    let W = g.A.Store.BitStore in
+    let P = g.O.BitOrder in
+    let old = row W P (g.A.BitWords.words c.args.self.now) in
+    let n = W.BITS * g.A.BitWords.count in
+    let size : length old ≡ n = length_row W.value P.place W.BITS (g.A.BitWords.words c.args.self.now) ∙ ap (λ m. W.BITS * m) (ap length (sym (c.as_raw_mut_slice-words.ensures.value ∙ ap g.A.BitWords.words c.self.view_is)) ∙ c.as_raw_mut_slice-words.ensures.len) in
+    let e : j + c.args.by ≡ n - (n - c.args.by) + j = omega (arith, c.requires) in
+    ap (λ l. slice_get l (j + c.args.by)) (returns-clause-list g c) ∙ ap (slice_get (drop (n - c.args.by) old ++ take (n - c.args.by) old)) e ∙ read_turned old n (n - c.args.by) size (omega arith) j (omega (arith, h, c.requires))

@@ -11,16 +11,16 @@ use Rattle.bit_containers.proofs.Vectors.{kept, shown, no_room_for}
 use Rattle.bit_containers.proofs.Clean.{clean_grown}
 use Rattle.bit_containers.proofs.vec.BitVec.resize.Goals as goal
 
-pub returns-in_err-resize_words_in_vec-clause-refusal : goal.returns-in_err-resize_words_in_vec-clause-refusal
-returns-in_err-resize_words_in_vec-clause-refusal g c =
+pub returns-in_err-append_run_in_vec-clause-refusal : goal.returns-in_err-append_run_in_vec-clause-refusal
+returns-in_err-append_run_in_vec-clause-refusal g c =
     let i = c.self.inside in
     let w = g.T.BitStore.BITS in
     let least : length i.words.items ≤ vec_capacity i.words = search rules in
     let p = err_from_is_err_and c.from_residual.result c.from_residual.ensures.1 in
     rw (p.1, p.2, ← c.self.view_is) (record {
       too_long = ((λ e. cc), (λ h. absurd (omega arith)));
-      memory = λ _. no_room_for w (length i.words.items) (vec_capacity i.words) i.head i.len c.args.n (width_positive w g.met.T.BitStore.width) c.self.invariant least (omega arith) c.in_err-resize_words_in_vec.ensures.full;
-      unchanged = kept g.T.BitStore g.O.BitOrder i.words.items c.resize_words_in_vec.new.words.items i.head i.len _ _ c.in_err-resize_words_in_vec.ensures.unchanged;
+      memory = λ _. no_room_for w (length i.words.items) (vec_capacity i.words) i.head i.len c.args.n (width_positive w g.met.T.BitStore.width) c.self.invariant least (omega arith) c.in_err-append_run_in_vec.ensures.full;
+      unchanged = kept g.T.BitStore g.O.BitOrder i.words.items c.append_run_in_vec.new.words.items i.head i.len _ _ c.in_err-append_run_in_vec.ensures.unchanged;
     })
 
 pub returns-clause-list : goal.returns-clause-list
@@ -28,7 +28,7 @@ returns-clause-list g c =
     let i = c.self.inside in
     let w = g.T.BitStore.BITS in
     let fits = shown g.T.BitStore g.O.BitOrder i.words.items i.head i.len g.met.T.BitStore.width c.self.invariant in
-    rw (← c.self.view_is, c.self.invariant.shows, c.fill_bits_in_vec.ensures.bits, c.in_ok-resize_words_in_vec.ensures.bits)
+    rw (← c.self.view_is, c.self.invariant.shows, c.in_ok-append_run_in_vec.ensures.bits)
     (resized_shows w (row g.T.BitStore g.O.BitOrder i.words.items) i.head i.len c.args.n c.args.bit (width_positive w g.met.T.BitStore.width) fits (omega arith))
 
 pub returns-clause-grew : goal.returns-clause-grew
@@ -47,9 +47,8 @@ returns-clause-grew g c longer =
     let more : i.head + n - (i.head + i.len) ≡ n - length now.list = omega arith in
     record {
       head = head;
-      len = shown_length g.T.BitStore g.O.BitOrder c.fill_bits_in_vec.new.words.items i.head n (rw (c.fill_bits_in_vec.ensures.size) c.in_ok-resize_words_in_vec.ensures.room) ∙ whole;
-      row = c.fill_bits_in_vec.ensures.bits
-          ∙ ap (λ r. put r (i.head + i.len) (replicate (i.head + n - (i.head + i.len)) c.args.bit)) c.in_ok-resize_words_in_vec.ensures.bits
+      len = shown_length g.T.BitStore g.O.BitOrder c.append_run_in_vec.new.words.items i.head n c.in_ok-append_run_in_vec.ensures.room ∙ whole;
+      row = c.in_ok-append_run_in_vec.ensures.bits
           ∙ ap (λ m. put (sized w old (i.head + n)) (i.head + i.len) (replicate m c.args.bit)) more
           ∙ ap (λ v. put (sized w v.row (v.head + n)) (v.head + i.len) ys) c.self.view_is
           ∙ ap (λ m. put (sized w now.row (now.head + n)) (now.head + m) ys) len

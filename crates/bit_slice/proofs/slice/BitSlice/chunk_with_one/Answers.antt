@@ -1,30 +1,11 @@
-use Rattle.std.proofs.Common.{◌+◌, true, sym, ◌∙◌, arith}
-use Rattle.std.proofs.lemmas.Bool.{true≢false}
+use Rattle.std.proofs.Common.{◌+◌, true}
 use Rattle.bit_slice.specs.BitSlice.{list_of}
-use Rattle.bit_slice.proofs.Chunked.{absent_joined, chunk_absent, chunk_none}
+use Rattle.bit_slice.proofs.Chunked.{absent_joined, chunk_absent}
 use Rattle.bit_slice.proofs.slice.BitSlice.chunk_with_one.Goals as goal
 
-pub returns-in-None-clause-before : goal.returns-in-None-clause-before
-returns-in-None-clause-before g c =
+pub returns-clause-before : goal.returns-clause-before
+returns-clause-before g c =
     let xs = list_of c.args.self in
     let at = c.args.at in
     let middle = at + c.min-near.result in
-    absent_joined true xs at middle c.args.upto (chunk_absent xs at middle c.chunk_at-chunk.result c.chunk_at-chunk.ensures c.if-chunk-ne0.false) c.in-None.ensures
-
-pub returns-in-None-clause-chunk : goal.returns-in-None-clause-chunk
-returns-in-None-clause-chunk g c = chunk_none (list_of c.args.self) c.args.upto
-
-pub returns-in-Some-clause-before : goal.returns-in-Some-clause-before
-returns-in-Some-clause-before g c =
-    let xs = list_of c.args.self in
-    let at = c.args.at in
-    let middle = at + c.min-near.result in
-    absent_joined true xs at middle c.in-Some.i (chunk_absent xs at middle c.chunk_at-chunk.result c.chunk_at-chunk.ensures c.if-chunk-ne0.false) c.in-Some.ensures.before
-
-pub returns-in-Some-clause-none : goal.returns-in-Some-clause-none
-returns-in-Some-clause-none g c = λ none.
-    let xs = list_of c.args.self in
-    let i = c.in-Some.i in
-    let within = c.in-Some.ensures.within in
-    let clear = chunk_absent xs i (i + c.min-n.result) c.chunk_at.result c.chunk_at.ensures none in
-    absurd (true≢false (sym c.in-Some.ensures.here ∙ clear.each i (omega arith) (omega arith)))
+    absent_joined true xs at middle c.chunk_found.result.0 (chunk_absent xs at middle c.chunk_at-chunk.result c.chunk_at-chunk.ensures c.if-chunk-ne0.false) c.chunk_found.ensures.before

@@ -1,8 +1,7 @@
 use Rattle.std.proofs.Common.{◌≡◌, ◌∙◌, ◌+◌, ◌-◌, ◌%◌, ◌≢◌, ◌≤◌, ◌<◌, ℕ, Bool, List, Some, false, true, slice_get, length, sym, ap, arith, subst, inl, inr}
-use Rattle.std.specs.Option.{IfNone, IfSome, unwrap_or}
+use Rattle.std.specs.Option.{IfSome, unwrap_or}
 use Rattle.std.proofs.lemmas.Bool.{cases_lt}
 use Rattle.std.proofs.lemmas.Option.{slice_get_within}
-use Rattle.bit_users.specs.FreeMap.{AreFree}
 use Rattle.bit_users.proofs.Frames.{after_run, free_up_to, gap_least, gap_reaches, no_aligned, no_early}
 use Rattle.bit_users.proofs.free_map.FreeMap.find_aligned.Goals.{else-gap-end-via-then-gap-end+else-count-end, else-gap-end-via-else-gap-end}
 use Rattle.bit_users.proofs.free_map.FreeMap.find_aligned.Goals as goal

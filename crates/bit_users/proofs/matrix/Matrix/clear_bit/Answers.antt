@@ -1,4 +1,4 @@
-use Rattle.std.proofs.Common.{◌<◌, ◌≢◌, arith}
+use Rattle.std.proofs.Common.{◌≢◌, arith}
 use Rattle.bit_users.specs.Matrix.{item}
 use Rattle.bit_users.proofs.ModTwo.{linked_more, units_kept}
 use Rattle.bit_users.proofs.matrix.Matrix.clear_bit.Goals as goal

@@ -1,4 +1,4 @@
-use Rattle.std.proofs.Common.{◌≡◌, ◌+◌, ◌-◌, ◌*◌, ◌||◌, Bool, List, slice_range, refl, sym, ◌∙◌, ap, arith}
+use Rattle.std.proofs.Common.{◌≡◌, ◌+◌, ◌-◌, ◌*◌, ◌||◌, Bool, slice_range, refl, ◌∙◌, ap, arith}
 use Rattle.bit_users.specs.Matrix.{Grid, item}
 use Rattle.bit_users.proofs.Grids.{row_combined, row_item, row_uncombined}
 use Rattle.bit_users.proofs.matrix.Matrix.or_row.Goals as goal

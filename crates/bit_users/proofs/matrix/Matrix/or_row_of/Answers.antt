@@ -1,4 +1,4 @@
-use Rattle.std.proofs.Common.{◌≡◌, ◌+◌, ◌-◌, ◌*◌, ◌||◌, Bool, List, false, get_or, slice_range, refl, sym, ◌∙◌, ap, arith}
+use Rattle.std.proofs.Common.{◌≡◌, ◌+◌, ◌*◌, ◌||◌, Bool, false, get_or, refl, sym, ◌∙◌, ap, arith}
 use Rattle.bit_slice.specs.BitSlice.{list_of}
 use Rattle.bit_users.specs.Matrix.{Grid, item}
 use Rattle.bit_users.proofs.Grids.{row_combined, row_item, row_uncombined}

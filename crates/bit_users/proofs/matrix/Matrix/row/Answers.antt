@@ -1,4 +1,4 @@
-use Rattle.std.proofs.Common.{◌≡◌, ◌+◌, ◌*◌, Some, length, slice_get, refl, ◌∙◌, ap, arith}
+use Rattle.std.proofs.Common.{◌+◌, ◌*◌, slice_get, refl, ◌∙◌, ap, arith}
 use Rattle.bit_users.specs.Matrix.{Grid}
 use Rattle.bit_users.proofs.Grids.{row_inside, row_some}
 use Rattle.bit_users.proofs.matrix.Matrix.row.Goals as goal

@@ -1,4 +1,4 @@
-use Rattle.std.proofs.Common.{◌<◌, ◌≢◌, sym, ◌∙◌, ap, arith}
+use Rattle.std.proofs.Common.{◌≢◌, sym, ◌∙◌, ap, arith}
 use Rattle.std.proofs.lemmas.Bool.{true≢false}
 use Rattle.bit_users.specs.Matrix.{item}
 use Rattle.bit_users.proofs.ModTwo.{linked_more, units_kept}

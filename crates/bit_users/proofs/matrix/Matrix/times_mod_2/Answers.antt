@@ -1,4 +1,4 @@
-use Rattle.std.proofs.Common.{◌≡◌, ◌<◌, refl, sym, ◌∙◌, ap, inl, inr, arith}
+use Rattle.std.proofs.Common.{sym, ◌∙◌, ap, inl, inr, arith}
 use Rattle.std.proofs.lemmas.Bool.{cases_eq}
 use Rattle.bit_users.specs.Matrix.{Grid, item, plus_mod_2, product_mod_2}
 use Rattle.bit_users.proofs.matrix.Matrix.times_mod_2.Goals as goal

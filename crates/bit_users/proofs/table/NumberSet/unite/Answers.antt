@@ -1,8 +1,6 @@
-use Rattle.std.proofs.Common.{◌≡◌, ◌∙◌, ap, sym, rules}
+use Rattle.std.proofs.Common.{◌∙◌, rules}
 use Rattle.std.proofs.lemmas.Result.{on_ok_weaker}
-use Rattle.bit_slice.specs.BitSlice.{len_of, list_of}
-use Rattle.bit_slice.specs.Operators.{or_of}
-use Rattle.bit_containers.specs.Making.{filled_up}
+use Rattle.bit_slice.specs.BitSlice.{len_of}
 use Rattle.bit_users.proofs.Members.{united}
 use Rattle.bit_users.proofs.table.NumberSet.unite.Goals as goal
 

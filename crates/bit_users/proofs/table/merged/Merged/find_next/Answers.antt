@@ -1,4 +1,4 @@
-use Rattle.std.proofs.Common.{◌≡◌, Bool, List, ◌∙◌, arith}
+use Rattle.std.proofs.Common.{Bool, List, ◌∙◌, arith}
 use Rattle.bit_users.proofs.Merging.{both_told, meant, none_more, passed}
 use Rattle.bit_users.proofs.table.merged.Merged.find_next.Goals as goal
 

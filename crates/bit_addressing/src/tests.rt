@@ -1,6 +1,0 @@
-//! Examples, and each public call once.
-
-mod moves;
-mod orders;
-mod rows;
-mod words;

@@ -1,0 +1,311 @@
+//! Examples, and each public call once.
+mod callers;
+mod memory;
+mod reading;
+mod slice;
+mod writing;
+
+use crate::found::ok;
+use bit_addressing::{BitOrder, BitStore, Lsb0, Msb0};
+use bit_array::BitArray;
+use bit_boxed::{BitBox, IntoIter};
+use bit_slice::BitSlice;
+use std::boxed::BoxedSlice;
+use std::cmp::Ordering;
+use std::fmt;
+use std::hash::{DefaultHasher, Hash, Hasher};
+use std::process::Abort;
+use std::test::Fail;
+
+/// That the box holds these digits.
+fn holds<T: BitStore, O: BitOrder>(rt: &impl Abort, b: &BitBox<T, O>, digits: &[u8]) {
+    assert_eq!(rt; b.len(), digits.len());
+    for (i, digit) in digits.iter().enumerate() {
+        assert!(rt; b.get(i) == Some(*digit == b'1'));
+    }
+    assert_eq!(rt; b.get(digits.len()), None);
+}
+
+/// That the words of the box are these.
+fn shows<T: BitStore, O: BitOrder>(rt: &impl Abort, b: &BitBox<T, O>, words: &[T]) {
+    let kept = b.as_raw_slice();
+    assert_eq!(rt; kept.len(), words.len());
+    for (word, want) in kept.iter().zip(words) {
+        assert!(rt; word.to_u64() == want.to_u64());
+    }
+}
+
+#[test]
+fn copied_with_a_head(rt: HostRuntime) {
+    let words = [0xb5_u8];
+    let view = BitSlice::<u8, Msb0>::from_slice(&words).get_range(2..6);
+    let mut b = ok(&rt, BitBox::from_bitslice_headed(rt.alloc(), view));
+    shows(&rt, &b, &[0x34]);
+    assert_eq!(rt; b.head(), 2);
+    holds(&rt, &b, b"1101");
+    b.fill_uninitialized(true);
+    shows(&rt, &b, &[0xf7]);
+    let mut b = ok(&rt, BitBox::from_bitslice_headed(rt.alloc(), view));
+    b.force_align();
+    shows(&rt, &b, &[0xd4]);
+    assert_eq!(rt; b.head(), 0);
+    holds(&rt, &b, b"1101");
+    b.fill_uninitialized(false);
+    shows(&rt, &b, &[0xd0]);
+}
+
+/// A copy begins at head 0, so aligning it changes nothing; aligning its source moves the list.
+#[test]
+fn aligned_after_copying(rt: HostRuntime) {
+    let words = [0xa8_u8, 0x07];
+    let view = BitSlice::<u8, Lsb0>::from_slice(&words).get_range(3..11);
+    let mut b = ok(&rt, BitBox::from_bitslice_headed(rt.alloc(), view));
+    let mut copy = ok(&rt, b.clone());
+    shows(&rt, &copy, &[0xf5]);
+    copy.force_align();
+    shows(&rt, &copy, &[0xf5]);
+    b.force_align();
+    shows(&rt, &b, &[0xf5, 0x07]);
+    holds(&rt, &b, b"10101111");
+    holds(&rt, &copy, b"10101111");
+}
+
+#[test]
+fn copied_from_the_beginning(rt: HostRuntime) {
+    let words = [0xb5_u8];
+    let view = BitSlice::<u8, Msb0>::from_slice(&words).get_range(2..6);
+    let mut b = ok(&rt, BitBox::from_bitslice(rt.alloc(), view));
+    shows(&rt, &b, &[0xd0]);
+    assert_eq!(rt; b.head(), 0);
+    b.fill_uninitialized(true);
+    shows(&rt, &b, &[0xdf]);
+    let copy = ok(&rt, b.clone());
+    shows(&rt, &copy, &[0xd0]);
+    assert!(rt; copy == b);
+    b.force_align();
+    shows(&rt, &b, &[0xdf]);
+}
+
+#[test]
+fn all_words_are_kept(rt: HostRuntime) {
+    let words = [0xa8_u8, 0x07];
+    let view = BitSlice::<u8, Lsb0>::from_slice(&words).get_range(3..11);
+    let mut b = ok(&rt, BitBox::from_bitslice_headed(rt.alloc(), view));
+    b.force_align();
+    shows(&rt, &b, &[0xf5, 0x07]);
+    b.fill_uninitialized(false);
+    shows(&rt, &b, &[0xf5, 0x00]);
+    assert_eq!(rt; b.as_bitslice().as_raw_slice(), [0xf5].as_slice());
+    assert_eq!(rt; b.len(), 8);
+    b.as_mut_bitslice().set(1, true);
+    assert_eq!(rt; b.into_boxed_slice().as_slice(), [0xf7, 0x00].as_slice());
+}
+
+#[test]
+#[tactic(auto, unfolding(bit_addressing::specs::Row::words_for))]
+fn made_of_words(rt: HostRuntime) -> Result<(), Fail> {
+    let boxed: BoxedSlice<u8> = vec![in rt.alloc(); 0x80, 0x01]?.into_boxed_slice();
+    let b = BitBox::<u8, Msb0>::from_boxed_slice(boxed);
+    holds(&rt, &b, b"1000000000000001");
+    assert!(rt;
+        b.first() == Some(true)
+            && b.last() == Some(true)
+            && b.count_ones() == 2
+            && b.get(14) == Some(false)
+    );
+    let boxed: BoxedSlice<u8> = b.into();
+    assert_eq!(rt; boxed.as_slice(), [0x80, 0x01].as_slice());
+    assert!(rt; BitBox::<u8, Msb0>::try_from_boxed_slice(boxed).is_ok());
+    let boxed: BoxedSlice<u8> = vec![in rt.alloc(); 0x05]?.into_boxed_slice();
+    assert!(rt; BitBox::<u8, Lsb0>::try_from(boxed).is_ok_and(|b| b.count_ones() == 2));
+    let b = BitBox::<u16, Lsb0>::from_box(rt.alloc(), Box::new(rt.alloc(), 0x8001)?)?;
+    assert!(rt; b.first() == Some(true) && b.last() == Some(true) && b.len() == 16);
+    let array = BitArray::<[u8; 2], Msb0>::new([0x80, 0x01]);
+    let b = BitBox::from_bitarray(rt.alloc(), array)?;
+    shows(&rt, &b, &[0x80, 0x01]);
+    let none = BitBox::<u64, Lsb0>::empty(rt.alloc())?;
+    assert!(rt; none.is_empty() && none.first().is_none() && none.last().is_none());
+    let b = BitBox::<u8, Lsb0>::from_parts(vec![in rt.alloc(); 0xa8, 0x07]?, 3, 8)?;
+    holds(&rt, &b, b"10101111");
+    Ok(())
+}
+
+#[test]
+fn pulled(rt: HostRuntime) {
+    let bits = [true, false, true, false, false, false, false, false, true];
+    let b = ok(&rt, BitBox::<u8, Lsb0>::from_bits(rt.alloc(), bits));
+    shows(&rt, &b, &[0x05, 0x01]);
+    assert!(rt; b.len() == 9 && b.head() == 0);
+}
+
+#[test]
+fn written(rt: HostRuntime) -> Result<(), Fail> {
+    let mut b = BitBox::<u8, Lsb0>::from_box(rt.alloc(), Box::new(rt.alloc(), 0)?)?;
+    assert_eq!(rt; b.len(), 8);
+    b.set(1, true);
+    assert!(rt; b[1] && !b[0]);
+    b.flip_all();
+    b.copy_within(0..3, 5);
+    shows(&rt, &b, &[0xbd]);
+    b.fill(false);
+    assert_eq!(rt; b.count_ones(), 0);
+    b.as_raw_mut_slice()[0] = 0x0f;
+    holds(&rt, &b, b"11110000");
+    Ok(())
+}
+
+#[test]
+fn combined(rt: HostRuntime) {
+    let long = [0xfc_u8, 0xff];
+    let four = BitSlice::<u8, Lsb0>::from_slice(&long).get_range(0..4);
+    let short = [0x02_u8];
+    let two = BitSlice::<u8, Lsb0>::from_slice(&short).get_range(0..2);
+    let left = ok(&rt, BitBox::from_bitslice(rt.alloc(), four));
+    let right = ok(&rt, BitBox::from_bitslice(rt.alloc(), two));
+    holds(
+        &rt,
+        &(ok(&rt, left.clone()) & ok(&rt, right.clone())),
+        b"0000",
+    );
+    holds(
+        &rt,
+        &(ok(&rt, left.clone()) | ok(&rt, right.clone())),
+        b"0111",
+    );
+    holds(
+        &rt,
+        &(ok(&rt, left.clone()) ^ ok(&rt, right.clone())),
+        b"0111",
+    );
+    let ones = [0xff_u8];
+    let ones = ok(
+        &rt,
+        BitBox::from_bitslice(
+            rt.alloc(),
+            BitSlice::<u8, Lsb0>::from_slice(&ones).get_range(3..7),
+        ),
+    );
+    let mut both = ok(&rt, right.clone());
+    both &= ok(&rt, ones.clone());
+    holds(&rt, &both, b"01");
+    both ^= ok(&rt, ones.clone());
+    holds(&rt, &both, b"10");
+    both |= ones;
+    holds(&rt, &both, b"11");
+    let flipped = !right;
+    holds(&rt, &flipped, b"10");
+    shows(&rt, &flipped, &[0xfd]);
+    shows(&rt, &!flipped, &[0x02]);
+}
+
+#[test]
+fn compared(rt: HostRuntime) {
+    let words = [0xa8_u8, 0x07];
+    let view = BitSlice::<u8, Lsb0>::from_slice(&words);
+    let headed = ok(
+        &rt,
+        BitBox::from_bitslice_headed(rt.alloc(), view.get_range(3..11)),
+    );
+    let aligned = ok(
+        &rt,
+        BitBox::<u8, Lsb0>::from_box(rt.alloc(), ok(&rt, Box::new(rt.alloc(), 0xf5))),
+    );
+    assert!(rt; headed == aligned && headed.cmp(&aligned) == Ordering::Equal);
+    let (mut one, mut other) = (DefaultHasher::new(), DefaultHasher::new());
+    headed.hash(&mut one);
+    aligned.hash(&mut other);
+    assert_eq!(rt; one.finish(), other.finish());
+    let zeros = [0x00_u8];
+    let view = BitSlice::<u8, Lsb0>::from_slice(&zeros);
+    let short = ok(&rt, BitBox::from_bitslice(rt.alloc(), view.get_range(0..1)));
+    let long = ok(&rt, BitBox::from_bitslice(rt.alloc(), view.get_range(0..2)));
+    assert!(rt; short != long && short < long);
+    assert_eq!(rt; long.partial_cmp(&short), Some(Ordering::Greater));
+}
+
+/// How a box is written in a radix.
+#[derive(Drop)]
+enum Radix {
+    Binary,
+    Octal,
+    LowerHex,
+    UpperHex,
+}
+
+/// A box, in a radix.
+#[derive(Drop)]
+struct In<'a, T: BitStore, O: BitOrder>(&'a BitBox<T, O>, Radix);
+
+impl<T: BitStore, O: BitOrder> fmt::Display for In<'_, T, O> {
+    fn fmt<W: fmt::Write>(&self, f: &mut fmt::Formatter<W>) -> fmt::Result {
+        match self.1 {
+            Radix::Binary => fmt::Binary::fmt(self.0, f),
+            Radix::Octal => fmt::Octal::fmt(self.0, f),
+            Radix::LowerHex => fmt::LowerHex::fmt(self.0, f),
+            Radix::UpperHex => fmt::UpperHex::fmt(self.0, f),
+        }
+    }
+}
+
+#[test]
+fn texts(rt: HostRuntime) {
+    let words = [0x0b_u8];
+    let view = BitSlice::<u8, Lsb0>::from_slice(&words).get_range(0..5);
+    let b = ok(&rt, BitBox::from_bitslice(rt.alloc(), view));
+    let (y, o, x, u) = (
+        In(&b, Radix::Binary),
+        In(&b, Radix::Octal),
+        In(&b, Radix::LowerHex),
+        In(&b, Radix::UpperHex),
+    );
+    let text = ok(&rt, format!(in rt.alloc(); "{b} {y} {o} {x} {u}"));
+    assert_eq!(rt; text.as_str(), "[1, 1, 0, 1, 0] [11010] [62] [d0] [D0]");
+    let headed = ok(
+        &rt,
+        BitBox::from_bitslice_headed(rt.alloc(), view.get_range(1..4)),
+    );
+    let text = ok(&rt, format!(in rt.alloc(); "{headed:?} {headed:>9}"));
+    assert_eq!(rt;
+        text.as_str(),
+        "BitBox { head: 1, bits: 3 } [1, 0, 1] [1, 0, 1]"
+    );
+}
+
+#[test]
+#[tactic(auto, unfolding(bit_addressing::specs::Row::words_for))]
+fn iterated(rt: HostRuntime) -> Result<(), Fail> {
+    let words = [0x26_u8];
+    let view = BitSlice::<u8, Lsb0>::from_slice(&words).get_range(0..6);
+    let b = ok(&rt, BitBox::from_bitslice(rt.alloc(), view));
+    assert_eq!(rt; b.iter().rev().filter(|bit| *bit).count(), 3);
+    assert_eq!(rt; (&b).into_iter().len(), 6);
+    let mut bits = b.into_iter();
+    assert!(rt; bits.next() == Some(false) && bits.next_back() == Some(true));
+    let text = ok(&rt, format!(in rt.alloc(); "{bits:?}"));
+    assert_eq!(rt; text.as_str(), "IntoIter([1, 1, 0, 0])");
+    assert!(rt; bits.as_bitslice().count_ones() == 2 && bits.as_slice().len() == 4);
+    let copy = ok(&rt, bits.clone());
+    assert_eq!(rt; copy.size_hint(), (4, Some(4)));
+    assert!(rt; bits.nth(1) == Some(true) && bits.nth_back(1) == Some(false));
+    assert!(rt; bits.next().is_none() && bits.next_back().is_none() && bits.len() == 0);
+    let parts = IntoIter::<u8, Lsb0>::from_parts(vec![in rt.alloc(); 0xa8, 0x07]?, 3, 8);
+    assert_eq!(rt; parts.filter(|bit| *bit).count(), 6);
+    Ok(())
+}
+
+#[test]
+fn empty_behind_a_head(rt: HostRuntime) {
+    let words = [0xff_u8];
+    let view = BitSlice::<u8, Lsb0>::from_slice(&words).get_range(5..5);
+    let mut b = ok(&rt, BitBox::from_bitslice_headed(rt.alloc(), view));
+    shows(&rt, &b, &[0]);
+    b.fill_uninitialized(true);
+    shows(&rt, &b, &[0xff]);
+    let b = !ok(&rt, BitBox::from_bitslice_headed(rt.alloc(), view));
+    shows(&rt, &b, &[0xff]);
+    let mut b = ok(&rt, BitBox::from_bitslice_headed(rt.alloc(), view));
+    b.force_align();
+    assert_eq!(rt; b.head(), 0);
+    shows(&rt, &b, &[0]);
+    assert_eq!(rt; b.as_bitslice().as_raw_slice(), [].as_slice());
+}

@@ -1,0 +1,15 @@
+//! Examples of each call of the base, of views and of the containers: exact words, lists and replies. All of it is tests.
+#![tactic(auto)]
+
+#[cfg(test)]
+mod arrays;
+#[cfg(test)]
+mod boxes;
+#[cfg(test)]
+mod found;
+#[cfg(test)]
+mod rows;
+#[cfg(test)]
+mod vectors;
+#[cfg(test)]
+mod views;

@@ -1,0 +1,116 @@
+//! Orders, masks and indices.
+ghost use Rattle.std.specs.Prelude.{◌+◌, ◌*◌, ◌%◌, bit_xor, refl};
+ghost use Rattle.bit_addressing.specs.Order.{lawful_by_test};
+
+use bit_addressing::{BitEnd, BitIdx, BitOrder, BitPos, BitStore, Lsb0, Msb0};
+use std::process::Abort;
+
+/// The order whose halves of each byte change places.
+pub(crate) struct Xor4;
+
+impl BitOrder for Xor4 {
+    ghost place = { λ w i. bit_xor i 4 };
+
+    ghost lawful = { lawful_by_test (λ w i. bit_xor i 4) refl refl refl refl };
+
+    fn at<T: BitStore>(i: BitIdx<T>) -> BitPos<T> {
+        BitPos::new_unchecked(i.into_inner() ^ 4)
+    }
+}
+
+/// The order whose neighbours lie five places apart.
+pub(crate) struct Scramble;
+
+impl BitOrder for Scramble {
+    ghost place = { λ w i. (5 * i + 3) % w };
+
+    ghost lawful = { lawful_by_test (λ w i. (5 * i + 3) % w) refl refl refl refl };
+
+    fn at<T: BitStore>(i: BitIdx<T>) -> BitPos<T> {
+        BitPos::new_unchecked(((5 * i.into_inner() as u16 + 3) % T::BITS as u16) as u8)
+    }
+}
+
+fn mask_of<T: BitStore, O: BitOrder>(rt: &impl Abort, from: u8, upto: u8) -> T {
+    assert!(rt; from <= upto && from < T::BITS && upto <= T::BITS);
+    O::mask(BitIdx::new_unchecked(from), BitEnd::new_unchecked(upto))
+}
+
+#[test]
+fn masks(rt: HostRuntime) {
+    assert_eq!(rt; mask_of::<u8, Lsb0>(&rt, 2, 5), 0x1c);
+    assert_eq!(rt; mask_of::<u8, Msb0>(&rt, 2, 5), 0x38);
+    assert_eq!(rt; mask_of::<u8, Xor4>(&rt, 2, 5), 0xc1);
+    assert_eq!(rt; mask_of::<u8, Scramble>(&rt, 0, 2), 0x09);
+    for mask in [
+        mask_of::<u8, Lsb0>(&rt, 0, 8),
+        mask_of::<u8, Msb0>(&rt, 0, 8),
+        mask_of::<u8, Scramble>(&rt, 0, 8),
+    ] {
+        assert_eq!(rt; mask, 0xff);
+    }
+    for mask in [
+        mask_of::<u8, Lsb0>(&rt, 3, 3),
+        mask_of::<u8, Msb0>(&rt, 3, 3),
+        mask_of::<u8, Xor4>(&rt, 3, 3),
+    ] {
+        assert_eq!(rt; mask, 0);
+    }
+    assert_eq!(rt; mask_of::<u16, Msb0>(&rt, 4, 16), 0x0fff);
+    assert_eq!(rt; mask_of::<u32, Lsb0>(&rt, 4, 32), 0xffff_fff0);
+    assert_eq!(rt; mask_of::<u64, Msb0>(&rt, 63, 64), 1);
+    assert_eq!(rt; mask_of::<usize, Lsb0>(&rt, 0, 64), usize::MAX);
+}
+
+fn places<T: BitStore, O: BitOrder>(rt: &impl Abort, first: u8, last: u8) {
+    let ends = [(0, first), (T::BITS - 1, last)];
+    for (index, place) in ends {
+        let index = BitIdx::<T>::new(index);
+        assert!(rt; index.map(|i| O::at(i).into_inner()) == Some(place));
+    }
+}
+
+#[test]
+fn orders(rt: HostRuntime) {
+    places::<u8, Lsb0>(&rt, 0, 7);
+    places::<u16, Msb0>(&rt, 15, 0);
+    places::<u8, Xor4>(&rt, 4, 3);
+    places::<u16, Xor4>(&rt, 4, 11);
+    places::<u32, Xor4>(&rt, 4, 27);
+    places::<u64, Xor4>(&rt, 4, 59);
+    places::<usize, Xor4>(&rt, 4, 59);
+    places::<u8, Scramble>(&rt, 3, 6);
+    places::<u16, Scramble>(&rt, 3, 14);
+    places::<u32, Scramble>(&rt, 3, 30);
+    places::<u64, Scramble>(&rt, 3, 62);
+    places::<usize, Scramble>(&rt, 3, 62);
+}
+
+#[test]
+fn indices(rt: HostRuntime) {
+    assert!(rt; BitIdx::<u8>::new(7).map(|i| i.into_inner()) == Some(7));
+    assert!(rt; BitIdx::<u8>::new(8).is_none());
+    assert!(rt; BitEnd::<u8>::new(8).map(|e| e.into_inner()) == Some(8));
+    assert!(rt; BitEnd::<u8>::new(9).is_none());
+    assert!(rt; BitPos::<u64>::new(63).map(|p| p.into_inner()) == Some(63));
+    assert!(rt; BitPos::<u64>::new(64).is_none());
+    assert!(rt; BitIdx::<u8>::new(3) < BitIdx::<u8>::new(4));
+    assert!(rt;
+        BitEnd::<u8>::new(3) < BitEnd::<u8>::new(4) && BitPos::<u8>::new(3) < BitPos::<u8>::new(4)
+    );
+    assert!(rt;
+        BitIdx::<u8>::new(3) == BitIdx::<u8>::new(3) && BitEnd::<u8>::new(8) != BitEnd::<u8>::new(7)
+    );
+    assert!(rt;
+        BitPos::<u16>::new(9) == BitPos::<u16>::new(9)
+            && BitPos::<u16>::new(9) != BitPos::<u16>::new(8)
+    );
+}
+
+#[test]
+fn fronts(rt: HostRuntime) {
+    assert_eq!(rt; Lsb0::front::<u8, u32>(0x1234_5678), 0x78);
+    assert_eq!(rt; Msb0::front::<u8, u32>(0x1234_5678), 0x12);
+    assert_eq!(rt; Msb0::front::<u64, u64>(7), 7);
+    assert_eq!(rt; Xor4::front::<u8, u16>(0xabcd), 0xcd);
+}

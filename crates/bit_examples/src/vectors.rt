@@ -1,0 +1,44 @@
+//! Examples: exact words, lists and replies. `bit_trials` has each call beside plain lists.
+mod commands;
+mod converting;
+mod copies;
+mod edits;
+mod growing;
+mod making;
+mod moves;
+mod operators;
+mod reading;
+mod removing;
+mod text;
+mod words;
+mod writing;
+
+use crate::found::ok;
+use bit_containers::{BitOrder, BitStore, BitVec};
+use std::process::Abort;
+
+/// A vector of the bits that these digits write, joined one by one.
+fn of<T: BitStore, O: BitOrder>(rt: &(impl Abort + AllocGlobal), digits: &[u8]) -> BitVec<T, O> {
+    let mut v = BitVec::new(rt.alloc());
+    for digit in digits {
+        ok(rt, v.push(*digit == b'1'));
+    }
+    v
+}
+
+/// That the vector holds these digits.
+fn holds<T: BitStore, O: BitOrder>(rt: &impl Abort, v: &BitVec<T, O>, digits: &[u8]) {
+    assert!(rt; v.len() == digits.len() && v.get(digits.len()).is_none());
+    for (i, digit) in digits.iter().enumerate() {
+        assert!(rt; v.get(i) == Some(*digit == b'1'));
+    }
+}
+
+/// That the words of the vector are these.
+fn shows<T: BitStore, O: BitOrder>(rt: &impl Abort, v: &BitVec<T, O>, words: &[T]) {
+    let kept = v.as_raw_slice();
+    assert!(rt; kept.len() == words.len());
+    for (word, want) in kept.iter().zip(words) {
+        assert!(rt; word.to_u64() == want.to_u64());
+    }
+}

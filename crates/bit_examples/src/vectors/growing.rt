@@ -1,0 +1,81 @@
+//! Making and growing.
+use crate::found::ok;
+use crate::vectors::{holds, of, shows};
+use bit_containers::{BitSlice, BitVec, Lsb0, Msb0};
+
+#[test]
+fn joined_within(rt: HostRuntime) {
+    let mut v = of::<u8, Msb0>(&rt, b"01");
+    assert!(rt; v.len() == 2);
+    ok(&rt, v.extend_from_within(..));
+    holds(&rt, &v, b"0101");
+    assert!(rt; v.len() == 4);
+    ok(&rt, v.extend_from_within(1..3));
+    holds(&rt, &v, b"010110");
+    ok(&rt, v.extend_from_raw_slice(&[0xc3]));
+    holds(&rt, &v, b"01011011000011");
+    shows(&rt, &v, &[0x5b, 0x0c]);
+}
+
+#[test]
+fn pulled(rt: HostRuntime) {
+    let mut v = BitVec::<u8, Msb0>::new(rt.alloc());
+    ok(&rt, v.push(false));
+    ok(&rt, v.push(true));
+    ok(&rt, v.extend([false; 4]));
+    let words = [0x0f];
+    let view = BitSlice::<u8, Lsb0>::from_slice(&words);
+    ok(&rt, v.extend_from_bitslice(view.get_range(..4)));
+    shows(&rt, &v, &[0x43, 0xc0]);
+    assert_eq!(rt; v.len(), 10);
+    let mut v = of::<u8, Lsb0>(&rt, b"1");
+    ok(&rt, v.extend_words([3]));
+    shows(&rt, &v, &[0x07, 0x00]);
+    assert_eq!(rt; v.len(), 9);
+}
+
+#[test]
+fn filled_by_answers(rt: HostRuntime) {
+    let mut v = of::<u8, Lsb0>(&rt, b"11");
+    ok(&rt, v.resize_with(5, |i| i % 2 == 1));
+    holds(&rt, &v, b"11010");
+    ok(&rt, v.resize_with(1, |_| false));
+    holds(&rt, &v, b"1");
+}
+
+#[test]
+fn appended(rt: HostRuntime) {
+    let mut v = ok(&rt, BitVec::<u16, Msb0>::repeat(rt.alloc(), false, 10));
+    let mut other = ok(&rt, BitVec::<u32, Lsb0>::repeat(rt.alloc(), true, 10));
+    ok(&rt, v.append(&mut other));
+    shows(&rt, &v, &[0x003f, 0xf000]);
+    assert_eq!(rt; v.len(), 20);
+    assert!(rt; other.is_empty() && other.as_raw_slice().is_empty());
+}
+
+/// A vector behind a head that shows a word has room in it.
+#[test]
+fn room_behind_a_head(rt: HostRuntime) {
+    let words = [0xff];
+    let view = BitSlice::<u8, Lsb0>::from_slice(&words);
+    let mut v = ok(
+        &rt,
+        BitVec::from_bitslice_headed(rt.alloc(), view.get_range(5..5)),
+    );
+    shows(&rt, &v, &[0x00]);
+    assert!(rt; v.head() == 5 && v.is_empty());
+    ok(&rt, v.reserve(3));
+    ok(&rt, v.push(true));
+    ok(&rt, v.push(true));
+    ok(&rt, v.push(true));
+    shows(&rt, &v, &[0xe0]);
+    ok(&rt, v.push(true));
+    shows(&rt, &v, &[0xe0, 0x01]);
+    let mut v = ok(&rt, BitVec::from_bitslice(rt.alloc(), view.get_range(5..5)));
+    assert!(rt; v.head() == 0 && v.as_raw_slice().is_empty());
+    ok(&rt, v.reserve(3));
+    ok(&rt, v.extend([true; 3]));
+    shows(&rt, &v, &[0x07]);
+    ok(&rt, v.push(true));
+    shows(&rt, &v, &[0x0f]);
+}

@@ -1,0 +1,66 @@
+//! Vectors combined, flipped, compared and hashed.
+use crate::found::ok;
+use crate::vectors::{holds, of, shows};
+use bit_containers::{BitSlice, BitVec, Lsb0, Msb0};
+use std::cmp::Ordering;
+use std::hash::{DefaultHasher, Hash, Hasher};
+
+#[test]
+fn combined(rt: HostRuntime) {
+    let left = of::<u8, Lsb0>(&rt, b"0011");
+    let right = of::<u8, Lsb0>(&rt, b"01");
+    holds(
+        &rt,
+        &(ok(&rt, left.clone()) & ok(&rt, right.clone())),
+        b"0000",
+    );
+    holds(
+        &rt,
+        &(ok(&rt, left.clone()) | ok(&rt, right.clone())),
+        b"0111",
+    );
+    holds(&rt, &(left ^ ok(&rt, right.clone())), b"0111");
+    let ones = of::<u8, Lsb0>(&rt, b"1111");
+    let mut both = right;
+    both &= ok(&rt, ones.clone());
+    holds(&rt, &both, b"01");
+    both ^= ok(&rt, ones.clone());
+    holds(&rt, &both, b"10");
+    both |= ones;
+    holds(&rt, &both, b"11");
+}
+
+#[test]
+fn flipped(rt: HostRuntime) {
+    let v = ok(&rt, BitVec::<u8, Lsb0>::repeat(rt.alloc(), true, 5));
+    let v = !v;
+    holds(&rt, &v, b"00000");
+    shows(&rt, &v, &[0x00]);
+    let mut v = !v;
+    shows(&rt, &v, &[0xff]);
+    v.flip_all();
+    shows(&rt, &v, &[0x00]);
+}
+
+#[test]
+fn compared(rt: HostRuntime) {
+    let words = [0xa8, 0x07];
+    let view = BitSlice::<u8, Lsb0>::from_slice(&words).get_range(3..11);
+    let mut headed = ok(&rt, BitVec::from_bitslice_headed(rt.alloc(), view));
+    let aligned = ok(&rt, BitVec::<u8, Lsb0>::from_element(rt.alloc(), 0xf5));
+    assert!(rt; headed == aligned && headed.cmp(&aligned) == Ordering::Equal);
+    let (mut one, mut other) = (DefaultHasher::new(), DefaultHasher::new());
+    headed.hash(&mut one);
+    aligned.hash(&mut other);
+    assert_eq!(rt; one.finish(), other.finish());
+    headed.force_align();
+    headed.set_uninitialized(false);
+    shows(&rt, &headed, &[0xf5]);
+    let short = of::<u8, Lsb0>(&rt, b"0");
+    let long = of::<u8, Lsb0>(&rt, b"00");
+    assert_eq!(rt; short.as_raw_slice(), long.as_raw_slice());
+    assert!(rt; short != long && short < long);
+    let (low, high) = (of::<u8, Msb0>(&rt, b"01"), of(&rt, b"1"));
+    assert!(rt; low < high);
+    assert_eq!(rt; high.partial_cmp(&low), Some(Ordering::Greater));
+}

@@ -1,0 +1,113 @@
+//! Bits taken out, and put in place of others.
+use crate::found::ok;
+use crate::vectors::{holds, of, shows};
+use bit_containers::{BitVec, Lsb0, Msb0};
+
+#[test]
+fn drained(rt: HostRuntime) {
+    let mut v = of::<u8, Lsb0>(&rt, b"01110");
+    assert!(rt; v.len() == 5);
+    {
+        let mut drain = v.drain(1..4);
+        assert_eq!(rt; drain.next(), Some(true));
+        assert_eq!(rt; drain.next_back(), Some(true));
+        assert_eq!(rt; drain.len(), 1);
+        assert_eq!(rt; drain.size_hint(), (1, Some(1)));
+    }
+    holds(&rt, &v, b"00");
+    let mut v = of::<u8, Msb0>(&rt, b"01110");
+    assert!(rt; v.len() == 5);
+    {
+        let mut drain = v.drain(1..4);
+        assert!(rt; drain.as_bitslice().len() == 3 && drain.as_slice().all());
+        assert_eq!(rt;
+            ok(&rt, format!(in rt.alloc(); "{drain:?}")).as_str(),
+            "Drain([1, 1, 1])"
+        );
+        assert_eq!(rt; drain.nth(5), None);
+        assert_eq!(rt; drain.len(), 0);
+    }
+    holds(&rt, &v, b"00");
+}
+
+#[test]
+fn retained(rt: HostRuntime) {
+    let mut v = of::<u8, Lsb0>(&rt, b"01001");
+    v.retain(|i, _| i % 2 == 0);
+    holds(&rt, &v, b"001");
+    let mut v = of::<u8, Msb0>(&rt, b"1101");
+    let mut count = 0u8;
+    v.retain(|_, _| {
+        count = count.saturating_add(1);
+        count % 2 == 0
+    });
+    holds(&rt, &v, b"11");
+    assert_eq!(rt; count, 4);
+    let mut v = of::<u8, Lsb0>(&rt, b"001101010001010001010");
+    assert_eq!(rt; v.pop(), Some(false));
+    v.retain(|i, bit| *bit && i % 2 == 1);
+    holds(&rt, &v, b"1111111");
+}
+
+#[test]
+fn split(rt: HostRuntime) {
+    let mut v = of::<u8, Lsb0>(&rt, b"01001");
+    assert!(rt; v.len() == 5);
+    let rest = ok(&rt, v.split_off(2));
+    holds(&rt, &v, b"01");
+    holds(&rt, &rest, b"001");
+    shows(&rt, &v, &[0x12]);
+    shows(&rt, &rest, &[0x04]);
+    assert_eq!(rt; rest.head(), 0);
+}
+
+#[test]
+fn spliced(rt: HostRuntime) {
+    let mut v = ok(&rt, BitVec::<u8, Lsb0>::repeat(rt.alloc(), true, 24));
+    assert!(rt; v.len() == 24);
+    ok(&rt, v.splice(4..8, [false; 8]).finish());
+    holds(&rt, &v, b"1111000000001111111111111111");
+    v.set_uninitialized(false);
+    shows(&rt, &v, &[0x0f, 0xf0, 0xff, 0x0f]);
+    let mut v = of::<u8, Msb0>(&rt, b"01001");
+    assert!(rt; v.len() == 5);
+    ok(&rt, v.splice(2.., None).finish());
+    holds(&rt, &v, b"01");
+}
+
+/// What is replaced, taken from both ends first.
+#[test]
+fn spliced_from_both_ends(rt: HostRuntime) {
+    let mut v = of::<u8, Msb0>(&rt, b"111111111110100100001");
+    assert!(rt; v.len() == 21);
+    let mut splice = v.splice(2..10, Some(false));
+    assert!(rt; splice.next() == Some(true) && splice.next() == Some(true));
+    assert!(rt; splice.next() == Some(true) && splice.next() == Some(true));
+    assert!(rt; splice.next_back() == Some(true) && splice.next_back() == Some(true));
+    assert!(rt; splice.next_back() == Some(true) && splice.next() == Some(true));
+    assert_eq!(rt; splice.next(), None);
+    ok(&rt, splice.finish());
+    holds(&rt, &v, b"11010100100001");
+    let mut v = of::<u8, Lsb0>(&rt, b"01110");
+    assert!(rt; v.len() == 5);
+    let mut splice = v.splice(1..4, ok(&rt, vec![in rt.alloc(); false, true, true, false]));
+    assert_eq!(rt; splice.next(), Some(true));
+    assert_eq!(rt; splice.next_back(), Some(true));
+    assert_eq!(rt; splice.len(), 1);
+    ok(&rt, splice.finish());
+    holds(&rt, &v, b"001100");
+}
+
+/// Shrinking keeps the capacity.
+#[test]
+fn capacity_is_kept(rt: HostRuntime) {
+    let mut v = ok(&rt, BitVec::<u8, Lsb0>::with_capacity(rt.alloc(), 80));
+    for _ in 0..80 {
+        ok(&rt, v.push(true));
+    }
+    assert!(rt; v.capacity() >= 80);
+    v.truncate(3);
+    assert!(rt; v.capacity() >= 80);
+    v.clear();
+    assert!(rt; v.capacity() >= 80 && v.is_empty());
+}

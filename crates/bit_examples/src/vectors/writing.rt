@@ -1,0 +1,86 @@
+//! The writing calls of a view that the vector has itself.
+use crate::vectors::{holds, of, shows};
+use bit_containers::{BitVec, Lsb0};
+use bit_slice::BitSlice;
+
+#[test]
+fn parts_written(rt: HostRuntime) {
+    let mut v: BitVec<u8, Lsb0> = of(&rt, b"101100101101");
+    assert!(rt; v.len() == 12);
+    v.fill_range(2..5, false);
+    assert!(rt; v.len() == 12);
+    v.flip_range(..4);
+    assert!(rt; v.len() == 12);
+    v.flip(11);
+    holds(&rt, &v, b"011100101100");
+    let ones = [0x0f_u8];
+    assert!(rt; v.len() == 12);
+    v.copy_into(
+        4..8,
+        BitSlice::<u8, Lsb0>::from_slice(&ones).get_range(0..4),
+    );
+    holds(&rt, &v, b"011111111100");
+    let first_and_third = [0x05_u16];
+    assert!(rt; v.len() == 12);
+    v.and_range(0..4, BitSlice::<u16, Lsb0>::from_slice(&first_and_third));
+    let last_two = [0x0c_u8];
+    assert!(rt; v.len() == 12);
+    v.or_range(
+        8..,
+        BitSlice::<u8, Lsb0>::from_slice(&last_two).get_range(0..4),
+    );
+    holds(&rt, &v, b"001011111111");
+    let middle = [0x06_u8];
+    assert!(rt; v.len() == 12);
+    v.xor_range(
+        6..10,
+        BitSlice::<u8, Lsb0>::from_slice(&middle).get_range(0..4),
+    );
+    let taken = [0x30_u8];
+    v.and_not_bits(BitSlice::<u8, Lsb0>::from_slice(&taken));
+    holds(&rt, &v, b"001000100111");
+    shows(&rt, &v, &[0x44, 0x0e]);
+}
+
+#[test]
+fn moved_about(rt: HostRuntime) {
+    let mut v: BitVec<u8, Lsb0> = of(&rt, b"110100011000");
+    v.reverse();
+    assert!(rt; v.len() == 12);
+    v.rotate_left(5);
+    assert!(rt; v.len() == 12);
+    v.rotate_right(2);
+    holds(&rt, &v, b"110001011000");
+    assert!(rt; v.len() == 12);
+    v.shift_left(3);
+    assert!(rt; v.len() == 12);
+    v.shift_right(1);
+    holds(&rt, &v, b"000101100000");
+    assert!(rt; v.len() == 12);
+    v.or_within(3..6, 9);
+    assert!(rt; v.len() == 12);
+    v.and_within(0..4, 3);
+    assert!(rt; v.len() == 12);
+    v.xor_within(6..12, 0);
+    holds(&rt, &v, b"100101100101");
+}
+
+#[test]
+fn numbers_written(rt: HostRuntime) {
+    let mut v: BitVec<u8, Lsb0> = of(&rt, b"110100011000");
+    assert!(rt; v.len() == 12);
+    v.store_le(0x0a5);
+    holds(&rt, &v, b"101001010000");
+    shows(&rt, &v, &[0xa5, 0x00]);
+    assert!(rt; v.len() == 12);
+    v.store_be(0x0a5);
+    holds(&rt, &v, b"000010100101");
+}
+
+#[test]
+fn part_lands(rt: HostRuntime) {
+    let mut v: BitVec<u8, Lsb0> = of(&rt, b"101100101101");
+    assert!(rt; v.len() == 12);
+    v.part_mut(4, 11).flip_all();
+    holds(&rt, &v, b"101111010011");
+}

@@ -1,0 +1,325 @@
+//! What views read and write.
+ghost use Rattle.std.specs.Prelude.{◌≡◌, ◌+◌, ◌*◌, ◌-◌, ◌<◌, ◌≤◌, true, false, count_by, length, set, swap, slice_get, slice_range, Some};
+ghost use Rattle.bit_addressing.specs.Typed.{row};
+ghost use Rattle.bit_slice.specs.BitSliceMut.{head_of, len_of, row_of, list_of, loan_of};
+ghost use Rattle.bit_addressing.specs.declared.length.TheConstants.{MAX_BITS};
+
+use crate::rows::orders::Xor4;
+use bit_addressing::{BitOrder, BitStore, Lsb0, MAX_BITS, Msb0};
+use bit_slice::{BitSlice, BitSliceMut, run_mut, split_run_mut};
+use std::process::Abort;
+use std::test::Fail;
+
+// What is written through a view stands in the caller's own words.
+fn set_third<T: BitStore, O: BitOrder>(words: &mut [T])
+    requires some { 3 < T.BITS * length words.old }
+    requires fits { T.BITS * length words.old ≤ MAX_BITS }
+    ensures { row T.BitStore O.BitOrder words.new ≡ set (row T.BitStore O.BitOrder words.old) 3 true }
+{
+    let mut view = BitSliceMut::<T, O>::from_slice_mut(words);
+    view.set(3, true);
+}
+
+// Two writes, with a read between them.
+fn set_two<T: BitStore, O: BitOrder>(words: &mut [T]) -> bool
+    requires some { 5 < T.BITS * length words.old }
+    requires fits { T.BITS * length words.old ≤ MAX_BITS }
+    ensures read { slice_get (row T.BitStore O.BitOrder words.old) 4 ≡ Some result }
+    ensures words { row T.BitStore O.BitOrder words.new ≡ set (set (row T.BitStore O.BitOrder words.old) 4 true) 5 false }
+{
+    let mut view = BitSliceMut::<T, O>::from_slice_mut(words);
+    let old = view.replace(4, true);
+    view.set(5, false);
+    old
+}
+
+// A view that is lent on.
+fn exchange<T: BitStore, O: BitOrder>(view: &mut BitSliceMut<'_, T, O>)
+    requires { 4 < len_of view.old }
+    ensures same_words { loan_of view.new ≡ loan_of view.old }
+    ensures list { list_of view.new ≡ set (swap (list_of view.old) 4 1) 0 false }
+    ensures row { row_of view.new ≡ set (swap (row_of view.old) (head_of view.old + 4) (head_of view.old + 1)) (head_of view.old + 0) false }
+    ensures head { head_of view.new ≡ head_of view.old }
+    ensures len { len_of view.new ≡ len_of view.old }
+{
+    view.swap(4, 1);
+    view.set(0, false);
+}
+
+fn exchange_in<T: BitStore, O: BitOrder>(words: &mut [T])
+    requires some { 4 < T.BITS * length words.old }
+    requires fits { T.BITS * length words.old ≤ MAX_BITS }
+    ensures { row T.BitStore O.BitOrder words.new ≡ set (swap (row T.BitStore O.BitOrder words.old) 4 1) 0 false }
+{
+    let mut view = BitSliceMut::<T, O>::from_slice_mut(words);
+    exchange(&mut view);
+}
+
+// A word of a concrete type is known by its bits.
+fn count_two(words: &[u16]) -> usize
+    requires { length words.now ≡ 2 }
+    ensures { result ≤ 32 }
+{
+    BitSlice::<u16, Msb0>::from_slice(words).count_ones()
+}
+
+// What stands at an index after the others moved.
+fn shifted<T: BitStore, O: BitOrder>(view: &mut BitSliceMut<'_, T, O>) -> Option<bool>
+    requires { 5 < len_of view.old }
+    ensures value { result ≡ slice_get (list_of view.old) 5 }
+    ensures len { len_of view.new ≡ len_of view.old }
+{
+    view.shift_left(3);
+    view.get(2)
+}
+
+fn emptied<T: BitStore, O: BitOrder>(view: &mut BitSliceMut<'_, T, O>) -> Option<bool>
+    requires { len_of view.old ≡ 8 }
+    ensures { result ≡ Some false }
+{
+    view.shift_left(3);
+    view.get(6)
+}
+
+fn turned<T: BitStore, O: BitOrder>(view: &mut BitSliceMut<'_, T, O>) -> Option<bool>
+    requires { len_of view.old ≡ 8 }
+    ensures value { result ≡ slice_get (list_of view.old) 5 }
+    ensures len { len_of view.new ≡ len_of view.old }
+{
+    view.rotate_right(3);
+    view.get(0)
+}
+
+fn reversed<T: BitStore, O: BitOrder>(view: &mut BitSliceMut<'_, T, O>) -> Option<bool>
+    requires { len_of view.old ≡ 8 }
+    ensures value { result ≡ slice_get (list_of view.old) 5 }
+    ensures len { len_of view.new ≡ len_of view.old }
+{
+    view.reverse();
+    view.get(2)
+}
+
+// A part shows what it is lent.
+fn counted_part<T: BitStore, O: BitOrder>(words: &mut [T]) -> usize
+    requires some { 20 ≤ T.BITS * length words.old }
+    requires fits { T.BITS * length words.old ≤ MAX_BITS }
+    ensures { result ≡ count_by (λ b. b) (slice_range (row T.BitStore O.BitOrder words.old) 4 20) }
+{
+    let mut view = BitSliceMut::<T, O>::from_slice_mut(words);
+    let part = view.part_mut(4, 20);
+    part.count_ones()
+}
+
+#[test]
+fn moved_bits(rt: HostRuntime) {
+    // 0, 1, 1, 0, 0, 1, 0, 1
+    let mut words = [0x65_u8];
+    let mut view = BitSliceMut::<u8, Msb0>::from_slice_mut(&mut words);
+    assert_eq!(rt; turned(&mut view), Some(true));
+    // 1, 0, 1, 0, 1, 1, 0, 0
+    assert_eq!(rt; reversed(&mut view), Some(true));
+    // 0, 0, 1, 1, 0, 1, 0, 1
+    assert_eq!(rt; shifted(&mut view), Some(true));
+    // 1, 0, 1, 0, 1, 0, 0, 0
+    assert_eq!(rt; emptied(&mut view), Some(false));
+    assert_eq!(rt; words[0], 0x40);
+}
+
+#[test]
+fn part_lands(rt: HostRuntime) {
+    let mut words = [0x00ff_u16, 0x0000, 0xffff];
+    assert_eq!(rt; counted_part::<u16, Lsb0>(&mut words), 4);
+    let mut view = BitSliceMut::<u16, Lsb0>::from_slice_mut(&mut words);
+    let mut part = view.part_mut(4, 36);
+    assert!(rt; part.head() == 4 && part.len() == 32);
+    part.flip_all();
+    part.part_mut(12, 28).fill(false);
+    assert_eq!(rt; words.as_slice(), [0xff0f, 0x0000, 0xfff0].as_slice());
+}
+
+#[test]
+fn two_runs_land(rt: HostRuntime) {
+    let mut words = [0xff_u8, 0xff, 0xff];
+    let (mut left, mut right) = split_run_mut::<u8, Lsb0>(&mut words, 3, 8, 20);
+    left.fill(false);
+    right.flip_all();
+    assert_eq!(rt; words.as_slice(), [0x07, 0x00, 0xf0].as_slice());
+}
+
+#[test]
+fn parts_of_a_word(rt: HostRuntime) -> Result<(), Fail> {
+    let words = [0x1234_u16];
+    let part = BitSlice::<u16, Msb0>::from_slice(&words).get_range(4..12);
+    assert_eq!(rt; part.head(), 4);
+    let list = part.iter().collect::<Vec<bool>>(rt.alloc())?;
+    assert_eq!(rt;
+        list.as_slice(),
+        [false, false, true, false, false, false, true, true].as_slice()
+    );
+    assert_eq!(rt; part.count_ones(), 3);
+    Ok(())
+}
+
+#[test]
+fn writes_to_a_word(rt: HostRuntime) {
+    let mut words = [0xff_u8, 0xff];
+    run_mut::<u8, Lsb0>(&mut words, 3, 11).fill(false);
+    assert_eq!(rt; words.as_slice(), [0x07, 0xf8].as_slice());
+    let mut words = [0x1234_u16];
+    BitSliceMut::<u16, Msb0>::from_slice_mut(&mut words).set(4, true);
+    assert_eq!(rt; words[0], 0x1a34);
+    let mut words = [0x1234_u16];
+    BitSliceMut::<u16, Msb0>::from_slice_mut(&mut words).swap(0, 3);
+    assert_eq!(rt; words[0], 0x8234);
+    let mut words = [0_u16];
+    let bytes = [0xff_u8, 0];
+    BitSliceMut::<u16, Msb0>::from_slice_mut(&mut words).clone_from_bitslice(BitSlice::<
+        u8,
+        Lsb0,
+    >::from_slice(&bytes));
+    assert_eq!(rt; words[0], 0xff00);
+}
+
+#[test]
+fn both_ends(rt: HostRuntime) {
+    let words = [0xb2_u8, 0x01];
+    let mut bits = BitSlice::<u8, Lsb0>::from_slice(&words)
+        .get_range(1..=8)
+        .iter();
+    // 1, 0, 0, 1, 1, 0, 1, 1
+    assert_eq!(rt; bits.len(), 8);
+    assert_eq!(rt; bits.next(), Some(true));
+    assert_eq!(rt; bits.next_back(), Some(true));
+    assert_eq!(rt; bits.next(), Some(false));
+    assert_eq!(rt; bits.next_back(), Some(true));
+    assert_eq!(rt; bits.next_back(), Some(false));
+    assert_eq!(rt; bits.size_hint(), (3, Some(3)));
+    assert_eq!(rt; bits.next(), Some(false));
+    assert_eq!(rt; bits.next(), Some(true));
+    assert_eq!(rt; bits.next_back(), Some(true));
+    for _ in 0..3 {
+        assert_eq!(rt; bits.next(), None);
+        assert_eq!(rt; bits.next_back(), None);
+        assert_eq!(rt; bits.len(), 0);
+    }
+}
+
+// The calls that read, on words whose bits 3 and 9 alone are set.
+fn reads<T: BitStore, O: BitOrder>(rt: &impl Abort, words: &[T])
+    requires some { 16 ≤ T.BITS * length words.now }
+    requires fits { T.BITS * length words.now ≤ MAX_BITS }
+{
+    let count = words.len() * T::BITS as usize;
+    let view = BitSlice::<T, O>::from_slice(words);
+    assert_eq!(rt; view.len(), count);
+    assert_eq!(rt; view.head(), 0);
+    assert!(rt; !view.is_empty() && view.any() && !view.all());
+    assert_eq!(rt; (view.count_ones(), view.count_zeros()), (2, count - 2));
+    assert!(rt; view[3] && !view[2] && view[9]);
+    assert_eq!(rt; (view.get(9), view.get(count)), (Some(true), None));
+    assert_eq!(rt; (view.first(), view.last()), (Some(false), Some(false)));
+    assert_eq!(rt; view.as_raw_slice().len(), words.len());
+    let part = view.get_range(3..10);
+    assert_eq!(rt; (part.head(), part.len()), (3, 7));
+    assert_eq!(rt; (part.count_ones(), part.count_zeros()), (2, 5));
+    assert_eq!(rt; (part.first(), part.last()), (Some(true), Some(true)));
+    assert_eq!(rt; part.iter().position(|b| !b), Some(1));
+    let none = part.get_range(7..);
+    assert!(rt; none.is_empty() && !none.any() && none.all());
+    assert_eq!(rt; (none.first(), none.last()), (None, None));
+    assert_eq!(rt; part.clone().map(|v| v.len()), Ok(7));
+    assert_eq!(rt;
+        BitSlice::<T, O>::try_from_slice(words).map(|v| v.len()),
+        Ok(count)
+    );
+}
+
+// The calls that write, and those that read through a view for writing, on words with no bit set.
+fn writes<T: BitStore, O: BitOrder>(rt: &impl Abort, words: &mut [T])
+    requires word { 0 < length words.old }
+    requires some { 16 ≤ T.BITS * length words.old }
+    requires fits { T.BITS * length words.old ≤ MAX_BITS }
+{
+    let count = words.len() * T::BITS as usize;
+    let mut view = BitSliceMut::<T, O>::from_slice_mut(words);
+    assert_eq!(rt; (view.head(), view.len()), (0, count));
+    assert!(rt; !view.is_empty() && !view.any() && !view.all());
+    view.set(9, true);
+    assert!(rt; !view.replace(2, true) && view.replace(2, true));
+    view.swap(2, 3);
+    assert!(rt; view[3] && !view[2] && view[9]);
+    assert_eq!(rt; (view.count_ones(), view.count_zeros()), (2, count - 2));
+    assert_eq!(rt; (view.get(9), view.get(count)), (Some(true), None));
+    assert_eq!(rt; (view.first(), view.last()), (Some(false), Some(false)));
+    assert_eq!(rt; view.get_range(3..10).count_ones(), 2);
+    assert_eq!(rt; view.iter().len(), count);
+    reads::<T, O>(rt, view.as_raw_slice());
+    view.fill(true);
+    assert!(rt; view.as_bitslice().all());
+    let raw = view.as_raw_mut_slice();
+    raw[0] = T::ZERO;
+    assert_eq!(rt; view.count_zeros(), T::BITS as usize);
+}
+
+#[test]
+fn calls(rt: HostRuntime) {
+    writes::<u8, Lsb0>(&rt, &mut [0; 3]);
+    writes::<u32, Msb0>(&rt, &mut [0; 2]);
+    writes::<usize, Xor4>(&rt, &mut [0; 1]);
+}
+
+// One move in all the words, and the same move through a view whose head is 1.
+fn copied<O: BitOrder>(words: [u8; 2], from: usize, upto: usize, dest: usize) -> ([u8; 2], [u8; 2])
+    requires begin { 1 ≤ from }
+    requires order { from ≤ upto }
+    requires end { upto ≤ 16 }
+    requires place { 1 ≤ dest }
+    requires room { dest + (upto - from) ≤ 16 }
+{
+    let (mut whole, mut part) = (words, words);
+    BitSliceMut::<u8, O>::from_slice_mut(&mut whole).copy_within(from..upto, dest);
+    let mut view = BitSliceMut::<u8, O>::from_parts_mut(&mut part, 1, 15);
+    view.copy_within(from - 1..upto - 1, dest - 1);
+    (whole, part)
+}
+
+// Bits outside a view stay.
+#[test]
+#[tactic(auto, unfolding(bit_addressing::specs::Row::words_for))]
+fn bits_outside(rt: HostRuntime) {
+    let mut words = [0xff_u8, 0xff, 0xff];
+    let mut view = BitSliceMut::<u8, Lsb0>::from_parts_mut(&mut words, 2, 19);
+    view.fill(false);
+    assert_eq!(rt; words, [0x03, 0x00, 0xe0]);
+    let view = BitSlice::<u8, Msb0>::from_parts(&words, 2, 19);
+    assert_eq!(rt; (view.head(), view.len(), view.count_ones()), (2, 19, 5));
+    assert_eq!(rt; set_two::<u8, Lsb0>(&mut words), false);
+    set_third::<u8, Xor4>(&mut words);
+    assert_eq!(rt; words, [0x93, 0x00, 0xe0]);
+    exchange_in::<u8, Lsb0>(&mut words);
+    assert_eq!(rt; words, [0x92, 0x00, 0xe0]);
+    assert_eq!(rt; count_two(&[0x1234, 0xffff]), 21);
+}
+
+#[test]
+fn copies_within(rt: HostRuntime) {
+    let words = [0xb1_u8, 0x6d];
+    let after = [0xc1, 0x76];
+    assert_eq!(rt; copied::<Lsb0>(words, 1, 12, 3), (after, after));
+    let after = [0x6d, 0x6b];
+    assert_eq!(rt; copied::<Lsb0>(words, 3, 14, 1), (after, after));
+    let after = [0xb6, 0x8d];
+    assert_eq!(rt; copied::<Xor4>(words, 1, 12, 3), (after, after));
+    let mut word = [0x07_u8];
+    let mut view = BitSliceMut::<u8, Lsb0>::from_slice_mut(&mut word);
+    view.copy_within(3..3, 0);
+    assert_eq!(rt; view.as_raw_slice()[0], 0x07);
+    view.copy_within(0..3, 5);
+    assert_eq!(rt; word[0], 0xe7);
+    let mut bytes = [0x01_u8, 0x80, 0xff];
+    BitSliceMut::<u8, Lsb0>::from_slice_mut(&mut bytes).copy_within(..20, 4);
+    assert_eq!(rt; bytes, [0x11, 0x00, 0xf8]);
+    let mut words = [0x1234_u16, 0xabcd];
+    BitSliceMut::<u16, Lsb0>::from_slice_mut(&mut words).copy_within(8..24, 0);
+    assert_eq!(rt; words, [0xcd12, 0xabcd]);
+}

@@ -1,0 +1,95 @@
+//! Views whose reads and writes of words are counted.
+ghost use Rattle.std.specs.Prelude.{◌≡◌, ◌↔◌, IsTrue, count_by, ◌+◌, ◌≤◌};
+ghost use Rattle.bit_addressing.specs.Row.{moved};
+ghost use Rattle.bit_slice.specs.CountedMut.{head_of as head_counted, len_of as len_counted, loan_of as loan_counted, list_of as list_counted, reads_of as reads_counted, writes_of};
+ghost use Rattle.bit_slice.specs.Counted.{head_of as head_read, len_of as len_read, list_of as list_read, reads_of, WasRead};
+
+use bit_addressing::Lsb0;
+use bit_slice::{BitSlice, BitSliceMut, Counted, CountedMut};
+
+// A counted move of bits 1..12 to 3 writes two words at most, and reads six at most.
+#[tactic(auto, unfolding(bit_addressing::specs::Row::touched))]
+fn count_writes(view: &mut CountedMut<'_, u8, Lsb0>)
+    requires head { head_counted view.old ≡ 0 }
+    requires len { len_counted view.old ≡ 16 }
+    ensures same_words { loan_counted view.new ≡ loan_counted view.old }
+    ensures writes { writes_of view.new ≤ writes_of view.old + 2 }
+    ensures reads { reads_counted view.new ≤ reads_counted view.old + 6 }
+    ensures list { list_counted view.new ≡ moved (list_counted view.old) 1 3 11 }
+    ensures head { head_counted view.new ≡ head_counted view.old }
+    ensures len { len_counted view.new ≡ len_counted view.old }
+{
+    view.copy_within_counted(1..12, 3);
+}
+
+// What is moved through a meter stands in the view's words.
+#[test]
+#[tactic(auto, unfolding(bit_addressing::specs::Row::words_for))]
+fn counted_move(rt: HostRuntime) {
+    let mut words = [0x05_u8, 0x00, 0xff];
+    let mut view = BitSliceMut::<u8, Lsb0>::from_parts_mut(&mut words, 2, 19);
+    let mut counted = view.counted_mut();
+    assert_eq!(rt; (counted.head(), counted.len()), (2, 19));
+    assert!(rt; !counted.is_empty());
+    counted.copy_within_counted(0..3, 8);
+    counted.copy_within_counted(8..=10, 6);
+    assert_eq!(rt; view.count_ones(), 7);
+    assert_eq!(rt; words, [0x05, 0x01, 0xff]);
+}
+
+#[test]
+#[tactic(auto, unfolding(bit_addressing::specs::Row::words_for))]
+fn counted_rows(rt: HostRuntime) {
+    let mut words = [0xb1_u8, 0x6d];
+    let mut view = BitSliceMut::<u8, Lsb0>::from_parts_mut(&mut words, 0, 16);
+    count_writes(&mut view.counted_mut());
+    assert_eq!(rt; words, [0xc1, 0x76]);
+}
+
+// Eight bits from head 3 on lie in two words on either side.
+#[tactic(auto, unfolding(bit_addressing::specs::Row::words_for))]
+fn compare_in_four(left: &mut Counted<'_, u8, Lsb0>, right: &mut Counted<'_, u8, Lsb0>) -> bool
+    requires left_head { head_read left.old ≡ 3 }
+    requires left_len { len_read left.old ≡ 8 }
+    requires right_head { head_read right.old ≡ 3 }
+    requires right_len { len_read right.old ≡ 8 }
+    ensures value { IsTrue result ↔ (list_read left.old ≡ list_read right.old) }
+    ensures left { WasRead left.old left.new }
+    ensures reads { reads_of left.new + reads_of right.new ≤ reads_of left.old + reads_of right.old + 4 }
+{
+    left.eq_counted(right)
+}
+
+#[tactic(auto, unfolding(bit_addressing::specs::Row::words_for))]
+fn count_in_two(view: &mut Counted<'_, u8, Lsb0>) -> usize
+    requires head { head_read view.old ≡ 3 }
+    requires len { len_read view.old ≤ 8 }
+    ensures value { result ≡ count_by (λ b. b) (list_read view.old) }
+    ensures reads { reads_of view.new ≤ reads_of view.old + 2 }
+    ensures none { len_read view.old ≡ 0 → reads_of view.new ≤ reads_of view.old + 1 }
+{
+    view.count_ones_counted()
+}
+
+#[test]
+fn counted_reads(rt: HostRuntime) {
+    let (first, second, third) = ([0xa8_u8, 0x07], [0xaf_u8, 0xff], [0xa8_u8, 0x03]);
+    let first = BitSlice::<u8, Lsb0>::from_slice(&first).get_range(3..11);
+    let second = BitSlice::<u8, Lsb0>::from_slice(&second).get_range(3..11);
+    let third = BitSlice::<u8, Lsb0>::from_slice(&third).get_range(3..11);
+    let mut counted = first.counted();
+    assert_eq!(rt; (counted.head(), counted.len()), (3, 8));
+    assert!(rt; !counted.is_empty());
+    assert!(rt; compare_in_four(&mut counted, &mut second.counted()));
+    assert!(rt; !compare_in_four(&mut counted, &mut third.counted()));
+    assert_eq!(rt; count_in_two(&mut counted), 6);
+    let byte = [0xff_u8];
+    let none = BitSlice::<u8, Lsb0>::from_slice(&byte).get_range(3..3);
+    assert_eq!(rt; count_in_two(&mut none.counted()), 0);
+    let aligned = [0xf5_u8];
+    let aligned = BitSlice::<u8, Lsb0>::from_slice(&aligned);
+    assert!(rt; counted.eq_counted(&mut aligned.counted()));
+    assert!(rt; aligned.counted().eq_counted(&mut counted));
+    assert!(rt; !counted.eq_counted(&mut none.counted()));
+    assert!(rt; first.eq_bits(aligned) && !first.eq_bits(third));
+}

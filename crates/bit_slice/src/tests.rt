@@ -1,4 +1,0 @@
-mod compared;
-mod counted;
-mod orders;
-mod views;

@@ -1,0 +1,174 @@
+//! Examples through the bound, at each of the containers.
+mod callers;
+
+use bit_addressing::{BitOrder, BitStore, GrowError, Lsb0, Msb0};
+use bit_array::BitArray;
+use bit_boxed::BitBox;
+use bit_containers::BitVec;
+use bit_fixed::{Bits, FixedCommand, Reply, Stop, run_fixed};
+use bit_slice::BitSlice;
+use std::process::Abort;
+use std::test::Fail;
+
+/// That these are the digits, and no more.
+fn holds<B: Bits>(rt: &impl Abort, bits: &B, digits: &[u8]) {
+    assert_eq!(rt; bits.len(), digits.len());
+    for (i, digit) in digits.iter().enumerate() {
+        assert_eq!(rt; bits.get(i), Some(*digit == b'1'), "at {i}");
+    }
+    assert_eq!(rt; bits.get(digits.len()), None);
+}
+
+/// A run over eight bits that are false: its replies, and what it leaves.
+fn worked<B: Bits>(rt: &(impl Abort + AllocGlobal), bits: &mut B) -> Result<(), Fail> {
+    holds(rt, bits, b"00000000");
+    let commands = [
+        FixedCommand::Set(1, true),
+        FixedCommand::Flip,
+        FixedCommand::CopyWithin(0, 3, 5),
+        FixedCommand::Get(8),
+        FixedCommand::Len,
+    ];
+    let mut replies = Vec::new(rt.alloc());
+    let ran = run_fixed(bits, &commands, &mut replies);
+    assert!(rt; ran.is_ok());
+    let wanted = [
+        Reply::Done,
+        Reply::Done,
+        Reply::Done,
+        Reply::OutOfRange,
+        Reply::Number(8),
+    ];
+    assert!(rt; replies.as_slice() == wanted.as_slice());
+    holds(rt, bits, b"10111101");
+    Ok(())
+}
+
+/// Each command that was not run there, and those that are out of range.
+fn answered<B: Bits>(rt: &(impl Abort + AllocGlobal), bits: &mut B) -> Result<(), Fail> {
+    let commands = [
+        FixedCommand::Fill(true),
+        FixedCommand::Get(7),
+        FixedCommand::Set(8, true),
+        FixedCommand::CopyWithin(2, 1, 0),
+        FixedCommand::CopyWithin(0, 9, 0),
+        FixedCommand::CopyWithin(0, 3, 6),
+        FixedCommand::CopyWithin(8, 8, 8),
+        FixedCommand::CopyWithin(0, 1, usize::MAX),
+        FixedCommand::Set(7, false),
+        FixedCommand::Get(7),
+    ];
+    let mut replies = Vec::new(rt.alloc());
+    let ran = run_fixed(bits, &commands, &mut replies);
+    assert!(rt; ran.is_ok());
+    let wanted = [
+        Reply::Done,
+        Reply::Bit(true),
+        Reply::OutOfRange,
+        Reply::OutOfRange,
+        Reply::OutOfRange,
+        Reply::OutOfRange,
+        Reply::Done,
+        Reply::OutOfRange,
+        Reply::Done,
+        Reply::Bit(false),
+    ];
+    assert!(rt; replies.as_slice() == wanted.as_slice());
+    holds(rt, bits, b"11111110");
+    assert!(rt; run_fixed(bits, &[], &mut replies).is_ok());
+    assert_eq!(rt; replies.len(), 10);
+    Ok(())
+}
+
+/// Each call of the trait once.
+fn called<B: Bits>(rt: &impl Abort, bits: &mut B) {
+    bits.fill(false);
+    let len = bits.len();
+    assert_eq!(rt; len, 8);
+    bits.set(6, true);
+    holds(rt, bits, b"00000010");
+    bits.copy_within(5, 8, 0);
+    holds(rt, bits, b"01000010");
+    bits.flip_all();
+    holds(rt, bits, b"10111101");
+    assert_eq!(rt; bits.get(1), Some(false));
+}
+
+/// The whole of it over eight bits that are false.
+fn run_over<B: Bits>(rt: &(impl Abort + AllocGlobal), bits: &mut B) -> Result<(), Fail> {
+    worked(rt, bits)?;
+    answered(rt, bits)?;
+    called(rt, bits);
+    Ok(())
+}
+
+#[test]
+fn arrays(rt: HostRuntime) -> Result<(), Fail> {
+    let mut word = BitArray::<u8, Lsb0>::zero();
+    run_over(&rt, &mut word)?;
+    assert_eq!(rt; word.into_inner(), 0xbd);
+    let mut words = BitArray::<[u8; 1], Msb0>::zero();
+    run_over(&rt, &mut words)?;
+    assert_eq!(rt; words.as_raw_slice(), [0xbd].as_slice());
+    Ok(())
+}
+
+#[test]
+fn boxes(rt: HostRuntime) -> Result<(), Fail> {
+    let mut b = BitBox::<u8, Lsb0>::from_box(rt.alloc(), Box::new(rt.alloc(), 0)?)?;
+    run_over(&rt, &mut b)?;
+    assert_eq!(rt; b.as_raw_slice(), [0xbd].as_slice());
+    let zeros = [0_u16];
+    let view = BitSlice::<u16, Msb0>::from_slice(&zeros).get_range(5..13);
+    let mut b = BitBox::from_bitslice_headed(rt.alloc(), view)?;
+    run_over(&rt, &mut b)?;
+    assert!(rt; b.head() == 5 && b.as_raw_slice() == [0x05e8].as_slice());
+    Ok(())
+}
+
+#[test]
+fn vectors(rt: HostRuntime) -> Result<(), Fail> {
+    let mut v = BitVec::<u8, Lsb0>::from_vec(vec![in rt.alloc(); 0]?);
+    run_over(&rt, &mut v)?;
+    assert_eq!(rt; v.as_raw_slice(), [0xbd].as_slice());
+    let zeros = [0_u16];
+    let view = BitSlice::<u16, Msb0>::from_slice(&zeros).get_range(5..13);
+    let mut v = BitVec::from_bitslice_headed(rt.alloc(), view)?;
+    run_over(&rt, &mut v)?;
+    assert!(rt; v.head() == 5 && v.as_raw_slice() == [0x05e8].as_slice());
+    Ok(())
+}
+
+/// A run: where its replies find no memory, it stops before its first command, and changes nothing. It passes with ample
+/// memory, and whichever request `rt try --test --fail-alloc N` refuses.
+fn stopped<B: Bits>(rt: &(impl Abort + AllocGlobal), bits: &mut B) {
+    let mut replies = Vec::new(rt.alloc());
+    let commands = [FixedCommand::Fill(true), FixedCommand::Len];
+    match run_fixed(bits, &commands, &mut replies) {
+        Ok(()) => {
+            assert_eq!(rt; replies.len(), 2);
+            holds(rt, bits, b"11111111");
+        }
+        Err(stop) => {
+            let wanted = Stop {
+                done: 0,
+                why: GrowError::OutOfMemory,
+            };
+            assert!(rt; stop == wanted && replies.is_empty());
+            holds(rt, bits, b"00000000");
+        }
+    }
+}
+
+#[test]
+fn refused(rt: HostRuntime) {
+    stopped(&rt, &mut BitArray::<u8, Msb0>::zero());
+    let zeros = [0_u8];
+    let view = BitSlice::<u8, Lsb0>::from_slice(&zeros);
+    if let Ok(mut b) = BitBox::from_bitslice(rt.alloc(), view) {
+        stopped(&rt, &mut b);
+    }
+    if let Ok(mut v) = BitVec::from_bitslice(rt.alloc(), view) {
+        stopped(&rt, &mut v);
+    }
+}

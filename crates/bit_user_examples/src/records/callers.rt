@@ -1,0 +1,44 @@
+//! Callers of records: what each proves stands in its clauses, and only the loop has a file, its invariant.
+ghost use Rattle.std.specs.Prelude.{◌≡◌, ℕ, ◌+◌, ◌^◌, ◌<◌, ◌++◌, [], ◌∷◌, IfOk, OnOk, Some, length, slice_get, slice_index_or};
+
+use bit_containers::{BitOrder, BitStore, GrowError};
+use bit_records::Records;
+
+pub fn second_of_three<T: BitStore, O: BitOrder>(
+    records: &mut Records<T, O>,
+) -> Result<Option<u64>, GrowError>
+    requires none { records.old.list ≡ [] }
+    requires width { records.old.width ≡ 5 }
+    ensures { IfOk result (λ second. second ≡ Some 31) }
+{
+    records.push(1)?;
+    records.push(31)?;
+    records.push(0)?;
+    Ok(records.get(1))
+}
+
+pub fn first_written<T: BitStore, O: BitOrder>(
+    records: &mut Records<T, O>,
+    number: u64,
+) -> Option<u64>
+    requires some { 1 < length records.old.list }
+    requires fits { number < 2 ^ records.old.width }
+    ensures first { slice_get records.new.list 0 ≡ Some number }
+    ensures others { result ≡ slice_get records.old.list 1 }
+{
+    records.set(0, number);
+    records.get(1)
+}
+
+pub fn filled<T: BitStore, O: BitOrder>(
+    records: &mut Records<T, O>,
+    numbers: &[u64],
+) -> Result<(), GrowError>
+    requires { (i : ℕ) → i < length numbers.now → slice_index_or numbers.now i 0 < 2 ^ records.old.width }
+    ensures { OnOk result (records.new.list ≡ records.old.list ++ numbers.now) }
+{
+    for i in 0..numbers.len() {
+        records.push(numbers[i])?;
+    }
+    Ok(())
+}

@@ -1,0 +1,189 @@
+//! Matrices beside plain loops.
+use bit_addressing::GrowError;
+use bit_users::Matrix;
+use std::alloc::Global;
+use std::test::Fail;
+
+// A matrix with bits here and there, the same at each run.
+fn scattered(
+    alloc: Global,
+    rows: usize,
+    columns: usize,
+    mut seed: u64,
+) -> Result<Matrix, GrowError> {
+    let mut made = Matrix::new(alloc, rows, columns)?;
+    for row in 0..rows {
+        for column in 0..columns {
+            seed = seed
+                .wrapping_mul(6364136223846793005)
+                .wrapping_add(1442695040888963407);
+            if row < made.rows() && column < made.columns() {
+                made.set(row, column, seed >> 63 == 1);
+            }
+        }
+    }
+    Ok(made)
+}
+
+// The bit in a row and a column, false where there is none.
+fn bit(matrix: &Matrix, row: usize, column: usize) -> bool {
+    row < matrix.rows() && column < matrix.columns() && matrix.get(row, column)
+}
+
+// How many of the first `middle` indices lead from a row to a column, up to the largest number.
+fn ways(left: &Matrix, right: &Matrix, row: usize, column: usize, middle: usize) -> usize {
+    let mut count: usize = 0;
+    for k in 0..middle {
+        if bit(left, row, k) && bit(right, k, column) {
+            count = count.saturating_add(1);
+        }
+    }
+    count
+}
+
+#[test]
+fn products(rt: HostRuntime) -> Result<(), Fail> {
+    let left = scattered(rt.alloc(), 9, 70, 1)?;
+    let right = scattered(rt.alloc(), 70, 67, 2)?;
+    assert!(rt; right.rows() == left.columns());
+    let any = left.times(&right, rt.alloc())?;
+    let sum = left.times_mod_2(&right, rt.alloc())?;
+    assert!(rt; any.rows() == 9 && any.columns() == 67 && sum.rows() == 9 && sum.columns() == 67);
+    for row in 0..9 {
+        for column in 0..67 {
+            let count = ways(&left, &right, row, column, 70);
+            assert_eq!(rt; bit(&any, row, column), count > 0, "{row}, {column}");
+            assert_eq!(rt; bit(&sum, row, column), count % 2 == 1, "{row}, {column}");
+        }
+    }
+    Ok(())
+}
+
+// A matrix with an inverse: true on the diagonal, false below it, and then its rows in another order.
+fn invertible(alloc: Global, size: usize) -> Result<Matrix, GrowError> {
+    let mut made = scattered(alloc, size, size, 3)?;
+    for row in 0..size {
+        for column in 0..=row.min(size) {
+            if row < made.rows() && column < made.columns() {
+                made.set(row, column, column == row);
+            }
+        }
+    }
+    for row in 0..size / 2 {
+        if row < made.rows() && size - 1 - row < made.rows() {
+            made.swap_rows(row, size - 1 - row);
+        }
+    }
+    Ok(made)
+}
+
+#[test]
+fn inverses(rt: HostRuntime) -> Result<(), Fail> {
+    let matrix = invertible(rt.alloc(), 66)?;
+    assert!(rt; matrix.rows() == matrix.columns());
+    let inverse = matrix.inverse_mod_2(rt.alloc())?;
+    assert!(rt; inverse.is_some());
+    let inverse = inverse.unwrap();
+    for row in 0..66 {
+        for column in 0..66 {
+            let one = row == column;
+            let left = ways(&inverse, &matrix, row, column, 66);
+            let right = ways(&matrix, &inverse, row, column, 66);
+            assert_eq!(rt; left % 2 == 1, one, "{row}, {column}");
+            assert_eq!(rt; right % 2 == 1, one, "{row}, {column}");
+        }
+    }
+    Ok(())
+}
+
+#[test]
+fn no_inverse(rt: HostRuntime) -> Result<(), Fail> {
+    let mut matrix = invertible(rt.alloc(), 66)?;
+    assert!(rt; matrix.rows() == 66 && matrix.columns() == 66);
+    matrix.copy_row(3, 40);
+    assert!(rt; matrix.inverse_mod_2(rt.alloc())?.is_none());
+    let none = Matrix::new(rt.alloc(), 0, 0)?;
+    assert!(rt; none.inverse_mod_2(rt.alloc())?.is_some());
+    Ok(())
+}
+
+#[test]
+fn copies_and_texts(rt: HostRuntime) -> Result<(), Fail> {
+    let mut matrix = Matrix::identity(rt.alloc(), 3)?;
+    assert!(rt; matrix.rows() == 3 && matrix.columns() == 3);
+    let copy = matrix.clone()?;
+    assert!(rt; copy == matrix);
+    matrix.xor_row(0, 2);
+    assert!(rt; copy != matrix && matrix.row(0).len() == 3);
+    assert_eq!(rt; matrix.to_string(rt.alloc())?.as_str(), "101\n010\n001\n");
+    assert_eq!(rt; copy.to_string(rt.alloc())?.as_str(), "100\n010\n001\n");
+    Ok(())
+}
+
+#[test]
+fn turned_by_squares(rt: HostRuntime) -> Result<(), Fail> {
+    for (rows, columns) in [(64, 64), (1, 130), (130, 1), (63, 65), (129, 70)] {
+        let matrix = scattered(rt.alloc(), rows, columns, 5)?;
+        let turned = matrix.transpose(rt.alloc())?;
+        assert!(rt; turned.rows() == columns && turned.columns() == rows);
+        for row in 0..rows {
+            for column in 0..columns {
+                assert_eq!(rt;
+                    bit(&turned, column, row),
+                    bit(&matrix, row, column),
+                    "{row}, {column}"
+                );
+            }
+        }
+    }
+    Ok(())
+}
+
+// Whether the rows that a number names by its digits have a sum mod 2 of zero.
+fn sums_to_zero(matrix: &Matrix, rows: usize, columns: usize, named: usize) -> bool {
+    for column in 0..columns {
+        let (mut odd, mut rest) = (false, named);
+        for row in 0..rows {
+            odd ^= rest % 2 == 1 && bit(matrix, row, column);
+            rest /= 2;
+        }
+        if odd {
+            return false;
+        }
+    }
+    true
+}
+
+// How many choices of rows have such a sum: 2 to the power of the rows without the rank.
+fn zero_sums(matrix: &Matrix, rows: usize, columns: usize) -> usize {
+    let mut count: usize = 0;
+    for named in 0..128 {
+        if sums_to_zero(matrix, rows, columns, named) {
+            count = count.saturating_add(1);
+        }
+    }
+    count
+}
+
+#[test]
+fn ranks(rt: HostRuntime) -> Result<(), Fail> {
+    for seed in 1..20 {
+        for columns in [3, 6, 7, 70] {
+            let matrix = scattered(rt.alloc(), 7, columns, seed)?;
+            let rank = matrix.rank_mod_2(rt.alloc())?;
+            assert!(rt; rank <= 7);
+            assert_eq!(rt;
+                zero_sums(&matrix, 7, columns),
+                1 << (7 - rank),
+                "{seed}, {columns}"
+            );
+        }
+    }
+    assert_eq!(rt;
+        Matrix::identity(rt.alloc(), 66)?.rank_mod_2(rt.alloc())?,
+        66
+    );
+    assert_eq!(rt; Matrix::new(rt.alloc(), 5, 0)?.rank_mod_2(rt.alloc())?, 0);
+    assert_eq!(rt; Matrix::new(rt.alloc(), 5, 9)?.rank_mod_2(rt.alloc())?, 0);
+    Ok(())
+}

@@ -46,7 +46,7 @@ module _ (xs ys : List Bool) (i j : ℕ) where
   pub alike_front : (n : ℕ) → slice_range xs i (i + n) ≡ slice_range ys j (j + n) → AreAlike xs ys i j n
   alike_front n equal q h = sym (get_or-run xs i n q h) ∙ ap (λ l. get_or l q false) equal ∙ get_or-run ys j n q h
 
-  -- the runs that follow are equal: so many more bits are the same
+  -- the runs that follow are equal: that many more bits are the same
   pub alike_run : (k m a b : ℕ) → a ≡ i + k → b ≡ j + k → slice_range xs a (a + m) ≡ slice_range ys b (b + m) → AreAlike xs ys i j k → AreAlike xs ys i j (k + m)
   alike_run k m a b at_a at_b equal same q h = elim (cases_lt q k) [
     | inl l ↦ same q l
@@ -67,7 +67,7 @@ module _ (xs ys : List Bool) (i j : ℕ) where
 
   -- a number whose bit q tells whether the bits after k + q differ, of m bits
   module _ (k m z : ℕ) (tells : (q : ℕ) → q < m → has_bit z q ≡ (if get_or xs (i + (k + q)) false then not (get_or ys (j + (k + q)) false) else get_or ys (j + (k + q)) false)) where
-    -- it is 0: so many more bits are the same
+    -- it is 0: that many more bits are the same
     pub alike_by : z ≡ 0 → AreAlike xs ys i j k → AreAlike xs ys i j (k + m)
     alike_by none = alike_each k m (λ q h. same_if (get_or xs (i + (k + q)) false) (get_or ys (j + (k + q)) false) (sym (tells q h) ∙ ap (λ n. has_bit n q) none ∙ has_none q))
 
@@ -113,7 +113,7 @@ module _ (xs ys : List Bool) (i j : ℕ) where
         ∙ ap (λ t. if t then not (has_bit y q) else has_bit y q) (ap (λ n. has_bit n q) is_x ∙ has_number (slice_range xs a (a + m)) q ∙ get_or_past (slice_range xs a (a + m)) q false (omega arith))
         ∙ ap (λ n. has_bit n q) is_y ∙ has_number (slice_range ys b (b + m)) q ∙ get_or_past (slice_range ys b (b + m)) q false (omega arith)
 
-    -- the numbers are equal: so many more bits are the same
+    -- the numbers are equal: that many more bits are the same
     pub alike_more : bit_xor x y ≡ 0 → AreAlike xs ys i j k → AreAlike xs ys i j (k + m)
     alike_more = alike_by k m (bit_xor x y) xor_bit
 

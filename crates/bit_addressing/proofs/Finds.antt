@@ -22,7 +22,7 @@ run_of_one n at m b h =
     let e : at + m - at ≡ m = omega arith in
     ap (take (at + m - at)) (drop-replicate at n b) ∙ take-replicate (at + m - at) (n - at) b (omega arith) ∙ ap (λ k. replicate k b) e
 
--- so many lowest bits, all the same
+-- the lowest bits, all the same
 pub all_bits : (b : Bool) (m x : ℕ) → m ≤ 64 → x ≡ (if b then 2 ^ m - 1 else 0) → x ≡ number_of (replicate m b)
 all_bits true m x few is =
     let most : 2 ^ m ≤ 2 ^ 64 = pow_mono few in
@@ -109,7 +109,7 @@ module _ (xs : List Bool) (from upto : ℕ) (bit : Bool) (ordered : from ≤ upt
       alike_all xs others from 0 k k (omega arith) (omega arith) (omega arith) alike ∙ run_of_one (upto - from) 0 k (not bit) (omega arith)
 
   module _ (k m x y : ℕ) (few : k + m ≤ upto - from) (small : m ≤ 64) (read : x ≡ number_of (slice_range xs (from + k) (from + k + m))) (is : y ≡ (if not bit then 2 ^ m - 1 else 0)) (alike : AreAlike xs (replicate (upto - from) (not bit)) from 0 k) where
-    -- so many more are the other bit
+    -- the next bits are the other bit too
     pub others_more : bit_xor x y ≡ 0 → AreAlike xs (replicate (upto - from) (not bit)) from 0 (k + m)
     others_more same = alike_more xs others from 0 k m x y (from + k) (0 + k) refl refl read (others_are (not bit) (upto - from) (0 + k) m y (omega arith) small is) same alike
 

@@ -1,4 +1,4 @@
--- How many words bits need, and rows cut or filled up to so many.
+-- How many words bits need, and rows cut or filled up to that number.
 use Rattle.std.proofs.Common.{◌≡◌, ◌≢◌, ℕ, ◌+◌, ◌-◌, ◌*◌, ◌/◌, ◌%◌, ◌<◌, ◌≤◌, Bool, false, List, ◌++◌, length, take, replicate, refl, sym, ◌∙◌, ap, arith}
 use Rattle.std.proofs.lemmas.List.{take_all, append-nil, length-take, length-append, length-replicate}
 use Rattle.std.proofs.Math.Nat.{mod-lt, div-lt_iff_lt-mul, le_of_mul-le-mul_left}
@@ -18,7 +18,7 @@ room w b positive =
     let m : w * ((b + (w - 1)) / w) ≡ (b + (w - 1)) / w * w = mul_comm w ((b + (w - 1)) / w) in
     (omega arith, omega arith)
 
--- words for at most so many bits, behind a head in the first word, have few bits to spare
+-- words for at most that number of bits, after a head in the first word, have few bits to spare
 pub few_words : (w n head len most : ℕ) → 0 < w → head < w → len ≤ most → n ≡ words_for w (head + len) → w * n ≤ most + 2 * w
 few_words w n head len most positive below few exact =
     let r = (room w (head + len) positive).1 in
@@ -61,7 +61,7 @@ words_odd w b positive h =
     let e : b + (w - 1) ≡ (b / w + 1) * w + (b % w - 1) = let d = div-add-mod' b w in let m : (b / w + 1) * w ≡ b / w * w + w = one_more_word (b / w) w in omega arith in
     sym (ap (λ n. n / w) e ∙ div-mul-add (b / w + 1) w (b % w - 1) (let k = mod-lt b positive in omega arith))
 
--- so many words as have room suffice
+-- as many words as have room suffice
 pub words_for_le : (w b n : ℕ) → 0 < w → b ≤ w * n → words_for w b ≤ n
 unfolding words_for
 words_for_le w b n positive h =

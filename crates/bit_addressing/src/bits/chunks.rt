@@ -253,7 +253,7 @@ fn word_behind_by_bits<T: BitStore, O: BitOrder, U: BitStore, P: BitOrder>(
     word_of_run::<T, O, U, P>(source, at, T::BITS, 0)
 }
 
-/// How many blocks of 64 bits from word `k` on have another block after them, in so many words.
+/// How many blocks of 64 bits from word `k` on have another block after them, where there are `words` words.
 pub(crate) fn blocks_behind<T: BitStore>(words: usize, k: usize) -> usize
     ensures { (t : ℕ) → t < result → (k + t * (64 / T.BITS)) * T.BITS + 128 ≤ T.BITS * words }
 {

@@ -132,7 +132,7 @@ fn combine_behind<F: BitOperator, T: BitStore, O: BitOrder, U: BitStore, P: BitO
     }
 }
 
-/// Like `combine_behind`, of so many blocks of 64 bits: each is made once, in the order of the words, and taken
+/// Like `combine_behind`, of `blocks` blocks of 64 bits: each is made once, in the order of the words, and taken
 /// apart. Requires that the words are there, and each block has another after it.
 #[inline(always)]
 fn combine_blocks<F: BitOperator, T: BitStore, O: BitOrder, U: BitStore, P: BitOrder>(

@@ -39,7 +39,12 @@ pub fn resize_words_in_vec<T: BitStore, O: BitOrder>(
 
 /// Appends words up to those for `upto` bits, and writes `bit` over the bits from `end` up to `upto`, each word once; the
 /// other bits of a word that is added are false. Takes memory where a word is added. Requires that `end` is at most `upto`, and
-/// that the words are those for `end` bits. It is refused only where the capacity, in words, is too small.
+/// that the words are those for `end` bits, and that `upto` is at most one word's bits below 2 to the power 64. It is refused only
+/// where the capacity, in words, is too small.
+///
+/// ```text
+/// of the words 05 by u8 and Lsb0: append_run_in_vec(&mut words, 3, 10, true)? leaves fd 03
+/// ```
 pub fn append_run_in_vec<T: BitStore, O: BitOrder>(
     words: &mut Vec<T>,
     end: usize,
@@ -68,7 +73,7 @@ pub fn append_run_in_vec<T: BitStore, O: BitOrder>(
     Ok(())
 }
 
-/// Cuts the words to those for `bits` bits. Requires that they have room for so many.
+/// Cuts the words to those for `bits` bits. Requires that they have room for them.
 pub fn cut_words_in_vec<T: BitStore, O: BitOrder>(words: &mut Vec<T>, bits: usize)
     requires { bits ≤ T.BITS * length words.old.items }
     ensures items { words.new.items ≡ take (words_for T.BITS bits) words.old.items }

@@ -43,12 +43,13 @@ fn false_turns<F: BitOperator, T: BitStore, O: BitOrder, U: BitStore, P: BitOrde
     count / each
 }
 
-/// How many blocks of 64 bits, of `n` bits from places `i` and `j` on, `F` surely makes into false bits alone. It looks at bits
-/// that lie alike in words that both runs begin with, 1024 at a time, and returns 0 for others. Requires that both runs lie in
-/// their words.
+/// A number of blocks of 64 bits, the first of `n` bits from places `i` and `j` on, of which `F` makes false bits alone. It tests
+/// bits that lie alike where both runs begin with a word, 1024 at a time, so more such blocks may follow; of others it returns 0.
+/// Requires that both runs lie in their words.
 ///
 /// ```text
-/// of 01101001 and 10010110: false_blocks::<And, ..>(a, 0, b, 0, 8) == 0
+/// of 1024 false bits and 1024 true ones: false_blocks::<And, ..>(a, 0, b, 0, 1024) == 16
+/// of 8 bits: false_blocks::<And, ..>(a, 0, b, 0, 8) == 0
 /// ```
 pub fn false_blocks<F: BitOperator, T: BitStore, O: BitOrder, U: BitStore, P: BitOrder>(
     a: &[T],

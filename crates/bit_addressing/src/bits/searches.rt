@@ -1,5 +1,5 @@
 //! Bits counted and compared, by whole words.
-ghost use Rattle.std.specs.Prelude.{◌≡◌, ℕ, true, ◌+◌, ◌-◌, ◌*◌, ◌/◌, ◌^◌, ◌<◌, ◌≤◌, length, slice_range, MatchOption, not, replicate, [], ◌∷◌, if◌then◌else◌, ◌&&◌, false, ltb, slice_index_or};
+ghost use Rattle.std.specs.Prelude.{◌≡◌, ℕ, true, ◌+◌, ◌-◌, ◌*◌, ◌/◌, ◌%◌, ◌^◌, ◌<◌, ◌≤◌, length, slice_range, MatchOption, not, replicate, [], ◌∷◌, if◌then◌else◌, ◌&&◌, false, ltb, slice_index_or};
 ghost use Rattle.std.specs.List.{count_by};
 ghost use Rattle.bit_addressing.specs.Bits.{has_bit};
 ghost use Rattle.bit_addressing.specs.Row.{IsFirst, IsFirstDifference};
@@ -13,8 +13,8 @@ use crate::length::Span;
 use crate::order::{BitOrder, Lsb0};
 use crate::store::BitStore;
 
-/// How many bits are set in the words `first..last`, by blocks of 64 bits where there are so many (docs/SPEED.md,
-/// "Rows of words", count). Requires that the words are there.
+/// How many bits are set in the words `first..last`, by blocks of 64 bits as far as they go
+/// (docs/SPEED.md, "Rows of words", count). Requires that the words are there.
 fn count_words<T: BitStore, O: BitOrder>(words: &[T], first: usize, last: usize) -> usize
     requires ordered { first ≤ last }
     requires within { last ≤ length words.now }
@@ -34,32 +34,51 @@ fn count_words<T: BitStore, O: BitOrder>(words: &[T], first: usize, last: usize)
     count
 }
 
-/// How many bits of the row are set at the places `from..upto`. A whole word has as many set in each order,
-/// so the order matters at the ends alone. Requires that `from` is at most `upto`, which is at most the
-/// row's length.
+/// Like `count_bits`, of the `n` bits from word `first` on.
+#[inline(always)]
+fn count_front<T: BitStore, O: BitOrder>(words: &[T], first: usize, n: usize) -> usize
+    requires within { first * T.BITS + n ≤ T.BITS * length words.now }
+    requires fits { first * T.BITS + n < 2 ^ 64 }
+    ensures { result ≡ count_by (λ b. b) (slice_range (row T.BitStore O.BitOrder words.now) (first * T.BITS) (first * T.BITS + n)) }
+{
+    let width = T::BITS as usize;
+    let last = first + n / width;
+    let rest = read_chunk::<T, O>(words, last * width, (n % width) as u8);
+    count_words::<T, Lsb0>(words, first, last) + rest.count_ones() as usize
+}
+
+/// Like `count_bits`, of a run that begins anywhere. A whole word has as many bits set in each order, so the order matters at
+/// the ends alone.
+#[inline(never)]
+fn count_apart<T: BitStore, O: BitOrder>(words: &[T], from: usize, upto: usize) -> usize
+    requires ordered { from ≤ upto }
+    requires within { upto ≤ T.BITS * length words.now }
+    ensures { result ≡ count_by (λ b. b) (slice_range (row T.BitStore O.BitOrder words.now) from upto) }
+{
+    let width = T::BITS as usize;
+    let n = upto - from;
+    let edge = width - from % width;
+    if n <= edge {
+        return read_chunk::<T, O>(words, from, n as u8).count_ones() as usize;
+    }
+    let head = read_chunk::<T, O>(words, from, edge as u8);
+    let rest = count_front::<T, O>(words, from / width + 1, n - edge);
+    head.count_ones() as usize + rest
+}
+
+/// How many bits of the row are set at the places `from..upto`, by whole words. Requires that `from` is at most `upto`,
+/// which is at most the row's length.
+#[inline(always)]
 pub fn count_bits<T: BitStore, O: BitOrder>(words: &[T], from: usize, upto: usize) -> usize
     requires ordered { from ≤ upto }
     requires within { upto ≤ T.BITS * length words.now }
     ensures { result ≡ count_by (λ b. b) (slice_range (row T.BitStore O.BitOrder words.now) from upto) }
 {
-    if from == upto {
-        return 0;
-    }
     let width = T::BITS as usize;
-    let Span {
-        first,
-        low,
-        last,
-        end,
-    } = Span::of::<T>(from, upto);
-    if first == last {
-        let chunk = read_chunk::<T, O>(words, from, (upto - from) as u8);
-        return chunk.count_ones() as usize;
+    if from % width == 0 {
+        return count_front::<T, O>(words, from / width, upto - from);
     }
-    let head = read_chunk::<T, O>(words, from, (width - low) as u8);
-    let whole = count_words::<T, Lsb0>(words, first + 1, last);
-    let tail = read_chunk::<T, O>(words, last * width, end as u8);
-    head.count_ones() as usize + whole + tail.count_ones() as usize
+    count_apart::<T, O>(words, from, upto)
 }
 
 /// Like `differ_at`, from index `skip` of word `k` and index `over` of word `l` on. It is inlined, and compiled apart

@@ -15,6 +15,7 @@ pub mod Sets
 pub mod Turned
 pub mod Moved
 pub mod Within
+pub mod Halves
 pub mod Writing
 pub mod Digits
 pub mod Owned

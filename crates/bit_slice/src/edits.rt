@@ -1,6 +1,6 @@
 //! Runs of bits in words that are changed: flipped, reversed, rotated, and combined
 //! with another run of the same words.
-ghost use Rattle.std.specs.Prelude.{◌≡◌, ◌+◌, ◌-◌, ◌*◌, ◌^◌, ◌<◌, ◌≤◌, ◌++◌, drop, false, length, map, not, replicate, reverse, slice_range, take, vec_capacity};
+ghost use Rattle.std.specs.Prelude.{◌≡◌, ◌+◌, ◌-◌, ◌*◌, ◌/◌, ◌^◌, ◌<◌, ◌≤◌, ◌++◌, drop, false, length, map, not, replicate, reverse, slice_range, take, vec_capacity};
 ghost use Rattle.bit_addressing.specs.declared.length.TheConstants.{MAX_BITS};
 ghost use Rattle.bit_addressing.specs.Row.{put};
 ghost use Rattle.bit_addressing.specs.Typed.{row};
@@ -263,6 +263,44 @@ fn combine_downward<F: BitOperator, T: BitStore, O: BitOrder>(
     }
 }
 
+// Like `combine_within`, where the bits at `from` end at or before the word in which those at `at` begin: no word is read and written, so nothing is kept.
+#[inline(always)]
+fn combine_back<F: BitOperator, T: BitStore, O: BitOrder>(
+    words: &mut [T],
+    from: usize,
+    at: usize,
+    n: usize,
+)
+    requires apart { from + n ≤ at / T.BITS * T.BITS }
+    requires target { at + n ≤ T.BITS * length words.old }
+    requires fits { at + n < 2 ^ 64 }
+    ensures bits { row T.BitStore O.BitOrder words.new ≡ put (row T.BitStore O.BitOrder words.old) at (combined F.made (slice_range (row T.BitStore O.BitOrder words.old) at (at + n)) (slice_range (row T.BitStore O.BitOrder words.old) from (from + n))) }
+    ensures size { length words.new ≡ length words.old }
+{
+    let width = T::BITS as usize;
+    let (source, target) = words.split_at_mut(at / width);
+    combine_bits::<F, T, O, T, O>(target, at % width, source, from, n);
+}
+
+// Like `combine_back`, where the bits at `at` end at or before the word in which those at `from` begin.
+#[inline(always)]
+fn combine_front<F: BitOperator, T: BitStore, O: BitOrder>(
+    words: &mut [T],
+    from: usize,
+    at: usize,
+    n: usize,
+)
+    requires apart { at + n ≤ from / T.BITS * T.BITS }
+    requires source { from + n ≤ T.BITS * length words.old }
+    requires fits { from + n < 2 ^ 64 }
+    ensures bits { row T.BitStore O.BitOrder words.new ≡ put (row T.BitStore O.BitOrder words.old) at (combined F.made (slice_range (row T.BitStore O.BitOrder words.old) at (at + n)) (slice_range (row T.BitStore O.BitOrder words.old) from (from + n))) }
+    ensures size { length words.new ≡ length words.old }
+{
+    let width = T::BITS as usize;
+    let (target, source) = words.split_at_mut(from / width);
+    combine_bits::<F, T, O, T, O>(target, at, source, from % width, n);
+}
+
 /// Combines the `n` bits of the words' row from `at` on with those from `from` on, as if they were read before any is
 /// written, by words. The runs may overlap. No other bit changes. Requires that both runs lie in the words.
 pub fn combine_within<F: BitOperator, T: BitStore, O: BitOrder>(
@@ -278,7 +316,12 @@ pub fn combine_within<F: BitOperator, T: BitStore, O: BitOrder>(
     ensures bits { row T.BitStore O.BitOrder words.new ≡ put (row T.BitStore O.BitOrder words.old) at (combined F.made (slice_range (row T.BitStore O.BitOrder words.old) at (at + n)) (slice_range (row T.BitStore O.BitOrder words.old) from (from + n))) }
     ensures size { length words.new ≡ length words.old }
 {
-    if at <= from {
+    let width = T::BITS as usize;
+    if from + n <= at / width * width {
+        combine_back::<F, T, O>(words, from, at, n);
+    } else if at + n <= from / width * width {
+        combine_front::<F, T, O>(words, from, at, n);
+    } else if at <= from {
         combine_upward::<F, T, O>(words, from, at, n);
     } else {
         combine_downward::<F, T, O>(words, from, at, n);

@@ -36,6 +36,7 @@ fn bits_of_words(rt: HostRuntime) {
 #[test]
 fn runs_appended(rt: HostRuntime) -> Result<(), Fail> {
     let mut words = vec![in rt.alloc(); 0x05u8]?;
+    cut_words_in_vec::<u8, Lsb0>(&mut words, 3);
     append_run_in_vec::<u8, Lsb0>(&mut words, 3, 18, true)?;
     assert_eq!(rt; words.as_slice(), [0xfd, 0xff, 0x03].as_slice());
     Ok(())

@@ -1,5 +1,5 @@
 -- What is made of two lists of bits: of their items at each place, and their order.
-use Rattle.std.specs.Prelude.{◌≡◌, ◌↔◌, ℕ, Bool, true, false, ◌&&◌, ◌||◌, not, if◌then◌else◌, List, [], ◌∷◌, ◌++◌, Some, slice_get}
+use Rattle.std.specs.Prelude.{◌≡◌, ◌↔◌, ℕ, ◌+◌, ◌-◌, Bool, true, false, ◌&&◌, ◌||◌, not, if◌then◌else◌, List, [], ◌∷◌, ◌++◌, Some, refl, slice_get, slice_range}
 use Rattle.std.specs.Ordering.{bool_cmp, ordering_reverse}
 use Rattle.std.specs.declared.cmp.Ordering.{Ordering}
 use Rattle.std.specs.declared.cmp.Ordering.TheVariants.{Less, Equal}
@@ -26,6 +26,10 @@ or_of = combined (λ x y. x || y)
 -- the items that are true on one side alone
 abbrev pub xor_of : List Bool → List Bool → List Bool
 xor_of = combined (λ x y. if x then not y else y)
+
+-- what f makes of the items from index dest on and of those of a range of the same list
+abbrev pub part_onto : (List Bool → List Bool → List Bool) → List Bool → ℕ → ℕ → ℕ → List Bool
+part_onto f xs start end dest = f (slice_range xs dest (dest + (end - start))) (slice_range xs start end)
 
 -- at each index where both lists have an item, the third has what f makes of the two
 abbrev pub CombinesEach : (Bool → Bool → Bool) → List Bool → List Bool → List Bool → Type 0
@@ -70,3 +74,9 @@ FalseFirst = (zs xs ys : List Bool) → bits_cmp (zs ++ (false ∷ xs)) (zs ++ (
 -- a list is below each that goes on behind it
 abbrev pub PrefixFirst : Type 0
 PrefixFirst = (xs ys : List Bool) (y : Bool) → bits_cmp xs (xs ++ (y ∷ ys)) ≡ Less
+
+abbrev four : List Bool
+four = false ∷ true ∷ false ∷ true ∷ []
+
+part_onto_front : part_onto or_of four 1 3 0 ≡ true ∷ true ∷ []
+part_onto_front = refl

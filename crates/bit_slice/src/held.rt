@@ -6,7 +6,7 @@ ghost use Rattle.bit_addressing.specs.Range.{LiesIn};
 ghost use Rattle.bit_addressing.specs.Row.{binary, number_bits};
 ghost use Rattle.bit_slice.specs.BitSlice.{len_of as len_seen, list_of as list_seen};
 ghost use Rattle.bit_slice.specs.Overwritten.{list_in, IsWritten, IsRewritten};
-ghost use Rattle.bit_slice.specs.Operators.{combined};
+ghost use Rattle.bit_slice.specs.Operators.{combined, part_onto};
 
 use crate::edits::{
     combine_within, flip_words, reverse_words, rotate_words, shift_words_left, shift_words_right,
@@ -170,7 +170,7 @@ pub fn combine_within_in_vec<F: BitOperator, T: BitStore, O: BitOrder, R: RangeE
     requires fits { head + len < 2 ^ 64 }
     requires lies { LiesIn (R.start_of range) (R.end_of range len) len }
     requires room { dest + (R.end_of range len - R.start_of range) ≤ len }
-    ensures written { IsWritten T.BitStore O.BitOrder words.old.items words.new.items head len dest (combined F.made (slice_range (list_in T.BitStore O.BitOrder words.old.items head len) dest (dest + (R.end_of range len - R.start_of range))) (slice_range (list_in T.BitStore O.BitOrder words.old.items head len) (R.start_of range) (R.end_of range len))) }
+    ensures written { IsWritten T.BitStore O.BitOrder words.old.items words.new.items head len dest (part_onto (combined F.made) (list_in T.BitStore O.BitOrder words.old.items head len) (R.start_of range) (R.end_of range len) dest) }
     ensures capacity { vec_capacity words.new ≡ vec_capacity words.old }
 {
     let range = range.normalize(len);

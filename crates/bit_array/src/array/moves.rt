@@ -1,9 +1,9 @@
 //! The bits of the array in another order, reversed, rotated and shifted, and combined with others of it.
-ghost use Rattle.std.specs.Prelude.{◌≡◌, ℕ, ◌+◌, ◌-◌, ◌*◌, ◌<◌, ◌≤◌, ◌++◌, Some, drop, false, replicate, reverse, slice_get, slice_range, take};
+ghost use Rattle.std.specs.Prelude.{◌≡◌, ℕ, ◌+◌, ◌-◌, ◌*◌, ◌<◌, ◌≤◌, ◌++◌, Some, drop, false, replicate, reverse, slice_get, take};
 ghost use Rattle.bit_addressing.specs.Range.{LiesIn};
 ghost use Rattle.bit_addressing.specs.Row.{put};
 ghost use Rattle.bit_addressing.specs.Typed.{row};
-ghost use Rattle.bit_slice.specs.Operators.{combined, and_of, or_of, xor_of};
+ghost use Rattle.bit_slice.specs.Operators.{and_of, combined, or_of, part_onto, xor_of};
 
 use crate::array::BitArray;
 use crate::sized::{BitViewSized, BitWords};
@@ -96,7 +96,7 @@ impl<A: BitViewSized, O: BitOrder> BitArray<A, O> {
     fn combine_within<F: BitOperator, R: RangeExt>(&mut self, range: R, dest: usize)
         requires lies { LiesIn (R.start_of range) (R.end_of range (A.Store.BITS * A.count)) (A.Store.BITS * A.count) }
         requires room { dest + (R.end_of range (A.Store.BITS * A.count) - R.start_of range) ≤ A.Store.BITS * A.count }
-        ensures { row A.Store.BitStore O.BitOrder (A.words self.new) ≡ put (row A.Store.BitStore O.BitOrder (A.words self.old)) dest (combined F.made (slice_range (row A.Store.BitStore O.BitOrder (A.words self.old)) dest (dest + (R.end_of range (A.Store.BITS * A.count) - R.start_of range))) (slice_range (row A.Store.BitStore O.BitOrder (A.words self.old)) (R.start_of range) (R.end_of range (A.Store.BITS * A.count)))) }
+        ensures { row A.Store.BitStore O.BitOrder (A.words self.new) ≡ put (row A.Store.BitStore O.BitOrder (A.words self.old)) dest (part_onto (combined F.made) (row A.Store.BitStore O.BitOrder (A.words self.old)) (R.start_of range) (R.end_of range (A.Store.BITS * A.count)) dest) }
     {
         let range = range.normalize(self.len());
         let count = range.end - range.start;
@@ -114,7 +114,7 @@ impl<A: BitViewSized, O: BitOrder> BitArray<A, O> {
     pub fn and_within<R: RangeExt>(&mut self, range: R, dest: usize)
         requires lies { LiesIn (R.start_of range) (R.end_of range (A.Store.BITS * A.count)) (A.Store.BITS * A.count) }
         requires room { dest + (R.end_of range (A.Store.BITS * A.count) - R.start_of range) ≤ A.Store.BITS * A.count }
-        ensures { row A.Store.BitStore O.BitOrder (A.words self.new) ≡ put (row A.Store.BitStore O.BitOrder (A.words self.old)) dest (and_of (slice_range (row A.Store.BitStore O.BitOrder (A.words self.old)) dest (dest + (R.end_of range (A.Store.BITS * A.count) - R.start_of range))) (slice_range (row A.Store.BitStore O.BitOrder (A.words self.old)) (R.start_of range) (R.end_of range (A.Store.BITS * A.count)))) }
+        ensures { row A.Store.BitStore O.BitOrder (A.words self.new) ≡ put (row A.Store.BitStore O.BitOrder (A.words self.old)) dest (part_onto and_of (row A.Store.BitStore O.BitOrder (A.words self.old)) (R.start_of range) (R.end_of range (A.Store.BITS * A.count)) dest) }
     {
         self.combine_within::<And, R>(range, dest);
     }
@@ -129,7 +129,7 @@ impl<A: BitViewSized, O: BitOrder> BitArray<A, O> {
     pub fn or_within<R: RangeExt>(&mut self, range: R, dest: usize)
         requires lies { LiesIn (R.start_of range) (R.end_of range (A.Store.BITS * A.count)) (A.Store.BITS * A.count) }
         requires room { dest + (R.end_of range (A.Store.BITS * A.count) - R.start_of range) ≤ A.Store.BITS * A.count }
-        ensures { row A.Store.BitStore O.BitOrder (A.words self.new) ≡ put (row A.Store.BitStore O.BitOrder (A.words self.old)) dest (or_of (slice_range (row A.Store.BitStore O.BitOrder (A.words self.old)) dest (dest + (R.end_of range (A.Store.BITS * A.count) - R.start_of range))) (slice_range (row A.Store.BitStore O.BitOrder (A.words self.old)) (R.start_of range) (R.end_of range (A.Store.BITS * A.count)))) }
+        ensures { row A.Store.BitStore O.BitOrder (A.words self.new) ≡ put (row A.Store.BitStore O.BitOrder (A.words self.old)) dest (part_onto or_of (row A.Store.BitStore O.BitOrder (A.words self.old)) (R.start_of range) (R.end_of range (A.Store.BITS * A.count)) dest) }
     {
         self.combine_within::<Or, R>(range, dest);
     }
@@ -144,7 +144,7 @@ impl<A: BitViewSized, O: BitOrder> BitArray<A, O> {
     pub fn xor_within<R: RangeExt>(&mut self, range: R, dest: usize)
         requires lies { LiesIn (R.start_of range) (R.end_of range (A.Store.BITS * A.count)) (A.Store.BITS * A.count) }
         requires room { dest + (R.end_of range (A.Store.BITS * A.count) - R.start_of range) ≤ A.Store.BITS * A.count }
-        ensures { row A.Store.BitStore O.BitOrder (A.words self.new) ≡ put (row A.Store.BitStore O.BitOrder (A.words self.old)) dest (xor_of (slice_range (row A.Store.BitStore O.BitOrder (A.words self.old)) dest (dest + (R.end_of range (A.Store.BITS * A.count) - R.start_of range))) (slice_range (row A.Store.BitStore O.BitOrder (A.words self.old)) (R.start_of range) (R.end_of range (A.Store.BITS * A.count)))) }
+        ensures { row A.Store.BitStore O.BitOrder (A.words self.new) ≡ put (row A.Store.BitStore O.BitOrder (A.words self.old)) dest (part_onto xor_of (row A.Store.BitStore O.BitOrder (A.words self.old)) (R.start_of range) (R.end_of range (A.Store.BITS * A.count)) dest) }
     {
         self.combine_within::<Xor, R>(range, dest);
     }

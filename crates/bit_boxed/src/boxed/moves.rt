@@ -1,9 +1,9 @@
 //! The bits of the box in another order, reversed, rotated and shifted, and combined with others of it.
-ghost use Rattle.std.specs.Prelude.{◌≡◌, ℕ, ◌+◌, ◌-◌, ◌<◌, ◌≤◌, ◌++◌, Some, drop, false, length, replicate, reverse, slice_get, slice_range, take};
+ghost use Rattle.std.specs.Prelude.{◌≡◌, ℕ, ◌+◌, ◌-◌, ◌<◌, ◌≤◌, ◌++◌, Some, drop, false, length, replicate, reverse, slice_get, take};
 ghost use Rattle.bit_addressing.specs.Range.{LiesIn};
 ghost use Rattle.bit_addressing.specs.Row.{put};
 ghost use Rattle.bit_boxed.specs.BitBox.{IsClean, Stayed};
-ghost use Rattle.bit_slice.specs.Operators.{combined, and_of, or_of, xor_of};
+ghost use Rattle.bit_slice.specs.Operators.{and_of, combined, or_of, part_onto, xor_of};
 
 use crate::boxed::BitBox;
 use bit_addressing::{And, BitOperator, BitOrder, BitStore, Or, RangeExt, Xor};
@@ -115,8 +115,8 @@ impl<T: BitStore, O: BitOrder> BitBox<T, O> {
     fn combine_within<F: BitOperator, R: RangeExt>(&mut self, range: R, dest: usize)
         requires lies { LiesIn (R.start_of range) (R.end_of range (length self.old.list)) (length self.old.list) }
         requires room { dest + (R.end_of range (length self.old.list) - R.start_of range) ≤ length self.old.list }
-        ensures list { self.new.list ≡ put self.old.list dest (combined F.made (slice_range self.old.list dest (dest + (R.end_of range (length self.old.list) - R.start_of range))) (slice_range self.old.list (R.start_of range) (R.end_of range (length self.old.list)))) }
-        ensures row { self.new.row ≡ put self.old.row (self.old.head + dest) (combined F.made (slice_range self.old.list dest (dest + (R.end_of range (length self.old.list) - R.start_of range))) (slice_range self.old.list (R.start_of range) (R.end_of range (length self.old.list)))) }
+        ensures list { self.new.list ≡ put self.old.list dest (part_onto (combined F.made) self.old.list (R.start_of range) (R.end_of range (length self.old.list)) dest) }
+        ensures row { self.new.row ≡ put self.old.row (self.old.head + dest) (part_onto (combined F.made) self.old.list (R.start_of range) (R.end_of range (length self.old.list)) dest) }
         ensures clean { IsClean T.BITS self.old → IsClean T.BITS self.new }
         ensures stayed { Stayed self.old self.new }
     {
@@ -134,8 +134,8 @@ impl<T: BitStore, O: BitOrder> BitBox<T, O> {
     pub fn and_within<R: RangeExt>(&mut self, range: R, dest: usize)
         requires lies { LiesIn (R.start_of range) (R.end_of range (length self.old.list)) (length self.old.list) }
         requires room { dest + (R.end_of range (length self.old.list) - R.start_of range) ≤ length self.old.list }
-        ensures list { self.new.list ≡ put self.old.list dest (and_of (slice_range self.old.list dest (dest + (R.end_of range (length self.old.list) - R.start_of range))) (slice_range self.old.list (R.start_of range) (R.end_of range (length self.old.list)))) }
-        ensures row { self.new.row ≡ put self.old.row (self.old.head + dest) (and_of (slice_range self.old.list dest (dest + (R.end_of range (length self.old.list) - R.start_of range))) (slice_range self.old.list (R.start_of range) (R.end_of range (length self.old.list)))) }
+        ensures list { self.new.list ≡ put self.old.list dest (part_onto and_of self.old.list (R.start_of range) (R.end_of range (length self.old.list)) dest) }
+        ensures row { self.new.row ≡ put self.old.row (self.old.head + dest) (part_onto and_of self.old.list (R.start_of range) (R.end_of range (length self.old.list)) dest) }
         ensures clean { IsClean T.BITS self.old → IsClean T.BITS self.new }
         ensures stayed { Stayed self.old self.new }
     {
@@ -152,8 +152,8 @@ impl<T: BitStore, O: BitOrder> BitBox<T, O> {
     pub fn or_within<R: RangeExt>(&mut self, range: R, dest: usize)
         requires lies { LiesIn (R.start_of range) (R.end_of range (length self.old.list)) (length self.old.list) }
         requires room { dest + (R.end_of range (length self.old.list) - R.start_of range) ≤ length self.old.list }
-        ensures list { self.new.list ≡ put self.old.list dest (or_of (slice_range self.old.list dest (dest + (R.end_of range (length self.old.list) - R.start_of range))) (slice_range self.old.list (R.start_of range) (R.end_of range (length self.old.list)))) }
-        ensures row { self.new.row ≡ put self.old.row (self.old.head + dest) (or_of (slice_range self.old.list dest (dest + (R.end_of range (length self.old.list) - R.start_of range))) (slice_range self.old.list (R.start_of range) (R.end_of range (length self.old.list)))) }
+        ensures list { self.new.list ≡ put self.old.list dest (part_onto or_of self.old.list (R.start_of range) (R.end_of range (length self.old.list)) dest) }
+        ensures row { self.new.row ≡ put self.old.row (self.old.head + dest) (part_onto or_of self.old.list (R.start_of range) (R.end_of range (length self.old.list)) dest) }
         ensures clean { IsClean T.BITS self.old → IsClean T.BITS self.new }
         ensures stayed { Stayed self.old self.new }
     {
@@ -170,8 +170,8 @@ impl<T: BitStore, O: BitOrder> BitBox<T, O> {
     pub fn xor_within<R: RangeExt>(&mut self, range: R, dest: usize)
         requires lies { LiesIn (R.start_of range) (R.end_of range (length self.old.list)) (length self.old.list) }
         requires room { dest + (R.end_of range (length self.old.list) - R.start_of range) ≤ length self.old.list }
-        ensures list { self.new.list ≡ put self.old.list dest (xor_of (slice_range self.old.list dest (dest + (R.end_of range (length self.old.list) - R.start_of range))) (slice_range self.old.list (R.start_of range) (R.end_of range (length self.old.list)))) }
-        ensures row { self.new.row ≡ put self.old.row (self.old.head + dest) (xor_of (slice_range self.old.list dest (dest + (R.end_of range (length self.old.list) - R.start_of range))) (slice_range self.old.list (R.start_of range) (R.end_of range (length self.old.list)))) }
+        ensures list { self.new.list ≡ put self.old.list dest (part_onto xor_of self.old.list (R.start_of range) (R.end_of range (length self.old.list)) dest) }
+        ensures row { self.new.row ≡ put self.old.row (self.old.head + dest) (part_onto xor_of self.old.list (R.start_of range) (R.end_of range (length self.old.list)) dest) }
         ensures clean { IsClean T.BITS self.old → IsClean T.BITS self.new }
         ensures stayed { Stayed self.old self.new }
     {

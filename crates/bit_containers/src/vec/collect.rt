@@ -1,7 +1,8 @@
 //! Bits and words that an iterator gives.
-ghost use Rattle.std.specs.Prelude.{◌≡◌, ◌+◌, ◌*◌, ◌<◌, ◌≤◌, Bool, List, [], ◌∷◌, ◌++◌, length, Err, IfOk, IsOk, OnOk, OnErr};
+ghost use Rattle.std.specs.Prelude.{◌≡◌, ℕ, ◌+◌, ◌*◌, ◌<◌, ◌≤◌, Bool, false, List, [], ◌∷◌, ◌++◌, length, Err, IfOk, IsOk, OnOk, OnErr};
 ghost use Rattle.std.specs.Iterator.{IsFiniteIterable};
 ghost use Rattle.std.specs.Iterator.Runs.{EachRunFrom};
+ghost use Rattle.bit_addressing.specs.Bits.{has_bit};
 ghost use Rattle.bit_addressing.specs.Row.{number_bits, words_for};
 ghost use Rattle.bit_addressing.specs.Typed.{row};
 ghost use Rattle.bit_addressing.specs.declared.length.TheConstants.{MAX_BITS};
@@ -19,6 +20,18 @@ pub(crate) fn with_next(number: u64, got: u8, bit: bool) -> u64
     ensures { number_bits result (got + 1) ≡ number_bits number got ++ bit ∷ [] }
 {
     number.with_bit(got, bit)
+}
+
+// Like `with_next`, of a number with no bit from place `got` on: nothing has to be cleared, which takes half as long
+// (docs/SPEED.md, collect).
+#[inline(always)]
+fn with_last(number: u64, got: u8, bit: bool) -> u64
+    requires room { got < 64 }
+    requires above { (p : ℕ) → got ≤ p → p < 64 → has_bit number p ≡ false }
+    ensures bits { number_bits result (got + 1) ≡ number_bits number got ++ bit ∷ [] }
+    ensures above { (p : ℕ) → got + 1 ≤ p → p < 64 → has_bit result p ≡ false }
+{
+    number.or(0u64.with_bit(got, bit))
 }
 
 impl<T: BitStore, O: BitOrder> BitVec<T, O> {
@@ -62,10 +75,11 @@ impl<T: BitStore, O: BitOrder> BitVec<T, O> {
     {
         let len = self.len();
         let (mut number, mut got) = (0, 0);
+        let mut most = self.gathers();
         self.in_words();
         for bit in iter {
-            match self.gather(number, got, bit) {
-                Ok(next) => (number, got) = next,
+            match self.gather(number, got, most, bit) {
+                Ok(next) => (number, got, most) = next,
                 Err(why) => {
                     self.truncate(len);
                     return Err(why);
@@ -89,28 +103,47 @@ impl<T: BitStore, O: BitOrder> BitVec<T, O> {
         let _words = &self.words;
     }
 
-    // One bit more after the `got` lowest bits of a number, which are to be appended: where it is the last that
-    // the number has room for, all are appended. Returns the number and how many of its bits are to be appended
-    // then.
+    // How many bits may be gathered in a number before they are appended: 64, or as many as the list may grow by where
+    // those are fewer.
     #[inline(always)]
-    fn gather(&mut self, number: u64, got: u8, bit: bool) -> Result<(u64, u8), GrowError>
-        requires room { got < 64 }
-        requires few { length self.old.list + got ≤ MAX_BITS }
+    fn gathers(&self) -> u8
+        ensures few { result ≤ 64 }
+        ensures fits { length self.now.list + result ≤ MAX_BITS }
+        ensures some { length self.now.list < MAX_BITS → 0 < result }
+    {
+        (MAX_BITS - self.len()).min(64) as u8
+    }
+
+    // One bit more after the `got` lowest bits of a number, which are to be appended. Where they are as many as may be
+    // gathered, they are appended first. Returns the number, how many of its bits are to be appended then, and how many
+    // may be gathered.
+    #[inline(always)]
+    fn gather(
+        &mut self,
+        number: u64,
+        got: u8,
+        most: u8,
+        bit: bool,
+    ) -> Result<(u64, u8, u8), GrowError>
+        requires room { got ≤ most }
+        requires word { most ≤ 64 }
+        requires above { (p : ℕ) → got ≤ p → p < 64 → has_bit number p ≡ false }
+        requires few { length self.old.list + most ≤ MAX_BITS }
         ensures joined { IfOk result (λ next. (more : List Bool) × (self.new.list ≡ self.old.list ++ more) × Grew T.BITS self.old self.new more × (more ++ number_bits next.0 next.1 ≡ number_bits number got ++ bit ∷ [])) }
-        ensures next { IfOk result (λ next. (next.1 < 64) × (length self.new.list + next.1 ≤ MAX_BITS)) }
+        ensures next { IfOk result (λ next. (next.1 ≤ next.2) × (next.2 ≤ 64) × (length self.new.list + next.2 ≤ MAX_BITS)) }
+        ensures above { IfOk result (λ next. (p : ℕ) → next.1 ≤ p → p < 64 → has_bit next.0 p ≡ false) }
         ensures refusal { RefusesOnly result (length self.old.list + (got + 1)) self.old self.new }
         ensures capacity { self.old.capacity ≤ self.new.capacity }
     {
         self.in_words();
+        if got < most {
+            return Ok((with_last(number, got, bit), got + 1, most));
+        }
         if self.len() + got as usize == MAX_BITS {
             return Err(GrowError::TooLong);
         }
-        let number = with_next(number, got, bit);
-        if got < 63 {
-            return Ok((number, got + 1));
-        }
-        self.extend_from_number(number, 64)?;
-        Ok((0, 0))
+        self.extend_from_number(number, got)?;
+        Ok((with_last(0, 0, bit), 1, self.gathers()))
     }
 
     /// The bits that an iterator gives before its first None, from head 0 on: the words are canonical. It is refused

@@ -2,7 +2,7 @@
 ghost use Rattle.std.specs.Prelude.{◌≡◌, ℕ, ◌+◌, ◌-◌, ◌*◌, ◌<◌, ◌≤◌, ◌++◌, Some, drop, false, length, replicate, reverse, slice_get, slice_range, take};
 ghost use Rattle.bit_addressing.specs.Range.{LiesIn};
 ghost use Rattle.bit_addressing.specs.Row.{put};
-ghost use Rattle.bit_slice.specs.Operators.{and_of, or_of, xor_of};
+ghost use Rattle.bit_slice.specs.Operators.{and_of, or_of, part_onto, xor_of};
 ghost use Rattle.bit_slice.specs.BitSliceMut.{words_of, head_of, len_of, row_of, list_of, Stays};
 
 use crate::edits::{
@@ -109,8 +109,8 @@ impl<'a, T: BitStore, O: BitOrder> BitSliceMut<'a, T, O> {
     pub fn and_within<R: RangeExt>(&mut self, range: R, dest: usize)
         requires lies { LiesIn (R.start_of range) (R.end_of range (len_of self.old)) (len_of self.old) }
         requires room { dest + (R.end_of range (len_of self.old) - R.start_of range) ≤ len_of self.old }
-        ensures row { row_of self.new ≡ put (row_of self.old) (head_of self.old + dest) (and_of (slice_range (list_of self.old) dest (dest + (R.end_of range (len_of self.old) - R.start_of range))) (slice_range (list_of self.old) (R.start_of range) (R.end_of range (len_of self.old)))) }
-        ensures list { list_of self.new ≡ put (list_of self.old) dest (and_of (slice_range (list_of self.old) dest (dest + (R.end_of range (len_of self.old) - R.start_of range))) (slice_range (list_of self.old) (R.start_of range) (R.end_of range (len_of self.old)))) }
+        ensures row { row_of self.new ≡ put (row_of self.old) (head_of self.old + dest) (part_onto and_of (list_of self.old) (R.start_of range) (R.end_of range (len_of self.old)) dest) }
+        ensures list { list_of self.new ≡ put (list_of self.old) dest (part_onto and_of (list_of self.old) (R.start_of range) (R.end_of range (len_of self.old)) dest) }
         ensures stays { Stays self.old self.new }
     {
         let range = range.normalize(self.len);
@@ -128,8 +128,8 @@ impl<'a, T: BitStore, O: BitOrder> BitSliceMut<'a, T, O> {
     pub fn or_within<R: RangeExt>(&mut self, range: R, dest: usize)
         requires lies { LiesIn (R.start_of range) (R.end_of range (len_of self.old)) (len_of self.old) }
         requires room { dest + (R.end_of range (len_of self.old) - R.start_of range) ≤ len_of self.old }
-        ensures row { row_of self.new ≡ put (row_of self.old) (head_of self.old + dest) (or_of (slice_range (list_of self.old) dest (dest + (R.end_of range (len_of self.old) - R.start_of range))) (slice_range (list_of self.old) (R.start_of range) (R.end_of range (len_of self.old)))) }
-        ensures list { list_of self.new ≡ put (list_of self.old) dest (or_of (slice_range (list_of self.old) dest (dest + (R.end_of range (len_of self.old) - R.start_of range))) (slice_range (list_of self.old) (R.start_of range) (R.end_of range (len_of self.old)))) }
+        ensures row { row_of self.new ≡ put (row_of self.old) (head_of self.old + dest) (part_onto or_of (list_of self.old) (R.start_of range) (R.end_of range (len_of self.old)) dest) }
+        ensures list { list_of self.new ≡ put (list_of self.old) dest (part_onto or_of (list_of self.old) (R.start_of range) (R.end_of range (len_of self.old)) dest) }
         ensures stays { Stays self.old self.new }
     {
         let range = range.normalize(self.len);
@@ -147,8 +147,8 @@ impl<'a, T: BitStore, O: BitOrder> BitSliceMut<'a, T, O> {
     pub fn xor_within<R: RangeExt>(&mut self, range: R, dest: usize)
         requires lies { LiesIn (R.start_of range) (R.end_of range (len_of self.old)) (len_of self.old) }
         requires room { dest + (R.end_of range (len_of self.old) - R.start_of range) ≤ len_of self.old }
-        ensures row { row_of self.new ≡ put (row_of self.old) (head_of self.old + dest) (xor_of (slice_range (list_of self.old) dest (dest + (R.end_of range (len_of self.old) - R.start_of range))) (slice_range (list_of self.old) (R.start_of range) (R.end_of range (len_of self.old)))) }
-        ensures list { list_of self.new ≡ put (list_of self.old) dest (xor_of (slice_range (list_of self.old) dest (dest + (R.end_of range (len_of self.old) - R.start_of range))) (slice_range (list_of self.old) (R.start_of range) (R.end_of range (len_of self.old)))) }
+        ensures row { row_of self.new ≡ put (row_of self.old) (head_of self.old + dest) (part_onto xor_of (list_of self.old) (R.start_of range) (R.end_of range (len_of self.old)) dest) }
+        ensures list { list_of self.new ≡ put (list_of self.old) dest (part_onto xor_of (list_of self.old) (R.start_of range) (R.end_of range (len_of self.old)) dest) }
         ensures stays { Stays self.old self.new }
     {
         let range = range.normalize(self.len);

@@ -1,6 +1,7 @@
 use Rattle.std.proofs.Common.{[], ◌∷◌, ◌++◌, sym, arith, rules, append-nil}
 use Rattle.std.proofs.lemmas.List.{length_push}
 use Rattle.bit_addressing.proofs.Rows.{width_positive}
+use Rattle.bit_addressing.proofs.Words.{has_none}
 use Rattle.bit_addressing.proofs.Binary.{number_bits_none}
 use Rattle.bit_containers.proofs.Growing.{grew_none}
 use Rattle.bit_containers.proofs.Growing.{wanted_fits}
@@ -16,8 +17,10 @@ loop-bit-init g c =
       can = may.0;
       finite = may.1;
       joined = ([], sym (append-nil now.list), grew_none g.T.BitStore.BITS now c.in_words.ensures.size, number_bits_none 0);
+      above = λ p from h. has_none p;
       room = omega arith;
-      few = omega (arith, c.in_words.ensures.few);
+      word = c.gathers-most.ensures.few;
+      few = c.gathers-most.ensures.fits;
       capacity = omega arith;
     }
 
@@ -31,8 +34,10 @@ loop-bit-preserved g c =
       can = search rules;
       finite = search rules;
       joined = gathers_more w now (width_positive w g.met.T.BitStore.width) c.in_words.ensures.size at.self c.gather.new.self at.number at.got c.in-Ok.next.0 c.in-Ok.next.1 at.yielded c.in-Some.bit at.invariant.joined one.0 one.1 one.2 one.3;
+      above = c.in-Ok.ensures.above;
       room = c.in-Ok.ensures.next.0;
-      few = c.in-Ok.ensures.next.1;
+      word = c.in-Ok.ensures.next.1;
+      few = c.in-Ok.ensures.next.2;
       capacity = omega (arith, at.invariant.capacity, c.gather.ensures.capacity);
     }
 

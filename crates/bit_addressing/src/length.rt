@@ -35,7 +35,9 @@ pub fn elts<T: BitStore>(bits: usize) -> usize
 pub fn touched_words<T: BitStore>(from: usize, n: usize) -> Range<usize>
     requires { from + n < 2 ^ 64 }
     ensures count { result.end - result.start ≡ touched T.BITS from n }
-    ensures hold { (k : ℕ) → ((result.start ≤ k) × (k < result.end)) ↔ ((i : ℕ) × (from ≤ i) × (i < from + n) × (i / T.BITS ≡ k)) }
+    ensures hold { (k : ℕ)
+        → ((result.start ≤ k) × (k < result.end))
+        ↔ ((i : ℕ) × (from ≤ i) × (i < from + n) × (i / T.BITS ≡ k)) }
 {
     let width = T::BITS as usize;
     let first = from / width;
@@ -45,8 +47,8 @@ pub fn touched_words<T: BitStore>(from: usize, n: usize) -> Range<usize>
     first..(from + n - 1) / width + 1
 }
 
-/// The words that a run of bits takes: an edge in the word `first`, the whole words between it and `last`, and an edge in
-/// `last`. Where both are one word, its indices `low..end`.
+/// The words that a run of bits takes: an edge in the word `first`, the whole words between it and `last`, and
+/// an edge in `last`. Where both are one word, its indices `low..end`.
 #[derive(Drop)]
 pub(crate) struct Span {
     /// The first word that holds a bit of the run.

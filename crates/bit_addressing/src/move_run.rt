@@ -24,7 +24,9 @@ fn gather<T: BitStore, O: BitOrder>(
     requires some { low < high }
     requires within { high ≤ T.BITS }
     requires source { from + (high - low) ≤ T.BITS * length row.old.words.now }
-    ensures bits { (i : ℕ) → low ≤ i → i < high → row_bit O.place T.BITS (T.value result.0 ∷ T.value result.1 ∷ []) (result.2 + i) ≡ row_bit O.place T.BITS (map T.value row.old.words.now) (from + (i - low)) }
+    ensures bits { (i : ℕ) → low ≤ i → i < high
+        → row_bit O.place T.BITS (T.value result.0 ∷ T.value result.1 ∷ []) (result.2 + i)
+        ≡ row_bit O.place T.BITS (map T.value row.old.words.now) (from + (i - low)) }
     ensures same_words { row.new.words.ghost_name ≡ row.old.words.ghost_name }
     ensures words { row.new.words.now ≡ row.old.words.now }
     ensures reads { row.new.meter.reads ≤ row.old.meter.reads + 2 }
@@ -61,7 +63,9 @@ pub(crate) fn move_part<T: BitStore, O: BitOrder>(
     requires source { from + (high - low) ≤ T.BITS * length row.old.words.now }
     ensures same_words { row.new.words.ghost_name ≡ row.old.words.ghost_name }
     ensures size { length row.new.words.now ≡ length row.old.words.now }
-    ensures bits { row_of O.place T.BITS (map T.value row.new.words.now) ≡ moved (row_of O.place T.BITS (map T.value row.old.words.now)) from (k * T.BITS + low) (high - low) }
+    ensures bits { row_of O.place T.BITS (map T.value row.new.words.now)
+        ≡ moved (row_of O.place T.BITS (map T.value row.old.words.now)) from (k * T.BITS + low)
+        (high - low) }
     ensures reads { row.new.meter.reads ≤ row.old.meter.reads + 3 }
     ensures reads_rise { row.old.meter.reads ≤ row.new.meter.reads }
     ensures writes { row.new.meter.writes ≡ row.old.meter.writes + 1 }
@@ -88,7 +92,9 @@ fn shift_down<T: BitStore, O: BitOrder>(
     requires source { begin + count < length row.old.words.now }
     ensures same_words { row.new.words.ghost_name ≡ row.old.words.ghost_name }
     ensures size { length row.new.words.now ≡ length row.old.words.now }
-    ensures bits { row_of O.place T.BITS (map T.value row.new.words.now) ≡ moved (row_of O.place T.BITS (map T.value row.old.words.now)) (begin * T.BITS + at) (first * T.BITS) (count * T.BITS) }
+    ensures bits { row_of O.place T.BITS (map T.value row.new.words.now)
+        ≡ moved (row_of O.place T.BITS (map T.value row.old.words.now)) (begin * T.BITS + at)
+        (first * T.BITS) (count * T.BITS) }
     ensures reads { row.new.meter.reads ≡ row.old.meter.reads + 2 * count }
     ensures writes { row.new.meter.writes ≡ row.old.meter.writes + count }
 {
@@ -113,7 +119,9 @@ fn shift_up<T: BitStore, O: BitOrder>(
     requires target { first + count ≤ length row.old.words.now }
     ensures same_words { row.new.words.ghost_name ≡ row.old.words.ghost_name }
     ensures size { length row.new.words.now ≡ length row.old.words.now }
-    ensures bits { row_of O.place T.BITS (map T.value row.new.words.now) ≡ moved (row_of O.place T.BITS (map T.value row.old.words.now)) (begin * T.BITS + at) (first * T.BITS) (count * T.BITS) }
+    ensures bits { row_of O.place T.BITS (map T.value row.new.words.now)
+        ≡ moved (row_of O.place T.BITS (map T.value row.old.words.now)) (begin * T.BITS + at)
+        (first * T.BITS) (count * T.BITS) }
     ensures reads { row.new.meter.reads ≡ row.old.meter.reads + 2 * count }
     ensures writes { row.new.meter.writes ≡ row.old.meter.writes + count }
 {
@@ -140,7 +148,9 @@ fn shift_words<T: BitStore, O: BitOrder>(
     requires source { begin + count < length row.old.words.now }
     ensures same_words { row.new.words.ghost_name ≡ row.old.words.ghost_name }
     ensures size { length row.new.words.now ≡ length row.old.words.now }
-    ensures bits { row_of O.place T.BITS (map T.value row.new.words.now) ≡ moved (row_of O.place T.BITS (map T.value row.old.words.now)) (begin * T.BITS + at) (first * T.BITS) (count * T.BITS) }
+    ensures bits { row_of O.place T.BITS (map T.value row.new.words.now)
+        ≡ moved (row_of O.place T.BITS (map T.value row.old.words.now)) (begin * T.BITS + at)
+        (first * T.BITS) (count * T.BITS) }
     ensures reads { row.new.meter.reads ≡ row.old.meter.reads + 2 * count }
     ensures writes { row.new.meter.writes ≡ row.old.meter.writes + count }
 {
@@ -169,7 +179,9 @@ pub(crate) fn move_words<T: BitStore, O: BitOrder>(
     requires source { from + count * T.BITS < T.BITS * length row.old.words.now }
     ensures same_words { row.new.words.ghost_name ≡ row.old.words.ghost_name }
     ensures size { length row.new.words.now ≡ length row.old.words.now }
-    ensures bits { row_of O.place T.BITS (map T.value row.new.words.now) ≡ moved (row_of O.place T.BITS (map T.value row.old.words.now)) from (first * T.BITS) (count * T.BITS) }
+    ensures bits { row_of O.place T.BITS (map T.value row.new.words.now)
+        ≡ moved (row_of O.place T.BITS (map T.value row.old.words.now)) from (first * T.BITS)
+        (count * T.BITS) }
     ensures reads { row.new.meter.reads ≤ row.old.meter.reads + 2 * count }
     ensures reads_rise { row.old.meter.reads ≤ row.new.meter.reads }
     ensures writes { row.new.meter.writes ≡ row.old.meter.writes + count }
@@ -186,8 +198,9 @@ pub(crate) fn move_words<T: BitStore, O: BitOrder>(
     }
 }
 
-/// Moves the `n` bits from index `src` to index `dst`, as if they were copied out first, by one `BitOrder::move_run` over
-/// these words. Requires that both runs lie in the words, which have at most `MAX_BITS + 2 * T::BITS` bits.
+/// Moves the `n` bits from index `src` to index `dst`, as if they were copied out first, by one
+/// `BitOrder::move_run` over these words. Requires that both runs lie in the words, which have at most
+/// `MAX_BITS + 2 * T::BITS` bits.
 pub fn move_bits<T: BitStore, O: BitOrder>(words: &mut [T], src: usize, dst: usize, n: usize)
     requires room { T.BITS * length words.old ≤ MAX_BITS + 2 * T.BITS }
     requires source { src + n ≤ T.BITS * length words.old }
@@ -198,8 +211,8 @@ pub fn move_bits<T: BitStore, O: BitOrder>(words: &mut [T], src: usize, dst: usi
     let _meter = move_bits_counted::<T, O>(words, src, dst, n);
 }
 
-/// Like `move_bits`, but returns the meter of the words that were read and written: at most one write for each word that
-/// holds a bit of the target, and at most three reads for each.
+/// Like `move_bits`, but returns the meter of the words that were read and written: at most one write for each
+/// word that holds a bit of the target, and at most three reads for each.
 pub fn move_bits_counted<T: BitStore, O: BitOrder>(
     words: &mut [T],
     src: usize,

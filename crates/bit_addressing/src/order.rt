@@ -92,7 +92,9 @@ pub trait BitOrder {
 
     /// The word whose bit at index `i` is bit `at + i` of the two words one after the other.
     fn window<T: BitStore>(low: T, high: T, at: BitIdx<T>) -> T
-        ensures { (i : ℕ) → i < T.BITS → has_bit (T.value result) (place T.BITS i) ≡ row_bit place T.BITS (T.value low ∷ T.value high ∷ []) (at + i) }
+        ensures { (i : ℕ) → i < T.BITS
+            → has_bit (T.value result) (place T.BITS i)
+            ≡ row_bit place T.BITS (T.value low ∷ T.value high ∷ []) (at + i) }
     {
         if at.into_inner() == 0 {
             return low;
@@ -104,7 +106,8 @@ pub trait BitOrder {
 
     /// Like `window`, as a number: the word whose place `i` has bit `at + i` of the two words.
     fn window_lsb0<T: BitStore>(low: T, high: T, at: BitIdx<T>) -> T
-        ensures { (i : ℕ) → i < T.BITS → has_bit (T.value result) i ≡ row_bit place T.BITS (T.value low ∷ T.value high ∷ []) (at + i) }
+        ensures { (i : ℕ) → i < T.BITS
+            → has_bit (T.value result) i ≡ row_bit place T.BITS (T.value low ∷ T.value high ∷ []) (at + i) }
     {
         let begin = at.into_inner();
         let mut word = T::ZERO;
@@ -125,7 +128,11 @@ pub trait BitOrder {
         upto: BitEnd<T>,
     ) -> T
         requires { from ≤ upto }
-        ensures { (i : ℕ) → i < T.BITS → has_bit (T.value result) (place T.BITS i) ≡ (if leb from i && ltb i upto then row_bit place T.BITS (T.value low ∷ T.value high ∷ []) (at + i) else has_bit (T.value old) (place T.BITS i)) }
+        ensures { (i : ℕ) → i < T.BITS
+            → has_bit (T.value result) (place T.BITS i)
+            ≡ (if leb from i
+            && ltb i upto then row_bit place T.BITS (T.value low ∷ T.value high ∷ []) (at + i) else has_bit
+            (T.value old) (place T.BITS i)) }
     {
         let begin = at.into_inner();
         let mut word = old;
@@ -139,7 +146,8 @@ pub trait BitOrder {
     /// The word whose bits are the first of a word that may be wider. Requires that it is not narrower.
     fn front<T: BitStore, U: BitStore>(word: U) -> T
         requires { T.BITS ≤ U.BITS }
-        ensures { (i : ℕ) → i < T.BITS → has_bit (T.value result) (place T.BITS i) ≡ has_bit (U.value word) (place U.BITS i) }
+        ensures { (i : ℕ) → i < T.BITS
+            → has_bit (T.value result) (place T.BITS i) ≡ has_bit (U.value word) (place U.BITS i) }
     {
         Self::from_lsb0(T::from_u64(Self::to_lsb0(word).to_u64()))
     }
@@ -148,7 +156,8 @@ pub trait BitOrder {
     /// them.
     fn pack<T: BitStore>(words: &[T], k: usize) -> u64
         requires { k * T.BITS + 64 ≤ T.BITS * length words.now }
-        ensures { row_of place 64 (result ∷ []) ≡ slice_range (row_of place T.BITS (map T.value words.now)) (k * T.BITS) (k * T.BITS + 64) }
+        ensures { row_of place 64 (result ∷ [])
+            ≡ slice_range (row_of place T.BITS (map T.value words.now)) (k * T.BITS) (k * T.BITS + 64) }
     {
         let mut bits = 0u64;
         for i in 0..64 / T::BITS {
@@ -166,7 +175,8 @@ pub trait BitOrder {
         requires target { dst + n ≤ T.BITS * length row.old.words.now }
         ensures same_words { row.new.words.ghost_name ≡ row.old.words.ghost_name }
         ensures size { length row.new.words.now ≡ length row.old.words.now }
-        ensures bits { row_of place T.BITS (map T.value row.new.words.now) ≡ moved (row_of place T.BITS (map T.value row.old.words.now)) src dst n }
+        ensures bits { row_of place T.BITS (map T.value row.new.words.now)
+            ≡ moved (row_of place T.BITS (map T.value row.old.words.now)) src dst n }
         ensures reads { row.new.meter.reads ≤ row.old.meter.reads + 3 * touched T.BITS dst n }
         ensures writes { row.new.meter.writes ≤ row.old.meter.writes + touched T.BITS dst n }
         ensures reads_rise { row.old.meter.reads ≤ row.new.meter.reads }

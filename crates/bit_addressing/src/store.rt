@@ -32,15 +32,19 @@ pub trait BitStore: Copy + Drop {
 
     /// The bits that are set in both.
     fn and(self, other: Self) -> Self
-        ensures { (p : ℕ) → p < BITS → has_bit (value result) p ≡ (has_bit (value self) p && has_bit (value other) p) };
+        ensures { (p : ℕ) → p < BITS
+            → has_bit (value result) p ≡ (has_bit (value self) p && has_bit (value other) p) };
 
     /// The bits that are set in one or in both.
     fn or(self, other: Self) -> Self
-        ensures { (p : ℕ) → p < BITS → has_bit (value result) p ≡ (has_bit (value self) p || has_bit (value other) p) };
+        ensures { (p : ℕ) → p < BITS
+            → has_bit (value result) p ≡ (has_bit (value self) p || has_bit (value other) p) };
 
     /// The bits that are set in one alone.
     fn xor(self, other: Self) -> Self
-        ensures { (p : ℕ) → p < BITS → has_bit (value result) p ≡ (if has_bit (value self) p then not (has_bit (value other) p) else has_bit (value other) p) };
+        ensures { (p : ℕ) → p < BITS
+            → has_bit (value result) p
+            ≡ (if has_bit (value self) p then not (has_bit (value other) p) else has_bit (value other) p) };
 
     /// Every bit flipped.
     fn not(self) -> Self
@@ -66,7 +70,8 @@ pub trait BitStore: Copy + Drop {
     /// The word with `bit` written at a place, and its other bits kept. Requires that `place` is below `BITS`.
     fn with_bit(self, place: u8, bit: bool) -> Self
         requires { place < BITS }
-        ensures { (p : ℕ) → p < BITS → has_bit (value result) p ≡ (if eqb p place then bit else has_bit (value self) p) };
+        ensures { (p : ℕ) → p < BITS
+            → has_bit (value result) p ≡ (if eqb p place then bit else has_bit (value self) p) };
 
     /// The bits in the opposite places: place `p` gets the bit of place `BITS - 1 - p`.
     fn reverse(self) -> Self

@@ -101,7 +101,8 @@ pub fn write_chunk<T: BitStore, O: BitOrder>(words: &mut [T], at: usize, n: u8, 
     requires few { n ≤ 64 }
     requires within { at + n ≤ T.BITS * length words.old }
     requires fits { at + n < 2 ^ 64 }
-    ensures bits { row T.BitStore O.BitOrder words.new ≡ put (row T.BitStore O.BitOrder words.old) at (number_bits chunk n) }
+    ensures bits { row T.BitStore O.BitOrder words.new
+        ≡ put (row T.BitStore O.BitOrder words.old) at (number_bits chunk n) }
     ensures size { length words.new ≡ length words.old }
 {
     if n == 0 {
@@ -124,7 +125,8 @@ fn write_over<T: BitStore, O: BitOrder>(words: &mut [T], at: usize, n: u8, chunk
     requires few { n ≤ 64 }
     requires within { at + n ≤ T.BITS * length words.old }
     requires fits { at + n < 2 ^ 64 }
-    ensures bits { row T.BitStore O.BitOrder words.new ≡ put (row T.BitStore O.BitOrder words.old) at (number_bits chunk n) }
+    ensures bits { row T.BitStore O.BitOrder words.new
+        ≡ put (row T.BitStore O.BitOrder words.old) at (number_bits chunk n) }
     ensures size { length words.new ≡ length words.old }
 {
     let Span {
@@ -166,7 +168,8 @@ pub fn write_binary<T: BitStore, O: BitOrder>(words: &mut [T], at: usize, n: u8,
     requires few { n ≤ 64 }
     requires within { at + n ≤ T.BITS * length words.old }
     requires fits { at + n < 2 ^ 64 }
-    ensures bits { row T.BitStore O.BitOrder words.new ≡ put (row T.BitStore O.BitOrder words.old) at (binary n number) }
+    ensures bits { row T.BitStore O.BitOrder words.new
+        ≡ put (row T.BitStore O.BitOrder words.old) at (binary n number) }
     ensures size { length words.new ≡ length words.old }
 {
     if n == 0 {
@@ -187,7 +190,8 @@ pub(crate) fn word_of_run<T: BitStore, O: BitOrder, U: BitStore, P: BitOrder>(
     requires begins { low < T.BITS }
     requires ends { low + n ≤ T.BITS }
     requires source { from + n ≤ U.BITS * length source.now }
-    ensures { slice_range (row T.BitStore O.BitOrder (result ∷ [])) low (low + n) ≡ slice_range (row U.BitStore P.BitOrder source.now) from (from + n) }
+    ensures { slice_range (row T.BitStore O.BitOrder (result ∷ [])) low (low + n)
+        ≡ slice_range (row U.BitStore P.BitOrder source.now) from (from + n) }
 {
     O::from_lsb0(T::from_u64(read_chunk::<U, P>(source, from, n) << low))
 }
@@ -203,7 +207,9 @@ fn word_of_window<T: BitStore, O: BitOrder, U: BitStore, P: BitOrder>(
     requires width { U.BITS ≡ T.BITS }
     requires word { k + 1 < length source.now }
     requires within { skip < U.BITS }
-    ensures { row T.BitStore O.BitOrder (result ∷ []) ≡ slice_range (row U.BitStore P.BitOrder source.now) (k * U.BITS + skip) (k * U.BITS + skip + U.BITS) }
+    ensures { row T.BitStore O.BitOrder (result ∷ [])
+        ≡ slice_range (row U.BitStore P.BitOrder source.now) (k * U.BITS + skip)
+        (k * U.BITS + skip + U.BITS) }
 {
     let begin = BitIdx::<U>::new_unchecked(skip);
     let bits = P::window_lsb0(source[k], source[k + 1], begin).to_u64();
@@ -220,7 +226,9 @@ fn word_by_bits<T: BitStore, O: BitOrder, U: BitStore, P: BitOrder>(
     requires width { U.BITS ≡ T.BITS }
     requires word { k + 1 < length source.now }
     requires within { skip < U.BITS }
-    ensures { row T.BitStore O.BitOrder (result ∷ []) ≡ slice_range (row U.BitStore P.BitOrder source.now) (k * U.BITS + skip) (k * U.BITS + skip + U.BITS) }
+    ensures { row T.BitStore O.BitOrder (result ∷ [])
+        ≡ slice_range (row U.BitStore P.BitOrder source.now) (k * U.BITS + skip)
+        (k * U.BITS + skip + U.BITS) }
 {
     let (low, high) = (source[k], source[k + 1]);
     let mut word = T::ZERO;
@@ -241,7 +249,9 @@ fn word_behind_by_bits<T: BitStore, O: BitOrder, U: BitStore, P: BitOrder>(
     requires within { skip < U.BITS }
     requires source { begin * U.BITS + skip + t * T.BITS + T.BITS < U.BITS * length source.now }
     requires fits { begin * U.BITS + skip + t * T.BITS + T.BITS < 2 ^ 64 }
-    ensures { row T.BitStore O.BitOrder (result ∷ []) ≡ slice_range (row U.BitStore P.BitOrder source.now) (begin * U.BITS + skip + t * T.BITS) (begin * U.BITS + skip + t * T.BITS + T.BITS) }
+    ensures { row T.BitStore O.BitOrder (result ∷ [])
+        ≡ slice_range (row U.BitStore P.BitOrder source.now) (begin * U.BITS + skip + t * T.BITS)
+        (begin * U.BITS + skip + t * T.BITS + T.BITS) }
 {
     if U::BITS == T::BITS {
         if O::goes_by_shifts() {
@@ -271,7 +281,8 @@ pub(crate) fn block_at<O: BitOrder, U: BitStore, P: BitOrder>(
 ) -> u64
     requires within { skip < U.BITS }
     requires words { k * U.BITS + 128 ≤ U.BITS * length source.now }
-    ensures { row_of O.place 64 (result ∷ []) ≡ slice_range (row U.BitStore P.BitOrder source.now) (k * U.BITS + skip) (k * U.BITS + skip + 64) }
+    ensures { row_of O.place 64 (result ∷ [])
+        ≡ slice_range (row U.BitStore P.BitOrder source.now) (k * U.BITS + skip) (k * U.BITS + skip + 64) }
 {
     let low = P::pack(source, k);
     let high = P::pack(source, k + (64 / U::BITS) as usize);
@@ -283,7 +294,8 @@ pub(crate) fn block_at<O: BitOrder, U: BitStore, P: BitOrder>(
 #[inline(always)]
 fn word_at<T: BitStore, O: BitOrder, U: BitStore, P: BitOrder>(source: &[U], at: usize) -> T
     requires { at + T.BITS ≤ U.BITS * length source.now }
-    ensures { row T.BitStore O.BitOrder (result ∷ []) ≡ slice_range (row U.BitStore P.BitOrder source.now) at (at + T.BITS) }
+    ensures { row T.BitStore O.BitOrder (result ∷ [])
+        ≡ slice_range (row U.BitStore P.BitOrder source.now) at (at + T.BITS) }
 {
     let width = U::BITS as usize;
     let k = at / width;
@@ -307,7 +319,9 @@ pub(crate) fn word_behind<T: BitStore, O: BitOrder, U: BitStore, P: BitOrder>(
     requires within { skip < U.BITS }
     requires source { begin * U.BITS + skip + t * T.BITS + T.BITS < U.BITS * length source.now }
     requires fits { begin * U.BITS + skip + t * T.BITS + T.BITS < 2 ^ 64 }
-    ensures { row T.BitStore O.BitOrder (result ∷ []) ≡ slice_range (row U.BitStore P.BitOrder source.now) (begin * U.BITS + skip + t * T.BITS) (begin * U.BITS + skip + t * T.BITS + T.BITS) }
+    ensures { row T.BitStore O.BitOrder (result ∷ [])
+        ≡ slice_range (row U.BitStore P.BitOrder source.now) (begin * U.BITS + skip + t * T.BITS)
+        (begin * U.BITS + skip + t * T.BITS + T.BITS) }
 {
     if !P::goes_by_shifts() {
         return word_behind_by_bits::<T, O, U, P>(source, begin, skip, t);

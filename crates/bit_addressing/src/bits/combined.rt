@@ -21,7 +21,8 @@ pub trait BitOperator {
 
     /// The bits of `old` and `new` at each place made into one.
     fn apply<T: BitStore>(old: T, new: T) -> T
-        ensures { (p : ℕ) → p < T.BITS → has_bit (T.value result) p ≡ made (has_bit (T.value old) p) (has_bit (T.value new) p) };
+        ensures { (p : ℕ) → p < T.BITS
+            → has_bit (T.value result) p ≡ made (has_bit (T.value old) p) (has_bit (T.value new) p) };
 
     /// Whether a bit is false that is made of an old one and false. Else it is the old one.
     fn clears() -> bool
@@ -99,7 +100,11 @@ fn combine_part<F: BitOperator, T: BitStore, O: BitOrder>(
     requires word { k < length words.old }
     requires some { low < high }
     requires within { high ≤ T.BITS }
-    ensures bits { row T.BitStore O.BitOrder words.new ≡ put (row T.BitStore O.BitOrder words.old) (k * T.BITS + low) (zip2 F.made (slice_range (row T.BitStore O.BitOrder words.old) (k * T.BITS + low) (k * T.BITS + high)) (slice_range (row T.BitStore O.BitOrder (new ∷ [])) low high)) }
+    ensures bits { row T.BitStore O.BitOrder words.new
+        ≡ put (row T.BitStore O.BitOrder words.old) (k * T.BITS + low)
+        (zip2 F.made
+        (slice_range (row T.BitStore O.BitOrder words.old) (k * T.BITS + low) (k * T.BITS + high))
+        (slice_range (row T.BitStore O.BitOrder (new ∷ [])) low high)) }
     ensures size { length words.new ≡ length words.old }
 {
     let word = F::apply(words[k], new);
@@ -123,7 +128,11 @@ fn combine_behind<F: BitOperator, T: BitStore, O: BitOrder, U: BitStore, P: BitO
     requires within { skip < U.BITS }
     requires source { begin * U.BITS + skip + (last - first) * T.BITS < U.BITS * length source.now }
     requires source_fits { begin * U.BITS + skip + (last - first) * T.BITS < 2 ^ 64 }
-    ensures bits { row T.BitStore O.BitOrder words.new ≡ put (row T.BitStore O.BitOrder words.old) (first * T.BITS) (zip2 F.made (slice_range (row T.BitStore O.BitOrder words.old) (first * T.BITS) (last * T.BITS)) (slice_range (row U.BitStore P.BitOrder source.now) (begin * U.BITS + skip) (begin * U.BITS + skip + (last - first) * T.BITS))) }
+    ensures bits { row T.BitStore O.BitOrder words.new
+        ≡ put (row T.BitStore O.BitOrder words.old) (first * T.BITS)
+        (zip2 F.made (slice_range (row T.BitStore O.BitOrder words.old) (first * T.BITS) (last * T.BITS))
+        (slice_range (row U.BitStore P.BitOrder source.now) (begin * U.BITS + skip)
+        (begin * U.BITS + skip + (last - first) * T.BITS))) }
     ensures size { length words.new ≡ length words.old }
 {
     for k in first..last {
@@ -146,7 +155,12 @@ fn combine_blocks<F: BitOperator, T: BitStore, O: BitOrder, U: BitStore, P: BitO
     requires target { (t : ℕ) → t < blocks → first + t * (64 / T.BITS) + 64 / T.BITS ≤ length words.old }
     requires within { skip < U.BITS }
     requires source { (t : ℕ) → t < blocks → (begin + t * (64 / U.BITS)) * U.BITS + 128 ≤ U.BITS * length source.now }
-    ensures bits { row T.BitStore O.BitOrder words.new ≡ put (row T.BitStore O.BitOrder words.old) (first * T.BITS) (zip2 F.made (slice_range (row T.BitStore O.BitOrder words.old) (first * T.BITS) (first * T.BITS + blocks * 64)) (slice_range (row U.BitStore P.BitOrder source.now) (begin * U.BITS + skip) (begin * U.BITS + skip + blocks * 64))) }
+    ensures bits { row T.BitStore O.BitOrder words.new
+        ≡ put (row T.BitStore O.BitOrder words.old) (first * T.BITS)
+        (zip2 F.made
+        (slice_range (row T.BitStore O.BitOrder words.old) (first * T.BITS) (first * T.BITS + blocks * 64))
+        (slice_range (row U.BitStore P.BitOrder source.now) (begin * U.BITS + skip)
+        (begin * U.BITS + skip + blocks * 64))) }
     ensures size { length words.new ≡ length words.old }
 {
     let (each, others) = ((64 / T::BITS) as usize, (64 / U::BITS) as usize);
@@ -172,7 +186,11 @@ fn combine_narrower<F: BitOperator, T: BitStore, O: BitOrder, U: BitStore, P: Bi
     requires within { skip < U.BITS }
     requires source { begin * U.BITS + skip + (last - first) * T.BITS < U.BITS * length source.now }
     requires source_fits { begin * U.BITS + skip + (last - first) * T.BITS < 2 ^ 64 }
-    ensures bits { row T.BitStore O.BitOrder words.new ≡ put (row T.BitStore O.BitOrder words.old) (first * T.BITS) (zip2 F.made (slice_range (row T.BitStore O.BitOrder words.old) (first * T.BITS) (last * T.BITS)) (slice_range (row U.BitStore P.BitOrder source.now) (begin * U.BITS + skip) (begin * U.BITS + skip + (last - first) * T.BITS))) }
+    ensures bits { row T.BitStore O.BitOrder words.new
+        ≡ put (row T.BitStore O.BitOrder words.old) (first * T.BITS)
+        (zip2 F.made (slice_range (row T.BitStore O.BitOrder words.old) (first * T.BITS) (last * T.BITS))
+        (slice_range (row U.BitStore P.BitOrder source.now) (begin * U.BITS + skip)
+        (begin * U.BITS + skip + (last - first) * T.BITS))) }
     ensures size { length words.new ≡ length words.old }
 {
     let (each, others) = ((64 / T::BITS) as usize, (64 / U::BITS) as usize);
@@ -182,8 +200,9 @@ fn combine_narrower<F: BitOperator, T: BitStore, O: BitOrder, U: BitStore, P: Bi
     combine_behind::<F, T, O, U, P>(words, next, last, source, from, skip);
 }
 
-/// Like `combine_behind`, of the bits that stand as far after bit `from` of the row. Where that is a word's first bit no word
-/// has to be shifted, so the compiler is shown this case by itself (docs/SPEED.md, "Rows of words", equal heads).
+/// Like `combine_behind`, of the bits that stand as far after bit `from` of the row. Where that is a word's
+/// first bit no word has to be shifted, so the compiler is shown this case by itself (docs/SPEED.md, "Rows of
+/// words", equal heads).
 fn combine_whole<F: BitOperator, T: BitStore, O: BitOrder, U: BitStore, P: BitOrder>(
     words: &mut [T],
     first: usize,
@@ -195,7 +214,10 @@ fn combine_whole<F: BitOperator, T: BitStore, O: BitOrder, U: BitStore, P: BitOr
     requires target { last ≤ length words.old }
     requires source { from + (last - first) * T.BITS < U.BITS * length source.now }
     requires source_fits { from + (last - first) * T.BITS < 2 ^ 64 }
-    ensures bits { row T.BitStore O.BitOrder words.new ≡ put (row T.BitStore O.BitOrder words.old) (first * T.BITS) (zip2 F.made (slice_range (row T.BitStore O.BitOrder words.old) (first * T.BITS) (last * T.BITS)) (slice_range (row U.BitStore P.BitOrder source.now) from (from + (last - first) * T.BITS))) }
+    ensures bits { row T.BitStore O.BitOrder words.new
+        ≡ put (row T.BitStore O.BitOrder words.old) (first * T.BITS)
+        (zip2 F.made (slice_range (row T.BitStore O.BitOrder words.old) (first * T.BITS) (last * T.BITS))
+        (slice_range (row U.BitStore P.BitOrder source.now) from (from + (last - first) * T.BITS))) }
     ensures size { length words.new ≡ length words.old }
 {
     let width = U::BITS as usize;
@@ -227,7 +249,11 @@ fn combine_alike<F: BitOperator, T: BitStore, O: BitOrder, U: BitStore, P: BitOr
     requires ordered { first ≤ last }
     requires target { last ≤ length words.old }
     requires source { begin + (last - first) ≤ length source.now }
-    ensures bits { row T.BitStore O.BitOrder words.new ≡ put (row T.BitStore O.BitOrder words.old) (first * T.BITS) (zip2 F.made (slice_range (row T.BitStore O.BitOrder words.old) (first * T.BITS) (last * T.BITS)) (slice_range (row U.BitStore P.BitOrder source.now) (begin * T.BITS) (begin * T.BITS + (last - first) * T.BITS))) }
+    ensures bits { row T.BitStore O.BitOrder words.new
+        ≡ put (row T.BitStore O.BitOrder words.old) (first * T.BITS)
+        (zip2 F.made (slice_range (row T.BitStore O.BitOrder words.old) (first * T.BITS) (last * T.BITS))
+        (slice_range (row U.BitStore P.BitOrder source.now) (begin * T.BITS)
+        (begin * T.BITS + (last - first) * T.BITS))) }
     ensures size { length words.new ≡ length words.old }
 {
     for k in first..last {
@@ -249,7 +275,10 @@ fn combine_apart<F: BitOperator, T: BitStore, O: BitOrder, U: BitStore, P: BitOr
     requires source { from + n ≤ U.BITS * length source.now }
     requires target_fits { at + n < 2 ^ 64 }
     requires source_fits { from + n < 2 ^ 64 }
-    ensures bits { row T.BitStore O.BitOrder words.new ≡ put (row T.BitStore O.BitOrder words.old) at (zip2 F.made (slice_range (row T.BitStore O.BitOrder words.old) at (at + n)) (slice_range (row U.BitStore P.BitOrder source.now) from (from + n))) }
+    ensures bits { row T.BitStore O.BitOrder words.new
+        ≡ put (row T.BitStore O.BitOrder words.old) at
+        (zip2 F.made (slice_range (row T.BitStore O.BitOrder words.old) at (at + n))
+        (slice_range (row U.BitStore P.BitOrder source.now) from (from + n))) }
     ensures size { length words.new ≡ length words.old }
 {
     if n == 0 {
@@ -289,7 +318,10 @@ pub fn combine_bits<F: BitOperator, T: BitStore, O: BitOrder, U: BitStore, P: Bi
     requires source { from + n ≤ U.BITS * length source.now }
     requires target_fits { at + n < 2 ^ 64 }
     requires source_fits { from + n < 2 ^ 64 }
-    ensures bits { row T.BitStore O.BitOrder words.new ≡ put (row T.BitStore O.BitOrder words.old) at (zip2 F.made (slice_range (row T.BitStore O.BitOrder words.old) at (at + n)) (slice_range (row U.BitStore P.BitOrder source.now) from (from + n))) }
+    ensures bits { row T.BitStore O.BitOrder words.new
+        ≡ put (row T.BitStore O.BitOrder words.old) at
+        (zip2 F.made (slice_range (row T.BitStore O.BitOrder words.old) at (at + n))
+        (slice_range (row U.BitStore P.BitOrder source.now) from (from + n))) }
     ensures size { length words.new ≡ length words.old }
 {
     let width = T::BITS as usize;

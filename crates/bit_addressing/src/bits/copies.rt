@@ -21,7 +21,9 @@ pub fn copy_bits<T: BitStore, O: BitOrder, U: BitStore, P: BitOrder>(
     requires source { from + n ≤ U.BITS * length source.now }
     requires target_fits { at + n < 2 ^ 64 }
     requires source_fits { from + n < 2 ^ 64 }
-    ensures bits { row T.BitStore O.BitOrder words.new ≡ put (row T.BitStore O.BitOrder words.old) at (slice_range (row U.BitStore P.BitOrder source.now) from (from + n)) }
+    ensures bits { row T.BitStore O.BitOrder words.new
+        ≡ put (row T.BitStore O.BitOrder words.old) at
+        (slice_range (row U.BitStore P.BitOrder source.now) from (from + n)) }
     ensures size { length words.new ≡ length words.old }
 {
     combine_bits::<Second, T, O, U, P>(words, at, source, from, n);

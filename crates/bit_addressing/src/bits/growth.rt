@@ -18,7 +18,8 @@ pub fn resize_words_in_vec<T: BitStore, O: BitOrder>(
     words: &mut Vec<T>,
     bits: usize,
 ) -> Result<(), AllocError>
-    ensures bits { OnOk result (row T.BitStore O.BitOrder words.new.items ≡ sized T.BITS (row T.BitStore O.BitOrder words.old.items) bits) }
+    ensures bits { OnOk result (row T.BitStore O.BitOrder words.new.items
+        ≡ sized T.BITS (row T.BitStore O.BitOrder words.old.items) bits) }
     ensures size { OnOk result (length words.new.items ≡ words_for T.BITS bits) }
     ensures room { OnOk result (bits ≤ T.BITS * length words.new.items) }
     ensures capacity { vec_capacity words.old ≤ vec_capacity words.new }
@@ -37,10 +38,10 @@ pub fn resize_words_in_vec<T: BitStore, O: BitOrder>(
     Ok(())
 }
 
-/// Appends words up to those for `upto` bits, and writes `bit` over the bits from `end` up to `upto`, each word once; the
-/// other bits of a word that is added are false. Takes memory where a word is added. Requires that `end` is at most `upto`, and
-/// that the words are those for `end` bits, and that `upto` is at most one word's bits below 2 to the power 64. It is refused only
-/// where the capacity, in words, is too small.
+/// Appends words up to those for `upto` bits, and writes `bit` over the bits from `end` up to `upto`, each word
+/// once; the other bits of a word that is added are false. Takes memory where a word is added. Requires that
+/// `end` is at most `upto`, and that the words are those for `end` bits, and that `upto` is at most one word's
+/// bits below 2 to the power 64. It is refused only where the capacity, in words, is too small.
 ///
 /// ```text
 /// of the words 05 by u8 and Lsb0: append_run_in_vec(&mut words, 3, 10, true)? leaves fd 03
@@ -54,7 +55,9 @@ pub fn append_run_in_vec<T: BitStore, O: BitOrder>(
     requires ordered { end ≤ upto }
     requires count { length words.old.items ≡ words_for T.BITS end }
     requires fits { upto + T.BITS ≤ 2 ^ 64 }
-    ensures bits { OnOk result (row T.BitStore O.BitOrder words.new.items ≡ put (sized T.BITS (row T.BitStore O.BitOrder words.old.items) upto) end (replicate (upto - end) bit)) }
+    ensures bits { OnOk result (row T.BitStore O.BitOrder words.new.items
+        ≡ put (sized T.BITS (row T.BitStore O.BitOrder words.old.items) upto) end
+        (replicate (upto - end) bit)) }
     ensures size { OnOk result (length words.new.items ≡ words_for T.BITS upto) }
     ensures room { OnOk result (upto ≤ T.BITS * length words.new.items) }
     ensures capacity { vec_capacity words.old ≤ vec_capacity words.new }
@@ -77,7 +80,8 @@ pub fn append_run_in_vec<T: BitStore, O: BitOrder>(
 pub fn cut_words_in_vec<T: BitStore, O: BitOrder>(words: &mut Vec<T>, bits: usize)
     requires { bits ≤ T.BITS * length words.old.items }
     ensures items { words.new.items ≡ take (words_for T.BITS bits) words.old.items }
-    ensures bits { row T.BitStore O.BitOrder words.new.items ≡ sized T.BITS (row T.BitStore O.BitOrder words.old.items) bits }
+    ensures bits { row T.BitStore O.BitOrder words.new.items
+        ≡ sized T.BITS (row T.BitStore O.BitOrder words.old.items) bits }
     ensures size { length words.new.items ≡ words_for T.BITS bits }
     ensures room { bits ≤ T.BITS * length words.new.items }
     ensures capacity { vec_capacity words.new ≡ vec_capacity words.old }
@@ -91,7 +95,8 @@ pub fn cut_words_in_vec<T: BitStore, O: BitOrder>(words: &mut Vec<T>, bits: usiz
 fn push_word<T: BitStore>(words: &mut Vec<T>, word: T) -> Result<(), AllocError>
     ensures items { OnOk result (words.new.items ≡ words.old.items ++ word ∷ []) }
     ensures capacity { vec_capacity words.old ≤ vec_capacity words.new }
-    ensures no_memory { length words.old.items < vec_capacity words.old → vec_capacity words.new ≡ vec_capacity words.old }
+    ensures no_memory { length words.old.items < vec_capacity words.old
+        → vec_capacity words.new ≡ vec_capacity words.old }
     ensures full { OnErr result (vec_capacity words.old ≤ length words.old.items) }
     ensures unchanged { OnErr result (words.new.items ≡ words.old.items) }
 {
@@ -113,11 +118,13 @@ pub fn push_bit_in_vec<T: BitStore, O: BitOrder>(
 ) -> Result<(), AllocError>
     requires count { length words.old.items ≡ words_for T.BITS end }
     requires fits { end + 1 < 2 ^ 64 }
-    ensures bits { OnOk result (row T.BitStore O.BitOrder words.new.items ≡ put (sized T.BITS (row T.BitStore O.BitOrder words.old.items) (end + 1)) end (bit ∷ [])) }
+    ensures bits { OnOk result (row T.BitStore O.BitOrder words.new.items
+        ≡ put (sized T.BITS (row T.BitStore O.BitOrder words.old.items) (end + 1)) end (bit ∷ [])) }
     ensures size { OnOk result (length words.new.items ≡ words_for T.BITS (end + 1)) }
     ensures room { OnOk result (end + 1 ≤ T.BITS * length words.new.items) }
     ensures capacity { vec_capacity words.old ≤ vec_capacity words.new }
-    ensures no_memory { words_for T.BITS (end + 1) ≤ vec_capacity words.old → vec_capacity words.new ≡ vec_capacity words.old }
+    ensures no_memory { words_for T.BITS (end + 1) ≤ vec_capacity words.old
+        → vec_capacity words.new ≡ vec_capacity words.old }
     ensures full { OnErr result (vec_capacity words.old < words_for T.BITS (end + 1)) }
     ensures unchanged { OnErr result (words.new.items ≡ words.old.items) }
 {

@@ -19,7 +19,9 @@ fn count_words<T: BitStore, O: BitOrder>(words: &[T], first: usize, last: usize)
     requires ordered { first ≤ last }
     requires within { last ≤ length words.now }
     requires fits { last * T.BITS < 2 ^ 64 }
-    ensures { result ≡ count_by (λ b. b) (slice_range (row T.BitStore O.BitOrder words.now) (first * T.BITS) (last * T.BITS)) }
+    ensures { result
+        ≡ count_by (λ b. b)
+        (slice_range (row T.BitStore O.BitOrder words.now) (first * T.BITS) (last * T.BITS)) }
 {
     let each = (64 / T::BITS) as usize;
     let blocks = (last - first) / each;
@@ -39,7 +41,9 @@ fn count_words<T: BitStore, O: BitOrder>(words: &[T], first: usize, last: usize)
 fn count_front<T: BitStore, O: BitOrder>(words: &[T], first: usize, n: usize) -> usize
     requires within { first * T.BITS + n ≤ T.BITS * length words.now }
     requires fits { first * T.BITS + n < 2 ^ 64 }
-    ensures { result ≡ count_by (λ b. b) (slice_range (row T.BitStore O.BitOrder words.now) (first * T.BITS) (first * T.BITS + n)) }
+    ensures { result
+        ≡ count_by (λ b. b)
+        (slice_range (row T.BitStore O.BitOrder words.now) (first * T.BITS) (first * T.BITS + n)) }
 {
     let width = T::BITS as usize;
     let last = first + n / width;
@@ -47,8 +51,8 @@ fn count_front<T: BitStore, O: BitOrder>(words: &[T], first: usize, n: usize) ->
     count_words::<T, Lsb0>(words, first, last) + rest.count_ones() as usize
 }
 
-/// Like `count_bits`, of a run that begins anywhere. A whole word has as many bits set in each order, so the order matters at
-/// the ends alone.
+/// Like `count_bits`, of a run that begins anywhere. A whole word has as many bits set in each order, so the
+/// order matters at the ends alone.
 #[inline(never)]
 fn count_apart<T: BitStore, O: BitOrder>(words: &[T], from: usize, upto: usize) -> usize
     requires ordered { from ≤ upto }
@@ -66,8 +70,8 @@ fn count_apart<T: BitStore, O: BitOrder>(words: &[T], from: usize, upto: usize) 
     head.count_ones() as usize + rest
 }
 
-/// How many bits of the row are set at the places `from..upto`, by whole words. Requires that `from` is at most `upto`,
-/// which is at most the row's length.
+/// How many bits of the row are set at the places `from..upto`, by whole words. Requires that `from` is at most
+/// `upto`, which is at most the row's length.
 #[inline(always)]
 pub fn count_bits<T: BitStore, O: BitOrder>(words: &[T], from: usize, upto: usize) -> usize
     requires ordered { from ≤ upto }
@@ -99,7 +103,12 @@ fn differ_from<T: BitStore, O: BitOrder, U: BitStore, P: BitOrder>(
     requires second { l * U.BITS + over + n ≤ U.BITS * length b.now }
     requires first_fits { k * T.BITS + skip + n < 2 ^ 64 }
     requires second_fits { l * U.BITS + over + n < 2 ^ 64 }
-    ensures { MatchOption result (slice_range (row T.BitStore O.BitOrder a.now) (k * T.BITS + skip) (k * T.BITS + skip + n) ≡ slice_range (row U.BitStore P.BitOrder b.now) (l * U.BITS + over) (l * U.BITS + over + n)) (λ d. IsFirstDifference (slice_range (row T.BitStore O.BitOrder a.now) (k * T.BITS + skip) (k * T.BITS + skip + n)) (slice_range (row U.BitStore P.BitOrder b.now) (l * U.BITS + over) (l * U.BITS + over + n)) d) }
+    ensures { MatchOption result (slice_range (row T.BitStore O.BitOrder a.now) (k * T.BITS + skip)
+        (k * T.BITS + skip + n)
+        ≡ slice_range (row U.BitStore P.BitOrder b.now) (l * U.BITS + over) (l * U.BITS + over + n))
+        (λ d. IsFirstDifference
+        (slice_range (row T.BitStore O.BitOrder a.now) (k * T.BITS + skip) (k * T.BITS + skip + n))
+        (slice_range (row U.BitStore P.BitOrder b.now) (l * U.BITS + over) (l * U.BITS + over + n)) d) }
 {
     let (each, others) = ((64 / T::BITS) as usize, (64 / U::BITS) as usize);
     let i = k * T::BITS as usize + skip as usize;
@@ -135,9 +144,10 @@ fn differ_from<T: BitStore, O: BitOrder, U: BitStore, P: BitOrder>(
     Some(done + apart.trailing_zeros() as usize)
 }
 
-/// How many of the first `count` words from words `k` and `l` on are equal, by turns of `each` words up to one that is not. A
-/// turn is tested once, so that the compiler compares its words side by side (docs/SPEED.md, "The bench", equal). Requires that
-/// both kinds of words have one width and order, and that the words are there.
+/// How many of the first `count` words from words `k` and `l` on are equal, by turns of `each` words up to one
+/// that is not. A turn is tested once, so that the compiler compares its words side by side (docs/SPEED.md,
+/// "The bench", equal). Requires that both kinds of words have one width and order, and that the words are
+/// there.
 #[inline(always)]
 fn equal_turns<T: BitStore, O: BitOrder, U: BitStore, P: BitOrder>(
     a: &[T],
@@ -153,7 +163,9 @@ fn equal_turns<T: BitStore, O: BitOrder, U: BitStore, P: BitOrder>(
     requires first { k + count ≤ length a.now }
     requires second { l + count ≤ length b.now }
     ensures most { result ≤ count }
-    ensures alike { slice_range (row T.BitStore O.BitOrder a.now) (k * T.BITS) (k * T.BITS + result * T.BITS) ≡ slice_range (row U.BitStore P.BitOrder b.now) (l * T.BITS) (l * T.BITS + result * T.BITS) }
+    ensures alike { slice_range (row T.BitStore O.BitOrder a.now) (k * T.BITS)
+        (k * T.BITS + result * T.BITS)
+        ≡ slice_range (row U.BitStore P.BitOrder b.now) (l * T.BITS) (l * T.BITS + result * T.BITS) }
 {
     for t in 0..count / each {
         let done = t * each;
@@ -184,7 +196,9 @@ fn equal_front<T: BitStore, O: BitOrder, U: BitStore, P: BitOrder>(
     requires first { k + count ≤ length a.now }
     requires second { l + count ≤ length b.now }
     ensures most { result ≤ count }
-    ensures alike { slice_range (row T.BitStore O.BitOrder a.now) (k * T.BITS) (k * T.BITS + result * T.BITS) ≡ slice_range (row U.BitStore P.BitOrder b.now) (l * T.BITS) (l * T.BITS + result * T.BITS) }
+    ensures alike { slice_range (row T.BitStore O.BitOrder a.now) (k * T.BITS)
+        (k * T.BITS + result * T.BITS)
+        ≡ slice_range (row U.BitStore P.BitOrder b.now) (l * T.BITS) (l * T.BITS + result * T.BITS) }
 {
     let width = T::BITS as usize;
     let far = if long {
@@ -198,8 +212,8 @@ fn equal_front<T: BitStore, O: BitOrder, U: BitStore, P: BitOrder>(
     far + equal_turns::<T, O, U, P>(a, k + far, b, l + far, count - far, 64 / width)
 }
 
-/// The word whose bits are those of two words that differ, below index `n`. Requires that both kinds of words have one width and
-/// order, and at least `n` bits.
+/// The word whose bits are those of two words that differ, below index `n`. Requires that both kinds of words
+/// have one width and order, and at least `n` bits.
 #[inline(always)]
 fn first_bits_apart<T: BitStore, O: BitOrder, U: BitStore, P: BitOrder>(
     left: T,
@@ -209,14 +223,18 @@ fn first_bits_apart<T: BitStore, O: BitOrder, U: BitStore, P: BitOrder>(
     requires width { U.BITS ≡ T.BITS }
     requires order { (i : ℕ) → i < T.BITS → O.place T.BITS i ≡ P.place T.BITS i }
     requires few { n ≤ T.BITS }
-    ensures { (i : ℕ) → i < T.BITS → has_bit (T.value result) (O.place T.BITS i) ≡ ((if slice_index_or (row T.BitStore O.BitOrder (left ∷ [])) i false then not (slice_index_or (row U.BitStore P.BitOrder (right ∷ [])) i false) else slice_index_or (row U.BitStore P.BitOrder (right ∷ [])) i false) && ltb i n) }
+    ensures { (i : ℕ) → i < T.BITS
+        → has_bit (T.value result) (O.place T.BITS i)
+        ≡ ((if slice_index_or (row T.BitStore O.BitOrder (left ∷ [])) i false then not
+        (slice_index_or (row U.BitStore P.BitOrder (right ∷ [])) i false) else slice_index_or
+        (row U.BitStore P.BitOrder (right ∷ [])) i false) && ltb i n) }
 {
     let mask = O::mask(BitIdx::<T>::new_unchecked(0), BitEnd::<T>::new_unchecked(n));
     left.xor(word_alike::<T, O, U, P>(right)).and(mask)
 }
 
-/// Like `differ_at`, from words `k` and `l` on, whose bits lie in one order: words are compared as they are, and many at a time where
-/// the run is long. Requires that both kinds of words have one width and order.
+/// Like `differ_at`, from words `k` and `l` on, whose bits lie in one order: words are compared as they are,
+/// and many at a time where the run is long. Requires that both kinds of words have one width and order.
 #[inline(always)]
 fn differ_alike<T: BitStore, O: BitOrder, U: BitStore, P: BitOrder>(
     a: &[T],
@@ -232,7 +250,11 @@ fn differ_alike<T: BitStore, O: BitOrder, U: BitStore, P: BitOrder>(
     requires second { l * T.BITS + n ≤ T.BITS * length b.now }
     requires first_fits { k * T.BITS + n < 2 ^ 64 }
     requires second_fits { l * T.BITS + n < 2 ^ 64 }
-    ensures { MatchOption result (slice_range (row T.BitStore O.BitOrder a.now) (k * T.BITS) (k * T.BITS + n) ≡ slice_range (row U.BitStore P.BitOrder b.now) (l * T.BITS) (l * T.BITS + n)) (λ d. IsFirstDifference (slice_range (row T.BitStore O.BitOrder a.now) (k * T.BITS) (k * T.BITS + n)) (slice_range (row U.BitStore P.BitOrder b.now) (l * T.BITS) (l * T.BITS + n)) d) }
+    ensures { MatchOption result (slice_range (row T.BitStore O.BitOrder a.now) (k * T.BITS)
+        (k * T.BITS + n) ≡ slice_range (row U.BitStore P.BitOrder b.now) (l * T.BITS) (l * T.BITS + n))
+        (λ d. IsFirstDifference
+        (slice_range (row T.BitStore O.BitOrder a.now) (k * T.BITS) (k * T.BITS + n))
+        (slice_range (row U.BitStore P.BitOrder b.now) (l * T.BITS) (l * T.BITS + n)) d) }
 {
     let width = T::BITS as usize;
     let whole = n / width;
@@ -279,7 +301,11 @@ fn differ_long<T: BitStore, O: BitOrder, U: BitStore, P: BitOrder>(
     requires second { l * T.BITS + n ≤ T.BITS * length b.now }
     requires first_fits { k * T.BITS + n < 2 ^ 64 }
     requires second_fits { l * T.BITS + n < 2 ^ 64 }
-    ensures { MatchOption result (slice_range (row T.BitStore O.BitOrder a.now) (k * T.BITS) (k * T.BITS + n) ≡ slice_range (row U.BitStore P.BitOrder b.now) (l * T.BITS) (l * T.BITS + n)) (λ d. IsFirstDifference (slice_range (row T.BitStore O.BitOrder a.now) (k * T.BITS) (k * T.BITS + n)) (slice_range (row U.BitStore P.BitOrder b.now) (l * T.BITS) (l * T.BITS + n)) d) }
+    ensures { MatchOption result (slice_range (row T.BitStore O.BitOrder a.now) (k * T.BITS)
+        (k * T.BITS + n) ≡ slice_range (row U.BitStore P.BitOrder b.now) (l * T.BITS) (l * T.BITS + n))
+        (λ d. IsFirstDifference
+        (slice_range (row T.BitStore O.BitOrder a.now) (k * T.BITS) (k * T.BITS + n))
+        (slice_range (row U.BitStore P.BitOrder b.now) (l * T.BITS) (l * T.BITS + n)) d) }
 {
     differ_alike::<T, O, U, P>(a, k, b, l, n, true)
 }
@@ -301,7 +327,12 @@ fn differ_apart<T: BitStore, O: BitOrder, U: BitStore, P: BitOrder>(
     requires second { l * U.BITS + over + n ≤ U.BITS * length b.now }
     requires first_fits { k * T.BITS + skip + n < 2 ^ 64 }
     requires second_fits { l * U.BITS + over + n < 2 ^ 64 }
-    ensures { MatchOption result (slice_range (row T.BitStore O.BitOrder a.now) (k * T.BITS + skip) (k * T.BITS + skip + n) ≡ slice_range (row U.BitStore P.BitOrder b.now) (l * U.BITS + over) (l * U.BITS + over + n)) (λ d. IsFirstDifference (slice_range (row T.BitStore O.BitOrder a.now) (k * T.BITS + skip) (k * T.BITS + skip + n)) (slice_range (row U.BitStore P.BitOrder b.now) (l * U.BITS + over) (l * U.BITS + over + n)) d) }
+    ensures { MatchOption result (slice_range (row T.BitStore O.BitOrder a.now) (k * T.BITS + skip)
+        (k * T.BITS + skip + n)
+        ≡ slice_range (row U.BitStore P.BitOrder b.now) (l * U.BITS + over) (l * U.BITS + over + n))
+        (λ d. IsFirstDifference
+        (slice_range (row T.BitStore O.BitOrder a.now) (k * T.BITS + skip) (k * T.BITS + skip + n))
+        (slice_range (row U.BitStore P.BitOrder b.now) (l * U.BITS + over) (l * U.BITS + over + n)) d) }
 {
     if skip == 0 && over == 0 {
         return differ_from::<T, O, U, P>(a, k, 0, b, l, 0, n);
@@ -323,7 +354,10 @@ pub fn differ_at<T: BitStore, O: BitOrder, U: BitStore, P: BitOrder>(
     requires second { j + n ≤ U.BITS * length b.now }
     requires first_fits { i + n < 2 ^ 64 }
     requires second_fits { j + n < 2 ^ 64 }
-    ensures { MatchOption result (slice_range (row T.BitStore O.BitOrder a.now) i (i + n) ≡ slice_range (row U.BitStore P.BitOrder b.now) j (j + n)) (λ k. IsFirstDifference (slice_range (row T.BitStore O.BitOrder a.now) i (i + n)) (slice_range (row U.BitStore P.BitOrder b.now) j (j + n)) k) }
+    ensures { MatchOption result (slice_range (row T.BitStore O.BitOrder a.now) i (i + n)
+        ≡ slice_range (row U.BitStore P.BitOrder b.now) j (j + n))
+        (λ k. IsFirstDifference (slice_range (row T.BitStore O.BitOrder a.now) i (i + n))
+        (slice_range (row U.BitStore P.BitOrder b.now) j (j + n)) k) }
 {
     let (width, other) = (T::BITS as usize, U::BITS as usize);
     let (k, skip) = (i / width, (i % width) as u8);
@@ -337,9 +371,9 @@ pub fn differ_at<T: BitStore, O: BitOrder, U: BitStore, P: BitOrder>(
     differ_apart::<T, O, U, P>(a, k, skip, b, l, over, n)
 }
 
-/// How many blocks of 64 bits, from place `from` on, have the other bit alone, up to one that does not or that has no block
-/// after it. Tells 0 of a short run, which is faster searched by chunks (docs/SPEED.md, "Rows of words", find). Requires
-/// that `from` is at most `upto`, which is at most the row's length.
+/// How many blocks of 64 bits, from place `from` on, have the other bit alone, up to one that does not or that
+/// has no block after it. Tells 0 of a short run, which is faster searched by chunks (docs/SPEED.md, "Rows of
+/// words", find). Requires that `from` is at most `upto`, which is at most the row's length.
 fn blocks_without<T: BitStore, O: BitOrder>(
     words: &[T],
     from: usize,
@@ -349,7 +383,8 @@ fn blocks_without<T: BitStore, O: BitOrder>(
     requires ordered { from ≤ upto }
     requires within { upto ≤ T.BITS * length words.now }
     ensures few { result * 64 ≤ upto - from }
-    ensures others { slice_range (row T.BitStore O.BitOrder words.now) from (from + result * 64) ≡ replicate (result * 64) (not bit) }
+    ensures others { slice_range (row T.BitStore O.BitOrder words.now) from (from + result * 64)
+        ≡ replicate (result * 64) (not bit) }
 {
     if upto - from < 64 || upto - from < 4 * T::BITS as usize {
         return 0;
@@ -375,7 +410,9 @@ fn find_by_chunks<T: BitStore, O: BitOrder>(
 ) -> Option<usize>
     requires ordered { from ≤ upto }
     requires within { upto ≤ T.BITS * length words.now }
-    ensures { MatchOption result (slice_range (row T.BitStore O.BitOrder words.now) from upto ≡ replicate (upto - from) (not bit)) (λ k. IsFirst bit (slice_range (row T.BitStore O.BitOrder words.now) from upto) k) }
+    ensures { MatchOption result
+        (slice_range (row T.BitStore O.BitOrder words.now) from upto ≡ replicate (upto - from) (not bit))
+        (λ k. IsFirst bit (slice_range (row T.BitStore O.BitOrder words.now) from upto) k) }
 {
     let others = if bit { 0 } else { u64::MAX };
     let n = upto - from;
@@ -407,7 +444,9 @@ fn find_after<T: BitStore, O: BitOrder>(
 ) -> Option<usize>
     requires ordered { from ≤ upto }
     requires within { upto ≤ T.BITS * length words.now }
-    ensures { MatchOption result (slice_range (row T.BitStore O.BitOrder words.now) from upto ≡ replicate (upto - from) (not bit)) (λ k. IsFirst bit (slice_range (row T.BitStore O.BitOrder words.now) from upto) k) }
+    ensures { MatchOption result
+        (slice_range (row T.BitStore O.BitOrder words.now) from upto ≡ replicate (upto - from) (not bit))
+        (λ k. IsFirst bit (slice_range (row T.BitStore O.BitOrder words.now) from upto) k) }
 {
     let passed = blocks_without::<T, O>(words, from, upto, bit) * 64;
     let Some(at) = find_by_chunks::<T, O>(words, from + passed, upto, bit) else {
@@ -427,7 +466,9 @@ pub fn find_bit<T: BitStore, O: BitOrder>(
 ) -> Option<usize>
     requires ordered { from ≤ upto }
     requires within { upto ≤ T.BITS * length words.now }
-    ensures { MatchOption result (slice_range (row T.BitStore O.BitOrder words.now) from upto ≡ replicate (upto - from) (not bit)) (λ k. IsFirst bit (slice_range (row T.BitStore O.BitOrder words.now) from upto) k) }
+    ensures { MatchOption result
+        (slice_range (row T.BitStore O.BitOrder words.now) from upto ≡ replicate (upto - from) (not bit))
+        (λ k. IsFirst bit (slice_range (row T.BitStore O.BitOrder words.now) from upto) k) }
 {
     if from == upto {
         return None;

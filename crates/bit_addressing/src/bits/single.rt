@@ -53,20 +53,23 @@ pub fn swap_bits<T: BitStore, O: BitOrder>(words: &mut [T], i: usize, j: usize)
 
 /// The word with the bits of `new` where `mask` has one, and those of `old` elsewhere.
 pub(crate) fn blend<T: BitStore>(old: T, new: T, mask: T) -> T
-    ensures { (p : ℕ) → p < T.BITS → has_bit (T.value result) p ≡ (if has_bit (T.value mask) p then has_bit (T.value new) p else has_bit (T.value old) p) }
+    ensures { (p : ℕ) → p < T.BITS
+        → has_bit (T.value result) p
+        ≡ (if has_bit (T.value mask) p then has_bit (T.value new) p else has_bit (T.value old) p) }
 {
     old.and(mask.not()).or(new.and(mask))
 }
 
-/// The word moved up until its lowest bit stands where those of a word moved down by `count` end. Words of 16 and 32
-/// bits go in two steps, of which the compiler makes a faster loop (docs/SPEED.md, "What is not fast", words of 16 bits).
-/// Requires that `count` is above 0 and below `T::BITS`.
+/// The word moved up until its lowest bit stands where those of a word moved down by `count` end. Words of 16
+/// and 32 bits go in two steps, of which the compiler makes a faster loop (docs/SPEED.md, "What is not fast",
+/// words of 16 bits). Requires that `count` is above 0 and below `T::BITS`.
 #[inline(always)]
 pub(crate) fn shl_behind<T: BitStore>(word: T, count: u8) -> T
     requires some { 0 < count }
     requires within { count < T.BITS }
     ensures low { (p : ℕ) → p < T.BITS - count → has_bit (T.value result) p ≡ false }
-    ensures high { (p : ℕ) → T.BITS - count ≤ p → p < T.BITS → has_bit (T.value result) p ≡ has_bit (T.value word) (p - (T.BITS - count)) }
+    ensures high { (p : ℕ) → T.BITS - count ≤ p → p < T.BITS
+        → has_bit (T.value result) p ≡ has_bit (T.value word) (p - (T.BITS - count)) }
 {
     if T::BITS == 8 || T::BITS == 64 {
         return word.shl(T::BITS - count);
@@ -79,7 +82,8 @@ pub(crate) fn shl_behind<T: BitStore>(word: T, count: u8) -> T
 pub(crate) fn shr_behind<T: BitStore>(word: T, count: u8) -> T
     requires some { 0 < count }
     requires within { count < T.BITS }
-    ensures low { (p : ℕ) → p + (T.BITS - count) < T.BITS → has_bit (T.value result) p ≡ has_bit (T.value word) (p + (T.BITS - count)) }
+    ensures low { (p : ℕ) → p + (T.BITS - count) < T.BITS
+        → has_bit (T.value result) p ≡ has_bit (T.value word) (p + (T.BITS - count)) }
     ensures high { (p : ℕ) → T.BITS ≤ p + (T.BITS - count) → has_bit (T.value result) p ≡ false }
 {
     if T::BITS == 8 || T::BITS == 64 {
@@ -106,7 +110,9 @@ pub(crate) fn write_part<T: BitStore, O: BitOrder>(
     requires word { k < length words.old }
     requires some { low < high }
     requires within { high ≤ T.BITS }
-    ensures bits { row T.BitStore O.BitOrder words.new ≡ put (row T.BitStore O.BitOrder words.old) (k * T.BITS + low) (slice_range (row T.BitStore O.BitOrder (new ∷ [])) low high) }
+    ensures bits { row T.BitStore O.BitOrder words.new
+        ≡ put (row T.BitStore O.BitOrder words.old) (k * T.BITS + low)
+        (slice_range (row T.BitStore O.BitOrder (new ∷ [])) low high) }
     ensures size { length words.new ≡ length words.old }
 {
     let mask = O::mask(
@@ -122,7 +128,8 @@ pub(crate) fn write_part<T: BitStore, O: BitOrder>(
 pub fn fill_bits<T: BitStore, O: BitOrder>(words: &mut [T], from: usize, upto: usize, bit: bool)
     requires ordered { from ≤ upto }
     requires within { upto ≤ T.BITS * length words.old }
-    ensures bits { row T.BitStore O.BitOrder words.new ≡ put (row T.BitStore O.BitOrder words.old) from (replicate (upto - from) bit) }
+    ensures bits { row T.BitStore O.BitOrder words.new
+        ≡ put (row T.BitStore O.BitOrder words.old) from (replicate (upto - from) bit) }
     ensures size { length words.new ≡ length words.old }
 {
     if from == upto {

@@ -42,7 +42,8 @@ pub fn fill_bits_in_vec<T: BitStore, O: BitOrder>(
 )
     requires ordered { from ≤ upto }
     requires within { upto ≤ T.BITS * length words.old.items }
-    ensures bits { row T.BitStore O.BitOrder words.new.items ≡ put (row T.BitStore O.BitOrder words.old.items) from (replicate (upto - from) bit) }
+    ensures bits { row T.BitStore O.BitOrder words.new.items
+        ≡ put (row T.BitStore O.BitOrder words.old.items) from (replicate (upto - from) bit) }
     ensures size { length words.new.items ≡ length words.old.items }
     ensures capacity { vec_capacity words.new ≡ vec_capacity words.old }
 {
@@ -58,7 +59,8 @@ pub fn fill_outside_in_vec<T: BitStore, O: BitOrder>(
 )
     requires within { head + len ≤ T.BITS * length words.old.items }
     requires fits { T.BITS * length words.old.items < 2 ^ 64 }
-    ensures bits { row T.BitStore O.BitOrder words.new.items ≡ filled (row T.BitStore O.BitOrder words.old.items) head len bit }
+    ensures bits { row T.BitStore O.BitOrder words.new.items
+        ≡ filled (row T.BitStore O.BitOrder words.old.items) head len bit }
     ensures size { length words.new.items ≡ length words.old.items }
     ensures capacity { vec_capacity words.new ≡ vec_capacity words.old }
 {
@@ -86,7 +88,9 @@ pub fn copy_bits_in_vec<T: BitStore, O: BitOrder, U: BitStore, P: BitOrder>(
     requires source { from + n ≤ U.BITS * length source.now }
     requires target_fits { at + n < 2 ^ 64 }
     requires source_fits { from + n < 2 ^ 64 }
-    ensures bits { row T.BitStore O.BitOrder words.new.items ≡ put (row T.BitStore O.BitOrder words.old.items) at (slice_range (row U.BitStore P.BitOrder source.now) from (from + n)) }
+    ensures bits { row T.BitStore O.BitOrder words.new.items
+        ≡ put (row T.BitStore O.BitOrder words.old.items) at
+        (slice_range (row U.BitStore P.BitOrder source.now) from (from + n)) }
     ensures size { length words.new.items ≡ length words.old.items }
     ensures capacity { vec_capacity words.new ≡ vec_capacity words.old }
 {
@@ -103,7 +107,8 @@ pub fn move_bits_in_vec<T: BitStore, O: BitOrder>(
     requires room { T.BITS * length words.old.items ≤ MAX_BITS + 2 * T.BITS }
     requires source { src + n ≤ T.BITS * length words.old.items }
     requires target { dst + n ≤ T.BITS * length words.old.items }
-    ensures bits { row T.BitStore O.BitOrder words.new.items ≡ moved (row T.BitStore O.BitOrder words.old.items) src dst n }
+    ensures bits { row T.BitStore O.BitOrder words.new.items
+        ≡ moved (row T.BitStore O.BitOrder words.old.items) src dst n }
     ensures size { length words.new.items ≡ length words.old.items }
     ensures capacity { vec_capacity words.new ≡ vec_capacity words.old }
 {
@@ -120,7 +125,8 @@ pub fn move_bits_counted_in_vec<T: BitStore, O: BitOrder>(
     requires room { T.BITS * length words.old.items ≤ MAX_BITS + 2 * T.BITS }
     requires source { src + n ≤ T.BITS * length words.old.items }
     requires target { dst + n ≤ T.BITS * length words.old.items }
-    ensures bits { row T.BitStore O.BitOrder words.new.items ≡ moved (row T.BitStore O.BitOrder words.old.items) src dst n }
+    ensures bits { row T.BitStore O.BitOrder words.new.items
+        ≡ moved (row T.BitStore O.BitOrder words.old.items) src dst n }
     ensures size { length words.new.items ≡ length words.old.items }
     ensures capacity { vec_capacity words.new ≡ vec_capacity words.old }
     ensures writes { result.writes ≤ touched T.BITS dst n }
@@ -139,7 +145,8 @@ pub fn write_chunk_in_vec<T: BitStore, O: BitOrder>(
     requires few { n ≤ 64 }
     requires within { at + n ≤ T.BITS * length words.old.items }
     requires fits { at + n < 2 ^ 64 }
-    ensures bits { row T.BitStore O.BitOrder words.new.items ≡ put (row T.BitStore O.BitOrder words.old.items) at (number_bits chunk n) }
+    ensures bits { row T.BitStore O.BitOrder words.new.items
+        ≡ put (row T.BitStore O.BitOrder words.old.items) at (number_bits chunk n) }
     ensures size { length words.new.items ≡ length words.old.items }
     ensures capacity { vec_capacity words.new ≡ vec_capacity words.old }
 {
@@ -156,7 +163,8 @@ pub fn write_binary_in_vec<T: BitStore, O: BitOrder>(
     requires few { n ≤ 64 }
     requires within { at + n ≤ T.BITS * length words.old.items }
     requires fits { at + n < 2 ^ 64 }
-    ensures bits { row T.BitStore O.BitOrder words.new.items ≡ put (row T.BitStore O.BitOrder words.old.items) at (binary n number) }
+    ensures bits { row T.BitStore O.BitOrder words.new.items
+        ≡ put (row T.BitStore O.BitOrder words.old.items) at (binary n number) }
     ensures size { length words.new.items ≡ length words.old.items }
     ensures capacity { vec_capacity words.new ≡ vec_capacity words.old }
 {

@@ -106,7 +106,8 @@ impl<A: BitWords, O: BitOrder> BitArray<A, O> {
     /// ```
     pub fn into_inner(self) -> A
         ensures value { result ≡ self }
-        ensures words { A.words result ≡ words_for_list A.Store.BitStore O.BitOrder (row A.Store.BitStore O.BitOrder (A.words self)) }
+        ensures words { A.words result
+            ≡ words_for_list A.Store.BitStore O.BitOrder (row A.Store.BitStore O.BitOrder (A.words self)) }
     {
         self.as_raw_slice();
         self.inner

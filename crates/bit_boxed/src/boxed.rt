@@ -63,9 +63,15 @@ impl<T: BitStore, O: BitOrder> Model for BitBox<T, O> {
 
     ghost coded = { held_code T.code };
 
-    ghost view = { λ b. record { words = b.words.items; row = row T.BitStore O.BitOrder b.words.items; head = b.head; list = slice_range (row T.BitStore O.BitOrder b.words.items) b.head (b.head + b.len) } };
+    ghost view = { λ b. record {
+      words = b.words.items;
+      row = row T.BitStore O.BitOrder b.words.items;
+      head = b.head;
+      list = slice_range (row T.BitStore O.BitOrder b.words.items) b.head (b.head + b.len);
+    } };
 
-    ghost invariant = { λ b. IsBox T.BITS (length b.words.items) b.head b.len (length (slice_range (row T.BitStore O.BitOrder b.words.items) b.head (b.head + b.len))) };
+    ghost invariant = { λ b. IsBox T.BITS (length b.words.items) b.head b.len
+        (length (slice_range (row T.BitStore O.BitOrder b.words.items) b.head (b.head + b.len))) };
 }
 
 impl<T: BitStore, O: BitOrder> BitBox<T, O> {
@@ -148,7 +154,8 @@ impl<T: BitStore, O: BitOrder> BitBox<T, O> {
         ensures words { IfOk result (λ b. b.words ≡ words.items) }
         ensures row { IfOk result (λ b. b.row ≡ row T.BitStore O.BitOrder words.items) }
         ensures head { IfOk result (λ b. b.head ≡ head) }
-        ensures list { IfOk result (λ b. b.list ≡ slice_range (row T.BitStore O.BitOrder words.items) head (head + len)) }
+        ensures list { IfOk result
+            (λ b. b.list ≡ slice_range (row T.BitStore O.BitOrder words.items) head (head + len)) }
         ensures len { IfOk result (λ b. length b.list ≡ len) }
         ensures succeeds { IsOk result }
     {
@@ -249,7 +256,8 @@ impl<T: BitStore, O: BitOrder> BitBox<T, O> {
         ensures head { IfOk result (λ b. b.head ≡ head_of view.entry) }
         ensures list { IfOk result (λ b. b.list ≡ list_of view.entry) }
         ensures len { IfOk result (λ b. length b.list ≡ len_of view.entry) }
-        ensures row { IfOk result (λ b. b.row ≡ filled (row_of view.entry) (head_of view.entry) (len_of view.entry) false) }
+        ensures row { IfOk result
+            (λ b. b.row ≡ filled (row_of view.entry) (head_of view.entry) (len_of view.entry) false) }
         ensures clean { IfOk result (λ b. head_of view.entry ≡ 0 → IsClean T.BITS b) }
         ensures memory { OnErr result (0 < length (words_of view.entry)) }
     {
@@ -273,11 +281,16 @@ impl<T: BitStore, O: BitOrder> BitBox<T, O> {
         iter: I,
     ) -> Result<Self, GrowError>
         requires { IsFiniteIterable I.into_iter_gives I.IntoIter.can_next I.IntoIter.remaining iter }
-        ensures list { IfOk result (λ b. GivesAll I.into_iter_gives I.IntoIter.next_gives iter (λ bits. b.list ≡ bits)) }
-        ensures runs { IfOk result (λ b. RunsThrough I.into_iter_gives I.IntoIter.next_gives iter (λ bits. b.list ≡ bits)) }
+        ensures list { IfOk result
+            (λ b. GivesAll I.into_iter_gives I.IntoIter.next_gives iter (λ bits. b.list ≡ bits)) }
+        ensures runs { IfOk result
+            (λ b. RunsThrough I.into_iter_gives I.IntoIter.next_gives iter (λ bits. b.list ≡ bits)) }
         ensures clean { IfOk result (λ b. IsClean T.BITS b) }
-        ensures too_long { result ≡ Err GrowError.TooLong → GivesFirst I.into_iter_gives I.IntoIter.next_gives iter (λ bits. MAX_BITS < length bits) }
-        ensures memory { result ≡ Err GrowError.OutOfMemory → GivesFirst I.into_iter_gives I.IntoIter.next_gives iter (λ bits. (0 < length bits) × (length bits ≤ MAX_BITS)) }
+        ensures too_long { result ≡ Err GrowError.TooLong
+            → GivesFirst I.into_iter_gives I.IntoIter.next_gives iter (λ bits. MAX_BITS < length bits) }
+        ensures memory { result ≡ Err GrowError.OutOfMemory
+            → GivesFirst I.into_iter_gives I.IntoIter.next_gives iter
+            (λ bits. (0 < length bits) × (length bits ≤ MAX_BITS)) }
     {
         let mut words = Vec::new(alloc);
         let mut len = 0;

@@ -172,7 +172,8 @@ fn splice_at<T: BitStore, O: BitOrder>(
     ensures reply { IfOk result (λ reply. reply ≡ reply_to v.old.list (Command.Splice from upto bit n)) }
     ensures head { v.new.head ≡ v.old.head }
     ensures capacity { v.old.capacity ≤ v.new.capacity }
-    ensures memory { result ≡ Err GrowError.OutOfMemory → CanWantMemory v.old.capacity v.old.list (Command.Splice from upto bit n) }
+    ensures memory { result ≡ Err GrowError.OutOfMemory
+        → CanWantMemory v.old.capacity v.old.list (Command.Splice from upto bit n) }
     ensures list { OnOk result (v.new.list ≡ list_after_one v.old.list (Command.Splice from upto bit n)) }
     ensures fits { OnOk result (new_length v.old.list (Command.Splice from upto bit n) ≤ MAX_BITS) }
     ensures unchanged { OnErr result (v.new.list ≡ v.old.list) }
@@ -216,7 +217,8 @@ fn extend_at<T: BitStore, O: BitOrder>(
     ensures reply { IfOk result (λ reply. reply ≡ reply_to v.old.list (Command.ExtendWithin from upto)) }
     ensures head { v.new.head ≡ v.old.head }
     ensures capacity { v.old.capacity ≤ v.new.capacity }
-    ensures memory { result ≡ Err GrowError.OutOfMemory → v.old.capacity < new_length v.old.list (Command.ExtendWithin from upto) }
+    ensures memory { result ≡ Err GrowError.OutOfMemory
+        → v.old.capacity < new_length v.old.list (Command.ExtendWithin from upto) }
     ensures list { OnOk result (v.new.list ≡ list_after_one v.old.list (Command.ExtendWithin from upto)) }
     ensures fits { OnOk result (new_length v.old.list (Command.ExtendWithin from upto) ≤ MAX_BITS) }
     ensures unchanged { OnErr result (v.new.list ≡ v.old.list) }
@@ -351,9 +353,9 @@ fn step<T: BitStore, O: BitOrder>(
 
 /// Does the commands in order, and appends a reply for each.
 ///
-/// Memory for all replies is taken first: where it is refused, the run stops with `done` 0 and `OutOfMemory`, and the vector
-/// is as it was, dead bits too. A command whose index or range is out of range replies `OutOfRange`, and the run goes on. A
-/// command that would grow the vector and is refused stops it.
+/// Memory for all replies is taken first: where it is refused, the run stops with `done` 0 and `OutOfMemory`,
+/// and the vector is as it was, dead bits too. A command whose index or range is out of range replies
+/// `OutOfRange`, and the run goes on. A command that would grow the vector and is refused stops it.
 pub fn run<T: BitStore, O: BitOrder>(
     v: &mut BitVec<T, O>,
     commands: &[Command],
@@ -363,7 +365,11 @@ pub fn run<T: BitStore, O: BitOrder>(
     ensures head { OnOk result (v.new.head ≡ head_after v.old.head commands.now) }
     ensures stopped_head { IfErr result (λ stop. v.new.head ≡ head_after v.old.head (take stop.done commands.now)) }
     ensures capacity { v.old.capacity ≤ v.new.capacity }
-    ensures memory { IfErr result (λ stop. stop.why ≡ GrowError.OutOfMemory → ((stop.done ≡ 0) × (vec_capacity replies.old < length replies.old.items + length commands.now) × (v.new ≡ v.old)) ⊎ ((command : Command) × (slice_get commands.now stop.done ≡ Some command) × CanWantMemory v.old.capacity v.new.list command)) }
+    ensures memory { IfErr result (λ stop. stop.why ≡ GrowError.OutOfMemory
+        → ((stop.done ≡ 0) × (vec_capacity replies.old < length replies.old.items + length commands.now)
+        × (v.new ≡ v.old))
+        ⊎ ((command : Command) × (slice_get commands.now stop.done ≡ Some command)
+        × CanWantMemory v.old.capacity v.new.list command)) }
     ensures list { OnOk result (v.new.list ≡ list_after v.old.list commands.now) }
     ensures fit { OnOk result (AllFit v.old.list commands.now) }
     ensures stopped_replies { IfErr result (λ stop.

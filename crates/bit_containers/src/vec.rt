@@ -81,9 +81,16 @@ impl<T: BitStore, O: BitOrder> Model for BitVec<T, O> {
 
     ghost coded = { held_code T.code };
 
-    ghost view = { λ v. record { words = v.words.items; row = row T.BitStore O.BitOrder v.words.items; head = v.head; list = slice_range (row T.BitStore O.BitOrder v.words.items) v.head (v.head + v.len); capacity = bits_in T.BITS (vec_capacity v.words) v.head } };
+    ghost view = { λ v. record {
+      words = v.words.items;
+      row = row T.BitStore O.BitOrder v.words.items;
+      head = v.head;
+      list = slice_range (row T.BitStore O.BitOrder v.words.items) v.head (v.head + v.len);
+      capacity = bits_in T.BITS (vec_capacity v.words) v.head;
+    } };
 
-    ghost invariant = { λ v. IsVector T.BITS (length v.words.items) v.head v.len (length (slice_range (row T.BitStore O.BitOrder v.words.items) v.head (v.head + v.len))) };
+    ghost invariant = { λ v. IsVector T.BITS (length v.words.items) v.head v.len
+        (length (slice_range (row T.BitStore O.BitOrder v.words.items) v.head (v.head + v.len))) };
 }
 
 impl<T: BitStore, O: BitOrder> BitVec<T, O> {
@@ -316,7 +323,8 @@ impl<T: BitStore, O: BitOrder> BitVec<T, O> {
         ensures head { IfOk result (λ v. v.head ≡ head_of view.entry) }
         ensures list { IfOk result (λ v. v.list ≡ list_of view.entry) }
         ensures len { IfOk result (λ v. length v.list ≡ len_of view.entry) }
-        ensures row { IfOk result (λ v. v.row ≡ filled (row_of view.entry) (head_of view.entry) (len_of view.entry) false) }
+        ensures row { IfOk result
+            (λ v. v.row ≡ filled (row_of view.entry) (head_of view.entry) (len_of view.entry) false) }
         ensures clean { IfOk result (λ v. head_of view.entry ≡ 0 → IsClean T.BITS v) }
         ensures memory { OnErr result (0 < length (words_of view.entry)) }
     {
@@ -343,7 +351,8 @@ impl<T: BitStore, O: BitOrder> BitVec<T, O> {
         ensures from_row { result.items ≡ words_from T.BitStore O.BitOrder self.row }
         ensures clean { IsClean T.BITS self → result.items ≡ words_for_list T.BitStore O.BitOrder self.list }
         ensures exact { length result.items ≡ words_for T.BITS (self.head + length self.list) }
-        ensures shows { slice_range (row T.BitStore O.BitOrder result.items) self.head (self.head + length self.list) ≡ self.list }
+        ensures shows { slice_range (row T.BitStore O.BitOrder result.items) self.head
+            (self.head + length self.list) ≡ self.list }
         ensures capacity { bits_in T.BITS (vec_capacity result) self.head ≡ self.capacity }
     {
         exact_words::<T, O>(self.words.as_slice());
@@ -360,7 +369,9 @@ impl<T: BitStore, O: BitOrder> BitVec<T, O> {
     pub fn force_align(&mut self)
         ensures head { self.new.head ≡ 0 }
         ensures list { self.new.list ≡ self.old.list }
-        ensures row { self.new.row ≡ sized T.BITS (moved self.old.row self.old.head 0 (length self.old.list)) (length self.old.list) }
+        ensures row { self.new.row
+            ≡ sized T.BITS (moved self.old.row self.old.head 0 (length self.old.list))
+            (length self.old.list) }
         ensures clean { IsClean T.BITS self.old → IsClean T.BITS self.new }
         ensures capacity { self.new.capacity ≡ self.old.capacity + self.old.head }
     {

@@ -1,4 +1,5 @@
-//! Examples of each call of the base, of views and of the containers: exact words, lists and replies. All of it is tests.
+//! Examples of each call of the base, of views and of the containers: exact words, lists and replies. All of it
+//! is tests.
 #![tactic(auto)]
 
 #[cfg(test)]

@@ -85,7 +85,8 @@ pub fn run_fixed<B: Bits>(
     commands: &[FixedCommand],
     replies: &mut Vec<Reply>,
 ) -> Result<(), Stop>
-    ensures replies { OnOk result (replies.new.items ≡ replies.old.items ++ replies_of (B.list bits.old) commands.now) }
+    ensures replies { OnOk result
+        (replies.new.items ≡ replies.old.items ++ replies_of (B.list bits.old) commands.now) }
     ensures list { OnOk result (B.list bits.new ≡ list_after (B.list bits.old) commands.now) }
     ensures capacity { B.capacity bits.new ≡ B.capacity bits.old }
     ensures done { IfErr result (λ stop. stop.done ≡ 0) }

@@ -24,7 +24,8 @@ impl<T: BitStore, O: BitOrder> Ranks<T, O> {
     /// The indices of the ones from number `k` on, ascending.
     pub fn iter_ones_from(&self, k: usize) -> OnesFrom<'_, T, O>
         ensures list { ones_from result ≡ drop k (ones_of self.now.list) }
-        ensures runs { YieldsInOrder (YieldsFirst (ones_from {X = T} {Y = O} {W = T.BitStore} {P = O.BitOrder})) ones_from }
+        ensures runs { YieldsInOrder
+            (YieldsFirst (ones_from {X = T} {Y = O} {W = T.BitStore} {P = O.BitOrder})) ones_from }
     {
         OnesFrom {
             view: self.as_bitslice(),
@@ -34,7 +35,8 @@ impl<T: BitStore, O: BitOrder> Ranks<T, O> {
 
     // The index of the one number `k`, or the length where there is none.
     fn index_from(&self, k: usize) -> usize
-        ensures list { places_between (λ b. b) self.now.list result (length self.now.list) ≡ drop k (ones_of self.now.list) }
+        ensures list { places_between (λ b. b) self.now.list result (length self.now.list)
+            ≡ drop k (ones_of self.now.list) }
         ensures inside { result ≤ length self.now.list }
     {
         match self.select1(k) {

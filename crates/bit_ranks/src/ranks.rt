@@ -21,7 +21,8 @@ const BLOCK: usize = 512;
 /// Beside the box it keeps one count for each whole block of 512 bits, at most an eighth of the bits' memory. The bits
 /// can't be written while they are counted: `into_bits` gives the box back.
 ///
-/// In contracts ranks `r` are the box: all its words `r.words`, their row `r.row`, the head `r.head` and the list `r.list`.
+/// In contracts ranks `r` are the box: all its words `r.words`, their row `r.row`, the head `r.head` and the
+/// list `r.list`.
 ///
 /// ```text
 /// let ranks = Ranks::new(alloc, bits)?;   // of the bits 0110100
@@ -71,7 +72,8 @@ impl<T: BitStore, O: BitOrder> Ranks<T, O> {
 
     /// A view of the bits.
     pub fn as_bitslice(&self) -> BitSlice<'_, T, O>
-        ensures words { words_of result ≡ take (words_for T.BITS (self.now.head + length self.now.list)) self.now.words }
+        ensures words { words_of result
+            ≡ take (words_for T.BITS (self.now.head + length self.now.list)) self.now.words }
         ensures head { head_of result ≡ self.now.head }
         ensures len { len_of result ≡ length self.now.list }
         ensures list { list_of result ≡ self.now.list }
@@ -151,7 +153,8 @@ impl<T: BitStore, O: BitOrder> Ranks<T, O> {
         ensures value { result ≡ slice_get (ones_of self.now.list) k }
         ensures found { IfSome result (λ i. slice_get self.now.list i ≡ Some true) }
         ensures before { IfSome result (λ i. ones_before self.now.list i ≡ k) }
-        ensures only { (i : ℕ) → slice_get self.now.list i ≡ Some true → ones_before self.now.list i ≡ k → result ≡ Some i }
+        ensures only { (i : ℕ) → slice_get self.now.list i ≡ Some true → ones_before self.now.list i ≡ k
+            → result ≡ Some i }
         ensures inside { IfSome result (λ i. i < length self.now.list) }
         ensures few { IfSome result (λ i. i < MAX_BITS) }
         ensures none { (result ≡ None) ↔ (count_by (λ bit. bit) self.now.list ≤ k) }
@@ -164,7 +167,8 @@ impl<T: BitStore, O: BitOrder> Ranks<T, O> {
         ensures value { result ≡ slice_get (zeros_of self.now.list) k }
         ensures found { IfSome result (λ i. slice_get self.now.list i ≡ Some false) }
         ensures before { IfSome result (λ i. zeros_before self.now.list i ≡ k) }
-        ensures only { (i : ℕ) → slice_get self.now.list i ≡ Some false → zeros_before self.now.list i ≡ k → result ≡ Some i }
+        ensures only { (i : ℕ) → slice_get self.now.list i ≡ Some false → zeros_before self.now.list i ≡ k
+            → result ≡ Some i }
         ensures inside { IfSome result (λ i. i < length self.now.list) }
         ensures few { IfSome result (λ i. i < MAX_BITS) }
         ensures none { (result ≡ None) ↔ (count_by not self.now.list ≤ k) }
@@ -200,7 +204,8 @@ impl<T: BitStore, O: BitOrder> Ranks<T, O> {
     fn block_of(&self, bit: bool, k: usize) -> usize
         ensures within { result * 512 ≤ length self.now.list }
         ensures before { count_before bit self.now.list (result * 512) ≤ k }
-        ensures last { (result + 1) * 512 ≤ length self.now.list → k < count_before bit self.now.list ((result + 1) * 512) }
+        ensures last { (result + 1) * 512 ≤ length self.now.list
+            → k < count_before bit self.now.list ((result + 1) * 512) }
     {
         let mut low = 0;
         let mut high = self.counts.len();

@@ -15,10 +15,11 @@ pub use errors::SortedError;
 pub use iter::Numbers;
 use std::marker::Model;
 
-/// An ascending list of numbers, equal ones allowed, in about two bits a number more than the logarithm of their mean gap.
+/// An ascending list of numbers, equal ones allowed, in about two bits a number more than the logarithm of
+/// their mean gap.
 ///
-/// Each number is in two parts: its low bits stand in binary in one list, and its high bits are a one in another, which
-/// has as many zeros before it as they say. The numbers can't be changed.
+/// Each number is in two parts: its low bits stand in binary in one list, and its high bits are a one in
+/// another, which has as many zeros before it as they say. The numbers can't be changed.
 ///
 /// In contracts sorted numbers are the list of the numbers.
 ///
@@ -65,21 +66,23 @@ impl SortedNumbers {
         self.len() == 0
     }
 
-    /// How many bits the two lists take, without the counts of the ones: at most `w + 2` for each number, where none is larger
-    /// than `len` times 2 to the `w`.
+    /// How many bits the two lists take, without the counts of the ones: at most `w + 2` for each number, where
+    /// none is larger than `len` times 2 to the `w`.
     ///
     /// ```text
     /// of 2, 3, 9, 9:  numbers.size_in_bits() == 12    // 8 bits for the high parts, 4 for the low ones
     /// ```
     pub fn size_in_bits(&self) -> usize
-        ensures value { result ≡ length self.now * (low_width self.now + 1) + last_of self.now / 2 ^ low_width self.now }
-        ensures bound { (w : ℕ) → All (λ number. number ≤ length self.now * 2 ^ w) self.now → result ≤ (w + 2) * length self.now }
+        ensures value { result
+            ≡ length self.now * (low_width self.now + 1) + last_of self.now / 2 ^ low_width self.now }
+        ensures bound { (w : ℕ) → All (λ number. number ≤ length self.now * 2 ^ w) self.now
+            → result ≤ (w + 2) * length self.now }
     {
         self.high.len() + self.low.len()
     }
 
-    /// The number at `k`. None exactly where `k` is at or past the length. One `select1`, and then its low bits are read at
-    /// once.
+    /// The number at `k`. None exactly where `k` is at or past the length. One `select1`, and then its low bits
+    /// are read at once.
     ///
     /// ```text
     /// of 2, 3, 9, 9:  numbers.get(2) == Some(9)

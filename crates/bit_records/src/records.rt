@@ -43,7 +43,8 @@ impl<T: BitStore, O: BitOrder> Model for Records<T, O> {
 impl<T: BitStore, O: BitOrder> Records<T, O> {
     /// No number, of `width` digits each. None exactly where the width is 0 or above 64. Takes no memory.
     pub fn new(alloc: Global, width: u8) -> Option<Self>
-        ensures made { MatchOption result (IsTrue (eqb width 0 || ltb 64 width)) (λ r. (r.width ≡ width) × ((r.list ≡ []) × (r.bits.capacity ≡ 0))) }
+        ensures made { MatchOption result (IsTrue (eqb width 0 || ltb 64 width))
+            (λ r. (r.width ≡ width) × ((r.list ≡ []) × (r.bits.capacity ≡ 0))) }
         ensures clean { IfSome result (λ r. IsClean T.BITS r.bits) }
     {
         if width == 0 || width > 64 {
@@ -114,8 +115,10 @@ impl<T: BitStore, O: BitOrder> Records<T, O> {
         requires { number < 2 ^ self.old.width }
         ensures list { OnOk result (self.new.list ≡ self.old.list ++ number ∷ []) }
         ensures width { self.new.width ≡ self.old.width }
-        ensures too_long { (result ≡ Err GrowError.TooLong) ↔ (MAX_BITS < length self.old.list * self.old.width + self.old.width) }
-        ensures memory { result ≡ Err GrowError.OutOfMemory → self.old.bits.capacity < length self.old.list * self.old.width + self.old.width }
+        ensures too_long { (result ≡ Err GrowError.TooLong)
+            ↔ (MAX_BITS < length self.old.list * self.old.width + self.old.width) }
+        ensures memory { result ≡ Err GrowError.OutOfMemory
+            → self.old.bits.capacity < length self.old.list * self.old.width + self.old.width }
         ensures unchanged { OnErr result (AreKept self.old self.new) }
         ensures clean { IsClean T.BITS self.new.bits }
         ensures capacity { self.old.bits.capacity ≤ self.new.bits.capacity }

@@ -1,4 +1,5 @@
-//! Rows, views, arrays, boxes and vectors beside plain lists; vectors with memory refused, and at the limits of lengths.
+//! Rows, views, arrays, boxes and vectors beside plain lists; vectors with memory refused, and at the limits of
+//! lengths.
 mod calls;
 mod commands;
 mod limits;

@@ -139,8 +139,8 @@ fn vectors(rt: HostRuntime) -> Result<(), Fail> {
     Ok(())
 }
 
-/// A run: where its replies find no memory, it stops before its first command, and changes nothing. It passes with ample
-/// memory, and whichever request `rt try --test --fail-alloc N` refuses.
+/// A run: where its replies find no memory, it stops before its first command, and changes nothing. It passes
+/// with ample memory, and whichever request `rt try --test --fail-alloc N` refuses.
 fn stopped<B: Bits>(rt: &(impl Abort + AllocGlobal), bits: &mut B) {
     let mut replies = Vec::new(rt.alloc());
     let commands = [FixedCommand::Fill(true), FixedCommand::Len];

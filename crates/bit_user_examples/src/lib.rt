@@ -1,4 +1,5 @@
-//! Examples of what stands on the containers, and callers that are proved from the contracts alone. All of it is tests.
+//! Examples of what stands on the containers, and callers that are proved from the contracts alone. All of it
+//! is tests.
 #![tactic(auto)]
 
 #[cfg(test)]

@@ -121,7 +121,8 @@ fn append_row<T: BitStore>(out: &mut Vec<u8>, words: &[T]) -> Result<(), AllocEr
 
 /// Appends the line that shows words, or nothing.
 pub fn append_words<T: BitStore>(out: &mut Vec<u8>, words: &[T]) -> Result<(), AllocError>
-    ensures words { OnOk result (out.new.items ≡ out.old.items ++ with_line_feed (words_text T.BITS (map T.value words.now))) }
+    ensures words { OnOk result
+        (out.new.items ≡ out.old.items ++ with_line_feed (words_text T.BITS (map T.value words.now))) }
     ensures line { OnOk result ((text : List ℕ) × (out.new.items ≡ out.old.items ++ with_line_feed text)) }
     ensures err { OnErr result (out.new.items ≡ out.old.items) }
 {

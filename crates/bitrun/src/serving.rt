@@ -43,7 +43,8 @@ fn put_number<K: Sink>(output: &mut K, number: u64) -> io::Result<()>
 
 /// Writes the line that tells of a bad command.
 fn put_bad_command<K: Sink>(output: &mut K, number: u64) -> io::Result<()>
-    ensures held { OnOk result (Appends (K.held output.old) (K.held output.new) (ending_text (Ending.BadCommand number))) }
+    ensures held { OnOk result
+        (Appends (K.held output.old) (K.held output.new) (ending_text (Ending.BadCommand number))) }
     ensures sure { K.is_sure output.old → IsOk result × K.is_sure output.new }
 {
     output.put(b"line ")?;
@@ -72,7 +73,8 @@ fn conclude<T: BitStore, O: BitOrder, K: Sink>(
     ending: Ending,
 ) -> io::Result<Ending>
     ensures ending { IfOk result (λ last. last ≡ ending) }
-    ensures held { OnOk result (Appends (K.held output.old) (K.held output.new) (session.old.out ++ ending_text ending)) }
+    ensures held { OnOk result
+        (Appends (K.held output.old) (K.held output.new) (session.old.out ++ ending_text ending)) }
     ensures sure { K.is_sure output.old → IsOk result × K.is_sure output.new }
 {
     send(session, output)?;
@@ -120,7 +122,8 @@ fn serve_script<T: BitStore, O: BitOrder, S: Source, K: Sink>(
     input: &mut S,
     output: &mut K,
 ) -> io::Result<Ending>
-    ensures served { IfOk result (λ ending. IsServed (S.left input.old) (K.held output.old) (K.held output.new) ending) }
+    ensures served { IfOk result
+        (λ ending. IsServed (S.left input.old) (K.held output.old) (K.held output.new) ending) }
     ensures read { S.is_sure input.old → IsShort (S.left input.old) → result ≢ Ok Ending.ReadFailed }
     ensures written { K.is_sure output.old → IsOk result }
 {
@@ -164,10 +167,12 @@ pub fn serve_lines<T: BitStore, O: BitOrder, S: Source, K: Sink>(
     output: &mut K,
 ) -> io::Result<Ending>
     // Replies and the ending, whatever lines show the words.
-    ensures served { IfOk result (λ ending. IsServed (S.left input.old) (K.held output.old) (K.held output.new) ending) }
+    ensures served { IfOk result
+        (λ ending. IsServed (S.left input.old) (K.held output.old) (K.held output.new) ending) }
 
     // The transcript of the script, where no line shows the words.
-    ensures transcribed { IfOk result (λ ending. IsTranscribed (S.left input.old) (K.held output.old) (K.held output.new) ending) }
+    ensures transcribed { IfOk result
+        (λ ending. IsTranscribed (S.left input.old) (K.held output.old) (K.held output.new) ending) }
 
     // A source that doesn't fail is read to the end of the script.
     ensures read { S.is_sure input.old → IsShort (S.left input.old) → result ≢ Ok Ending.ReadFailed }

@@ -206,7 +206,8 @@ impl<T: BitStore, O: BitOrder> Session<T, O> {
     fn take_byte(&mut self, byte: u8) -> Result<(), Ending>
         requires { self.old.number + length self.old.line + 1 < 2 ^ 64 }
         ensures ok { OnOk result (Advances self.old (byte ∷ []) self.new) }
-        ensures number { OnOk result (self.new.number + length self.new.line ≤ self.old.number + length self.old.line + 1) }
+        ensures number { OnOk result
+            (self.new.number + length self.new.line ≤ self.old.number + length self.old.line + 1) }
         ensures ended { IfErr result (λ ending. Stops self.old (byte ∷ []) ending self.new) }
     {
         if byte == b'\n' {
@@ -227,7 +228,8 @@ impl<T: BitStore, O: BitOrder> Session<T, O> {
         ensures count { IfOk result (λ count. count ≤ length bytes.now) }
         ensures some { IfOk result (λ count. 0 < length bytes.now → 0 < count) }
         ensures ok { IfOk result (λ count. Advances self.old (take count bytes.now) self.new) }
-        ensures number { IfOk result (λ count. self.new.number + length self.new.line ≤ self.old.number + length self.old.line + count) }
+        ensures number { IfOk result (λ count. self.new.number + length self.new.line
+            ≤ self.old.number + length self.old.line + count) }
         ensures ended { IfErr result (λ ending. Stops self.old bytes.now ending self.new) }
     {
         for (count, byte) in bytes.iter().enumerate() {

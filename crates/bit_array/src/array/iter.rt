@@ -29,8 +29,12 @@ impl<A: BitWords, O: BitOrder> BitArray<A, O> {
         ensures list { rest_lent result ≡ row A.Store.BitStore O.BitOrder (A.words self.now) }
         ensures len { length (rest_lent result) ≡ A.Store.BITS * A.count }
         ensures few { length (rest_lent result) ≤ MAX_BITS }
-        ensures runs { YieldsInOrder (YieldsFirst (rest_lent {X = A.Store} {Y = O} {W = A.Store.BitStore} {P = O.BitOrder})) rest_lent }
-        ensures runs_back { YieldsInReverse (YieldsLast (rest_lent {X = A.Store} {Y = O} {W = A.Store.BitStore} {P = O.BitOrder})) rest_lent }
+        ensures runs { YieldsInOrder
+            (YieldsFirst (rest_lent {X = A.Store} {Y = O} {W = A.Store.BitStore} {P = O.BitOrder}))
+            rest_lent }
+        ensures runs_back { YieldsInReverse
+            (YieldsLast (rest_lent {X = A.Store} {Y = O} {W = A.Store.BitStore} {P = O.BitOrder}))
+            rest_lent }
     {
         self.as_bitslice().iter()
     }
@@ -56,7 +60,8 @@ impl<A: BitWords, O: BitOrder> Model for IntoIter<A, O> {
 
     ghost view = { λ s. slice_range (row A.Store.BitStore O.BitOrder (A.words s.array)) s.from s.upto };
 
-    ghost invariant = { λ s. (s.from ≤ s.upto) × (s.upto ≤ A.Store.BITS * A.count) × (A.Store.BITS * A.count ≤ MAX_BITS) };
+    ghost invariant = { λ s. (s.from ≤ s.upto) × (s.upto ≤ A.Store.BITS * A.count)
+        × (A.Store.BITS * A.count ≤ MAX_BITS) };
 }
 
 impl<A: BitWords, O: BitOrder> IntoIter<A, O> {
@@ -171,7 +176,8 @@ impl<A: BitWords, O: BitOrder> IntoIterator for BitArray<A, O> {
 
     type IntoIter = IntoIter<A, O>;
 
-    ghost into_iter_gives = { λ a r. (r ≡ row A.Store.BitStore O.BitOrder (A.words a)) × (length r ≤ MAX_BITS) × GivesInOrder rest_of × GivesInReverse rest_of };
+    ghost into_iter_gives = { λ a r. (r ≡ row A.Store.BitStore O.BitOrder (A.words a))
+        × (length r ≤ MAX_BITS) × GivesInOrder rest_of × GivesInReverse rest_of };
 
     /// The bits in order, from both ends; the array is given up.
     fn into_iter(self) -> IntoIter<A, O> {
@@ -184,7 +190,8 @@ impl<'a, A: BitWords, O: BitOrder> IntoIterator for &'a BitArray<A, O> {
 
     type IntoIter = IntoIter<A, O>;
 
-    ghost into_iter_gives = { λ a r. (r ≡ row A.Store.BitStore O.BitOrder (A.words a.now)) × (length r ≤ MAX_BITS) × GivesInOrder rest_of × GivesInReverse rest_of };
+    ghost into_iter_gives = { λ a r. (r ≡ row A.Store.BitStore O.BitOrder (A.words a.now))
+        × (length r ≤ MAX_BITS) × GivesInOrder rest_of × GivesInReverse rest_of };
 
     /// The bits in order, from both ends, of a copy of the words: `iter` lends them.
     fn into_iter(self) -> IntoIter<A, O> {

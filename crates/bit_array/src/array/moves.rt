@@ -17,8 +17,12 @@ impl<A: BitViewSized, O: BitOrder> BitArray<A, O> {
     /// of 01101001: bits.reverse() leaves 10010110
     /// ```
     pub fn reverse(&mut self)
-        ensures list { row A.Store.BitStore O.BitOrder (A.words self.new) ≡ reverse (row A.Store.BitStore O.BitOrder (A.words self.old)) }
-        ensures index { (j : ℕ) → j < A.Store.BITS * A.count → slice_get (row A.Store.BitStore O.BitOrder (A.words self.new)) j ≡ slice_get (row A.Store.BitStore O.BitOrder (A.words self.old)) (A.Store.BITS * A.count - 1 - j) }
+        ensures list { row A.Store.BitStore O.BitOrder (A.words self.new)
+            ≡ reverse (row A.Store.BitStore O.BitOrder (A.words self.old)) }
+        ensures index { (j : ℕ) → j < A.Store.BITS * A.count
+            → slice_get (row A.Store.BitStore O.BitOrder (A.words self.new)) j
+            ≡ slice_get (row A.Store.BitStore O.BitOrder (A.words self.old))
+            (A.Store.BITS * A.count - 1 - j) }
     {
         let len = self.len();
         let words = self.inner.as_raw_mut_slice();
@@ -32,9 +36,16 @@ impl<A: BitViewSized, O: BitOrder> BitArray<A, O> {
     /// ```
     pub fn rotate_left(&mut self, by: usize)
         requires { by ≤ A.Store.BITS * A.count }
-        ensures list { row A.Store.BitStore O.BitOrder (A.words self.new) ≡ drop by (row A.Store.BitStore O.BitOrder (A.words self.old)) ++ take by (row A.Store.BitStore O.BitOrder (A.words self.old)) }
-        ensures front { (j : ℕ) → j + by < A.Store.BITS * A.count → slice_get (row A.Store.BitStore O.BitOrder (A.words self.new)) j ≡ slice_get (row A.Store.BitStore O.BitOrder (A.words self.old)) (j + by) }
-        ensures back { (j : ℕ) → j < by → slice_get (row A.Store.BitStore O.BitOrder (A.words self.new)) (A.Store.BITS * A.count - by + j) ≡ slice_get (row A.Store.BitStore O.BitOrder (A.words self.old)) j }
+        ensures list { row A.Store.BitStore O.BitOrder (A.words self.new)
+            ≡ drop by (row A.Store.BitStore O.BitOrder (A.words self.old))
+            ++ take by (row A.Store.BitStore O.BitOrder (A.words self.old)) }
+        ensures front { (j : ℕ) → j + by < A.Store.BITS * A.count
+            → slice_get (row A.Store.BitStore O.BitOrder (A.words self.new)) j
+            ≡ slice_get (row A.Store.BitStore O.BitOrder (A.words self.old)) (j + by) }
+        ensures back { (j : ℕ) → j < by
+            → slice_get (row A.Store.BitStore O.BitOrder (A.words self.new))
+            (A.Store.BITS * A.count - by + j)
+            ≡ slice_get (row A.Store.BitStore O.BitOrder (A.words self.old)) j }
     {
         let len = self.len();
         let words = self.inner.as_raw_mut_slice();
@@ -48,9 +59,16 @@ impl<A: BitViewSized, O: BitOrder> BitArray<A, O> {
     /// ```
     pub fn rotate_right(&mut self, by: usize)
         requires { by ≤ A.Store.BITS * A.count }
-        ensures list { row A.Store.BitStore O.BitOrder (A.words self.new) ≡ drop (A.Store.BITS * A.count - by) (row A.Store.BitStore O.BitOrder (A.words self.old)) ++ take (A.Store.BITS * A.count - by) (row A.Store.BitStore O.BitOrder (A.words self.old)) }
-        ensures front { (j : ℕ) → j < by → slice_get (row A.Store.BitStore O.BitOrder (A.words self.new)) j ≡ slice_get (row A.Store.BitStore O.BitOrder (A.words self.old)) (A.Store.BITS * A.count - by + j) }
-        ensures back { (j : ℕ) → j + by < A.Store.BITS * A.count → slice_get (row A.Store.BitStore O.BitOrder (A.words self.new)) (j + by) ≡ slice_get (row A.Store.BitStore O.BitOrder (A.words self.old)) j }
+        ensures list { row A.Store.BitStore O.BitOrder (A.words self.new)
+            ≡ drop (A.Store.BITS * A.count - by) (row A.Store.BitStore O.BitOrder (A.words self.old))
+            ++ take (A.Store.BITS * A.count - by) (row A.Store.BitStore O.BitOrder (A.words self.old)) }
+        ensures front { (j : ℕ) → j < by
+            → slice_get (row A.Store.BitStore O.BitOrder (A.words self.new)) j
+            ≡ slice_get (row A.Store.BitStore O.BitOrder (A.words self.old))
+            (A.Store.BITS * A.count - by + j) }
+        ensures back { (j : ℕ) → j + by < A.Store.BITS * A.count
+            → slice_get (row A.Store.BitStore O.BitOrder (A.words self.new)) (j + by)
+            ≡ slice_get (row A.Store.BitStore O.BitOrder (A.words self.old)) j }
     {
         let len = self.len();
         let words = self.inner.as_raw_mut_slice();
@@ -65,9 +83,13 @@ impl<A: BitViewSized, O: BitOrder> BitArray<A, O> {
     /// ```
     pub fn shift_left(&mut self, by: usize)
         requires { by ≤ A.Store.BITS * A.count }
-        ensures list { row A.Store.BitStore O.BitOrder (A.words self.new) ≡ drop by (row A.Store.BitStore O.BitOrder (A.words self.old)) ++ replicate by false }
-        ensures kept { (j : ℕ) → j + by < A.Store.BITS * A.count → slice_get (row A.Store.BitStore O.BitOrder (A.words self.new)) j ≡ slice_get (row A.Store.BitStore O.BitOrder (A.words self.old)) (j + by) }
-        ensures cleared { (j : ℕ) → A.Store.BITS * A.count ≤ j + by → j < A.Store.BITS * A.count → slice_get (row A.Store.BitStore O.BitOrder (A.words self.new)) j ≡ Some false }
+        ensures list { row A.Store.BitStore O.BitOrder (A.words self.new)
+            ≡ drop by (row A.Store.BitStore O.BitOrder (A.words self.old)) ++ replicate by false }
+        ensures kept { (j : ℕ) → j + by < A.Store.BITS * A.count
+            → slice_get (row A.Store.BitStore O.BitOrder (A.words self.new)) j
+            ≡ slice_get (row A.Store.BitStore O.BitOrder (A.words self.old)) (j + by) }
+        ensures cleared { (j : ℕ) → A.Store.BITS * A.count ≤ j + by → j < A.Store.BITS * A.count
+            → slice_get (row A.Store.BitStore O.BitOrder (A.words self.new)) j ≡ Some false }
     {
         let len = self.len();
         let words = self.inner.as_raw_mut_slice();
@@ -82,21 +104,30 @@ impl<A: BitViewSized, O: BitOrder> BitArray<A, O> {
     /// ```
     pub fn shift_right(&mut self, by: usize)
         requires { by ≤ A.Store.BITS * A.count }
-        ensures list { row A.Store.BitStore O.BitOrder (A.words self.new) ≡ replicate by false ++ take (A.Store.BITS * A.count - by) (row A.Store.BitStore O.BitOrder (A.words self.old)) }
-        ensures kept { (j : ℕ) → j + by < A.Store.BITS * A.count → slice_get (row A.Store.BitStore O.BitOrder (A.words self.new)) (j + by) ≡ slice_get (row A.Store.BitStore O.BitOrder (A.words self.old)) j }
-        ensures cleared { (j : ℕ) → j < by → slice_get (row A.Store.BitStore O.BitOrder (A.words self.new)) j ≡ Some false }
+        ensures list { row A.Store.BitStore O.BitOrder (A.words self.new)
+            ≡ replicate by false
+            ++ take (A.Store.BITS * A.count - by) (row A.Store.BitStore O.BitOrder (A.words self.old)) }
+        ensures kept { (j : ℕ) → j + by < A.Store.BITS * A.count
+            → slice_get (row A.Store.BitStore O.BitOrder (A.words self.new)) (j + by)
+            ≡ slice_get (row A.Store.BitStore O.BitOrder (A.words self.old)) j }
+        ensures cleared { (j : ℕ) → j < by
+            → slice_get (row A.Store.BitStore O.BitOrder (A.words self.new)) j ≡ Some false }
     {
         let len = self.len();
         let words = self.inner.as_raw_mut_slice();
         shift_words_right::<A::Store, O>(words, 0, len, by);
     }
 
-    // Makes each bit from `dest` on into the one that `F` makes of it and of the one at its index of a range, as if the
-    // range was read before any bit is written. Requires that the range lies in the length, and as many bits from `dest` on.
+    // Makes each bit from `dest` on into the one that `F` makes of it and of the one at its index of a range,
+    // as if the range was read before any bit is written. Requires that the range lies in the length, and as
+    // many bits from `dest` on.
     fn combine_within<F: BitOperator, R: RangeExt>(&mut self, range: R, dest: usize)
         requires lies { LiesIn (R.start_of range) (R.end_of range (A.Store.BITS * A.count)) (A.Store.BITS * A.count) }
         requires room { dest + (R.end_of range (A.Store.BITS * A.count) - R.start_of range) ≤ A.Store.BITS * A.count }
-        ensures { row A.Store.BitStore O.BitOrder (A.words self.new) ≡ put (row A.Store.BitStore O.BitOrder (A.words self.old)) dest (part_onto (combined F.made) (row A.Store.BitStore O.BitOrder (A.words self.old)) (R.start_of range) (R.end_of range (A.Store.BITS * A.count)) dest) }
+        ensures { row A.Store.BitStore O.BitOrder (A.words self.new)
+            ≡ put (row A.Store.BitStore O.BitOrder (A.words self.old)) dest
+            (part_onto (combined F.made) (row A.Store.BitStore O.BitOrder (A.words self.old))
+            (R.start_of range) (R.end_of range (A.Store.BITS * A.count)) dest) }
     {
         let range = range.normalize(self.len());
         let count = range.end - range.start;
@@ -114,7 +145,10 @@ impl<A: BitViewSized, O: BitOrder> BitArray<A, O> {
     pub fn and_within<R: RangeExt>(&mut self, range: R, dest: usize)
         requires lies { LiesIn (R.start_of range) (R.end_of range (A.Store.BITS * A.count)) (A.Store.BITS * A.count) }
         requires room { dest + (R.end_of range (A.Store.BITS * A.count) - R.start_of range) ≤ A.Store.BITS * A.count }
-        ensures { row A.Store.BitStore O.BitOrder (A.words self.new) ≡ put (row A.Store.BitStore O.BitOrder (A.words self.old)) dest (part_onto and_of (row A.Store.BitStore O.BitOrder (A.words self.old)) (R.start_of range) (R.end_of range (A.Store.BITS * A.count)) dest) }
+        ensures { row A.Store.BitStore O.BitOrder (A.words self.new)
+            ≡ put (row A.Store.BitStore O.BitOrder (A.words self.old)) dest
+            (part_onto and_of (row A.Store.BitStore O.BitOrder (A.words self.old)) (R.start_of range)
+            (R.end_of range (A.Store.BITS * A.count)) dest) }
     {
         self.combine_within::<And, R>(range, dest);
     }
@@ -129,7 +163,10 @@ impl<A: BitViewSized, O: BitOrder> BitArray<A, O> {
     pub fn or_within<R: RangeExt>(&mut self, range: R, dest: usize)
         requires lies { LiesIn (R.start_of range) (R.end_of range (A.Store.BITS * A.count)) (A.Store.BITS * A.count) }
         requires room { dest + (R.end_of range (A.Store.BITS * A.count) - R.start_of range) ≤ A.Store.BITS * A.count }
-        ensures { row A.Store.BitStore O.BitOrder (A.words self.new) ≡ put (row A.Store.BitStore O.BitOrder (A.words self.old)) dest (part_onto or_of (row A.Store.BitStore O.BitOrder (A.words self.old)) (R.start_of range) (R.end_of range (A.Store.BITS * A.count)) dest) }
+        ensures { row A.Store.BitStore O.BitOrder (A.words self.new)
+            ≡ put (row A.Store.BitStore O.BitOrder (A.words self.old)) dest
+            (part_onto or_of (row A.Store.BitStore O.BitOrder (A.words self.old)) (R.start_of range)
+            (R.end_of range (A.Store.BITS * A.count)) dest) }
     {
         self.combine_within::<Or, R>(range, dest);
     }
@@ -144,7 +181,10 @@ impl<A: BitViewSized, O: BitOrder> BitArray<A, O> {
     pub fn xor_within<R: RangeExt>(&mut self, range: R, dest: usize)
         requires lies { LiesIn (R.start_of range) (R.end_of range (A.Store.BITS * A.count)) (A.Store.BITS * A.count) }
         requires room { dest + (R.end_of range (A.Store.BITS * A.count) - R.start_of range) ≤ A.Store.BITS * A.count }
-        ensures { row A.Store.BitStore O.BitOrder (A.words self.new) ≡ put (row A.Store.BitStore O.BitOrder (A.words self.old)) dest (part_onto xor_of (row A.Store.BitStore O.BitOrder (A.words self.old)) (R.start_of range) (R.end_of range (A.Store.BITS * A.count)) dest) }
+        ensures { row A.Store.BitStore O.BitOrder (A.words self.new)
+            ≡ put (row A.Store.BitStore O.BitOrder (A.words self.old)) dest
+            (part_onto xor_of (row A.Store.BitStore O.BitOrder (A.words self.old)) (R.start_of range)
+            (R.end_of range (A.Store.BITS * A.count)) dest) }
     {
         self.combine_within::<Xor, R>(range, dest);
     }

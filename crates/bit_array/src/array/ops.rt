@@ -38,13 +38,16 @@ impl<A: BitWords, O: BitOrder> BitArray<A, O> {
 }
 
 impl<A: BitViewSized, O: BitOrder> BitArray<A, O> {
-    /// Makes each bit into the one that `F` makes of it and of the one at its index in a view, or of false past its end.
+    /// Makes each bit into the one that `F` makes of it and of the one at its index in a view, or of false past
+    /// its end.
     pub(crate) fn combine<F: BitOperator, U: BitStore, P: BitOrder>(
         &mut self,
         other: BitSlice<'_, U, P>,
     )
-        ensures list { row A.Store.BitStore O.BitOrder (A.words self.new) ≡ combined F.made (row A.Store.BitStore O.BitOrder (A.words self.old)) (list_of other.entry) }
-        ensures index { CombinesEach F.made (row A.Store.BitStore O.BitOrder (A.words self.old)) (list_of other.entry) (row A.Store.BitStore O.BitOrder (A.words self.new)) }
+        ensures list { row A.Store.BitStore O.BitOrder (A.words self.new)
+            ≡ combined F.made (row A.Store.BitStore O.BitOrder (A.words self.old)) (list_of other.entry) }
+        ensures index { CombinesEach F.made (row A.Store.BitStore O.BitOrder (A.words self.old))
+            (list_of other.entry) (row A.Store.BitStore O.BitOrder (A.words self.new)) }
     {
         let len = self.len();
         combine_words::<F, A::Store, O, U, P>(self.inner.as_raw_mut_slice(), 0, len, other);
@@ -56,8 +59,10 @@ impl<A: BitViewSized, O: BitOrder> BitArray<A, O> {
     /// of 01101001 and 01010101: bits.and_bits(other) leaves 01000001
     /// ```
     pub fn and_bits<U: BitStore, P: BitOrder>(&mut self, other: BitSlice<'_, U, P>)
-        ensures list { row A.Store.BitStore O.BitOrder (A.words self.new) ≡ and_of (row A.Store.BitStore O.BitOrder (A.words self.old)) (list_of other.entry) }
-        ensures index { AndsEach (row A.Store.BitStore O.BitOrder (A.words self.old)) (list_of other.entry) (row A.Store.BitStore O.BitOrder (A.words self.new)) }
+        ensures list { row A.Store.BitStore O.BitOrder (A.words self.new)
+            ≡ and_of (row A.Store.BitStore O.BitOrder (A.words self.old)) (list_of other.entry) }
+        ensures index { AndsEach (row A.Store.BitStore O.BitOrder (A.words self.old)) (list_of other.entry)
+            (row A.Store.BitStore O.BitOrder (A.words self.new)) }
     {
         self.combine::<And, U, P>(other);
     }
@@ -68,8 +73,10 @@ impl<A: BitViewSized, O: BitOrder> BitArray<A, O> {
     /// of 01101001 and 01010101: bits.or_bits(other) leaves 01111101
     /// ```
     pub fn or_bits<U: BitStore, P: BitOrder>(&mut self, other: BitSlice<'_, U, P>)
-        ensures list { row A.Store.BitStore O.BitOrder (A.words self.new) ≡ or_of (row A.Store.BitStore O.BitOrder (A.words self.old)) (list_of other.entry) }
-        ensures index { OrsEach (row A.Store.BitStore O.BitOrder (A.words self.old)) (list_of other.entry) (row A.Store.BitStore O.BitOrder (A.words self.new)) }
+        ensures list { row A.Store.BitStore O.BitOrder (A.words self.new)
+            ≡ or_of (row A.Store.BitStore O.BitOrder (A.words self.old)) (list_of other.entry) }
+        ensures index { OrsEach (row A.Store.BitStore O.BitOrder (A.words self.old)) (list_of other.entry)
+            (row A.Store.BitStore O.BitOrder (A.words self.new)) }
     {
         self.combine::<Or, U, P>(other);
     }
@@ -80,8 +87,10 @@ impl<A: BitViewSized, O: BitOrder> BitArray<A, O> {
     /// of 01101001 and 01010101: bits.xor_bits(other) leaves 00111100
     /// ```
     pub fn xor_bits<U: BitStore, P: BitOrder>(&mut self, other: BitSlice<'_, U, P>)
-        ensures list { row A.Store.BitStore O.BitOrder (A.words self.new) ≡ xor_of (row A.Store.BitStore O.BitOrder (A.words self.old)) (list_of other.entry) }
-        ensures index { XorsEach (row A.Store.BitStore O.BitOrder (A.words self.old)) (list_of other.entry) (row A.Store.BitStore O.BitOrder (A.words self.new)) }
+        ensures list { row A.Store.BitStore O.BitOrder (A.words self.new)
+            ≡ xor_of (row A.Store.BitStore O.BitOrder (A.words self.old)) (list_of other.entry) }
+        ensures index { XorsEach (row A.Store.BitStore O.BitOrder (A.words self.old)) (list_of other.entry)
+            (row A.Store.BitStore O.BitOrder (A.words self.new)) }
     {
         self.combine::<Xor, U, P>(other);
     }
@@ -93,8 +102,10 @@ impl<A: BitViewSized, O: BitOrder> BitArray<A, O> {
     /// ```
     #[tactic(auto, using(bit_slice::proofs::Rules::item_of_not))]
     pub fn flip_all(&mut self)
-        ensures list { row A.Store.BitStore O.BitOrder (A.words self.new) ≡ map not (row A.Store.BitStore O.BitOrder (A.words self.old)) }
-        ensures index { FlipsEach (row A.Store.BitStore O.BitOrder (A.words self.old)) (row A.Store.BitStore O.BitOrder (A.words self.new)) }
+        ensures list { row A.Store.BitStore O.BitOrder (A.words self.new)
+            ≡ map not (row A.Store.BitStore O.BitOrder (A.words self.old)) }
+        ensures index { FlipsEach (row A.Store.BitStore O.BitOrder (A.words self.old))
+            (row A.Store.BitStore O.BitOrder (A.words self.new)) }
     {
         flip_bits::<A::Store, O>(self.inner.as_raw_mut_slice());
     }
@@ -103,7 +114,10 @@ impl<A: BitViewSized, O: BitOrder> BitArray<A, O> {
 impl<A: BitViewSized, O: BitOrder> Not for BitArray<A, O> {
     type Output = Self;
 
-    ghost not_gives = { λ a b. (row A.Store.BitStore O.BitOrder (A.words b) ≡ map not (row A.Store.BitStore O.BitOrder (A.words a))) × FlipsEach (row A.Store.BitStore O.BitOrder (A.words a)) (row A.Store.BitStore O.BitOrder (A.words b)) };
+    ghost not_gives = { λ a b. (row A.Store.BitStore O.BitOrder (A.words b)
+        ≡ map not (row A.Store.BitStore O.BitOrder (A.words a)))
+        × FlipsEach (row A.Store.BitStore O.BitOrder (A.words a))
+        (row A.Store.BitStore O.BitOrder (A.words b)) };
 
     /// Every bit flipped.
     fn not(mut self) -> Self {
@@ -129,7 +143,11 @@ impl<A: BitWords, O: BitOrder> Index<usize> for BitArray<A, O> {
 }
 
 impl<A: BitViewSized, O: BitOrder> BitAndAssign for BitArray<A, O> {
-    ghost bitand_assign_gives = { λ a b c. (row A.Store.BitStore O.BitOrder (A.words c) ≡ and_of (row A.Store.BitStore O.BitOrder (A.words a)) (row A.Store.BitStore O.BitOrder (A.words b))) × AndsEach (row A.Store.BitStore O.BitOrder (A.words a)) (row A.Store.BitStore O.BitOrder (A.words b)) (row A.Store.BitStore O.BitOrder (A.words c)) };
+    ghost bitand_assign_gives = { λ a b c. (row A.Store.BitStore O.BitOrder (A.words c)
+        ≡ and_of (row A.Store.BitStore O.BitOrder (A.words a))
+        (row A.Store.BitStore O.BitOrder (A.words b)))
+        × AndsEach (row A.Store.BitStore O.BitOrder (A.words a))
+        (row A.Store.BitStore O.BitOrder (A.words b)) (row A.Store.BitStore O.BitOrder (A.words c)) };
 
     /// Clears each bit that is false in the right side.
     fn bitand_assign(&mut self, rhs: Self) {
@@ -140,7 +158,11 @@ impl<A: BitViewSized, O: BitOrder> BitAndAssign for BitArray<A, O> {
 impl<A: BitViewSized, O: BitOrder> BitAnd for BitArray<A, O> {
     type Output = Self;
 
-    ghost bitand_gives = { λ a b c. (row A.Store.BitStore O.BitOrder (A.words c) ≡ and_of (row A.Store.BitStore O.BitOrder (A.words a)) (row A.Store.BitStore O.BitOrder (A.words b))) × AndsEach (row A.Store.BitStore O.BitOrder (A.words a)) (row A.Store.BitStore O.BitOrder (A.words b)) (row A.Store.BitStore O.BitOrder (A.words c)) };
+    ghost bitand_gives = { λ a b c. (row A.Store.BitStore O.BitOrder (A.words c)
+        ≡ and_of (row A.Store.BitStore O.BitOrder (A.words a))
+        (row A.Store.BitStore O.BitOrder (A.words b)))
+        × AndsEach (row A.Store.BitStore O.BitOrder (A.words a))
+        (row A.Store.BitStore O.BitOrder (A.words b)) (row A.Store.BitStore O.BitOrder (A.words c)) };
 
     /// The bits that are true in both.
     fn bitand(mut self, rhs: Self) -> Self {
@@ -150,7 +172,10 @@ impl<A: BitViewSized, O: BitOrder> BitAnd for BitArray<A, O> {
 }
 
 impl<A: BitViewSized, O: BitOrder> BitOrAssign for BitArray<A, O> {
-    ghost bitor_assign_gives = { λ a b c. (row A.Store.BitStore O.BitOrder (A.words c) ≡ or_of (row A.Store.BitStore O.BitOrder (A.words a)) (row A.Store.BitStore O.BitOrder (A.words b))) × OrsEach (row A.Store.BitStore O.BitOrder (A.words a)) (row A.Store.BitStore O.BitOrder (A.words b)) (row A.Store.BitStore O.BitOrder (A.words c)) };
+    ghost bitor_assign_gives = { λ a b c. (row A.Store.BitStore O.BitOrder (A.words c)
+        ≡ or_of (row A.Store.BitStore O.BitOrder (A.words a)) (row A.Store.BitStore O.BitOrder (A.words b)))
+        × OrsEach (row A.Store.BitStore O.BitOrder (A.words a))
+        (row A.Store.BitStore O.BitOrder (A.words b)) (row A.Store.BitStore O.BitOrder (A.words c)) };
 
     /// Sets each bit that is true in the right side.
     fn bitor_assign(&mut self, rhs: Self) {
@@ -161,7 +186,10 @@ impl<A: BitViewSized, O: BitOrder> BitOrAssign for BitArray<A, O> {
 impl<A: BitViewSized, O: BitOrder> BitOr for BitArray<A, O> {
     type Output = Self;
 
-    ghost bitor_gives = { λ a b c. (row A.Store.BitStore O.BitOrder (A.words c) ≡ or_of (row A.Store.BitStore O.BitOrder (A.words a)) (row A.Store.BitStore O.BitOrder (A.words b))) × OrsEach (row A.Store.BitStore O.BitOrder (A.words a)) (row A.Store.BitStore O.BitOrder (A.words b)) (row A.Store.BitStore O.BitOrder (A.words c)) };
+    ghost bitor_gives = { λ a b c. (row A.Store.BitStore O.BitOrder (A.words c)
+        ≡ or_of (row A.Store.BitStore O.BitOrder (A.words a)) (row A.Store.BitStore O.BitOrder (A.words b)))
+        × OrsEach (row A.Store.BitStore O.BitOrder (A.words a))
+        (row A.Store.BitStore O.BitOrder (A.words b)) (row A.Store.BitStore O.BitOrder (A.words c)) };
 
     /// The bits that are true in one or in both.
     fn bitor(mut self, rhs: Self) -> Self {
@@ -171,7 +199,11 @@ impl<A: BitViewSized, O: BitOrder> BitOr for BitArray<A, O> {
 }
 
 impl<A: BitViewSized, O: BitOrder> BitXorAssign for BitArray<A, O> {
-    ghost bitxor_assign_gives = { λ a b c. (row A.Store.BitStore O.BitOrder (A.words c) ≡ xor_of (row A.Store.BitStore O.BitOrder (A.words a)) (row A.Store.BitStore O.BitOrder (A.words b))) × XorsEach (row A.Store.BitStore O.BitOrder (A.words a)) (row A.Store.BitStore O.BitOrder (A.words b)) (row A.Store.BitStore O.BitOrder (A.words c)) };
+    ghost bitxor_assign_gives = { λ a b c. (row A.Store.BitStore O.BitOrder (A.words c)
+        ≡ xor_of (row A.Store.BitStore O.BitOrder (A.words a))
+        (row A.Store.BitStore O.BitOrder (A.words b)))
+        × XorsEach (row A.Store.BitStore O.BitOrder (A.words a))
+        (row A.Store.BitStore O.BitOrder (A.words b)) (row A.Store.BitStore O.BitOrder (A.words c)) };
 
     /// Flips each bit that is true in the right side.
     fn bitxor_assign(&mut self, rhs: Self) {
@@ -182,7 +214,11 @@ impl<A: BitViewSized, O: BitOrder> BitXorAssign for BitArray<A, O> {
 impl<A: BitViewSized, O: BitOrder> BitXor for BitArray<A, O> {
     type Output = Self;
 
-    ghost bitxor_gives = { λ a b c. (row A.Store.BitStore O.BitOrder (A.words c) ≡ xor_of (row A.Store.BitStore O.BitOrder (A.words a)) (row A.Store.BitStore O.BitOrder (A.words b))) × XorsEach (row A.Store.BitStore O.BitOrder (A.words a)) (row A.Store.BitStore O.BitOrder (A.words b)) (row A.Store.BitStore O.BitOrder (A.words c)) };
+    ghost bitxor_gives = { λ a b c. (row A.Store.BitStore O.BitOrder (A.words c)
+        ≡ xor_of (row A.Store.BitStore O.BitOrder (A.words a))
+        (row A.Store.BitStore O.BitOrder (A.words b)))
+        × XorsEach (row A.Store.BitStore O.BitOrder (A.words a))
+        (row A.Store.BitStore O.BitOrder (A.words b)) (row A.Store.BitStore O.BitOrder (A.words c)) };
 
     /// The bits that are true in one alone.
     fn bitxor(mut self, rhs: Self) -> Self {

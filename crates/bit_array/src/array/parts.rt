@@ -53,7 +53,8 @@ impl<A: BitWords, O: BitOrder> BitArray<A, O> {
     /// ```
     pub fn split_last(&self) -> Option<(bool, BitSlice<'_, A::Store, O>)>
         ensures none { IsNone result ↔ (A.Store.BITS * A.count ≡ 0) }
-        ensures both { IfSome result (λ r. row A.Store.BitStore O.BitOrder (A.words self.now) ≡ list_of r.1 ++ r.0 ∷ []) }
+        ensures both { IfSome result
+            (λ r. row A.Store.BitStore O.BitOrder (A.words self.now) ≡ list_of r.1 ++ r.0 ∷ []) }
         ensures rest_len { IfSome result (λ r. len_of r.1 + 1 ≡ A.Store.BITS * A.count) }
     {
         self.as_bitslice().split_last()
@@ -65,7 +66,9 @@ impl<A: BitWords, O: BitOrder> BitArray<A, O> {
     /// of 01101001 and 0110: bits.starts_with(other) == true
     /// ```
     pub fn starts_with<U: BitStore, P: BitOrder>(&self, other: BitSlice<'_, U, P>) -> bool
-        ensures { IsTrue result ↔ (take (len_of other.entry) (row A.Store.BitStore O.BitOrder (A.words self.now)) ≡ list_of other.entry) }
+        ensures { IsTrue result
+            ↔ (take (len_of other.entry) (row A.Store.BitStore O.BitOrder (A.words self.now))
+            ≡ list_of other.entry) }
     {
         self.as_bitslice().starts_with(other)
     }
@@ -76,7 +79,9 @@ impl<A: BitWords, O: BitOrder> BitArray<A, O> {
     /// of 01101001 and 001: bits.ends_with(other) == true
     /// ```
     pub fn ends_with<U: BitStore, P: BitOrder>(&self, other: BitSlice<'_, U, P>) -> bool
-        ensures { IsTrue result ↔ (drop (A.Store.BITS * A.count - len_of other.entry) (row A.Store.BitStore O.BitOrder (A.words self.now)) ≡ list_of other.entry) }
+        ensures { IsTrue result
+            ↔ (drop (A.Store.BITS * A.count - len_of other.entry)
+            (row A.Store.BitStore O.BitOrder (A.words self.now)) ≡ list_of other.entry) }
     {
         self.as_bitslice().ends_with(other)
     }
@@ -106,8 +111,14 @@ impl<A: BitWords, O: BitOrder> BitArray<A, O> {
         requires some { 0 < size }
         ensures list { chunks_left result ≡ chunks_of size (row A.Store.BitStore O.BitOrder (A.words self.now)) }
         ensures count { length (chunks_left result) ≡ chunk_count (A.Store.BITS * A.count) size }
-        ensures runs { EveryRun (YieldsFirstBy (list_of {X = A.Store} {Y = O} {W = A.Store.BitStore} {P = O.BitOrder}) (chunks_left {X = A.Store} {Y = O} {W = A.Store.BitStore} {P = O.BitOrder})) (λ p. ItemsMapTo p list_of (chunks_left p.from)) }
-        ensures runs_back { EveryRun (YieldsLastBy (list_of {X = A.Store} {Y = O} {W = A.Store.BitStore} {P = O.BitOrder}) (chunks_left {X = A.Store} {Y = O} {W = A.Store.BitStore} {P = O.BitOrder})) (λ p. ItemsMapToReversed p list_of (chunks_left p.from)) }
+        ensures runs { EveryRun (YieldsFirstBy
+            (list_of {X = A.Store} {Y = O} {W = A.Store.BitStore} {P = O.BitOrder})
+            (chunks_left {X = A.Store} {Y = O} {W = A.Store.BitStore} {P = O.BitOrder}))
+            (λ p. ItemsMapTo p list_of (chunks_left p.from)) }
+        ensures runs_back { EveryRun (YieldsLastBy
+            (list_of {X = A.Store} {Y = O} {W = A.Store.BitStore} {P = O.BitOrder})
+            (chunks_left {X = A.Store} {Y = O} {W = A.Store.BitStore} {P = O.BitOrder}))
+            (λ p. ItemsMapToReversed p list_of (chunks_left p.from)) }
     {
         self.as_bitslice().chunks(size)
     }
@@ -120,10 +131,17 @@ impl<A: BitWords, O: BitOrder> BitArray<A, O> {
     /// ```
     pub fn chunks_exact(&self, size: usize) -> ChunksExact<'_, A::Store, O>
         requires some { 0 < size }
-        ensures list { exact_chunks_left result ≡ exact_chunks_of size (row A.Store.BitStore O.BitOrder (A.words self.now)) }
+        ensures list { exact_chunks_left result
+            ≡ exact_chunks_of size (row A.Store.BitStore O.BitOrder (A.words self.now)) }
         ensures count { length (exact_chunks_left result) ≡ (A.Store.BITS * A.count) / size }
-        ensures runs { EveryRun (YieldsFirstBy (list_of {X = A.Store} {Y = O} {W = A.Store.BitStore} {P = O.BitOrder}) (exact_chunks_left {X = A.Store} {Y = O} {W = A.Store.BitStore} {P = O.BitOrder})) (λ p. ItemsMapTo p list_of (exact_chunks_left p.from)) }
-        ensures runs_back { EveryRun (YieldsLastBy (list_of {X = A.Store} {Y = O} {W = A.Store.BitStore} {P = O.BitOrder}) (exact_chunks_left {X = A.Store} {Y = O} {W = A.Store.BitStore} {P = O.BitOrder})) (λ p. ItemsMapToReversed p list_of (exact_chunks_left p.from)) }
+        ensures runs { EveryRun (YieldsFirstBy
+            (list_of {X = A.Store} {Y = O} {W = A.Store.BitStore} {P = O.BitOrder})
+            (exact_chunks_left {X = A.Store} {Y = O} {W = A.Store.BitStore} {P = O.BitOrder}))
+            (λ p. ItemsMapTo p list_of (exact_chunks_left p.from)) }
+        ensures runs_back { EveryRun (YieldsLastBy
+            (list_of {X = A.Store} {Y = O} {W = A.Store.BitStore} {P = O.BitOrder})
+            (exact_chunks_left {X = A.Store} {Y = O} {W = A.Store.BitStore} {P = O.BitOrder}))
+            (λ p. ItemsMapToReversed p list_of (exact_chunks_left p.from)) }
     {
         self.as_bitslice().chunks_exact(size)
     }
@@ -136,10 +154,17 @@ impl<A: BitWords, O: BitOrder> BitArray<A, O> {
     /// ```
     pub fn rchunks(&self, size: usize) -> RChunks<'_, A::Store, O>
         requires some { 0 < size }
-        ensures list { back_chunks_left result ≡ back_chunks_of size (row A.Store.BitStore O.BitOrder (A.words self.now)) }
+        ensures list { back_chunks_left result
+            ≡ back_chunks_of size (row A.Store.BitStore O.BitOrder (A.words self.now)) }
         ensures count { length (back_chunks_left result) ≡ chunk_count (A.Store.BITS * A.count) size }
-        ensures runs { EveryRun (YieldsFirstBy (list_of {X = A.Store} {Y = O} {W = A.Store.BitStore} {P = O.BitOrder}) (back_chunks_left {X = A.Store} {Y = O} {W = A.Store.BitStore} {P = O.BitOrder})) (λ p. ItemsMapTo p list_of (back_chunks_left p.from)) }
-        ensures runs_back { EveryRun (YieldsLastBy (list_of {X = A.Store} {Y = O} {W = A.Store.BitStore} {P = O.BitOrder}) (back_chunks_left {X = A.Store} {Y = O} {W = A.Store.BitStore} {P = O.BitOrder})) (λ p. ItemsMapToReversed p list_of (back_chunks_left p.from)) }
+        ensures runs { EveryRun (YieldsFirstBy
+            (list_of {X = A.Store} {Y = O} {W = A.Store.BitStore} {P = O.BitOrder})
+            (back_chunks_left {X = A.Store} {Y = O} {W = A.Store.BitStore} {P = O.BitOrder}))
+            (λ p. ItemsMapTo p list_of (back_chunks_left p.from)) }
+        ensures runs_back { EveryRun (YieldsLastBy
+            (list_of {X = A.Store} {Y = O} {W = A.Store.BitStore} {P = O.BitOrder})
+            (back_chunks_left {X = A.Store} {Y = O} {W = A.Store.BitStore} {P = O.BitOrder}))
+            (λ p. ItemsMapToReversed p list_of (back_chunks_left p.from)) }
     {
         self.as_bitslice().rchunks(size)
     }
@@ -154,8 +179,14 @@ impl<A: BitWords, O: BitOrder> BitArray<A, O> {
         requires some { 0 < size }
         ensures list { windows_left result ≡ windows_of size (row A.Store.BitStore O.BitOrder (A.words self.now)) }
         ensures count { length (windows_left result) ≡ A.Store.BITS * A.count + 1 - size }
-        ensures runs { EveryRun (YieldsFirstBy (list_of {X = A.Store} {Y = O} {W = A.Store.BitStore} {P = O.BitOrder}) (windows_left {X = A.Store} {Y = O} {W = A.Store.BitStore} {P = O.BitOrder})) (λ p. ItemsMapTo p list_of (windows_left p.from)) }
-        ensures runs_back { EveryRun (YieldsLastBy (list_of {X = A.Store} {Y = O} {W = A.Store.BitStore} {P = O.BitOrder}) (windows_left {X = A.Store} {Y = O} {W = A.Store.BitStore} {P = O.BitOrder})) (λ p. ItemsMapToReversed p list_of (windows_left p.from)) }
+        ensures runs { EveryRun (YieldsFirstBy
+            (list_of {X = A.Store} {Y = O} {W = A.Store.BitStore} {P = O.BitOrder})
+            (windows_left {X = A.Store} {Y = O} {W = A.Store.BitStore} {P = O.BitOrder}))
+            (λ p. ItemsMapTo p list_of (windows_left p.from)) }
+        ensures runs_back { EveryRun (YieldsLastBy
+            (list_of {X = A.Store} {Y = O} {W = A.Store.BitStore} {P = O.BitOrder})
+            (windows_left {X = A.Store} {Y = O} {W = A.Store.BitStore} {P = O.BitOrder}))
+            (λ p. ItemsMapToReversed p list_of (windows_left p.from)) }
     {
         self.as_bitslice().windows(size)
     }
@@ -169,7 +200,8 @@ impl<A: BitWords, O: BitOrder> BitArray<A, O> {
     pub fn load_le(&self) -> u64
         requires { A.Store.BITS * A.count ≤ 64 }
         ensures value { result ≡ number_of (row A.Store.BitStore O.BitOrder (A.words self.now)) }
-        ensures bits { number_bits result (A.Store.BITS * A.count) ≡ row A.Store.BitStore O.BitOrder (A.words self.now) }
+        ensures bits { number_bits result (A.Store.BITS * A.count)
+            ≡ row A.Store.BitStore O.BitOrder (A.words self.now) }
     {
         self.as_bitslice().load_le()
     }

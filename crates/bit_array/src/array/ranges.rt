@@ -23,7 +23,9 @@ impl<A: BitViewSized, O: BitOrder> BitArray<A, O> {
     /// ```
     pub fn fill_range<R: RangeExt>(&mut self, range: R, bit: bool)
         requires lies { LiesIn (R.start_of range) (R.end_of range (A.Store.BITS * A.count)) (A.Store.BITS * A.count) }
-        ensures { row A.Store.BitStore O.BitOrder (A.words self.new) ≡ put (row A.Store.BitStore O.BitOrder (A.words self.old)) (R.start_of range) (replicate (R.end_of range (A.Store.BITS * A.count) - R.start_of range) bit) }
+        ensures { row A.Store.BitStore O.BitOrder (A.words self.new)
+            ≡ put (row A.Store.BitStore O.BitOrder (A.words self.old)) (R.start_of range)
+            (replicate (R.end_of range (A.Store.BITS * A.count) - R.start_of range) bit) }
     {
         let range = range.normalize(self.len());
         let words = self.inner.as_raw_mut_slice();
@@ -37,7 +39,10 @@ impl<A: BitViewSized, O: BitOrder> BitArray<A, O> {
     /// ```
     pub fn flip_range<R: RangeExt>(&mut self, range: R)
         requires lies { LiesIn (R.start_of range) (R.end_of range (A.Store.BITS * A.count)) (A.Store.BITS * A.count) }
-        ensures { row A.Store.BitStore O.BitOrder (A.words self.new) ≡ put (row A.Store.BitStore O.BitOrder (A.words self.old)) (R.start_of range) (map not (slice_range (row A.Store.BitStore O.BitOrder (A.words self.old)) (R.start_of range) (R.end_of range (A.Store.BITS * A.count)))) }
+        ensures { row A.Store.BitStore O.BitOrder (A.words self.new)
+            ≡ put (row A.Store.BitStore O.BitOrder (A.words self.old)) (R.start_of range)
+            (map not (slice_range (row A.Store.BitStore O.BitOrder (A.words self.old)) (R.start_of range)
+            (R.end_of range (A.Store.BITS * A.count)))) }
     {
         let range = range.normalize(self.len());
         let words = self.inner.as_raw_mut_slice();
@@ -51,8 +56,11 @@ impl<A: BitViewSized, O: BitOrder> BitArray<A, O> {
     /// ```
     pub fn flip(&mut self, i: usize)
         requires { i < A.Store.BITS * A.count }
-        ensures list { row A.Store.BitStore O.BitOrder (A.words self.new) ≡ set (row A.Store.BitStore O.BitOrder (A.words self.old)) i (not (slice_index_or (row A.Store.BitStore O.BitOrder (A.words self.old)) i false)) }
-        ensures item { slice_get (row A.Store.BitStore O.BitOrder (A.words self.new)) i ≡ option_map not (slice_get (row A.Store.BitStore O.BitOrder (A.words self.old)) i) }
+        ensures list { row A.Store.BitStore O.BitOrder (A.words self.new)
+            ≡ set (row A.Store.BitStore O.BitOrder (A.words self.old)) i
+            (not (slice_index_or (row A.Store.BitStore O.BitOrder (A.words self.old)) i false)) }
+        ensures item { slice_get (row A.Store.BitStore O.BitOrder (A.words self.new)) i
+            ≡ option_map not (slice_get (row A.Store.BitStore O.BitOrder (A.words self.old)) i) }
     {
         let bit = self[i];
         self.set(i, !bit);
@@ -64,7 +72,8 @@ impl<A: BitViewSized, O: BitOrder> BitArray<A, O> {
     /// of 01101001 and 01010101: bits.and_not_bits(other) leaves 00101000
     /// ```
     pub fn and_not_bits<U: BitStore, P: BitOrder>(&mut self, other: BitSlice<'_, U, P>)
-        ensures { row A.Store.BitStore O.BitOrder (A.words self.new) ≡ and_not_of (row A.Store.BitStore O.BitOrder (A.words self.old)) (list_of other.entry) }
+        ensures { row A.Store.BitStore O.BitOrder (A.words self.new)
+            ≡ and_not_of (row A.Store.BitStore O.BitOrder (A.words self.old)) (list_of other.entry) }
     {
         self.combine::<AndNot, U, P>(other);
     }
@@ -82,7 +91,9 @@ impl<A: BitViewSized, O: BitOrder> BitArray<A, O> {
     )
         requires lies { LiesIn (R.start_of range) (R.end_of range (A.Store.BITS * A.count)) (A.Store.BITS * A.count) }
         requires same_len { len_of source ≡ R.end_of range (A.Store.BITS * A.count) - R.start_of range }
-        ensures { row A.Store.BitStore O.BitOrder (A.words self.new) ≡ put (row A.Store.BitStore O.BitOrder (A.words self.old)) (R.start_of range) (list_of source.entry) }
+        ensures { row A.Store.BitStore O.BitOrder (A.words self.new)
+            ≡ put (row A.Store.BitStore O.BitOrder (A.words self.old)) (R.start_of range)
+            (list_of source.entry) }
     {
         let range = range.normalize(self.len());
         let (from, count) = (source.head(), source.len());
@@ -98,7 +109,10 @@ impl<A: BitViewSized, O: BitOrder> BitArray<A, O> {
         other: BitSlice<'_, U, P>,
     )
         requires lies { LiesIn (R.start_of range) (R.end_of range (A.Store.BITS * A.count)) (A.Store.BITS * A.count) }
-        ensures { row A.Store.BitStore O.BitOrder (A.words self.new) ≡ put (row A.Store.BitStore O.BitOrder (A.words self.old)) (R.start_of range) (combined F.made (slice_range (row A.Store.BitStore O.BitOrder (A.words self.old)) (R.start_of range) (R.end_of range (A.Store.BITS * A.count))) (list_of other.entry)) }
+        ensures { row A.Store.BitStore O.BitOrder (A.words self.new)
+            ≡ put (row A.Store.BitStore O.BitOrder (A.words self.old)) (R.start_of range)
+            (combined F.made (slice_range (row A.Store.BitStore O.BitOrder (A.words self.old))
+            (R.start_of range) (R.end_of range (A.Store.BITS * A.count))) (list_of other.entry)) }
     {
         let range = range.normalize(self.len());
         let count = range.end - range.start;
@@ -118,7 +132,10 @@ impl<A: BitViewSized, O: BitOrder> BitArray<A, O> {
         other: BitSlice<'_, U, P>,
     )
         requires lies { LiesIn (R.start_of range) (R.end_of range (A.Store.BITS * A.count)) (A.Store.BITS * A.count) }
-        ensures { row A.Store.BitStore O.BitOrder (A.words self.new) ≡ put (row A.Store.BitStore O.BitOrder (A.words self.old)) (R.start_of range) (and_of (slice_range (row A.Store.BitStore O.BitOrder (A.words self.old)) (R.start_of range) (R.end_of range (A.Store.BITS * A.count))) (list_of other.entry)) }
+        ensures { row A.Store.BitStore O.BitOrder (A.words self.new)
+            ≡ put (row A.Store.BitStore O.BitOrder (A.words self.old)) (R.start_of range)
+            (and_of (slice_range (row A.Store.BitStore O.BitOrder (A.words self.old)) (R.start_of range)
+            (R.end_of range (A.Store.BITS * A.count))) (list_of other.entry)) }
     {
         self.combine_range::<And, R, U, P>(range, other);
     }
@@ -135,7 +152,10 @@ impl<A: BitViewSized, O: BitOrder> BitArray<A, O> {
         other: BitSlice<'_, U, P>,
     )
         requires lies { LiesIn (R.start_of range) (R.end_of range (A.Store.BITS * A.count)) (A.Store.BITS * A.count) }
-        ensures { row A.Store.BitStore O.BitOrder (A.words self.new) ≡ put (row A.Store.BitStore O.BitOrder (A.words self.old)) (R.start_of range) (or_of (slice_range (row A.Store.BitStore O.BitOrder (A.words self.old)) (R.start_of range) (R.end_of range (A.Store.BITS * A.count))) (list_of other.entry)) }
+        ensures { row A.Store.BitStore O.BitOrder (A.words self.new)
+            ≡ put (row A.Store.BitStore O.BitOrder (A.words self.old)) (R.start_of range)
+            (or_of (slice_range (row A.Store.BitStore O.BitOrder (A.words self.old)) (R.start_of range)
+            (R.end_of range (A.Store.BITS * A.count))) (list_of other.entry)) }
     {
         self.combine_range::<Or, R, U, P>(range, other);
     }
@@ -152,7 +172,10 @@ impl<A: BitViewSized, O: BitOrder> BitArray<A, O> {
         other: BitSlice<'_, U, P>,
     )
         requires lies { LiesIn (R.start_of range) (R.end_of range (A.Store.BITS * A.count)) (A.Store.BITS * A.count) }
-        ensures { row A.Store.BitStore O.BitOrder (A.words self.new) ≡ put (row A.Store.BitStore O.BitOrder (A.words self.old)) (R.start_of range) (xor_of (slice_range (row A.Store.BitStore O.BitOrder (A.words self.old)) (R.start_of range) (R.end_of range (A.Store.BITS * A.count))) (list_of other.entry)) }
+        ensures { row A.Store.BitStore O.BitOrder (A.words self.new)
+            ≡ put (row A.Store.BitStore O.BitOrder (A.words self.old)) (R.start_of range)
+            (xor_of (slice_range (row A.Store.BitStore O.BitOrder (A.words self.old)) (R.start_of range)
+            (R.end_of range (A.Store.BITS * A.count))) (list_of other.entry)) }
     {
         self.combine_range::<Xor, R, U, P>(range, other);
     }

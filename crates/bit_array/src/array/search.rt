@@ -26,9 +26,12 @@ impl<A: BitWords, O: BitOrder> BitArray<A, O> {
         ensures value { result ≡ position (λ b. b) (row A.Store.BitStore O.BitOrder (A.words self.now)) }
         ensures inside { IfSome result (λ i. i < A.Store.BITS * A.count) }
         ensures few { IfSome result (λ i. i < MAX_BITS) }
-        ensures found { IfSome result (λ i. slice_get (row A.Store.BitStore O.BitOrder (A.words self.now)) i ≡ Some true) }
-        ensures before { IfSome result (λ i. (j : ℕ) → j < i → slice_get (row A.Store.BitStore O.BitOrder (A.words self.now)) j ≡ Some false) }
-        ensures none { IfNone result (EachIndex (row A.Store.BitStore O.BitOrder (A.words self.now)) (λ j. slice_get (row A.Store.BitStore O.BitOrder (A.words self.now)) j ≡ Some false)) }
+        ensures found { IfSome result
+            (λ i. slice_get (row A.Store.BitStore O.BitOrder (A.words self.now)) i ≡ Some true) }
+        ensures before { IfSome result (λ i. (j : ℕ) → j < i
+            → slice_get (row A.Store.BitStore O.BitOrder (A.words self.now)) j ≡ Some false) }
+        ensures none { IfNone result (EachIndex (row A.Store.BitStore O.BitOrder (A.words self.now))
+            (λ j. slice_get (row A.Store.BitStore O.BitOrder (A.words self.now)) j ≡ Some false)) }
     {
         self.as_bitslice().first_one()
     }
@@ -42,9 +45,12 @@ impl<A: BitWords, O: BitOrder> BitArray<A, O> {
         ensures value { result ≡ position not (row A.Store.BitStore O.BitOrder (A.words self.now)) }
         ensures inside { IfSome result (λ i. i < A.Store.BITS * A.count) }
         ensures few { IfSome result (λ i. i < MAX_BITS) }
-        ensures found { IfSome result (λ i. slice_get (row A.Store.BitStore O.BitOrder (A.words self.now)) i ≡ Some false) }
-        ensures before { IfSome result (λ i. (j : ℕ) → j < i → slice_get (row A.Store.BitStore O.BitOrder (A.words self.now)) j ≡ Some true) }
-        ensures none { IfNone result (EachIndex (row A.Store.BitStore O.BitOrder (A.words self.now)) (λ j. slice_get (row A.Store.BitStore O.BitOrder (A.words self.now)) j ≡ Some true)) }
+        ensures found { IfSome result
+            (λ i. slice_get (row A.Store.BitStore O.BitOrder (A.words self.now)) i ≡ Some false) }
+        ensures before { IfSome result (λ i. (j : ℕ) → j < i
+            → slice_get (row A.Store.BitStore O.BitOrder (A.words self.now)) j ≡ Some true) }
+        ensures none { IfNone result (EachIndex (row A.Store.BitStore O.BitOrder (A.words self.now))
+            (λ j. slice_get (row A.Store.BitStore O.BitOrder (A.words self.now)) j ≡ Some true)) }
     {
         self.as_bitslice().first_zero()
     }
@@ -57,9 +63,12 @@ impl<A: BitWords, O: BitOrder> BitArray<A, O> {
     pub fn last_one(&self) -> Option<usize>
         ensures inside { IfSome result (λ i. i < A.Store.BITS * A.count) }
         ensures few { IfSome result (λ i. i < MAX_BITS) }
-        ensures found { IfSome result (λ i. slice_get (row A.Store.BitStore O.BitOrder (A.words self.now)) i ≡ Some true) }
-        ensures after { IfSome result (λ i. (j : ℕ) → i < j → j < A.Store.BITS * A.count → slice_get (row A.Store.BitStore O.BitOrder (A.words self.now)) j ≡ Some false) }
-        ensures none { IfNone result (EachIndex (row A.Store.BitStore O.BitOrder (A.words self.now)) (λ j. slice_get (row A.Store.BitStore O.BitOrder (A.words self.now)) j ≡ Some false)) }
+        ensures found { IfSome result
+            (λ i. slice_get (row A.Store.BitStore O.BitOrder (A.words self.now)) i ≡ Some true) }
+        ensures after { IfSome result (λ i. (j : ℕ) → i < j → j < A.Store.BITS * A.count
+            → slice_get (row A.Store.BitStore O.BitOrder (A.words self.now)) j ≡ Some false) }
+        ensures none { IfNone result (EachIndex (row A.Store.BitStore O.BitOrder (A.words self.now))
+            (λ j. slice_get (row A.Store.BitStore O.BitOrder (A.words self.now)) j ≡ Some false)) }
     {
         self.as_bitslice().last_one()
     }
@@ -72,9 +81,12 @@ impl<A: BitWords, O: BitOrder> BitArray<A, O> {
     pub fn last_zero(&self) -> Option<usize>
         ensures inside { IfSome result (λ i. i < A.Store.BITS * A.count) }
         ensures few { IfSome result (λ i. i < MAX_BITS) }
-        ensures found { IfSome result (λ i. slice_get (row A.Store.BitStore O.BitOrder (A.words self.now)) i ≡ Some false) }
-        ensures after { IfSome result (λ i. (j : ℕ) → i < j → j < A.Store.BITS * A.count → slice_get (row A.Store.BitStore O.BitOrder (A.words self.now)) j ≡ Some true) }
-        ensures none { IfNone result (EachIndex (row A.Store.BitStore O.BitOrder (A.words self.now)) (λ j. slice_get (row A.Store.BitStore O.BitOrder (A.words self.now)) j ≡ Some true)) }
+        ensures found { IfSome result
+            (λ i. slice_get (row A.Store.BitStore O.BitOrder (A.words self.now)) i ≡ Some false) }
+        ensures after { IfSome result (λ i. (j : ℕ) → i < j → j < A.Store.BITS * A.count
+            → slice_get (row A.Store.BitStore O.BitOrder (A.words self.now)) j ≡ Some true) }
+        ensures none { IfNone result (EachIndex (row A.Store.BitStore O.BitOrder (A.words self.now))
+            (λ j. slice_get (row A.Store.BitStore O.BitOrder (A.words self.now)) j ≡ Some true)) }
     {
         self.as_bitslice().last_zero()
     }
@@ -89,9 +101,12 @@ impl<A: BitWords, O: BitOrder> BitArray<A, O> {
         ensures begins { IfSome result (λ i. from ≤ i) }
         ensures inside { IfSome result (λ i. i < A.Store.BITS * A.count) }
         ensures few { IfSome result (λ i. i < MAX_BITS) }
-        ensures found { IfSome result (λ i. slice_get (row A.Store.BitStore O.BitOrder (A.words self.now)) i ≡ Some true) }
-        ensures before { IfSome result (λ i. (j : ℕ) → from ≤ j → j < i → slice_get (row A.Store.BitStore O.BitOrder (A.words self.now)) j ≡ Some false) }
-        ensures none { IfNone result ((j : ℕ) → from ≤ j → j < A.Store.BITS * A.count → slice_get (row A.Store.BitStore O.BitOrder (A.words self.now)) j ≡ Some false) }
+        ensures found { IfSome result
+            (λ i. slice_get (row A.Store.BitStore O.BitOrder (A.words self.now)) i ≡ Some true) }
+        ensures before { IfSome result (λ i. (j : ℕ) → from ≤ j → j < i
+            → slice_get (row A.Store.BitStore O.BitOrder (A.words self.now)) j ≡ Some false) }
+        ensures none { IfNone result ((j : ℕ) → from ≤ j → j < A.Store.BITS * A.count
+            → slice_get (row A.Store.BitStore O.BitOrder (A.words self.now)) j ≡ Some false) }
     {
         self.as_bitslice().next_one(from)
     }
@@ -106,9 +121,12 @@ impl<A: BitWords, O: BitOrder> BitArray<A, O> {
         ensures begins { IfSome result (λ i. from ≤ i) }
         ensures inside { IfSome result (λ i. i < A.Store.BITS * A.count) }
         ensures few { IfSome result (λ i. i < MAX_BITS) }
-        ensures found { IfSome result (λ i. slice_get (row A.Store.BitStore O.BitOrder (A.words self.now)) i ≡ Some false) }
-        ensures before { IfSome result (λ i. (j : ℕ) → from ≤ j → j < i → slice_get (row A.Store.BitStore O.BitOrder (A.words self.now)) j ≡ Some true) }
-        ensures none { IfNone result ((j : ℕ) → from ≤ j → j < A.Store.BITS * A.count → slice_get (row A.Store.BitStore O.BitOrder (A.words self.now)) j ≡ Some true) }
+        ensures found { IfSome result
+            (λ i. slice_get (row A.Store.BitStore O.BitOrder (A.words self.now)) i ≡ Some false) }
+        ensures before { IfSome result (λ i. (j : ℕ) → from ≤ j → j < i
+            → slice_get (row A.Store.BitStore O.BitOrder (A.words self.now)) j ≡ Some true) }
+        ensures none { IfNone result ((j : ℕ) → from ≤ j → j < A.Store.BITS * A.count
+            → slice_get (row A.Store.BitStore O.BitOrder (A.words self.now)) j ≡ Some true) }
     {
         self.as_bitslice().next_zero(from)
     }
@@ -121,8 +139,10 @@ impl<A: BitWords, O: BitOrder> BitArray<A, O> {
     pub fn leading_ones(&self) -> usize
         ensures value { result ≡ prefix_len (λ b. b) (row A.Store.BitStore O.BitOrder (A.words self.now)) }
         ensures most { result ≤ A.Store.BITS * A.count }
-        ensures each { (j : ℕ) → j < result → slice_get (row A.Store.BitStore O.BitOrder (A.words self.now)) j ≡ Some true }
-        ensures next { result < A.Store.BITS * A.count → slice_get (row A.Store.BitStore O.BitOrder (A.words self.now)) result ≡ Some false }
+        ensures each { (j : ℕ) → j < result
+            → slice_get (row A.Store.BitStore O.BitOrder (A.words self.now)) j ≡ Some true }
+        ensures next { result < A.Store.BITS * A.count
+            → slice_get (row A.Store.BitStore O.BitOrder (A.words self.now)) result ≡ Some false }
     {
         self.as_bitslice().leading_ones()
     }
@@ -135,8 +155,10 @@ impl<A: BitWords, O: BitOrder> BitArray<A, O> {
     pub fn leading_zeros(&self) -> usize
         ensures value { result ≡ prefix_len not (row A.Store.BitStore O.BitOrder (A.words self.now)) }
         ensures most { result ≤ A.Store.BITS * A.count }
-        ensures each { (j : ℕ) → j < result → slice_get (row A.Store.BitStore O.BitOrder (A.words self.now)) j ≡ Some false }
-        ensures next { result < A.Store.BITS * A.count → slice_get (row A.Store.BitStore O.BitOrder (A.words self.now)) result ≡ Some true }
+        ensures each { (j : ℕ) → j < result
+            → slice_get (row A.Store.BitStore O.BitOrder (A.words self.now)) j ≡ Some false }
+        ensures next { result < A.Store.BITS * A.count
+            → slice_get (row A.Store.BitStore O.BitOrder (A.words self.now)) result ≡ Some true }
     {
         self.as_bitslice().leading_zeros()
     }
@@ -149,8 +171,12 @@ impl<A: BitWords, O: BitOrder> BitArray<A, O> {
     pub fn trailing_ones(&self) -> usize
         ensures value { result ≡ suffix_len (λ b. b) (row A.Store.BitStore O.BitOrder (A.words self.now)) }
         ensures most { result ≤ A.Store.BITS * A.count }
-        ensures each { (j : ℕ) → j < result → slice_get (row A.Store.BitStore O.BitOrder (A.words self.now)) (A.Store.BITS * A.count - 1 - j) ≡ Some true }
-        ensures next { result < A.Store.BITS * A.count → slice_get (row A.Store.BitStore O.BitOrder (A.words self.now)) (A.Store.BITS * A.count - 1 - result) ≡ Some false }
+        ensures each { (j : ℕ) → j < result
+            → slice_get (row A.Store.BitStore O.BitOrder (A.words self.now))
+            (A.Store.BITS * A.count - 1 - j) ≡ Some true }
+        ensures next { result < A.Store.BITS * A.count
+            → slice_get (row A.Store.BitStore O.BitOrder (A.words self.now))
+            (A.Store.BITS * A.count - 1 - result) ≡ Some false }
     {
         self.as_bitslice().trailing_ones()
     }
@@ -163,8 +189,12 @@ impl<A: BitWords, O: BitOrder> BitArray<A, O> {
     pub fn trailing_zeros(&self) -> usize
         ensures value { result ≡ suffix_len not (row A.Store.BitStore O.BitOrder (A.words self.now)) }
         ensures most { result ≤ A.Store.BITS * A.count }
-        ensures each { (j : ℕ) → j < result → slice_get (row A.Store.BitStore O.BitOrder (A.words self.now)) (A.Store.BITS * A.count - 1 - j) ≡ Some false }
-        ensures next { result < A.Store.BITS * A.count → slice_get (row A.Store.BitStore O.BitOrder (A.words self.now)) (A.Store.BITS * A.count - 1 - result) ≡ Some true }
+        ensures each { (j : ℕ) → j < result
+            → slice_get (row A.Store.BitStore O.BitOrder (A.words self.now))
+            (A.Store.BITS * A.count - 1 - j) ≡ Some false }
+        ensures next { result < A.Store.BITS * A.count
+            → slice_get (row A.Store.BitStore O.BitOrder (A.words self.now))
+            (A.Store.BITS * A.count - 1 - result) ≡ Some true }
     {
         self.as_bitslice().trailing_zeros()
     }
@@ -176,7 +206,9 @@ impl<A: BitWords, O: BitOrder> BitArray<A, O> {
     /// ```
     pub fn not_any(&self) -> bool
         ensures value { result ≡ not (list_any (λ b. b) (row A.Store.BitStore O.BitOrder (A.words self.now))) }
-        ensures index { IsTrue result ↔ EachIndex (row A.Store.BitStore O.BitOrder (A.words self.now)) (λ i. slice_get (row A.Store.BitStore O.BitOrder (A.words self.now)) i ≡ Some false) }
+        ensures index { IsTrue result
+            ↔ EachIndex (row A.Store.BitStore O.BitOrder (A.words self.now))
+            (λ i. slice_get (row A.Store.BitStore O.BitOrder (A.words self.now)) i ≡ Some false) }
     {
         self.as_bitslice().not_any()
     }
@@ -188,7 +220,9 @@ impl<A: BitWords, O: BitOrder> BitArray<A, O> {
     /// ```
     pub fn not_all(&self) -> bool
         ensures value { result ≡ not (list_all (λ b. b) (row A.Store.BitStore O.BitOrder (A.words self.now))) }
-        ensures index { IsTrue result ↔ SomeIndex (row A.Store.BitStore O.BitOrder (A.words self.now)) (λ i. slice_get (row A.Store.BitStore O.BitOrder (A.words self.now)) i ≡ Some false) }
+        ensures index { IsTrue result
+            ↔ SomeIndex (row A.Store.BitStore O.BitOrder (A.words self.now))
+            (λ i. slice_get (row A.Store.BitStore O.BitOrder (A.words self.now)) i ≡ Some false) }
     {
         self.as_bitslice().not_all()
     }
@@ -199,9 +233,15 @@ impl<A: BitWords, O: BitOrder> BitArray<A, O> {
     /// of 01101001: bits.some() == true
     /// ```
     pub fn some(&self) -> bool
-        ensures value { result ≡ (list_any (λ b. b) (row A.Store.BitStore O.BitOrder (A.words self.now)) && not (list_all (λ b. b) (row A.Store.BitStore O.BitOrder (A.words self.now)))) }
-        ensures one { IsTrue result → SomeIndex (row A.Store.BitStore O.BitOrder (A.words self.now)) (λ i. slice_get (row A.Store.BitStore O.BitOrder (A.words self.now)) i ≡ Some true) }
-        ensures zero { IsTrue result → SomeIndex (row A.Store.BitStore O.BitOrder (A.words self.now)) (λ i. slice_get (row A.Store.BitStore O.BitOrder (A.words self.now)) i ≡ Some false) }
+        ensures value { result
+            ≡ (list_any (λ b. b) (row A.Store.BitStore O.BitOrder (A.words self.now))
+            && not (list_all (λ b. b) (row A.Store.BitStore O.BitOrder (A.words self.now)))) }
+        ensures one { IsTrue result
+            → SomeIndex (row A.Store.BitStore O.BitOrder (A.words self.now))
+            (λ i. slice_get (row A.Store.BitStore O.BitOrder (A.words self.now)) i ≡ Some true) }
+        ensures zero { IsTrue result
+            → SomeIndex (row A.Store.BitStore O.BitOrder (A.words self.now))
+            (λ i. slice_get (row A.Store.BitStore O.BitOrder (A.words self.now)) i ≡ Some false) }
     {
         self.as_bitslice().some()
     }
@@ -213,12 +253,19 @@ impl<A: BitWords, O: BitOrder> BitArray<A, O> {
     /// ```
     pub fn iter_ones(&self) -> IterOnes<'_, A::Store, O>
         ensures list { ones_left result ≡ ones_of (row A.Store.BitStore O.BitOrder (A.words self.now)) }
-        ensures count { length (ones_left result) ≡ count_by (λ b. b) (row A.Store.BitStore O.BitOrder (A.words self.now)) }
+        ensures count { length (ones_left result)
+            ≡ count_by (λ b. b) (row A.Store.BitStore O.BitOrder (A.words self.now)) }
         ensures few { length (ones_left result) ≤ MAX_BITS }
-        ensures set { All (λ i. slice_get (row A.Store.BitStore O.BitOrder (A.words self.now)) i ≡ Some true) (ones_left result) }
+        ensures set { All
+            (λ i. slice_get (row A.Store.BitStore O.BitOrder (A.words self.now)) i ≡ Some true)
+            (ones_left result) }
         ensures inside { All (λ i. i < A.Store.BITS * A.count) (ones_left result) }
-        ensures runs { YieldsInOrder (YieldsFirst (ones_left {X = A.Store} {Y = O} {W = A.Store.BitStore} {P = O.BitOrder})) ones_left }
-        ensures runs_back { YieldsInReverse (YieldsLast (ones_left {X = A.Store} {Y = O} {W = A.Store.BitStore} {P = O.BitOrder})) ones_left }
+        ensures runs { YieldsInOrder
+            (YieldsFirst (ones_left {X = A.Store} {Y = O} {W = A.Store.BitStore} {P = O.BitOrder}))
+            ones_left }
+        ensures runs_back { YieldsInReverse
+            (YieldsLast (ones_left {X = A.Store} {Y = O} {W = A.Store.BitStore} {P = O.BitOrder}))
+            ones_left }
     {
         self.as_bitslice().iter_ones()
     }
@@ -230,12 +277,19 @@ impl<A: BitWords, O: BitOrder> BitArray<A, O> {
     /// ```
     pub fn iter_zeros(&self) -> IterZeros<'_, A::Store, O>
         ensures list { zeros_left result ≡ zeros_of (row A.Store.BitStore O.BitOrder (A.words self.now)) }
-        ensures count { length (zeros_left result) ≡ count_by not (row A.Store.BitStore O.BitOrder (A.words self.now)) }
+        ensures count { length (zeros_left result)
+            ≡ count_by not (row A.Store.BitStore O.BitOrder (A.words self.now)) }
         ensures few { length (zeros_left result) ≤ MAX_BITS }
-        ensures set { All (λ i. slice_get (row A.Store.BitStore O.BitOrder (A.words self.now)) i ≡ Some false) (zeros_left result) }
+        ensures set { All
+            (λ i. slice_get (row A.Store.BitStore O.BitOrder (A.words self.now)) i ≡ Some false)
+            (zeros_left result) }
         ensures inside { All (λ i. i < A.Store.BITS * A.count) (zeros_left result) }
-        ensures runs { YieldsInOrder (YieldsFirst (zeros_left {X = A.Store} {Y = O} {W = A.Store.BitStore} {P = O.BitOrder})) zeros_left }
-        ensures runs_back { YieldsInReverse (YieldsLast (zeros_left {X = A.Store} {Y = O} {W = A.Store.BitStore} {P = O.BitOrder})) zeros_left }
+        ensures runs { YieldsInOrder
+            (YieldsFirst (zeros_left {X = A.Store} {Y = O} {W = A.Store.BitStore} {P = O.BitOrder}))
+            zeros_left }
+        ensures runs_back { YieldsInReverse
+            (YieldsLast (zeros_left {X = A.Store} {Y = O} {W = A.Store.BitStore} {P = O.BitOrder}))
+            zeros_left }
     {
         self.as_bitslice().iter_zeros()
     }
@@ -249,9 +303,14 @@ impl<A: BitWords, O: BitOrder> BitArray<A, O> {
     pub fn find<U: BitStore, P: BitOrder>(&self, other: BitSlice<'_, U, P>) -> Option<usize>
         ensures inside { IfSome result (λ i. i + len_of other.entry ≤ A.Store.BITS * A.count) }
         ensures few { IfSome result (λ i. i + len_of other.entry ≤ MAX_BITS) }
-        ensures found { IfSome result (λ i. part (len_of other.entry) (row A.Store.BitStore O.BitOrder (A.words self.now)) i ≡ list_of other.entry) }
-        ensures before { IfSome result (λ i. (j : ℕ) → j < i → part (len_of other.entry) (row A.Store.BitStore O.BitOrder (A.words self.now)) j ≢ list_of other.entry) }
-        ensures none { IfNone result ((j : ℕ) → j + len_of other.entry ≤ A.Store.BITS * A.count → part (len_of other.entry) (row A.Store.BitStore O.BitOrder (A.words self.now)) j ≢ list_of other.entry) }
+        ensures found { IfSome result (λ i. part (len_of other.entry)
+            (row A.Store.BitStore O.BitOrder (A.words self.now)) i ≡ list_of other.entry) }
+        ensures before { IfSome result (λ i. (j : ℕ) → j < i
+            → part (len_of other.entry) (row A.Store.BitStore O.BitOrder (A.words self.now)) j
+            ≢ list_of other.entry) }
+        ensures none { IfNone result ((j : ℕ) → j + len_of other.entry ≤ A.Store.BITS * A.count
+            → part (len_of other.entry) (row A.Store.BitStore O.BitOrder (A.words self.now)) j
+            ≢ list_of other.entry) }
     {
         self.as_bitslice().find(other)
     }
@@ -262,8 +321,13 @@ impl<A: BitWords, O: BitOrder> BitArray<A, O> {
     /// of 01101001 and 001: bits.contains(other) == true
     /// ```
     pub fn contains<U: BitStore, P: BitOrder>(&self, other: BitSlice<'_, U, P>) -> bool
-        ensures found { IsTrue result → ((i : ℕ) × (part (len_of other.entry) (row A.Store.BitStore O.BitOrder (A.words self.now)) i ≡ list_of other.entry)) }
-        ensures none { (j : ℕ) → j + len_of other.entry ≤ A.Store.BITS * A.count → part (len_of other.entry) (row A.Store.BitStore O.BitOrder (A.words self.now)) j ≡ list_of other.entry → IsTrue result }
+        ensures found { IsTrue result
+            → ((i : ℕ)
+            × (part (len_of other.entry) (row A.Store.BitStore O.BitOrder (A.words self.now)) i
+            ≡ list_of other.entry)) }
+        ensures none { (j : ℕ) → j + len_of other.entry ≤ A.Store.BITS * A.count
+            → part (len_of other.entry) (row A.Store.BitStore O.BitOrder (A.words self.now)) j
+            ≡ list_of other.entry → IsTrue result }
     {
         self.as_bitslice().contains(other)
     }

@@ -18,9 +18,15 @@ impl<A: BitWords, O: BitOrder> BitArray<A, O> {
     /// of 01101001 and 01101111: bits.is_subset(other) == true
     /// ```
     pub fn is_subset<U: BitStore, P: BitOrder>(&self, other: BitSlice<'_, U, P>) -> bool
-        ensures value { result ≡ not (list_any (λ b. b) (and_not_of (row A.Store.BitStore O.BitOrder (A.words self.now)) (list_of other.entry))) }
-        ensures index { IsTrue result ↔ ((j : ℕ) → slice_get (row A.Store.BitStore O.BitOrder (A.words self.now)) j ≡ Some true → slice_get (list_of other.entry) j ≡ Some true) }
-        ensures and { IsTrue result ↔ (and_of (row A.Store.BitStore O.BitOrder (A.words self.now)) (list_of other.entry) ≡ row A.Store.BitStore O.BitOrder (A.words self.now)) }
+        ensures value { result
+            ≡ not (list_any (λ b. b)
+            (and_not_of (row A.Store.BitStore O.BitOrder (A.words self.now)) (list_of other.entry))) }
+        ensures index { IsTrue result
+            ↔ ((j : ℕ) → slice_get (row A.Store.BitStore O.BitOrder (A.words self.now)) j ≡ Some true
+            → slice_get (list_of other.entry) j ≡ Some true) }
+        ensures and { IsTrue result
+            ↔ (and_of (row A.Store.BitStore O.BitOrder (A.words self.now)) (list_of other.entry)
+            ≡ row A.Store.BitStore O.BitOrder (A.words self.now)) }
     {
         self.as_bitslice().is_subset(other)
     }
@@ -31,9 +37,15 @@ impl<A: BitWords, O: BitOrder> BitArray<A, O> {
     /// of 01101001 and 01000001: bits.is_superset(other) == true
     /// ```
     pub fn is_superset<U: BitStore, P: BitOrder>(&self, other: BitSlice<'_, U, P>) -> bool
-        ensures value { result ≡ not (list_any (λ b. b) (and_not_of (list_of other.entry) (row A.Store.BitStore O.BitOrder (A.words self.now)))) }
-        ensures index { IsTrue result ↔ ((j : ℕ) → slice_get (list_of other.entry) j ≡ Some true → slice_get (row A.Store.BitStore O.BitOrder (A.words self.now)) j ≡ Some true) }
-        ensures and { IsTrue result ↔ (and_of (list_of other.entry) (row A.Store.BitStore O.BitOrder (A.words self.now)) ≡ list_of other.entry) }
+        ensures value { result
+            ≡ not (list_any (λ b. b)
+            (and_not_of (list_of other.entry) (row A.Store.BitStore O.BitOrder (A.words self.now)))) }
+        ensures index { IsTrue result
+            ↔ ((j : ℕ) → slice_get (list_of other.entry) j ≡ Some true
+            → slice_get (row A.Store.BitStore O.BitOrder (A.words self.now)) j ≡ Some true) }
+        ensures and { IsTrue result
+            ↔ (and_of (list_of other.entry) (row A.Store.BitStore O.BitOrder (A.words self.now))
+            ≡ list_of other.entry) }
     {
         self.as_bitslice().is_superset(other)
     }
@@ -44,8 +56,12 @@ impl<A: BitWords, O: BitOrder> BitArray<A, O> {
     /// of 01101001 and 10010110: bits.is_disjoint(other) == true
     /// ```
     pub fn is_disjoint<U: BitStore, P: BitOrder>(&self, other: BitSlice<'_, U, P>) -> bool
-        ensures value { result ≡ not (list_any (λ b. b) (and_of (row A.Store.BitStore O.BitOrder (A.words self.now)) (list_of other.entry))) }
-        ensures index { IsTrue result ↔ ((j : ℕ) → slice_get (row A.Store.BitStore O.BitOrder (A.words self.now)) j ≡ Some true → slice_get (list_of other.entry) j ≢ Some true) }
+        ensures value { result
+            ≡ not (list_any (λ b. b)
+            (and_of (row A.Store.BitStore O.BitOrder (A.words self.now)) (list_of other.entry))) }
+        ensures index { IsTrue result
+            ↔ ((j : ℕ) → slice_get (row A.Store.BitStore O.BitOrder (A.words self.now)) j ≡ Some true
+            → slice_get (list_of other.entry) j ≢ Some true) }
     {
         self.as_bitslice().is_disjoint(other)
     }
@@ -56,8 +72,13 @@ impl<A: BitWords, O: BitOrder> BitArray<A, O> {
     /// of 01101001 and 11110000: bits.intersects(other) == true
     /// ```
     pub fn intersects<U: BitStore, P: BitOrder>(&self, other: BitSlice<'_, U, P>) -> bool
-        ensures value { result ≡ list_any (λ b. b) (and_of (row A.Store.BitStore O.BitOrder (A.words self.now)) (list_of other.entry)) }
-        ensures index { IsTrue result ↔ SomeIndex (row A.Store.BitStore O.BitOrder (A.words self.now)) (λ j. (slice_get (row A.Store.BitStore O.BitOrder (A.words self.now)) j ≡ Some true) × (slice_get (list_of other.entry) j ≡ Some true)) }
+        ensures value { result
+            ≡ list_any (λ b. b)
+            (and_of (row A.Store.BitStore O.BitOrder (A.words self.now)) (list_of other.entry)) }
+        ensures index { IsTrue result
+            ↔ SomeIndex (row A.Store.BitStore O.BitOrder (A.words self.now))
+            (λ j. (slice_get (row A.Store.BitStore O.BitOrder (A.words self.now)) j ≡ Some true)
+            × (slice_get (list_of other.entry) j ≡ Some true)) }
     {
         self.as_bitslice().intersects(other)
     }
@@ -68,7 +89,9 @@ impl<A: BitWords, O: BitOrder> BitArray<A, O> {
     /// of 01101001 and 11110000: bits.count_and(other) == 2
     /// ```
     pub fn count_and<U: BitStore, P: BitOrder>(&self, other: BitSlice<'_, U, P>) -> usize
-        ensures value { result ≡ count_by (λ b. b) (and_of (row A.Store.BitStore O.BitOrder (A.words self.now)) (list_of other.entry)) }
+        ensures value { result
+            ≡ count_by (λ b. b)
+            (and_of (row A.Store.BitStore O.BitOrder (A.words self.now)) (list_of other.entry)) }
         ensures few { result ≤ A.Store.BITS * A.count }
     {
         self.as_bitslice().count_and(other)
@@ -81,8 +104,15 @@ impl<A: BitWords, O: BitOrder> BitArray<A, O> {
     /// of 01101001 and 11110000: bits.count_or(other) == 6
     /// ```
     pub fn count_or<U: BitStore, P: BitOrder>(&self, other: BitSlice<'_, U, P>) -> usize
-        ensures value { result ≡ count_by (λ b. b) (or_of (row A.Store.BitStore O.BitOrder (A.words self.now)) (list_of other.entry)) + count_by (λ b. b) (drop (A.Store.BITS * A.count) (list_of other.entry)) }
-        ensures with_and { result + count_by (λ b. b) (and_of (row A.Store.BitStore O.BitOrder (A.words self.now)) (list_of other.entry)) ≡ count_by (λ b. b) (row A.Store.BitStore O.BitOrder (A.words self.now)) + count_by (λ b. b) (list_of other.entry) }
+        ensures value { result
+            ≡ count_by (λ b. b)
+            (or_of (row A.Store.BitStore O.BitOrder (A.words self.now)) (list_of other.entry))
+            + count_by (λ b. b) (drop (A.Store.BITS * A.count) (list_of other.entry)) }
+        ensures with_and { result
+            + count_by (λ b. b)
+            (and_of (row A.Store.BitStore O.BitOrder (A.words self.now)) (list_of other.entry))
+            ≡ count_by (λ b. b) (row A.Store.BitStore O.BitOrder (A.words self.now))
+            + count_by (λ b. b) (list_of other.entry) }
     {
         self.as_bitslice().count_or(other)
     }
@@ -94,8 +124,16 @@ impl<A: BitWords, O: BitOrder> BitArray<A, O> {
     /// of 01101001 and 11110000: bits.count_xor(other) == 4
     /// ```
     pub fn count_xor<U: BitStore, P: BitOrder>(&self, other: BitSlice<'_, U, P>) -> usize
-        ensures value { result ≡ count_by (λ b. b) (xor_of (row A.Store.BitStore O.BitOrder (A.words self.now)) (list_of other.entry)) + count_by (λ b. b) (drop (A.Store.BITS * A.count) (list_of other.entry)) }
-        ensures with_and { result + 2 * count_by (λ b. b) (and_of (row A.Store.BitStore O.BitOrder (A.words self.now)) (list_of other.entry)) ≡ count_by (λ b. b) (row A.Store.BitStore O.BitOrder (A.words self.now)) + count_by (λ b. b) (list_of other.entry) }
+        ensures value { result
+            ≡ count_by (λ b. b)
+            (xor_of (row A.Store.BitStore O.BitOrder (A.words self.now)) (list_of other.entry))
+            + count_by (λ b. b) (drop (A.Store.BITS * A.count) (list_of other.entry)) }
+        ensures with_and { result
+            + 2
+            * count_by (λ b. b)
+            (and_of (row A.Store.BitStore O.BitOrder (A.words self.now)) (list_of other.entry))
+            ≡ count_by (λ b. b) (row A.Store.BitStore O.BitOrder (A.words self.now))
+            + count_by (λ b. b) (list_of other.entry) }
     {
         self.as_bitslice().count_xor(other)
     }

@@ -71,10 +71,14 @@ impl<A: BitWords, O: BitOrder> BitArray<A, O> {
     /// ```
     pub fn get_range<R: RangeExt>(&self, range: R) -> BitSlice<'_, A::Store, O>
         requires lies { LiesIn (R.start_of range) (R.end_of range (A.Store.BITS * A.count)) (A.Store.BITS * A.count) }
-        ensures list { list_of result ≡ slice_range (row A.Store.BitStore O.BitOrder (A.words self.now)) (R.start_of range) (R.end_of range (A.Store.BITS * A.count)) }
+        ensures list { list_of result
+            ≡ slice_range (row A.Store.BitStore O.BitOrder (A.words self.now)) (R.start_of range)
+            (R.end_of range (A.Store.BITS * A.count)) }
         ensures head { head_of result ≡ R.start_of range % A.Store.BITS }
         ensures len { len_of result ≡ R.end_of range (A.Store.BITS * A.count) - R.start_of range }
-        ensures words { let first = R.start_of range / A.Store.BITS in words_of result ≡ slice_range (A.words self.now) first (first + words_for A.Store.BITS (head_of result + len_of result)) }
+        ensures words { let first = R.start_of range / A.Store.BITS in words_of result
+            ≡ slice_range (A.words self.now) first
+            (first + words_for A.Store.BITS (head_of result + len_of result)) }
     {
         self.as_bitslice().get_range(range)
     }
@@ -96,7 +100,8 @@ impl<A: BitWords, O: BitOrder> BitArray<A, O> {
     /// of 01101001: bits.last() == Some(true)
     /// ```
     pub fn last(&self) -> Option<bool>
-        ensures { result ≡ slice_get (row A.Store.BitStore O.BitOrder (A.words self.now)) (A.Store.BITS * A.count - 1) }
+        ensures { result
+            ≡ slice_get (row A.Store.BitStore O.BitOrder (A.words self.now)) (A.Store.BITS * A.count - 1) }
     {
         self.as_bitslice().last()
     }
@@ -120,7 +125,9 @@ impl<A: BitWords, O: BitOrder> BitArray<A, O> {
     /// ```
     pub fn count_zeros(&self) -> usize
         ensures value { result ≡ count_by not (row A.Store.BitStore O.BitOrder (A.words self.now)) }
-        ensures with_ones { result + count_by (λ bit. bit) (row A.Store.BitStore O.BitOrder (A.words self.now)) ≡ length (row A.Store.BitStore O.BitOrder (A.words self.now)) }
+        ensures with_ones { result
+            + count_by (λ bit. bit) (row A.Store.BitStore O.BitOrder (A.words self.now))
+            ≡ length (row A.Store.BitStore O.BitOrder (A.words self.now)) }
         ensures few { result ≤ A.Store.BITS * A.count }
     {
         self.as_bitslice().count_zeros()
@@ -133,7 +140,9 @@ impl<A: BitWords, O: BitOrder> BitArray<A, O> {
     /// ```
     pub fn any(&self) -> bool
         ensures value { result ≡ list_any (λ bit. bit) (row A.Store.BitStore O.BitOrder (A.words self.now)) }
-        ensures index { IsTrue result ↔ SomeIndex (row A.Store.BitStore O.BitOrder (A.words self.now)) (λ i. slice_get (row A.Store.BitStore O.BitOrder (A.words self.now)) i ≡ Some true) }
+        ensures index { IsTrue result
+            ↔ SomeIndex (row A.Store.BitStore O.BitOrder (A.words self.now))
+            (λ i. slice_get (row A.Store.BitStore O.BitOrder (A.words self.now)) i ≡ Some true) }
     {
         self.as_bitslice().any()
     }
@@ -145,7 +154,9 @@ impl<A: BitWords, O: BitOrder> BitArray<A, O> {
     /// ```
     pub fn all(&self) -> bool
         ensures value { result ≡ list_all (λ bit. bit) (row A.Store.BitStore O.BitOrder (A.words self.now)) }
-        ensures index { IsTrue result ↔ EachIndex (row A.Store.BitStore O.BitOrder (A.words self.now)) (λ i. slice_get (row A.Store.BitStore O.BitOrder (A.words self.now)) i ≡ Some true) }
+        ensures index { IsTrue result
+            ↔ EachIndex (row A.Store.BitStore O.BitOrder (A.words self.now))
+            (λ i. slice_get (row A.Store.BitStore O.BitOrder (A.words self.now)) i ≡ Some true) }
     {
         self.as_bitslice().all()
     }
@@ -160,7 +171,8 @@ impl<A: BitViewSized, O: BitOrder> BitArray<A, O> {
     #[tactic(auto, using(bit_slice::proofs::Parts::row_size))]
     pub fn set(&mut self, i: usize, bit: bool)
         requires { i < A.Store.BITS * A.count }
-        ensures list { row A.Store.BitStore O.BitOrder (A.words self.new) ≡ set (row A.Store.BitStore O.BitOrder (A.words self.old)) i bit }
+        ensures list { row A.Store.BitStore O.BitOrder (A.words self.new)
+            ≡ set (row A.Store.BitStore O.BitOrder (A.words self.old)) i bit }
         ensures len { length (row A.Store.BitStore O.BitOrder (A.words self.new)) ≡ A.Store.BITS * A.count }
     {
         write_bit::<A::Store, O>(self.inner.as_raw_mut_slice(), i, bit);
@@ -174,7 +186,8 @@ impl<A: BitViewSized, O: BitOrder> BitArray<A, O> {
     pub fn replace(&mut self, i: usize, bit: bool) -> bool
         requires { i < A.Store.BITS * A.count }
         ensures old { slice_get (row A.Store.BitStore O.BitOrder (A.words self.old)) i ≡ Some result }
-        ensures list { row A.Store.BitStore O.BitOrder (A.words self.new) ≡ set (row A.Store.BitStore O.BitOrder (A.words self.old)) i bit }
+        ensures list { row A.Store.BitStore O.BitOrder (A.words self.new)
+            ≡ set (row A.Store.BitStore O.BitOrder (A.words self.old)) i bit }
     {
         let old = self[i];
         self.set(i, bit);
@@ -189,7 +202,8 @@ impl<A: BitViewSized, O: BitOrder> BitArray<A, O> {
     pub fn swap(&mut self, i: usize, j: usize)
         requires first { i < A.Store.BITS * A.count }
         requires second { j < A.Store.BITS * A.count }
-        ensures { row A.Store.BitStore O.BitOrder (A.words self.new) ≡ swap (row A.Store.BitStore O.BitOrder (A.words self.old)) i j }
+        ensures { row A.Store.BitStore O.BitOrder (A.words self.new)
+            ≡ swap (row A.Store.BitStore O.BitOrder (A.words self.old)) i j }
     {
         swap_bits::<A::Store, O>(self.inner.as_raw_mut_slice(), i, j);
     }
@@ -215,14 +229,20 @@ impl<A: BitViewSized, O: BitOrder> BitArray<A, O> {
     pub fn copy_within<R: RangeExt>(&mut self, range: R, dest: usize)
         requires lies { LiesIn (R.start_of range) (R.end_of range (A.Store.BITS * A.count)) (A.Store.BITS * A.count) }
         requires room { dest + (R.end_of range (A.Store.BITS * A.count) - R.start_of range) ≤ A.Store.BITS * A.count }
-        ensures list { row A.Store.BitStore O.BitOrder (A.words self.new) ≡ moved (row A.Store.BitStore O.BitOrder (A.words self.old)) (R.start_of range) dest (R.end_of range (A.Store.BITS * A.count) - R.start_of range) }
-        ensures landed { let n = R.end_of range (A.Store.BITS * A.count) - R.start_of range in slice_range (row A.Store.BitStore O.BitOrder (A.words self.new)) dest (dest + n) ≡ slice_range (row A.Store.BitStore O.BitOrder (A.words self.old)) (R.start_of range) (R.start_of range + n) }
+        ensures list { row A.Store.BitStore O.BitOrder (A.words self.new)
+            ≡ moved (row A.Store.BitStore O.BitOrder (A.words self.old)) (R.start_of range) dest
+            (R.end_of range (A.Store.BITS * A.count) - R.start_of range) }
+        ensures landed { let n = R.end_of range (A.Store.BITS * A.count)
+            - R.start_of range in slice_range (row A.Store.BitStore O.BitOrder (A.words self.new)) dest
+            (dest + n)
+            ≡ slice_range (row A.Store.BitStore O.BitOrder (A.words self.old)) (R.start_of range)
+            (R.start_of range + n) }
     {
         let _meter = self.copy_within_counted(range, dest);
     }
 
-    /// Like `copy_within`, but returns the meter of the words that were read and written: at most one write for each word
-    /// that holds a bit of the target, and at most three reads for each.
+    /// Like `copy_within`, but returns the meter of the words that were read and written: at most one write for
+    /// each word that holds a bit of the target, and at most three reads for each.
     ///
     /// ```text
     /// let meter = a.copy_within_counted(0..9, 3);   // 12 bits in bytes: meter.writes ≤ 2, meter.reads ≤ 6
@@ -230,10 +250,18 @@ impl<A: BitViewSized, O: BitOrder> BitArray<A, O> {
     pub fn copy_within_counted<R: RangeExt>(&mut self, range: R, dest: usize) -> Meter
         requires lies { LiesIn (R.start_of range) (R.end_of range (A.Store.BITS * A.count)) (A.Store.BITS * A.count) }
         requires room { dest + (R.end_of range (A.Store.BITS * A.count) - R.start_of range) ≤ A.Store.BITS * A.count }
-        ensures list { row A.Store.BitStore O.BitOrder (A.words self.new) ≡ moved (row A.Store.BitStore O.BitOrder (A.words self.old)) (R.start_of range) dest (R.end_of range (A.Store.BITS * A.count) - R.start_of range) }
-        ensures landed { let n = R.end_of range (A.Store.BITS * A.count) - R.start_of range in slice_range (row A.Store.BitStore O.BitOrder (A.words self.new)) dest (dest + n) ≡ slice_range (row A.Store.BitStore O.BitOrder (A.words self.old)) (R.start_of range) (R.start_of range + n) }
-        ensures writes { result.writes ≤ touched A.Store.BITS dest (R.end_of range (A.Store.BITS * A.count) - R.start_of range) }
-        ensures reads { result.reads ≤ 3 * touched A.Store.BITS dest (R.end_of range (A.Store.BITS * A.count) - R.start_of range) }
+        ensures list { row A.Store.BitStore O.BitOrder (A.words self.new)
+            ≡ moved (row A.Store.BitStore O.BitOrder (A.words self.old)) (R.start_of range) dest
+            (R.end_of range (A.Store.BITS * A.count) - R.start_of range) }
+        ensures landed { let n = R.end_of range (A.Store.BITS * A.count)
+            - R.start_of range in slice_range (row A.Store.BitStore O.BitOrder (A.words self.new)) dest
+            (dest + n)
+            ≡ slice_range (row A.Store.BitStore O.BitOrder (A.words self.old)) (R.start_of range)
+            (R.start_of range + n) }
+        ensures writes { result.writes
+            ≤ touched A.Store.BITS dest (R.end_of range (A.Store.BITS * A.count) - R.start_of range) }
+        ensures reads { result.reads
+            ≤ 3 * touched A.Store.BITS dest (R.end_of range (A.Store.BITS * A.count) - R.start_of range) }
     {
         let range = range.normalize(self.len());
         let count = range.end - range.start;

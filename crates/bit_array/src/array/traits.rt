@@ -32,15 +32,21 @@ impl<A: BitWords, O: BitOrder> Clone for BitArray<A, O> {
 }
 
 impl<A: BitWords, O: BitOrder> PartialEq for BitArray<A, O> {
-    ghost eq = { λ a b. bits_equal (row A.Store.BitStore O.BitOrder (A.words a)) (row A.Store.BitStore O.BitOrder (A.words b)) };
+    ghost eq = { λ a b. bits_equal (row A.Store.BitStore O.BitOrder (A.words a))
+        (row A.Store.BitStore O.BitOrder (A.words b)) };
 
-    ghost laws = { on_per (λ a. row_of O.place A.Store.BITS (map A.Store.value (A.words a))) (partial_equiv_from_equiv bits_equiv) };
+    ghost laws = { on_per (λ a. row_of O.place A.Store.BITS (map A.Store.value (A.words a)))
+        (partial_equiv_from_equiv bits_equiv) };
 
     /// Whether both have the same bits.
     #[tactic(auto, using(bit_slice::specs::Comparisons::equal_lists, std::proofs::lemmas::Bool::Decides::same_from_decides))]
     fn eq(&self, other: &Self) -> bool
-        ensures value { result ≡ bits_equal (row A.Store.BitStore O.BitOrder (A.words self.now)) (row A.Store.BitStore O.BitOrder (A.words other.now)) }
-        ensures lists { IsTrue result ↔ ((row A.Store.BitStore O.BitOrder (A.words self.now)) ≡ (row A.Store.BitStore O.BitOrder (A.words other.now))) }
+        ensures value { result
+            ≡ bits_equal (row A.Store.BitStore O.BitOrder (A.words self.now))
+            (row A.Store.BitStore O.BitOrder (A.words other.now)) }
+        ensures lists { IsTrue result
+            ↔ ((row A.Store.BitStore O.BitOrder (A.words self.now))
+            ≡ (row A.Store.BitStore O.BitOrder (A.words other.now))) }
     {
         self.as_bitslice().eq_bits(other.as_bitslice())
     }
@@ -51,7 +57,8 @@ impl<A: BitWords, O: BitOrder> Eq for BitArray<A, O> {
 }
 
 impl<A: BitWords, O: BitOrder> PartialOrd for BitArray<A, O> {
-    ghost partial_cmp = { λ a b. Some (bits_cmp (row A.Store.BitStore O.BitOrder (A.words a)) (row A.Store.BitStore O.BitOrder (A.words b))) };
+    ghost partial_cmp = { λ a b. Some (bits_cmp (row A.Store.BitStore O.BitOrder (A.words a))
+        (row A.Store.BitStore O.BitOrder (A.words b))) };
 
     ghost laws = { on_po (λ a. row_of O.place A.Store.BITS (map A.Store.value (A.words a))) bits_partial };
 
@@ -62,13 +69,15 @@ impl<A: BitWords, O: BitOrder> PartialOrd for BitArray<A, O> {
 }
 
 impl<A: BitWords, O: BitOrder> Ord for BitArray<A, O> {
-    ghost cmp = { λ a b. bits_cmp (row A.Store.BitStore O.BitOrder (A.words a)) (row A.Store.BitStore O.BitOrder (A.words b)) };
+    ghost cmp = { λ a b. bits_cmp (row A.Store.BitStore O.BitOrder (A.words a))
+        (row A.Store.BitStore O.BitOrder (A.words b)) };
 
     ghost total = { on_total (λ a. row_of O.place A.Store.BITS (map A.Store.value (A.words a))) bits_total };
 
     ghost matches_partial_cmp = { λ a b. refl };
 
-    ghost matches_eq = { λ a b. bits_tie (row_of O.place A.Store.BITS (map A.Store.value (A.words a))) (row_of O.place A.Store.BITS (map A.Store.value (A.words b))) };
+    ghost matches_eq = { λ a b. bits_tie (row_of O.place A.Store.BITS (map A.Store.value (A.words a)))
+        (row_of O.place A.Store.BITS (map A.Store.value (A.words b))) };
 
     /// How the bits are ordered: the first that differ decide, false before true.
     fn cmp(&self, other: &Self) -> Ordering {
@@ -119,7 +128,8 @@ impl<A: BitWords, O: BitOrder> fmt::Binary for BitArray<A, O> {
     ghost use Rattle.bit_slice.specs.Texts.{digits_text};
 
     fn fmt<W: fmt::Write>(&self, f: &mut fmt::Formatter<W>) -> fmt::Result
-        ensures { WritesStyledOnOk W.write_str_gives f.old result (digits_text 1 false (row A.Store.BitStore O.BitOrder (A.words self.now))) f.new }
+        ensures { WritesStyledOnOk W.write_str_gives f.old result
+            (digits_text 1 false (row A.Store.BitStore O.BitOrder (A.words self.now))) f.new }
     {
         write_digits(self.as_bitslice(), 1, false, f)
     }
@@ -133,35 +143,38 @@ impl<A: BitWords, O: BitOrder> fmt::Octal for BitArray<A, O> {
     ghost use Rattle.bit_slice.specs.Texts.{digits_text};
 
     fn fmt<W: fmt::Write>(&self, f: &mut fmt::Formatter<W>) -> fmt::Result
-        ensures { WritesStyledOnOk W.write_str_gives f.old result (digits_text 3 false (row A.Store.BitStore O.BitOrder (A.words self.now))) f.new }
+        ensures { WritesStyledOnOk W.write_str_gives f.old result
+            (digits_text 3 false (row A.Store.BitStore O.BitOrder (A.words self.now))) f.new }
     {
         write_digits(self.as_bitslice(), 3, false, f)
     }
 }
 
-/// `[`, a digit for each group of four bits, the first the most significant, the digits above 9 in lower case, and `]`. Flags and widths
-/// have no effect.
+/// `[`, a digit for each group of four bits, the first the most significant, the digits above 9 in lower case,
+/// and `]`. Flags and widths have no effect.
 impl<A: BitWords, O: BitOrder> fmt::LowerHex for BitArray<A, O> {
     ghost use Rattle.std.specs.Prelude.{false};
     ghost use Rattle.std.specs.Fmt.{WritesStyledOnOk};
     ghost use Rattle.bit_slice.specs.Texts.{digits_text};
 
     fn fmt<W: fmt::Write>(&self, f: &mut fmt::Formatter<W>) -> fmt::Result
-        ensures { WritesStyledOnOk W.write_str_gives f.old result (digits_text 4 false (row A.Store.BitStore O.BitOrder (A.words self.now))) f.new }
+        ensures { WritesStyledOnOk W.write_str_gives f.old result
+            (digits_text 4 false (row A.Store.BitStore O.BitOrder (A.words self.now))) f.new }
     {
         write_digits(self.as_bitslice(), 4, false, f)
     }
 }
 
-/// `[`, a digit for each group of four bits, the first the most significant, the digits above 9 in upper case, and `]`. Flags and widths
-/// have no effect.
+/// `[`, a digit for each group of four bits, the first the most significant, the digits above 9 in upper case,
+/// and `]`. Flags and widths have no effect.
 impl<A: BitWords, O: BitOrder> fmt::UpperHex for BitArray<A, O> {
     ghost use Rattle.std.specs.Prelude.{true};
     ghost use Rattle.std.specs.Fmt.{WritesStyledOnOk};
     ghost use Rattle.bit_slice.specs.Texts.{digits_text};
 
     fn fmt<W: fmt::Write>(&self, f: &mut fmt::Formatter<W>) -> fmt::Result
-        ensures { WritesStyledOnOk W.write_str_gives f.old result (digits_text 4 true (row A.Store.BitStore O.BitOrder (A.words self.now))) f.new }
+        ensures { WritesStyledOnOk W.write_str_gives f.old result
+            (digits_text 4 true (row A.Store.BitStore O.BitOrder (A.words self.now))) f.new }
     {
         write_digits(self.as_bitslice(), 4, true, f)
     }
@@ -174,7 +187,10 @@ impl<'a, A: BitViewSized, O: BitOrder> TryFrom<BitSlice<'a, A::Store, O>> for Bi
 
     type Error = TryFromBitSliceError;
 
-    ghost try_from_gives = { λ v r. MatchResult r (λ a. (len_of v ≡ A.Store.BITS * A.count) × (head_of v ≡ 0) × (A.words a ≡ words_of v) × (row A.Store.BitStore O.BitOrder (A.words a) ≡ list_of v)) (Refuses (len_of v) (head_of v) (min (A.Store.BITS * A.count) (2 ^ 64 - 1))) };
+    ghost try_from_gives = { λ v r. MatchResult r (λ a. (len_of v ≡ A.Store.BITS * A.count)
+        × (head_of v ≡ 0) × (A.words a ≡ words_of v)
+        × (row A.Store.BitStore O.BitOrder (A.words a) ≡ list_of v))
+        (Refuses (len_of v) (head_of v) (min (A.Store.BITS * A.count) (2 ^ 64 - 1))) };
 
     /// The array of the view's bits. A length other than the array's is refused first, then a head other
     /// than 0. Takes no memory.

@@ -51,8 +51,11 @@ impl<A: BitWords, O: BitOrder> BitArray<A, O> {
     pub fn as_raw_slice(&self) -> &[A::Store]
         ensures words { result.now ≡ A.words self.now }
         ensures len { length result.now ≡ A.count }
-        ensures from_row { result.now ≡ words_from A.Store.BitStore O.BitOrder (row A.Store.BitStore O.BitOrder (A.words self.now)) }
-        ensures from_list { result.now ≡ words_for_list A.Store.BitStore O.BitOrder (row A.Store.BitStore O.BitOrder (A.words self.now)) }
+        ensures from_row { result.now
+            ≡ words_from A.Store.BitStore O.BitOrder (row A.Store.BitStore O.BitOrder (A.words self.now)) }
+        ensures from_list { result.now
+            ≡ words_for_list A.Store.BitStore O.BitOrder
+            (row A.Store.BitStore O.BitOrder (A.words self.now)) }
     {
         let words = self.inner.as_raw_slice();
         exact_words::<A::Store, O>(words);
@@ -67,7 +70,9 @@ impl<A: BitViewSized, O: BitOrder> BitArray<A, O> {
     /// of 01101001: bits.as_mut_bitslice().fill(true) leaves 11111111
     /// ```
     pub fn as_mut_bitslice(&mut self) -> BitSliceMut<'_, A::Store, O>
-        ensures* writes_back { sem 𝓛 (lends_view (the_row A.row O.row A.Store.row A.BitWords A.Store.BitStore O.BitOrder) A.Store.row self.entry (A.refilled self.old) (loan_of result)) }
+        ensures* writes_back { sem 𝓛 (lends_view
+            (the_row A.row O.row A.Store.row A.BitWords A.Store.BitStore O.BitOrder) A.Store.row self.entry
+            (A.refilled self.old) (loan_of result)) }
         ensures words { lent_words result ≡ A.words self.old }
         ensures head { lent_head result ≡ 0 }
         ensures len { lent_len result ≡ A.Store.BITS * A.count }
@@ -82,7 +87,9 @@ impl<A: BitViewSized, O: BitOrder> BitArray<A, O> {
     /// of 01101001: bits.as_mut_slice().fill(true) leaves 11111111
     /// ```
     pub fn as_mut_slice(&mut self) -> BitSliceMut<'_, A::Store, O>
-        ensures* writes_back { sem 𝓛 (lends_view (the_row A.row O.row A.Store.row A.BitWords A.Store.BitStore O.BitOrder) A.Store.row self.entry (A.refilled self.old) (loan_of result)) }
+        ensures* writes_back { sem 𝓛 (lends_view
+            (the_row A.row O.row A.Store.row A.BitWords A.Store.BitStore O.BitOrder) A.Store.row self.entry
+            (A.refilled self.old) (loan_of result)) }
         ensures words { lent_words result ≡ A.words self.old }
         ensures head { lent_head result ≡ 0 }
         ensures len { lent_len result ≡ A.Store.BITS * A.count }
@@ -91,11 +98,12 @@ impl<A: BitViewSized, O: BitOrder> BitArray<A, O> {
         self.as_mut_bitslice()
     }
 
-    /// The part of the array from index `from` up to index `upto`, for writing. Requires that `from..upto` is a range of the
-    /// length.
+    /// The part of the array from index `from` up to index `upto`, for writing. Requires that `from..upto` is a
+    /// range of the length.
     ///
-    /// The clauses say of the part its list, head and words. What is written through it is in the array afterwards, and the other bits
-    /// stay, which no clause says: a caller whose own proof needs it calls `fill_range`, `flip_range`, `copy_into` or `or_range`.
+    /// The clauses say of the part its list, head and words. What is written through it is in the array
+    /// afterwards, and the other bits stay, which no clause says: a caller whose own proof needs it calls
+    /// `fill_range`, `flip_range`, `copy_into` or `or_range`.
     ///
     /// ```text
     /// of 01101001: bits.part_mut(1, 4).fill(false) leaves 00001001
@@ -103,7 +111,9 @@ impl<A: BitViewSized, O: BitOrder> BitArray<A, O> {
     pub fn part_mut(&mut self, from: usize, upto: usize) -> BitSliceMut<'_, A::Store, O>
         requires ordered { from ≤ upto }
         requires inside { upto ≤ A.Store.BITS * A.count }
-        ensures words { lent_words result ≡ slice_range (A.words self.old) (from / A.Store.BITS) (from / A.Store.BITS + words_for A.Store.BITS (from % A.Store.BITS + (upto - from))) }
+        ensures words { lent_words result
+            ≡ slice_range (A.words self.old) (from / A.Store.BITS)
+            (from / A.Store.BITS + words_for A.Store.BITS (from % A.Store.BITS + (upto - from))) }
         ensures head { lent_head result ≡ from % A.Store.BITS }
         ensures len { lent_len result ≡ upto - from }
         ensures list { lent_list result ≡ slice_range (row A.Store.BitStore O.BitOrder (A.words self.old)) from upto }
@@ -117,7 +127,9 @@ impl<A: BitViewSized, O: BitOrder> BitArray<A, O> {
     /// of 01101001: bits.as_raw_mut_slice()[0] = 3 leaves 11000000
     /// ```
     pub fn as_raw_mut_slice(&mut self) -> &mut [A::Store]
-        ensures* writes_back { sem 𝓛 (lends_words (the_row A.row O.row A.Store.row A.BitWords A.Store.BitStore O.BitOrder) A.Store.row self.entry (A.refilled self.old) result) }
+        ensures* writes_back { sem 𝓛 (lends_words
+            (the_row A.row O.row A.Store.row A.BitWords A.Store.BitStore O.BitOrder) A.Store.row self.entry
+            (A.refilled self.old) result) }
         ensures words { result.now ≡ A.words self.old }
         ensures len { length result.now ≡ A.count }
     {

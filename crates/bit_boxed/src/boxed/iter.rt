@@ -30,8 +30,10 @@ impl<T: BitStore, O: BitOrder> BitBox<T, O> {
     pub fn iter(&self) -> Iter<'_, T, O>
         ensures list { rest_lent result ≡ self.now.list }
         ensures few { length (rest_lent result) ≤ MAX_BITS }
-        ensures runs { YieldsInOrder (YieldsFirst (rest_lent {X = T} {Y = O} {W = T.BitStore} {P = O.BitOrder})) rest_lent }
-        ensures runs_back { YieldsInReverse (YieldsLast (rest_lent {X = T} {Y = O} {W = T.BitStore} {P = O.BitOrder})) rest_lent }
+        ensures runs { YieldsInOrder
+            (YieldsFirst (rest_lent {X = T} {Y = O} {W = T.BitStore} {P = O.BitOrder})) rest_lent }
+        ensures runs_back { YieldsInReverse
+            (YieldsLast (rest_lent {X = T} {Y = O} {W = T.BitStore} {P = O.BitOrder})) rest_lent }
     {
         self.as_bitslice().iter()
     }
@@ -42,7 +44,11 @@ impl<'a, T: BitStore, O: BitOrder> IntoIterator for &'a BitBox<T, O> {
 
     type IntoIter = Iter<'a, T, O>;
 
-    ghost into_iter_gives = { λ b r. (rest_lent r ≡ b.now.list) × (length (rest_lent r) ≤ MAX_BITS) × YieldsInOrder (YieldsFirst (rest_lent {X = T} {Y = O} {W = T.BitStore} {P = O.BitOrder})) rest_lent × YieldsInReverse (YieldsLast (rest_lent {X = T} {Y = O} {W = T.BitStore} {P = O.BitOrder})) rest_lent };
+    ghost into_iter_gives = { λ b r. (rest_lent r ≡ b.now.list) × (length (rest_lent r) ≤ MAX_BITS)
+        × YieldsInOrder (YieldsFirst (rest_lent {X = T} {Y = O} {W = T.BitStore} {P = O.BitOrder}))
+        rest_lent
+        × YieldsInReverse (YieldsLast (rest_lent {X = T} {Y = O} {W = T.BitStore} {P = O.BitOrder}))
+        rest_lent };
 
     /// Like `iter`: the items are truth values.
     fn into_iter(self) -> Iter<'a, T, O> {
@@ -116,7 +122,8 @@ impl<T: BitStore, O: BitOrder> IntoIter<T, O> {
         ensures list { list_of result ≡ self.now.list }
         ensures len { len_of result ≡ length self.now.list }
         ensures head { head_of result ≡ self.now.head % T.BITS }
-        ensures words { let first = self.now.head / T.BITS in words_of result ≡ slice_range self.now.words first (first + words_for T.BITS (head_of result + len_of result)) }
+        ensures words { let first = self.now.head / T.BITS in words_of result
+            ≡ slice_range self.now.words first (first + words_for T.BITS (head_of result + len_of result)) }
     {
         self.inner.as_bitslice().get_range(self.from..self.upto)
     }
@@ -126,7 +133,8 @@ impl<T: BitStore, O: BitOrder> IntoIter<T, O> {
         ensures list { list_of result ≡ self.now.list }
         ensures len { len_of result ≡ length self.now.list }
         ensures head { head_of result ≡ self.now.head % T.BITS }
-        ensures words { let first = self.now.head / T.BITS in words_of result ≡ slice_range self.now.words first (first + words_for T.BITS (head_of result + len_of result)) }
+        ensures words { let first = self.now.head / T.BITS in words_of result
+            ≡ slice_range self.now.words first (first + words_for T.BITS (head_of result + len_of result)) }
     {
         self.as_bitslice()
     }
@@ -138,7 +146,9 @@ impl<T: BitStore, O: BitOrder> IntoIter<T, O> {
         ensures list { lent_list result ≡ self.old.list }
         ensures len { lent_len result ≡ length self.old.list }
         ensures head { lent_head result ≡ self.old.head % T.BITS }
-        ensures words { let first = self.old.head / T.BITS in lent_words result ≡ slice_range self.old.words first (first + words_for T.BITS (lent_head result + lent_len result)) }
+        ensures words { let first = self.old.head / T.BITS in lent_words result
+            ≡ slice_range self.old.words first
+            (first + words_for T.BITS (lent_head result + lent_len result)) }
     {
         let (from, upto) = (self.from, self.upto);
         self.inner.part_mut(from, upto)
@@ -150,7 +160,9 @@ impl<T: BitStore, O: BitOrder> IntoIter<T, O> {
         ensures list { lent_list result ≡ self.old.list }
         ensures len { lent_len result ≡ length self.old.list }
         ensures head { lent_head result ≡ self.old.head % T.BITS }
-        ensures words { let first = self.old.head / T.BITS in lent_words result ≡ slice_range self.old.words first (first + words_for T.BITS (lent_head result + lent_len result)) }
+        ensures words { let first = self.old.head / T.BITS in lent_words result
+            ≡ slice_range self.old.words first
+            (first + words_for T.BITS (lent_head result + lent_len result)) }
     {
         self.as_mut_bitslice()
     }
@@ -228,7 +240,8 @@ impl<T: BitStore, O: BitOrder> IntoIterator for BitBox<T, O> {
 
     type IntoIter = IntoIter<T, O>;
 
-    ghost into_iter_gives = { λ b r. (r.words ≡ b.words) × (r.head ≡ b.head) × (r.list ≡ b.list) × (length r.list ≤ MAX_BITS) × GivesInOrder (rest_of {X = T}) × GivesInReverse (rest_of {X = T}) };
+    ghost into_iter_gives = { λ b r. (r.words ≡ b.words) × (r.head ≡ b.head) × (r.list ≡ b.list)
+        × (length r.list ≤ MAX_BITS) × GivesInOrder (rest_of {X = T}) × GivesInReverse (rest_of {X = T}) };
 
     /// The bits in order, from both ends; the box is given up, and its words are kept.
     fn into_iter(self) -> IntoIter<T, O> {

@@ -20,7 +20,8 @@ impl<T: BitStore, O: BitOrder> BitBox<T, O> {
     #[tactic(auto, using(bit_slice::proofs::Parts::shown_length, bit_slice::proofs::Moved::reversed_at))]
     pub fn reverse(&mut self)
         ensures list { self.new.list ≡ reverse self.old.list }
-        ensures index { (j : ℕ) → j < length self.old.list → slice_get self.new.list j ≡ slice_get self.old.list (length self.old.list - 1 - j) }
+        ensures index { (j : ℕ) → j < length self.old.list
+            → slice_get self.new.list j ≡ slice_get self.old.list (length self.old.list - 1 - j) }
         ensures row { self.new.row ≡ put self.old.row self.old.head (reverse self.old.list) }
         ensures clean { IsClean T.BITS self.old → IsClean T.BITS self.new }
         ensures stayed { Stayed self.old self.new }
@@ -39,8 +40,10 @@ impl<T: BitStore, O: BitOrder> BitBox<T, O> {
     pub fn rotate_left(&mut self, by: usize)
         requires { by ≤ length self.old.list }
         ensures list { self.new.list ≡ drop by self.old.list ++ take by self.old.list }
-        ensures front { (j : ℕ) → j + by < length self.old.list → slice_get self.new.list j ≡ slice_get self.old.list (j + by) }
-        ensures back { (j : ℕ) → j < by → slice_get self.new.list (length self.old.list - by + j) ≡ slice_get self.old.list j }
+        ensures front { (j : ℕ) → j + by < length self.old.list
+            → slice_get self.new.list j ≡ slice_get self.old.list (j + by) }
+        ensures back { (j : ℕ) → j < by
+            → slice_get self.new.list (length self.old.list - by + j) ≡ slice_get self.old.list j }
         ensures row { self.new.row ≡ put self.old.row self.old.head (drop by self.old.list ++ take by self.old.list) }
         ensures clean { IsClean T.BITS self.old → IsClean T.BITS self.new }
         ensures stayed { Stayed self.old self.new }
@@ -58,10 +61,16 @@ impl<T: BitStore, O: BitOrder> BitBox<T, O> {
     #[tactic(auto, using(bit_slice::proofs::Parts::shown_length, bit_slice::proofs::Moved::rotated_right_front, bit_slice::proofs::Moved::rotated_right_back))]
     pub fn rotate_right(&mut self, by: usize)
         requires { by ≤ length self.old.list }
-        ensures list { self.new.list ≡ drop (length self.old.list - by) self.old.list ++ take (length self.old.list - by) self.old.list }
-        ensures front { (j : ℕ) → j < by → slice_get self.new.list j ≡ slice_get self.old.list (length self.old.list - by + j) }
-        ensures back { (j : ℕ) → j + by < length self.old.list → slice_get self.new.list (j + by) ≡ slice_get self.old.list j }
-        ensures row { self.new.row ≡ put self.old.row self.old.head (drop (length self.old.list - by) self.old.list ++ take (length self.old.list - by) self.old.list) }
+        ensures list { self.new.list
+            ≡ drop (length self.old.list - by) self.old.list
+            ++ take (length self.old.list - by) self.old.list }
+        ensures front { (j : ℕ) → j < by
+            → slice_get self.new.list j ≡ slice_get self.old.list (length self.old.list - by + j) }
+        ensures back { (j : ℕ) → j + by < length self.old.list
+            → slice_get self.new.list (j + by) ≡ slice_get self.old.list j }
+        ensures row { self.new.row
+            ≡ put self.old.row self.old.head (drop (length self.old.list - by) self.old.list
+            ++ take (length self.old.list - by) self.old.list) }
         ensures clean { IsClean T.BITS self.old → IsClean T.BITS self.new }
         ensures stayed { Stayed self.old self.new }
     {
@@ -79,8 +88,10 @@ impl<T: BitStore, O: BitOrder> BitBox<T, O> {
     pub fn shift_left(&mut self, by: usize)
         requires { by ≤ length self.old.list }
         ensures list { self.new.list ≡ drop by self.old.list ++ replicate by false }
-        ensures kept { (j : ℕ) → j + by < length self.old.list → slice_get self.new.list j ≡ slice_get self.old.list (j + by) }
-        ensures cleared { (j : ℕ) → length self.old.list ≤ j + by → j < length self.old.list → slice_get self.new.list j ≡ Some false }
+        ensures kept { (j : ℕ) → j + by < length self.old.list
+            → slice_get self.new.list j ≡ slice_get self.old.list (j + by) }
+        ensures cleared { (j : ℕ) → length self.old.list ≤ j + by → j < length self.old.list
+            → slice_get self.new.list j ≡ Some false }
         ensures row { self.new.row ≡ put self.old.row self.old.head (drop by self.old.list ++ replicate by false) }
         ensures clean { IsClean T.BITS self.old → IsClean T.BITS self.new }
         ensures stayed { Stayed self.old self.new }
@@ -99,9 +110,12 @@ impl<T: BitStore, O: BitOrder> BitBox<T, O> {
     pub fn shift_right(&mut self, by: usize)
         requires { by ≤ length self.old.list }
         ensures list { self.new.list ≡ replicate by false ++ take (length self.old.list - by) self.old.list }
-        ensures kept { (j : ℕ) → j + by < length self.old.list → slice_get self.new.list (j + by) ≡ slice_get self.old.list j }
+        ensures kept { (j : ℕ) → j + by < length self.old.list
+            → slice_get self.new.list (j + by) ≡ slice_get self.old.list j }
         ensures cleared { (j : ℕ) → j < by → slice_get self.new.list j ≡ Some false }
-        ensures row { self.new.row ≡ put self.old.row self.old.head (replicate by false ++ take (length self.old.list - by) self.old.list) }
+        ensures row { self.new.row
+            ≡ put self.old.row self.old.head
+            (replicate by false ++ take (length self.old.list - by) self.old.list) }
         ensures clean { IsClean T.BITS self.old → IsClean T.BITS self.new }
         ensures stayed { Stayed self.old self.new }
     {
@@ -109,14 +123,20 @@ impl<T: BitStore, O: BitOrder> BitBox<T, O> {
         shift_right_in_vec::<T, O>(&mut self.words, head, len, by);
     }
 
-    // Makes each bit from `dest` on into the one that `F` makes of it and of the one at its index of a range, as if the
-    // range was read before any bit is written. Requires that the range lies in the length, and as many bits from `dest` on.
+    // Makes each bit from `dest` on into the one that `F` makes of it and of the one at its index of a range,
+    // as if the range was read before any bit is written. Requires that the range lies in the length, and as
+    // many bits from `dest` on.
     #[tactic(auto, using(bit_slice::proofs::Parts::shown_length))]
     fn combine_within<F: BitOperator, R: RangeExt>(&mut self, range: R, dest: usize)
         requires lies { LiesIn (R.start_of range) (R.end_of range (length self.old.list)) (length self.old.list) }
         requires room { dest + (R.end_of range (length self.old.list) - R.start_of range) ≤ length self.old.list }
-        ensures list { self.new.list ≡ put self.old.list dest (part_onto (combined F.made) self.old.list (R.start_of range) (R.end_of range (length self.old.list)) dest) }
-        ensures row { self.new.row ≡ put self.old.row (self.old.head + dest) (part_onto (combined F.made) self.old.list (R.start_of range) (R.end_of range (length self.old.list)) dest) }
+        ensures list { self.new.list
+            ≡ put self.old.list dest (part_onto (combined F.made) self.old.list (R.start_of range)
+            (R.end_of range (length self.old.list)) dest) }
+        ensures row { self.new.row
+            ≡ put self.old.row (self.old.head + dest)
+            (part_onto (combined F.made) self.old.list (R.start_of range)
+            (R.end_of range (length self.old.list)) dest) }
         ensures clean { IsClean T.BITS self.old → IsClean T.BITS self.new }
         ensures stayed { Stayed self.old self.new }
     {
@@ -134,8 +154,13 @@ impl<T: BitStore, O: BitOrder> BitBox<T, O> {
     pub fn and_within<R: RangeExt>(&mut self, range: R, dest: usize)
         requires lies { LiesIn (R.start_of range) (R.end_of range (length self.old.list)) (length self.old.list) }
         requires room { dest + (R.end_of range (length self.old.list) - R.start_of range) ≤ length self.old.list }
-        ensures list { self.new.list ≡ put self.old.list dest (part_onto and_of self.old.list (R.start_of range) (R.end_of range (length self.old.list)) dest) }
-        ensures row { self.new.row ≡ put self.old.row (self.old.head + dest) (part_onto and_of self.old.list (R.start_of range) (R.end_of range (length self.old.list)) dest) }
+        ensures list { self.new.list
+            ≡ put self.old.list dest (part_onto and_of self.old.list (R.start_of range)
+            (R.end_of range (length self.old.list)) dest) }
+        ensures row { self.new.row
+            ≡ put self.old.row (self.old.head + dest)
+            (part_onto and_of self.old.list (R.start_of range) (R.end_of range (length self.old.list))
+            dest) }
         ensures clean { IsClean T.BITS self.old → IsClean T.BITS self.new }
         ensures stayed { Stayed self.old self.new }
     {
@@ -152,8 +177,13 @@ impl<T: BitStore, O: BitOrder> BitBox<T, O> {
     pub fn or_within<R: RangeExt>(&mut self, range: R, dest: usize)
         requires lies { LiesIn (R.start_of range) (R.end_of range (length self.old.list)) (length self.old.list) }
         requires room { dest + (R.end_of range (length self.old.list) - R.start_of range) ≤ length self.old.list }
-        ensures list { self.new.list ≡ put self.old.list dest (part_onto or_of self.old.list (R.start_of range) (R.end_of range (length self.old.list)) dest) }
-        ensures row { self.new.row ≡ put self.old.row (self.old.head + dest) (part_onto or_of self.old.list (R.start_of range) (R.end_of range (length self.old.list)) dest) }
+        ensures list { self.new.list
+            ≡ put self.old.list dest (part_onto or_of self.old.list (R.start_of range)
+            (R.end_of range (length self.old.list)) dest) }
+        ensures row { self.new.row
+            ≡ put self.old.row (self.old.head + dest)
+            (part_onto or_of self.old.list (R.start_of range) (R.end_of range (length self.old.list))
+            dest) }
         ensures clean { IsClean T.BITS self.old → IsClean T.BITS self.new }
         ensures stayed { Stayed self.old self.new }
     {
@@ -170,8 +200,13 @@ impl<T: BitStore, O: BitOrder> BitBox<T, O> {
     pub fn xor_within<R: RangeExt>(&mut self, range: R, dest: usize)
         requires lies { LiesIn (R.start_of range) (R.end_of range (length self.old.list)) (length self.old.list) }
         requires room { dest + (R.end_of range (length self.old.list) - R.start_of range) ≤ length self.old.list }
-        ensures list { self.new.list ≡ put self.old.list dest (part_onto xor_of self.old.list (R.start_of range) (R.end_of range (length self.old.list)) dest) }
-        ensures row { self.new.row ≡ put self.old.row (self.old.head + dest) (part_onto xor_of self.old.list (R.start_of range) (R.end_of range (length self.old.list)) dest) }
+        ensures list { self.new.list
+            ≡ put self.old.list dest (part_onto xor_of self.old.list (R.start_of range)
+            (R.end_of range (length self.old.list)) dest) }
+        ensures row { self.new.row
+            ≡ put self.old.row (self.old.head + dest)
+            (part_onto xor_of self.old.list (R.start_of range) (R.end_of range (length self.old.list))
+            dest) }
         ensures clean { IsClean T.BITS self.old → IsClean T.BITS self.new }
         ensures stayed { Stayed self.old self.new }
     {

@@ -36,7 +36,8 @@ impl<T: BitStore, O: BitOrder> BitBox<T, O> {
         self.as_bitslice().cmp_bits(other)
     }
 
-    /// Makes each bit into the one that `F` makes of it and of the one at its index in a view, or of false past its end.
+    /// Makes each bit into the one that `F` makes of it and of the one at its index in a view, or of false past
+    /// its end.
     #[tactic(auto, using(bit_slice::proofs::Parts::shown_length))]
     pub(crate) fn combine<F: BitOperator, U: BitStore, P: BitOrder>(
         &mut self,
@@ -44,7 +45,8 @@ impl<T: BitStore, O: BitOrder> BitBox<T, O> {
     )
         ensures list { self.new.list ≡ combined F.made self.old.list (list_of other.entry) }
         ensures index { CombinesEach F.made self.old.list (list_of other.entry) self.new.list }
-        ensures row { self.new.row ≡ put self.old.row self.old.head (combined F.made self.old.list (list_of other.entry)) }
+        ensures row { self.new.row
+            ≡ put self.old.row self.old.head (combined F.made self.old.list (list_of other.entry)) }
         ensures clean { IsClean T.BITS self.old → IsClean T.BITS self.new }
         ensures stayed { Stayed self.old self.new }
     {
@@ -119,7 +121,8 @@ impl<T: BitStore, O: BitOrder> BitBox<T, O> {
 impl<T: BitStore, O: BitOrder> Not for BitBox<T, O> {
     type Output = Self;
 
-    ghost not_gives = { λ a b. (b.list ≡ map not a.list) × FlipsEach a.list b.list × (b.row ≡ map not a.row) × Stayed a b };
+    ghost not_gives = { λ a b. (b.list ≡ map not a.list) × FlipsEach a.list b.list × (b.row ≡ map not a.row)
+        × Stayed a b };
 
     /// Every bit of all the words flipped, dead bits included.
     fn not(mut self) -> Self {
@@ -144,7 +147,9 @@ impl<T: BitStore, O: BitOrder> Index<usize> for BitBox<T, O> {
 }
 
 impl<T: BitStore, O: BitOrder> BitAndAssign for BitBox<T, O> {
-    ghost bitand_assign_gives = { λ a b c. (c.list ≡ and_of a.list b.list) × AndsEach a.list b.list c.list × (c.row ≡ put a.row a.head (and_of a.list b.list)) × Stayed a c × (IsClean T.BITS a → IsClean T.BITS c) };
+    ghost bitand_assign_gives = { λ a b c. (c.list ≡ and_of a.list b.list) × AndsEach a.list b.list c.list
+        × (c.row ≡ put a.row a.head (and_of a.list b.list)) × Stayed a c
+        × (IsClean T.BITS a → IsClean T.BITS c) };
 
     /// Clears each bit that is false in the right side, or that it is too short for. No dead bit changes.
     fn bitand_assign(&mut self, rhs: Self) {
@@ -155,7 +160,9 @@ impl<T: BitStore, O: BitOrder> BitAndAssign for BitBox<T, O> {
 impl<T: BitStore, O: BitOrder> BitAnd for BitBox<T, O> {
     type Output = Self;
 
-    ghost bitand_gives = { λ a b c. (c.list ≡ and_of a.list b.list) × AndsEach a.list b.list c.list × (c.row ≡ put a.row a.head (and_of a.list b.list)) × Stayed a c × (IsClean T.BITS a → IsClean T.BITS c) };
+    ghost bitand_gives = { λ a b c. (c.list ≡ and_of a.list b.list) × AndsEach a.list b.list c.list
+        × (c.row ≡ put a.row a.head (and_of a.list b.list)) × Stayed a c
+        × (IsClean T.BITS a → IsClean T.BITS c) };
 
     /// The bits that are true in both; the left side's words.
     fn bitand(mut self, rhs: Self) -> Self {
@@ -165,7 +172,9 @@ impl<T: BitStore, O: BitOrder> BitAnd for BitBox<T, O> {
 }
 
 impl<T: BitStore, O: BitOrder> BitOrAssign for BitBox<T, O> {
-    ghost bitor_assign_gives = { λ a b c. (c.list ≡ or_of a.list b.list) × OrsEach a.list b.list c.list × (c.row ≡ put a.row a.head (or_of a.list b.list)) × Stayed a c × (IsClean T.BITS a → IsClean T.BITS c) };
+    ghost bitor_assign_gives = { λ a b c. (c.list ≡ or_of a.list b.list) × OrsEach a.list b.list c.list
+        × (c.row ≡ put a.row a.head (or_of a.list b.list)) × Stayed a c
+        × (IsClean T.BITS a → IsClean T.BITS c) };
 
     /// Sets each bit that is true in the right side. No dead bit changes.
     fn bitor_assign(&mut self, rhs: Self) {
@@ -176,7 +185,9 @@ impl<T: BitStore, O: BitOrder> BitOrAssign for BitBox<T, O> {
 impl<T: BitStore, O: BitOrder> BitOr for BitBox<T, O> {
     type Output = Self;
 
-    ghost bitor_gives = { λ a b c. (c.list ≡ or_of a.list b.list) × OrsEach a.list b.list c.list × (c.row ≡ put a.row a.head (or_of a.list b.list)) × Stayed a c × (IsClean T.BITS a → IsClean T.BITS c) };
+    ghost bitor_gives = { λ a b c. (c.list ≡ or_of a.list b.list) × OrsEach a.list b.list c.list
+        × (c.row ≡ put a.row a.head (or_of a.list b.list)) × Stayed a c
+        × (IsClean T.BITS a → IsClean T.BITS c) };
 
     /// The bits that are true in one or in both; the left side's words.
     fn bitor(mut self, rhs: Self) -> Self {
@@ -186,7 +197,9 @@ impl<T: BitStore, O: BitOrder> BitOr for BitBox<T, O> {
 }
 
 impl<T: BitStore, O: BitOrder> BitXorAssign for BitBox<T, O> {
-    ghost bitxor_assign_gives = { λ a b c. (c.list ≡ xor_of a.list b.list) × XorsEach a.list b.list c.list × (c.row ≡ put a.row a.head (xor_of a.list b.list)) × Stayed a c × (IsClean T.BITS a → IsClean T.BITS c) };
+    ghost bitxor_assign_gives = { λ a b c. (c.list ≡ xor_of a.list b.list) × XorsEach a.list b.list c.list
+        × (c.row ≡ put a.row a.head (xor_of a.list b.list)) × Stayed a c
+        × (IsClean T.BITS a → IsClean T.BITS c) };
 
     /// Flips each bit that is true in the right side. No dead bit changes.
     fn bitxor_assign(&mut self, rhs: Self) {
@@ -197,7 +210,9 @@ impl<T: BitStore, O: BitOrder> BitXorAssign for BitBox<T, O> {
 impl<T: BitStore, O: BitOrder> BitXor for BitBox<T, O> {
     type Output = Self;
 
-    ghost bitxor_gives = { λ a b c. (c.list ≡ xor_of a.list b.list) × XorsEach a.list b.list c.list × (c.row ≡ put a.row a.head (xor_of a.list b.list)) × Stayed a c × (IsClean T.BITS a → IsClean T.BITS c) };
+    ghost bitxor_gives = { λ a b c. (c.list ≡ xor_of a.list b.list) × XorsEach a.list b.list c.list
+        × (c.row ≡ put a.row a.head (xor_of a.list b.list)) × Stayed a c
+        × (IsClean T.BITS a → IsClean T.BITS c) };
 
     /// The bits that are true in one alone; the left side's words.
     fn bitxor(mut self, rhs: Self) -> Self {

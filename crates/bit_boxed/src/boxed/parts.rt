@@ -74,7 +74,8 @@ impl<T: BitStore, O: BitOrder> BitBox<T, O> {
     /// of 01101001 and 001: bits.ends_with(other) == true
     /// ```
     pub fn ends_with<U: BitStore, P: BitOrder>(&self, other: BitSlice<'_, U, P>) -> bool
-        ensures { IsTrue result ↔ (drop (length self.now.list - len_of other.entry) self.now.list ≡ list_of other.entry) }
+        ensures { IsTrue result
+            ↔ (drop (length self.now.list - len_of other.entry) self.now.list ≡ list_of other.entry) }
     {
         self.as_bitslice().ends_with(other)
     }
@@ -104,8 +105,13 @@ impl<T: BitStore, O: BitOrder> BitBox<T, O> {
         requires some { 0 < size }
         ensures list { chunks_left result ≡ chunks_of size self.now.list }
         ensures count { length (chunks_left result) ≡ chunk_count (length self.now.list) size }
-        ensures runs { EveryRun (YieldsFirstBy (list_of {X = T} {Y = O} {W = T.BitStore} {P = O.BitOrder}) (chunks_left {X = T} {Y = O} {W = T.BitStore} {P = O.BitOrder})) (λ p. ItemsMapTo p list_of (chunks_left p.from)) }
-        ensures runs_back { EveryRun (YieldsLastBy (list_of {X = T} {Y = O} {W = T.BitStore} {P = O.BitOrder}) (chunks_left {X = T} {Y = O} {W = T.BitStore} {P = O.BitOrder})) (λ p. ItemsMapToReversed p list_of (chunks_left p.from)) }
+        ensures runs { EveryRun (YieldsFirstBy (list_of {X = T} {Y = O} {W = T.BitStore} {P = O.BitOrder})
+            (chunks_left {X = T} {Y = O} {W = T.BitStore} {P = O.BitOrder}))
+            (λ p. ItemsMapTo p list_of (chunks_left p.from)) }
+        ensures runs_back { EveryRun (YieldsLastBy
+            (list_of {X = T} {Y = O} {W = T.BitStore} {P = O.BitOrder})
+            (chunks_left {X = T} {Y = O} {W = T.BitStore} {P = O.BitOrder}))
+            (λ p. ItemsMapToReversed p list_of (chunks_left p.from)) }
     {
         self.as_bitslice().chunks(size)
     }
@@ -120,8 +126,13 @@ impl<T: BitStore, O: BitOrder> BitBox<T, O> {
         requires some { 0 < size }
         ensures list { exact_chunks_left result ≡ exact_chunks_of size self.now.list }
         ensures count { length (exact_chunks_left result) ≡ length self.now.list / size }
-        ensures runs { EveryRun (YieldsFirstBy (list_of {X = T} {Y = O} {W = T.BitStore} {P = O.BitOrder}) (exact_chunks_left {X = T} {Y = O} {W = T.BitStore} {P = O.BitOrder})) (λ p. ItemsMapTo p list_of (exact_chunks_left p.from)) }
-        ensures runs_back { EveryRun (YieldsLastBy (list_of {X = T} {Y = O} {W = T.BitStore} {P = O.BitOrder}) (exact_chunks_left {X = T} {Y = O} {W = T.BitStore} {P = O.BitOrder})) (λ p. ItemsMapToReversed p list_of (exact_chunks_left p.from)) }
+        ensures runs { EveryRun (YieldsFirstBy (list_of {X = T} {Y = O} {W = T.BitStore} {P = O.BitOrder})
+            (exact_chunks_left {X = T} {Y = O} {W = T.BitStore} {P = O.BitOrder}))
+            (λ p. ItemsMapTo p list_of (exact_chunks_left p.from)) }
+        ensures runs_back { EveryRun (YieldsLastBy
+            (list_of {X = T} {Y = O} {W = T.BitStore} {P = O.BitOrder})
+            (exact_chunks_left {X = T} {Y = O} {W = T.BitStore} {P = O.BitOrder}))
+            (λ p. ItemsMapToReversed p list_of (exact_chunks_left p.from)) }
     {
         self.as_bitslice().chunks_exact(size)
     }
@@ -136,8 +147,13 @@ impl<T: BitStore, O: BitOrder> BitBox<T, O> {
         requires some { 0 < size }
         ensures list { back_chunks_left result ≡ back_chunks_of size self.now.list }
         ensures count { length (back_chunks_left result) ≡ chunk_count (length self.now.list) size }
-        ensures runs { EveryRun (YieldsFirstBy (list_of {X = T} {Y = O} {W = T.BitStore} {P = O.BitOrder}) (back_chunks_left {X = T} {Y = O} {W = T.BitStore} {P = O.BitOrder})) (λ p. ItemsMapTo p list_of (back_chunks_left p.from)) }
-        ensures runs_back { EveryRun (YieldsLastBy (list_of {X = T} {Y = O} {W = T.BitStore} {P = O.BitOrder}) (back_chunks_left {X = T} {Y = O} {W = T.BitStore} {P = O.BitOrder})) (λ p. ItemsMapToReversed p list_of (back_chunks_left p.from)) }
+        ensures runs { EveryRun (YieldsFirstBy (list_of {X = T} {Y = O} {W = T.BitStore} {P = O.BitOrder})
+            (back_chunks_left {X = T} {Y = O} {W = T.BitStore} {P = O.BitOrder}))
+            (λ p. ItemsMapTo p list_of (back_chunks_left p.from)) }
+        ensures runs_back { EveryRun (YieldsLastBy
+            (list_of {X = T} {Y = O} {W = T.BitStore} {P = O.BitOrder})
+            (back_chunks_left {X = T} {Y = O} {W = T.BitStore} {P = O.BitOrder}))
+            (λ p. ItemsMapToReversed p list_of (back_chunks_left p.from)) }
     {
         self.as_bitslice().rchunks(size)
     }
@@ -152,8 +168,13 @@ impl<T: BitStore, O: BitOrder> BitBox<T, O> {
         requires some { 0 < size }
         ensures list { windows_left result ≡ windows_of size self.now.list }
         ensures count { length (windows_left result) ≡ length self.now.list + 1 - size }
-        ensures runs { EveryRun (YieldsFirstBy (list_of {X = T} {Y = O} {W = T.BitStore} {P = O.BitOrder}) (windows_left {X = T} {Y = O} {W = T.BitStore} {P = O.BitOrder})) (λ p. ItemsMapTo p list_of (windows_left p.from)) }
-        ensures runs_back { EveryRun (YieldsLastBy (list_of {X = T} {Y = O} {W = T.BitStore} {P = O.BitOrder}) (windows_left {X = T} {Y = O} {W = T.BitStore} {P = O.BitOrder})) (λ p. ItemsMapToReversed p list_of (windows_left p.from)) }
+        ensures runs { EveryRun (YieldsFirstBy (list_of {X = T} {Y = O} {W = T.BitStore} {P = O.BitOrder})
+            (windows_left {X = T} {Y = O} {W = T.BitStore} {P = O.BitOrder}))
+            (λ p. ItemsMapTo p list_of (windows_left p.from)) }
+        ensures runs_back { EveryRun (YieldsLastBy
+            (list_of {X = T} {Y = O} {W = T.BitStore} {P = O.BitOrder})
+            (windows_left {X = T} {Y = O} {W = T.BitStore} {P = O.BitOrder}))
+            (λ p. ItemsMapToReversed p list_of (windows_left p.from)) }
     {
         self.as_bitslice().windows(size)
     }

@@ -69,10 +69,12 @@ impl<T: BitStore, O: BitOrder> BitBox<T, O> {
     /// ```
     pub fn get_range<R: RangeExt>(&self, range: R) -> BitSlice<'_, T, O>
         requires lies { LiesIn (R.start_of range) (R.end_of range (length self.now.list)) (length self.now.list) }
-        ensures list { list_of result ≡ slice_range self.now.list (R.start_of range) (R.end_of range (length self.now.list)) }
+        ensures list { list_of result
+            ≡ slice_range self.now.list (R.start_of range) (R.end_of range (length self.now.list)) }
         ensures head { head_of result ≡ (self.now.head + R.start_of range) % T.BITS }
         ensures len { len_of result ≡ R.end_of range (length self.now.list) - R.start_of range }
-        ensures words { let first = (self.now.head + R.start_of range) / T.BITS in words_of result ≡ slice_range self.now.words first (first + words_for T.BITS (head_of result + len_of result)) }
+        ensures words { let first = (self.now.head + R.start_of range) / T.BITS in words_of result
+            ≡ slice_range self.now.words first (first + words_for T.BITS (head_of result + len_of result)) }
     {
         self.as_bitslice().get_range(range)
     }
@@ -218,8 +220,9 @@ impl<T: BitStore, O: BitOrder> BitBox<T, O> {
         fill_bits_in_vec::<T, O>(&mut self.words, head, head + len, bit);
     }
 
-    /// Copies the bits of a range to index `dest`, as if they were copied out first. No other bit changes, dead bits
-    /// included. Takes no memory. Requires that the range lies in the length and that its bits have room from `dest` on.
+    /// Copies the bits of a range to index `dest`, as if they were copied out first. No other bit changes, dead
+    /// bits included. Takes no memory. Requires that the range lies in the length and that its bits have room
+    /// from `dest` on.
     ///
     /// ```text
     /// of 01101001: bits.copy_within(2..5, 0) leaves 10101001
@@ -227,17 +230,23 @@ impl<T: BitStore, O: BitOrder> BitBox<T, O> {
     pub fn copy_within<R: RangeExt>(&mut self, range: R, dest: usize)
         requires lies { LiesIn (R.start_of range) (R.end_of range (length self.old.list)) (length self.old.list) }
         requires room { dest + (R.end_of range (length self.old.list) - R.start_of range) ≤ length self.old.list }
-        ensures list { self.new.list ≡ moved self.old.list (R.start_of range) dest (R.end_of range (length self.old.list) - R.start_of range) }
-        ensures row { self.new.row ≡ moved self.old.row (self.old.head + R.start_of range) (self.old.head + dest) (R.end_of range (length self.old.list) - R.start_of range) }
-        ensures landed { let n = R.end_of range (length self.old.list) - R.start_of range in slice_range self.new.list dest (dest + n) ≡ slice_range self.old.list (R.start_of range) (R.start_of range + n) }
+        ensures list { self.new.list
+            ≡ moved self.old.list (R.start_of range) dest
+            (R.end_of range (length self.old.list) - R.start_of range) }
+        ensures row { self.new.row
+            ≡ moved self.old.row (self.old.head + R.start_of range) (self.old.head + dest)
+            (R.end_of range (length self.old.list) - R.start_of range) }
+        ensures landed { let n = R.end_of range (length self.old.list)
+            - R.start_of range in slice_range self.new.list dest (dest + n)
+            ≡ slice_range self.old.list (R.start_of range) (R.start_of range + n) }
         ensures clean { IsClean T.BITS self.old → IsClean T.BITS self.new }
         ensures stayed { Stayed self.old self.new }
     {
         let _meter = self.copy_within_counted(range, dest);
     }
 
-    /// Like `copy_within`, but returns the meter of the words that were read and written: at most one write for each word
-    /// that holds a bit of the target, and at most three reads for each.
+    /// Like `copy_within`, but returns the meter of the words that were read and written: at most one write for
+    /// each word that holds a bit of the target, and at most three reads for each.
     ///
     /// ```text
     /// let meter = b.copy_within_counted(0..9, 3);   // 12 bits in bytes: meter.writes ≤ 2, meter.reads ≤ 6
@@ -246,13 +255,24 @@ impl<T: BitStore, O: BitOrder> BitBox<T, O> {
     pub fn copy_within_counted<R: RangeExt>(&mut self, range: R, dest: usize) -> Meter
         requires lies { LiesIn (R.start_of range) (R.end_of range (length self.old.list)) (length self.old.list) }
         requires room { dest + (R.end_of range (length self.old.list) - R.start_of range) ≤ length self.old.list }
-        ensures list { self.new.list ≡ moved self.old.list (R.start_of range) dest (R.end_of range (length self.old.list) - R.start_of range) }
-        ensures row { self.new.row ≡ moved self.old.row (self.old.head + R.start_of range) (self.old.head + dest) (R.end_of range (length self.old.list) - R.start_of range) }
-        ensures landed { let n = R.end_of range (length self.old.list) - R.start_of range in slice_range self.new.list dest (dest + n) ≡ slice_range self.old.list (R.start_of range) (R.start_of range + n) }
+        ensures list { self.new.list
+            ≡ moved self.old.list (R.start_of range) dest
+            (R.end_of range (length self.old.list) - R.start_of range) }
+        ensures row { self.new.row
+            ≡ moved self.old.row (self.old.head + R.start_of range) (self.old.head + dest)
+            (R.end_of range (length self.old.list) - R.start_of range) }
+        ensures landed { let n = R.end_of range (length self.old.list)
+            - R.start_of range in slice_range self.new.list dest (dest + n)
+            ≡ slice_range self.old.list (R.start_of range) (R.start_of range + n) }
         ensures clean { IsClean T.BITS self.old → IsClean T.BITS self.new }
         ensures stayed { Stayed self.old self.new }
-        ensures writes { result.writes ≤ touched T.BITS (self.old.head + dest) (R.end_of range (length self.old.list) - R.start_of range) }
-        ensures reads { result.reads ≤ 3 * touched T.BITS (self.old.head + dest) (R.end_of range (length self.old.list) - R.start_of range) }
+        ensures writes { result.writes
+            ≤ touched T.BITS (self.old.head + dest)
+            (R.end_of range (length self.old.list) - R.start_of range) }
+        ensures reads { result.reads
+            ≤ 3
+            * touched T.BITS (self.old.head + dest)
+            (R.end_of range (length self.old.list) - R.start_of range) }
     {
         let range = range.normalize(self.len);
         let (from, to) = (self.head + range.start, self.head + dest);

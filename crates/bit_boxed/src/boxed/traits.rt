@@ -139,8 +139,8 @@ impl<T: BitStore, O: BitOrder> fmt::Octal for BitBox<T, O> {
     }
 }
 
-/// `[`, a digit for each group of four bits, the first the most significant, the digits above 9 in lower case, and `]`. Flags and widths
-/// have no effect.
+/// `[`, a digit for each group of four bits, the first the most significant, the digits above 9 in lower case,
+/// and `]`. Flags and widths have no effect.
 impl<T: BitStore, O: BitOrder> fmt::LowerHex for BitBox<T, O> {
     ghost use Rattle.std.specs.Prelude.{false};
     ghost use Rattle.std.specs.Fmt.{WritesStyledOnOk};
@@ -153,8 +153,8 @@ impl<T: BitStore, O: BitOrder> fmt::LowerHex for BitBox<T, O> {
     }
 }
 
-/// `[`, a digit for each group of four bits, the first the most significant, the digits above 9 in upper case, and `]`. Flags and widths
-/// have no effect.
+/// `[`, a digit for each group of four bits, the first the most significant, the digits above 9 in upper case,
+/// and `]`. Flags and widths have no effect.
 impl<T: BitStore, O: BitOrder> fmt::UpperHex for BitBox<T, O> {
     ghost use Rattle.std.specs.Prelude.{true};
     ghost use Rattle.std.specs.Fmt.{WritesStyledOnOk};
@@ -176,7 +176,9 @@ impl<T: BitStore, O: BitOrder> TryFrom<BoxedSlice<T>> for BitBox<T, O> {
 
     type Error = BoxedSlice<T>;
 
-    ghost try_from_gives = { λ words r. MatchResult r (λ b. IsWhole T.BITS (boxed_slice_items words) (row T.BitStore O.BitOrder (boxed_slice_items words)) b) (λ back. back ≡ words) × (IsOk r ↔ (T.BITS * length (boxed_slice_items words) ≤ MAX_BITS)) };
+    ghost try_from_gives = { λ words r. MatchResult r
+        (λ b. IsWhole T.BITS (boxed_slice_items words) (row T.BitStore O.BitOrder (boxed_slice_items words))
+        b) (λ back. back ≡ words) × (IsOk r ↔ (T.BITS * length (boxed_slice_items words) ≤ MAX_BITS)) };
 
     /// Like `BitBox::try_from_boxed_slice`.
     fn try_from(words: BoxedSlice<T>) -> Result<Self, BoxedSlice<T>> {
@@ -189,7 +191,9 @@ impl<T: BitStore, O: BitOrder> From<BitBox<T, O>> for BoxedSlice<T> {
     ghost use Rattle.std.specs.Box.{boxed_slice_items};
     ghost use Rattle.bit_addressing.specs.Typed.{row, words_from};
 
-    ghost from_gives = { λ b words. (boxed_slice_items words ≡ b.words) × (row T.BitStore O.BitOrder (boxed_slice_items words) ≡ b.row) × (boxed_slice_items words ≡ words_from T.BitStore O.BitOrder b.row) };
+    ghost from_gives = { λ b words. (boxed_slice_items words ≡ b.words)
+        × (row T.BitStore O.BitOrder (boxed_slice_items words) ≡ b.row)
+        × (boxed_slice_items words ≡ words_from T.BitStore O.BitOrder b.row) };
 
     /// Like `BitBox::into_boxed_slice`.
     fn from(b: BitBox<T, O>) -> BoxedSlice<T> {

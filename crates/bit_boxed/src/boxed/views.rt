@@ -18,7 +18,8 @@ impl<T: BitStore, O: BitOrder> BitBox<T, O> {
     /// of 01101001: bits.as_bitslice() shows 01101001
     /// ```
     pub fn as_bitslice(&self) -> BitSlice<'_, T, O>
-        ensures words { words_of result ≡ take (words_for T.BITS (self.now.head + length self.now.list)) self.now.words }
+        ensures words { words_of result
+            ≡ take (words_for T.BITS (self.now.head + length self.now.list)) self.now.words }
         ensures head { head_of result ≡ self.now.head }
         ensures len { len_of result ≡ length self.now.list }
         ensures list { list_of result ≡ self.now.list }
@@ -34,7 +35,8 @@ impl<T: BitStore, O: BitOrder> BitBox<T, O> {
     /// ```
     pub fn as_mut_bitslice(&mut self) -> BitSliceMut<'_, T, O>
         ensures* writes_back { sem 𝓛 (lends_view T.row O.row T.BitStore O.BitOrder self.entry (loan_of result)) }
-        ensures words { lent_words result ≡ take (words_for T.BITS (self.old.head + length self.old.list)) self.old.words }
+        ensures words { lent_words result
+            ≡ take (words_for T.BITS (self.old.head + length self.old.list)) self.old.words }
         ensures head { lent_head result ≡ self.old.head }
         ensures len { lent_len result ≡ length self.old.list }
         ensures list { lent_list result ≡ self.old.list }
@@ -48,7 +50,8 @@ impl<T: BitStore, O: BitOrder> BitBox<T, O> {
         ensures* writes_back { sem 𝓛 (lends_words T.row O.row T.BitStore O.BitOrder self.entry result) }
         ensures words { result.now ≡ take (words_for T.BITS (self.old.head + length self.old.list)) self.old.words }
         ensures exact { length result.now ≡ words_for T.BITS (self.old.head + length self.old.list) }
-        ensures shows { slice_range (row T.BitStore O.BitOrder result.now) self.old.head (self.old.head + length self.old.list) ≡ self.old.list }
+        ensures shows { slice_range (row T.BitStore O.BitOrder result.now) self.old.head
+            (self.old.head + length self.old.list) ≡ self.old.list }
     {
         let count = elts::<T>(self.head + self.len);
         self.words.slice_mut(..count)
@@ -66,13 +69,17 @@ impl<T: BitStore, O: BitOrder> BitBox<T, O> {
     pub fn part_mut(&mut self, from: usize, upto: usize) -> BitSliceMut<'_, T, O>
         requires ordered { from ≤ upto }
         requires inside { upto ≤ length self.old.list }
-        ensures* writes_back { sem 𝓛 (lends_run T.row O.row T.BitStore O.BitOrder self.entry ((self.old.head + from) / T.BITS) (loan_of result)) }
-        ensures words { let first = (self.old.head + from) / T.BITS in lent_words result ≡ slice_range self.old.words first (first + words_for T.BITS (lent_head result + lent_len result)) }
+        ensures* writes_back { sem 𝓛 (lends_run T.row O.row T.BitStore O.BitOrder self.entry
+            ((self.old.head + from) / T.BITS) (loan_of result)) }
+        ensures words { let first = (self.old.head + from) / T.BITS in lent_words result
+            ≡ slice_range self.old.words first
+            (first + words_for T.BITS (lent_head result + lent_len result)) }
         ensures head { lent_head result ≡ (self.old.head + from) % T.BITS }
         ensures len { lent_len result ≡ upto - from }
         ensures list { lent_list result ≡ slice_range self.old.list from upto }
         ensures fits { self.old.head + length self.old.list ≤ T.BITS * length self.old.words }
-        ensures shows { slice_range (row T.BitStore O.BitOrder self.old.words) self.old.head (self.old.head + length self.old.list) ≡ self.old.list }
+        ensures shows { slice_range (row T.BitStore O.BitOrder self.old.words) self.old.head
+            (self.old.head + length self.old.list) ≡ self.old.list }
     {
         let width = T::BITS as usize;
         let at = self.head + from;

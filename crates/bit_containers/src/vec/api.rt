@@ -82,7 +82,8 @@ impl<T: BitStore, O: BitOrder> BitVec<T, O> {
     /// ```
     #[tactic(auto, using(bit_slice::proofs::Parts::shown_length))]
     pub fn pop(&mut self) -> Option<bool>
-        ensures answer { MatchOption result (length self.old.list ≡ 0) (λ bit. self.old.list ≡ self.new.list ++ bit ∷ []) }
+        ensures answer { MatchOption result (length self.old.list ≡ 0)
+            (λ bit. self.old.list ≡ self.new.list ++ bit ∷ []) }
         ensures value { result ≡ slice_get self.old.list (length self.old.list - 1) }
         ensures list { self.new.list ≡ take (length self.old.list - 1) self.old.list }
         ensures bound { length self.old.list ≤ MAX_BITS }

@@ -73,9 +73,9 @@ impl<T: BitStore, O: BitOrder> FromBits for BitBox<T, O> {
         Ok(v.into_boxed_bitslice()?)
     }
 
-    /// The bits that a text says, from head 0 on: digits alone, or what `Display` writes of a list. It returns the place
-    /// of the first wrong byte, or the text's length where it ends too early; `TooLong` only where the text has more
-    /// than `MAX_BITS` bytes. Takes memory where there is a digit.
+    /// The bits that a text says, from head 0 on: digits alone, or what `Display` writes of a list. It returns
+    /// the place of the first wrong byte, or the text's length where it ends too early; `TooLong` only where
+    /// the text has more than `MAX_BITS` bytes. Takes memory where there is a digit.
     fn from_text(alloc: Global, text: &str) -> Result<BitBox<T, O>, ParseBitsError>
         ensures head { IfOk result (λ b. b.head ≡ 0) }
         ensures list { IfOk result (λ b. bits_said text.now ≡ Some b.list) }
@@ -103,10 +103,11 @@ pub trait ToBytes {
     // The bits that it has.
     ghost bits_in: { Self → List Bool };
 
-    /// The list as bytes, each in the order `P`, by whole words; the bits of the last byte that the list does not reach are
-    /// false. Takes memory where there is a bit, and is refused only then.
+    /// The list as bytes, each in the order `P`, by whole words; the bits of the last byte that the list does
+    /// not reach are false. Takes memory where there is a bit, and is refused only then.
     fn to_bytes<P: BitOrder>(&self, alloc: Global) -> Result<Vec<u8>, AllocError>
-        ensures bytes { IfOk result (λ bytes. bytes.items ≡ words_for_list ⟦<u8 as BitStore>⟧ P.BitOrder (bits_in self.now)) }
+        ensures bytes { IfOk result
+            (λ bytes. bytes.items ≡ words_for_list ⟦<u8 as BitStore>⟧ P.BitOrder (bits_in self.now)) }
         ensures len { IfOk result (λ bytes. length bytes.items ≡ words_for 8 (length (bits_in self.now))) }
         ensures memory { OnErr result (0 < length (bits_in self.now)) };
 }
@@ -116,7 +117,8 @@ impl<T: BitStore, O: BitOrder> ToBytes for BitBox<T, O> {
 
     /// The list as bytes: as `BitVec::to_bytes`.
     fn to_bytes<P: BitOrder>(&self, alloc: Global) -> Result<Vec<u8>, AllocError>
-        ensures bytes { IfOk result (λ bytes. bytes.items ≡ words_for_list ⟦<u8 as BitStore>⟧ P.BitOrder self.now.list) }
+        ensures bytes { IfOk result
+            (λ bytes. bytes.items ≡ words_for_list ⟦<u8 as BitStore>⟧ P.BitOrder self.now.list) }
         ensures len { IfOk result (λ bytes. length bytes.items ≡ words_for 8 (length self.now.list)) }
         ensures memory { OnErr result (0 < length self.now.list) }
     {
@@ -129,7 +131,8 @@ impl<'a, T: BitStore, O: BitOrder> ToBytes for BitSlice<'a, T, O> {
 
     /// The list as bytes: as `BitVec::to_bytes`.
     fn to_bytes<P: BitOrder>(&self, alloc: Global) -> Result<Vec<u8>, AllocError>
-        ensures bytes { IfOk result (λ bytes. bytes.items ≡ words_for_list ⟦<u8 as BitStore>⟧ P.BitOrder (list_of self.now)) }
+        ensures bytes { IfOk result
+            (λ bytes. bytes.items ≡ words_for_list ⟦<u8 as BitStore>⟧ P.BitOrder (list_of self.now)) }
         ensures len { IfOk result (λ bytes. length bytes.items ≡ words_for 8 (length (list_of self.now))) }
         ensures memory { OnErr result (0 < length (list_of self.now)) }
     {
@@ -142,7 +145,8 @@ pub(crate) fn bytes_of<P: BitOrder, T: BitStore, O: BitOrder>(
     view: BitSlice<'_, T, O>,
     alloc: Global,
 ) -> Result<Vec<u8>, AllocError>
-    ensures bytes { IfOk result (λ bytes. bytes.items ≡ words_for_list ⟦<u8 as BitStore>⟧ P.BitOrder (list_of view.entry)) }
+    ensures bytes { IfOk result
+        (λ bytes. bytes.items ≡ words_for_list ⟦<u8 as BitStore>⟧ P.BitOrder (list_of view.entry)) }
     ensures len { IfOk result (λ bytes. length bytes.items ≡ words_for 8 (length (list_of view.entry))) }
     ensures memory { OnErr result (0 < length (list_of view.entry)) }
 {

@@ -25,7 +25,8 @@ impl<T: BitStore, O: BitOrder> BitVec<T, O> {
 
     // How many words more it takes to hold `more` bits more.
     fn words_to_add(&self, more: usize) -> Result<usize, GrowError>
-        ensures words { IfOk result (λ n. n ≡ words_for T.BITS (self.now.head + (length self.now.list + more)) - length self.now.words) }
+        ensures words { IfOk result (λ n. n
+            ≡ words_for T.BITS (self.now.head + (length self.now.list + more)) - length self.now.words) }
         ensures fits { IsOk result ↔ (length self.now.list + more ≤ MAX_BITS) }
         ensures refusal { OnErr result (result ≡ Err GrowError.TooLong) }
     {

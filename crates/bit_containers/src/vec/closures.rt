@@ -26,7 +26,10 @@ impl<T: BitStore, O: BitOrder> BitVec<T, O> {
         requires { F.IsAlwaysCallable f }
         ensures cut { n ≤ length self.old.list → OnOk result (self.new.list ≡ take n self.old.list) }
         ensures shrank { n ≤ length self.old.list → Shrank T.BITS self.old self.new n }
-        ensures filled { length self.old.list < n → OnOk result ((answers : List Bool) × (last : F) × AnswersFrom F.step f (length self.old.list) answers last × (self.new.list ≡ self.old.list ++ answers) × Grew T.BITS self.old self.new answers) }
+        ensures filled { length self.old.list < n
+            → OnOk result ((answers : List Bool) × (last : F)
+            × AnswersFrom F.step f (length self.old.list) answers last
+            × (self.new.list ≡ self.old.list ++ answers) × Grew T.BITS self.old self.new answers) }
         ensures len { OnOk result (length self.new.list ≡ n) }
         ensures succeeds { n ≤ length self.old.list → IsOk result }
         ensures refusal { RefusesOnly result n self.old self.new }
@@ -49,7 +52,10 @@ impl<T: BitStore, O: BitOrder> BitVec<T, O> {
         requires { F.IsAlwaysCallable f.old }
         ensures cut { n ≤ length self.old.list → OnOk result (self.new.list ≡ take n self.old.list) }
         ensures shrank { n ≤ length self.old.list → Shrank T.BITS self.old self.new n }
-        ensures filled { length self.old.list < n → OnOk result ((answers : List Bool) × AnswersFrom F.step f.old (length self.old.list) answers f.new × (self.new.list ≡ self.old.list ++ answers) × Grew T.BITS self.old self.new answers) }
+        ensures filled { length self.old.list < n
+            → OnOk result ((answers : List Bool)
+            × AnswersFrom F.step f.old (length self.old.list) answers f.new
+            × (self.new.list ≡ self.old.list ++ answers) × Grew T.BITS self.old self.new answers) }
         ensures uncalled_shrinking { n ≤ length self.old.list → f.new ≡ f.old }
         ensures uncalled_refused { OnErr result (f.new ≡ f.old) }
         ensures len { OnOk result (length self.new.list ≡ n) }
@@ -91,7 +97,9 @@ impl<T: BitStore, O: BitOrder> BitVec<T, O> {
     /// ```
     pub fn retain<F: FnMut(usize, &bool) -> bool>(&mut self, mut f: F)
         requires { F.IsAlwaysCallable f }
-        ensures list { (answers : List Bool) × (last : F) × AnswersAtEach F.step f 0 self.old.list answers last × (self.new.list ≡ kept self.old.list answers) }
+        ensures list { (answers : List Bool) × (last : F)
+            × AnswersAtEach F.step f 0 self.old.list answers last
+            × (self.new.list ≡ kept self.old.list answers) }
         ensures head { self.new.head ≡ self.old.head }
         ensures capacity { self.new.capacity ≡ self.old.capacity }
     {
@@ -106,7 +114,8 @@ impl<T: BitStore, O: BitOrder> BitVec<T, O> {
     /// ```
     pub fn retain_by<F: FnMut(usize, &bool) -> bool>(&mut self, f: &mut F)
         requires { F.IsAlwaysCallable f.old }
-        ensures list { (answers : List Bool) × AnswersAtEach F.step f.old 0 self.old.list answers f.new × (self.new.list ≡ kept self.old.list answers) }
+        ensures list { (answers : List Bool) × AnswersAtEach F.step f.old 0 self.old.list answers f.new
+            × (self.new.list ≡ kept self.old.list answers) }
         ensures head { self.new.head ≡ self.old.head }
         ensures capacity { self.new.capacity ≡ self.old.capacity }
     {
@@ -140,7 +149,9 @@ impl<T: BitStore, O: BitOrder> BitVec<T, O> {
     // and where it has 64 they are written. Returns the number then. Requires that `count` is below the length.
     fn keep(&mut self, count: usize, number: u64, bit: bool) -> u64
         requires { count < length self.old.list }
-        ensures front { take (count + 1 - (count + 1) % 64) self.new.list ++ number_bits result ((count + 1) % 64) ≡ (take (count - count % 64) self.old.list ++ number_bits number (count % 64)) ++ bit ∷ [] }
+        ensures front { take (count + 1 - (count + 1) % 64) self.new.list
+            ++ number_bits result ((count + 1) % 64)
+            ≡ (take (count - count % 64) self.old.list ++ number_bits number (count % 64)) ++ bit ∷ [] }
         ensures rest { drop (count + 1) self.new.list ≡ drop (count + 1) self.old.list }
         ensures stayed { Stayed self.old self.new }
     {

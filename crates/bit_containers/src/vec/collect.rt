@@ -40,21 +40,31 @@ impl<T: BitStore, O: BitOrder> BitVec<T, O> {
     /// the length would pass the capacity and not `MAX_BITS`; then it pulls no more, and leaves the list. What was
     /// pulled is gone.
     ///
-    /// The list is known of every source whose runs are: a `Vec<bool>`, an `Option<bool>`, the bits of another vector by
-    /// `into_iter` or `iter`, mapped or not. For a view or for words there are calls that copy by whole words.
+    /// The list is known of every source whose runs are: a `Vec<bool>`, an `Option<bool>`, the bits of another
+    /// vector by `into_iter` or `iter`, mapped or not. For a view or for words there are calls that copy by
+    /// whole words.
     ///
     /// ```text
     /// of 01: bits.extend(Some(true))? leaves 011
     /// ```
     pub fn extend<I: IntoIterator<Item = bool>>(&mut self, iter: I) -> Result<(), GrowError>
         requires { IsFiniteIterable I.into_iter_gives I.IntoIter.can_next I.IntoIter.remaining iter }
-        ensures joined { OnOk result (GivesAll I.into_iter_gives I.IntoIter.next_gives iter (λ bits. (self.new.list ≡ self.old.list ++ bits) × Grew T.BITS self.old self.new bits)) }
-        ensures runs { OnOk result (RunsThrough I.into_iter_gives I.IntoIter.next_gives iter (λ bits. self.new.list ≡ self.old.list ++ bits)) }
+        ensures joined { OnOk result (GivesAll I.into_iter_gives I.IntoIter.next_gives iter
+            (λ bits. (self.new.list ≡ self.old.list ++ bits) × Grew T.BITS self.old self.new bits)) }
+        ensures runs { OnOk result (RunsThrough I.into_iter_gives I.IntoIter.next_gives iter
+            (λ bits. self.new.list ≡ self.old.list ++ bits)) }
         ensures clean { OnOk result (IsClean T.BITS self.old → IsClean T.BITS self.new) }
         ensures few { length self.new.list ≤ MAX_BITS }
-        ensures too_long { result ≡ Err GrowError.TooLong → GivesFirst I.into_iter_gives I.IntoIter.next_gives iter (λ bits. MAX_BITS < length self.old.list + length bits) }
-        ensures memory { result ≡ Err GrowError.OutOfMemory → GivesFirst I.into_iter_gives I.IntoIter.next_gives iter (λ bits. (self.old.capacity < length self.old.list + length bits) × (length self.old.list + length bits ≤ MAX_BITS)) }
-        ensures fits { ((it : I.IntoIter) → I.into_iter_gives iter it → EachRunFrom I.IntoIter.next_gives it (λ run. (length self.old.list + length run.items ≤ self.old.capacity) × (length self.old.list + length run.items ≤ MAX_BITS))) → IsOk result }
+        ensures too_long { result ≡ Err GrowError.TooLong
+            → GivesFirst I.into_iter_gives I.IntoIter.next_gives iter
+            (λ bits. MAX_BITS < length self.old.list + length bits) }
+        ensures memory { result ≡ Err GrowError.OutOfMemory
+            → GivesFirst I.into_iter_gives I.IntoIter.next_gives iter
+            (λ bits. (self.old.capacity < length self.old.list + length bits)
+            × (length self.old.list + length bits ≤ MAX_BITS)) }
+        ensures fits { ((it : I.IntoIter) → I.into_iter_gives iter it
+            → EachRunFrom I.IntoIter.next_gives it (λ run. (length self.old.list + length run.items
+            ≤ self.old.capacity) × (length self.old.list + length run.items ≤ MAX_BITS))) → IsOk result }
         ensures unchanged { OnErr result (self.new.list ≡ self.old.list) }
         ensures head { self.new.head ≡ self.old.head }
         ensures capacity { self.old.capacity ≤ self.new.capacity }
@@ -65,10 +75,16 @@ impl<T: BitStore, O: BitOrder> BitVec<T, O> {
     // Like `extend`.
     fn extend_by<I: IntoIterator<Item = bool>>(&mut self, iter: I) -> Result<(), GrowError>
         requires { IsFiniteIterable I.into_iter_gives I.IntoIter.can_next I.IntoIter.remaining iter }
-        ensures joined { OnOk result (GivesAll I.into_iter_gives I.IntoIter.next_gives iter (λ bits. (self.new.list ≡ self.old.list ++ bits) × Grew T.BITS self.old self.new bits)) }
+        ensures joined { OnOk result (GivesAll I.into_iter_gives I.IntoIter.next_gives iter
+            (λ bits. (self.new.list ≡ self.old.list ++ bits) × Grew T.BITS self.old self.new bits)) }
         ensures few { length self.new.list ≤ MAX_BITS }
-        ensures too_long { result ≡ Err GrowError.TooLong → GivesFirst I.into_iter_gives I.IntoIter.next_gives iter (λ bits. MAX_BITS < length self.old.list + length bits) }
-        ensures memory { result ≡ Err GrowError.OutOfMemory → GivesFirst I.into_iter_gives I.IntoIter.next_gives iter (λ bits. (self.old.capacity < length self.old.list + length bits) × (length self.old.list + length bits ≤ MAX_BITS)) }
+        ensures too_long { result ≡ Err GrowError.TooLong
+            → GivesFirst I.into_iter_gives I.IntoIter.next_gives iter
+            (λ bits. MAX_BITS < length self.old.list + length bits) }
+        ensures memory { result ≡ Err GrowError.OutOfMemory
+            → GivesFirst I.into_iter_gives I.IntoIter.next_gives iter
+            (λ bits. (self.old.capacity < length self.old.list + length bits)
+            × (length self.old.list + length bits ≤ MAX_BITS)) }
         ensures unchanged { OnErr result (self.new.list ≡ self.old.list) }
         ensures head { self.new.head ≡ self.old.head }
         ensures capacity { self.old.capacity ≤ self.new.capacity }
@@ -114,9 +130,9 @@ impl<T: BitStore, O: BitOrder> BitVec<T, O> {
         (MAX_BITS - self.len()).min(64) as u8
     }
 
-    // One bit more after the `got` lowest bits of a number, which are to be appended. Where they are as many as may be
-    // gathered, they are appended first. Returns the number, how many of its bits are to be appended then, and how many
-    // may be gathered.
+    // One bit more after the `got` lowest bits of a number, which are to be appended. Where they are as many as
+    // may be gathered, they are appended first. Returns the number, how many of its bits are to be appended
+    // then, and how many may be gathered.
     #[inline(always)]
     fn gather(
         &mut self,
@@ -129,8 +145,11 @@ impl<T: BitStore, O: BitOrder> BitVec<T, O> {
         requires word { most ≤ 64 }
         requires above { (p : ℕ) → got ≤ p → p < 64 → has_bit number p ≡ false }
         requires few { length self.old.list + most ≤ MAX_BITS }
-        ensures joined { IfOk result (λ next. (more : List Bool) × (self.new.list ≡ self.old.list ++ more) × Grew T.BITS self.old self.new more × (more ++ number_bits next.0 next.1 ≡ number_bits number got ++ bit ∷ [])) }
-        ensures next { IfOk result (λ next. (next.1 ≤ next.2) × (next.2 ≤ 64) × (length self.new.list + next.2 ≤ MAX_BITS)) }
+        ensures joined { IfOk result (λ next. (more : List Bool) × (self.new.list ≡ self.old.list ++ more)
+            × Grew T.BITS self.old self.new more
+            × (more ++ number_bits next.0 next.1 ≡ number_bits number got ++ bit ∷ [])) }
+        ensures next { IfOk result
+            (λ next. (next.1 ≤ next.2) × (next.2 ≤ 64) × (length self.new.list + next.2 ≤ MAX_BITS)) }
         ensures above { IfOk result (λ next. (p : ℕ) → next.1 ≤ p → p < 64 → has_bit next.0 p ≡ false) }
         ensures refusal { RefusesOnly result (length self.old.list + (got + 1)) self.old self.new }
         ensures capacity { self.old.capacity ≤ self.new.capacity }
@@ -157,12 +176,17 @@ impl<T: BitStore, O: BitOrder> BitVec<T, O> {
         iter: I,
     ) -> Result<Self, GrowError>
         requires { IsFiniteIterable I.into_iter_gives I.IntoIter.can_next I.IntoIter.remaining iter }
-        ensures list { IfOk result (λ v. GivesAll I.into_iter_gives I.IntoIter.next_gives iter (λ bits. v.list ≡ bits)) }
-        ensures runs { IfOk result (λ v. RunsThrough I.into_iter_gives I.IntoIter.next_gives iter (λ bits. v.list ≡ bits)) }
+        ensures list { IfOk result
+            (λ v. GivesAll I.into_iter_gives I.IntoIter.next_gives iter (λ bits. v.list ≡ bits)) }
+        ensures runs { IfOk result
+            (λ v. RunsThrough I.into_iter_gives I.IntoIter.next_gives iter (λ bits. v.list ≡ bits)) }
         ensures clean { IfOk result (λ v. IsClean T.BITS v) }
         ensures few { IfOk result (λ v. length v.list ≤ MAX_BITS) }
-        ensures too_long { result ≡ Err GrowError.TooLong → GivesFirst I.into_iter_gives I.IntoIter.next_gives iter (λ bits. MAX_BITS < length bits) }
-        ensures memory { result ≡ Err GrowError.OutOfMemory → GivesFirst I.into_iter_gives I.IntoIter.next_gives iter (λ bits. (0 < length bits) × (length bits ≤ MAX_BITS)) }
+        ensures too_long { result ≡ Err GrowError.TooLong
+            → GivesFirst I.into_iter_gives I.IntoIter.next_gives iter (λ bits. MAX_BITS < length bits) }
+        ensures memory { result ≡ Err GrowError.OutOfMemory
+            → GivesFirst I.into_iter_gives I.IntoIter.next_gives iter
+            (λ bits. (0 < length bits) × (length bits ≤ MAX_BITS)) }
     {
         let mut v = Self::new(alloc);
         match v.extend(iter) {
@@ -180,12 +204,20 @@ impl<T: BitStore, O: BitOrder> BitVec<T, O> {
     /// ```
     pub fn extend_words<I: IntoIterator<Item = T>>(&mut self, iter: I) -> Result<(), GrowError>
         requires { IsFiniteIterable I.into_iter_gives I.IntoIter.can_next I.IntoIter.remaining iter }
-        ensures joined { OnOk result (GivesAll I.into_iter_gives I.IntoIter.next_gives iter (λ words. (self.new.list ≡ self.old.list ++ row T.BitStore O.BitOrder words) × Grew T.BITS self.old self.new (row T.BitStore O.BitOrder words))) }
-        ensures runs { OnOk result (RunsThrough I.into_iter_gives I.IntoIter.next_gives iter (λ words. self.new.list ≡ self.old.list ++ row T.BitStore O.BitOrder words)) }
+        ensures joined { OnOk result (GivesAll I.into_iter_gives I.IntoIter.next_gives iter
+            (λ words. (self.new.list ≡ self.old.list ++ row T.BitStore O.BitOrder words)
+            × Grew T.BITS self.old self.new (row T.BitStore O.BitOrder words))) }
+        ensures runs { OnOk result (RunsThrough I.into_iter_gives I.IntoIter.next_gives iter
+            (λ words. self.new.list ≡ self.old.list ++ row T.BitStore O.BitOrder words)) }
         ensures clean { OnOk result (IsClean T.BITS self.old → IsClean T.BITS self.new) }
         ensures few { length self.new.list ≤ MAX_BITS }
-        ensures too_long { result ≡ Err GrowError.TooLong → GivesFirst I.into_iter_gives I.IntoIter.next_gives iter (λ words. MAX_BITS < length self.old.list + T.BITS * length words) }
-        ensures memory { result ≡ Err GrowError.OutOfMemory → GivesFirst I.into_iter_gives I.IntoIter.next_gives iter (λ words. (self.old.capacity < length self.old.list + T.BITS * length words) × (length self.old.list + T.BITS * length words ≤ MAX_BITS)) }
+        ensures too_long { result ≡ Err GrowError.TooLong
+            → GivesFirst I.into_iter_gives I.IntoIter.next_gives iter
+            (λ words. MAX_BITS < length self.old.list + T.BITS * length words) }
+        ensures memory { result ≡ Err GrowError.OutOfMemory
+            → GivesFirst I.into_iter_gives I.IntoIter.next_gives iter
+            (λ words. (self.old.capacity < length self.old.list + T.BITS * length words)
+            × (length self.old.list + T.BITS * length words ≤ MAX_BITS)) }
         ensures unchanged { OnErr result (self.new.list ≡ self.old.list) }
         ensures head { self.new.head ≡ self.old.head }
         ensures capacity { self.old.capacity ≤ self.new.capacity }
@@ -206,10 +238,17 @@ impl<T: BitStore, O: BitOrder> BitVec<T, O> {
     // Like `extend_words`.
     fn extend_by_words<I: IntoIterator<Item = T>>(&mut self, iter: I) -> Result<(), GrowError>
         requires { IsFiniteIterable I.into_iter_gives I.IntoIter.can_next I.IntoIter.remaining iter }
-        ensures joined { OnOk result (GivesAll I.into_iter_gives I.IntoIter.next_gives iter (λ words. (self.new.list ≡ self.old.list ++ row T.BitStore O.BitOrder words) × Grew T.BITS self.old self.new (row T.BitStore O.BitOrder words))) }
+        ensures joined { OnOk result (GivesAll I.into_iter_gives I.IntoIter.next_gives iter
+            (λ words. (self.new.list ≡ self.old.list ++ row T.BitStore O.BitOrder words)
+            × Grew T.BITS self.old self.new (row T.BitStore O.BitOrder words))) }
         ensures few { length self.new.list ≤ MAX_BITS }
-        ensures too_long { result ≡ Err GrowError.TooLong → GivesFirst I.into_iter_gives I.IntoIter.next_gives iter (λ words. MAX_BITS < length self.old.list + T.BITS * length words) }
-        ensures memory { result ≡ Err GrowError.OutOfMemory → GivesFirst I.into_iter_gives I.IntoIter.next_gives iter (λ words. (self.old.capacity < length self.old.list + T.BITS * length words) × (length self.old.list + T.BITS * length words ≤ MAX_BITS)) }
+        ensures too_long { result ≡ Err GrowError.TooLong
+            → GivesFirst I.into_iter_gives I.IntoIter.next_gives iter
+            (λ words. MAX_BITS < length self.old.list + T.BITS * length words) }
+        ensures memory { result ≡ Err GrowError.OutOfMemory
+            → GivesFirst I.into_iter_gives I.IntoIter.next_gives iter
+            (λ words. (self.old.capacity < length self.old.list + T.BITS * length words)
+            × (length self.old.list + T.BITS * length words ≤ MAX_BITS)) }
         ensures unchanged { OnErr result (self.new.list ≡ self.old.list) }
         ensures head { self.new.head ≡ self.old.head }
         ensures capacity { self.old.capacity ≤ self.new.capacity }
@@ -234,15 +273,21 @@ impl<T: BitStore, O: BitOrder> BitVec<T, O> {
     /// ```
     pub fn from_words<I: IntoIterator<Item = T>>(alloc: Global, iter: I) -> Result<Self, GrowError>
         requires { IsFiniteIterable I.into_iter_gives I.IntoIter.can_next I.IntoIter.remaining iter }
-        ensures words { IfOk result (λ v. GivesAll I.into_iter_gives I.IntoIter.next_gives iter (λ words. v.words ≡ words)) }
-        ensures runs { IfOk result (λ v. RunsThrough I.into_iter_gives I.IntoIter.next_gives iter (λ words. v.words ≡ words)) }
+        ensures words { IfOk result
+            (λ v. GivesAll I.into_iter_gives I.IntoIter.next_gives iter (λ words. v.words ≡ words)) }
+        ensures runs { IfOk result
+            (λ v. RunsThrough I.into_iter_gives I.IntoIter.next_gives iter (λ words. v.words ≡ words)) }
         ensures head { IfOk result (λ v. v.head ≡ 0) }
         ensures list { IfOk result (λ v. v.list ≡ row T.BitStore O.BitOrder v.words) }
         ensures row { IfOk result (λ v. v.row ≡ row T.BitStore O.BitOrder v.words) }
         ensures len { IfOk result (λ v. length v.list ≡ T.BITS * length v.words) }
         ensures clean { IfOk result (λ v. IsClean T.BITS v) }
-        ensures too_long { result ≡ Err GrowError.TooLong → GivesFirst I.into_iter_gives I.IntoIter.next_gives iter (λ words. MAX_BITS < T.BITS * length words) }
-        ensures memory { result ≡ Err GrowError.OutOfMemory → GivesFirst I.into_iter_gives I.IntoIter.next_gives iter (λ words. (0 < length words) × (T.BITS * length words ≤ MAX_BITS)) }
+        ensures too_long { result ≡ Err GrowError.TooLong
+            → GivesFirst I.into_iter_gives I.IntoIter.next_gives iter
+            (λ words. MAX_BITS < T.BITS * length words) }
+        ensures memory { result ≡ Err GrowError.OutOfMemory
+            → GivesFirst I.into_iter_gives I.IntoIter.next_gives iter
+            (λ words. (0 < length words) × (T.BITS * length words ≤ MAX_BITS)) }
     {
         let mut words = Vec::new(alloc);
         for word in iter {

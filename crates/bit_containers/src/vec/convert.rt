@@ -107,13 +107,15 @@ impl<T: BitStore, O: BitOrder> IntoBitVec for BitBox<T, O> {
 
     type Order = O;
 
-    ghost into_bitvec_gives = { λ b v. (v.words ≡ take (words_for T.BITS (b.head + length b.list)) b.words) × (v.head ≡ b.head) × (v.list ≡ b.list) };
+    ghost into_bitvec_gives = { λ b v. (v.words ≡ take (words_for T.BITS (b.head + length b.list)) b.words)
+        × (v.head ≡ b.head) × (v.list ≡ b.list) };
 
     /// The vector of the same head and list, whose words are the box's visible ones. The words are kept, no
     /// memory is taken, and it always succeeds.
     #[tactic(auto, using(crate::proofs::Elements::run_kept))]
     fn into_bitvec(self) -> Result<BitVec<T, O>, AllocError>
-        ensures words { IfOk result (λ v. v.words ≡ take (words_for T.BITS (self.head + length self.list)) self.words) }
+        ensures words { IfOk result
+            (λ v. v.words ≡ take (words_for T.BITS (self.head + length self.list)) self.words) }
         ensures head { IfOk result (λ v. v.head ≡ self.head) }
         ensures list { IfOk result (λ v. v.list ≡ self.list) }
         ensures succeeds { IsOk result }
@@ -126,7 +128,8 @@ impl<T: BitStore, O: BitOrder> IntoBitVec for BitBox<T, O> {
 
     /// Like `into_bitvec`.
     fn into_vec(self) -> Result<BitVec<T, O>, AllocError>
-        ensures words { IfOk result (λ v. v.words ≡ take (words_for T.BITS (self.head + length self.list)) self.words) }
+        ensures words { IfOk result
+            (λ v. v.words ≡ take (words_for T.BITS (self.head + length self.list)) self.words) }
         ensures head { IfOk result (λ v. v.head ≡ self.head) }
         ensures list { IfOk result (λ v. v.list ≡ self.list) }
         ensures succeeds { IsOk result }

@@ -185,14 +185,17 @@ impl<T: BitStore, O: BitOrder> BitVec<T, O> {
     /// ```
     pub fn drain<R: RangeExt>(&mut self, range: R) -> Drain<'_, T, O>
         requires lies { LiesIn (R.start_of range) (R.end_of range (length self.old.list)) (length self.old.list) }
-        ensures list { drain_rest result ≡ slice_range self.old.list (R.start_of range) (R.end_of range (length self.old.list)) }
+        ensures list { drain_rest result
+            ≡ slice_range self.old.list (R.start_of range) (R.end_of range (length self.old.list)) }
         ensures ready { DrainCanStep result }
         ensures same_vector { drain_lender result ≡ self.entry.ghost_name }
-        ensures kept { drain_kept result ≡ splice self.old.list (R.start_of range) (R.end_of range (length self.old.list)) [] }
+        ensures kept { drain_kept result
+            ≡ splice self.old.list (R.start_of range) (R.end_of range (length self.old.list)) [] }
         ensures head { drain_head result ≡ self.old.head }
         ensures capacity { drain_capacity result ≡ self.old.capacity }
         ensures runs { YieldsInOrder (DrainSteps {X = T} {Y = O} {W = T.BitStore} {P = O.BitOrder}) drain_rest }
-        ensures runs_back { YieldsInReverse (DrainStepsBack {X = T} {Y = O} {W = T.BitStore} {P = O.BitOrder}) drain_rest }
+        ensures runs_back { YieldsInReverse
+            (DrainStepsBack {X = T} {Y = O} {W = T.BitStore} {P = O.BitOrder}) drain_rest }
         ensures stays { DrainKeepsAlong result }
     {
         let len = self.len();

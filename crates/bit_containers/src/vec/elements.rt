@@ -35,7 +35,9 @@ impl<T: BitStore, O: BitOrder> BitVec<T, O> {
     pub fn set_elements(&mut self, word: T)
         ensures words { self.new.words ≡ replicate (length self.old.words) word }
         ensures row { self.new.row ≡ row T.BitStore O.BitOrder (replicate (length self.old.words) word) }
-        ensures list { self.new.list ≡ slice_range (row T.BitStore O.BitOrder (replicate (length self.old.words) word)) self.old.head (self.old.head + length self.old.list) }
+        ensures list { self.new.list
+            ≡ slice_range (row T.BitStore O.BitOrder (replicate (length self.old.words) word)) self.old.head
+            (self.old.head + length self.old.list) }
         ensures stayed { Stayed self.old self.new }
     {
         set_words_in_vec(&mut self.words, word);

@@ -93,7 +93,8 @@ impl<T: BitStore, O: BitOrder> BitVec<T, O> {
         ensures list { OnOk result (self.new.list ≡ take n self.old.list ++ replicate (n - length self.old.list) bit) }
         ensures len { OnOk result (length self.new.list ≡ n) }
         ensures succeeds { n ≤ length self.old.list → IsOk result }
-        ensures grew { OnOk result (length self.old.list < n → Grew T.BITS self.old self.new (replicate (n - length self.old.list) bit)) }
+        ensures grew { OnOk result (length self.old.list < n
+            → Grew T.BITS self.old self.new (replicate (n - length self.old.list) bit)) }
         ensures shrank { n ≤ length self.old.list → Shrank T.BITS self.old self.new n }
         ensures clean { OnOk result (length self.old.list < n → IsClean T.BITS self.old → IsClean T.BITS self.new) }
         ensures refusal { RefusesOnly result n self.old self.new }
@@ -123,7 +124,9 @@ impl<T: BitStore, O: BitOrder> BitVec<T, O> {
         ensures len { OnOk result (length self.new.list ≡ length self.old.list + T.BITS * length words.now) }
         ensures list { OnOk result (self.new.list ≡ self.old.list ++ row T.BitStore O.BitOrder words.now) }
         ensures row { OnOk result (Grew T.BITS self.old self.new (row T.BitStore O.BitOrder words.now)) }
-        ensures words { OnOk result (self.old.head ≡ 0 → length self.old.list ≡ T.BITS * length self.old.words → self.new.words ≡ self.old.words ++ words.now) }
+        ensures words { OnOk result (self.old.head ≡ 0
+            → length self.old.list ≡ T.BITS * length self.old.words
+            → self.new.words ≡ self.old.words ++ words.now) }
         ensures clean { OnOk result (IsClean T.BITS self.old → IsClean T.BITS self.new) }
         ensures refusal { RefusesOnly result (length self.old.list + T.BITS * length words.now) self.old self.new }
         ensures capacity { self.old.capacity ≤ self.new.capacity }
@@ -147,10 +150,15 @@ impl<T: BitStore, O: BitOrder> BitVec<T, O> {
     #[tactic(auto, using(bit_slice::proofs::Parts::shown_length))]
     pub fn extend_from_within<R: RangeExt>(&mut self, range: R) -> Result<(), GrowError>
         requires lies { LiesIn (R.start_of range) (R.end_of range (length self.old.list)) (length self.old.list) }
-        ensures list { OnOk result (self.new.list ≡ self.old.list ++ slice_range self.old.list (R.start_of range) (R.end_of range (length self.old.list))) }
-        ensures row { OnOk result (Grew T.BITS self.old self.new (slice_range self.old.list (R.start_of range) (R.end_of range (length self.old.list)))) }
+        ensures list { OnOk result (self.new.list
+            ≡ self.old.list
+            ++ slice_range self.old.list (R.start_of range) (R.end_of range (length self.old.list))) }
+        ensures row { OnOk result (Grew T.BITS self.old self.new
+            (slice_range self.old.list (R.start_of range) (R.end_of range (length self.old.list)))) }
         ensures clean { OnOk result (IsClean T.BITS self.old → IsClean T.BITS self.new) }
-        ensures refusal { RefusesOnly result (length self.old.list + (R.end_of range (length self.old.list) - R.start_of range)) self.old self.new }
+        ensures refusal { RefusesOnly result
+            (length self.old.list + (R.end_of range (length self.old.list) - R.start_of range)) self.old
+            self.new }
         ensures capacity { self.old.capacity ≤ self.new.capacity }
     {
         let range = range.normalize(self.len);

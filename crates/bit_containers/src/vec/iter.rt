@@ -21,8 +21,10 @@ impl<T: BitStore, O: BitOrder> BitVec<T, O> {
     pub fn iter(&self) -> Iter<'_, T, O>
         ensures list { rest_of result ≡ self.now.list }
         ensures few { length (rest_of result) ≤ MAX_BITS }
-        ensures runs { YieldsInOrder (YieldsFirst (rest_of {X = T} {Y = O} {W = T.BitStore} {P = O.BitOrder})) rest_of }
-        ensures runs_back { YieldsInReverse (YieldsLast (rest_of {X = T} {Y = O} {W = T.BitStore} {P = O.BitOrder})) rest_of }
+        ensures runs { YieldsInOrder
+            (YieldsFirst (rest_of {X = T} {Y = O} {W = T.BitStore} {P = O.BitOrder})) rest_of }
+        ensures runs_back { YieldsInReverse
+            (YieldsLast (rest_of {X = T} {Y = O} {W = T.BitStore} {P = O.BitOrder})) rest_of }
     {
         self.as_bitslice().iter()
     }
@@ -33,7 +35,9 @@ impl<'a, T: BitStore, O: BitOrder> IntoIterator for &'a BitVec<T, O> {
 
     type IntoIter = Iter<'a, T, O>;
 
-    ghost into_iter_gives = { λ v r. (rest_of r ≡ v.now.list) × (length (rest_of r) ≤ MAX_BITS) × YieldsInOrder (YieldsFirst (rest_of {X = T} {Y = O} {W = T.BitStore} {P = O.BitOrder})) rest_of × YieldsInReverse (YieldsLast (rest_of {X = T} {Y = O} {W = T.BitStore} {P = O.BitOrder})) rest_of };
+    ghost into_iter_gives = { λ v r. (rest_of r ≡ v.now.list) × (length (rest_of r) ≤ MAX_BITS)
+        × YieldsInOrder (YieldsFirst (rest_of {X = T} {Y = O} {W = T.BitStore} {P = O.BitOrder})) rest_of
+        × YieldsInReverse (YieldsLast (rest_of {X = T} {Y = O} {W = T.BitStore} {P = O.BitOrder})) rest_of };
 
     /// Like `iter`: the items are truth values.
     fn into_iter(self) -> Iter<'a, T, O> {
@@ -46,7 +50,9 @@ impl<T: BitStore, O: BitOrder> IntoIterator for BitVec<T, O> {
 
     type IntoIter = IntoIter<T, O>;
 
-    ghost into_iter_gives = { λ v r. (r.words ≡ v.words) × (r.head ≡ v.head) × (r.list ≡ v.list) × (length r.list ≤ MAX_BITS) × GivesInOrder (rest_owned {X = T}) × GivesInReverse (rest_owned {X = T}) };
+    ghost into_iter_gives = { λ v r. (r.words ≡ v.words) × (r.head ≡ v.head) × (r.list ≡ v.list)
+        × (length r.list ≤ MAX_BITS) × GivesInOrder (rest_owned {X = T})
+        × GivesInReverse (rest_owned {X = T}) };
 
     /// The bits in order, from both ends; the vector is given up, and its words are kept. Takes no memory.
     fn into_iter(self) -> IntoIter<T, O> {

@@ -13,8 +13,9 @@ use bit_slice::BitSlice;
 use std::alloc::{AllocError, Global};
 
 impl<T: BitStore, O: BitOrder> BitVec<T, O> {
-    /// All bits of these bytes, each byte in the order `P`, from head 0 on, by whole words: eight bits a byte, whatever
-    /// words the vector has. Returns `TooLong` exactly where they pass `MAX_BITS`. Takes memory where there is a byte.
+    /// All bits of these bytes, each byte in the order `P`, from head 0 on, by whole words: eight bits a byte,
+    /// whatever words the vector has. Returns `TooLong` exactly where they pass `MAX_BITS`. Takes memory where
+    /// there is a byte.
     ///
     /// ```text
     /// BitVec::<u16, Lsb0>::from_bytes::<Msb0>(alloc, &[0xa0])?     // 1, 0, 1, 0, 0, 0, 0, 0
@@ -34,14 +35,16 @@ impl<T: BitStore, O: BitOrder> BitVec<T, O> {
         Ok(v)
     }
 
-    /// The list as bytes, each in the order `P`, by whole words; the bits of the last byte that the list does not reach are
-    /// false. Head, words and dead bits don't count. Takes memory where there is a bit, and is refused only then.
+    /// The list as bytes, each in the order `P`, by whole words; the bits of the last byte that the list does
+    /// not reach are false. Head, words and dead bits don't count. Takes memory where there is a bit, and is
+    /// refused only then.
     ///
     /// ```text
     /// of the bits 1, 0, 1:  v.to_bytes::<Msb0>(alloc)?     // the one byte 0xa0
     /// ```
     pub fn to_bytes<P: BitOrder>(&self, alloc: Global) -> Result<Vec<u8>, AllocError>
-        ensures bytes { IfOk result (λ bytes. bytes.items ≡ words_for_list ⟦<u8 as BitStore>⟧ P.BitOrder self.now.list) }
+        ensures bytes { IfOk result
+            (λ bytes. bytes.items ≡ words_for_list ⟦<u8 as BitStore>⟧ P.BitOrder self.now.list) }
         ensures len { IfOk result (λ bytes. length bytes.items ≡ words_for 8 (length self.now.list)) }
         ensures memory { OnErr result (0 < length self.now.list) }
     {

@@ -37,7 +37,8 @@ impl<T: BitStore, O: BitOrder> BitVec<T, O> {
         self.as_bitslice().cmp_bits(other)
     }
 
-    /// Makes each bit into the one that `F` makes of it and of the one at its index in a view, or of false past its end.
+    /// Makes each bit into the one that `F` makes of it and of the one at its index in a view, or of false past
+    /// its end.
     #[tactic(auto, using(bit_slice::proofs::Parts::shown_length))]
     pub(crate) fn combine<F: BitOperator, U: BitStore, P: BitOrder>(
         &mut self,
@@ -45,7 +46,8 @@ impl<T: BitStore, O: BitOrder> BitVec<T, O> {
     )
         ensures list { self.new.list ≡ combined F.made self.old.list (list_of other.entry) }
         ensures index { CombinesEach F.made self.old.list (list_of other.entry) self.new.list }
-        ensures row { self.new.row ≡ put self.old.row self.old.head (combined F.made self.old.list (list_of other.entry)) }
+        ensures row { self.new.row
+            ≡ put self.old.row self.old.head (combined F.made self.old.list (list_of other.entry)) }
         ensures clean { IsClean T.BITS self.old → IsClean T.BITS self.new }
         ensures stayed { Stayed self.old self.new }
     {
@@ -107,7 +109,9 @@ impl<T: BitStore, O: BitOrder> BitVec<T, O> {
         ensures list { OnOk result (self.new.list ≡ filled_up self.old.list n) }
         ensures len { OnOk result (length self.new.list ≡ max (length self.old.list) n) }
         ensures head { self.new.head ≡ self.old.head }
-        ensures row { OnOk result (self.new.row ≡ put (sized T.BITS self.old.row (self.old.head + length self.new.list)) (self.old.head + length self.old.list) (replicate (n - length self.old.list) false)) }
+        ensures row { OnOk result (self.new.row
+            ≡ put (sized T.BITS self.old.row (self.old.head + length self.new.list))
+            (self.old.head + length self.old.list) (replicate (n - length self.old.list) false)) }
         ensures clean { OnOk result (IsClean T.BITS self.old → IsClean T.BITS self.new) }
         ensures refusal { RefusesOnly result n self.old self.new }
         ensures capacity { self.old.capacity ≤ self.new.capacity }
@@ -126,25 +130,29 @@ impl<T: BitStore, O: BitOrder> BitVec<T, O> {
         &mut self,
         other: BitSlice<'_, U, P>,
     ) -> Result<(), GrowError>
-        ensures list { OnOk result (self.new.list ≡ combined F.made (filled_up self.old.list (len_of other.entry)) (list_of other.entry)) }
+        ensures list { OnOk result (self.new.list
+            ≡ combined F.made (filled_up self.old.list (len_of other.entry)) (list_of other.entry)) }
         ensures len { OnOk result (length self.new.list ≡ max (length self.old.list) (len_of other.entry)) }
         ensures index { OnOk result (CombinesAll F.made self.old.list (list_of other.entry) self.new.list) }
         ensures head { self.new.head ≡ self.old.head }
-        ensures row { OnOk result (self.new.row ≡ put (sized T.BITS self.old.row (self.old.head + length self.new.list)) self.old.head self.new.list) }
+        ensures row { OnOk result (self.new.row
+            ≡ put (sized T.BITS self.old.row (self.old.head + length self.new.list)) self.old.head
+            self.new.list) }
         ensures clean { OnOk result (IsClean T.BITS self.old → IsClean T.BITS self.new) }
         ensures refusal { RefusesOnly result (len_of other.entry) self.old self.new }
         ensures capacity { self.old.capacity ≤ self.new.capacity }
-        ensures no_memory { len_of other.entry ≤ length self.old.list → IsOk result × (self.new.capacity ≡ self.old.capacity) }
+        ensures no_memory { len_of other.entry ≤ length self.old.list
+            → IsOk result × (self.new.capacity ≡ self.old.capacity) }
     {
         self.fill_up(other.len())?;
         self.combine::<F, U, P>(other);
         Ok(())
     }
 
-    /// Sets each bit that is true in a view, which may be longer: the vector becomes as long as the longer of both, and
-    /// the shorter counts as filled up with false. It returns `TooLong` exactly where the view has more than `MAX_BITS`
-    /// bits, and `OutOfMemory` only where it has more than the capacity; a refusal leaves the vector. Where the
-    /// view is not longer it takes no memory and always succeeds.
+    /// Sets each bit that is true in a view, which may be longer: the vector becomes as long as the longer of
+    /// both, and the shorter counts as filled up with false. It returns `TooLong` exactly where the view has
+    /// more than `MAX_BITS` bits, and `OutOfMemory` only where it has more than the capacity; a refusal leaves
+    /// the vector. Where the view is not longer it takes no memory and always succeeds.
     ///
     /// ```text
     /// of the bits 1, 0 and a view of 0, 0, 0, 1:  v.or_growing(view)?     // 1, 0, 0, 1
@@ -153,21 +161,26 @@ impl<T: BitStore, O: BitOrder> BitVec<T, O> {
         &mut self,
         other: BitSlice<'_, U, P>,
     ) -> Result<(), GrowError>
-        ensures list { OnOk result (self.new.list ≡ or_of (filled_up self.old.list (len_of other.entry)) (list_of other.entry)) }
+        ensures list { OnOk result
+            (self.new.list ≡ or_of (filled_up self.old.list (len_of other.entry)) (list_of other.entry)) }
         ensures len { OnOk result (length self.new.list ≡ max (length self.old.list) (len_of other.entry)) }
         ensures index { OnOk result (CombinesAll (λ x y. x || y) self.old.list (list_of other.entry) self.new.list) }
         ensures head { self.new.head ≡ self.old.head }
-        ensures row { OnOk result (self.new.row ≡ put (sized T.BITS self.old.row (self.old.head + length self.new.list)) self.old.head self.new.list) }
+        ensures row { OnOk result (self.new.row
+            ≡ put (sized T.BITS self.old.row (self.old.head + length self.new.list)) self.old.head
+            self.new.list) }
         ensures clean { OnOk result (IsClean T.BITS self.old → IsClean T.BITS self.new) }
         ensures refusal { RefusesOnly result (len_of other.entry) self.old self.new }
         ensures capacity { self.old.capacity ≤ self.new.capacity }
-        ensures no_memory { len_of other.entry ≤ length self.old.list → IsOk result × (self.new.capacity ≡ self.old.capacity) }
+        ensures no_memory { len_of other.entry ≤ length self.old.list
+            → IsOk result × (self.new.capacity ≡ self.old.capacity) }
     {
         self.combine_growing::<Or, U, P>(other)
     }
 
-    /// Flips each bit that is true in a view, which may be longer: the vector becomes as long as the longer of both, and
-    /// the shorter counts as filled up with false. It is refused like `or_growing`, and takes memory where that does.
+    /// Flips each bit that is true in a view, which may be longer: the vector becomes as long as the longer of
+    /// both, and the shorter counts as filled up with false. It is refused like `or_growing`, and takes memory
+    /// where that does.
     ///
     /// ```text
     /// of the bits 1, 1 and a view of 1, 0, 1:  v.xor_growing(view)?      // 0, 1, 1
@@ -176,15 +189,20 @@ impl<T: BitStore, O: BitOrder> BitVec<T, O> {
         &mut self,
         other: BitSlice<'_, U, P>,
     ) -> Result<(), GrowError>
-        ensures list { OnOk result (self.new.list ≡ xor_of (filled_up self.old.list (len_of other.entry)) (list_of other.entry)) }
+        ensures list { OnOk result
+            (self.new.list ≡ xor_of (filled_up self.old.list (len_of other.entry)) (list_of other.entry)) }
         ensures len { OnOk result (length self.new.list ≡ max (length self.old.list) (len_of other.entry)) }
-        ensures index { OnOk result (CombinesAll (λ x y. if x then not y else y) self.old.list (list_of other.entry) self.new.list) }
+        ensures index { OnOk result (CombinesAll (λ x y. if x then not y else y) self.old.list
+            (list_of other.entry) self.new.list) }
         ensures head { self.new.head ≡ self.old.head }
-        ensures row { OnOk result (self.new.row ≡ put (sized T.BITS self.old.row (self.old.head + length self.new.list)) self.old.head self.new.list) }
+        ensures row { OnOk result (self.new.row
+            ≡ put (sized T.BITS self.old.row (self.old.head + length self.new.list)) self.old.head
+            self.new.list) }
         ensures clean { OnOk result (IsClean T.BITS self.old → IsClean T.BITS self.new) }
         ensures refusal { RefusesOnly result (len_of other.entry) self.old self.new }
         ensures capacity { self.old.capacity ≤ self.new.capacity }
-        ensures no_memory { len_of other.entry ≤ length self.old.list → IsOk result × (self.new.capacity ≡ self.old.capacity) }
+        ensures no_memory { len_of other.entry ≤ length self.old.list
+            → IsOk result × (self.new.capacity ≡ self.old.capacity) }
     {
         self.combine_growing::<Xor, U, P>(other)
     }
@@ -208,7 +226,8 @@ impl<T: BitStore, O: BitOrder> BitVec<T, O> {
 impl<T: BitStore, O: BitOrder> Not for BitVec<T, O> {
     type Output = Self;
 
-    ghost not_gives = { λ a b. (b.list ≡ map not a.list) × FlipsEach a.list b.list × (b.row ≡ map not a.row) × Stayed a b };
+    ghost not_gives = { λ a b. (b.list ≡ map not a.list) × FlipsEach a.list b.list × (b.row ≡ map not a.row)
+        × Stayed a b };
 
     /// The whole row flipped: the bits of the list, and the dead ones too.
     fn not(mut self) -> Self {
@@ -237,7 +256,9 @@ impl<T: BitStore, O: BitOrder> Index<usize> for BitVec<T, O> {
 }
 
 impl<T: BitStore, O: BitOrder> BitAndAssign for BitVec<T, O> {
-    ghost bitand_assign_gives = { λ a b c. (c.list ≡ and_of a.list b.list) × AndsEach a.list b.list c.list × (c.row ≡ put a.row a.head (and_of a.list b.list)) × Stayed a c × (IsClean T.BITS a → IsClean T.BITS c) };
+    ghost bitand_assign_gives = { λ a b c. (c.list ≡ and_of a.list b.list) × AndsEach a.list b.list c.list
+        × (c.row ≡ put a.row a.head (and_of a.list b.list)) × Stayed a c
+        × (IsClean T.BITS a → IsClean T.BITS c) };
 
     /// Clears each bit that is false in the right side, or that it is too short for. No dead bit changes.
     fn bitand_assign(&mut self, rhs: Self) {
@@ -248,7 +269,9 @@ impl<T: BitStore, O: BitOrder> BitAndAssign for BitVec<T, O> {
 impl<T: BitStore, O: BitOrder> BitAnd for BitVec<T, O> {
     type Output = Self;
 
-    ghost bitand_gives = { λ a b c. (c.list ≡ and_of a.list b.list) × AndsEach a.list b.list c.list × (c.row ≡ put a.row a.head (and_of a.list b.list)) × Stayed a c × (IsClean T.BITS a → IsClean T.BITS c) };
+    ghost bitand_gives = { λ a b c. (c.list ≡ and_of a.list b.list) × AndsEach a.list b.list c.list
+        × (c.row ≡ put a.row a.head (and_of a.list b.list)) × Stayed a c
+        × (IsClean T.BITS a → IsClean T.BITS c) };
 
     /// The bits that are true in both; the left side's words.
     fn bitand(mut self, rhs: Self) -> Self {
@@ -258,7 +281,9 @@ impl<T: BitStore, O: BitOrder> BitAnd for BitVec<T, O> {
 }
 
 impl<T: BitStore, O: BitOrder> BitOrAssign for BitVec<T, O> {
-    ghost bitor_assign_gives = { λ a b c. (c.list ≡ or_of a.list b.list) × OrsEach a.list b.list c.list × (c.row ≡ put a.row a.head (or_of a.list b.list)) × Stayed a c × (IsClean T.BITS a → IsClean T.BITS c) };
+    ghost bitor_assign_gives = { λ a b c. (c.list ≡ or_of a.list b.list) × OrsEach a.list b.list c.list
+        × (c.row ≡ put a.row a.head (or_of a.list b.list)) × Stayed a c
+        × (IsClean T.BITS a → IsClean T.BITS c) };
 
     /// Sets each bit that is true in the right side. No dead bit changes.
     fn bitor_assign(&mut self, rhs: Self) {
@@ -269,7 +294,9 @@ impl<T: BitStore, O: BitOrder> BitOrAssign for BitVec<T, O> {
 impl<T: BitStore, O: BitOrder> BitOr for BitVec<T, O> {
     type Output = Self;
 
-    ghost bitor_gives = { λ a b c. (c.list ≡ or_of a.list b.list) × OrsEach a.list b.list c.list × (c.row ≡ put a.row a.head (or_of a.list b.list)) × Stayed a c × (IsClean T.BITS a → IsClean T.BITS c) };
+    ghost bitor_gives = { λ a b c. (c.list ≡ or_of a.list b.list) × OrsEach a.list b.list c.list
+        × (c.row ≡ put a.row a.head (or_of a.list b.list)) × Stayed a c
+        × (IsClean T.BITS a → IsClean T.BITS c) };
 
     /// The bits that are true in one or in both; the left side's words.
     fn bitor(mut self, rhs: Self) -> Self {
@@ -279,7 +306,9 @@ impl<T: BitStore, O: BitOrder> BitOr for BitVec<T, O> {
 }
 
 impl<T: BitStore, O: BitOrder> BitXorAssign for BitVec<T, O> {
-    ghost bitxor_assign_gives = { λ a b c. (c.list ≡ xor_of a.list b.list) × XorsEach a.list b.list c.list × (c.row ≡ put a.row a.head (xor_of a.list b.list)) × Stayed a c × (IsClean T.BITS a → IsClean T.BITS c) };
+    ghost bitxor_assign_gives = { λ a b c. (c.list ≡ xor_of a.list b.list) × XorsEach a.list b.list c.list
+        × (c.row ≡ put a.row a.head (xor_of a.list b.list)) × Stayed a c
+        × (IsClean T.BITS a → IsClean T.BITS c) };
 
     /// Flips each bit that is true in the right side. No dead bit changes.
     fn bitxor_assign(&mut self, rhs: Self) {
@@ -290,7 +319,9 @@ impl<T: BitStore, O: BitOrder> BitXorAssign for BitVec<T, O> {
 impl<T: BitStore, O: BitOrder> BitXor for BitVec<T, O> {
     type Output = Self;
 
-    ghost bitxor_gives = { λ a b c. (c.list ≡ xor_of a.list b.list) × XorsEach a.list b.list c.list × (c.row ≡ put a.row a.head (xor_of a.list b.list)) × Stayed a c × (IsClean T.BITS a → IsClean T.BITS c) };
+    ghost bitxor_gives = { λ a b c. (c.list ≡ xor_of a.list b.list) × XorsEach a.list b.list c.list
+        × (c.row ≡ put a.row a.head (xor_of a.list b.list)) × Stayed a c
+        × (IsClean T.BITS a → IsClean T.BITS c) };
 
     /// The bits that are true in one alone; the left side's words.
     fn bitxor(mut self, rhs: Self) -> Self {

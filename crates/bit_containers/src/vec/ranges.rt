@@ -24,8 +24,12 @@ impl<T: BitStore, O: BitOrder> BitVec<T, O> {
     #[tactic(auto, using(bit_slice::proofs::Parts::shown_length))]
     pub fn fill_range<R: RangeExt>(&mut self, range: R, bit: bool)
         requires lies { LiesIn (R.start_of range) (R.end_of range (length self.old.list)) (length self.old.list) }
-        ensures list { self.new.list ≡ put self.old.list (R.start_of range) (replicate (R.end_of range (length self.old.list) - R.start_of range) bit) }
-        ensures row { self.new.row ≡ put self.old.row (self.old.head + R.start_of range) (replicate (R.end_of range (length self.old.list) - R.start_of range) bit) }
+        ensures list { self.new.list
+            ≡ put self.old.list (R.start_of range)
+            (replicate (R.end_of range (length self.old.list) - R.start_of range) bit) }
+        ensures row { self.new.row
+            ≡ put self.old.row (self.old.head + R.start_of range)
+            (replicate (R.end_of range (length self.old.list) - R.start_of range) bit) }
         ensures clean { IsClean T.BITS self.old → IsClean T.BITS self.new }
         ensures stayed { Stayed self.old self.new }
     {
@@ -42,8 +46,13 @@ impl<T: BitStore, O: BitOrder> BitVec<T, O> {
     #[tactic(auto, using(bit_slice::proofs::Parts::shown_length))]
     pub fn flip_range<R: RangeExt>(&mut self, range: R)
         requires lies { LiesIn (R.start_of range) (R.end_of range (length self.old.list)) (length self.old.list) }
-        ensures list { self.new.list ≡ put self.old.list (R.start_of range) (map not (slice_range self.old.list (R.start_of range) (R.end_of range (length self.old.list)))) }
-        ensures row { self.new.row ≡ put self.old.row (self.old.head + R.start_of range) (map not (slice_range self.old.list (R.start_of range) (R.end_of range (length self.old.list)))) }
+        ensures list { self.new.list
+            ≡ put self.old.list (R.start_of range) (map not
+            (slice_range self.old.list (R.start_of range) (R.end_of range (length self.old.list)))) }
+        ensures row { self.new.row
+            ≡ put self.old.row (self.old.head + R.start_of range)
+            (map not
+            (slice_range self.old.list (R.start_of range) (R.end_of range (length self.old.list)))) }
         ensures clean { IsClean T.BITS self.old → IsClean T.BITS self.new }
         ensures stayed { Stayed self.old self.new }
     {
@@ -59,7 +68,8 @@ impl<T: BitStore, O: BitOrder> BitVec<T, O> {
     pub fn flip(&mut self, i: usize)
         requires { i < length self.old.list }
         ensures list { self.new.list ≡ set self.old.list i (not (slice_index_or self.old.list i false)) }
-        ensures row { self.new.row ≡ set self.old.row (self.old.head + i) (not (slice_index_or self.old.list i false)) }
+        ensures row { self.new.row
+            ≡ set self.old.row (self.old.head + i) (not (slice_index_or self.old.list i false)) }
         ensures item { slice_get self.new.list i ≡ option_map not (slice_get self.old.list i) }
         ensures clean { IsClean T.BITS self.old → IsClean T.BITS self.new }
         ensures stayed { Stayed self.old self.new }
@@ -114,8 +124,15 @@ impl<T: BitStore, O: BitOrder> BitVec<T, O> {
         other: BitSlice<'_, U, P>,
     )
         requires lies { LiesIn (R.start_of range) (R.end_of range (length self.old.list)) (length self.old.list) }
-        ensures list { self.new.list ≡ put self.old.list (R.start_of range) (combined F.made (slice_range self.old.list (R.start_of range) (R.end_of range (length self.old.list))) (list_of other.entry)) }
-        ensures row { self.new.row ≡ put self.old.row (self.old.head + R.start_of range) (combined F.made (slice_range self.old.list (R.start_of range) (R.end_of range (length self.old.list))) (list_of other.entry)) }
+        ensures list { self.new.list
+            ≡ put self.old.list (R.start_of range) (combined F.made
+            (slice_range self.old.list (R.start_of range) (R.end_of range (length self.old.list)))
+            (list_of other.entry)) }
+        ensures row { self.new.row
+            ≡ put self.old.row (self.old.head + R.start_of range)
+            (combined F.made
+            (slice_range self.old.list (R.start_of range) (R.end_of range (length self.old.list)))
+            (list_of other.entry)) }
         ensures clean { IsClean T.BITS self.old → IsClean T.BITS self.new }
         ensures stayed { Stayed self.old self.new }
     {
@@ -136,8 +153,14 @@ impl<T: BitStore, O: BitOrder> BitVec<T, O> {
         other: BitSlice<'_, U, P>,
     )
         requires lies { LiesIn (R.start_of range) (R.end_of range (length self.old.list)) (length self.old.list) }
-        ensures list { self.new.list ≡ put self.old.list (R.start_of range) (and_of (slice_range self.old.list (R.start_of range) (R.end_of range (length self.old.list))) (list_of other.entry)) }
-        ensures row { self.new.row ≡ put self.old.row (self.old.head + R.start_of range) (and_of (slice_range self.old.list (R.start_of range) (R.end_of range (length self.old.list))) (list_of other.entry)) }
+        ensures list { self.new.list
+            ≡ put self.old.list (R.start_of range) (and_of
+            (slice_range self.old.list (R.start_of range) (R.end_of range (length self.old.list)))
+            (list_of other.entry)) }
+        ensures row { self.new.row
+            ≡ put self.old.row (self.old.head + R.start_of range)
+            (and_of (slice_range self.old.list (R.start_of range) (R.end_of range (length self.old.list)))
+            (list_of other.entry)) }
         ensures clean { IsClean T.BITS self.old → IsClean T.BITS self.new }
         ensures stayed { Stayed self.old self.new }
     {
@@ -156,8 +179,14 @@ impl<T: BitStore, O: BitOrder> BitVec<T, O> {
         other: BitSlice<'_, U, P>,
     )
         requires lies { LiesIn (R.start_of range) (R.end_of range (length self.old.list)) (length self.old.list) }
-        ensures list { self.new.list ≡ put self.old.list (R.start_of range) (or_of (slice_range self.old.list (R.start_of range) (R.end_of range (length self.old.list))) (list_of other.entry)) }
-        ensures row { self.new.row ≡ put self.old.row (self.old.head + R.start_of range) (or_of (slice_range self.old.list (R.start_of range) (R.end_of range (length self.old.list))) (list_of other.entry)) }
+        ensures list { self.new.list
+            ≡ put self.old.list (R.start_of range) (or_of
+            (slice_range self.old.list (R.start_of range) (R.end_of range (length self.old.list)))
+            (list_of other.entry)) }
+        ensures row { self.new.row
+            ≡ put self.old.row (self.old.head + R.start_of range)
+            (or_of (slice_range self.old.list (R.start_of range) (R.end_of range (length self.old.list)))
+            (list_of other.entry)) }
         ensures clean { IsClean T.BITS self.old → IsClean T.BITS self.new }
         ensures stayed { Stayed self.old self.new }
     {
@@ -176,8 +205,14 @@ impl<T: BitStore, O: BitOrder> BitVec<T, O> {
         other: BitSlice<'_, U, P>,
     )
         requires lies { LiesIn (R.start_of range) (R.end_of range (length self.old.list)) (length self.old.list) }
-        ensures list { self.new.list ≡ put self.old.list (R.start_of range) (xor_of (slice_range self.old.list (R.start_of range) (R.end_of range (length self.old.list))) (list_of other.entry)) }
-        ensures row { self.new.row ≡ put self.old.row (self.old.head + R.start_of range) (xor_of (slice_range self.old.list (R.start_of range) (R.end_of range (length self.old.list))) (list_of other.entry)) }
+        ensures list { self.new.list
+            ≡ put self.old.list (R.start_of range) (xor_of
+            (slice_range self.old.list (R.start_of range) (R.end_of range (length self.old.list)))
+            (list_of other.entry)) }
+        ensures row { self.new.row
+            ≡ put self.old.row (self.old.head + R.start_of range)
+            (xor_of (slice_range self.old.list (R.start_of range) (R.end_of range (length self.old.list)))
+            (list_of other.entry)) }
         ensures clean { IsClean T.BITS self.old → IsClean T.BITS self.new }
         ensures stayed { Stayed self.old self.new }
     {

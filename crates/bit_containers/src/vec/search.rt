@@ -56,7 +56,8 @@ impl<T: BitStore, O: BitOrder> BitVec<T, O> {
         ensures inside { IfSome result (λ i. i < length self.now.list) }
         ensures few { IfSome result (λ i. i < MAX_BITS) }
         ensures found { IfSome result (λ i. slice_get self.now.list i ≡ Some true) }
-        ensures after { IfSome result (λ i. (j : ℕ) → i < j → j < length self.now.list → slice_get self.now.list j ≡ Some false) }
+        ensures after { IfSome result
+            (λ i. (j : ℕ) → i < j → j < length self.now.list → slice_get self.now.list j ≡ Some false) }
         ensures none { IfNone result (EachIndex self.now.list (λ j. slice_get self.now.list j ≡ Some false)) }
     {
         self.as_bitslice().last_one()
@@ -71,7 +72,8 @@ impl<T: BitStore, O: BitOrder> BitVec<T, O> {
         ensures inside { IfSome result (λ i. i < length self.now.list) }
         ensures few { IfSome result (λ i. i < MAX_BITS) }
         ensures found { IfSome result (λ i. slice_get self.now.list i ≡ Some false) }
-        ensures after { IfSome result (λ i. (j : ℕ) → i < j → j < length self.now.list → slice_get self.now.list j ≡ Some true) }
+        ensures after { IfSome result
+            (λ i. (j : ℕ) → i < j → j < length self.now.list → slice_get self.now.list j ≡ Some true) }
         ensures none { IfNone result (EachIndex self.now.list (λ j. slice_get self.now.list j ≡ Some true)) }
     {
         self.as_bitslice().last_zero()
@@ -89,7 +91,8 @@ impl<T: BitStore, O: BitOrder> BitVec<T, O> {
         ensures few { IfSome result (λ i. i < MAX_BITS) }
         ensures found { IfSome result (λ i. slice_get self.now.list i ≡ Some true) }
         ensures before { IfSome result (λ i. (j : ℕ) → from ≤ j → j < i → slice_get self.now.list j ≡ Some false) }
-        ensures none { IfNone result ((j : ℕ) → from ≤ j → j < length self.now.list → slice_get self.now.list j ≡ Some false) }
+        ensures none { IfNone result
+            ((j : ℕ) → from ≤ j → j < length self.now.list → slice_get self.now.list j ≡ Some false) }
     {
         self.as_bitslice().next_one(from)
     }
@@ -106,7 +109,8 @@ impl<T: BitStore, O: BitOrder> BitVec<T, O> {
         ensures few { IfSome result (λ i. i < MAX_BITS) }
         ensures found { IfSome result (λ i. slice_get self.now.list i ≡ Some false) }
         ensures before { IfSome result (λ i. (j : ℕ) → from ≤ j → j < i → slice_get self.now.list j ≡ Some true) }
-        ensures none { IfNone result ((j : ℕ) → from ≤ j → j < length self.now.list → slice_get self.now.list j ≡ Some true) }
+        ensures none { IfNone result
+            ((j : ℕ) → from ≤ j → j < length self.now.list → slice_get self.now.list j ≡ Some true) }
     {
         self.as_bitslice().next_zero(from)
     }
@@ -148,7 +152,8 @@ impl<T: BitStore, O: BitOrder> BitVec<T, O> {
         ensures value { result ≡ suffix_len (λ b. b) self.now.list }
         ensures most { result ≤ length self.now.list }
         ensures each { (j : ℕ) → j < result → slice_get self.now.list (length self.now.list - 1 - j) ≡ Some true }
-        ensures next { result < length self.now.list → slice_get self.now.list (length self.now.list - 1 - result) ≡ Some false }
+        ensures next { result < length self.now.list
+            → slice_get self.now.list (length self.now.list - 1 - result) ≡ Some false }
     {
         self.as_bitslice().trailing_ones()
     }
@@ -162,7 +167,8 @@ impl<T: BitStore, O: BitOrder> BitVec<T, O> {
         ensures value { result ≡ suffix_len not self.now.list }
         ensures most { result ≤ length self.now.list }
         ensures each { (j : ℕ) → j < result → slice_get self.now.list (length self.now.list - 1 - j) ≡ Some false }
-        ensures next { result < length self.now.list → slice_get self.now.list (length self.now.list - 1 - result) ≡ Some true }
+        ensures next { result < length self.now.list
+            → slice_get self.now.list (length self.now.list - 1 - result) ≡ Some true }
     {
         self.as_bitslice().trailing_zeros()
     }
@@ -215,8 +221,10 @@ impl<T: BitStore, O: BitOrder> BitVec<T, O> {
         ensures few { length (ones_left result) ≤ MAX_BITS }
         ensures set { All (λ i. slice_get self.now.list i ≡ Some true) (ones_left result) }
         ensures inside { All (λ i. i < length self.now.list) (ones_left result) }
-        ensures runs { YieldsInOrder (YieldsFirst (ones_left {X = T} {Y = O} {W = T.BitStore} {P = O.BitOrder})) ones_left }
-        ensures runs_back { YieldsInReverse (YieldsLast (ones_left {X = T} {Y = O} {W = T.BitStore} {P = O.BitOrder})) ones_left }
+        ensures runs { YieldsInOrder
+            (YieldsFirst (ones_left {X = T} {Y = O} {W = T.BitStore} {P = O.BitOrder})) ones_left }
+        ensures runs_back { YieldsInReverse
+            (YieldsLast (ones_left {X = T} {Y = O} {W = T.BitStore} {P = O.BitOrder})) ones_left }
     {
         self.as_bitslice().iter_ones()
     }
@@ -232,8 +240,10 @@ impl<T: BitStore, O: BitOrder> BitVec<T, O> {
         ensures few { length (zeros_left result) ≤ MAX_BITS }
         ensures set { All (λ i. slice_get self.now.list i ≡ Some false) (zeros_left result) }
         ensures inside { All (λ i. i < length self.now.list) (zeros_left result) }
-        ensures runs { YieldsInOrder (YieldsFirst (zeros_left {X = T} {Y = O} {W = T.BitStore} {P = O.BitOrder})) zeros_left }
-        ensures runs_back { YieldsInReverse (YieldsLast (zeros_left {X = T} {Y = O} {W = T.BitStore} {P = O.BitOrder})) zeros_left }
+        ensures runs { YieldsInOrder
+            (YieldsFirst (zeros_left {X = T} {Y = O} {W = T.BitStore} {P = O.BitOrder})) zeros_left }
+        ensures runs_back { YieldsInReverse
+            (YieldsLast (zeros_left {X = T} {Y = O} {W = T.BitStore} {P = O.BitOrder})) zeros_left }
     {
         self.as_bitslice().iter_zeros()
     }
@@ -248,8 +258,10 @@ impl<T: BitStore, O: BitOrder> BitVec<T, O> {
         ensures inside { IfSome result (λ i. i + len_of other.entry ≤ length self.now.list) }
         ensures few { IfSome result (λ i. i + len_of other.entry ≤ MAX_BITS) }
         ensures found { IfSome result (λ i. part (len_of other.entry) self.now.list i ≡ list_of other.entry) }
-        ensures before { IfSome result (λ i. (j : ℕ) → j < i → part (len_of other.entry) self.now.list j ≢ list_of other.entry) }
-        ensures none { IfNone result ((j : ℕ) → j + len_of other.entry ≤ length self.now.list → part (len_of other.entry) self.now.list j ≢ list_of other.entry) }
+        ensures before { IfSome result
+            (λ i. (j : ℕ) → j < i → part (len_of other.entry) self.now.list j ≢ list_of other.entry) }
+        ensures none { IfNone result ((j : ℕ) → j + len_of other.entry ≤ length self.now.list
+            → part (len_of other.entry) self.now.list j ≢ list_of other.entry) }
     {
         self.as_bitslice().find(other)
     }
@@ -261,7 +273,8 @@ impl<T: BitStore, O: BitOrder> BitVec<T, O> {
     /// ```
     pub fn contains<U: BitStore, P: BitOrder>(&self, other: BitSlice<'_, U, P>) -> bool
         ensures found { IsTrue result → ((i : ℕ) × (part (len_of other.entry) self.now.list i ≡ list_of other.entry)) }
-        ensures none { (j : ℕ) → j + len_of other.entry ≤ length self.now.list → part (len_of other.entry) self.now.list j ≡ list_of other.entry → IsTrue result }
+        ensures none { (j : ℕ) → j + len_of other.entry ≤ length self.now.list
+            → part (len_of other.entry) self.now.list j ≡ list_of other.entry → IsTrue result }
     {
         self.as_bitslice().contains(other)
     }

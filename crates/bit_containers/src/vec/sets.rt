@@ -17,7 +17,9 @@ impl<T: BitStore, O: BitOrder> BitVec<T, O> {
     /// ```
     pub fn is_subset<U: BitStore, P: BitOrder>(&self, other: BitSlice<'_, U, P>) -> bool
         ensures value { result ≡ not (list_any (λ b. b) (and_not_of self.now.list (list_of other.entry))) }
-        ensures index { IsTrue result ↔ ((j : ℕ) → slice_get self.now.list j ≡ Some true → slice_get (list_of other.entry) j ≡ Some true) }
+        ensures index { IsTrue result
+            ↔ ((j : ℕ) → slice_get self.now.list j ≡ Some true
+            → slice_get (list_of other.entry) j ≡ Some true) }
         ensures and { IsTrue result ↔ (and_of self.now.list (list_of other.entry) ≡ self.now.list) }
     {
         self.as_bitslice().is_subset(other)
@@ -30,7 +32,9 @@ impl<T: BitStore, O: BitOrder> BitVec<T, O> {
     /// ```
     pub fn is_superset<U: BitStore, P: BitOrder>(&self, other: BitSlice<'_, U, P>) -> bool
         ensures value { result ≡ not (list_any (λ b. b) (and_not_of (list_of other.entry) self.now.list)) }
-        ensures index { IsTrue result ↔ ((j : ℕ) → slice_get (list_of other.entry) j ≡ Some true → slice_get self.now.list j ≡ Some true) }
+        ensures index { IsTrue result
+            ↔ ((j : ℕ) → slice_get (list_of other.entry) j ≡ Some true
+            → slice_get self.now.list j ≡ Some true) }
         ensures and { IsTrue result ↔ (and_of (list_of other.entry) self.now.list ≡ list_of other.entry) }
     {
         self.as_bitslice().is_superset(other)
@@ -43,7 +47,9 @@ impl<T: BitStore, O: BitOrder> BitVec<T, O> {
     /// ```
     pub fn is_disjoint<U: BitStore, P: BitOrder>(&self, other: BitSlice<'_, U, P>) -> bool
         ensures value { result ≡ not (list_any (λ b. b) (and_of self.now.list (list_of other.entry))) }
-        ensures index { IsTrue result ↔ ((j : ℕ) → slice_get self.now.list j ≡ Some true → slice_get (list_of other.entry) j ≢ Some true) }
+        ensures index { IsTrue result
+            ↔ ((j : ℕ) → slice_get self.now.list j ≡ Some true
+            → slice_get (list_of other.entry) j ≢ Some true) }
     {
         self.as_bitslice().is_disjoint(other)
     }
@@ -55,7 +61,9 @@ impl<T: BitStore, O: BitOrder> BitVec<T, O> {
     /// ```
     pub fn intersects<U: BitStore, P: BitOrder>(&self, other: BitSlice<'_, U, P>) -> bool
         ensures value { result ≡ list_any (λ b. b) (and_of self.now.list (list_of other.entry)) }
-        ensures index { IsTrue result ↔ SomeIndex self.now.list (λ j. (slice_get self.now.list j ≡ Some true) × (slice_get (list_of other.entry) j ≡ Some true)) }
+        ensures index { IsTrue result
+            ↔ SomeIndex self.now.list (λ j. (slice_get self.now.list j ≡ Some true)
+            × (slice_get (list_of other.entry) j ≡ Some true)) }
     {
         self.as_bitslice().intersects(other)
     }
@@ -79,8 +87,11 @@ impl<T: BitStore, O: BitOrder> BitVec<T, O> {
     /// of 01101001 and 11110000: bits.count_or(other) == 6
     /// ```
     pub fn count_or<U: BitStore, P: BitOrder>(&self, other: BitSlice<'_, U, P>) -> usize
-        ensures value { result ≡ count_by (λ b. b) (or_of self.now.list (list_of other.entry)) + count_by (λ b. b) (drop (length self.now.list) (list_of other.entry)) }
-        ensures with_and { result + count_by (λ b. b) (and_of self.now.list (list_of other.entry)) ≡ count_by (λ b. b) self.now.list + count_by (λ b. b) (list_of other.entry) }
+        ensures value { result
+            ≡ count_by (λ b. b) (or_of self.now.list (list_of other.entry))
+            + count_by (λ b. b) (drop (length self.now.list) (list_of other.entry)) }
+        ensures with_and { result + count_by (λ b. b) (and_of self.now.list (list_of other.entry))
+            ≡ count_by (λ b. b) self.now.list + count_by (λ b. b) (list_of other.entry) }
     {
         self.as_bitslice().count_or(other)
     }
@@ -92,8 +103,11 @@ impl<T: BitStore, O: BitOrder> BitVec<T, O> {
     /// of 01101001 and 11110000: bits.count_xor(other) == 4
     /// ```
     pub fn count_xor<U: BitStore, P: BitOrder>(&self, other: BitSlice<'_, U, P>) -> usize
-        ensures value { result ≡ count_by (λ b. b) (xor_of self.now.list (list_of other.entry)) + count_by (λ b. b) (drop (length self.now.list) (list_of other.entry)) }
-        ensures with_and { result + 2 * count_by (λ b. b) (and_of self.now.list (list_of other.entry)) ≡ count_by (λ b. b) self.now.list + count_by (λ b. b) (list_of other.entry) }
+        ensures value { result
+            ≡ count_by (λ b. b) (xor_of self.now.list (list_of other.entry))
+            + count_by (λ b. b) (drop (length self.now.list) (list_of other.entry)) }
+        ensures with_and { result + 2 * count_by (λ b. b) (and_of self.now.list (list_of other.entry))
+            ≡ count_by (λ b. b) self.now.list + count_by (λ b. b) (list_of other.entry) }
     {
         self.as_bitslice().count_xor(other)
     }

@@ -135,7 +135,8 @@ impl<T: BitStore, O: BitOrder> BitVec<T, O> {
         old
     }
 
-    /// Swaps the bits at `i` and `j`, and changes no other bit. Takes no memory. Requires that both are below the length.
+    /// Swaps the bits at `i` and `j`, and changes no other bit. Takes no memory. Requires that both are below
+    /// the length.
     ///
     /// ```text
     /// of 01101001: bits.swap(0, 1) leaves 10101001
@@ -169,8 +170,9 @@ impl<T: BitStore, O: BitOrder> BitVec<T, O> {
         fill_bits_in_vec::<T, O>(&mut self.words, head, head + len, bit);
     }
 
-    /// Copies the bits of a range to index `dest`, as if they were copied out first. No other bit changes, dead bits
-    /// included. Takes no memory. Requires that the range lies in the length and that its bits have room from `dest` on.
+    /// Copies the bits of a range to index `dest`, as if they were copied out first. No other bit changes, dead
+    /// bits included. Takes no memory. Requires that the range lies in the length and that its bits have room
+    /// from `dest` on.
     ///
     /// ```text
     /// of 01101001: bits.copy_within(2..5, 0) leaves 10101001
@@ -178,17 +180,23 @@ impl<T: BitStore, O: BitOrder> BitVec<T, O> {
     pub fn copy_within<R: RangeExt>(&mut self, range: R, dest: usize)
         requires lies { LiesIn (R.start_of range) (R.end_of range (length self.old.list)) (length self.old.list) }
         requires room { dest + (R.end_of range (length self.old.list) - R.start_of range) ≤ length self.old.list }
-        ensures list { self.new.list ≡ moved self.old.list (R.start_of range) dest (R.end_of range (length self.old.list) - R.start_of range) }
-        ensures row { self.new.row ≡ moved self.old.row (self.old.head + R.start_of range) (self.old.head + dest) (R.end_of range (length self.old.list) - R.start_of range) }
-        ensures landed { let n = R.end_of range (length self.old.list) - R.start_of range in slice_range self.new.list dest (dest + n) ≡ slice_range self.old.list (R.start_of range) (R.start_of range + n) }
+        ensures list { self.new.list
+            ≡ moved self.old.list (R.start_of range) dest
+            (R.end_of range (length self.old.list) - R.start_of range) }
+        ensures row { self.new.row
+            ≡ moved self.old.row (self.old.head + R.start_of range) (self.old.head + dest)
+            (R.end_of range (length self.old.list) - R.start_of range) }
+        ensures landed { let n = R.end_of range (length self.old.list)
+            - R.start_of range in slice_range self.new.list dest (dest + n)
+            ≡ slice_range self.old.list (R.start_of range) (R.start_of range + n) }
         ensures clean { IsClean T.BITS self.old → IsClean T.BITS self.new }
         ensures stayed { Stayed self.old self.new }
     {
         let _meter = self.copy_within_counted(range, dest);
     }
 
-    /// Like `copy_within`, but returns the meter of the words that were read and written: at most one write for each word
-    /// that holds a bit of the target, and at most three reads for each.
+    /// Like `copy_within`, but returns the meter of the words that were read and written: at most one write for
+    /// each word that holds a bit of the target, and at most three reads for each.
     ///
     /// ```text
     /// let meter = v.copy_within_counted(0..9, 3);   // 12 bits in bytes: meter.writes ≤ 2, meter.reads ≤ 6
@@ -197,13 +205,24 @@ impl<T: BitStore, O: BitOrder> BitVec<T, O> {
     pub fn copy_within_counted<R: RangeExt>(&mut self, range: R, dest: usize) -> Meter
         requires lies { LiesIn (R.start_of range) (R.end_of range (length self.old.list)) (length self.old.list) }
         requires room { dest + (R.end_of range (length self.old.list) - R.start_of range) ≤ length self.old.list }
-        ensures list { self.new.list ≡ moved self.old.list (R.start_of range) dest (R.end_of range (length self.old.list) - R.start_of range) }
-        ensures row { self.new.row ≡ moved self.old.row (self.old.head + R.start_of range) (self.old.head + dest) (R.end_of range (length self.old.list) - R.start_of range) }
-        ensures landed { let n = R.end_of range (length self.old.list) - R.start_of range in slice_range self.new.list dest (dest + n) ≡ slice_range self.old.list (R.start_of range) (R.start_of range + n) }
+        ensures list { self.new.list
+            ≡ moved self.old.list (R.start_of range) dest
+            (R.end_of range (length self.old.list) - R.start_of range) }
+        ensures row { self.new.row
+            ≡ moved self.old.row (self.old.head + R.start_of range) (self.old.head + dest)
+            (R.end_of range (length self.old.list) - R.start_of range) }
+        ensures landed { let n = R.end_of range (length self.old.list)
+            - R.start_of range in slice_range self.new.list dest (dest + n)
+            ≡ slice_range self.old.list (R.start_of range) (R.start_of range + n) }
         ensures clean { IsClean T.BITS self.old → IsClean T.BITS self.new }
         ensures stayed { Stayed self.old self.new }
-        ensures writes { result.writes ≤ touched T.BITS (self.old.head + dest) (R.end_of range (length self.old.list) - R.start_of range) }
-        ensures reads { result.reads ≤ 3 * touched T.BITS (self.old.head + dest) (R.end_of range (length self.old.list) - R.start_of range) }
+        ensures writes { result.writes
+            ≤ touched T.BITS (self.old.head + dest)
+            (R.end_of range (length self.old.list) - R.start_of range) }
+        ensures reads { result.reads
+            ≤ 3
+            * touched T.BITS (self.old.head + dest)
+            (R.end_of range (length self.old.list) - R.start_of range) }
     {
         let len = self.len;
         let range = range.normalize(len);

@@ -72,8 +72,9 @@ impl<T: BitStore, O: BitOrder> BitVec<T, O> {
     /// Replaces the bits at a range of indices by what an iterator gives, once the splice is finished; until then it
     /// gives the bits of the range. Requires that the range lies in the length.
     ///
-    /// The list is known where the source owns what it gives: a `Vec<bool>`, an `Option<bool>`, a vector's `into_iter`,
-    /// mapped or not. Of a source that borrows, as `iter()` or `by_ref()`, it can't be proved: collect it first.
+    /// The list is known where the source owns what it gives: a `Vec<bool>`, an `Option<bool>`, a vector's
+    /// `into_iter`, mapped or not. Of a source that borrows, as `iter()` or `by_ref()`, it can't be proved:
+    /// collect it first.
     ///
     /// ```text
     /// of 0110: bits.splice(1..3, Some(false)).finish()? leaves 000
@@ -84,7 +85,8 @@ impl<T: BitStore, O: BitOrder> BitVec<T, O> {
         replacement: U,
     ) -> Splice<'_, T, O, U::IntoIter>
         requires lies { LiesIn (R.start_of range) (R.end_of range (length self.old.list)) (length self.old.list) }
-        ensures list { splice_rest result ≡ slice_range self.old.list (R.start_of range) (R.end_of range (length self.old.list)) }
+        ensures list { splice_rest result
+            ≡ slice_range self.old.list (R.start_of range) (R.end_of range (length self.old.list)) }
         ensures vector { splice_vector result ≡ self.old }
         ensures start { result.start ≡ R.start_of range }
         ensures end { result.end ≡ R.end_of range (length self.old.list) }
@@ -185,8 +187,11 @@ impl<T: BitStore, O: BitOrder> BitVec<T, O> {
         requires ends { I.can_next iter × IsFinite (I.remaining iter) }
         ensures list { IfOk result (λ v. Drains I.next_gives iter v.list) }
         ensures few { IfOk result (λ v. length v.list ≤ most) }
-        ensures too_long { result ≡ Err GrowError.TooLong → (bits : List Bool) × (rest : I) × Yields I.next_gives iter bits rest × (most < length bits) }
-        ensures memory { result ≡ Err GrowError.OutOfMemory → (bits : List Bool) × (rest : I) × Yields I.next_gives iter bits rest × (0 < length bits) × (length bits ≤ most) }
+        ensures too_long { result ≡ Err GrowError.TooLong
+            → (bits : List Bool) × (rest : I) × Yields I.next_gives iter bits rest × (most < length bits) }
+        ensures memory { result ≡ Err GrowError.OutOfMemory
+            → (bits : List Bool) × (rest : I) × Yields I.next_gives iter bits rest × (0 < length bits)
+            × (length bits ≤ most) }
     {
         let mut v = Self::new(alloc);
         for bit in iter {
@@ -208,10 +213,15 @@ impl<T: BitStore, O: BitOrder> BitVec<T, O> {
         requires ordered { start ≤ end }
         requires within { end ≤ length self.old.list }
         requires ends { I.can_next replacement × IsFinite (I.remaining replacement) }
-        ensures list { OnOk result ((bits : List Bool) × Drains I.next_gives replacement bits × (self.new.list ≡ splice self.old.list start end bits)) }
+        ensures list { OnOk result ((bits : List Bool) × Drains I.next_gives replacement bits
+            × (self.new.list ≡ splice self.old.list start end bits)) }
         ensures head { self.new.head ≡ self.old.head }
-        ensures too_long { result ≡ Err GrowError.TooLong → (bits : List Bool) × (rest : I) × Yields I.next_gives replacement bits rest × (MAX_BITS < length self.old.list - (end - start) + length bits) }
-        ensures memory { result ≡ Err GrowError.OutOfMemory → (bits : List Bool) × (rest : I) × Yields I.next_gives replacement bits rest × (0 < length bits) × (length self.old.list - (end - start) + length bits ≤ MAX_BITS) }
+        ensures too_long { result ≡ Err GrowError.TooLong
+            → (bits : List Bool) × (rest : I) × Yields I.next_gives replacement bits rest
+            × (MAX_BITS < length self.old.list - (end - start) + length bits) }
+        ensures memory { result ≡ Err GrowError.OutOfMemory
+            → (bits : List Bool) × (rest : I) × Yields I.next_gives replacement bits rest
+            × (0 < length bits) × (length self.old.list - (end - start) + length bits ≤ MAX_BITS) }
         ensures unchanged { OnErr result (self.new.list ≡ self.old.list) }
         ensures capacity { self.old.capacity ≤ self.new.capacity }
     {
@@ -276,8 +286,8 @@ impl<'a, T: BitStore, O: BitOrder, I: Iterator<Item = bool>> Splice<'a, T, O, I>
         Some(self.vec.bit(at))
     }
 
-    /// The replaced bit before the last `n` that are still to come, which are passed over. None exactly where there are
-    /// no more than `n`; then none is left.
+    /// The replaced bit before the last `n` that are still to come, which are passed over. None exactly where
+    /// there are no more than `n`; then none is left.
     pub fn nth_back(&mut self, n: usize) -> Option<bool>
         requires { SpliceIsReady self.old }
         ensures answer { result ≡ slice_get (reverse (splice_rest self.old)) n }
@@ -293,14 +303,19 @@ impl<'a, T: BitStore, O: BitOrder, I: Iterator<Item = bool>> Splice<'a, T, O, I>
         Some(self.vec.bit(self.back))
     }
 
-    /// An iterator over the replaced bits that are still to come, from both ends: it takes them all, and the splice has
-    /// none left.
+    /// An iterator over the replaced bits that are still to come, from both ends: it takes them all, and the
+    /// splice has none left.
     pub fn items(&mut self) -> Items<'_, T, O>
         requires { SpliceIsReady self.old }
-        ensures* writes_back { sem 𝓛 (follows_so (the_row (record { mir = named 1; lft = [] }) T.row O.row I.row T.BitStore O.BitOrder) (the_row (record { mir = named 1; lft = [] }) T.row O.row I.row T.BitStore O.BitOrder) self.entry.ghost_name none (λ _ _. ⊤) (λ v. SpliceIsEmptied self.old v)) }
+        ensures* writes_back { sem 𝓛 (follows_so
+            (the_row (record { mir = named 1; lft = [] }) T.row O.row I.row T.BitStore O.BitOrder)
+            (the_row (record { mir = named 1; lft = [] }) T.row O.row I.row T.BitStore O.BitOrder)
+            self.entry.ghost_name none (λ _ _. ⊤) (λ v. SpliceIsEmptied self.old v)) }
         ensures rest { items_rest result ≡ splice_rest self.old }
-        ensures runs { YieldsInOrder (YieldsFirst (items_rest {X = T} {Y = O} {W = T.BitStore} {P = O.BitOrder})) items_rest }
-        ensures runs_back { YieldsInReverse (YieldsLast (items_rest {X = T} {Y = O} {W = T.BitStore} {P = O.BitOrder})) items_rest }
+        ensures runs { YieldsInOrder
+            (YieldsFirst (items_rest {X = T} {Y = O} {W = T.BitStore} {P = O.BitOrder})) items_rest }
+        ensures runs_back { YieldsInReverse
+            (YieldsLast (items_rest {X = T} {Y = O} {W = T.BitStore} {P = O.BitOrder})) items_rest }
     {
         let (front, back) = (self.front, self.back);
         self.front = back;
@@ -321,11 +336,22 @@ impl<'a, T: BitStore, O: BitOrder, I: Iterator<Item = bool>> Splice<'a, T, O, I>
     pub fn finish(self) -> Result<(), GrowError>
         requires ready { SpliceIsReady self }
         requires ends { I.can_next self.replacement × IsFinite (I.remaining self.replacement) }
-        ensures list { OnOk result ((bits : List Bool) × Drains I.next_gives self.entry.replacement bits × (self.exit.0.now.list ≡ splice self.entry.vec.now.list self.entry.start self.entry.end bits)) }
-        ensures runs { OnOk result (WholeRun I.next_gives self.entry.replacement (λ p. self.exit.0.now.list ≡ splice self.entry.vec.now.list self.entry.start self.entry.end p.items)) }
+        ensures list { OnOk result ((bits : List Bool) × Drains I.next_gives self.entry.replacement bits
+            × (self.exit.0.now.list
+            ≡ splice self.entry.vec.now.list self.entry.start self.entry.end bits)) }
+        ensures runs { OnOk result (WholeRun I.next_gives self.entry.replacement
+            (λ p. self.exit.0.now.list
+            ≡ splice self.entry.vec.now.list self.entry.start self.entry.end p.items)) }
         ensures head { self.exit.0.now.head ≡ self.entry.vec.now.head }
-        ensures too_long { result ≡ Err GrowError.TooLong → (bits : List Bool) × (rest : I) × Yields I.next_gives self.entry.replacement bits rest × (MAX_BITS < length self.entry.vec.now.list - (self.entry.end - self.entry.start) + length bits) }
-        ensures memory { result ≡ Err GrowError.OutOfMemory → (bits : List Bool) × (rest : I) × Yields I.next_gives self.entry.replacement bits rest × (0 < length bits) × (length self.entry.vec.now.list - (self.entry.end - self.entry.start) + length bits ≤ MAX_BITS) }
+        ensures too_long { result ≡ Err GrowError.TooLong
+            → (bits : List Bool) × (rest : I) × Yields I.next_gives self.entry.replacement bits rest
+            × (MAX_BITS
+            < length self.entry.vec.now.list - (self.entry.end - self.entry.start) + length bits) }
+        ensures memory { result ≡ Err GrowError.OutOfMemory
+            → (bits : List Bool) × (rest : I) × Yields I.next_gives self.entry.replacement bits rest
+            × (0 < length bits)
+            × (length self.entry.vec.now.list - (self.entry.end - self.entry.start) + length bits
+            ≤ MAX_BITS) }
         ensures unchanged { OnErr result (self.exit.0.now.list ≡ self.entry.vec.now.list) }
         ensures capacity { self.entry.vec.now.capacity ≤ self.exit.0.now.capacity }
     {

@@ -143,8 +143,8 @@ impl<T: BitStore, O: BitOrder> fmt::Octal for BitVec<T, O> {
     }
 }
 
-/// `[`, a digit for each group of four bits, the first the most significant, the digits above 9 in lower case, and `]`. Flags and widths
-/// have no effect.
+/// `[`, a digit for each group of four bits, the first the most significant, the digits above 9 in lower case,
+/// and `]`. Flags and widths have no effect.
 impl<T: BitStore, O: BitOrder> fmt::LowerHex for BitVec<T, O> {
     ghost use Rattle.std.specs.Prelude.{false};
     ghost use Rattle.std.specs.Fmt.{WritesStyledOnOk};
@@ -157,8 +157,8 @@ impl<T: BitStore, O: BitOrder> fmt::LowerHex for BitVec<T, O> {
     }
 }
 
-/// `[`, a digit for each group of four bits, the first the most significant, the digits above 9 in upper case, and `]`. Flags and widths
-/// have no effect.
+/// `[`, a digit for each group of four bits, the first the most significant, the digits above 9 in upper case,
+/// and `]`. Flags and widths have no effect.
 impl<T: BitStore, O: BitOrder> fmt::UpperHex for BitVec<T, O> {
     ghost use Rattle.std.specs.Prelude.{true};
     ghost use Rattle.std.specs.Fmt.{WritesStyledOnOk};
@@ -179,7 +179,11 @@ impl<T: BitStore, O: BitOrder> TryFrom<Vec<T>> for BitVec<T, O> {
 
     type Error = Vec<T>;
 
-    ghost try_from_gives = { λ words r. MatchResult r (λ v. (v.words ≡ words.items) × (v.row ≡ row T.BitStore O.BitOrder words.items) × (v.head ≡ 0) × (v.list ≡ row T.BitStore O.BitOrder words.items) × (length v.list ≡ T.BITS * length words.items) × IsClean T.BITS v × (v.capacity ≡ bits_in T.BITS (vec_capacity words) 0)) (λ back. back ≡ words) × (IsOk r ↔ (T.BITS * length words.items ≤ MAX_BITS)) };
+    ghost try_from_gives = { λ words r. MatchResult r
+        (λ v. (v.words ≡ words.items) × (v.row ≡ row T.BitStore O.BitOrder words.items) × (v.head ≡ 0)
+        × (v.list ≡ row T.BitStore O.BitOrder words.items) × (length v.list ≡ T.BITS * length words.items)
+        × IsClean T.BITS v × (v.capacity ≡ bits_in T.BITS (vec_capacity words) 0)) (λ back. back ≡ words)
+        × (IsOk r ↔ (T.BITS * length words.items ≤ MAX_BITS)) };
 
     /// Like `BitVec::try_from_vec`.
     fn try_from(words: Vec<T>) -> Result<Self, Vec<T>> {
@@ -193,7 +197,13 @@ impl<T: BitStore, O: BitOrder> From<BitVec<T, O>> for Vec<T> {
     ghost use Rattle.bit_addressing.specs.Typed.{row, words_from, words_for_list};
     ghost use Rattle.bit_containers.specs.BitVec.{IsClean, bits_in};
 
-    ghost from_gives = { λ v words. (words.items ≡ v.words) × (row T.BitStore O.BitOrder words.items ≡ v.row) × (words.items ≡ words_from T.BitStore O.BitOrder v.row) × (IsClean T.BITS v → words.items ≡ words_for_list T.BitStore O.BitOrder v.list) × (length words.items ≡ words_for T.BITS (v.head + length v.list)) × (slice_range (row T.BitStore O.BitOrder words.items) v.head (v.head + length v.list) ≡ v.list) × (bits_in T.BITS (vec_capacity words) v.head ≡ v.capacity) };
+    ghost from_gives = { λ v words. (words.items ≡ v.words)
+        × (row T.BitStore O.BitOrder words.items ≡ v.row)
+        × (words.items ≡ words_from T.BitStore O.BitOrder v.row)
+        × (IsClean T.BITS v → words.items ≡ words_for_list T.BitStore O.BitOrder v.list)
+        × (length words.items ≡ words_for T.BITS (v.head + length v.list))
+        × (slice_range (row T.BitStore O.BitOrder words.items) v.head (v.head + length v.list) ≡ v.list)
+        × (bits_in T.BITS (vec_capacity words) v.head ≡ v.capacity) };
 
     /// Like `BitVec::into_vec`.
     fn from(v: BitVec<T, O>) -> Vec<T> {

@@ -78,8 +78,9 @@ impl<T: BitStore, O: BitOrder> BitVec<T, O> {
         self.as_mut_bitslice()
     }
 
-    /// The part of the vector from index `from` up to index `upto`, for writing: what is written lands in the vector, and
-    /// the words around the part stay. Takes no memory. Requires that `from..upto` is a range of the length.
+    /// The part of the vector from index `from` up to index `upto`, for writing: what is written lands in the
+    /// vector, and the words around the part stay. Takes no memory. Requires that `from..upto` is a range of
+    /// the length.
     ///
     /// The clauses say of the part its list, head and words. What a caller's own proof has to know of the whole vector
     /// after a write is said by the calls that take a range: `fill_range`, `flip_range`, `copy_into` and `or_range`.
@@ -90,8 +91,11 @@ impl<T: BitStore, O: BitOrder> BitVec<T, O> {
     pub fn part_mut(&mut self, from: usize, upto: usize) -> BitSliceMut<'_, T, O>
         requires ordered { from ≤ upto }
         requires inside { upto ≤ length self.old.list }
-        ensures* writes_back { sem 𝓛 (lends_run T.row O.row T.BitStore O.BitOrder self.entry ((self.old.head + from) / T.BITS) (loan_of result)) }
-        ensures words { let first = (self.old.head + from) / T.BITS in lent_words result ≡ slice_range self.old.words first (first + words_for T.BITS (lent_head result + lent_len result)) }
+        ensures* writes_back { sem 𝓛 (lends_run T.row O.row T.BitStore O.BitOrder self.entry
+            ((self.old.head + from) / T.BITS) (loan_of result)) }
+        ensures words { let first = (self.old.head + from) / T.BITS in lent_words result
+            ≡ slice_range self.old.words first
+            (first + words_for T.BITS (lent_head result + lent_len result)) }
         ensures head { lent_head result ≡ (self.old.head + from) % T.BITS }
         ensures len { lent_len result ≡ upto - from }
         ensures list { lent_list result ≡ slice_range self.old.list from upto }
@@ -111,10 +115,12 @@ impl<T: BitStore, O: BitOrder> BitVec<T, O> {
     /// ```
     pub fn get_range<R: RangeExt>(&self, range: R) -> BitSlice<'_, T, O>
         requires lies { LiesIn (R.start_of range) (R.end_of range (length self.now.list)) (length self.now.list) }
-        ensures list { list_of result ≡ slice_range self.now.list (R.start_of range) (R.end_of range (length self.now.list)) }
+        ensures list { list_of result
+            ≡ slice_range self.now.list (R.start_of range) (R.end_of range (length self.now.list)) }
         ensures head { head_of result ≡ (self.now.head + R.start_of range) % T.BITS }
         ensures len { len_of result ≡ R.end_of range (length self.now.list) - R.start_of range }
-        ensures words { let first = (self.now.head + R.start_of range) / T.BITS in words_of result ≡ slice_range self.now.words first (first + words_for T.BITS (head_of result + len_of result)) }
+        ensures words { let first = (self.now.head + R.start_of range) / T.BITS in words_of result
+            ≡ slice_range self.now.words first (first + words_for T.BITS (head_of result + len_of result)) }
     {
         self.as_bitslice().get_range(range)
     }

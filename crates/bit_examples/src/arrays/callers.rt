@@ -19,20 +19,25 @@ pub fn first_and_last() -> (Option<bool>, Option<bool>)
 }
 
 pub fn both<A: BitViewSized, O: BitOrder>(a: BitArray<A, O>, b: BitArray<A, O>) -> BitArray<A, O>
-    ensures { row A.Store.BitStore O.BitOrder (A.words result) ≡ and_of (row A.Store.BitStore O.BitOrder (A.words a)) (row A.Store.BitStore O.BitOrder (A.words b)) }
+    ensures { row A.Store.BitStore O.BitOrder (A.words result)
+        ≡ and_of (row A.Store.BitStore O.BitOrder (A.words a))
+        (row A.Store.BitStore O.BitOrder (A.words b)) }
 {
     a & b
 }
 
 pub fn none<A: BitViewSized, O: BitOrder>(a: BitArray<A, O>) -> BitArray<A, O>
-    ensures { row A.Store.BitStore O.BitOrder (A.words result) ≡ map not (row A.Store.BitStore O.BitOrder (A.words a)) }
+    ensures { row A.Store.BitStore O.BitOrder (A.words result)
+        ≡ map not (row A.Store.BitStore O.BitOrder (A.words a)) }
 {
     !a
 }
 
 #[tactic(auto, using(bit_slice::specs::Comparisons::equal_lists))]
 pub fn same<A: BitViewSized, O: BitOrder>(a: &BitArray<A, O>, b: &BitArray<A, O>) -> bool
-    ensures { IsTrue result ↔ (row A.Store.BitStore O.BitOrder (A.words a.now) ≡ row A.Store.BitStore O.BitOrder (A.words b.now)) }
+    ensures { IsTrue result
+        ↔ (row A.Store.BitStore O.BitOrder (A.words a.now)
+        ≡ row A.Store.BitStore O.BitOrder (A.words b.now)) }
 {
     *a == *b
 }

@@ -25,7 +25,8 @@ fn set_two<T: BitStore, O: BitOrder>(words: &mut [T]) -> bool
     requires some { 5 < T.BITS * length words.old }
     requires fits { T.BITS * length words.old ≤ MAX_BITS }
     ensures read { slice_get (row T.BitStore O.BitOrder words.old) 4 ≡ Some result }
-    ensures words { row T.BitStore O.BitOrder words.new ≡ set (set (row T.BitStore O.BitOrder words.old) 4 true) 5 false }
+    ensures words { row T.BitStore O.BitOrder words.new
+        ≡ set (set (row T.BitStore O.BitOrder words.old) 4 true) 5 false }
 {
     let mut view = BitSliceMut::<T, O>::from_slice_mut(words);
     let old = view.replace(4, true);
@@ -38,7 +39,9 @@ fn exchange<T: BitStore, O: BitOrder>(view: &mut BitSliceMut<'_, T, O>)
     requires { 4 < len_of view.old }
     ensures same_words { loan_of view.new ≡ loan_of view.old }
     ensures list { list_of view.new ≡ set (swap (list_of view.old) 4 1) 0 false }
-    ensures row { row_of view.new ≡ set (swap (row_of view.old) (head_of view.old + 4) (head_of view.old + 1)) (head_of view.old + 0) false }
+    ensures row { row_of view.new
+        ≡ set (swap (row_of view.old) (head_of view.old + 4) (head_of view.old + 1)) (head_of view.old + 0)
+        false }
     ensures head { head_of view.new ≡ head_of view.old }
     ensures len { len_of view.new ≡ len_of view.old }
 {

@@ -7,8 +7,8 @@ use std::fmt;
 
 /// Why numbers are not packed.
 ///
-/// Its text is `numbers that descend`, `more bits than a container holds` or `memory was refused`, whatever the flags and
-/// widths.
+/// Its text is `numbers that descend`, `more bits than a container holds` or `memory was refused`, whatever the
+/// flags and widths.
 #[derive(Clone, Copy, PartialEq, Eq, Debug)]
 pub enum SortedError {
     /// The place of the first number that is below the one before.

@@ -15,8 +15,8 @@ use bit_containers::{BitVec, GrowError, Lsb0, MAX_BITS};
 use std::alloc::Global;
 
 impl SortedNumbers {
-    /// The numbers of a slice. `Descends` at the first that is below the one before, `TooLong` where one of the two lists
-    /// would pass `MAX_BITS`. Takes no memory where there is no number.
+    /// The numbers of a slice. `Descends` at the first that is below the one before, `TooLong` where one of the
+    /// two lists would pass `MAX_BITS`. Takes no memory where there is no number.
     ///
     /// ```text
     /// SortedNumbers::from_slice(alloc, &[2, 9, 3, 1])    // Err(Descends(2))
@@ -34,19 +34,27 @@ impl SortedNumbers {
         }
     }
 
-    /// The numbers that an iterator gives before its first None. Like `from_slice`, and nothing is pulled after a number
-    /// that is below the one before. Takes memory for all numbers, 64 bits each, until it returns.
+    /// The numbers that an iterator gives before its first None. Like `from_slice`, and nothing is pulled after
+    /// a number that is below the one before. Takes memory for all numbers, 64 bits each, until it returns.
     pub fn from_numbers<I: IntoIterator<Item = u64>>(
         alloc: Global,
         iter: I,
     ) -> Result<Self, SortedError>
         requires { IsFiniteIterable I.into_iter_gives I.IntoIter.can_next I.IntoIter.remaining iter }
-        ensures list { IfOk result (λ s. GivesAll I.into_iter_gives I.IntoIter.next_gives iter (λ numbers. s ≡ numbers)) }
-        ensures runs { IfOk result (λ s. RunsThrough I.into_iter_gives I.IntoIter.next_gives iter (λ numbers. s ≡ numbers)) }
+        ensures list { IfOk result
+            (λ s. GivesAll I.into_iter_gives I.IntoIter.next_gives iter (λ numbers. s ≡ numbers)) }
+        ensures runs { IfOk result
+            (λ s. RunsThrough I.into_iter_gives I.IntoIter.next_gives iter (λ numbers. s ≡ numbers)) }
         ensures ascends { IfOk result (λ s. IsNonDecreasing s) }
-        ensures descends { (i : ℕ) → result ≡ Err (errors.Descends i) → GivesFirst I.into_iter_gives I.IntoIter.next_gives iter (λ numbers. IsFirstDescent numbers i × (length numbers ≡ i + 1)) }
-        ensures too_long { result ≡ Err errors.TooLong → GivesAll I.into_iter_gives I.IntoIter.next_gives iter (λ numbers. IsNonDecreasing numbers × IsTooLong numbers) }
-        ensures memory { result ≡ Err errors.OutOfMemory → GivesFirst I.into_iter_gives I.IntoIter.next_gives iter (λ numbers. IsNonDecreasing numbers × (0 < length numbers)) }
+        ensures descends { (i : ℕ) → result ≡ Err (errors.Descends i)
+            → GivesFirst I.into_iter_gives I.IntoIter.next_gives iter
+            (λ numbers. IsFirstDescent numbers i × (length numbers ≡ i + 1)) }
+        ensures too_long { result ≡ Err errors.TooLong
+            → GivesAll I.into_iter_gives I.IntoIter.next_gives iter
+            (λ numbers. IsNonDecreasing numbers × IsTooLong numbers) }
+        ensures memory { result ≡ Err errors.OutOfMemory
+            → GivesFirst I.into_iter_gives I.IntoIter.next_gives iter
+            (λ numbers. IsNonDecreasing numbers × (0 < length numbers)) }
     {
         match collected(alloc, iter) {
             Ok(numbers) => from_ascending(alloc, numbers.as_slice()),
@@ -74,13 +82,20 @@ fn first_descent(numbers: &[u64]) -> Option<usize>
 // The numbers that an iterator gives, where they ascend.
 fn collected<I: IntoIterator<Item = u64>>(alloc: Global, iter: I) -> Result<Vec<u64>, SortedError>
     requires { IsFiniteIterable I.into_iter_gives I.IntoIter.can_next I.IntoIter.remaining iter }
-    ensures list { IfOk result (λ v. GivesAll I.into_iter_gives I.IntoIter.next_gives iter (λ numbers. v.items ≡ numbers)) }
-    ensures first { IfOk result (λ v. GivesFirst I.into_iter_gives I.IntoIter.next_gives iter (λ numbers. v.items ≡ numbers)) }
-    ensures runs { IfOk result (λ v. RunsThrough I.into_iter_gives I.IntoIter.next_gives iter (λ numbers. v.items ≡ numbers)) }
+    ensures list { IfOk result
+        (λ v. GivesAll I.into_iter_gives I.IntoIter.next_gives iter (λ numbers. v.items ≡ numbers)) }
+    ensures first { IfOk result
+        (λ v. GivesFirst I.into_iter_gives I.IntoIter.next_gives iter (λ numbers. v.items ≡ numbers)) }
+    ensures runs { IfOk result
+        (λ v. RunsThrough I.into_iter_gives I.IntoIter.next_gives iter (λ numbers. v.items ≡ numbers)) }
     ensures ascends { IfOk result (λ v. IsNonDecreasing v.items) }
-    ensures descends { (i : ℕ) → result ≡ Err (errors.Descends i) → GivesFirst I.into_iter_gives I.IntoIter.next_gives iter (λ numbers. IsFirstDescent numbers i × (length numbers ≡ i + 1)) }
+    ensures descends { (i : ℕ) → result ≡ Err (errors.Descends i)
+        → GivesFirst I.into_iter_gives I.IntoIter.next_gives iter
+        (λ numbers. IsFirstDescent numbers i × (length numbers ≡ i + 1)) }
     ensures short { result ≢ Err errors.TooLong }
-    ensures memory { result ≡ Err errors.OutOfMemory → GivesFirst I.into_iter_gives I.IntoIter.next_gives iter (λ numbers. IsNonDecreasing numbers × (0 < length numbers)) }
+    ensures memory { result ≡ Err errors.OutOfMemory
+        → GivesFirst I.into_iter_gives I.IntoIter.next_gives iter
+        (λ numbers. IsNonDecreasing numbers × (0 < length numbers)) }
 {
     let mut numbers = Vec::new(alloc);
     let mut last = 0;
@@ -204,7 +219,8 @@ fn low_bits(
     requires narrow { width < 64 }
     requires len { len ≡ length numbers.now * width }
     requires few { len ≤ MAX_BITS }
-    ensures each { IfOk result (λ v. (k : ℕ) → k < length numbers.now → low_part width v.list k ≡ slice_index_or numbers.now k 0 % 2 ^ width) }
+    ensures each { IfOk result (λ v. (k : ℕ) → k < length numbers.now
+        → low_part width v.list k ≡ slice_index_or numbers.now k 0 % 2 ^ width) }
     ensures len { IfOk result (λ v. length v.list ≡ len) }
     ensures memory { OnErr result (0 < len) }
 {

@@ -12,8 +12,9 @@ use bit_containers::{BitVec, Lsb0};
 use std::ops::Range;
 
 impl SortedNumbers {
-    /// The first number that is at least `x`, after its place. None exactly where all numbers are below `x`. One zero is
-    /// selected, and the numbers with the high bits of `x`, whose ones stand from it on, are searched by halves.
+    /// The first number that is at least `x`, after its place. None exactly where all numbers are below `x`.
+    /// One zero is selected, and the numbers with the high bits of `x`, whose ones stand from it on, are
+    /// searched by halves.
     ///
     /// ```text
     /// of 2, 3, 9, 9:  numbers.next_at_least(4) == Some((2, 9))
@@ -53,8 +54,8 @@ impl SortedNumbers {
     }
 }
 
-// The places of the numbers with these high bits: their ones stand between two zeros. None where there are too few zeros
-// for such numbers, or for larger ones.
+// The places of the numbers with these high bits: their ones stand between two zeros. None where there are too
+// few zeros for such numbers, or for larger ones.
 #[inline(always)]
 fn same_high(ones: &Ranks<u64, Lsb0>, len: usize, high: usize) -> Option<Range<usize>>
     requires { length (ones_of ones.now.list) ≡ len }
@@ -73,8 +74,8 @@ fn same_high(ones: &Ranks<u64, Lsb0>, len: usize, high: usize) -> Option<Range<u
     }
 }
 
-// How many numbers have at most these high bits: how many ones stand before the first zero from an index on, before which
-// as many zeros stand as the high bits say.
+// How many numbers have at most these high bits: how many ones stand before the first zero from an index on,
+// before which as many zeros stand as the high bits say.
 #[inline(always)]
 fn upto_zero(ones: &Ranks<u64, Lsb0>, len: usize, from: usize, high: usize) -> usize
     requires count { length (ones_of ones.now.list) ≡ len }
@@ -95,7 +96,8 @@ fn first_low(low: &BitVec<u64, Lsb0>, width: u8, first: usize, end: usize, rest:
     requires ordered { first ≤ end }
     requires inside { end * width ≤ length low.now.list }
     requires few { end * width ≤ MAX_BITS }
-    requires ascend { (i j : ℕ) → first ≤ i → i ≤ j → j < end → low_part width low.now.list i ≤ low_part width low.now.list j }
+    requires ascend { (i j : ℕ) → first ≤ i → i ≤ j → j < end
+        → low_part width low.now.list i ≤ low_part width low.now.list j }
     ensures begins { first ≤ result }
     ensures ends { result ≤ end }
     ensures below { (k : ℕ) → first ≤ k → k < result → low_part width low.now.list k < rest }

@@ -29,7 +29,8 @@ pub fn same_bytes<O: BitOrder>(a: BitVec<u8, O>, b: BitVec<u8, O>) -> bool
     a.len() == b.len() && a.as_raw_slice() == b.as_raw_slice()
 }
 
-/// Aligned and cleared, vectors of one type have the same list exactly where they have the same length and the same words.
+/// Aligned and cleared, vectors of one type have the same list exactly where they have the same length and the
+/// same words.
 pub fn same_words<T: BitStore, O: BitOrder>(
     a: BitVec<T, O>,
     b: BitVec<T, O>,
@@ -68,8 +69,8 @@ pub fn copied_box_words<T: BitStore, O: BitOrder>(
     Ok((a.into_boxed_slice(), b.into_boxed_slice()))
 }
 
-/// One list of commands over two vectors with the same list, of any words, orders and heads: the same replies, and the same
-/// list afterwards.
+/// One list of commands over two vectors with the same list, of any words, orders and heads: the same replies,
+/// and the same list afterwards.
 pub fn replies_alike<T: BitStore, O: BitOrder, U: BitStore, P: BitOrder>(
     a: &mut BitVec<T, O>,
     b: &mut BitVec<U, P>,
@@ -114,7 +115,8 @@ pub fn closed_up_in_a_box<O: BitOrder>(b: &mut BitBox<u8, O>) -> Meter
 /// Like `closed_up`, of an array, whose row is its list.
 pub fn closed_up_in_an_array<A: BitViewSized, O: BitOrder>(a: &mut BitArray<A, O>) -> Meter
     requires { 24 ≤ A.Store.BITS * A.count }
-    ensures list { row A.Store.BitStore O.BitOrder (A.words a.new) ≡ moved (row A.Store.BitStore O.BitOrder (A.words a.old)) 8 0 16 }
+    ensures list { row A.Store.BitStore O.BitOrder (A.words a.new)
+        ≡ moved (row A.Store.BitStore O.BitOrder (A.words a.old)) 8 0 16 }
     ensures writes { result.writes ≤ touched A.Store.BITS 0 16 }
     ensures reads { result.reads ≤ 3 * touched A.Store.BITS 0 16 }
 {

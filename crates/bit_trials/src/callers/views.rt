@@ -364,7 +364,9 @@ pub fn stored_then_loaded<T: BitStore, O: BitOrder>(view: &mut BitSliceMut<'_, T
 
 pub fn front_joined_to_back<T: BitStore, O: BitOrder>(view: &mut BitSliceMut<'_, T, O>, n: usize)
     requires { n + n ≤ len_there view.old }
-    ensures { list_there view.new ≡ put (list_there view.old) n (or_of (slice_range (list_there view.old) n (n + n)) (slice_range (list_there view.old) 0 n)) }
+    ensures { list_there view.new
+        ≡ put (list_there view.old) n
+        (or_of (slice_range (list_there view.old) n (n + n)) (slice_range (list_there view.old) 0 n)) }
 {
     view.or_within(0..n, n);
 }

@@ -1,4 +1,5 @@
-//! Each function over rows of words at every head of a byte and every length up to 17 bits, beside plain loops over lists.
+//! Each function over rows of words at every head of a byte and every length up to 17 bits, beside plain loops
+//! over lists.
 ghost use Rattle.std.specs.Prelude.{◌+◌, ◌<◌};
 
 use crate::tests::orders::Xor4;

@@ -125,12 +125,11 @@ impl<'a, T: BitStore, O: BitOrder> Iterator for IterOnes<'a, T, O> {
     /// The first index that is left. None exactly where none is.
     #[inline(always)]
     fn next(&mut self) -> Option<usize> {
-        if self.chunk != 0 {
-            return Some(self.take_first());
-        }
-        self.read_on();
         if self.chunk == 0 {
-            return None;
+            self.read_on();
+            if self.chunk == 0 {
+                return None;
+            }
         }
         Some(self.take_first())
     }

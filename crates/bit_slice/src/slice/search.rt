@@ -64,10 +64,10 @@ impl<'a, T: BitStore, O: BitOrder> BitSlice<'a, T, O> {
         ensures none { result.2 ≡ 0 → result.0 ≡ upto }
     {
         let chunk = self.chunk_at(at, n);
-        if chunk == 0 {
-            return self.chunk_found(at + n, upto);
+        if chunk != 0 {
+            return (at, at + n, chunk);
         }
-        (at, at + n, chunk)
+        self.chunk_found(at + n, upto)
     }
 
     // The first bits from index `at` on, up to 64 that end with a word, of which one is true: where they begin, where they
@@ -84,11 +84,11 @@ impl<'a, T: BitStore, O: BitOrder> BitSlice<'a, T, O> {
         ensures chunk { IsChunk (list_of self.entry) result.0 result.1 result.2 }
         ensures none { result.2 ≡ 0 → result.0 ≡ upto }
     {
-        let over = (self.head + at) % 64;
-        if over == 0 && upto - at >= 64 {
+        if (self.head + at) % 64 == 0 && upto - at >= 64 {
             return self.chunk_from(at, 64, upto);
         }
-        self.chunk_from(at, (64 - over).min(upto - at), upto)
+        let near = (64 - (self.head + at) % 64).min(upto - at);
+        self.chunk_from(at, near, upto)
     }
 
     // The last index from `from` up to `upto` with this bit, 64 at a time.

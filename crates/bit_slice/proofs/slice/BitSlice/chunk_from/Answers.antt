@@ -3,9 +3,9 @@ use Rattle.bit_slice.specs.BitSlice.{list_of}
 use Rattle.bit_slice.proofs.Chunked.{absent_joined, chunk_absent}
 use Rattle.bit_slice.proofs.slice.BitSlice.chunk_from.Goals as goal
 
-pub returns-then-chunk-eq0-clause-before : goal.returns-then-chunk-eq0-clause-before
-returns-then-chunk-eq0-clause-before g c =
+pub returns-clause-before : goal.returns-clause-before
+returns-clause-before g c =
     let xs = list_of c.args.self in
     let at = c.args.at in
     let middle = at + c.args.n in
-    absent_joined true xs at middle c.chunk_found.result.0 (chunk_absent xs at middle c.chunk_at-chunk.result c.chunk_at-chunk.ensures c.if-chunk-eq0.true) c.chunk_found.ensures.before
+    absent_joined true xs at middle c.chunk_found.result.0 (chunk_absent xs at middle c.chunk_at-chunk.result c.chunk_at-chunk.ensures c.if-chunk-ne0.false) c.chunk_found.ensures.before

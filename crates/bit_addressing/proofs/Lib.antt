@@ -1,4 +1,5 @@
 pub mod Words
+pub mod Lowest
 pub mod Onto
 pub mod lists
 pub mod Runs

@@ -1,15 +1,17 @@
--- Items of a list read as a number: whether one of them is true, the first that is, and those after it.
-use Rattle.std.proofs.Common.{◌≡◌, ◌≢◌, ℕ, ◌+◌, ◌-◌, ◌/◌, ◌^◌, ◌<◌, ◌≤◌, Bool, true, false, eqb, List, length, get_or, slice_range, w64, refl, sym, ◌∙◌, ap, inl, inr, arith, div-le_self}
+-- Items of a list read as a number: whether one of them is true, and its lowest bits cleared one by one.
+use Rattle.std.proofs.Common.{◌≡◌, ◌≢◌, ℕ, ◌+◌, ◌-◌, ◌^◌, ◌<◌, ◌≤◌, min, Bool, true, false, List, length, get_or, slice_range, w64, refl, sym, ◌∙◌, ap, inl, inr, arith, bit_and}
 use Rattle.std.specs.Int.{trailing_zeros}
+use Rattle.std.specs.Int.Count.{trailing_of_zero}
 use Rattle.std.proofs.lemmas.Bool.{cases_lt, true≢false}
 use Rattle.std.proofs.lemmas.List.{get_or_past, length-take, length-drop}
-use Rattle.std.proofs.lemmas.Nat.Bits.{bit_at-trailing_zeros}
+use Rattle.std.proofs.lemmas.Nat.{and_le_l}
 use Rattle.bit_addressing.specs.Bits.{has_bit}
 use Rattle.bit_addressing.specs.Row.{number_of}
-use Rattle.bit_addressing.proofs.Chunks.{has_number, no_bits, number_from_bits}
-use Rattle.bit_addressing.proofs.Words.{has_none, has_shr_low}
+use Rattle.bit_addressing.proofs.Chunks.{has_number, no_bits}
+use Rattle.bit_addressing.proofs.Lowest.{has_lowest, has_below_lowest, cleared_lowest, cleared_other}
+use Rattle.bit_addressing.proofs.Words.{has_none}
 use Rattle.bit_slice.proofs.Found.{item_of_part}
-use Rattle.bit_slice.specs.Places.{IsAbsent, IsNext, IsChunk}
+use Rattle.bit_slice.specs.Places.{IsAbsent, IsChunk, IsChunkLeft}
 
 -- two runs without a bit, one after the other
 pub absent_joined : (bit : Bool) (xs : List Bool) (lo middle hi : ℕ) → IsAbsent bit xs lo middle → IsAbsent bit xs middle hi → IsAbsent bit xs lo hi
@@ -48,52 +50,91 @@ module _ (xs : List Bool) (lo hi chunk : ℕ) (is : IsChunk xs lo hi chunk) wher
         ap (λ n. get_or xs n false) (sym e) ∙ sym (bit_is (j - lo) (omega arith)) ∙ ap (λ n. has_bit n (j - lo)) none ∙ has_none (j - lo);
   }
 
+  -- none of the items was taken
+  pub chunk_left : IsChunkLeft xs lo hi chunk
+  chunk_left = record {
+    ordered = is.ordered;
+    few = is.few;
+    same = λ k j set a b. bit_is j (omega arith);
+    past = λ j h. bit_past j (omega arith);
+  }
+
+  -- no item is true up to that of the lowest bit
+  pub none_before : chunk < 2 ^ 64 → IsAbsent true xs lo (min hi (lo + trailing_zeros w64 chunk))
+  none_before fits = record {
+    each = λ j a b.
+        let e : lo + (j - lo) ≡ j = omega arith in
+        ap (λ n. get_or xs n false) (sym e) ∙ sym (bit_is (j - lo) (omega arith)) ∙ has_below_lowest w64 chunk fits (j - lo) (omega arith);
+  }
+
+-- no item is left
+pub none_left : (xs : List Bool) (at : ℕ) → IsChunkLeft xs at at 0
+none_left xs at = chunk_left xs at at 0 (chunk_none xs at)
+
+module _ (xs : List Bool) (lo hi chunk : ℕ) (is : IsChunkLeft xs lo hi chunk) where
+  -- no bit is set
+  pub next_at_end : chunk ≡ 0 → min hi (lo + trailing_zeros w64 chunk) ≡ hi
+  next_at_end none =
+      let all : trailing_zeros w64 chunk ≡ 64 = ap (trailing_zeros w64) none ∙ trailing_of_zero 64 in
+      let few = is.few in
+      omega arith
+
   module _ (some : chunk ≢ 0) (fits : chunk < 2 ^ 64) where
-    lowest : has_bit chunk (trailing_zeros w64 chunk) ≡ true → trailing_zeros w64 chunk < hi - lo
-    lowest set = elim (cases_lt (trailing_zeros w64 chunk) (hi - lo)) [
+    abbrev z : ℕ
+    z = trailing_zeros w64 chunk
+
+    abbrev rest : ℕ
+    rest = bit_and chunk (chunk - 1)
+
+    -- the lowest bit is that of an item, which is true
+    pub first_inside : lo + z < hi
+    first_inside = elim (cases_lt (lo + z) hi) [
       | inl l ↦ l
-      | inr l ↦ absurd (true≢false (sym set ∙ bit_past (trailing_zeros w64 chunk) l))
+      | inr l ↦ absurd (true≢false (sym (has_lowest w64 chunk fits some) ∙ is.past z l))
     ]
 
-    pub first_inside : lo + trailing_zeros w64 chunk < hi
-    first_inside =
-        let t = bit_at-trailing_zeros w64 chunk (omega arith) fits in
-        let l = lowest (ap (λ r. eqb r 1) t.1) in
-        let o = is.ordered in
-        omega arith
+    pub first_set : get_or xs (lo + z) false ≡ true
+    first_set = sym (is.same z z (has_lowest w64 chunk fits some) (omega arith) first_inside) ∙ has_lowest w64 chunk fits some
 
-    -- the lowest bit that is set stands at the first item that is true
-    pub chunk_next : (upto : ℕ) → hi ≤ upto → IsNext true xs lo upto (lo + trailing_zeros w64 chunk)
-    chunk_next upto h =
-        let z : ℕ = trailing_zeros w64 chunk in
-        let t = bit_at-trailing_zeros w64 chunk (omega arith) fits in
-        let set : has_bit chunk z ≡ true = ap (λ r. eqb r 1) t.1 in
-        let l : z < hi - lo = lowest set in
-        record {
-          begins = omega arith;
-          within = omega arith;
-          here = sym (bit_is z l) ∙ set;
-          before = record {
-            each = λ j a b.
-                let e : lo + (j - lo) ≡ j = omega arith in
-                ap (λ n. get_or xs n false) (sym e) ∙ sym (bit_is (j - lo) (omega arith)) ∙ ap (λ r. eqb r 1) (t.2 (j - lo) (omega arith));
-          };
-        }
+    set_after : (k : ℕ) → has_bit rest k ≡ true → z < k
+    set_after k set = elim (cases_lt z k) [
+      | inl l ↦ l
+      | inr l ↦ absurd (true≢false (sym set ∙ elim (cases_lt k z) [
+        | inl b ↦ cleared_other w64 chunk fits some k (omega arith) ∙ has_below_lowest w64 chunk fits k b
+        | inr b ↦ let e : k ≡ z = omega arith in ap (has_bit rest) e ∙ cleared_lowest w64 chunk fits some
+      ]))
+    ]
 
-  -- the items after one of them
-  pub chunk_after : (z : ℕ) → lo + z < hi → chunk < 2 ^ 64 → IsChunk xs (lo + z + 1) hi (chunk / 2 ^ z / 2)
-  chunk_after z inside fits =
-      let rest : List Bool = slice_range xs (lo + z + 1) hi in
-      let few = is.few in
-      let most : length rest ≤ hi - (lo + z + 1) = simp (length-take, length-drop) (omega arith) in
-      record {
-        ordered = omega arith;
-        few = omega arith;
-        number = number_from_bits (chunk / 2 ^ z / 2) rest (omega (arith, div-le_self chunk (2 ^ z), div-le_self (chunk / 2 ^ z) 2)) (omega arith)
-            (λ i h. has_shr_low (chunk / 2 ^ z) 1 i ∙ has_shr_low chunk z (i + 1) ∙ elim (cases_lt (i + 1 + z) (hi - lo)) [
-              | inl l ↦
-                  let e : lo + (i + 1 + z) ≡ lo + z + 1 + i = omega arith in
-                  bit_is (i + 1 + z) l ∙ ap (λ n. get_or xs n false) e ∙ sym (item_of_part xs (lo + z + 1) hi i (omega arith))
-              | inr l ↦ bit_past (i + 1 + z) l ∙ sym (get_or_past rest i false (omega arith))
-            ]);
-      }
+    after_first : (j : ℕ) → z < j → lo + j < hi → has_bit rest j ≡ get_or xs (lo + j) false
+    after_first j h inside = cleared_other w64 chunk fits some j (omega arith) ∙ is.same z j (has_lowest w64 chunk fits some) (omega arith) inside
+
+    -- the lowest bit cleared
+    pub chunk_after : IsChunkLeft xs lo hi rest
+    chunk_after = record {
+      ordered = is.ordered;
+      few = is.few;
+      same = λ k j set a b. let l = set_after k set in after_first j (omega arith) b;
+      past = λ j h. let l = first_inside in cleared_other w64 chunk fits some j (omega arith) ∙ is.past j h;
+    }
+
+    small : rest < 2 ^ 64
+    small = omega (arith, and_le_l chunk (chunk - 1))
+
+    pub next_after : lo + z + 1 ≤ min hi (lo + trailing_zeros w64 rest)
+    next_after =
+        let inside = first_inside in let few = is.few in
+        elim (cases_lt 0 rest) [
+          | inl more ↦ let l = set_after (trailing_zeros w64 rest) (has_lowest w64 rest small (omega arith)) in omega arith
+          | inr none ↦
+              let e : rest ≡ 0 = omega arith in
+              let all : trailing_zeros w64 rest ≡ 64 = ap (trailing_zeros w64) e ∙ trailing_of_zero 64 in
+              omega arith
+        ]
+
+    -- no item is true from there up to that of the next bit
+    pub none_until : IsAbsent true xs (lo + z + 1) (min hi (lo + trailing_zeros w64 rest))
+    none_until = record {
+      each = λ j a b.
+          let e : lo + (j - lo) ≡ j = omega arith in
+          ap (λ n. get_or xs n false) (sym e) ∙ sym (after_first (j - lo) (omega arith) (omega arith)) ∙ has_below_lowest w64 rest small (j - lo) (omega arith);
+    }

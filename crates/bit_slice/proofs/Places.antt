@@ -43,7 +43,7 @@ module _ (p : Bool → Bool) where
       ∙ ap (λ k. places_between p xs lo i ++ filter (passes_at xs) (range_with_len k (hi - i))) z
 
   -- an index that passes, and those after it
-  places_from : (xs : List Bool) (i hi : ℕ) → i < hi → p (get_or xs i false) ≡ true → places_between p xs i hi ≡ i ∷ places_between p xs (i + 1) hi
+  pub places_from : (xs : List Bool) (i hi : ℕ) → i < hi → p (get_or xs i false) ≡ true → places_between p xs i hi ≡ i ∷ places_between p xs (i + 1) hi
   places_from xs i hi h is =
       let e : hi - i ≡ suc (hi - (i + 1)) = omega arith in
       ap (λ n. filter (passes_at xs) (range_with_len i n)) e

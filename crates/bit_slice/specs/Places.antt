@@ -1,6 +1,7 @@
 -- Where a bit stands in a list, and the indices of the items that are true or false.
 use Rattle.std.specs.Prelude.{◌≡◌, ℕ, ◌+◌, ◌-◌, ◌<◌, ◌≤◌, Bool, false, true, not, List, [], ◌∷◌, length, slice_index_or, slice_range, refl}
 use Rattle.std.specs.List.{filter, range_with_len}
+use Rattle.bit_addressing.specs.Bits.{has_bit}
 use Rattle.bit_addressing.specs.Row.{number_of}
 
 -- no index from lo up to hi has this bit
@@ -26,6 +27,14 @@ pub record IsChunk (xs : List Bool) (lo hi chunk : ℕ) : Type 0 where
   pub ordered : lo ≤ hi
   pub few : hi ≤ lo + 64
   pub number : chunk ≡ number_of (slice_range xs lo hi)
+
+-- from its lowest bit that is set on, a number has the bits of the items from lo up to hi, which are at most 64, and none
+-- after them
+pub record IsChunkLeft (xs : List Bool) (lo hi chunk : ℕ) : Type 0 where
+  pub ordered : lo ≤ hi
+  pub few : hi ≤ lo + 64
+  pub same : (k j : ℕ) → has_bit chunk k ≡ true → k ≤ j → lo + j < hi → has_bit chunk j ≡ slice_index_or xs (lo + j) false
+  pub past : (j : ℕ) → hi ≤ lo + j → has_bit chunk j ≡ false
 
 -- the indices from lo up to hi whose items pass a test, ascending
 abbrev pub places_between : (Bool → Bool) → List Bool → ℕ → ℕ → List ℕ

@@ -4,7 +4,7 @@ ghost use Rattle.std.specs.Iterator.Runs.{YieldsInOrder, YieldsInReverse};
 ghost use Rattle.std.specs.Prelude.{◌≡◌, ◌≢◌, ℕ, ◌+◌, ◌-◌, ◌*◌, ◌<◌, ◌≤◌, [], ◌∷◌, IfSome, Some, count_by, false, length, not, slice_get, true};
 ghost use Rattle.std.specs.List.{All};
 ghost use Rattle.bit_slice.specs.BitSlice.{len_of, list_of};
-ghost use Rattle.bit_slice.specs.Places.{IsChunk, ones_of, zeros_of};
+ghost use Rattle.bit_slice.specs.Places.{IsChunkLeft, ones_of, places_between, zeros_of};
 
 use crate::slice::BitSlice;
 use bit_addressing::{BitOrder, BitStore};
@@ -16,13 +16,14 @@ use std::iter::{DoubleEndedIterator, ExactSizeIterator, FusedIterator, Iterator}
 #[derive(Drop)]
 pub struct IterOnes<'a, T: BitStore, O: BitOrder> {
     view: BitSlice<'a, T, O>,
-    from: usize,
     upto: usize,
-    // The bits from index `from` up to `end`, which were read together, as a number.
+    // The bits from index `base` up to `end`, which were read together, as a number; those whose indices were returned
+    // are cleared.
     chunk: u64,
+    base: usize,
     end: usize,
     ghost fits: { (end ≤ upto) × (upto ≤ len_of view) },
-    ghost read: { IsChunk (list_of view) from end chunk },
+    ghost read: { IsChunkLeft (list_of view) base end chunk },
 }
 
 impl<'a, T: BitStore, O: BitOrder> BitSlice<'a, T, O> {
@@ -33,7 +34,6 @@ impl<'a, T: BitStore, O: BitOrder> BitSlice<'a, T, O> {
     /// ```text
     /// of 01101001: bits.iter_ones() gives 1, 2, 4, 7
     /// ```
-    #[tactic(auto, using(crate::proofs::Chunked::chunk_none))]
     pub fn iter_ones(self) -> IterOnes<'a, T, O>
         ensures list { ones_left result ≡ ones_of (list_of self.entry) }
         ensures count { length (ones_left result) ≡ count_by (λ b. b) (list_of self.entry) }
@@ -44,22 +44,31 @@ impl<'a, T: BitStore, O: BitOrder> BitSlice<'a, T, O> {
     {
         IterOnes {
             view: self,
-            from: 0,
             upto: self.len,
             chunk: 0,
+            base: 0,
             end: 0,
         }
     }
 }
 
 impl<'a, T: BitStore, O: BitOrder> IterOnes<'a, T, O> {
-    ghost use Rattle.bit_slice.specs.Indices.{ones_left};
+    ghost use Rattle.bit_slice.specs.Indices.{next_of, ones_left};
+
+    // The index from which on no bit was taken from the front: that of the lowest bit of the chunk, or its end.
+    #[inline(always)]
+    fn next_at(&self) -> usize
+        ensures { result ≡ next_of self.now }
+    {
+        self.end
+            .min(self.base + self.chunk.trailing_zeros() as usize)
+    }
 
     // How many indices are left: the bits that are left are counted.
     fn count_left(&self) -> usize
         ensures { result ≡ length (ones_left self.now) }
     {
-        self.view.get_range(self.from..self.upto).count_ones()
+        self.view.get_range(self.next_at()..self.upto).count_ones()
     }
 
     // Reads bits up to one that is true, or all of them. Requires that none is left of those that were read.
@@ -70,22 +79,35 @@ impl<'a, T: BitStore, O: BitOrder> IterOnes<'a, T, O> {
         ensures none { self.new.chunk ≡ 0 → ones_left self.new ≡ [] }
     {
         let (from, end, chunk) = self.view.chunk_with_one(self.end, self.upto);
-        self.from = from;
+        self.base = from;
         self.end = end;
         self.chunk = chunk;
     }
 
-    // The first index that is left. Requires that it is one of the bits that were read.
+    // The first index that is left, whose bit is cleared in the chunk. Requires that the chunk has a bit.
     #[inline(always)]
     fn take_first(&mut self) -> usize
         requires { self.old.chunk ≢ 0 }
         ensures { ones_left self.old ≡ result ∷ ones_left self.new }
     {
-        let step = self.chunk.trailing_zeros();
-        let first = self.from + step as usize;
-        self.chunk = self.chunk >> step >> 1;
-        self.from = first + 1;
+        let first = self.base + self.chunk.trailing_zeros() as usize;
+        self.chunk &= self.chunk - 1;
         first
+    }
+
+    // Leaves the indices below `upto`. A chunk that has bits from there on is dropped, and read again later.
+    fn cut(&mut self, upto: usize)
+        requires ordered { next_of self.old ≤ upto }
+        requires inside { upto ≤ self.old.upto }
+        ensures { ones_left self.new ≡ places_between (λ b. b) (list_of self.old.view) (next_of self.old) upto }
+    {
+        if upto < self.end {
+            let from = self.next_at();
+            self.chunk = 0;
+            self.base = from;
+            self.end = from;
+        }
+        self.upto = upto;
     }
 }
 
@@ -103,12 +125,11 @@ impl<'a, T: BitStore, O: BitOrder> Iterator for IterOnes<'a, T, O> {
     /// The first index that is left. None exactly where none is.
     #[inline(always)]
     fn next(&mut self) -> Option<usize> {
-        if self.chunk != 0 {
-            return Some(self.take_first());
-        }
-        self.read_on();
         if self.chunk == 0 {
-            return None;
+            self.read_on();
+            if self.chunk == 0 {
+                return None;
+            }
         }
         Some(self.take_first())
     }
@@ -131,19 +152,15 @@ impl<'a, T: BitStore, O: BitOrder> DoubleEndedIterator for IterOnes<'a, T, O> {
     ghost next_back_gives = { YieldsLast ones_left };
 
     /// The last index that is left. None exactly where none is.
-    #[tactic(auto, using(crate::proofs::Chunked::chunk_none))]
     fn next_back(&mut self) -> Option<usize> {
-        match self.view.find_last(self.from, self.upto, true) {
+        let from = self.next_at();
+        match self.view.find_last(from, self.upto, true) {
             None => {
-                self.upto = self.from;
-                self.chunk = 0;
-                self.end = self.from;
+                self.cut(from);
                 None
             }
             Some(i) => {
-                self.upto = i;
-                self.chunk = 0;
-                self.end = self.from;
+                self.cut(i);
                 Some(i)
             }
         }

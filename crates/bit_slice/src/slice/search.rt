@@ -50,9 +50,30 @@ impl<'a, T: BitStore, O: BitOrder> BitSlice<'a, T, O> {
         }
     }
 
+    // Like `chunk_with_one`, where the first `n` bits are read without a search. Requires that they are at most 64 and end by
+    // `upto`.
+    #[inline(always)]
+    fn chunk_from(self, at: usize, n: usize, upto: usize) -> (usize, usize, u64)
+        requires few { n ≤ 64 }
+        requires ordered { at + n ≤ upto }
+        requires inside { upto ≤ len_of self }
+        ensures begins { at ≤ result.0 }
+        ensures ends { result.1 ≤ upto }
+        ensures before { IsAbsent true (list_of self.entry) at result.0 }
+        ensures chunk { IsChunk (list_of self.entry) result.0 result.1 result.2 }
+        ensures none { result.2 ≡ 0 → result.0 ≡ upto }
+    {
+        let chunk = self.chunk_at(at, n);
+        if chunk != 0 {
+            return (at, at + n, chunk);
+        }
+        self.chunk_found(at + n, upto)
+    }
+
     // The first bits from index `at` on, up to 64 that end with a word, of which one is true: where they begin, where they
     // end, and they as a number. `upto` twice and 0 where none is true up to there. The bits up to the next word's end are
-    // read without a call, since most searches end there (docs/SPEED.md, "The bench", ones 67th).
+    // read without a call, since most searches end there, and 64 at once apart from fewer, which takes no length
+    // (docs/SPEED.md, "The bench", ones 67th).
     #[inline(always)]
     pub(crate) fn chunk_with_one(self, at: usize, upto: usize) -> (usize, usize, u64)
         requires ordered { at ≤ upto }
@@ -63,12 +84,11 @@ impl<'a, T: BitStore, O: BitOrder> BitSlice<'a, T, O> {
         ensures chunk { IsChunk (list_of self.entry) result.0 result.1 result.2 }
         ensures none { result.2 ≡ 0 → result.0 ≡ upto }
     {
-        let near = (64 - (self.head + at) % 64).min(upto - at);
-        let chunk = self.chunk_at(at, near);
-        if chunk != 0 {
-            return (at, at + near, chunk);
+        if (self.head + at) % 64 == 0 && upto - at >= 64 {
+            return self.chunk_from(at, 64, upto);
         }
-        self.chunk_found(at + near, upto)
+        let near = (64 - (self.head + at) % 64).min(upto - at);
+        self.chunk_from(at, near, upto)
     }
 
     // The last index from `from` up to `upto` with this bit, 64 at a time.

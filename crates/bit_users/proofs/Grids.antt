@@ -18,7 +18,7 @@ use Rattle.bit_slice.proofs.Combining.{length-combined}
 use Rattle.bit_slice.proofs.Ranges.{item_combined}
 use Rattle.bit_containers.proofs.Removing.{run_back}
 use Rattle.bit_users.specs.Matrix.{Grid, AreAlike, IsPath, IsSet, item}
-use Rattle.bit_users.proofs.Paths.{ArePathsBelow, all_paths}
+use Rattle.bit_users.proofs.Paths.{ArePathsOver, all_paths}
 
 -- a row ends before the next one begins
 row_ends : (i a columns : ℕ) → i < a → i * columns + columns ≤ a * columns
@@ -82,7 +82,7 @@ second true b is = refl
 second false b is = is
 
 -- the bits that are set where a row is or-ed into another
-row_sets : (old new : Grid) (into from : ℕ) → into < old.rows → from < old.rows → AreAlike new old → ((j : ℕ) → j < old.columns → item new into j ≡ (item old into j || item old from j)) → ((i j : ℕ) → i < old.rows → j < old.columns → i ≢ into → item new i j ≡ item old i j)
+pub row_sets : (old new : Grid) (into from : ℕ) → into < old.rows → from < old.rows → AreAlike new old → ((j : ℕ) → j < old.columns → item new into j ≡ (item old into j || item old from j)) → ((i j : ℕ) → i < old.rows → j < old.columns → i ≢ into → item new i j ≡ item old i j)
     → (i j : ℕ) → IsSet new i j ↔ (IsSet old i j ⊎ ((i ≡ into) × IsSet old from j))
 row_sets old new into from inside within alike row others i j =
     let here : i ≡ into → (k : ℕ) → item old i k ≡ item old into k = (λ e k. ap (λ r. item old r k) e) in
@@ -118,7 +118,7 @@ pub row_leads_not : (old : Grid) (row k : ℕ) → item old row k ≡ false → 
 row_leads_not old row k none i j = (λ s. inl s, λ w. elim w [ inl o ↦ o | inr t ↦ absurd (true≢false (sym t.1.2 ∙ none)) ])
 
 -- a graph whose edges are the paths over all nodes of another is its transitive closure
-pub closed : (old now : Grid) (n : ℕ) → old.rows ≤ n → ArePathsBelow (IsSet old) (IsSet now) n → (i j : ℕ) → IsSet now i j ↔ IsPath (IsSet old) i j
+pub closed : (old now : Grid) (n : ℕ) → old.rows ≤ n → ArePathsOver (IsSet old) (IsSet now) 0 n → (i j : ℕ) → IsSet now i j ↔ IsPath (IsSet old) i j
 closed old now n past are = all_paths (IsSet old) (IsSet now) n (λ x y e. (let h = e.0 in omega arith)) are
 
 -- the bits that a write at another place leaves

@@ -4,6 +4,7 @@ pub mod Fields
 pub mod Frames
 pub mod FullRank
 pub mod Grids
+pub mod Lowest
 pub mod Members
 pub mod Merging
 pub mod ModTwo

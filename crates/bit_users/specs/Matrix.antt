@@ -3,7 +3,7 @@ use Rattle.std.specs.Prelude.{◌≡◌, ◌==◌, ℕ, zero, suc, ◌+◌, ◌*
 use Rattle.std.specs.Cmp.{IsEquivalence, and_equiv, nat_eq_equiv, on_equiv}
 use Rattle.bit_addressing.specs.Text.{digit_of}
 use Rattle.bit_slice.specs.Comparisons.{bits_equal, bits_equiv}
-use Rattle.std.proofs.Common.{lit<}
+use Rattle.std.proofs.Common.{lit<, lit≤}
 use Rattle.std.specs.Coded.{Coded, code_by, coded×, coded_list, coded_ℕ, coded_bool}
 use Rattle.bit_addressing.specs.declared.length.TheConstants.{MAX_BITS}
 
@@ -46,6 +46,23 @@ IsWalk edge i (k ∷ ks) j = edge i k × IsWalk edge k ks j
 -- a path of at least one edge leads from i to j
 abbrev pub IsPath : (ℕ → ℕ → Type 0) → ℕ → ℕ → Type 0
 IsPath edge i j = (between : List ℕ) × IsWalk edge i between j
+
+-- each of these nodes is at least `low` and below `high`
+abbrev pub AreWithin : ℕ → ℕ → List ℕ → Type 0
+AreWithin low high [] = Unit {0}
+AreWithin low high (x ∷ xs) = (low ≤ x) × (x < high) × AreWithin low high xs
+
+-- a path leads from i to j whose inner nodes are all at least `low` and below `high`
+abbrev pub IsPathOver : (ℕ → ℕ → Type 0) → ℕ → ℕ → ℕ → ℕ → Type 0
+IsPathOver edge low high i j = (between : List ℕ) × (AreWithin low high between × IsWalk edge i between j)
+
+-- two edges lead from i to j, over a node that is at least `low` and below `high`
+abbrev pub LeadsOver : (ℕ → ℕ → Type 0) → ℕ → ℕ → ℕ → ℕ → Type 0
+LeadsOver edge low high i j = (k : ℕ) × ((low ≤ k) × (k < high) × edge i k × edge k j)
+
+-- an edge from a node to another, both at least `low` and below `high`, implies an edge from the first to each node to which an edge leads from the second
+pub record IsClosed (edge : ℕ → ℕ → Type 0) (low high : ℕ) : Type 0 where
+  pub leads : (a b j : ℕ) → low ≤ a → a < high → low ≤ b → b < high → edge a b → edge b j → edge a j
 
 -- one of the first n values of a test is true
 abbrev pub any_below : (ℕ → Bool) → ℕ → Bool
@@ -119,6 +136,12 @@ no_edge_along = refl
 -- but a path over 1 does
 path_along : IsPath (IsSet line) 0 2
 path_along = (1 ∷ [], (first_edge, second_edge))
+
+path_over_the_second : IsPathOver (IsSet line) 1 2 0 2
+path_over_the_second = (1 ∷ [], ((lit≤ tt, lit< tt, tt), (first_edge, second_edge)))
+
+two_edges_over_the_second : LeadsOver (IsSet line) 1 2 0 2
+two_edges_over_the_second = (1, (lit≤ tt, lit< tt, first_edge, second_edge))
 
 -- its paths of two edges
 two_edges : product line line 0 2 ≡ true

@@ -1,6 +1,7 @@
 //! Where paths lead in the graph that a square matrix stands for.
-ghost use Rattle.std.specs.Prelude.{◌≡◌, ◌<◌, ◌⊎◌, ◌↔◌, ℕ};
-ghost use Rattle.bit_users.specs.Matrix.{AreAlike, IsPath, IsSet};
+ghost use Rattle.std.specs.Prelude.{◌≡◌, ◌≢◌, ◌+◌, ◌<◌, ◌≤◌, ◌⊎◌, ◌↔◌, ◌&&◌, ◌||◌, ℕ, IsTrue, eqb, not, true};
+ghost use Rattle.bit_addressing.specs.Bits.{has_bit};
+ghost use Rattle.bit_users.specs.Matrix.{AreAlike, IsClosed, IsPath, IsPathOver, IsSet, LeadsOver};
 
 use crate::matrix::Matrix;
 
@@ -8,27 +9,60 @@ impl Matrix {
     /// The transitive closure of a graph, by Warshall's algorithm: afterwards an edge leads from `i` to `j`
     /// exactly where a path of at least one edge led there before. Takes no memory. Requires that the matrix
     /// is square.
-    #[tactic(auto, using(crate::proofs::Paths::edge_alone, crate::proofs::Paths::one_node_more))]
     pub fn close(&mut self)
         requires { self.old.rows ≡ self.old.columns }
         ensures alike { AreAlike self.new self.old }
         ensures paths { (i j : ℕ) → IsSet self.new i j ↔ IsPath (IsSet self.old) i j }
     {
-        for middle in 0..self.rows() {
-            self.lead_through(middle);
+        let mut start = 0;
+        while start < self.rows() {
+            let end = start + (self.rows() - start).min(64);
+            self.lead_over(start, end);
+            start = end;
         }
     }
 
-    // Adds an edge from each node with an edge to `middle` to each node to which an edge leads from
-    // `middle`.
-    #[tactic(auto, using(crate::proofs::Paths::row_more, crate::proofs::Paths::all_led))]
-    fn lead_through(&mut self, middle: usize)
+    // Adds an edge from each node to each to which a path over the nodes from `start` up to `end`, at most 64, leads.
+    fn lead_over(&mut self, start: usize, end: usize)
         requires square { self.old.rows ≡ self.old.columns }
+        requires order { start ≤ end }
+        requires within { end ≤ self.old.rows }
+        requires few { end ≤ start + 64 }
+        ensures alike { AreAlike self.new self.old }
+        ensures paths { (i j : ℕ) → IsSet self.new i j ↔ IsPathOver (IsSet self.old) start end i j }
+    {
+        self.close_block(start, end);
+        let leading = self.leading(start, end);
+        for row in 0..self.rows() {
+            self.lead_row(row, start, end, leading);
+        }
+    }
+
+    // The same for the nodes from `start` up to `end` alone, node by node.
+    fn close_block(&mut self, start: usize, end: usize)
+        requires square { self.old.rows ≡ self.old.columns }
+        requires order { start ≤ end }
+        requires within { end ≤ self.old.rows }
+        ensures alike { AreAlike self.new self.old }
+        ensures inside { (i j : ℕ) → start ≤ i → i < end → IsSet self.new i j ↔ IsPathOver (IsSet self.old) start end i j }
+        ensures outside { (i j : ℕ) → (i < start) ⊎ (end ≤ i) → IsSet self.new i j ↔ IsSet self.old i j }
+    {
+        for middle in start..end {
+            self.lead_through(middle, start, end);
+        }
+    }
+
+    // Adds an edge from each node from `start` up to `end` with an edge to `middle` to each node to which an edge
+    // leads from `middle`.
+    fn lead_through(&mut self, middle: usize, start: usize, end: usize)
+        requires square { self.old.rows ≡ self.old.columns }
+        requires order { start ≤ end }
+        requires within { end ≤ self.old.rows }
         requires node { middle < self.old.rows }
         ensures alike { AreAlike self.new self.old }
-        ensures edges { (i j : ℕ) → IsSet self.new i j ↔ (IsSet self.old i j ⊎ (IsSet self.old i middle × IsSet self.old middle j)) }
+        ensures edges { (i j : ℕ) → IsSet self.new i j ↔ (IsSet self.old i j ⊎ ((start ≤ i) × (i < end) × IsSet self.old i middle × IsSet self.old middle j)) }
     {
-        for row in 0..self.rows() {
+        for row in start..end {
             self.lead_row_through(row, middle);
         }
     }
@@ -46,4 +80,62 @@ impl Matrix {
             self.or_row(row, middle);
         }
     }
+
+    // The nodes from `start` up to `end`, at most 64, from which an edge leads: bit `p` is that of node `start + p`.
+    fn leading(&self, start: usize, end: usize) -> u64
+        requires order { start ≤ end }
+        requires within { end ≤ self.now.rows }
+        requires few { end ≤ start + 64 }
+        ensures { (p j : ℕ) → start + p < end → IsSet self.now (start + p) j → has_bit result p ≡ true }
+    {
+        let mut leading = 0u64;
+        for row in start..end {
+            if self.leads(row) {
+                leading |= 1u64 << (row - start);
+            }
+        }
+        leading
+    }
+
+    // Whether an edge leads from a node.
+    fn leads(&self, row: usize) -> bool
+        requires { row < self.now.rows }
+        ensures { (j : ℕ) → IsSet self.now row j → IsTrue result }
+    {
+        self.row(row).any()
+    }
+
+    // Adds an edge from `row` to each node to which an edge leads from one of the nodes from `start` up to `end`, at most 64,
+    // to which an edge leads from `row`. Nodes whose bits in `leading` are not set have no edge, and are passed over.
+    // Requires that the nodes are closed: then those to which an edge leads from one of them are not followed too.
+    fn lead_row(&mut self, row: usize, start: usize, end: usize, leading: u64)
+        requires square { self.old.rows ≡ self.old.columns }
+        requires row { row < self.old.rows }
+        requires order { start ≤ end }
+        requires within { end ≤ self.old.rows }
+        requires few { end ≤ start + 64 }
+        requires closed { IsClosed (IsSet self.old) start end }
+        requires leading { (p j : ℕ) → start + p < end → IsSet self.old (start + p) j → has_bit leading p ≡ true }
+        ensures alike { AreAlike self.new self.old }
+        ensures edges { (i j : ℕ) → IsSet self.new i j ↔ (IsSet self.old i j ⊎ ((i ≡ row) × LeadsOver (IsSet self.old) start end row j)) }
+    {
+        let count = end - start;
+        let mut chunk = self.read_part(row, start, count) & leading;
+        while chunk != 0 {
+            let place = chunk.trailing_zeros();
+            let middle = start + place as usize;
+            let covered = self.read_part(middle, start, count);
+            self.or_row(row, middle);
+            chunk = left_of(chunk, place, covered);
+        }
+    }
+}
+
+// The set bits of a number but the one at `place` and those that are set in `covered`.
+fn left_of(chunk: u64, place: u32, covered: u64) -> u64
+    requires { place < 64 }
+    ensures bits { (p : ℕ) → has_bit result p ≡ (has_bit chunk p && not (eqb p place || has_bit covered p)) }
+    ensures smaller { has_bit chunk place ≡ true → result < chunk }
+{
+    chunk & !(1u64 << place | covered)
 }

@@ -1,5 +1,5 @@
 //! Rows into columns, by squares of 64 x 64 bits.
-ghost use Rattle.std.specs.Prelude.{◌≡◌, ◌≢◌, ◌+◌, ◌*◌, ◌<◌, ◌≤◌, ◌⊎◌, ℕ, IfOk, OnErr};
+ghost use Rattle.std.specs.Prelude.{◌≡◌, ◌≢◌, ◌+◌, ◌*◌, ◌<◌, ◌≤◌, ◌⊎◌, ℕ, IfOk, OnErr, false};
 ghost use Rattle.bit_addressing.specs.Bits.{has_bit};
 ghost use Rattle.bit_users.specs.Matrix.{AreAlike, item};
 ghost use Rattle.bit_users.specs.Squares.{square_bit};
@@ -80,11 +80,12 @@ impl Matrix {
     }
 
     // Up to 64 bits of a row, from a column on, as a number: bit `j` is the one in column `column + j`.
-    fn read_part(&self, row: usize, column: usize, count: usize) -> u64
+    pub(super) fn read_part(&self, row: usize, column: usize, count: usize) -> u64
         requires row { row < self.now.rows }
         requires few { count ≤ 64 }
         requires within { column + count ≤ self.now.columns }
-        ensures { (j : ℕ) → j < count → has_bit result j ≡ item self.now row (column + j) }
+        ensures bits { (j : ℕ) → j < count → has_bit result j ≡ item self.now row (column + j) }
+        ensures above { (j : ℕ) → count ≤ j → has_bit result j ≡ false }
     {
         let start = row * self.columns + column;
         self.bits.get_range(start..start + count).load_le()

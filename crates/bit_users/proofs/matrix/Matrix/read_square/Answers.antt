@@ -15,7 +15,7 @@ loop-row-preserved c =
       long = length-set square row word ∙ c.loop-row.invariant.long;
       items = λ i j h k l. elim (cases_eq i row) [
         | inl same ↦
-            ap (λ n. square_bit (set square row word) n j) same ∙ ap (λ w. has_bit w j) (get_or-set_same square row word 0 (omega arith)) ∙ c.read_part.ensures j (omega arith)
+            ap (λ n. square_bit (set square row word) n j) same ∙ ap (λ w. has_bit w j) (get_or-set_same square row word 0 (omega arith)) ∙ c.read_part.ensures.bits j (omega arith)
             ∙ ap (λ n. item c.args.self.now (c.args.top + n) (c.args.left + j)) (sym same)
         | inr other ↦ ap (λ w. has_bit w j) (get_or-set_other square row i word 0 other) ∙ c.loop-row.invariant.items i j (omega arith) k l
       ];

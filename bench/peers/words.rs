@@ -234,8 +234,9 @@ fn lookups(f: impl Fn(usize) -> usize) -> usize {
 
 fn ranks(n: usize, r: usize) {
     let none = || ();
+    timed("count_made", r, || Bits::made(n, 0), |row| row.count_ones(), |_, t| t);
+    timed("ranks_made", r, || Bits::made(n, 0), |row| Index::made(row), |_, t| t.ones);
     let row = Bits::made(n, 0);
-    timed("ranks_made", r, none, |_| Index::made(&row), |_, t| t.ones);
     let mut thin = Bits::repeat(false, n);
     for i in (0..n).step_by(100) {
         thin.set(i, true);

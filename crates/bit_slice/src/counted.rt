@@ -70,8 +70,10 @@ impl<'a, T: BitStore, O: BitOrder> Counted<'a, T, O> {
         ensures value { IsTrue result ↔ (list_of self.old ≡ list_of other.old) }
         ensures left { WasRead self.old self.new }
         ensures right { WasRead other.old other.new }
-        ensures left_reads { head_of self.old ≡ head_of other.old → reads_of self.new ≤ reads_of self.old + words_for T.BITS (head_of self.old + len_of self.old) }
-        ensures right_reads { head_of self.old ≡ head_of other.old → reads_of other.new ≤ reads_of other.old + words_for T.BITS (head_of other.old + len_of other.old) }
+        ensures left_reads { head_of self.old ≡ head_of other.old
+            → reads_of self.new ≤ reads_of self.old + words_for T.BITS (head_of self.old + len_of self.old) }
+        ensures right_reads { head_of self.old ≡ head_of other.old
+            → reads_of other.new ≤ reads_of other.old + words_for T.BITS (head_of other.old + len_of other.old) }
     {
         if self.len != other.len {
             return false;
@@ -139,7 +141,8 @@ fn load_chunk<T: BitStore, O: BitOrder>(words: &mut WordRead<'_, T>, at: usize, 
 fn ones_of_run<T: BitStore, O: BitOrder>(words: &mut WordRead<'_, T>, at: usize, n: usize) -> usize
     requires few { n ≤ T.BITS }
     requires within { at + n ≤ T.BITS * length words.old.words.now }
-    ensures value { result ≡ count_by (λ b. b) (slice_range (row T.BitStore O.BitOrder words.old.words.now) at (at + n)) }
+    ensures value { result ≡ count_by (λ b. b)
+        (slice_range (row T.BitStore O.BitOrder words.old.words.now) at (at + n)) }
     ensures words { words.new.words ≡ words.old.words }
     ensures least { words.old.meter.reads ≤ words.new.meter.reads }
     ensures most { at % T.BITS + n ≤ T.BITS → words.new.meter.reads ≤ words.old.meter.reads + 1 }
@@ -158,7 +161,9 @@ fn same_run<T: BitStore, O: BitOrder>(
     requires few { n ≤ T.BITS }
     requires within_left { from + n ≤ T.BITS * length left.old.words.now }
     requires within_right { at + n ≤ T.BITS * length right.old.words.now }
-    ensures value { IsTrue result ↔ (slice_range (row T.BitStore O.BitOrder left.old.words.now) from (from + n) ≡ slice_range (row T.BitStore O.BitOrder right.old.words.now) at (at + n)) }
+    ensures value { IsTrue result ↔
+        (slice_range (row T.BitStore O.BitOrder left.old.words.now) from (from + n)
+        ≡ slice_range (row T.BitStore O.BitOrder right.old.words.now) at (at + n)) }
     ensures left_words { left.new.words ≡ left.old.words }
     ensures right_words { right.new.words ≡ right.old.words }
     ensures left_least { left.old.meter.reads ≤ left.new.meter.reads }
@@ -209,7 +214,9 @@ fn same_bits<T: BitStore, O: BitOrder>(
     requires within_right { begin + (end - head) ≤ T.BITS * length right.old.words.now }
     requires fits { end + T.BITS < 2 ^ 64 }
     requires fits_right { begin + end < 2 ^ 64 }
-    ensures value { IsTrue result ↔ (slice_range (row T.BitStore O.BitOrder left.old.words.now) head end ≡ slice_range (row T.BitStore O.BitOrder right.old.words.now) begin (begin + (end - head))) }
+    ensures value { IsTrue result ↔
+        (slice_range (row T.BitStore O.BitOrder left.old.words.now) head end
+        ≡ slice_range (row T.BitStore O.BitOrder right.old.words.now) begin (begin + (end - head))) }
     ensures left_words { left.new.words ≡ left.old.words }
     ensures right_words { right.new.words ≡ right.old.words }
     ensures left_least { left.old.meter.reads ≤ left.new.meter.reads }

@@ -91,12 +91,18 @@ impl<'a, T: BitStore, O: BitOrder> CountedMut<'a, T, O> {
         requires lies { LiesIn (R.start_of range) (R.end_of range (len_of self.old)) (len_of self.old) }
         requires target { dest + (R.end_of range (len_of self.old) - R.start_of range) ≤ len_of self.old }
         ensures same_words { loan_of self.new ≡ loan_of self.old }
-        ensures row { row_of self.new ≡ moved (row_of self.old) (head_of self.old + R.start_of range) (head_of self.old + dest) (R.end_of range (len_of self.old) - R.start_of range) }
-        ensures list { list_of self.new ≡ moved (list_of self.old) (R.start_of range) dest (R.end_of range (len_of self.old) - R.start_of range) }
+        ensures row { row_of self.new ≡ moved (row_of self.old) (head_of self.old + R.start_of range)
+            (head_of self.old + dest) (R.end_of range (len_of self.old) - R.start_of range) }
+        ensures list { list_of self.new
+            ≡ moved (list_of self.old) (R.start_of range) dest (R.end_of range (len_of self.old) - R.start_of range) }
         ensures head { head_of self.new ≡ head_of self.old }
         ensures len { len_of self.new ≡ len_of self.old }
-        ensures writes { writes_of self.new ≤ writes_of self.old + touched T.BITS (head_of self.old + dest) (R.end_of range (len_of self.old) - R.start_of range) }
-        ensures reads { reads_of self.new ≤ reads_of self.old + 3 * touched T.BITS (head_of self.old + dest) (R.end_of range (len_of self.old) - R.start_of range) }
+        ensures writes { writes_of self.new
+            ≤ writes_of self.old + touched T.BITS (head_of self.old + dest)
+            (R.end_of range (len_of self.old) - R.start_of range) }
+        ensures reads { reads_of self.new
+            ≤ reads_of self.old + 3 * touched T.BITS (head_of self.old + dest)
+            (R.end_of range (len_of self.old) - R.start_of range) }
         ensures writes_rise { writes_of self.old ≤ writes_of self.new }
         ensures reads_rise { reads_of self.old ≤ reads_of self.new }
     {

@@ -28,7 +28,8 @@ pub fn fill_range_in_vec<T: BitStore, O: BitOrder, R: RangeExt>(
     requires within { head + len ≤ T.BITS * length words.old.items }
     requires fits { head + len < 2 ^ 64 }
     requires lies { LiesIn (R.start_of range) (R.end_of range len) len }
-    ensures written { IsWritten T.BitStore O.BitOrder words.old.items words.new.items head len (R.start_of range) (replicate (R.end_of range len - R.start_of range) bit) }
+    ensures written { IsWritten T.BitStore O.BitOrder words.old.items words.new.items head len (R.start_of range)
+        (replicate (R.end_of range len - R.start_of range) bit) }
     ensures capacity { vec_capacity words.new ≡ vec_capacity words.old }
 {
     let range = range.normalize(len);
@@ -46,7 +47,9 @@ pub fn flip_range_in_vec<T: BitStore, O: BitOrder, R: RangeExt>(
     requires within { head + len ≤ T.BITS * length words.old.items }
     requires fits { head + len < 2 ^ 64 }
     requires lies { LiesIn (R.start_of range) (R.end_of range len) len }
-    ensures written { IsWritten T.BitStore O.BitOrder words.old.items words.new.items head len (R.start_of range) (map not (slice_range (list_in T.BitStore O.BitOrder words.old.items head len) (R.start_of range) (R.end_of range len))) }
+    ensures written { IsWritten T.BitStore O.BitOrder words.old.items words.new.items head len (R.start_of range)
+        (map not (slice_range (list_in T.BitStore O.BitOrder words.old.items head len) (R.start_of range)
+        (R.end_of range len))) }
     ensures capacity { vec_capacity words.new ≡ vec_capacity words.old }
 {
     let range = range.normalize(len);
@@ -66,7 +69,8 @@ pub fn copy_into_in_vec<T: BitStore, O: BitOrder, R: RangeExt, U: BitStore, P: B
     requires fits { head + len < 2 ^ 64 }
     requires lies { LiesIn (R.start_of range) (R.end_of range len) len }
     requires same_len { len_seen source ≡ R.end_of range len - R.start_of range }
-    ensures written { IsWritten T.BitStore O.BitOrder words.old.items words.new.items head len (R.start_of range) (list_seen source.entry) }
+    ensures written { IsWritten T.BitStore O.BitOrder words.old.items words.new.items head len (R.start_of range)
+        (list_seen source.entry) }
     ensures capacity { vec_capacity words.new ≡ vec_capacity words.old }
 {
     let range = range.normalize(len);
@@ -88,7 +92,9 @@ pub fn combine_range_in_vec<
     requires within { head + len ≤ T.BITS * length words.old.items }
     requires fits { head + len < 2 ^ 64 }
     requires lies { LiesIn (R.start_of range) (R.end_of range len) len }
-    ensures written { IsWritten T.BitStore O.BitOrder words.old.items words.new.items head len (R.start_of range) (combined F.made (slice_range (list_in T.BitStore O.BitOrder words.old.items head len) (R.start_of range) (R.end_of range len)) (list_seen other.entry)) }
+    ensures written { IsWritten T.BitStore O.BitOrder words.old.items words.new.items head len (R.start_of range)
+        (combined F.made (slice_range (list_in T.BitStore O.BitOrder words.old.items head len) (R.start_of range)
+        (R.end_of range len)) (list_seen other.entry)) }
     ensures capacity { vec_capacity words.new ≡ vec_capacity words.old }
 {
     let range = range.normalize(len);
@@ -100,7 +106,8 @@ pub fn combine_range_in_vec<
 pub fn reverse_in_vec<T: BitStore, O: BitOrder>(words: &mut Vec<T>, head: usize, len: usize)
     requires within { head + len ≤ T.BITS * length words.old.items }
     requires fits { head + len < 2 ^ 64 }
-    ensures written { IsRewritten T.BitStore O.BitOrder words.old.items words.new.items head len (reverse (list_in T.BitStore O.BitOrder words.old.items head len)) }
+    ensures written { IsRewritten T.BitStore O.BitOrder words.old.items words.new.items head len
+        (reverse (list_in T.BitStore O.BitOrder words.old.items head len)) }
     ensures capacity { vec_capacity words.new ≡ vec_capacity words.old }
 {
     reverse_words::<T, O>(words.as_mut_slice(), head, len);
@@ -116,7 +123,9 @@ pub fn rotate_in_vec<T: BitStore, O: BitOrder>(
     requires room { T.BITS * length words.old.items ≤ MAX_BITS + 2 * T.BITS }
     requires within { head + len ≤ T.BITS * length words.old.items }
     requires inside { by ≤ len }
-    ensures written { IsRewritten T.BitStore O.BitOrder words.old.items words.new.items head len (drop by (list_in T.BitStore O.BitOrder words.old.items head len) ++ take by (list_in T.BitStore O.BitOrder words.old.items head len)) }
+    ensures written { IsRewritten T.BitStore O.BitOrder words.old.items words.new.items head len
+        (drop by (list_in T.BitStore O.BitOrder words.old.items head len)
+        ++ take by (list_in T.BitStore O.BitOrder words.old.items head len)) }
     ensures capacity { vec_capacity words.new ≡ vec_capacity words.old }
 {
     rotate_words::<T, O>(words.as_mut_slice(), head, len, by);
@@ -133,7 +142,8 @@ pub fn shift_left_in_vec<T: BitStore, O: BitOrder>(
     requires room { T.BITS * length words.old.items ≤ MAX_BITS + 2 * T.BITS }
     requires within { head + len ≤ T.BITS * length words.old.items }
     requires inside { by ≤ len }
-    ensures written { IsRewritten T.BitStore O.BitOrder words.old.items words.new.items head len (drop by (list_in T.BitStore O.BitOrder words.old.items head len) ++ replicate by false) }
+    ensures written { IsRewritten T.BitStore O.BitOrder words.old.items words.new.items head len
+        (drop by (list_in T.BitStore O.BitOrder words.old.items head len) ++ replicate by false) }
     ensures capacity { vec_capacity words.new ≡ vec_capacity words.old }
 {
     shift_words_left::<T, O>(words.as_mut_slice(), head, len, by);
@@ -150,7 +160,8 @@ pub fn shift_right_in_vec<T: BitStore, O: BitOrder>(
     requires room { T.BITS * length words.old.items ≤ MAX_BITS + 2 * T.BITS }
     requires within { head + len ≤ T.BITS * length words.old.items }
     requires inside { by ≤ len }
-    ensures written { IsRewritten T.BitStore O.BitOrder words.old.items words.new.items head len (replicate by false ++ take (len - by) (list_in T.BitStore O.BitOrder words.old.items head len)) }
+    ensures written { IsRewritten T.BitStore O.BitOrder words.old.items words.new.items head len
+        (replicate by false ++ take (len - by) (list_in T.BitStore O.BitOrder words.old.items head len)) }
     ensures capacity { vec_capacity words.new ≡ vec_capacity words.old }
 {
     shift_words_right::<T, O>(words.as_mut_slice(), head, len, by);
@@ -170,7 +181,9 @@ pub fn combine_within_in_vec<F: BitOperator, T: BitStore, O: BitOrder, R: RangeE
     requires fits { head + len < 2 ^ 64 }
     requires lies { LiesIn (R.start_of range) (R.end_of range len) len }
     requires room { dest + (R.end_of range len - R.start_of range) ≤ len }
-    ensures written { IsWritten T.BitStore O.BitOrder words.old.items words.new.items head len dest (part_onto (combined F.made) (list_in T.BitStore O.BitOrder words.old.items head len) (R.start_of range) (R.end_of range len) dest) }
+    ensures written { IsWritten T.BitStore O.BitOrder words.old.items words.new.items head len dest
+        (part_onto (combined F.made) (list_in T.BitStore O.BitOrder words.old.items head len) (R.start_of range)
+        (R.end_of range len) dest) }
     ensures capacity { vec_capacity words.new ≡ vec_capacity words.old }
 {
     let range = range.normalize(len);
@@ -188,7 +201,8 @@ pub fn store_le_in_vec<T: BitStore, O: BitOrder>(
     requires within { head + len ≤ T.BITS * length words.old.items }
     requires fits { head + len < 2 ^ 64 }
     requires few { len ≤ 64 }
-    ensures written { IsRewritten T.BitStore O.BitOrder words.old.items words.new.items head len (number_bits number len) }
+    ensures written { IsRewritten T.BitStore O.BitOrder words.old.items words.new.items head len
+        (number_bits number len) }
     ensures capacity { vec_capacity words.new ≡ vec_capacity words.old }
 {
     write_chunk::<T, O>(words.as_mut_slice(), head, len as u8, number);

@@ -55,7 +55,8 @@ fn first_difference<T: BitStore, O: BitOrder, U: BitStore, P: BitOrder>(
 ) -> Option<usize>
     requires left { n ≤ len_seen left }
     requires right { n ≤ len_seen right }
-    ensures { MatchOption result (take n (list_seen left.entry) ≡ take n (list_seen right.entry)) (λ k. IsFirstDifference (take n (list_seen left.entry)) (take n (list_seen right.entry)) k) }
+    ensures { MatchOption result (take n (list_seen left.entry) ≡ take n (list_seen right.entry))
+        (λ k. IsFirstDifference (take n (list_seen left.entry)) (take n (list_seen right.entry)) k) }
 {
     let from = left.head();
     let begin = right.head();
@@ -84,7 +85,10 @@ pub fn combine_words<F: BitOperator, T: BitStore, O: BitOrder, U: BitStore, P: B
 )
     requires within { head + len ≤ T.BITS * length words.old }
     requires fits { head + len < 2 ^ 64 }
-    ensures bits { row T.BitStore O.BitOrder words.new ≡ put (row T.BitStore O.BitOrder words.old) head (combined F.made (slice_range (row T.BitStore O.BitOrder words.old) head (head + len)) (list_seen other.entry)) }
+    ensures bits { row T.BitStore O.BitOrder words.new
+        ≡ put (row T.BitStore O.BitOrder words.old) head
+        (combined F.made (slice_range (row T.BitStore O.BitOrder words.old) head (head + len))
+        (list_seen other.entry)) }
     ensures size { length words.new ≡ length words.old }
 {
     let both = len.min(other.len());
@@ -120,15 +124,18 @@ impl<'a, T: BitStore, O: BitOrder> BitSliceMut<'a, T, O> {
         self.as_bitslice().cmp_bits(other)
     }
 
-    /// Makes each bit into the one that `F` makes of it and of the one at its index in `other`, or of false past its end.
+    /// Makes each bit into the one that `F` makes of it and of the one at its index in `other`, or of false past its
+    /// end.
     pub(crate) fn combine<F: BitOperator, U: BitStore, P: BitOrder>(
         &mut self,
         other: BitSlice<'_, U, P>,
     )
-        ensures row { row_of self.new ≡ put (row_of self.old) (head_of self.old) (combined F.made (list_of self.old) (list_seen other.entry)) }
+        ensures row { row_of self.new ≡ put (row_of self.old) (head_of self.old)
+            (combined F.made (list_of self.old) (list_seen other.entry)) }
         ensures list { list_of self.new ≡ combined F.made (list_of self.old) (list_seen other.entry) }
         ensures index { CombinesEach F.made (list_of self.old) (list_seen other.entry) (list_of self.new) }
-        ensures whole { head_of self.old ≡ 0 → len_of self.old ≡ T.BITS * length (words_of self.old) → row_of self.new ≡ combined F.made (list_of self.old) (list_seen other.entry) }
+        ensures whole { head_of self.old ≡ 0 → len_of self.old ≡ T.BITS * length (words_of self.old)
+            → row_of self.new ≡ combined F.made (list_of self.old) (list_seen other.entry) }
         ensures stays { Stays self.old self.new }
     {
         combine_words::<F, T, O, U, P>(self.words, self.head, self.len, other);
@@ -140,10 +147,12 @@ impl<'a, T: BitStore, O: BitOrder> BitSliceMut<'a, T, O> {
     /// of 01101001 and 01010101: bits.and_bits(other) leaves 01000001
     /// ```
     pub fn and_bits<U: BitStore, P: BitOrder>(&mut self, other: BitSlice<'_, U, P>)
-        ensures row { row_of self.new ≡ put (row_of self.old) (head_of self.old) (and_of (list_of self.old) (list_seen other.entry)) }
+        ensures row { row_of self.new ≡ put (row_of self.old) (head_of self.old)
+            (and_of (list_of self.old) (list_seen other.entry)) }
         ensures list { list_of self.new ≡ and_of (list_of self.old) (list_seen other.entry) }
         ensures index { AndsEach (list_of self.old) (list_seen other.entry) (list_of self.new) }
-        ensures whole { head_of self.old ≡ 0 → len_of self.old ≡ T.BITS * length (words_of self.old) → row_of self.new ≡ and_of (list_of self.old) (list_seen other.entry) }
+        ensures whole { head_of self.old ≡ 0 → len_of self.old ≡ T.BITS * length (words_of self.old)
+            → row_of self.new ≡ and_of (list_of self.old) (list_seen other.entry) }
         ensures stays { Stays self.old self.new }
     {
         self.combine::<And, U, P>(other);
@@ -155,10 +164,12 @@ impl<'a, T: BitStore, O: BitOrder> BitSliceMut<'a, T, O> {
     /// of 01101001 and 01010101: bits.or_bits(other) leaves 01111101
     /// ```
     pub fn or_bits<U: BitStore, P: BitOrder>(&mut self, other: BitSlice<'_, U, P>)
-        ensures row { row_of self.new ≡ put (row_of self.old) (head_of self.old) (or_of (list_of self.old) (list_seen other.entry)) }
+        ensures row { row_of self.new ≡ put (row_of self.old) (head_of self.old)
+            (or_of (list_of self.old) (list_seen other.entry)) }
         ensures list { list_of self.new ≡ or_of (list_of self.old) (list_seen other.entry) }
         ensures index { OrsEach (list_of self.old) (list_seen other.entry) (list_of self.new) }
-        ensures whole { head_of self.old ≡ 0 → len_of self.old ≡ T.BITS * length (words_of self.old) → row_of self.new ≡ or_of (list_of self.old) (list_seen other.entry) }
+        ensures whole { head_of self.old ≡ 0 → len_of self.old ≡ T.BITS * length (words_of self.old)
+            → row_of self.new ≡ or_of (list_of self.old) (list_seen other.entry) }
         ensures stays { Stays self.old self.new }
     {
         self.combine::<Or, U, P>(other);
@@ -170,10 +181,12 @@ impl<'a, T: BitStore, O: BitOrder> BitSliceMut<'a, T, O> {
     /// of 01101001 and 01010101: bits.xor_bits(other) leaves 00111100
     /// ```
     pub fn xor_bits<U: BitStore, P: BitOrder>(&mut self, other: BitSlice<'_, U, P>)
-        ensures row { row_of self.new ≡ put (row_of self.old) (head_of self.old) (xor_of (list_of self.old) (list_seen other.entry)) }
+        ensures row { row_of self.new ≡ put (row_of self.old) (head_of self.old)
+            (xor_of (list_of self.old) (list_seen other.entry)) }
         ensures list { list_of self.new ≡ xor_of (list_of self.old) (list_seen other.entry) }
         ensures index { XorsEach (list_of self.old) (list_seen other.entry) (list_of self.new) }
-        ensures whole { head_of self.old ≡ 0 → len_of self.old ≡ T.BITS * length (words_of self.old) → row_of self.new ≡ xor_of (list_of self.old) (list_seen other.entry) }
+        ensures whole { head_of self.old ≡ 0 → len_of self.old ≡ T.BITS * length (words_of self.old)
+            → row_of self.new ≡ xor_of (list_of self.old) (list_seen other.entry) }
         ensures stays { Stays self.old self.new }
     {
         self.combine::<Xor, U, P>(other);
@@ -189,7 +202,10 @@ pub fn combine_in_vec<F: BitOperator, T: BitStore, O: BitOrder, U: BitStore, P: 
 )
     requires within { head + len ≤ T.BITS * length words.old.items }
     requires fits { head + len < 2 ^ 64 }
-    ensures bits { row T.BitStore O.BitOrder words.new.items ≡ put (row T.BitStore O.BitOrder words.old.items) head (combined F.made (slice_range (row T.BitStore O.BitOrder words.old.items) head (head + len)) (list_seen other.entry)) }
+    ensures bits { row T.BitStore O.BitOrder words.new.items
+        ≡ put (row T.BitStore O.BitOrder words.old.items) head
+        (combined F.made (slice_range (row T.BitStore O.BitOrder words.old.items) head (head + len))
+        (list_seen other.entry)) }
     ensures size { length words.new.items ≡ length words.old.items }
     ensures capacity { vec_capacity words.new ≡ vec_capacity words.old }
 {

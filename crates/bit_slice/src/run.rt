@@ -21,8 +21,10 @@ pub fn run_mut<T: BitStore, O: BitOrder>(
     requires ordered { from ≤ upto }
     requires inside { upto ≤ T.BITS * length words.old }
     requires few { upto - from ≤ MAX_BITS }
-    ensures* writes_back { sem 𝓛 (lends_part T.row words.entry (from / T.BITS) (from / T.BITS + words_for T.BITS (from % T.BITS + (upto - from))) (loan_of result)) }
-    ensures words { words_of result ≡ slice_range words.old (from / T.BITS) (from / T.BITS + words_for T.BITS (from % T.BITS + (upto - from))) }
+    ensures* writes_back { sem 𝓛 (lends_part T.row words.entry (from / T.BITS)
+        (from / T.BITS + words_for T.BITS (from % T.BITS + (upto - from))) (loan_of result)) }
+    ensures words { words_of result
+        ≡ slice_range words.old (from / T.BITS) (from / T.BITS + words_for T.BITS (from % T.BITS + (upto - from))) }
     ensures head { head_of result ≡ from % T.BITS }
     ensures len { len_of result ≡ upto - from }
     ensures list { list_of result ≡ slice_range (row T.BitStore O.BitOrder words.old) from upto }
@@ -32,11 +34,12 @@ pub fn run_mut<T: BitStore, O: BitOrder>(
 }
 
 /// Two views of words, for writing: the bits from `from` up to `at`, and those from there up to `upto`. Requires that
-/// `at` is the first bit of a word, so that no word is in both, and that the bits lie in the words and both parts together have at most `MAX_BITS` bits.
+/// `at` is the first bit of a word, so that no word is in both, and that the bits lie in the words and both parts
+/// together have at most `MAX_BITS` bits.
 ///
-/// The clauses say of each part its list, head and length. What is written through them is in the words afterwards, and the other
-/// bits stay, which no clause says: a caller whose own proof needs it writes one run after the other, by `run_mut` or the calls
-/// that take a range.
+/// The clauses say of each part its list, head and length. What is written through them is in the words afterwards, and
+/// the other bits stay, which no clause says: a caller whose own proof needs it writes one run after the other, by
+/// `run_mut` or the calls that take a range.
 ///
 /// ```text
 /// let (mut left, mut right) = split_run_mut::<u8, Lsb0>(&mut words, 3, 8, 20);

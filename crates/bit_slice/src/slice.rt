@@ -210,10 +210,13 @@ impl<'a, T: BitStore, O: BitOrder> BitSlice<'a, T, O> {
     /// ```
     pub fn get_range<R: RangeExt>(self, range: R) -> Self
         requires lies { LiesIn (R.start_of range) (R.end_of range (len_of self)) (len_of self) }
-        ensures list { list_of result ≡ slice_range (list_of self.entry) (R.start_of range) (R.end_of range (len_of self.entry)) }
+        ensures list { list_of result ≡ slice_range (list_of self.entry) (R.start_of range)
+            (R.end_of range (len_of self.entry)) }
         ensures head { head_of result ≡ (head_of self.entry + R.start_of range) % T.BITS }
         ensures len { len_of result ≡ R.end_of range (len_of self.entry) - R.start_of range }
-        ensures words { let first = (head_of self.entry + R.start_of range) / T.BITS in words_of result ≡ slice_range (words_of self.entry) first (first + words_for T.BITS (head_of result + len_of result)) }
+        ensures words { let first = (head_of self.entry + R.start_of range) / T.BITS
+            in words_of result ≡ slice_range (words_of self.entry) first
+            (first + words_for T.BITS (head_of result + len_of result)) }
     {
         let part = range.normalize(self.len);
         let width = T::BITS as usize;
@@ -259,7 +262,8 @@ impl<'a, T: BitStore, O: BitOrder> BitSlice<'a, T, O> {
         ensures list { rest_of result ≡ list_of self.entry }
         ensures few { length (rest_of result) ≤ MAX_BITS }
         ensures runs { YieldsInOrder (YieldsFirst (rest_of {X = T} {Y = O} {W = T.BitStore} {P = O.BitOrder})) rest_of }
-        ensures runs_back { YieldsInReverse (YieldsLast (rest_of {X = T} {Y = O} {W = T.BitStore} {P = O.BitOrder})) rest_of }
+        ensures runs_back { YieldsInReverse
+            (YieldsLast (rest_of {X = T} {Y = O} {W = T.BitStore} {P = O.BitOrder})) rest_of }
     {
         Iter::new(self.words, self.head, self.head + self.len)
     }
@@ -296,7 +300,8 @@ impl<'a, T: BitStore, O: BitOrder> BitSlice<'a, T, O> {
     /// ```
     pub fn any(self) -> bool
         ensures value { result ≡ list_any (λ b. b) (list_of self.entry) }
-        ensures index { IsTrue result ↔ SomeIndex (list_of self.entry) (λ i. slice_get (list_of self.entry) i ≡ Some true) }
+        ensures index { IsTrue result ↔ SomeIndex (list_of self.entry)
+            (λ i. slice_get (list_of self.entry) i ≡ Some true) }
     {
         find_bit::<T, O>(self.words, self.head, self.head + self.len, true).is_some()
     }
@@ -308,7 +313,8 @@ impl<'a, T: BitStore, O: BitOrder> BitSlice<'a, T, O> {
     /// ```
     pub fn all(self) -> bool
         ensures value { result ≡ list_all (λ b. b) (list_of self.entry) }
-        ensures index { IsTrue result ↔ EachIndex (list_of self.entry) (λ i. slice_get (list_of self.entry) i ≡ Some true) }
+        ensures index { IsTrue result ↔ EachIndex (list_of self.entry)
+            (λ i. slice_get (list_of self.entry) i ≡ Some true) }
     {
         find_bit::<T, O>(self.words, self.head, self.head + self.len, false).is_none()
     }

@@ -132,7 +132,8 @@ impl<'a, T: BitStore, O: BitOrder> BitSliceMut<'a, T, O> {
     /// The view with a meter at 0, for moves whose word reads and writes are counted. What is moved
     /// through it stands in the view when it ends.
     pub fn counted_mut(&mut self) -> CountedMut<'_, T, O>
-        ensures* writes_back { sem 𝓛 (lends_words T.row O.row T.BitStore O.BitOrder self.entry result.row.words.ghost_name) }
+        ensures* writes_back { sem 𝓛 (lends_words T.row O.row T.BitStore O.BitOrder self.entry
+            result.row.words.ghost_name) }
         ensures words { result.row.words.now ≡ words_of self.old }
         ensures head { result.head ≡ head_of self.old }
         ensures len { result.len ≡ len_of self.old }
@@ -200,10 +201,13 @@ impl<'a, T: BitStore, O: BitOrder> BitSliceMut<'a, T, O> {
     /// ```
     pub fn get_range<R: RangeExt>(&self, range: R) -> BitSlice<'_, T, O>
         requires lies { LiesIn (R.start_of range) (R.end_of range (len_of self.now)) (len_of self.now) }
-        ensures list { list_seen result ≡ slice_range (list_of self.now) (R.start_of range) (R.end_of range (len_of self.now)) }
+        ensures list { list_seen result
+            ≡ slice_range (list_of self.now) (R.start_of range) (R.end_of range (len_of self.now)) }
         ensures head { head_seen result ≡ (head_of self.now + R.start_of range) % T.BITS }
         ensures len { len_seen result ≡ R.end_of range (len_of self.now) - R.start_of range }
-        ensures words { let first = (head_of self.now + R.start_of range) / T.BITS in words_seen result ≡ slice_range (words_of self.now) first (first + words_for T.BITS (head_seen result + len_seen result)) }
+        ensures words { let first = (head_of self.now + R.start_of range) / T.BITS
+            in words_seen result ≡ slice_range (words_of self.now) first
+            (first + words_for T.BITS (head_seen result + len_seen result)) }
     {
         self.as_bitslice().get_range(range)
     }
@@ -239,7 +243,8 @@ impl<'a, T: BitStore, O: BitOrder> BitSliceMut<'a, T, O> {
         ensures list { rest_of result ≡ list_of self.now }
         ensures few { length (rest_of result) ≤ MAX_BITS }
         ensures runs { YieldsInOrder (YieldsFirst (rest_of {X = T} {Y = O} {W = T.BitStore} {P = O.BitOrder})) rest_of }
-        ensures runs_back { YieldsInReverse (YieldsLast (rest_of {X = T} {Y = O} {W = T.BitStore} {P = O.BitOrder})) rest_of }
+        ensures runs_back { YieldsInReverse
+            (YieldsLast (rest_of {X = T} {Y = O} {W = T.BitStore} {P = O.BitOrder})) rest_of }
     {
         self.as_bitslice().iter()
     }
@@ -348,7 +353,8 @@ impl<'a, T: BitStore, O: BitOrder> BitSliceMut<'a, T, O> {
     pub fn fill(&mut self, b: bool)
         ensures row { row_of self.new ≡ put (row_of self.old) (head_of self.old) (replicate (len_of self.old) b) }
         ensures list { list_of self.new ≡ replicate (len_of self.old) b }
-        ensures whole { head_of self.old ≡ 0 → len_of self.old ≡ T.BITS * length (words_of self.old) → row_of self.new ≡ replicate (len_of self.old) b }
+        ensures whole { head_of self.old ≡ 0 → len_of self.old ≡ T.BITS * length (words_of self.old)
+            → row_of self.new ≡ replicate (len_of self.old) b }
         ensures stays { Stays self.old self.new }
     {
         fill_bits::<T, O>(self.words, self.head, self.head + self.len, b);
@@ -364,8 +370,10 @@ impl<'a, T: BitStore, O: BitOrder> BitSliceMut<'a, T, O> {
     pub fn copy_within<R: RangeExt>(&mut self, range: R, dest: usize)
         requires lies { LiesIn (R.start_of range) (R.end_of range (len_of self.old)) (len_of self.old) }
         requires room { dest + (R.end_of range (len_of self.old) - R.start_of range) ≤ len_of self.old }
-        ensures row { row_of self.new ≡ moved (row_of self.old) (head_of self.old + R.start_of range) (head_of self.old + dest) (R.end_of range (len_of self.old) - R.start_of range) }
-        ensures list { list_of self.new ≡ moved (list_of self.old) (R.start_of range) dest (R.end_of range (len_of self.old) - R.start_of range) }
+        ensures row { row_of self.new ≡ moved (row_of self.old) (head_of self.old + R.start_of range)
+            (head_of self.old + dest) (R.end_of range (len_of self.old) - R.start_of range) }
+        ensures list { list_of self.new
+            ≡ moved (list_of self.old) (R.start_of range) dest (R.end_of range (len_of self.old) - R.start_of range) }
         ensures stays { Stays self.old self.new }
     {
         let range = range.normalize(self.len);
@@ -383,7 +391,8 @@ impl<'a, T: BitStore, O: BitOrder> BitSliceMut<'a, T, O> {
         requires { len_seen source ≡ len_of self.old }
         ensures row { row_of self.new ≡ put (row_of self.old) (head_of self.old) (list_seen source.entry) }
         ensures list { list_of self.new ≡ list_seen source.entry }
-        ensures whole { head_of self.old ≡ 0 → len_of self.old ≡ T.BITS * length (words_of self.old) → row_of self.new ≡ list_seen source.entry }
+        ensures whole { head_of self.old ≡ 0 → len_of self.old ≡ T.BITS * length (words_of self.old)
+            → row_of self.new ≡ list_seen source.entry }
         ensures stays { Stays self.old self.new }
     {
         let from = source.head();

@@ -56,7 +56,8 @@ fn write_more<T: BitStore, O: BitOrder, W: fmt::Write>(
 ) -> fmt::Result
     requires few { n ≤ 32 }
     requires within { from + n ≤ len_of view }
-    ensures { WritesStyledOnOk W.write_str_gives f.old result (spaced (slice_range (list_of view.entry) from (from + n))) f.new }
+    ensures { WritesStyledOnOk W.write_str_gives f.old result
+        (spaced (slice_range (list_of view.entry) from (from + n))) f.new }
 {
     let chunk = read_chunk::<T, O>(view.as_raw_slice(), view.head() + from, n);
     let mut piece = [0; PIECE];
@@ -126,7 +127,8 @@ fn write_groups<T: BitStore, O: BitOrder, W: fmt::Write>(
     requires small { size ≤ 4 }
     requires few { n ≤ 60 }
     requires within { from + n ≤ len_of view }
-    ensures { WritesStyledOnOk W.write_str_gives f.old result (digits_from size upper (words_for size n) (slice_range (list_of view.entry) from (from + n))) f.new }
+    ensures { WritesStyledOnOk W.write_str_gives f.old result
+        (digits_from size upper (words_for size n) (slice_range (list_of view.entry) from (from + n))) f.new }
 {
     let chunk = read_chunk::<T, O>(view.as_raw_slice(), view.head() + from, n);
     let digits = (n + (size - 1)) / size;
@@ -153,7 +155,8 @@ fn write_sixty<T: BitStore, O: BitOrder, W: fmt::Write>(
 ) -> fmt::Result
     requires size { IsDigitSize size }
     requires within { from + 60 ≤ len_of view }
-    ensures { WritesStyledOnOk W.write_str_gives f.old result (digits_from size upper (words_for size 60) (slice_range (list_of view.entry) from (from + 60))) f.new }
+    ensures { WritesStyledOnOk W.write_str_gives f.old result
+        (digits_from size upper (words_for size 60) (slice_range (list_of view.entry) from (from + 60))) f.new }
 {
     match size {
         1 => write_groups(view, 1, upper, from, 60, f),

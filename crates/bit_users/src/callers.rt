@@ -151,7 +151,8 @@ pub fn path_leads(graph: &mut Matrix, from: usize, to: usize) -> bool
 
 /// A matrix that is turned twice has its bits again.
 pub fn turned_twice(alloc: Global, matrix: &Matrix) -> Result<Matrix, AllocError>
-    ensures { IfOk result (λ again. (i j : ℕ) → i < matrix.now.rows → j < matrix.now.columns → item again i j ≡ item matrix.now i j) }
+    ensures { IfOk result (λ again. (i j : ℕ) → i < matrix.now.rows → j < matrix.now.columns
+        → item again i j ≡ item matrix.now i j) }
 {
     let turned = matrix.transpose(alloc)?;
     turned.transpose(alloc)
@@ -224,7 +225,8 @@ pub fn numbers_of_either(
     set: &NumberSet,
     other: &NumberSet,
 ) -> Result<Vec<usize>, AllocError>
-    ensures { IfOk result (λ numbers. numbers.items ≡ ones_of (or_of (filled_up set.now (length other.now)) other.now)) }
+    ensures { IfOk result (λ numbers. numbers.items
+        ≡ ones_of (or_of (filled_up set.now (length other.now)) other.now)) }
 {
     set.iter_union(other).collect(alloc)
 }

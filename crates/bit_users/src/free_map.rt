@@ -93,7 +93,8 @@ impl FreeMap {
         ensures taken { IfSome result (λ frame. self.new ≡ set self.old frame true) }
         ensures free { IfSome result (λ frame. slice_get self.old frame ≡ Some false) }
         ensures lowest { IfSome result (λ frame. (j : ℕ) → j < frame → slice_get self.old j ≡ Some true) }
-        ensures none { IfNone result ((self.new ≡ self.old) × EachIndex self.old (λ j. slice_get self.old j ≡ Some true)) }
+        ensures none { IfNone result ((self.new ≡ self.old)
+            × EachIndex self.old (λ j. slice_get self.old j ≡ Some true)) }
     {
         match self.taken.first_zero() {
             None => None,
@@ -110,7 +111,8 @@ impl FreeMap {
     #[tactic(auto, using(crate::proofs::Frames::marked_length))]
     pub fn take_run(&mut self, count: usize) -> Option<usize>
         requires { 0 < count }
-        ensures run { MatchOption result ((self.new ≡ self.old) × ((k : ℕ) → AreFree self.old count k → ⊥)) (λ first. (self.new ≡ put self.old first (replicate count true)) × IsFirstRun self.old count first) }
+        ensures run { MatchOption result ((self.new ≡ self.old) × ((k : ℕ) → AreFree self.old count k → ⊥))
+            (λ first. (self.new ≡ put self.old first (replicate count true)) × IsFirstRun self.old count first) }
         ensures frames { length self.new ≡ length self.old }
     {
         match self.find_run(count) {
@@ -136,7 +138,8 @@ impl FreeMap {
     // The lowest frame at which a run of `count` free frames begins.
     fn find_run(&self, count: usize) -> Option<usize>
         requires { 0 < count }
-        ensures { MatchOption result ((k : ℕ) → AreFree self.now count k → ⊥) (λ first. IsFirstRun self.now count first) }
+        ensures { MatchOption result ((k : ℕ) → AreFree self.now count k → ⊥)
+            (λ first. IsFirstRun self.now count first) }
     {
         let mut from = 0;
         while let Some(first) = self.taken.next_zero(from) {
@@ -149,8 +152,9 @@ impl FreeMap {
         None
     }
 
-    /// Makes the map one of `frames` frames; those that are added are free. `TooLong` exactly where they pass `MAX_BITS`, and
-    /// memory is taken only where a frame is added; refused, nothing changes. Requires that there are not fewer than now.
+    /// Makes the map one of `frames` frames; those that are added are free. `TooLong` exactly where they pass
+    /// `MAX_BITS`, and memory is taken only where a frame is added; refused, nothing changes. Requires that there are
+    /// not fewer than now.
     pub fn grow(&mut self, frames: usize) -> Result<(), GrowError>
         requires { length self.old ≤ frames }
         ensures list { OnOk result (self.new ≡ self.old ++ replicate (frames - length self.old) false) }
@@ -175,7 +179,8 @@ impl FreeMap {
         ensures free { OnErr result (AreTaken self.old count first → ⊥) }
         ensures refused { OnErr result (self.new ≡ self.old) }
         ensures frames { length self.new ≡ length self.old }
-        ensures restores { (before : List Bool) → AreFree before count first → self.old ≡ put before first (replicate count true) → IsOk result × (self.new ≡ before) }
+        ensures restores { (before : List Bool) → AreFree before count first
+            → self.old ≡ put before first (replicate count true) → IsOk result × (self.new ≡ before) }
     {
         if !self.are_taken(first, count) {
             return Err(NotTaken);

@@ -52,22 +52,26 @@ pub fn to_bytes<T: BitStore, O: BitOrder>(
 /// are_of_one_list(&to_bytes(alloc, &a)?, &to_bytes(alloc, &b)?)    // a.eq_bits(b.as_bitslice())
 /// ```
 pub fn are_of_one_list(left: &[u8], right: &[u8]) -> bool
-    ensures { (a b : List Bool) → length a ≤ MAX_BITS → length b ≤ MAX_BITS → AreBytesOf a left.now → AreBytesOf b right.now → (IsTrue result ↔ (a ≡ b)) }
+    ensures { (a b : List Bool) → length a ≤ MAX_BITS → length b ≤ MAX_BITS → AreBytesOf a left.now
+        → AreBytesOf b right.now → (IsTrue result ↔ (a ≡ b)) }
 {
     u8::are_words(left);
     u8::are_words(right);
     left == right
 }
 
-/// The list whose bytes these are. They are `Broken` exactly where they are those of no list of at most
-/// `MAX_BITS` bits, so memory is refused only for a list that is there, whose bits are no more than those of the bytes after the
+/// The list whose bytes these are. They are `Broken` exactly where they are those of no list of at most `MAX_BITS`
+/// bits, so memory is refused only for a list that is there, whose bits are no more than those of the bytes after the
 /// first eight: a wrong length asks for no memory. Takes memory.
 pub fn from_bytes(alloc: Global, bytes: &[u8]) -> Result<BitVec<u8, Msb0>, Fault>
     ensures read { IfOk result (λ bits. AreBytesOf bits.list bytes.now) }
-    ensures list { IfOk result (λ read. (bits : List Bool) → length bits ≤ MAX_BITS → AreBytesOf bits bytes.now → read.list ≡ bits) }
+    ensures list { IfOk result (λ read. (bits : List Bool) → length bits ≤ MAX_BITS → AreBytesOf bits bytes.now
+        → read.list ≡ bits) }
     ensures small { IfOk result (λ read. 64 + length read.list ≤ 8 * length bytes.now) }
-    ensures memory { result ≡ Err faults.OutOfMemory → (bits : List Bool) × (length bits ≤ MAX_BITS) × AreBytesOf bits bytes.now }
-    ensures broken { result ≡ Err faults.Broken → (bits : List Bool) → length bits ≤ MAX_BITS → AreBytesOf bits bytes.now → ⊥ }
+    ensures memory { result ≡ Err faults.OutOfMemory
+        → (bits : List Bool) × (length bits ≤ MAX_BITS) × AreBytesOf bits bytes.now }
+    ensures broken { result ≡ Err faults.Broken → (bits : List Bool) → length bits ≤ MAX_BITS
+        → AreBytesOf bits bytes.now → ⊥ }
 {
     if bytes.len() < 8 {
         return Err(Fault::Broken);

@@ -108,8 +108,8 @@ impl Header {
         })
     }
 
-    /// Like `read`, but a header whose reserved values differ from those of a packet without options is refused, and by the first
-    /// that does: the version has to be 4, the header 5 words, and the reserved flag false.
+    /// Like `read`, but a header whose reserved values differ from those of a packet without options is refused, and by
+    /// the first that does: the version has to be 4, the header 5 words, and the reserved flag false.
     ///
     /// ```text
     /// Header::read_checked(&bytes)     // Err(HeaderFault::Version) for a packet of version 6
@@ -118,9 +118,13 @@ impl Header {
         ensures header { IfOk result (λ h. Fits h × (take 20 bytes.now ≡ bytes_of h)) }
         ensures checked { IfOk result (λ h. (h.version ≡ 4) × (h.header_words ≡ 5) × (h.flags < 4)) }
         ensures too_short { (result ≡ Err faults.TooShort) ↔ (length bytes.now < 20) }
-        ensures version { result ≡ Err faults.Version → (h : HeaderRecord) × ((take 20 bytes.now ≡ bytes_of h) × (h.version ≢ 4)) }
-        ensures options { result ≡ Err faults.Options → (h : HeaderRecord) × ((take 20 bytes.now ≡ bytes_of h) × (h.version ≡ 4) × (h.header_words ≢ 5)) }
-        ensures reserved { result ≡ Err faults.ReservedFlag → (h : HeaderRecord) × ((take 20 bytes.now ≡ bytes_of h) × (h.version ≡ 4) × (h.header_words ≡ 5) × (4 ≤ h.flags)) }
+        ensures version { result ≡ Err faults.Version
+            → (h : HeaderRecord) × ((take 20 bytes.now ≡ bytes_of h) × (h.version ≢ 4)) }
+        ensures options { result ≡ Err faults.Options
+            → (h : HeaderRecord) × ((take 20 bytes.now ≡ bytes_of h) × (h.version ≡ 4) × (h.header_words ≢ 5)) }
+        ensures reserved { result ≡ Err faults.ReservedFlag
+            → (h : HeaderRecord) × ((take 20 bytes.now ≡ bytes_of h) × (h.version ≡ 4) × (h.header_words ≡ 5)
+            × (4 ≤ h.flags)) }
     {
         let Some(header) = Self::read(bytes) else {
             return Err(HeaderFault::TooShort);

@@ -39,8 +39,12 @@ impl<'a, T: BitStore, O: BitOrder> BitSlice<'a, T, O> {
         requires some { 0 < size }
         ensures list { chunks_left result ≡ chunks_of size (list_of self.entry) }
         ensures count { length (chunks_left result) ≡ chunk_count (len_of self.entry) size }
-        ensures runs { EveryRun (YieldsFirstBy (list_of {X = T} {Y = O} {W = T.BitStore} {P = O.BitOrder}) (chunks_left {X = T} {Y = O} {W = T.BitStore} {P = O.BitOrder})) (λ p. ItemsMapTo p list_of (chunks_left p.from)) }
-        ensures runs_back { EveryRun (YieldsLastBy (list_of {X = T} {Y = O} {W = T.BitStore} {P = O.BitOrder}) (chunks_left {X = T} {Y = O} {W = T.BitStore} {P = O.BitOrder})) (λ p. ItemsMapToReversed p list_of (chunks_left p.from)) }
+        ensures runs { EveryRun (YieldsFirstBy (list_of {X = T} {Y = O} {W = T.BitStore} {P = O.BitOrder})
+            (chunks_left {X = T} {Y = O} {W = T.BitStore} {P = O.BitOrder}))
+            (λ p. ItemsMapTo p list_of (chunks_left p.from)) }
+        ensures runs_back { EveryRun (YieldsLastBy (list_of {X = T} {Y = O} {W = T.BitStore} {P = O.BitOrder})
+            (chunks_left {X = T} {Y = O} {W = T.BitStore} {P = O.BitOrder}))
+            (λ p. ItemsMapToReversed p list_of (chunks_left p.from)) }
     {
         Chunks {
             view: self,
@@ -60,8 +64,12 @@ impl<'a, T: BitStore, O: BitOrder> BitSlice<'a, T, O> {
         requires some { 0 < size }
         ensures list { exact_chunks_left result ≡ exact_chunks_of size (list_of self.entry) }
         ensures count { length (exact_chunks_left result) ≡ len_of self.entry / size }
-        ensures runs { EveryRun (YieldsFirstBy (list_of {X = T} {Y = O} {W = T.BitStore} {P = O.BitOrder}) (exact_chunks_left {X = T} {Y = O} {W = T.BitStore} {P = O.BitOrder})) (λ p. ItemsMapTo p list_of (exact_chunks_left p.from)) }
-        ensures runs_back { EveryRun (YieldsLastBy (list_of {X = T} {Y = O} {W = T.BitStore} {P = O.BitOrder}) (exact_chunks_left {X = T} {Y = O} {W = T.BitStore} {P = O.BitOrder})) (λ p. ItemsMapToReversed p list_of (exact_chunks_left p.from)) }
+        ensures runs { EveryRun (YieldsFirstBy (list_of {X = T} {Y = O} {W = T.BitStore} {P = O.BitOrder})
+            (exact_chunks_left {X = T} {Y = O} {W = T.BitStore} {P = O.BitOrder}))
+            (λ p. ItemsMapTo p list_of (exact_chunks_left p.from)) }
+        ensures runs_back { EveryRun (YieldsLastBy (list_of {X = T} {Y = O} {W = T.BitStore} {P = O.BitOrder})
+            (exact_chunks_left {X = T} {Y = O} {W = T.BitStore} {P = O.BitOrder}))
+            (λ p. ItemsMapToReversed p list_of (exact_chunks_left p.from)) }
     {
         ChunksExact {
             view: self,
@@ -81,8 +89,12 @@ impl<'a, T: BitStore, O: BitOrder> BitSlice<'a, T, O> {
         requires some { 0 < size }
         ensures list { back_chunks_left result ≡ back_chunks_of size (list_of self.entry) }
         ensures count { length (back_chunks_left result) ≡ chunk_count (len_of self.entry) size }
-        ensures runs { EveryRun (YieldsFirstBy (list_of {X = T} {Y = O} {W = T.BitStore} {P = O.BitOrder}) (back_chunks_left {X = T} {Y = O} {W = T.BitStore} {P = O.BitOrder})) (λ p. ItemsMapTo p list_of (back_chunks_left p.from)) }
-        ensures runs_back { EveryRun (YieldsLastBy (list_of {X = T} {Y = O} {W = T.BitStore} {P = O.BitOrder}) (back_chunks_left {X = T} {Y = O} {W = T.BitStore} {P = O.BitOrder})) (λ p. ItemsMapToReversed p list_of (back_chunks_left p.from)) }
+        ensures runs { EveryRun (YieldsFirstBy (list_of {X = T} {Y = O} {W = T.BitStore} {P = O.BitOrder})
+            (back_chunks_left {X = T} {Y = O} {W = T.BitStore} {P = O.BitOrder}))
+            (λ p. ItemsMapTo p list_of (back_chunks_left p.from)) }
+        ensures runs_back { EveryRun (YieldsLastBy (list_of {X = T} {Y = O} {W = T.BitStore} {P = O.BitOrder})
+            (back_chunks_left {X = T} {Y = O} {W = T.BitStore} {P = O.BitOrder}))
+            (λ p. ItemsMapToReversed p list_of (back_chunks_left p.from)) }
     {
         RChunks {
             view: self,
@@ -101,8 +113,12 @@ impl<'a, T: BitStore, O: BitOrder> BitSlice<'a, T, O> {
         requires some { 0 < size }
         ensures list { windows_left result ≡ windows_of size (list_of self.entry) }
         ensures count { length (windows_left result) ≡ len_of self.entry + 1 - size }
-        ensures runs { EveryRun (YieldsFirstBy (list_of {X = T} {Y = O} {W = T.BitStore} {P = O.BitOrder}) (windows_left {X = T} {Y = O} {W = T.BitStore} {P = O.BitOrder})) (λ p. ItemsMapTo p list_of (windows_left p.from)) }
-        ensures runs_back { EveryRun (YieldsLastBy (list_of {X = T} {Y = O} {W = T.BitStore} {P = O.BitOrder}) (windows_left {X = T} {Y = O} {W = T.BitStore} {P = O.BitOrder})) (λ p. ItemsMapToReversed p list_of (windows_left p.from)) }
+        ensures runs { EveryRun (YieldsFirstBy (list_of {X = T} {Y = O} {W = T.BitStore} {P = O.BitOrder})
+            (windows_left {X = T} {Y = O} {W = T.BitStore} {P = O.BitOrder}))
+            (λ p. ItemsMapTo p list_of (windows_left p.from)) }
+        ensures runs_back { EveryRun (YieldsLastBy (list_of {X = T} {Y = O} {W = T.BitStore} {P = O.BitOrder})
+            (windows_left {X = T} {Y = O} {W = T.BitStore} {P = O.BitOrder}))
+            (λ p. ItemsMapToReversed p list_of (windows_left p.from)) }
     {
         Windows {
             view: self,
@@ -113,7 +129,8 @@ impl<'a, T: BitStore, O: BitOrder> BitSlice<'a, T, O> {
     }
 }
 
-/// The parts of `size` bits side by side, from the front, of which the last may be shorter: views, from both ends, each once.
+/// The parts of `size` bits side by side, from the front, of which the last may be shorter: views, from both ends, each
+/// once.
 ///
 /// Its length is known, and after the first None there is no more. It takes no memory.
 #[derive(Drop)]
@@ -223,7 +240,8 @@ impl<'a, T: BitStore, O: BitOrder> ChunksExact<'a, T, O> {
 
     /// The bits at the end of the view that no chunk has, fewer than a chunk has.
     pub fn remainder(&self) -> BitSlice<'a, T, O>
-        ensures list { list_of result ≡ drop (len_of self.now.view / self.now.size * self.now.size) (list_of self.now.view) }
+        ensures list { list_of result ≡ drop (len_of self.now.view / self.now.size * self.now.size)
+            (list_of self.now.view) }
         ensures few { len_of result < self.now.size }
     {
         let len = self.view.len();
@@ -307,7 +325,8 @@ impl<'a, T: BitStore, O: BitOrder> ExactSizeIterator for ChunksExact<'a, T, O> {
 
 impl<'a, T: BitStore, O: BitOrder> FusedIterator for ChunksExact<'a, T, O> {}
 
-/// The parts of `size` bits side by side, from the end, of which the last may be shorter: views, from both ends, each once.
+/// The parts of `size` bits side by side, from the end, of which the last may be shorter: views, from both ends, each
+/// once.
 ///
 /// Its length is known, and after the first None there is no more. It takes no memory.
 #[derive(Drop)]

@@ -16,8 +16,10 @@ impl<'a, T: BitStore, O: BitOrder> BitSlice<'a, T, O> {
     pub fn find<U: BitStore, P: BitOrder>(self, other: BitSlice<'_, U, P>) -> Option<usize>
         ensures inside { IfSome result (λ i. i + len_of other.entry ≤ len_of self.entry) }
         ensures found { IfSome result (λ i. part (len_of other.entry) (list_of self.entry) i ≡ list_of other.entry) }
-        ensures before { IfSome result (λ i. (j : ℕ) → j < i → part (len_of other.entry) (list_of self.entry) j ≢ list_of other.entry) }
-        ensures none { IfNone result ((j : ℕ) → j + len_of other.entry ≤ len_of self.entry → part (len_of other.entry) (list_of self.entry) j ≢ list_of other.entry) }
+        ensures before { IfSome result
+            (λ i. (j : ℕ) → j < i → part (len_of other.entry) (list_of self.entry) j ≢ list_of other.entry) }
+        ensures none { IfNone result ((j : ℕ) → j + len_of other.entry ≤ len_of self.entry
+            → part (len_of other.entry) (list_of self.entry) j ≢ list_of other.entry) }
     {
         let n = other.len;
         if n > self.len {
@@ -39,8 +41,10 @@ impl<'a, T: BitStore, O: BitOrder> BitSlice<'a, T, O> {
     /// of 01101001 and 001: bits.contains(other) == true
     /// ```
     pub fn contains<U: BitStore, P: BitOrder>(self, other: BitSlice<'_, U, P>) -> bool
-        ensures found { IsTrue result → ((i : ℕ) × (part (len_of other.entry) (list_of self.entry) i ≡ list_of other.entry)) }
-        ensures none { (j : ℕ) → j + len_of other.entry ≤ len_of self.entry → part (len_of other.entry) (list_of self.entry) j ≡ list_of other.entry → IsTrue result }
+        ensures found { IsTrue result →
+            ((i : ℕ) × (part (len_of other.entry) (list_of self.entry) i ≡ list_of other.entry)) }
+        ensures none { (j : ℕ) → j + len_of other.entry ≤ len_of self.entry
+            → part (len_of other.entry) (list_of self.entry) j ≡ list_of other.entry → IsTrue result }
     {
         self.find(other).is_some()
     }

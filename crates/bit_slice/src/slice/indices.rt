@@ -39,8 +39,10 @@ impl<'a, T: BitStore, O: BitOrder> BitSlice<'a, T, O> {
         ensures count { length (ones_left result) ≡ count_by (λ b. b) (list_of self.entry) }
         ensures set { All (λ i. slice_get (list_of self.entry) i ≡ Some true) (ones_left result) }
         ensures inside { All (λ i. i < len_of self.entry) (ones_left result) }
-        ensures runs { YieldsInOrder (YieldsFirst (ones_left {X = T} {Y = O} {W = T.BitStore} {P = O.BitOrder})) ones_left }
-        ensures runs_back { YieldsInReverse (YieldsLast (ones_left {X = T} {Y = O} {W = T.BitStore} {P = O.BitOrder})) ones_left }
+        ensures runs { YieldsInOrder (YieldsFirst (ones_left {X = T} {Y = O} {W = T.BitStore} {P = O.BitOrder}))
+            ones_left }
+        ensures runs_back { YieldsInReverse
+            (YieldsLast (ones_left {X = T} {Y = O} {W = T.BitStore} {P = O.BitOrder})) ones_left }
     {
         IterOnes {
             view: self,
@@ -200,8 +202,10 @@ impl<'a, T: BitStore, O: BitOrder> BitSlice<'a, T, O> {
         ensures count { length (zeros_left result) ≡ count_by not (list_of self.entry) }
         ensures set { All (λ i. slice_get (list_of self.entry) i ≡ Some false) (zeros_left result) }
         ensures inside { All (λ i. i < len_of self.entry) (zeros_left result) }
-        ensures runs { YieldsInOrder (YieldsFirst (zeros_left {X = T} {Y = O} {W = T.BitStore} {P = O.BitOrder})) zeros_left }
-        ensures runs_back { YieldsInReverse (YieldsLast (zeros_left {X = T} {Y = O} {W = T.BitStore} {P = O.BitOrder})) zeros_left }
+        ensures runs { YieldsInOrder (YieldsFirst (zeros_left {X = T} {Y = O} {W = T.BitStore} {P = O.BitOrder}))
+            zeros_left }
+        ensures runs_back { YieldsInReverse
+            (YieldsLast (zeros_left {X = T} {Y = O} {W = T.BitStore} {P = O.BitOrder})) zeros_left }
     {
         IterZeros {
             view: self,

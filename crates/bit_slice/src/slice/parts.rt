@@ -72,7 +72,8 @@ impl<'a, T: BitStore, O: BitOrder> BitSlice<'a, T, O> {
     /// of 01101001 and 001: bits.ends_with(other) == true
     /// ```
     pub fn ends_with<U: BitStore, P: BitOrder>(self, other: BitSlice<'_, U, P>) -> bool
-        ensures { IsTrue result ↔ (drop (len_of self.entry - len_of other.entry) (list_of self.entry) ≡ list_of other.entry) }
+        ensures { IsTrue result ↔ (drop (len_of self.entry - len_of other.entry) (list_of self.entry)
+            ≡ list_of other.entry) }
     {
         other.len() <= self.len
             && self

@@ -12,7 +12,8 @@ impl<'a, T: BitStore, O: BitOrder> BitSlice<'a, T, O> {
     pub(crate) fn find_next(self, from: usize, upto: usize, bit: bool) -> Option<usize>
         requires ordered { from ≤ upto }
         requires inside { upto ≤ len_of self }
-        ensures { MatchOption result (IsAbsent bit (list_of self.entry) from upto) (λ i. IsNext bit (list_of self.entry) from upto i) }
+        ensures { MatchOption result (IsAbsent bit (list_of self.entry) from upto)
+            (λ i. IsNext bit (list_of self.entry) from upto i) }
     {
         match find_bit::<T, O>(self.words, self.head + from, self.head + upto, bit) {
             None => None,
@@ -50,8 +51,8 @@ impl<'a, T: BitStore, O: BitOrder> BitSlice<'a, T, O> {
         }
     }
 
-    // Like `chunk_with_one`, where the first `n` bits are read without a search. Requires that they are at most 64 and end by
-    // `upto`.
+    // Like `chunk_with_one`, where the first `n` bits are read without a search. Requires that they are at most 64 and
+    // end by `upto`.
     #[inline(always)]
     fn chunk_from(self, at: usize, n: usize, upto: usize) -> (usize, usize, u64)
         requires few { n ≤ 64 }
@@ -70,10 +71,10 @@ impl<'a, T: BitStore, O: BitOrder> BitSlice<'a, T, O> {
         self.chunk_found(at + n, upto)
     }
 
-    // The first bits from index `at` on, up to 64 that end with a word, of which one is true: where they begin, where they
-    // end, and they as a number. `upto` twice and 0 where none is true up to there. The bits up to the next word's end are
-    // read without a call, since most searches end there, and 64 at once apart from fewer, which takes no length
-    // (docs/SPEED.md, "The bench", ones 67th).
+    // The first bits from index `at` on, up to 64 that end with a word, of which one is true: where they begin, where
+    // they end, and they as a number. `upto` twice and 0 where none is true up to there. The bits up to the next word's
+    // end are read without a call, since most searches end there, and 64 at once apart from fewer, which takes no
+    // length (docs/SPEED.md, "The bench", ones 67th).
     #[inline(always)]
     pub(crate) fn chunk_with_one(self, at: usize, upto: usize) -> (usize, usize, u64)
         requires ordered { at ≤ upto }
@@ -95,7 +96,8 @@ impl<'a, T: BitStore, O: BitOrder> BitSlice<'a, T, O> {
     pub(crate) fn find_last(self, from: usize, upto: usize, bit: bool) -> Option<usize>
         requires ordered { from ≤ upto }
         requires inside { upto ≤ len_of self }
-        ensures { MatchOption result (IsAbsent bit (list_of self.entry) from upto) (λ i. IsLast bit (list_of self.entry) from upto i) }
+        ensures { MatchOption result (IsAbsent bit (list_of self.entry) from upto)
+            (λ i. IsLast bit (list_of self.entry) from upto i) }
     {
         let others = if bit { 0 } else { u64::MAX };
         let mut end = upto;
@@ -121,7 +123,8 @@ impl<'a, T: BitStore, O: BitOrder> BitSlice<'a, T, O> {
         ensures inside { IfSome result (λ i. i < len_of self.entry) }
         ensures found { IfSome result (λ i. slice_get (list_of self.entry) i ≡ Some true) }
         ensures before { IfSome result (λ i. (j : ℕ) → j < i → slice_get (list_of self.entry) j ≡ Some false) }
-        ensures none { IfNone result (EachIndex (list_of self.entry) (λ j. slice_get (list_of self.entry) j ≡ Some false)) }
+        ensures none { IfNone result (EachIndex (list_of self.entry)
+            (λ j. slice_get (list_of self.entry) j ≡ Some false)) }
     {
         self.find_next(0, self.len, true)
     }
@@ -136,7 +139,8 @@ impl<'a, T: BitStore, O: BitOrder> BitSlice<'a, T, O> {
         ensures inside { IfSome result (λ i. i < len_of self.entry) }
         ensures found { IfSome result (λ i. slice_get (list_of self.entry) i ≡ Some false) }
         ensures before { IfSome result (λ i. (j : ℕ) → j < i → slice_get (list_of self.entry) j ≡ Some true) }
-        ensures none { IfNone result (EachIndex (list_of self.entry) (λ j. slice_get (list_of self.entry) j ≡ Some true)) }
+        ensures none { IfNone result (EachIndex (list_of self.entry)
+            (λ j. slice_get (list_of self.entry) j ≡ Some true)) }
     {
         self.find_next(0, self.len, false)
     }
@@ -149,8 +153,10 @@ impl<'a, T: BitStore, O: BitOrder> BitSlice<'a, T, O> {
     pub fn last_one(self) -> Option<usize>
         ensures inside { IfSome result (λ i. i < len_of self.entry) }
         ensures found { IfSome result (λ i. slice_get (list_of self.entry) i ≡ Some true) }
-        ensures after { IfSome result (λ i. (j : ℕ) → i < j → j < len_of self.entry → slice_get (list_of self.entry) j ≡ Some false) }
-        ensures none { IfNone result (EachIndex (list_of self.entry) (λ j. slice_get (list_of self.entry) j ≡ Some false)) }
+        ensures after { IfSome result (λ i. (j : ℕ) → i < j → j < len_of self.entry
+            → slice_get (list_of self.entry) j ≡ Some false) }
+        ensures none { IfNone result (EachIndex (list_of self.entry)
+            (λ j. slice_get (list_of self.entry) j ≡ Some false)) }
     {
         self.find_last(0, self.len, true)
     }
@@ -163,8 +169,10 @@ impl<'a, T: BitStore, O: BitOrder> BitSlice<'a, T, O> {
     pub fn last_zero(self) -> Option<usize>
         ensures inside { IfSome result (λ i. i < len_of self.entry) }
         ensures found { IfSome result (λ i. slice_get (list_of self.entry) i ≡ Some false) }
-        ensures after { IfSome result (λ i. (j : ℕ) → i < j → j < len_of self.entry → slice_get (list_of self.entry) j ≡ Some true) }
-        ensures none { IfNone result (EachIndex (list_of self.entry) (λ j. slice_get (list_of self.entry) j ≡ Some true)) }
+        ensures after { IfSome result (λ i. (j : ℕ) → i < j → j < len_of self.entry
+            → slice_get (list_of self.entry) j ≡ Some true) }
+        ensures none { IfNone result (EachIndex (list_of self.entry)
+            (λ j. slice_get (list_of self.entry) j ≡ Some true)) }
     {
         self.find_last(0, self.len, false)
     }
@@ -179,8 +187,10 @@ impl<'a, T: BitStore, O: BitOrder> BitSlice<'a, T, O> {
         ensures begins { IfSome result (λ i. from ≤ i) }
         ensures inside { IfSome result (λ i. i < len_of self.entry) }
         ensures found { IfSome result (λ i. slice_get (list_of self.entry) i ≡ Some true) }
-        ensures before { IfSome result (λ i. (j : ℕ) → from ≤ j → j < i → slice_get (list_of self.entry) j ≡ Some false) }
-        ensures none { IfNone result ((j : ℕ) → from ≤ j → j < len_of self.entry → slice_get (list_of self.entry) j ≡ Some false) }
+        ensures before { IfSome result
+            (λ i. (j : ℕ) → from ≤ j → j < i → slice_get (list_of self.entry) j ≡ Some false) }
+        ensures none { IfNone result ((j : ℕ) → from ≤ j → j < len_of self.entry
+            → slice_get (list_of self.entry) j ≡ Some false) }
     {
         self.find_next(from.min(self.len), self.len, true)
     }
@@ -195,8 +205,10 @@ impl<'a, T: BitStore, O: BitOrder> BitSlice<'a, T, O> {
         ensures begins { IfSome result (λ i. from ≤ i) }
         ensures inside { IfSome result (λ i. i < len_of self.entry) }
         ensures found { IfSome result (λ i. slice_get (list_of self.entry) i ≡ Some false) }
-        ensures before { IfSome result (λ i. (j : ℕ) → from ≤ j → j < i → slice_get (list_of self.entry) j ≡ Some true) }
-        ensures none { IfNone result ((j : ℕ) → from ≤ j → j < len_of self.entry → slice_get (list_of self.entry) j ≡ Some true) }
+        ensures before { IfSome result
+            (λ i. (j : ℕ) → from ≤ j → j < i → slice_get (list_of self.entry) j ≡ Some true) }
+        ensures none { IfNone result ((j : ℕ) → from ≤ j → j < len_of self.entry
+            → slice_get (list_of self.entry) j ≡ Some true) }
     {
         self.find_next(from.min(self.len), self.len, false)
     }
@@ -244,7 +256,8 @@ impl<'a, T: BitStore, O: BitOrder> BitSlice<'a, T, O> {
         ensures value { result ≡ suffix_len (λ b. b) (list_of self.entry) }
         ensures most { result ≤ len_of self.entry }
         ensures each { (j : ℕ) → j < result → slice_get (list_of self.entry) (len_of self.entry - 1 - j) ≡ Some true }
-        ensures next { result < len_of self.entry → slice_get (list_of self.entry) (len_of self.entry - 1 - result) ≡ Some false }
+        ensures next { result < len_of self.entry
+            → slice_get (list_of self.entry) (len_of self.entry - 1 - result) ≡ Some false }
     {
         match self.find_last(0, self.len, false) {
             None => self.len,
@@ -261,7 +274,8 @@ impl<'a, T: BitStore, O: BitOrder> BitSlice<'a, T, O> {
         ensures value { result ≡ suffix_len not (list_of self.entry) }
         ensures most { result ≤ len_of self.entry }
         ensures each { (j : ℕ) → j < result → slice_get (list_of self.entry) (len_of self.entry - 1 - j) ≡ Some false }
-        ensures next { result < len_of self.entry → slice_get (list_of self.entry) (len_of self.entry - 1 - result) ≡ Some true }
+        ensures next { result < len_of self.entry
+            → slice_get (list_of self.entry) (len_of self.entry - 1 - result) ≡ Some true }
     {
         match self.find_last(0, self.len, true) {
             None => self.len,
@@ -276,7 +290,8 @@ impl<'a, T: BitStore, O: BitOrder> BitSlice<'a, T, O> {
     /// ```
     pub fn not_any(self) -> bool
         ensures value { result ≡ not (list_any (λ b. b) (list_of self.entry)) }
-        ensures index { IsTrue result ↔ EachIndex (list_of self.entry) (λ i. slice_get (list_of self.entry) i ≡ Some false) }
+        ensures index { IsTrue result ↔ EachIndex (list_of self.entry)
+            (λ i. slice_get (list_of self.entry) i ≡ Some false) }
     {
         !self.any()
     }
@@ -288,7 +303,8 @@ impl<'a, T: BitStore, O: BitOrder> BitSlice<'a, T, O> {
     /// ```
     pub fn not_all(self) -> bool
         ensures value { result ≡ not (list_all (λ b. b) (list_of self.entry)) }
-        ensures index { IsTrue result ↔ SomeIndex (list_of self.entry) (λ i. slice_get (list_of self.entry) i ≡ Some false) }
+        ensures index { IsTrue result ↔ SomeIndex (list_of self.entry)
+            (λ i. slice_get (list_of self.entry) i ≡ Some false) }
     {
         !self.all()
     }
@@ -299,9 +315,12 @@ impl<'a, T: BitStore, O: BitOrder> BitSlice<'a, T, O> {
     /// of 01101001: bits.some() == true
     /// ```
     pub fn some(self) -> bool
-        ensures value { result ≡ (list_any (λ b. b) (list_of self.entry) && not (list_all (λ b. b) (list_of self.entry))) }
-        ensures one { IsTrue result → SomeIndex (list_of self.entry) (λ i. slice_get (list_of self.entry) i ≡ Some true) }
-        ensures zero { IsTrue result → SomeIndex (list_of self.entry) (λ i. slice_get (list_of self.entry) i ≡ Some false) }
+        ensures value { result ≡ (list_any (λ b. b) (list_of self.entry)
+            && not (list_all (λ b. b) (list_of self.entry))) }
+        ensures one { IsTrue result → SomeIndex (list_of self.entry)
+            (λ i. slice_get (list_of self.entry) i ≡ Some true) }
+        ensures zero { IsTrue result → SomeIndex (list_of self.entry)
+            (λ i. slice_get (list_of self.entry) i ≡ Some false) }
     {
         self.any() && self.not_all()
     }

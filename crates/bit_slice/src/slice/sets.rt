@@ -23,15 +23,16 @@ fn pair_chunk<F: BitOperator, T: BitStore, O: BitOrder, U: BitStore, P: BitOrder
     requires few { n ≤ 64 }
     requires left { at + n ≤ len_of left }
     requires right { at + n ≤ len_of right }
-    ensures { result ≡ number_of (slice_range (combined F.made (list_of left.entry) (list_of right.entry)) at (at + n)) }
+    ensures { result ≡ number_of (slice_range (combined F.made (list_of left.entry) (list_of right.entry)) at
+        (at + n)) }
 {
     let old = read_chunk::<T, O>(left.words, left.head + at, n);
     let new = read_chunk::<U, P>(right.words, right.head + at, n);
     F::apply::<u64>(old, new)
 }
 
-// How many of the first `upto` bits are true that the operator makes of two views: those of whole words that lie alike first, and
-// the others 64 at a time.
+// How many of the first `upto` bits are true that the operator makes of two views: those of whole words that lie alike
+// first, and the others 64 at a time.
 fn count_pairs<F: BitOperator, T: BitStore, O: BitOrder, U: BitStore, P: BitOrder>(
     left: BitSlice<'_, T, O>,
     right: BitSlice<'_, U, P>,
@@ -40,7 +41,8 @@ fn count_pairs<F: BitOperator, T: BitStore, O: BitOrder, U: BitStore, P: BitOrde
     requires quiet { F.made false false ≡ false }
     requires left { upto ≤ len_of left }
     requires right { upto ≤ len_of right }
-    ensures { result ≡ count_by (λ b. b) (slice_range (combined F.made (list_of left.entry) (list_of right.entry)) 0 upto) }
+    ensures { result ≡ count_by (λ b. b)
+        (slice_range (combined F.made (list_of left.entry) (list_of right.entry)) 0 upto) }
 {
     let (a, i, b, j) = (left.words, left.head, right.words, right.head);
     let (start, front) = count_blocks::<F, T, O, U, P>(a, i, b, j, upto);
@@ -54,8 +56,8 @@ fn count_pairs<F: BitOperator, T: BitStore, O: BitOrder, U: BitStore, P: BitOrde
     count + rest.count_ones() as usize
 }
 
-// Whether one of the first `upto` bits is true that the operator makes of two views: by many words at a time up to the first
-// that has one, and then 64 at a time.
+// Whether one of the first `upto` bits is true that the operator makes of two views: by many words at a time up to the
+// first that has one, and then 64 at a time.
 fn any_pair<F: BitOperator, T: BitStore, O: BitOrder, U: BitStore, P: BitOrder>(
     left: BitSlice<'_, T, O>,
     right: BitSlice<'_, U, P>,
@@ -64,7 +66,8 @@ fn any_pair<F: BitOperator, T: BitStore, O: BitOrder, U: BitStore, P: BitOrder>(
     requires quiet { F.made false false ≡ false }
     requires left { upto ≤ len_of left }
     requires right { upto ≤ len_of right }
-    ensures { result ≡ list_any (λ b. b) (slice_range (combined F.made (list_of left.entry) (list_of right.entry)) 0 upto) }
+    ensures { result ≡ list_any (λ b. b)
+        (slice_range (combined F.made (list_of left.entry) (list_of right.entry)) 0 upto) }
 {
     let (a, i, b, j) = (left.words, left.head, right.words, right.head);
     let start = false_blocks::<F, T, O, U, P>(a, i, b, j, upto);
@@ -97,8 +100,10 @@ impl<'a, T: BitStore, O: BitOrder> BitSlice<'a, T, O> {
     /// of 01101001 and 11110000: bits.count_or(other) == 6
     /// ```
     pub fn count_or<U: BitStore, P: BitOrder>(self, other: BitSlice<'_, U, P>) -> usize
-        ensures value { result ≡ count_by (λ b. b) (or_of (list_of self.entry) (list_of other.entry)) + count_by (λ b. b) (drop (len_of self.entry) (list_of other.entry)) }
-        ensures with_and { result + count_by (λ b. b) (and_of (list_of self.entry) (list_of other.entry)) ≡ count_by (λ b. b) (list_of self.entry) + count_by (λ b. b) (list_of other.entry) }
+        ensures value { result ≡ count_by (λ b. b) (or_of (list_of self.entry) (list_of other.entry))
+            + count_by (λ b. b) (drop (len_of self.entry) (list_of other.entry)) }
+        ensures with_and { result + count_by (λ b. b) (and_of (list_of self.entry) (list_of other.entry))
+            ≡ count_by (λ b. b) (list_of self.entry) + count_by (λ b. b) (list_of other.entry) }
     {
         let both = self.len.min(other.len);
         let shared = count_pairs::<Or, T, O, U, P>(self, other, both);
@@ -113,8 +118,10 @@ impl<'a, T: BitStore, O: BitOrder> BitSlice<'a, T, O> {
     /// of 01101001 and 11110000: bits.count_xor(other) == 4
     /// ```
     pub fn count_xor<U: BitStore, P: BitOrder>(self, other: BitSlice<'_, U, P>) -> usize
-        ensures value { result ≡ count_by (λ b. b) (xor_of (list_of self.entry) (list_of other.entry)) + count_by (λ b. b) (drop (len_of self.entry) (list_of other.entry)) }
-        ensures with_and { result + 2 * count_by (λ b. b) (and_of (list_of self.entry) (list_of other.entry)) ≡ count_by (λ b. b) (list_of self.entry) + count_by (λ b. b) (list_of other.entry) }
+        ensures value { result ≡ count_by (λ b. b) (xor_of (list_of self.entry) (list_of other.entry))
+            + count_by (λ b. b) (drop (len_of self.entry) (list_of other.entry)) }
+        ensures with_and { result + 2 * count_by (λ b. b) (and_of (list_of self.entry) (list_of other.entry))
+            ≡ count_by (λ b. b) (list_of self.entry) + count_by (λ b. b) (list_of other.entry) }
     {
         let both = self.len.min(other.len);
         let shared = count_pairs::<Xor, T, O, U, P>(self, other, both);
@@ -142,7 +149,8 @@ impl<'a, T: BitStore, O: BitOrder> BitSlice<'a, T, O> {
     /// ```
     pub fn is_subset<U: BitStore, P: BitOrder>(self, other: BitSlice<'_, U, P>) -> bool
         ensures value { result ≡ not (list_any (λ b. b) (and_not_of (list_of self.entry) (list_of other.entry))) }
-        ensures index { IsTrue result ↔ ((j : ℕ) → slice_get (list_of self.entry) j ≡ Some true → slice_get (list_of other.entry) j ≡ Some true) }
+        ensures index { IsTrue result ↔
+            ((j : ℕ) → slice_get (list_of self.entry) j ≡ Some true → slice_get (list_of other.entry) j ≡ Some true) }
         ensures and { IsTrue result ↔ (and_of (list_of self.entry) (list_of other.entry) ≡ list_of self.entry) }
     {
         !self.exceeds(other)
@@ -155,7 +163,8 @@ impl<'a, T: BitStore, O: BitOrder> BitSlice<'a, T, O> {
     /// ```
     pub fn is_superset<U: BitStore, P: BitOrder>(self, other: BitSlice<'_, U, P>) -> bool
         ensures value { result ≡ not (list_any (λ b. b) (and_not_of (list_of other.entry) (list_of self.entry))) }
-        ensures index { IsTrue result ↔ ((j : ℕ) → slice_get (list_of other.entry) j ≡ Some true → slice_get (list_of self.entry) j ≡ Some true) }
+        ensures index { IsTrue result ↔
+            ((j : ℕ) → slice_get (list_of other.entry) j ≡ Some true → slice_get (list_of self.entry) j ≡ Some true) }
         ensures and { IsTrue result ↔ (and_of (list_of other.entry) (list_of self.entry) ≡ list_of other.entry) }
     {
         other.is_subset(self)
@@ -168,7 +177,8 @@ impl<'a, T: BitStore, O: BitOrder> BitSlice<'a, T, O> {
     /// ```
     pub fn intersects<U: BitStore, P: BitOrder>(self, other: BitSlice<'_, U, P>) -> bool
         ensures value { result ≡ list_any (λ b. b) (and_of (list_of self.entry) (list_of other.entry)) }
-        ensures index { IsTrue result ↔ SomeIndex (list_of self.entry) (λ j. (slice_get (list_of self.entry) j ≡ Some true) × (slice_get (list_of other.entry) j ≡ Some true)) }
+        ensures index { IsTrue result ↔ SomeIndex (list_of self.entry)
+            (λ j. (slice_get (list_of self.entry) j ≡ Some true) × (slice_get (list_of other.entry) j ≡ Some true)) }
     {
         any_pair::<And, T, O, U, P>(self, other, self.len.min(other.len))
     }
@@ -180,7 +190,8 @@ impl<'a, T: BitStore, O: BitOrder> BitSlice<'a, T, O> {
     /// ```
     pub fn is_disjoint<U: BitStore, P: BitOrder>(self, other: BitSlice<'_, U, P>) -> bool
         ensures value { result ≡ not (list_any (λ b. b) (and_of (list_of self.entry) (list_of other.entry))) }
-        ensures index { IsTrue result ↔ ((j : ℕ) → slice_get (list_of self.entry) j ≡ Some true → slice_get (list_of other.entry) j ≢ Some true) }
+        ensures index { IsTrue result ↔
+            ((j : ℕ) → slice_get (list_of self.entry) j ≡ Some true → slice_get (list_of other.entry) j ≢ Some true) }
     {
         !self.intersects(other)
     }

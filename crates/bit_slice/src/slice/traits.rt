@@ -129,8 +129,8 @@ impl<'a, T: BitStore, O: BitOrder> fmt::Octal for BitSlice<'a, T, O> {
     }
 }
 
-/// `[`, a digit for each group of four bits, the first the most significant, the digits above 9 in lower case, and `]`. Flags and widths
-/// have no effect.
+/// `[`, a digit for each group of four bits, the first the most significant, the digits above 9 in lower case, and `]`.
+/// Flags and widths have no effect.
 impl<'a, T: BitStore, O: BitOrder> fmt::LowerHex for BitSlice<'a, T, O> {
     ghost use Rattle.std.specs.Prelude.{false};
     ghost use Rattle.std.specs.Fmt.{WritesStyledOnOk};
@@ -143,8 +143,8 @@ impl<'a, T: BitStore, O: BitOrder> fmt::LowerHex for BitSlice<'a, T, O> {
     }
 }
 
-/// `[`, a digit for each group of four bits, the first the most significant, the digits above 9 in upper case, and `]`. Flags and widths
-/// have no effect.
+/// `[`, a digit for each group of four bits, the first the most significant, the digits above 9 in upper case, and `]`.
+/// Flags and widths have no effect.
 impl<'a, T: BitStore, O: BitOrder> fmt::UpperHex for BitSlice<'a, T, O> {
     ghost use Rattle.std.specs.Prelude.{true};
     ghost use Rattle.std.specs.Fmt.{WritesStyledOnOk};
@@ -162,7 +162,9 @@ impl<'a, T: BitStore, O: BitOrder> IntoIterator for BitSlice<'a, T, O> {
 
     type IntoIter = Iter<'a, T, O>;
 
-    ghost into_iter_gives = { λ v r. (rest_of r ≡ list_of v) × (length (rest_of r) ≤ MAX_BITS) × YieldsInOrder (YieldsFirst (rest_of {X = T} {Y = O} {W = T.BitStore} {P = O.BitOrder})) rest_of × YieldsInReverse (YieldsLast (rest_of {X = T} {Y = O} {W = T.BitStore} {P = O.BitOrder})) rest_of };
+    ghost into_iter_gives = { λ v r. (rest_of r ≡ list_of v) × (length (rest_of r) ≤ MAX_BITS)
+        × YieldsInOrder (YieldsFirst (rest_of {X = T} {Y = O} {W = T.BitStore} {P = O.BitOrder})) rest_of
+        × YieldsInReverse (YieldsLast (rest_of {X = T} {Y = O} {W = T.BitStore} {P = O.BitOrder})) rest_of };
 
     /// Like `iter`.
     fn into_iter(self) -> Iter<'a, T, O> {

@@ -15,7 +15,8 @@ impl<'a, T: BitStore, O: BitOrder> BitSliceMut<'a, T, O> {
     /// ```
     pub fn store_le(&mut self, number: u64)
         requires { len_of self.old ≤ 64 }
-        ensures row { row_of self.new ≡ put (row_of self.old) (head_of self.old) (number_bits number (len_of self.old)) }
+        ensures row { row_of self.new ≡ put (row_of self.old) (head_of self.old)
+            (number_bits number (len_of self.old)) }
         ensures list { list_of self.new ≡ number_bits number (len_of self.old) }
         ensures stays { Stays self.old self.new }
     {

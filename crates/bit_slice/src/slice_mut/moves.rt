@@ -20,7 +20,8 @@ impl<'a, T: BitStore, O: BitOrder> BitSliceMut<'a, T, O> {
     pub fn reverse(&mut self)
         ensures row { row_of self.new ≡ put (row_of self.old) (head_of self.old) (reverse (list_of self.old)) }
         ensures list { list_of self.new ≡ reverse (list_of self.old) }
-        ensures index { (j : ℕ) → j < len_of self.old → slice_get (list_of self.new) j ≡ slice_get (list_of self.old) (len_of self.old - 1 - j) }
+        ensures index { (j : ℕ) → j < len_of self.old
+            → slice_get (list_of self.new) j ≡ slice_get (list_of self.old) (len_of self.old - 1 - j) }
         ensures stays { Stays self.old self.new }
     {
         reverse_words::<T, O>(self.words, self.head, self.len);
@@ -35,10 +36,13 @@ impl<'a, T: BitStore, O: BitOrder> BitSliceMut<'a, T, O> {
     #[tactic(auto, using(crate::proofs::Parts::roomy))]
     pub fn rotate_left(&mut self, by: usize)
         requires { by ≤ len_of self.old }
-        ensures row { row_of self.new ≡ put (row_of self.old) (head_of self.old) (drop by (list_of self.old) ++ take by (list_of self.old)) }
+        ensures row { row_of self.new ≡ put (row_of self.old) (head_of self.old)
+            (drop by (list_of self.old) ++ take by (list_of self.old)) }
         ensures list { list_of self.new ≡ drop by (list_of self.old) ++ take by (list_of self.old) }
-        ensures front { (j : ℕ) → j + by < len_of self.old → slice_get (list_of self.new) j ≡ slice_get (list_of self.old) (j + by) }
-        ensures back { (j : ℕ) → j < by → slice_get (list_of self.new) (len_of self.old - by + j) ≡ slice_get (list_of self.old) j }
+        ensures front { (j : ℕ) → j + by < len_of self.old
+            → slice_get (list_of self.new) j ≡ slice_get (list_of self.old) (j + by) }
+        ensures back { (j : ℕ) → j < by
+            → slice_get (list_of self.new) (len_of self.old - by + j) ≡ slice_get (list_of self.old) j }
         ensures stays { Stays self.old self.new }
     {
         rotate_words::<T, O>(self.words, self.head, self.len, by);
@@ -53,10 +57,14 @@ impl<'a, T: BitStore, O: BitOrder> BitSliceMut<'a, T, O> {
     #[tactic(auto, using(crate::proofs::Parts::roomy))]
     pub fn rotate_right(&mut self, by: usize)
         requires { by ≤ len_of self.old }
-        ensures row { row_of self.new ≡ put (row_of self.old) (head_of self.old) (drop (len_of self.old - by) (list_of self.old) ++ take (len_of self.old - by) (list_of self.old)) }
-        ensures list { list_of self.new ≡ drop (len_of self.old - by) (list_of self.old) ++ take (len_of self.old - by) (list_of self.old) }
-        ensures front { (j : ℕ) → j < by → slice_get (list_of self.new) j ≡ slice_get (list_of self.old) (len_of self.old - by + j) }
-        ensures back { (j : ℕ) → j + by < len_of self.old → slice_get (list_of self.new) (j + by) ≡ slice_get (list_of self.old) j }
+        ensures row { row_of self.new ≡ put (row_of self.old) (head_of self.old)
+            (drop (len_of self.old - by) (list_of self.old) ++ take (len_of self.old - by) (list_of self.old)) }
+        ensures list { list_of self.new
+            ≡ drop (len_of self.old - by) (list_of self.old) ++ take (len_of self.old - by) (list_of self.old) }
+        ensures front { (j : ℕ) → j < by
+            → slice_get (list_of self.new) j ≡ slice_get (list_of self.old) (len_of self.old - by + j) }
+        ensures back { (j : ℕ) → j + by < len_of self.old
+            → slice_get (list_of self.new) (j + by) ≡ slice_get (list_of self.old) j }
         ensures stays { Stays self.old self.new }
     {
         let front = self.len - by;
@@ -72,10 +80,13 @@ impl<'a, T: BitStore, O: BitOrder> BitSliceMut<'a, T, O> {
     #[tactic(auto, using(crate::proofs::Parts::roomy))]
     pub fn shift_left(&mut self, by: usize)
         requires { by ≤ len_of self.old }
-        ensures row { row_of self.new ≡ put (row_of self.old) (head_of self.old) (drop by (list_of self.old) ++ replicate by false) }
+        ensures row { row_of self.new ≡ put (row_of self.old) (head_of self.old)
+            (drop by (list_of self.old) ++ replicate by false) }
         ensures list { list_of self.new ≡ drop by (list_of self.old) ++ replicate by false }
-        ensures kept { (j : ℕ) → j + by < len_of self.old → slice_get (list_of self.new) j ≡ slice_get (list_of self.old) (j + by) }
-        ensures cleared { (j : ℕ) → len_of self.old ≤ j + by → j < len_of self.old → slice_get (list_of self.new) j ≡ Some false }
+        ensures kept { (j : ℕ) → j + by < len_of self.old
+            → slice_get (list_of self.new) j ≡ slice_get (list_of self.old) (j + by) }
+        ensures cleared { (j : ℕ) → len_of self.old ≤ j + by → j < len_of self.old
+            → slice_get (list_of self.new) j ≡ Some false }
         ensures stays { Stays self.old self.new }
     {
         shift_words_left::<T, O>(self.words, self.head, self.len, by);
@@ -90,9 +101,11 @@ impl<'a, T: BitStore, O: BitOrder> BitSliceMut<'a, T, O> {
     #[tactic(auto, using(crate::proofs::Parts::roomy))]
     pub fn shift_right(&mut self, by: usize)
         requires { by ≤ len_of self.old }
-        ensures row { row_of self.new ≡ put (row_of self.old) (head_of self.old) (replicate by false ++ take (len_of self.old - by) (list_of self.old)) }
+        ensures row { row_of self.new ≡ put (row_of self.old) (head_of self.old)
+            (replicate by false ++ take (len_of self.old - by) (list_of self.old)) }
         ensures list { list_of self.new ≡ replicate by false ++ take (len_of self.old - by) (list_of self.old) }
-        ensures kept { (j : ℕ) → j + by < len_of self.old → slice_get (list_of self.new) (j + by) ≡ slice_get (list_of self.old) j }
+        ensures kept { (j : ℕ) → j + by < len_of self.old
+            → slice_get (list_of self.new) (j + by) ≡ slice_get (list_of self.old) j }
         ensures cleared { (j : ℕ) → j < by → slice_get (list_of self.new) j ≡ Some false }
         ensures stays { Stays self.old self.new }
     {
@@ -109,8 +122,11 @@ impl<'a, T: BitStore, O: BitOrder> BitSliceMut<'a, T, O> {
     pub fn and_within<R: RangeExt>(&mut self, range: R, dest: usize)
         requires lies { LiesIn (R.start_of range) (R.end_of range (len_of self.old)) (len_of self.old) }
         requires room { dest + (R.end_of range (len_of self.old) - R.start_of range) ≤ len_of self.old }
-        ensures row { row_of self.new ≡ put (row_of self.old) (head_of self.old + dest) (part_onto and_of (list_of self.old) (R.start_of range) (R.end_of range (len_of self.old)) dest) }
-        ensures list { list_of self.new ≡ put (list_of self.old) dest (part_onto and_of (list_of self.old) (R.start_of range) (R.end_of range (len_of self.old)) dest) }
+        ensures row { row_of self.new ≡ put (row_of self.old) (head_of self.old + dest)
+            (part_onto and_of (list_of self.old) (R.start_of range) (R.end_of range (len_of self.old)) dest) }
+        ensures list { list_of self.new
+            ≡ put (list_of self.old) dest (part_onto and_of (list_of self.old) (R.start_of range)
+            (R.end_of range (len_of self.old)) dest) }
         ensures stays { Stays self.old self.new }
     {
         let range = range.normalize(self.len);
@@ -128,8 +144,11 @@ impl<'a, T: BitStore, O: BitOrder> BitSliceMut<'a, T, O> {
     pub fn or_within<R: RangeExt>(&mut self, range: R, dest: usize)
         requires lies { LiesIn (R.start_of range) (R.end_of range (len_of self.old)) (len_of self.old) }
         requires room { dest + (R.end_of range (len_of self.old) - R.start_of range) ≤ len_of self.old }
-        ensures row { row_of self.new ≡ put (row_of self.old) (head_of self.old + dest) (part_onto or_of (list_of self.old) (R.start_of range) (R.end_of range (len_of self.old)) dest) }
-        ensures list { list_of self.new ≡ put (list_of self.old) dest (part_onto or_of (list_of self.old) (R.start_of range) (R.end_of range (len_of self.old)) dest) }
+        ensures row { row_of self.new ≡ put (row_of self.old) (head_of self.old + dest)
+            (part_onto or_of (list_of self.old) (R.start_of range) (R.end_of range (len_of self.old)) dest) }
+        ensures list { list_of self.new
+            ≡ put (list_of self.old) dest (part_onto or_of (list_of self.old) (R.start_of range)
+            (R.end_of range (len_of self.old)) dest) }
         ensures stays { Stays self.old self.new }
     {
         let range = range.normalize(self.len);
@@ -147,8 +166,11 @@ impl<'a, T: BitStore, O: BitOrder> BitSliceMut<'a, T, O> {
     pub fn xor_within<R: RangeExt>(&mut self, range: R, dest: usize)
         requires lies { LiesIn (R.start_of range) (R.end_of range (len_of self.old)) (len_of self.old) }
         requires room { dest + (R.end_of range (len_of self.old) - R.start_of range) ≤ len_of self.old }
-        ensures row { row_of self.new ≡ put (row_of self.old) (head_of self.old + dest) (part_onto xor_of (list_of self.old) (R.start_of range) (R.end_of range (len_of self.old)) dest) }
-        ensures list { list_of self.new ≡ put (list_of self.old) dest (part_onto xor_of (list_of self.old) (R.start_of range) (R.end_of range (len_of self.old)) dest) }
+        ensures row { row_of self.new ≡ put (row_of self.old) (head_of self.old + dest)
+            (part_onto xor_of (list_of self.old) (R.start_of range) (R.end_of range (len_of self.old)) dest) }
+        ensures list { list_of self.new
+            ≡ put (list_of self.old) dest (part_onto xor_of (list_of self.old) (R.start_of range)
+            (R.end_of range (len_of self.old)) dest) }
         ensures stays { Stays self.old self.new }
     {
         let range = range.normalize(self.len);

@@ -22,8 +22,11 @@ impl<'a, T: BitStore, O: BitOrder> BitSliceMut<'a, T, O> {
     pub fn part_mut(&mut self, from: usize, upto: usize) -> BitSliceMut<'_, T, O>
         requires ordered { from ≤ upto }
         requires inside { upto ≤ len_of self.old }
-        ensures* writes_back { sem 𝓛 (lends_run T.row O.row T.BitStore O.BitOrder self.entry from upto (loan_of result)) }
-        ensures words { let first = (head_of self.old + from) / T.BITS in words_of result ≡ slice_range (words_of self.old) first (first + words_for T.BITS (head_of result + len_of result)) }
+        ensures* writes_back { sem 𝓛 (lends_run T.row O.row T.BitStore O.BitOrder self.entry from upto
+            (loan_of result)) }
+        ensures words { let first = (head_of self.old + from) / T.BITS
+            in words_of result ≡ slice_range (words_of self.old) first
+            (first + words_for T.BITS (head_of result + len_of result)) }
         ensures head { head_of result ≡ (head_of self.old + from) % T.BITS }
         ensures len { len_of result ≡ upto - from }
         ensures list { list_of result ≡ slice_range (list_of self.old) from upto }

@@ -24,11 +24,17 @@ impl<'a, T: BitStore, O: BitOrder> BitSliceMut<'a, T, O> {
     /// ```
     pub fn fill_range<R: RangeExt>(&mut self, range: R, bit: bool)
         requires lies { LiesIn (R.start_of range) (R.end_of range (len_of self.old)) (len_of self.old) }
-        ensures row { row_of self.new ≡ put (row_of self.old) (head_of self.old + R.start_of range) (replicate (R.end_of range (len_of self.old) - R.start_of range) bit) }
-        ensures list { list_of self.new ≡ put (list_of self.old) (R.start_of range) (replicate (R.end_of range (len_of self.old) - R.start_of range) bit) }
-        ensures within { (j : ℕ) → R.start_of range ≤ j → j < R.end_of range (len_of self.old) → slice_get (list_of self.new) j ≡ Some bit }
-        ensures before { (j : ℕ) → j < R.start_of range → slice_get (list_of self.new) j ≡ slice_get (list_of self.old) j }
-        ensures after { (j : ℕ) → R.end_of range (len_of self.old) ≤ j → slice_get (list_of self.new) j ≡ slice_get (list_of self.old) j }
+        ensures row { row_of self.new ≡ put (row_of self.old) (head_of self.old + R.start_of range)
+            (replicate (R.end_of range (len_of self.old) - R.start_of range) bit) }
+        ensures list { list_of self.new
+            ≡ put (list_of self.old) (R.start_of range)
+            (replicate (R.end_of range (len_of self.old) - R.start_of range) bit) }
+        ensures within { (j : ℕ) → R.start_of range ≤ j → j < R.end_of range (len_of self.old)
+            → slice_get (list_of self.new) j ≡ Some bit }
+        ensures before { (j : ℕ) → j < R.start_of range
+            → slice_get (list_of self.new) j ≡ slice_get (list_of self.old) j }
+        ensures after { (j : ℕ) → R.end_of range (len_of self.old) ≤ j
+            → slice_get (list_of self.new) j ≡ slice_get (list_of self.old) j }
         ensures stays { Stays self.old self.new }
     {
         let range = range.normalize(self.len);
@@ -44,11 +50,17 @@ impl<'a, T: BitStore, O: BitOrder> BitSliceMut<'a, T, O> {
     /// ```
     pub fn flip_range<R: RangeExt>(&mut self, range: R)
         requires lies { LiesIn (R.start_of range) (R.end_of range (len_of self.old)) (len_of self.old) }
-        ensures row { row_of self.new ≡ put (row_of self.old) (head_of self.old + R.start_of range) (map not (slice_range (list_of self.old) (R.start_of range) (R.end_of range (len_of self.old)))) }
-        ensures list { list_of self.new ≡ put (list_of self.old) (R.start_of range) (map not (slice_range (list_of self.old) (R.start_of range) (R.end_of range (len_of self.old)))) }
-        ensures within { (j : ℕ) → R.start_of range ≤ j → j < R.end_of range (len_of self.old) → slice_get (list_of self.new) j ≡ option_map not (slice_get (list_of self.old) j) }
-        ensures before { (j : ℕ) → j < R.start_of range → slice_get (list_of self.new) j ≡ slice_get (list_of self.old) j }
-        ensures after { (j : ℕ) → R.end_of range (len_of self.old) ≤ j → slice_get (list_of self.new) j ≡ slice_get (list_of self.old) j }
+        ensures row { row_of self.new ≡ put (row_of self.old) (head_of self.old + R.start_of range)
+            (map not (slice_range (list_of self.old) (R.start_of range) (R.end_of range (len_of self.old)))) }
+        ensures list { list_of self.new
+            ≡ put (list_of self.old) (R.start_of range)
+            (map not (slice_range (list_of self.old) (R.start_of range) (R.end_of range (len_of self.old)))) }
+        ensures within { (j : ℕ) → R.start_of range ≤ j → j < R.end_of range (len_of self.old)
+            → slice_get (list_of self.new) j ≡ option_map not (slice_get (list_of self.old) j) }
+        ensures before { (j : ℕ) → j < R.start_of range
+            → slice_get (list_of self.new) j ≡ slice_get (list_of self.old) j }
+        ensures after { (j : ℕ) → R.end_of range (len_of self.old) ≤ j
+            → slice_get (list_of self.new) j ≡ slice_get (list_of self.old) j }
         ensures stays { Stays self.old self.new }
     {
         let range = range.normalize(self.len);
@@ -62,7 +74,8 @@ impl<'a, T: BitStore, O: BitOrder> BitSliceMut<'a, T, O> {
     /// ```
     pub fn flip(&mut self, i: usize)
         requires { i < len_of self.old }
-        ensures row { row_of self.new ≡ set (row_of self.old) (head_of self.old + i) (not (slice_index_or (list_of self.old) i false)) }
+        ensures row { row_of self.new ≡ set (row_of self.old) (head_of self.old + i)
+            (not (slice_index_or (list_of self.old) i false)) }
         ensures list { list_of self.new ≡ set (list_of self.old) i (not (slice_index_or (list_of self.old) i false)) }
         ensures item { slice_get (list_of self.new) i ≡ option_map not (slice_get (list_of self.old) i) }
         ensures stays { Stays self.old self.new }
@@ -79,7 +92,8 @@ impl<'a, T: BitStore, O: BitOrder> BitSliceMut<'a, T, O> {
     pub fn flip_all(&mut self)
         ensures row { row_of self.new ≡ put (row_of self.old) (head_of self.old) (map not (list_of self.old)) }
         ensures list { list_of self.new ≡ map not (list_of self.old) }
-        ensures whole { head_of self.old ≡ 0 → len_of self.old ≡ T.BITS * length (words_of self.old) → row_of self.new ≡ map not (list_of self.old) }
+        ensures whole { head_of self.old ≡ 0 → len_of self.old ≡ T.BITS * length (words_of self.old)
+            → row_of self.new ≡ map not (list_of self.old) }
         ensures stays { Stays self.old self.new }
     {
         flip_words::<T, O>(self.words, self.head, self.head + self.len);
@@ -91,11 +105,15 @@ impl<'a, T: BitStore, O: BitOrder> BitSliceMut<'a, T, O> {
     /// of 01101001 and 01010101: bits.and_not_bits(other) leaves 00101000
     /// ```
     pub fn and_not_bits<U: BitStore, P: BitOrder>(&mut self, other: BitSlice<'_, U, P>)
-        ensures row { row_of self.new ≡ put (row_of self.old) (head_of self.old) (and_not_of (list_of self.old) (list_seen other.entry)) }
+        ensures row { row_of self.new ≡ put (row_of self.old) (head_of self.old)
+            (and_not_of (list_of self.old) (list_seen other.entry)) }
         ensures list { list_of self.new ≡ and_not_of (list_of self.old) (list_seen other.entry) }
-        ensures both { (j : ℕ) → slice_get (list_seen other.entry) j ≡ Some true → j < len_of self.old → slice_get (list_of self.new) j ≡ Some false }
-        ensures kept { (j : ℕ) → (slice_get (list_seen other.entry) j ≢ Some true) → slice_get (list_of self.new) j ≡ slice_get (list_of self.old) j }
-        ensures whole { head_of self.old ≡ 0 → len_of self.old ≡ T.BITS * length (words_of self.old) → row_of self.new ≡ and_not_of (list_of self.old) (list_seen other.entry) }
+        ensures both { (j : ℕ) → slice_get (list_seen other.entry) j ≡ Some true → j < len_of self.old
+            → slice_get (list_of self.new) j ≡ Some false }
+        ensures kept { (j : ℕ) → (slice_get (list_seen other.entry) j ≢ Some true)
+            → slice_get (list_of self.new) j ≡ slice_get (list_of self.old) j }
+        ensures whole { head_of self.old ≡ 0 → len_of self.old ≡ T.BITS * length (words_of self.old)
+            → row_of self.new ≡ and_not_of (list_of self.old) (list_seen other.entry) }
         ensures stays { Stays self.old self.new }
     {
         self.combine::<AndNot, U, P>(other);
@@ -114,11 +132,15 @@ impl<'a, T: BitStore, O: BitOrder> BitSliceMut<'a, T, O> {
     )
         requires lies { LiesIn (R.start_of range) (R.end_of range (len_of self.old)) (len_of self.old) }
         requires same_len { len_seen source ≡ R.end_of range (len_of self.old) - R.start_of range }
-        ensures row { row_of self.new ≡ put (row_of self.old) (head_of self.old + R.start_of range) (list_seen source.entry) }
+        ensures row { row_of self.new ≡ put (row_of self.old) (head_of self.old + R.start_of range)
+            (list_seen source.entry) }
         ensures list { list_of self.new ≡ put (list_of self.old) (R.start_of range) (list_seen source.entry) }
-        ensures within { (k : ℕ) → k < len_seen source.entry → slice_get (list_of self.new) (R.start_of range + k) ≡ slice_get (list_seen source.entry) k }
-        ensures before { (j : ℕ) → j < R.start_of range → slice_get (list_of self.new) j ≡ slice_get (list_of self.old) j }
-        ensures after { (j : ℕ) → R.end_of range (len_of self.old) ≤ j → slice_get (list_of self.new) j ≡ slice_get (list_of self.old) j }
+        ensures within { (k : ℕ) → k < len_seen source.entry
+            → slice_get (list_of self.new) (R.start_of range + k) ≡ slice_get (list_seen source.entry) k }
+        ensures before { (j : ℕ) → j < R.start_of range
+            → slice_get (list_of self.new) j ≡ slice_get (list_of self.old) j }
+        ensures after { (j : ℕ) → R.end_of range (len_of self.old) ≤ j
+            → slice_get (list_of self.new) j ≡ slice_get (list_of self.old) j }
         ensures stays { Stays self.old self.new }
     {
         let range = range.normalize(self.len);
@@ -141,10 +163,17 @@ impl<'a, T: BitStore, O: BitOrder> BitSliceMut<'a, T, O> {
         other: BitSlice<'_, U, P>,
     )
         requires lies { LiesIn (R.start_of range) (R.end_of range (len_of self.old)) (len_of self.old) }
-        ensures row { row_of self.new ≡ put (row_of self.old) (head_of self.old + R.start_of range) (combined F.made (slice_range (list_of self.old) (R.start_of range) (R.end_of range (len_of self.old))) (list_seen other.entry)) }
-        ensures list { list_of self.new ≡ put (list_of self.old) (R.start_of range) (combined F.made (slice_range (list_of self.old) (R.start_of range) (R.end_of range (len_of self.old))) (list_seen other.entry)) }
-        ensures before { (j : ℕ) → j < R.start_of range → slice_get (list_of self.new) j ≡ slice_get (list_of self.old) j }
-        ensures after { (j : ℕ) → R.end_of range (len_of self.old) ≤ j → slice_get (list_of self.new) j ≡ slice_get (list_of self.old) j }
+        ensures row { row_of self.new ≡ put (row_of self.old) (head_of self.old + R.start_of range)
+            (combined F.made (slice_range (list_of self.old) (R.start_of range) (R.end_of range (len_of self.old)))
+            (list_seen other.entry)) }
+        ensures list { list_of self.new
+            ≡ put (list_of self.old) (R.start_of range)
+            (combined F.made (slice_range (list_of self.old) (R.start_of range) (R.end_of range (len_of self.old)))
+            (list_seen other.entry)) }
+        ensures before { (j : ℕ) → j < R.start_of range
+            → slice_get (list_of self.new) j ≡ slice_get (list_of self.old) j }
+        ensures after { (j : ℕ) → R.end_of range (len_of self.old) ≤ j
+            → slice_get (list_of self.new) j ≡ slice_get (list_of self.old) j }
         ensures stays { Stays self.old self.new }
     {
         let range = range.normalize(self.len);
@@ -164,10 +193,17 @@ impl<'a, T: BitStore, O: BitOrder> BitSliceMut<'a, T, O> {
         other: BitSlice<'_, U, P>,
     )
         requires lies { LiesIn (R.start_of range) (R.end_of range (len_of self.old)) (len_of self.old) }
-        ensures row { row_of self.new ≡ put (row_of self.old) (head_of self.old + R.start_of range) (and_of (slice_range (list_of self.old) (R.start_of range) (R.end_of range (len_of self.old))) (list_seen other.entry)) }
-        ensures list { list_of self.new ≡ put (list_of self.old) (R.start_of range) (and_of (slice_range (list_of self.old) (R.start_of range) (R.end_of range (len_of self.old))) (list_seen other.entry)) }
-        ensures before { (j : ℕ) → j < R.start_of range → slice_get (list_of self.new) j ≡ slice_get (list_of self.old) j }
-        ensures after { (j : ℕ) → R.end_of range (len_of self.old) ≤ j → slice_get (list_of self.new) j ≡ slice_get (list_of self.old) j }
+        ensures row { row_of self.new ≡ put (row_of self.old) (head_of self.old + R.start_of range)
+            (and_of (slice_range (list_of self.old) (R.start_of range) (R.end_of range (len_of self.old)))
+            (list_seen other.entry)) }
+        ensures list { list_of self.new
+            ≡ put (list_of self.old) (R.start_of range)
+            (and_of (slice_range (list_of self.old) (R.start_of range) (R.end_of range (len_of self.old)))
+            (list_seen other.entry)) }
+        ensures before { (j : ℕ) → j < R.start_of range
+            → slice_get (list_of self.new) j ≡ slice_get (list_of self.old) j }
+        ensures after { (j : ℕ) → R.end_of range (len_of self.old) ≤ j
+            → slice_get (list_of self.new) j ≡ slice_get (list_of self.old) j }
         ensures stays { Stays self.old self.new }
     {
         self.combine_range::<And, R, U, P>(range, other);
@@ -185,10 +221,17 @@ impl<'a, T: BitStore, O: BitOrder> BitSliceMut<'a, T, O> {
         other: BitSlice<'_, U, P>,
     )
         requires lies { LiesIn (R.start_of range) (R.end_of range (len_of self.old)) (len_of self.old) }
-        ensures row { row_of self.new ≡ put (row_of self.old) (head_of self.old + R.start_of range) (or_of (slice_range (list_of self.old) (R.start_of range) (R.end_of range (len_of self.old))) (list_seen other.entry)) }
-        ensures list { list_of self.new ≡ put (list_of self.old) (R.start_of range) (or_of (slice_range (list_of self.old) (R.start_of range) (R.end_of range (len_of self.old))) (list_seen other.entry)) }
-        ensures before { (j : ℕ) → j < R.start_of range → slice_get (list_of self.new) j ≡ slice_get (list_of self.old) j }
-        ensures after { (j : ℕ) → R.end_of range (len_of self.old) ≤ j → slice_get (list_of self.new) j ≡ slice_get (list_of self.old) j }
+        ensures row { row_of self.new ≡ put (row_of self.old) (head_of self.old + R.start_of range)
+            (or_of (slice_range (list_of self.old) (R.start_of range) (R.end_of range (len_of self.old)))
+            (list_seen other.entry)) }
+        ensures list { list_of self.new
+            ≡ put (list_of self.old) (R.start_of range)
+            (or_of (slice_range (list_of self.old) (R.start_of range) (R.end_of range (len_of self.old)))
+            (list_seen other.entry)) }
+        ensures before { (j : ℕ) → j < R.start_of range
+            → slice_get (list_of self.new) j ≡ slice_get (list_of self.old) j }
+        ensures after { (j : ℕ) → R.end_of range (len_of self.old) ≤ j
+            → slice_get (list_of self.new) j ≡ slice_get (list_of self.old) j }
         ensures stays { Stays self.old self.new }
     {
         self.combine_range::<Or, R, U, P>(range, other);
@@ -206,10 +249,17 @@ impl<'a, T: BitStore, O: BitOrder> BitSliceMut<'a, T, O> {
         other: BitSlice<'_, U, P>,
     )
         requires lies { LiesIn (R.start_of range) (R.end_of range (len_of self.old)) (len_of self.old) }
-        ensures row { row_of self.new ≡ put (row_of self.old) (head_of self.old + R.start_of range) (xor_of (slice_range (list_of self.old) (R.start_of range) (R.end_of range (len_of self.old))) (list_seen other.entry)) }
-        ensures list { list_of self.new ≡ put (list_of self.old) (R.start_of range) (xor_of (slice_range (list_of self.old) (R.start_of range) (R.end_of range (len_of self.old))) (list_seen other.entry)) }
-        ensures before { (j : ℕ) → j < R.start_of range → slice_get (list_of self.new) j ≡ slice_get (list_of self.old) j }
-        ensures after { (j : ℕ) → R.end_of range (len_of self.old) ≤ j → slice_get (list_of self.new) j ≡ slice_get (list_of self.old) j }
+        ensures row { row_of self.new ≡ put (row_of self.old) (head_of self.old + R.start_of range)
+            (xor_of (slice_range (list_of self.old) (R.start_of range) (R.end_of range (len_of self.old)))
+            (list_seen other.entry)) }
+        ensures list { list_of self.new
+            ≡ put (list_of self.old) (R.start_of range)
+            (xor_of (slice_range (list_of self.old) (R.start_of range) (R.end_of range (len_of self.old)))
+            (list_seen other.entry)) }
+        ensures before { (j : ℕ) → j < R.start_of range
+            → slice_get (list_of self.new) j ≡ slice_get (list_of self.old) j }
+        ensures after { (j : ℕ) → R.end_of range (len_of self.old) ≤ j
+            → slice_get (list_of self.new) j ≡ slice_get (list_of self.old) j }
         ensures stays { Stays self.old self.new }
     {
         self.combine_range::<Xor, R, U, P>(range, other);

@@ -15,7 +15,10 @@ impl FreeMap {
     pub fn take_aligned(&mut self, count: usize, align: usize) -> Option<usize>
         requires count { 0 < count }
         requires align { 0 < align }
-        ensures run { MatchOption result ((self.new ≡ self.old) × ((k : ℕ) → k % align ≡ 0 → AreFree self.old count k → ⊥)) (λ first. (self.new ≡ put self.old first (replicate count true)) × IsFirstAligned self.old count align first) }
+        ensures run { MatchOption result
+            ((self.new ≡ self.old) × ((k : ℕ) → k % align ≡ 0 → AreFree self.old count k → ⊥))
+            (λ first. (self.new ≡ put self.old first (replicate count true))
+            × IsFirstAligned self.old count align first) }
         ensures frames { length self.new ≡ length self.old }
     {
         match self.find_aligned(count, align) {
@@ -31,7 +34,8 @@ impl FreeMap {
     fn find_aligned(&self, count: usize, align: usize) -> Option<usize>
         requires count { 0 < count }
         requires align { 0 < align }
-        ensures { MatchOption result ((k : ℕ) → k % align ≡ 0 → AreFree self.now count k → ⊥) (λ first. IsFirstAligned self.now count align first) }
+        ensures { MatchOption result ((k : ℕ) → k % align ≡ 0 → AreFree self.now count k → ⊥)
+            (λ first. IsFirstAligned self.now count align first) }
     {
         let mut from = 0;
         while let Some(first) = self.taken.next_zero(from) {
@@ -45,8 +49,8 @@ impl FreeMap {
         None
     }
 
-    /// Takes `count` free frames in a row where they fit best: the first of a run of free frames that is shortest among those
-    /// that are long enough, and of such the lowest. None exactly where no run is long enough, and then nothing
+    /// Takes `count` free frames in a row where they fit best: the first of a run of free frames that is shortest among
+    /// those that are long enough, and of such the lowest. None exactly where no run is long enough, and then nothing
     /// changes. Requires that `count` is at least 1.
     ///
     /// ```text
@@ -55,7 +59,8 @@ impl FreeMap {
     #[tactic(auto, using(crate::proofs::Frames::marked_length))]
     pub fn take_best_fit(&mut self, count: usize) -> Option<usize>
         requires { 0 < count }
-        ensures run { MatchOption result ((self.new ≡ self.old) × ((k : ℕ) → AreFree self.old count k → ⊥)) (λ first. (self.new ≡ put self.old first (replicate count true)) × IsBestFit self.old count first) }
+        ensures run { MatchOption result ((self.new ≡ self.old) × ((k : ℕ) → AreFree self.old count k → ⊥))
+            (λ first. (self.new ≡ put self.old first (replicate count true)) × IsBestFit self.old count first) }
         ensures frames { length self.new ≡ length self.old }
     {
         match self.find_best_fit(count) {
@@ -70,7 +75,8 @@ impl FreeMap {
     // The lowest of the shortest runs of free frames that are long enough.
     fn find_best_fit(&self, count: usize) -> Option<usize>
         requires { 0 < count }
-        ensures { MatchOption result ((k : ℕ) → AreFree self.now count k → ⊥) (λ first. IsBestFit self.now count first) }
+        ensures { MatchOption result ((k : ℕ) → AreFree self.now count k → ⊥)
+            (λ first. IsBestFit self.now count first) }
     {
         match self.best_run(count) {
             None => None,

@@ -22,13 +22,15 @@ pub enum Reply {
     Taken(usize),
     /// The frames are free again.
     GivenBack,
-    /// Nothing changed: there is no such run, no frame was asked for, or a frame was given back that is free or not of the map.
+    /// Nothing changed: there is no such run, no frame was asked for, or a frame was given back that is free or not of
+    /// the map.
     Refused,
 }
 
 impl FreeMap {
-    /// Serves requests one after another, and returns the reply to each. No frame is handed out twice, unless a
-    /// request between gave it back. Takes memory for the replies alone, and first: refused, there is a request, and nothing changes.
+    /// Serves requests one after another, and returns the reply to each. No frame is handed out twice, unless a request
+    /// between gave it back. Takes memory for the replies alone, and first: refused, there is a request, and nothing
+    /// changes.
     ///
     /// ```text
     /// frames.serve(alloc, &[Request::Take(4), Request::GiveBack(0, 2), Request::Take(1)])?

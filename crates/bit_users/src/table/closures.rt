@@ -7,8 +7,8 @@ ghost use Rattle.bit_users.specs.InTurn.{AnswersInTurn};
 use crate::table::NumberSet;
 
 impl NumberSet {
-    /// Keeps the numbers at which `f` returns true. `f` is called once for each number of the set, ascending. The bound stays.
-    /// Takes no memory.
+    /// Keeps the numbers at which `f` returns true. `f` is called once for each number of the set, ascending. The bound
+    /// stays. Takes no memory.
     ///
     /// ```text
     /// of 2, 3, 5, 8: seen.retain(|number| number % 2 == 1) leaves 3, 5
@@ -16,13 +16,14 @@ impl NumberSet {
     pub fn retain<F: FnMut(usize) -> bool>(&mut self, mut f: F)
         requires { F.IsAlwaysCallable f }
         ensures bound { length self.new ≡ length self.old }
-        ensures numbers { (answers : List Bool) × (last : F) × AnswersInTurn F.step f (ones_of self.old) answers last × (ones_of self.new ≡ items_where_true answers (ones_of self.old)) }
+        ensures numbers { (answers : List Bool) × (last : F) × AnswersInTurn F.step f (ones_of self.old) answers last
+            × (ones_of self.new ≡ items_where_true answers (ones_of self.old)) }
     {
         self.retain_by(&mut f)
     }
 
-    /// Like `retain`, with a function that is lent: it ends in the state that the last call left, and where there is no number in
-    /// the one that it had.
+    /// Like `retain`, with a function that is lent: it ends in the state that the last call left, and where there is no
+    /// number in the one that it had.
     ///
     /// ```text
     /// of 2, 3, 5, 8: seen.retain_by(&mut |number: usize| number < 5) leaves 2, 3
@@ -30,7 +31,8 @@ impl NumberSet {
     pub fn retain_by<F: FnMut(usize) -> bool>(&mut self, f: &mut F)
         requires { F.IsAlwaysCallable f.old }
         ensures bound { length self.new ≡ length self.old }
-        ensures numbers { (answers : List Bool) × AnswersInTurn F.step f.old (ones_of self.old) answers f.new × (ones_of self.new ≡ items_where_true answers (ones_of self.old)) }
+        ensures numbers { (answers : List Bool) × AnswersInTurn F.step f.old (ones_of self.old) answers f.new
+            × (ones_of self.new ≡ items_where_true answers (ones_of self.old)) }
     {
         let mut from = 0;
         while let Some(number) = self.next_from(from) {

@@ -101,7 +101,10 @@ impl<'a> Merged<'a> {
 
     // The least number of either set at or above `from`.
     fn least_from(&self, from: usize) -> Option<usize>
-        ensures least { MatchOption result ((k : ℕ) → from ≤ k → (IsIn self.now.left.now k ⊎ IsIn self.now.right.now k) → ⊥) (λ i. (from ≤ i) × (IsIn self.now.left.now i ⊎ IsIn self.now.right.now i) × ((k : ℕ) → from ≤ k → k < i → (IsIn self.now.left.now k ⊎ IsIn self.now.right.now k) → ⊥)) }
+        ensures least { MatchOption result
+            ((k : ℕ) → from ≤ k → (IsIn self.now.left.now k ⊎ IsIn self.now.right.now k) → ⊥)
+            (λ i. (from ≤ i) × (IsIn self.now.left.now i ⊎ IsIn self.now.right.now i)
+            × ((k : ℕ) → from ≤ k → k < i → (IsIn self.now.left.now k ⊎ IsIn self.now.right.now k) → ⊥)) }
         ensures below { IfSome result (λ i. i < MAX_BITS) }
     {
         let right = self.right.next_from(from);
@@ -116,7 +119,10 @@ impl<'a> Merged<'a> {
 
     // The first number that is left.
     fn find_next(&self) -> Option<usize>
-        ensures { MatchOption result (IsAbsent true (merged_list self.now.merging self.now.left.now self.now.right.now) self.now.from self.now.upto) (IsNext true (merged_list self.now.merging self.now.left.now self.now.right.now) self.now.from self.now.upto) }
+        ensures { MatchOption result (IsAbsent true
+            (merged_list self.now.merging self.now.left.now self.now.right.now) self.now.from self.now.upto)
+            (IsNext true (merged_list self.now.merging self.now.left.now self.now.right.now) self.now.from
+            self.now.upto) }
     {
         let mut from = self.from;
         while let Some(number) = self.least_from(from) {

@@ -1,4 +1,4 @@
--- Words and rows that are reversed from both ends, and a run that is moved after that.
+-- Words and rows that are reversed from both ends, and a run of them that is moved to its place.
 use Rattle.std.proofs.Common.{◌≡◌, ℕ, ◌+◌, ◌-◌, ◌*◌, ◌/◌, ◌%◌, ◌<◌, ◌≤◌, Bool, false, List, ◌++◌, map, set, length, get_or, reverse, slice_range, refl, sym, ◌∙◌, ap, inl, inr, arith}
 use Rattle.std.proofs.lemmas.Bool.{cases_lt}
 use Rattle.std.proofs.lemmas.Bool.Decides.{eqb_tells}
@@ -7,7 +7,7 @@ use Rattle.std.proofs.lemmas.Nat.{div-add-mod', div-mul-add, mod-mul-add}
 use Rattle.std.proofs.Math.Nat.{mod-lt}
 use Rattle.bit_addressing.specs.Bits.{has_bit}
 use Rattle.bit_addressing.specs.Order.{IsPermutation}
-use Rattle.bit_addressing.specs.Row.{moved, put, row_bit, row_of}
+use Rattle.bit_addressing.specs.Row.{moved, number_bits, number_of, put, row_of}
 use Rattle.bit_addressing.specs.Typed.{row}
 use Rattle.bit_addressing.specs.declared.store.BitStore as store
 use Rattle.bit_addressing.specs.declared.order.BitOrder as order
@@ -18,6 +18,7 @@ use Rattle.bit_addressing.proofs.lists.Shown.{length-run, get_or-run}
 use Rattle.bit_slice.specs.Mirrored.{IsMirrored}
 use Rattle.bit_slice.proofs.Halves.{row_halves, run_of_front, run_of_back, put_front, put_back}
 use Rattle.bit_slice.proofs.Turned.{reversed_item}
+use Rattle.bit_slice.proofs.Writing.{bits_of_number}
 
 -- the place as far from the end of n words as j is from their beginning
 across : (w n j : ℕ) → 0 < w → j < w * n → w * n - 1 - j ≡ (n - 1 - j / w) * w + (w - 1 - j % w)
@@ -40,7 +41,6 @@ module _ (place : ℕ → ℕ → ℕ) (w : ℕ) (positive : 0 < w) (lawful : Is
       let below : j < w * length ys = omega (arith, h, count) in
       let word : j / w < length ys = word_below w j (length ys) positive below in
       let inside : j % w < w = mod-lt j positive in
-      let other : ℕ = w * length ys - 1 - j in
       let at : w * length ys - 1 - j ≡ (length ys - 1 - j / w) * w + (w - 1 - j % w) = across w (length ys) j positive below in
       let quotient : (w * length ys - 1 - j) / w ≡ length ys - 1 - j / w = ap (λ k. k / w) at ∙ div-mul-add (length ys - 1 - j / w) w (w - 1 - j % w) (omega (arith, positive)) in
       let rest : (w * length ys - 1 - j) % w ≡ w - 1 - j % w = ap (λ k. k % w) at ∙ mod-mul-add (length ys - 1 - j / w) w (w - 1 - j % w) (omega (arith, positive)) in
@@ -151,14 +151,12 @@ module _ (xs : List Bool) (before len after : ℕ) (whole : before + len + after
   abbrev turned : List Bool
   turned = reverse (slice_range xs before (before + len))
 
-  pub put_around : put (put (moved (reverse xs) after before len) 0 front) (before + len) back ≡ put xs before turned
+  put_around : put (put (moved (reverse xs) after before len) 0 front) (before + len) back ≡ put xs before turned
   put_around =
       let size : length (reverse xs) ≡ length xs = length-reverse xs in
-      let one : List Bool = put (reverse xs) before turned in
       let f : length front ≡ before = length-run xs 0 before (omega (arith, whole)) in
       let b : length back ≡ after = length-run xs (before + len) after (omega (arith, whole)) in
       let t : length turned ≡ len = length-reverse (slice_range xs before (before + len)) ∙ length-run xs before len (omega (arith, whole)) in
-      let two : List Bool = put one 0 front in
       let l1 : length (put (reverse xs) before turned) ≡ length xs = length-put (reverse xs) turned before (omega (arith, size, t, whole)) ∙ size in
       let l2 : length (put (put (reverse xs) before turned) 0 front) ≡ length xs = length-put (put (reverse xs) before turned) front 0 (omega (arith, l1, f, whole)) ∙ l1 in
       let l3 : length (put (put (put (reverse xs) before turned) 0 front) (before + len) back) ≡ length xs = length-put (put (put (reverse xs) before turned) 0 front) back (before + len) (omega (arith, l2, b, whole)) ∙ l2 in
@@ -183,6 +181,16 @@ module _ (xs : List Bool) (before len after : ℕ) (whole : before + len + after
             ∙ get_or-run xs (before + len) after (j - (before + len)) (omega (arith, l3, h, k, whole)) ∙ ap (λ i. get_or xs i false) at
             ∙ sym (put_behind xs turned before j false (omega (arith, t, whole)) (omega (arith, t, k)))
       ])
+
+  -- the same in steps, where what stood around the run was kept as numbers
+  pub put_back_around : (all shifted begun new : List Bool) (f b : ℕ) → all ≡ reverse xs → shifted ≡ moved all after before len → f ≡ number_of front → b ≡ number_of back
+      → begun ≡ put shifted 0 (number_bits f before) → new ≡ put begun (before + len) (number_bits b after) → new ≡ put xs before turned
+  put_back_around all shifted begun new f b is_all is_shifted is_f is_b is_begun is_new =
+      let begins : number_bits f before ≡ front = ap (λ x. number_bits x before) is_f ∙ bits_of_number front before (length-run xs 0 before (omega (arith, whole))) in
+      let ends : number_bits b after ≡ back = ap (λ x. number_bits x after) is_b ∙ bits_of_number back after (length-run xs (before + len) after (omega (arith, whole))) in
+      let moves : shifted ≡ moved (reverse xs) after before len = is_shifted ∙ ap (λ l. moved l after before len) is_all in
+      let fronts : begun ≡ put (moved (reverse xs) after before len) 0 front = is_begun ∙ ap (put shifted 0) begins ∙ ap (λ l. put l 0 front) moves in
+      is_new ∙ ap (put begun (before + len)) ends ∙ ap (λ l. put l (before + len) back) fronts ∙ put_around
 
 -- the parts of a list, each reversed, in the other order
 thirds_reversed : (xs ys zs : List Bool) → (reverse zs ++ reverse ys) ++ reverse xs ≡ reverse ((xs ++ ys) ++ zs)

@@ -12,7 +12,6 @@ use bit_addressing::{
     BitOperator, BitOrder, BitStore, Lsb0, combine_bits, copy_bits, fill_bits, move_bits,
     read_chunk, write_chunk,
 };
-
 pub use reverse::reverse_words;
 
 /// The bit is true where the old one is and the new one is not.

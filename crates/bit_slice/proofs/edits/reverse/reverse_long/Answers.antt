@@ -1,4 +1,4 @@
-use Rattle.std.proofs.Common.{◌≡◌, ◌+◌, ◌-◌, ◌*◌, ◌/◌, ◌%◌, ◌++◌, length, ◌∙◌, ap, arith}
+use Rattle.std.proofs.Common.{◌≡◌, ◌+◌, ◌*◌, ◌/◌, ◌%◌, ◌++◌, length, ◌∙◌, ap, arith}
 use Rattle.bit_addressing.specs.Row.{words_for}
 use Rattle.bit_addressing.specs.Typed.{row}
 use Rattle.bit_addressing.proofs.Rows.{width_positive}
@@ -24,7 +24,7 @@ reverse_touched-requires-clause-ends g c =
     omega (arith, few, count)
 
 pub returns-clause-bits : goal.returns-clause-bits
-returns-clause-bits g c = 
+returns-clause-bits g c =
     let W = g.T.BitStore in
     let P = g.O.BitOrder in
     let positive = width_positive W.BITS g.met.T.BitStore.width in

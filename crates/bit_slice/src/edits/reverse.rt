@@ -9,15 +9,18 @@ use bit_addressing::{
     BitIdx, BitOrder, BitStore, MAX_BITS, elts, move_bits, read_binary, read_chunk, write_chunk,
 };
 
-// Swaps the `n` bits from `front` on and the `n` from `back` on, each run reversed. Requires that the first ends before the other
-// begins, both lie in the words, and `n` is at most 64.
+// Swaps the `n` bits from `front` on and the `n` from `back` on, each run reversed. Requires that the first ends
+// before the other begins, both lie in the words, and `n` is at most 64.
 #[inline(always)]
 fn swap_reversed<T: BitStore, O: BitOrder>(words: &mut [T], front: usize, back: usize, n: u8)
     requires few { n ≤ 64 }
     requires apart { front + n ≤ back }
     requires within { back + n ≤ T.BITS * length words.old }
     requires fits { back + n < 2 ^ 64 }
-    ensures bits { row T.BitStore O.BitOrder words.new ≡ put (put (row T.BitStore O.BitOrder words.old) front (reverse (slice_range (row T.BitStore O.BitOrder words.old) back (back + n)))) back (reverse (slice_range (row T.BitStore O.BitOrder words.old) front (front + n))) }
+    ensures bits { row T.BitStore O.BitOrder words.new
+        ≡ put (put (row T.BitStore O.BitOrder words.old) front
+        (reverse (slice_range (row T.BitStore O.BitOrder words.old) back (back + n)))) back
+        (reverse (slice_range (row T.BitStore O.BitOrder words.old) front (front + n))) }
     ensures size { length words.new ≡ length words.old }
 {
     let lower = read_binary::<T, O>(words, front, n);
@@ -30,7 +33,9 @@ fn swap_reversed<T: BitStore, O: BitOrder>(words: &mut [T], front: usize, back: 
 fn reverse_pairs<T: BitStore, O: BitOrder>(words: &mut [T], head: usize, len: usize)
     requires within { head + len ≤ T.BITS * length words.old }
     requires fits { head + len < 2 ^ 64 }
-    ensures bits { row T.BitStore O.BitOrder words.new ≡ put (row T.BitStore O.BitOrder words.old) head (reverse (slice_range (row T.BitStore O.BitOrder words.old) head (head + len))) }
+    ensures bits { row T.BitStore O.BitOrder words.new
+        ≡ put (row T.BitStore O.BitOrder words.old) head
+        (reverse (slice_range (row T.BitStore O.BitOrder words.old) head (head + len))) }
     ensures size { length words.new ≡ length words.old }
 {
     let end = head + len;
@@ -43,7 +48,7 @@ fn reverse_pairs<T: BitStore, O: BitOrder>(words: &mut [T], head: usize, len: us
     swap_reversed::<T, O>(words, low, high - rest, rest as u8);
 }
 
-// Whether an order is the same from both ends of a word, as `Lsb0` and `Msb0` are. The compiler folds it.
+// Whether the order is the same from both ends of a word, as `Lsb0` and `Msb0` are. The compiler folds it.
 #[inline(always)]
 fn is_mirrored<T: BitStore, O: BitOrder>() -> bool
     ensures { result ≡ true → IsMirrored T.BITS (O.place T.BITS) }
@@ -58,11 +63,11 @@ fn is_mirrored<T: BitStore, O: BitOrder>() -> bool
     true
 }
 
-// Exchanges the words of two slices of one length, from both ends, each reversed. They are two slices, in a function of
-// their own, since the compiler takes the words side by side only where it knows them apart (docs/SPEED.md, "The bench",
-// reverse).
+// Swaps the words of two slices, the first with the last, each reversed. Requires that the slices have one length. They
+// are two slices, in a function that stays one, since the compiler takes the words side by side only where it knows
+// that no word is in both (docs/SPEED.md, "The bench", reverse).
 #[inline(never)]
-fn exchange_words<T: BitStore, O: BitOrder>(low: &mut [T], high: &mut [T])
+fn swap_words<T: BitStore, O: BitOrder>(low: &mut [T], high: &mut [T])
     requires mirrored { IsMirrored T.BITS (O.place T.BITS) }
     requires same { length low.old ≡ length high.old }
     ensures low { row T.BitStore O.BitOrder low.new ≡ reverse (row T.BitStore O.BitOrder high.old) }
@@ -91,7 +96,7 @@ fn reverse_middle<T: BitStore, O: BitOrder>(words: &mut [T])
     }
 }
 
-// Reverses all bits of words, in an order that is the same from both ends.
+// Reverses all bits of the words. Requires that the order is the same from both ends of a word.
 fn reverse_all<T: BitStore, O: BitOrder>(words: &mut [T])
     requires mirrored { IsMirrored T.BITS (O.place T.BITS) }
     ensures bits { row T.BitStore O.BitOrder words.new ≡ reverse (row T.BitStore O.BitOrder words.old) }
@@ -101,11 +106,11 @@ fn reverse_all<T: BitStore, O: BitOrder>(words: &mut [T])
     let half = n / 2;
     let (front, high) = words.split_at_mut(n - half);
     let (low, middle) = front.split_at_mut(half);
-    exchange_words::<T, O>(low, high);
+    swap_words::<T, O>(low, high);
     reverse_middle::<T, O>(middle);
 }
 
-// Like `move_bits`, which a run that is in its place does without.
+// Like `move_bits`, but does nothing where the run is in its place.
 fn move_to<T: BitStore, O: BitOrder>(words: &mut [T], from: usize, at: usize, n: usize)
     requires room { T.BITS * length words.old ≤ MAX_BITS + 2 * T.BITS }
     requires source { from + n ≤ T.BITS * length words.old }
@@ -118,15 +123,17 @@ fn move_to<T: BitStore, O: BitOrder>(words: &mut [T], from: usize, at: usize, n:
     }
 }
 
-// Like `reverse_words`, of a run that touches all of the words, in an order that is the same from both ends: all bits are
-// reversed, the run is moved to its place, and the bits around it are put back.
+// Like `reverse_long`, of a run that begins in the first of the words and ends in the last: all bits are reversed, the
+// run is moved to its place, and the bits before and after it are written back.
 fn reverse_touched<T: BitStore, O: BitOrder>(words: &mut [T], head: usize, len: usize)
     requires mirrored { IsMirrored T.BITS (O.place T.BITS) }
     requires begins { head < T.BITS }
     requires within { head + len ≤ T.BITS * length words.old }
     requires ends { T.BITS * length words.old < head + len + T.BITS }
     requires few { len ≤ MAX_BITS }
-    ensures bits { row T.BitStore O.BitOrder words.new ≡ put (row T.BitStore O.BitOrder words.old) head (reverse (slice_range (row T.BitStore O.BitOrder words.old) head (head + len))) }
+    ensures bits { row T.BitStore O.BitOrder words.new
+        ≡ put (row T.BitStore O.BitOrder words.old) head
+        (reverse (slice_range (row T.BitStore O.BitOrder words.old) head (head + len))) }
     ensures size { length words.new ≡ length words.old }
 {
     let end = head + len;
@@ -139,13 +146,15 @@ fn reverse_touched<T: BitStore, O: BitOrder>(words: &mut [T], head: usize, len: 
     write_chunk::<T, O>(words, end, after as u8, back);
 }
 
-// Like `reverse_words`, by whole words, in an order that is the same from both ends.
+// Like `reverse_words`, by whole words. Requires that the order is the same from both ends of a word.
 fn reverse_long<T: BitStore, O: BitOrder>(words: &mut [T], head: usize, len: usize)
     requires mirrored { IsMirrored T.BITS (O.place T.BITS) }
     requires some { 0 < len }
     requires few { len ≤ MAX_BITS }
     requires within { head + len ≤ T.BITS * length words.old }
-    ensures bits { row T.BitStore O.BitOrder words.new ≡ put (row T.BitStore O.BitOrder words.old) head (reverse (slice_range (row T.BitStore O.BitOrder words.old) head (head + len))) }
+    ensures bits { row T.BitStore O.BitOrder words.new
+        ≡ put (row T.BitStore O.BitOrder words.old) head
+        (reverse (slice_range (row T.BitStore O.BitOrder words.old) head (head + len))) }
     ensures size { length words.new ≡ length words.old }
 {
     let width = T::BITS as usize;
@@ -155,15 +164,21 @@ fn reverse_long<T: BitStore, O: BitOrder>(words: &mut [T], head: usize, len: usi
     reverse_touched::<T, O>(run, head % width, len);
 }
 
-/// Reverses the `len` bits of the words' row from `head` on: a long run by whole words, where the order is the same from both
-/// ends of a word, else up to 64 bits from each end at a time. No other bit changes. Requires that the run lies in the words.
+// A run of this many bits or more is reversed by whole words.
+const LONG: usize = 256;
+
+/// Reverses the `len` bits of the words' row from `head` on: a long run by whole words, where the order is the same
+/// from both ends of a word, else up to 64 bits from each end at a time. No other bit changes. Requires that the run
+/// lies in the words.
 pub fn reverse_words<T: BitStore, O: BitOrder>(words: &mut [T], head: usize, len: usize)
     requires within { head + len ≤ T.BITS * length words.old }
     requires fits { head + len < 2 ^ 64 }
-    ensures bits { row T.BitStore O.BitOrder words.new ≡ put (row T.BitStore O.BitOrder words.old) head (reverse (slice_range (row T.BitStore O.BitOrder words.old) head (head + len))) }
+    ensures bits { row T.BitStore O.BitOrder words.new
+        ≡ put (row T.BitStore O.BitOrder words.old) head
+        (reverse (slice_range (row T.BitStore O.BitOrder words.old) head (head + len))) }
     ensures size { length words.new ≡ length words.old }
 {
-    if len >= 256 && len <= MAX_BITS && is_mirrored::<T, O>() {
+    if len >= LONG && len <= MAX_BITS && is_mirrored::<T, O>() {
         reverse_long::<T, O>(words, head, len);
     } else {
         reverse_pairs::<T, O>(words, head, len);

@@ -2,7 +2,7 @@ use Rattle.std.proofs.Common.{map, arith}
 use Rattle.std.proofs.lemmas.List.{length-map}
 use Rattle.bit_addressing.proofs.Rows.{width_positive}
 use Rattle.bit_slice.proofs.Reversing.{exchange_word, low_reversed, high_reversed}
-use Rattle.bit_slice.proofs.edits.reverse.exchange_words.Goals as goal
+use Rattle.bit_slice.proofs.edits.reverse.swap_words.Goals as goal
 
 pub loop-i-preserved : goal.loop-i-preserved
 loop-i-preserved g c =

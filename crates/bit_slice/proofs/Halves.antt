@@ -33,17 +33,17 @@ module _ {X Y : Type 0} (W : store.Ghosts X) (P : order.Ghosts Y) (positive : 0 
       record { halves = rows; front = size; begins = omega (arith, size, skip, div-add-mod' at W.BITS); all = sym (length-append (row W P xs) (row W P ys)) ∙ ap length (sym rows) ∙ row_size W P ws }
 
 -- a run of the front, and a run of the back
-run_of_front : (xs ys : List Bool) (a b : ℕ) → b ≤ length xs → slice_range (xs ++ ys) a b ≡ slice_range xs a b
+pub run_of_front : (xs ys : List Bool) (a b : ℕ) → b ≤ length xs → slice_range (xs ++ ys) a b ≡ slice_range xs a b
 run_of_front xs ys a b h = same_lists _ _ (search (rules, places)) (λ i d below. grind (arith, places))
 
-run_of_back : (xs ys : List Bool) (a n : ℕ) → slice_range (xs ++ ys) (length xs + a) (length xs + a + n) ≡ slice_range ys a (a + n)
+pub run_of_back : (xs ys : List Bool) (a n : ℕ) → slice_range (xs ++ ys) (length xs + a) (length xs + a + n) ≡ slice_range ys a (a + n)
 run_of_back xs ys a n = same_lists _ _ (search (rules, places)) (λ i d below. grind (arith, places))
 
-put_front : (xs ys zs : List Bool) (d : ℕ) → d + length zs ≤ length xs → put xs d zs ++ ys ≡ put (xs ++ ys) d zs
+pub put_front : (xs ys zs : List Bool) (d : ℕ) → d + length zs ≤ length xs → put xs d zs ++ ys ≡ put (xs ++ ys) d zs
 unfolding put
 put_front xs ys zs d h = same_lists _ _ (search (rules, places)) (λ i e below. grind (arith, places))
 
-put_back : (xs ys zs : List Bool) (d : ℕ) → d + length zs ≤ length ys → xs ++ put ys d zs ≡ put (xs ++ ys) (length xs + d) zs
+pub put_back : (xs ys zs : List Bool) (d : ℕ) → d + length zs ≤ length ys → xs ++ put ys d zs ≡ put (xs ++ ys) (length xs + d) zs
 unfolding put
 put_back xs ys zs d h = same_lists _ _ (search (rules, places)) (λ i e below. grind (arith, places))
 

@@ -13,6 +13,7 @@ pub mod Ranges
 pub mod Pieces
 pub mod Sets
 pub mod Turned
+pub mod Reversing
 pub mod Moved
 pub mod Within
 pub mod Halves

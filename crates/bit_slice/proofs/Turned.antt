@@ -26,7 +26,7 @@ turned_bit x n at i zs is h =
     ∙ ap (λ l. get_or l (n - 1 - i) false) is ∙ get_or-run zs at n (n - 1 - i) (omega arith)
 
 -- an item of a run that is reversed
-reversed_item : (zs : List Bool) (at n i : ℕ) → at + n ≤ length zs → i < n → get_or (reverse (slice_range zs at (at + n))) i false ≡ get_or zs (at + (n - 1 - i)) false
+pub reversed_item : (zs : List Bool) (at n i : ℕ) → at + n ≤ length zs → i < n → get_or (reverse (slice_range zs at (at + n))) i false ≡ get_or zs (at + (n - 1 - i)) false
 reversed_item zs at n i room h =
     let b : length (slice_range zs at (at + n)) ≡ n = length-run zs at n room in
     let e : length (slice_range zs at (at + n)) - 1 - i ≡ n - 1 - i = omega (arith, b) in

@@ -10,6 +10,7 @@ pub mod Lends
 pub mod Counted
 pub mod CountedMut
 pub mod Operators
+pub mod Mirrored
 pub mod Comparisons
 pub mod Texts
 pub mod Owned

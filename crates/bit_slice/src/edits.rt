@@ -1,15 +1,18 @@
 //! Runs of bits in words that are changed: flipped, reversed, rotated, and combined
 //! with another run of the same words.
-ghost use Rattle.std.specs.Prelude.{◌≡◌, ◌+◌, ◌-◌, ◌*◌, ◌/◌, ◌^◌, ◌<◌, ◌≤◌, ◌++◌, drop, false, length, map, not, replicate, reverse, slice_range, take, vec_capacity};
+ghost use Rattle.std.specs.Prelude.{◌≡◌, ◌+◌, ◌-◌, ◌*◌, ◌/◌, ◌^◌, ◌<◌, ◌≤◌, ◌++◌, drop, false, length, map, not, replicate, slice_range, take, vec_capacity};
 ghost use Rattle.bit_addressing.specs.declared.length.TheConstants.{MAX_BITS};
 ghost use Rattle.bit_addressing.specs.Row.{put};
 ghost use Rattle.bit_addressing.specs.Typed.{row};
 ghost use Rattle.bit_slice.specs.Operators.{combined};
 
+mod reverse;
+
 use bit_addressing::{
     BitOperator, BitOrder, BitStore, Lsb0, combine_bits, copy_bits, fill_bits, move_bits,
-    read_binary, read_chunk, write_chunk,
+    read_chunk, write_chunk,
 };
+pub use reverse::reverse_words;
 
 /// The bit is true where the old one is and the new one is not.
 pub struct AndNot;
@@ -54,41 +57,6 @@ pub fn flip_in_vec<T: BitStore, O: BitOrder>(words: &mut Vec<T>, from: usize, up
     ensures capacity { vec_capacity words.new ≡ vec_capacity words.old }
 {
     flip_words::<T, O>(words.as_mut_slice(), from, upto);
-}
-
-// Swaps the `n` bits from `front` on and the `n` from `back` on, each run reversed. Requires that the first ends before the other
-// begins, both lie in the words, and `n` is at most 64.
-#[inline(always)]
-fn swap_reversed<T: BitStore, O: BitOrder>(words: &mut [T], front: usize, back: usize, n: u8)
-    requires few { n ≤ 64 }
-    requires apart { front + n ≤ back }
-    requires within { back + n ≤ T.BITS * length words.old }
-    requires fits { back + n < 2 ^ 64 }
-    ensures bits { row T.BitStore O.BitOrder words.new ≡ put (put (row T.BitStore O.BitOrder words.old) front (reverse (slice_range (row T.BitStore O.BitOrder words.old) back (back + n)))) back (reverse (slice_range (row T.BitStore O.BitOrder words.old) front (front + n))) }
-    ensures size { length words.new ≡ length words.old }
-{
-    let lower = read_binary::<T, O>(words, front, n);
-    let upper = read_binary::<T, O>(words, back, n);
-    write_chunk::<T, O>(words, front, n, upper);
-    write_chunk::<T, O>(words, back, n, lower);
-}
-
-/// Reverses the `len` bits of the words' row from `head` on, up to 64 from each end at a time. No other bit changes.
-/// Requires that the run lies in the words.
-pub fn reverse_words<T: BitStore, O: BitOrder>(words: &mut [T], head: usize, len: usize)
-    requires within { head + len ≤ T.BITS * length words.old }
-    requires fits { head + len < 2 ^ 64 }
-    ensures bits { row T.BitStore O.BitOrder words.new ≡ put (row T.BitStore O.BitOrder words.old) head (reverse (slice_range (row T.BitStore O.BitOrder words.old) head (head + len))) }
-    ensures size { length words.new ≡ length words.old }
-{
-    let end = head + len;
-    let pairs = len / 128;
-    for t in 0..pairs {
-        swap_reversed::<T, O>(words, head + t * 64, end - t * 64 - 64, 64);
-    }
-    let (low, high) = (head + pairs * 64, end - pairs * 64);
-    let rest = (high - low) / 2;
-    swap_reversed::<T, O>(words, low, high - rest, rest as u8);
 }
 
 // The bits that a call keeps beside the words, at most: 16 words of 64.

@@ -3,7 +3,7 @@ use Rattle.bit_addressing.specs.Row.{number_bits, put}
 use Rattle.bit_addressing.specs.Typed.{row}
 use Rattle.bit_slice.proofs.Parts.{in_row}
 use Rattle.bit_slice.proofs.Turned.{turned_number}
-use Rattle.bit_slice.proofs.edits.swap_reversed.Goals as goal
+use Rattle.bit_slice.proofs.edits.reverse.swap_reversed.Goals as goal
 
 pub returns-clause-bits : goal.returns-clause-bits
 returns-clause-bits g c =

@@ -2,7 +2,7 @@ use Rattle.std.proofs.Common.{ℕ, ◌+◌, ◌-◌, ◌*◌, ◌/◌, refl, sym
 use Rattle.bit_addressing.specs.Typed.{row}
 use Rattle.bit_slice.proofs.Parts.{in_row}
 use Rattle.bit_slice.proofs.Turned.{IsTurned, turned_none, turned_more, turned_to, turned_all}
-use Rattle.bit_slice.proofs.edits.reverse_words.Goals as goal
+use Rattle.bit_slice.proofs.edits.reverse.reverse_pairs.Goals as goal
 
 pub loop-t-init : goal.loop-t-init
 loop-t-init g c =

@@ -1,7 +1,7 @@
 use Rattle.std.proofs.Common.{◌≡◌, ◌+◌, ◌-◌, ◌*◌, length}
 use Rattle.bit_addressing.specs.Typed.{row}
 use Rattle.bit_slice.proofs.Turned.{IsTurned}
-use Rattle.bit_slice.proofs.edits.reverse_words.Given as goal
+use Rattle.bit_slice.proofs.edits.reverse.reverse_pairs.Given as goal
 
 abbrev pub invariant-loop-t : goal.invariant-loop-t
 invariant-loop-t g l = record {

@@ -1,0 +1,223 @@
+-- Words and rows that are reversed from both ends, and a run of them that is moved to its place.
+use Rattle.std.proofs.Common.{◌≡◌, ℕ, ◌+◌, ◌-◌, ◌*◌, ◌/◌, ◌%◌, ◌<◌, ◌≤◌, Bool, false, List, ◌++◌, map, set, length, get_or, reverse, slice_range, refl, sym, ◌∙◌, ap, inl, inr, arith}
+use Rattle.std.proofs.lemmas.Bool.{cases_lt}
+use Rattle.std.proofs.lemmas.Bool.Decides.{eqb_tells}
+use Rattle.std.proofs.lemmas.List.{ext_get_or, get_or-reverse, get_or-set_same, get_or-set_other, get_or-map, map-set, length-reverse, length-set, length-map, length-append, reverse-append, append_assoc}
+use Rattle.std.proofs.lemmas.Nat.{div-add-mod', div-mul-add, mod-mul-add}
+use Rattle.std.proofs.Math.Nat.{mod-lt}
+use Rattle.bit_addressing.specs.Bits.{has_bit}
+use Rattle.bit_addressing.specs.Order.{IsPermutation}
+use Rattle.bit_addressing.specs.Row.{moved, number_bits, number_of, put, row_of}
+use Rattle.bit_addressing.specs.Typed.{row}
+use Rattle.bit_addressing.specs.declared.store.BitStore as store
+use Rattle.bit_addressing.specs.declared.order.BitOrder as order
+use Rattle.bit_addressing.proofs.Rows.{word_below, length-row_of, get_or-row_of, same_rows}
+use Rattle.bit_addressing.proofs.Shifts.{put_moved}
+use Rattle.bit_addressing.proofs.lists.Put.{length-put, put_before, put_inside, put_behind}
+use Rattle.bit_addressing.proofs.lists.Shown.{length-run, get_or-run}
+use Rattle.bit_slice.specs.Mirrored.{IsMirrored}
+use Rattle.bit_slice.proofs.Halves.{row_halves, run_of_front, run_of_back, put_front, put_back}
+use Rattle.bit_slice.proofs.Turned.{reversed_item}
+use Rattle.bit_slice.proofs.Writing.{bits_of_number}
+
+-- the place as far from the end of n words as j is from their beginning
+across : (w n j : ℕ) → 0 < w → j < w * n → w * n - 1 - j ≡ (n - 1 - j / w) * w + (w - 1 - j % w)
+across w n j positive below =
+    let d = div-add-mod' j w in
+    let l : j / w < n = word_below w j n positive below in
+    let e : n ≡ n - 1 - j / w + j / w + 1 = omega (arith, l) in
+    let f : w * (n - 1 - j / w + j / w + 1) ≡ (n - 1 - j / w) * w + j / w * w + w = grind arith in
+    let g : w * n ≡ (n - 1 - j / w) * w + j / w * w + w = ap (λ k. w * k) e ∙ f in
+    omega (arith, d, g, mod-lt j positive, below)
+
+module _ (place : ℕ → ℕ → ℕ) (w : ℕ) (positive : 0 < w) (lawful : IsPermutation w (place w)) (mirrored : IsMirrored w (place w)) where
+  -- words that are those of others from the end, each reversed
+  pub reversed_row : (xs ys : List ℕ) → length xs ≡ length ys → ((k p : ℕ) → k < length ys → p < w → has_bit (get_or xs k 0) p ≡ has_bit (get_or ys (length ys - 1 - k) 0) (w - 1 - p)) → row_of place w xs ≡ reverse (row_of place w ys)
+  reversed_row xs ys same turned =
+      let size : length (row_of place w ys) ≡ w * length ys = length-row_of place w ys in
+      let count : w * length xs ≡ w * length ys = ap (λ k. w * k) same in
+      same_rows place w xs (reverse (row_of place w ys)) (length-reverse (row_of place w ys) ∙ size ∙ sym count)
+      (λ j h.
+      let below : j < w * length ys = omega (arith, h, count) in
+      let word : j / w < length ys = word_below w j (length ys) positive below in
+      let inside : j % w < w = mod-lt j positive in
+      let at : w * length ys - 1 - j ≡ (length ys - 1 - j / w) * w + (w - 1 - j % w) = across w (length ys) j positive below in
+      let quotient : (w * length ys - 1 - j) / w ≡ length ys - 1 - j / w = ap (λ k. k / w) at ∙ div-mul-add (length ys - 1 - j / w) w (w - 1 - j % w) (omega (arith, positive)) in
+      let rest : (w * length ys - 1 - j) % w ≡ w - 1 - j % w = ap (λ k. k % w) at ∙ mod-mul-add (length ys - 1 - j / w) w (w - 1 - j % w) (omega (arith, positive)) in
+      turned (j / w) (place w (j % w)) word (lawful.in_range (j % w) inside)
+      ∙ ap (has_bit (get_or ys (length ys - 1 - j / w) 0)) (sym (mirrored (j % w) inside) ∙ ap (place w) (sym rest))
+      ∙ ap (λ k. has_bit (get_or ys k 0) (place w ((w * length ys - 1 - j) % w))) (sym quotient)
+      ∙ sym (get_or-row_of place w ys (w * length ys - 1 - j) (omega (arith, below)))
+      ∙ ap (λ k. get_or (row_of place w ys) (k - 1 - j) false) (sym size)
+      ∙ sym (get_or-reverse (row_of place w ys) j false (omega (arith, below, size))))
+
+  module _ {X : Type 0} (value : X → ℕ) (words : List X) where
+    pub no_word_reversed : length words ≡ 0 → row_of place w (map value words) ≡ reverse (row_of place w (map value words))
+    no_word_reversed none = reversed_row (map value words) (map value words) refl (λ k p h q. absurd (omega (arith, h, none, length-map words value)))
+
+    pub one_word_reversed : (old new : X) → length words ≡ 1 → old ≡ get_or words 0 old → ((p : ℕ) → p < w → has_bit (value new) p ≡ has_bit (value old) (w - 1 - p)) → row_of place w (map value (set words 0 new)) ≡ reverse (row_of place w (map value words))
+    one_word_reversed old new one read turned =
+        let size : length (map value words) ≡ length words = length-map words value in
+        let here : value old ≡ get_or (map value words) 0 0 = ap value read ∙ sym (get_or-map value words 0 old 0 (omega (arith, one))) in
+        ap (row_of place w) (map-set value words 0 new)
+        ∙ reversed_row (set (map value words) 0 (value new)) (map value words) (length-set (map value words) 0 (value new))
+        (λ k p h q.
+        let first : k ≡ 0 = omega (arith, h, size, one) in
+        let last : length (map value words) - 1 - 0 ≡ 0 = omega (arith, size, one) in
+        rw (first, last, get_or-set_same (map value words) 0 (value new) 0 (omega (arith, size, one))) (turned p q ∙ ap (λ x. has_bit x (w - 1 - p)) here))
+
+-- the first n words of a front and the last n of a back have changed places, each reversed
+pub record IsExchanged (w : ℕ) (low high new_low new_high : List ℕ) (n : ℕ) : Type 0 where
+  pub low_size : length new_low ≡ length low
+  pub high_size : length new_high ≡ length high
+  pub low_done : (k p : ℕ) → k < n → p < w → has_bit (get_or new_low k 0) p ≡ has_bit (get_or high (length high - 1 - k) 0) (w - 1 - p)
+  pub high_done : (k p : ℕ) → k < n → p < w → has_bit (get_or new_high (length high - 1 - k) 0) p ≡ has_bit (get_or low k 0) (w - 1 - p)
+  pub low_rest : (k : ℕ) → n ≤ k → get_or new_low k 0 ≡ get_or low k 0
+  pub high_rest : (k : ℕ) → n ≤ k → k < length high → get_or new_high (length high - 1 - k) 0 ≡ get_or high (length high - 1 - k) 0
+
+exchange_step : (w : ℕ) (low high new_low new_high : List ℕ) (n u v : ℕ) → length low ≡ length high → n < length high → IsExchanged w low high new_low new_high n
+    → ((p : ℕ) → p < w → has_bit u p ≡ has_bit (get_or new_high (length high - 1 - n) 0) (w - 1 - p))
+    → ((p : ℕ) → p < w → has_bit v p ≡ has_bit (get_or new_low n 0) (w - 1 - p))
+    → IsExchanged w low high (set new_low n u) (set new_high (length high - 1 - n) v) (n + 1)
+exchange_step w low high new_low new_high n u v same below so_far from_high from_low =
+    let size = so_far.low_size in
+    let high_size = so_far.high_size in
+    record {
+      low_size = length-set new_low n u ∙ size;
+      high_size = length-set new_high (length high - 1 - n) v ∙ high_size;
+      low_done = λ k p h q. elim (eqb_tells k n) [
+        | inl e ↦ rw (e.1, get_or-set_same new_low n u 0 (omega (arith, size, same, below))) (from_high p q ∙ ap (λ x. has_bit x (w - 1 - p)) (so_far.high_rest n (omega arith) below))
+        | inr e ↦ ap (λ x. has_bit x p) (get_or-set_other new_low n k u 0 e.1) ∙ so_far.low_done k p (omega arith) q
+      ];
+      high_done = λ k p h q. elim (eqb_tells k n) [
+        | inl e ↦ rw (e.1, get_or-set_same new_high (length high - 1 - n) v 0 (omega (arith, high_size, below))) (from_low p q ∙ ap (λ x. has_bit x (w - 1 - p)) (so_far.low_rest n (omega arith)))
+        | inr e ↦ ap (λ x. has_bit x p) (get_or-set_other new_high (length high - 1 - n) (length high - 1 - k) v 0 (omega arith)) ∙ so_far.high_done k p (omega arith) q
+      ];
+      low_rest = λ k h. get_or-set_other new_low n k u 0 (omega arith) ∙ so_far.low_rest k (omega arith);
+      high_rest = λ k h l. get_or-set_other new_high (length high - 1 - n) (length high - 1 - k) v 0 (omega arith) ∙ so_far.high_rest k (omega arith) l;
+    }
+
+module _ {X : Type 0} (value : X → ℕ) (w : ℕ) where
+  -- one pair of words more
+  pub exchange_word : (low high new_low new_high : List X) (n j : ℕ) (old_low old_high u v : X) → length low ≡ length high → n < length high → j ≡ length high - 1 - n
+      → IsExchanged w (map value low) (map value high) (map value new_low) (map value new_high) n
+      → old_low ≡ get_or new_low n old_low → old_high ≡ get_or new_high j old_high
+      → ((p : ℕ) → p < w → has_bit (value u) p ≡ has_bit (value old_high) (w - 1 - p))
+      → ((p : ℕ) → p < w → has_bit (value v) p ≡ has_bit (value old_low) (w - 1 - p))
+      → IsExchanged w (map value low) (map value high) (map value (set new_low n u)) (map value (set new_high j v)) (n + 1)
+  exchange_word low high new_low new_high n j old_low old_high u v same below at so_far read_low read_high from_high from_low =
+      let size : length (map value high) ≡ length high = length-map high value in
+      let size_low : length (map value low) ≡ length low = length-map low value in
+      let size_new : length (map value new_low) ≡ length new_low = length-map new_low value in
+      let size_new_high : length (map value new_high) ≡ length new_high = length-map new_high value in
+      let kept = so_far.low_size in
+      let kept_high = so_far.high_size in
+      let e : j ≡ length (map value high) - 1 - n = omega (arith, at, size) in
+      let low_is : value old_low ≡ get_or (map value new_low) n 0 = ap value read_low ∙ sym (get_or-map value new_low n old_low 0 (omega (arith, kept, size, size_low, size_new, same, below))) in
+      let high_is : value old_high ≡ get_or (map value new_high) (length (map value high) - 1 - n) 0 = ap value read_high ∙ sym (get_or-map value new_high j old_high 0 (omega (arith, kept_high, size, size_new_high, at, below))) ∙ ap (λ k. get_or (map value new_high) k 0) e in
+      rw (map-set, map-set, e) (exchange_step w (map value low) (map value high) (map value new_low) (map value new_high) n (value u) (value v) (omega (arith, size, size_low, same)) (omega (arith, size, below)) so_far
+      (λ p h. from_high p h ∙ ap (λ x. has_bit x (w - 1 - p)) high_is) (λ p h. from_low p h ∙ ap (λ x. has_bit x (w - 1 - p)) low_is))
+
+module _ (place : ℕ → ℕ → ℕ) (w : ℕ) (positive : 0 < w) (lawful : IsPermutation w (place w)) (mirrored : IsMirrored w (place w)) (low high new_low new_high : List ℕ) (n : ℕ) (same : length low ≡ length high) (most : length high ≤ n) (all : IsExchanged w low high new_low new_high n) where
+  pub low_reversed : row_of place w new_low ≡ reverse (row_of place w high)
+  low_reversed = reversed_row place w positive lawful mirrored new_low high (all.low_size ∙ same) (λ k p h q. all.low_done k p (omega arith) q)
+
+  pub high_reversed : row_of place w new_high ≡ reverse (row_of place w low)
+  high_reversed = reversed_row place w positive lawful mirrored new_high low (all.high_size ∙ sym same)
+      (λ k p h q.
+      let at : length high - 1 - (length low - 1 - k) ≡ k = omega (arith, same, h) in
+      ap (λ i. has_bit (get_or new_high i 0) p) (sym at) ∙ all.high_done (length low - 1 - k) p (omega (arith, same, most, h)) q)
+
+-- a run of a list that is reversed
+reversed_run : (xs : List Bool) (before len after : ℕ) → before + len + after ≡ length xs → slice_range (reverse xs) after (after + len) ≡ reverse (slice_range xs before (before + len))
+reversed_run xs before len after whole =
+    let size : length (reverse xs) ≡ length xs = length-reverse xs in
+    let a : length (slice_range (reverse xs) after (after + len)) ≡ len = length-run (reverse xs) after len (omega (arith, size, whole)) in
+    let b : length (reverse (slice_range xs before (before + len))) ≡ len = length-reverse (slice_range xs before (before + len)) ∙ length-run xs before len (omega (arith, whole)) in
+    ext_get_or false (slice_range (reverse xs) after (after + len)) (reverse (slice_range xs before (before + len))) (a ∙ sym b)
+    (λ i h.
+    let at : length xs - 1 - (after + i) ≡ before + (len - 1 - i) = omega (arith, whole, a, h) in
+    get_or-run (reverse xs) after len i (omega (arith, a, h)) ∙ get_or-reverse xs (after + i) false (omega (arith, whole, a, h)) ∙ ap (λ k. get_or xs k false) at
+    ∙ sym (reversed_item xs before len i (omega (arith, whole)) (omega (arith, a, h))))
+
+-- a list is reversed, a run is moved to its place, and what stood around it is put back
+module _ (xs : List Bool) (before len after : ℕ) (whole : before + len + after ≡ length xs) where
+  abbrev front : List Bool
+  front = slice_range xs 0 (0 + before)
+
+  abbrev back : List Bool
+  back = slice_range xs (before + len) (before + len + after)
+
+  abbrev turned : List Bool
+  turned = reverse (slice_range xs before (before + len))
+
+  put_around : put (put (moved (reverse xs) after before len) 0 front) (before + len) back ≡ put xs before turned
+  put_around =
+      let size : length (reverse xs) ≡ length xs = length-reverse xs in
+      let f : length front ≡ before = length-run xs 0 before (omega (arith, whole)) in
+      let b : length back ≡ after = length-run xs (before + len) after (omega (arith, whole)) in
+      let t : length turned ≡ len = length-reverse (slice_range xs before (before + len)) ∙ length-run xs before len (omega (arith, whole)) in
+      let l1 : length (put (reverse xs) before turned) ≡ length xs = length-put (reverse xs) turned before (omega (arith, size, t, whole)) ∙ size in
+      let l2 : length (put (put (reverse xs) before turned) 0 front) ≡ length xs = length-put (put (reverse xs) before turned) front 0 (omega (arith, l1, f, whole)) ∙ l1 in
+      let l3 : length (put (put (put (reverse xs) before turned) 0 front) (before + len) back) ≡ length xs = length-put (put (put (reverse xs) before turned) 0 front) back (before + len) (omega (arith, l2, b, whole)) ∙ l2 in
+      let l4 : length (put xs before turned) ≡ length xs = length-put xs turned before (omega (arith, t, whole)) in
+      ap (λ l. put (put l 0 front) (before + len) back)
+      (sym (put_moved (reverse xs) after before len (omega (arith, size, whole)) (omega (arith, size, whole))) ∙ ap (put (reverse xs) before) (reversed_run xs before len after whole))
+      ∙ ext_get_or false (put (put (put (reverse xs) before turned) 0 front) (before + len) back) (put xs before turned) (l3 ∙ sym l4)
+      (λ j h. elim (cases_lt j (before + len)) [
+        | inl k ↦ put_before (put (put (reverse xs) before turned) 0 front) back (before + len) j false (omega (arith, l2, whole)) k ∙ elim (cases_lt j before) [
+          | inl l ↦
+              let at : 0 + (j - 0) ≡ j = omega arith in
+              put_inside (put (reverse xs) before turned) front 0 j false (omega arith) (omega arith) (omega (arith, f, l))
+              ∙ get_or-run xs 0 before (j - 0) (omega (arith, l)) ∙ ap (λ i. get_or xs i false) at ∙ sym (put_before xs turned before j false (omega (arith, whole)) l)
+          | inr l ↦
+              put_behind (put (reverse xs) before turned) front 0 j false (omega (arith, l1, f, whole)) (omega (arith, f, l))
+              ∙ put_inside (reverse xs) turned before j false (omega (arith, size, whole)) l (omega (arith, t, k))
+              ∙ sym (put_inside xs turned before j false (omega (arith, whole)) l (omega (arith, t, k)))
+        ]
+        | inr k ↦
+            let at : before + len + (j - (before + len)) ≡ j = omega (arith, k) in
+            put_inside (put (put (reverse xs) before turned) 0 front) back (before + len) j false (omega (arith, l2, whole)) k (omega (arith, l3, b, h, whole))
+            ∙ get_or-run xs (before + len) after (j - (before + len)) (omega (arith, l3, h, k, whole)) ∙ ap (λ i. get_or xs i false) at
+            ∙ sym (put_behind xs turned before j false (omega (arith, t, whole)) (omega (arith, t, k)))
+      ])
+
+  -- the same in steps, where what stood around the run was kept as numbers
+  pub put_back_around : (all shifted begun new : List Bool) (f b : ℕ) → all ≡ reverse xs → shifted ≡ moved all after before len → f ≡ number_of front → b ≡ number_of back
+      → begun ≡ put shifted 0 (number_bits f before) → new ≡ put begun (before + len) (number_bits b after) → new ≡ put xs before turned
+  put_back_around all shifted begun new f b is_all is_shifted is_f is_b is_begun is_new =
+      let begins : number_bits f before ≡ front = ap (λ x. number_bits x before) is_f ∙ bits_of_number front before (length-run xs 0 before (omega (arith, whole))) in
+      let ends : number_bits b after ≡ back = ap (λ x. number_bits x after) is_b ∙ bits_of_number back after (length-run xs (before + len) after (omega (arith, whole))) in
+      let moves : shifted ≡ moved (reverse xs) after before len = is_shifted ∙ ap (λ l. moved l after before len) is_all in
+      let fronts : begun ≡ put (moved (reverse xs) after before len) 0 front = is_begun ∙ ap (put shifted 0) begins ∙ ap (λ l. put l 0 front) moves in
+      is_new ∙ ap (put begun (before + len)) ends ∙ ap (λ l. put l (before + len) back) fronts ∙ put_around
+
+-- the parts of a list, each reversed, in the other order
+thirds_reversed : (xs ys zs : List Bool) → (reverse zs ++ reverse ys) ++ reverse xs ≡ reverse ((xs ++ ys) ++ zs)
+thirds_reversed xs ys zs = append_assoc (reverse zs) (reverse ys) (reverse xs) ∙ ap (λ l. reverse zs ++ l) (sym (reverse-append xs ys)) ∙ sym (reverse-append (xs ++ ys) zs)
+
+module _ {X Y : Type 0} (W : store.Ghosts X) (P : order.Ghosts Y) (positive : 0 < W.BITS) where
+  row_thirds : (xs ys zs : List X) → row W P ((xs ++ ys) ++ zs) ≡ (row W P xs ++ row W P ys) ++ row W P zs
+  row_thirds xs ys zs = row_halves W P positive (xs ++ ys) zs ∙ ap (λ l. l ++ row W P zs) (row_halves W P positive xs ys)
+
+  -- words whose front and back have changed places, each part reversed
+  pub all_reversed : (ws begin low middle high new_low new_middle new_high : List X) → ws ≡ begin ++ high → begin ≡ low ++ middle
+      → row W P new_low ≡ reverse (row W P high) → row W P new_middle ≡ reverse (row W P middle) → row W P new_high ≡ reverse (row W P low)
+      → row W P ((new_low ++ new_middle) ++ new_high) ≡ reverse (row W P ws)
+  all_reversed ws begin low middle high new_low new_middle new_high whole begins is_low is_middle is_high =
+      row_thirds new_low new_middle new_high
+      ∙ ap (λ l. (l ++ row W P new_middle) ++ row W P new_high) is_low ∙ ap (λ l. (reverse (row W P high) ++ l) ++ row W P new_high) is_middle ∙ ap (λ l. (reverse (row W P high) ++ reverse (row W P middle)) ++ l) is_high
+      ∙ thirds_reversed (row W P low) (row W P middle) (row W P high)
+      ∙ ap reverse (sym (row_thirds low middle high) ∙ ap (λ l. row W P (l ++ high)) (sym begins) ∙ ap (row W P) (sym whole))
+
+-- a run that is reversed in a part of a list
+pub reversed_within : (whole xs ys zs new : List Bool) (head d len : ℕ) → whole ≡ xs ++ (ys ++ zs) → head ≡ length xs + d → d + len ≤ length ys
+    → new ≡ put ys d (reverse (slice_range ys d (d + len))) → xs ++ (new ++ zs) ≡ put whole head (reverse (slice_range whole head (head + len)))
+reversed_within whole xs ys zs new head d len is begins inside made =
+    let us : List Bool = reverse (slice_range ys d (d + len)) in
+    let size : length us ≡ len = length-reverse (slice_range ys d (d + len)) ∙ length-run ys d len inside in
+    let more : length (ys ++ zs) ≡ length ys + length zs = length-append ys zs in
+    let run : slice_range whole head (head + len) ≡ slice_range ys d (d + len) =
+    ap (λ l. slice_range l head (head + len)) is ∙ ap (λ k. slice_range (xs ++ (ys ++ zs)) k (k + len)) begins ∙ run_of_back xs (ys ++ zs) d len ∙ run_of_front ys zs d (d + len) inside in
+    ap (λ l. xs ++ (l ++ zs)) made ∙ ap (λ l. xs ++ l) (put_front ys zs us d (omega (arith, size, inside)))
+    ∙ put_back xs (ys ++ zs) us d (omega (arith, size, more, inside)) ∙ ap (λ k. put (xs ++ (ys ++ zs)) k us) (sym begins) ∙ ap (λ l. put l head us) (sym is) ∙ ap (λ l. put whole head (reverse l)) (sym run)

@@ -68,6 +68,10 @@ first_is b xs n k size found =
 get_or-between : (xs : List Bool) (a b i : ℕ) → i < b - a → get_or (slice_range xs a b) i false ≡ get_or xs (a + i) false
 get_or-between xs a b i h = get_or-take (b - a) (drop a xs) i false h ∙ get_or-drop a xs i false
 
+-- each of 64 equal bits
+pub equal_bits : (b : Bool) (x p : ℕ) → x ≡ (if b then 2 ^ 64 - 1 else 0) → p < 64 → has_bit x p ≡ b
+equal_bits b x p is h = ap (λ n. has_bit n p) (all_bits b 64 x (omega arith) is) ∙ has_number (replicate 64 b) p ∙ get_or-replicate 64 p b false h
+
 -- the first s bits of a run are the other bit alone
 module _ (xs : List Bool) (from s upto : ℕ) (bit : Bool) (later : from + s ≤ upto) (inside : upto ≤ length xs) (passed : slice_range xs from (from + s) ≡ replicate s (not bit)) where
   pub none_after : slice_range xs (from + s) upto ≡ replicate (upto - (from + s)) (not bit) → slice_range xs from upto ≡ replicate (upto - from) (not bit)
@@ -91,6 +95,15 @@ module _ (xs : List Bool) (from s upto : ℕ) (bit : Bool) (later : from + s ≤
               ap (λ n. get_or xs n false) e ∙ sym (get_or-between xs (from + s) upto (i - s) (omega arith)) ∙ found.before (i - s) (omega arith)
         ];
       }
+
+-- two runs of the other bit, one after the other
+pub others_after : (xs : List Bool) (from s m : ℕ) (bit : Bool) → from + s + m ≤ length xs → slice_range xs from (from + s) ≡ replicate s (not bit) → slice_range xs (from + s) (from + s + m) ≡ replicate m (not bit) → slice_range xs from (from + (s + m)) ≡ replicate (s + m) (not bit)
+others_after xs from s m bit room first second =
+    let upto : ℕ = from + s + m in
+    let end : from + (s + m) ≡ upto = omega arith in
+    let rest : m ≡ upto - (from + s) = omega arith in
+    let all : upto - from ≡ s + m = omega arith in
+    ap (slice_range xs from) end ∙ none_after xs from s upto bit (omega arith) room first (second ∙ ap (λ n. replicate n (not bit)) rest) ∙ ap (λ n. replicate n (not bit)) all
 
 module _ (xs : List Bool) (from upto : ℕ) (bit : Bool) (ordered : from ≤ upto) (inside : upto ≤ length xs) where
   abbrev others : List Bool
@@ -127,5 +140,4 @@ module _ (xs : List Bool) (from upto : ℕ) (bit : Bool) (ordered : from ≤ upt
   pub block_more : (place : ℕ → ℕ → ℕ) (k a v : ℕ) → IsPermutation 64 (place 64) → k + 64 ≤ upto - from → a ≡ from + k → row_of place 64 (v ∷ []) ≡ slice_range xs a (a + 64) → v ≡ (if not bit then 2 ^ 64 - 1 else 0) → AreAlike xs (replicate (upto - from) (not bit)) from 0 k
       → AreAlike xs (replicate (upto - from) (not bit)) from 0 (k + 64)
   block_more place k a v lawful few at read is alike =
-      let bits : (p : ℕ) → p < 64 → has_bit v p ≡ not bit = λ p h. ap (λ n. has_bit n p) (all_bits (not bit) 64 v (omega arith) is) ∙ has_number (replicate 64 (not bit)) p ∙ get_or-replicate 64 p (not bit) false h in
-      alike_run xs others from 0 k 64 a (0 + k) at refl (sym read ∙ row_repeated place 64 v (not bit) (omega arith) lawful bits ∙ sym (run_of_one (upto - from) (0 + k) 64 (not bit) (omega arith))) alike
+      alike_run xs others from 0 k 64 a (0 + k) at refl (sym read ∙ row_repeated place 64 v (not bit) (omega arith) lawful (λ p h. equal_bits (not bit) v p is h) ∙ sym (run_of_one (upto - from) (0 + k) 64 (not bit) (omega arith))) alike

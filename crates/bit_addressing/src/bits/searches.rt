@@ -401,6 +401,55 @@ fn blocks_without<T: BitStore, O: BitOrder>(
     blocks
 }
 
+/// How many of the first `count` words from word `k` on have the bit of `other` alone, by turns of `each` words up
+/// to one that does not. A turn is tested once, so that the compiler takes its words side by side (docs/SPEED.md,
+/// "Small vectors, arrays, texts and searches", any). Requires that all bits of `other` are the same, and that the
+/// words are there.
+fn turns_without<T: BitStore, O: BitOrder>(
+    words: &[T],
+    k: usize,
+    count: usize,
+    each: usize,
+    other: T,
+) -> usize
+    requires some { 0 < each }
+    requires within { k + count ≤ length words.now }
+    requires same { (p : ℕ) → p < T.BITS → has_bit (T.value other) p ≡ has_bit (T.value other) 0 }
+    ensures most { result ≤ count }
+    ensures others { slice_range (row T.BitStore O.BitOrder words.now) (k * T.BITS) (k * T.BITS + result * T.BITS)
+        ≡ replicate (result * T.BITS) (has_bit (T.value other) 0) }
+{
+    for t in 0..count / each {
+        let done = t * each;
+        let mut apart = T::ZERO;
+        for i in 0..each {
+            apart = apart.or(words[k + (done + i)].xor(other));
+        }
+        if apart.to_u64() != 0 {
+            return done;
+        }
+    }
+    count / each * each
+}
+
+/// How many bits, from place `from` on, have the other bit alone, by turns of 1024 up to one that does not. Tells 0
+/// of a run that doesn't begin with a word. Requires that `from` is at most `upto`, which is at most the row's length.
+fn bits_without<T: BitStore, O: BitOrder>(words: &[T], from: usize, upto: usize, bit: bool) -> usize
+    requires ordered { from ≤ upto }
+    requires within { upto ≤ T.BITS * length words.now }
+    ensures few { result ≤ upto - from }
+    ensures others { slice_range (row T.BitStore O.BitOrder words.now) from (from + result)
+        ≡ replicate result (not bit) }
+{
+    let width = T::BITS as usize;
+    if from % width != 0 {
+        return 0;
+    }
+    let other = T::from_u64(if bit { 0 } else { u64::MAX });
+    let count = (upto - from) / width;
+    turns_without::<T, O>(words, from / width, count, 1024 / width, other) * width
+}
+
 /// Like `find_bit`, by chunks of 64 bits.
 fn find_by_chunks<T: BitStore, O: BitOrder>(
     words: &[T],
@@ -434,6 +483,23 @@ fn find_by_chunks<T: BitStore, O: BitOrder>(
     Some(done + apart.trailing_zeros() as usize)
 }
 
+/// How many bits, from place `from` on, have the other bit alone: up to 1024 by blocks of 64, and those after them by
+/// turns of 1024 and then by blocks. Requires that `from` is at most `upto`, which is at most the row's length.
+fn bits_passed<T: BitStore, O: BitOrder>(words: &[T], from: usize, upto: usize, bit: bool) -> usize
+    requires ordered { from ≤ upto }
+    requires within { upto ≤ T.BITS * length words.now }
+    ensures few { result ≤ upto - from }
+    ensures others { slice_range (row T.BitStore O.BitOrder words.now) from (from + result)
+        ≡ replicate result (not bit) }
+{
+    let near = blocks_without::<T, O>(words, from, from + (upto - from).min(1024), bit) * 64;
+    if near < 1024 {
+        return near;
+    }
+    let far = near + bits_without::<T, O>(words, from + near, upto, bit);
+    far + blocks_without::<T, O>(words, from + far, upto, bit) * 64
+}
+
 /// Like `find_bit`, by blocks and then by chunks of 64 bits.
 #[inline(never)]
 fn find_after<T: BitStore, O: BitOrder>(
@@ -448,7 +514,7 @@ fn find_after<T: BitStore, O: BitOrder>(
         (slice_range (row T.BitStore O.BitOrder words.now) from upto ≡ replicate (upto - from) (not bit))
         (λ k. IsFirst bit (slice_range (row T.BitStore O.BitOrder words.now) from upto) k) }
 {
-    let passed = blocks_without::<T, O>(words, from, upto, bit) * 64;
+    let passed = bits_passed::<T, O>(words, from, upto, bit);
     let Some(at) = find_by_chunks::<T, O>(words, from + passed, upto, bit) else {
         return None;
     };

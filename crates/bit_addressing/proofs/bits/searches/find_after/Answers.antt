@@ -8,12 +8,12 @@ pub returns-in_default : goal.returns-in_default
 returns-in_default g c =
     let xs = row g.T.BitStore g.O.BitOrder c.args.words.now in
     let size : length xs ≡ g.T.BitStore.BITS * length c.args.words.now = length_row g.T.BitStore.value g.O.BitOrder.place g.T.BitStore.BITS c.args.words.now in
-    let few = c.blocks_without-passed.ensures.few in
-    none_after xs c.args.from (c.blocks_without-passed.result * 64) c.args.upto c.args.bit (omega arith) (omega arith) c.blocks_without-passed.ensures.others c.in_default.ensures
+    let few = c.bits_passed-passed.ensures.few in
+    none_after xs c.args.from c.bits_passed-passed.result c.args.upto c.args.bit (omega arith) (omega arith) c.bits_passed-passed.ensures.others c.in_default.ensures
 
 pub returns : goal.returns
 returns g c =
     let xs = row g.T.BitStore g.O.BitOrder c.args.words.now in
     let size : length xs ≡ g.T.BitStore.BITS * length c.args.words.now = length_row g.T.BitStore.value g.O.BitOrder.place g.T.BitStore.BITS c.args.words.now in
-    let few = c.blocks_without-passed.ensures.few in
-    first_after xs c.args.from (c.blocks_without-passed.result * 64) c.args.upto c.args.bit (omega arith) (omega arith) c.blocks_without-passed.ensures.others c.in-Some.at c.in-Some.ensures
+    let few = c.bits_passed-passed.ensures.few in
+    first_after xs c.args.from c.bits_passed-passed.result c.args.upto c.args.bit (omega arith) (omega arith) c.bits_passed-passed.ensures.others c.in-Some.at c.in-Some.ensures

@@ -1,78 +1,36 @@
 -- Digits of groups of bits.
-use Rattle.std.proofs.Common.{◌≡◌, ℕ, zero, suc, ◌+◌, ◌-◌, ◌*◌, ◌/◌, ◌<◌, ◌≤◌, Bool, true, false, cond, List, [], ◌∷◌, ◌++◌, length, take, drop, get_or, slice_range, min, refl, ap, sym, ◌∙◌, arith}
+use Rattle.std.proofs.Common.{◌≡◌, ℕ, zero, suc, ◌+◌, ◌-◌, ◌*◌, ◌/◌, ◌%◌, ◌^◌, ◌<◌, ◌≤◌, Bool, List, [], ◌∷◌, ◌++◌, length, take, drop, slice_range, min, mod-lt, refl, ap, sym, ◌∙◌, arith, rules}
 use Rattle.std.proofs.Common.{inl, inr}
 use Rattle.std.proofs.lemmas.Bool.{cases_lt}
 use Rattle.std.proofs.Math.Nat.{mul-le-mul_left}
-use Rattle.std.proofs.lemmas.List.{length-take, length-drop, take_all, take-take, drop-drop, drop-take, ext_get_or}
+use Rattle.std.proofs.lemmas.List.{length-drop, take_all, take-take, drop-drop, drop-take, same_lists, places}
+use Rattle.std.proofs.lemmas.Nat.{pow_pos}
 use Rattle.std.specs.Fmt.{digit_glyph}
-use Rattle.std.proofs.lemmas.List.Edits.{between_more}
-use Rattle.std.proofs.lemmas.List.FromFn.{length-map-range_with_len, get_or-map-range_with_len}
-use Rattle.bit_addressing.specs.Bits.{has_bit}
-use Rattle.bit_addressing.specs.Row.{number_bits, number_of, words_for}
-use Rattle.bit_addressing.specs.Text.{digit_of}
-use Rattle.bit_addressing.proofs.Chunks.{has_number}
-use Rattle.bit_addressing.proofs.lists.Shown.{get_or-run, length-run}
+use Rattle.bit_addressing.specs.Row.{binary, words_for}
 use Rattle.bit_addressing.proofs.lists.Sized.{room}
 use Rattle.bit_slice.specs.Texts.{IsDigitSize, digits_from}
 use Rattle.bit_addressing.specs.Binary.{value_after}
-use Rattle.bit_addressing.proofs.Binary.{value_one_more}
+use Rattle.bit_addressing.proofs.Binary.{binary_parted, length-binary, value_of_binary}
 
 -- ---- the number of a group
 
--- a group of at most three bits is a number below 8
-pub three_below : (xs : List Bool) → length xs ≤ 3 → value_after 0 xs < 8
-three_below [] h = omega arith
-three_below (true ∷ []) h = omega arith
-three_below (false ∷ []) h = omega arith
-three_below (true ∷ true ∷ []) h = omega arith
-three_below (true ∷ false ∷ []) h = omega arith
-three_below (false ∷ true ∷ []) h = omega arith
-three_below (false ∷ false ∷ []) h = omega arith
-three_below (true ∷ true ∷ true ∷ []) h = omega arith
-three_below (true ∷ true ∷ false ∷ []) h = omega arith
-three_below (true ∷ false ∷ true ∷ []) h = omega arith
-three_below (true ∷ false ∷ false ∷ []) h = omega arith
-three_below (false ∷ true ∷ true ∷ []) h = omega arith
-three_below (false ∷ true ∷ false ∷ []) h = omega arith
-three_below (false ∷ false ∷ true ∷ []) h = omega arith
-three_below (false ∷ false ∷ false ∷ []) h = omega arith
-three_below (w ∷ x ∷ y ∷ z ∷ xs) h = let size : length (w ∷ x ∷ y ∷ z ∷ xs) ≡ suc (suc (suc (suc (length xs)))) = refl in absurd (omega arith)
+-- the second of three parts
+middle : (xs bs cs : List Bool) (i k : ℕ) → length xs ≡ i → length bs ≡ k → slice_range ((xs ++ bs) ++ cs) i (i + k) ≡ bs
+middle xs bs cs i k a b = same_lists _ _ (search (rules, places)) (λ j e below. grind (arith, places))
 
-step_below : (m : ℕ) (b : Bool) → m < 8 → m * 2 + cond b 1 0 < 16
-step_below m true h = omega arith
-step_below m false h = omega arith
-
-less_48 : (b : Bool) → digit_of b - 48 ≡ cond b 1 0
-less_48 true = refl
-less_48 false = refl
-
-size_64 : (x : ℕ) → length (number_bits x 64) ≡ 64
-unfolding number_bits
-size_64 x = length-map-range_with_len (has_bit x) 0 64
-
-bit_64 : (x k : ℕ) → k < 64 → get_or (number_bits x 64) k false ≡ has_bit x k
-unfolding number_bits
-bit_64 x k h = get_or-map-range_with_len (has_bit x) 0 64 k k false h (omega arith)
-
-pub size_of_run : (x from upto : ℕ) → upto ≤ 64 → length (slice_range (number_bits x 64) from upto) ≡ upto - from
-size_of_run x from upto h =
-    length-take (upto - from) (drop from (number_bits x 64)) ∙ ap (min (upto - from)) (length-drop from (number_bits x 64) ∙ ap (λ n. n - from) (size_64 x)) ∙ omega arith
-
--- one bit more
-module _ (x from k v : ℕ) (begins : from ≤ k) (within : k < 64) (is : v ≡ value_after 0 (slice_range (number_bits x 64) from k)) where
-  pub next_number : v * 2 + (digit_of (has_bit x k) - 48) ≡ value_after 0 (slice_range (number_bits x 64) from (k + 1))
-  next_number =
-      ap (λ m. m * 2 + (digit_of (has_bit x k) - 48)) is
-      ∙ ap (λ d. value_after 0 (slice_range (number_bits x 64) from k) * 2 + d) (less_48 (has_bit x k))
-      ∙ sym (value_one_more 0 (slice_range (number_bits x 64) from k) (has_bit x k))
-      ∙ ap (λ b. value_after 0 (slice_range (number_bits x 64) from k ++ b ∷ [])) (sym (bit_64 x k within))
-      ∙ ap (value_after 0) (sym (between_more (number_bits x 64) from k false begins (omega (arith, size_64 x))))
-
-  pub small_number : k < from + 4 → v < 8
-  small_number h = rw is (three_below (slice_range (number_bits x 64) from k) (omega (arith, size_of_run x from k (omega arith))))
-
-  pub next_below : k < from + 4 → v * 2 + (digit_of (has_bit x k) - 48) < 16
-  next_below h = rw (less_48 (has_bit x k)) (step_below v (has_bit x k) (small_number h))
+-- the digits from place i on, k of the n of a number in binary
+pub group_value : (n x i k : ℕ) → i + k ≤ n → x / 2 ^ (n - (i + k)) % 2 ^ k ≡ value_after 0 (slice_range (binary n x) i (i + k))
+group_value n x i k h =
+    let m : ℕ = n - (i + k) in
+    let y : ℕ = x / 2 ^ m in
+    let whole : n ≡ i + k + m = omega arith in
+    let above : List Bool = binary i (y / 2 ^ k) in
+    let here : List Bool = binary k (y % 2 ^ k) in
+    let rest : List Bool = binary m (x % 2 ^ m) in
+    let parts : binary n x ≡ (above ++ here) ++ rest =
+    ap (λ c. binary c x) whole ∙ binary_parted (i + k) m x ∙ ap (λ l. l ++ rest) (binary_parted i k y) in
+    let group : slice_range (binary n x) i (i + k) ≡ here = ap (λ l. slice_range l i (i + k)) parts ∙ middle above here rest i k (length-binary i (y / 2 ^ k)) (length-binary k (y % 2 ^ k)) in
+    sym (ap (value_after 0) group ∙ value_of_binary k (y % 2 ^ k) (mod-lt y (pow_pos k)))
 
 -- ---- a list in groups
 
@@ -107,17 +65,6 @@ module _ (s : ℕ) (u : Bool) where
       let rest : drop s (take k bits) ≡ take (k - s) (drop s bits) = ap (λ n. drop s (take n bits)) whole ∙ drop-take s (k - s) bits in
       ap (λ l. digit_glyph u (value_after 0 l) ∷ digits a (drop s (take k bits))) first
       ∙ ap (λ l. digit_glyph u (value_after 0 (take s bits)) ∷ l) (ap (digits a) rest ∙ digits_cut a (k - s) (drop s bits) (omega arith))
-
--- the bits of a group within the number of all
-pub group_read : (ms : List Bool) (at m : ℕ) → at + m ≤ length ms → length ms ≤ 64 → slice_range (number_bits (number_of ms) 64) at (at + m) ≡ slice_range ms at (at + m)
-group_read ms at m h few =
-    let x = number_of ms in
-    let left : length (slice_range (number_bits x 64) at (at + m)) ≡ m = length-run (number_bits x 64) at m (omega (arith, size_64 x)) in
-    let right : length (slice_range ms at (at + m)) ≡ m = length-run ms at m h in
-    ext_get_or false _ _ (left ∙ sym right)
-    (λ i below.
-    let inside : i < m = omega arith in
-    get_or-run (number_bits x 64) at m i inside ∙ bit_64 x (at + i) (omega arith) ∙ has_number ms (at + i) ∙ sym (get_or-run ms at m i inside))
 
 -- a group that may be cut by the list's end
 pub group_cut : (ms : List Bool) (at s upto : ℕ) → at ≤ length ms → upto ≡ min (at + s) (length ms) → slice_range ms at upto ≡ take s (drop at ms)
@@ -172,12 +119,6 @@ module _ (s : ℕ) (u : Bool) (size : IsDigitSize s) (bits : List Bool) where
       ∙ sym (digits_joined s u (t * d) (words_for s r) bits)
       ∙ ap (λ n. digits s u n bits) (groups_split s t r size)
       ∙ ap (λ n. digits s u (words_for s n) bits) (omega arith)
-
--- a group as it is read from the number of all bits
-pub group_at : (ms : List Bool) (at s upto : ℕ) → at ≤ length ms → length ms ≤ 64 → upto ≡ min (at + s) (length ms) → slice_range (number_bits (number_of ms) 64) at upto ≡ take s (drop at ms)
-group_at ms at s upto h few is =
-    let end : upto ≡ at + (upto - at) = omega arith in
-    ap (slice_range (number_bits (number_of ms) 64) at) end ∙ group_read ms at (upto - at) (omega arith) few ∙ ap (slice_range ms at) (sym end) ∙ group_cut ms at s upto h is
 
 pub groups_are : (s n : ℕ) → 0 < s → words_for s n ≡ (n + (s - 1)) / s
 unfolding words_for

@@ -3,7 +3,7 @@ ghost use Rattle.std.specs.Prelude.{◌≡◌, ℕ, ◌+◌, ◌*◌, ◌<◌, �
 ghost use Rattle.std.specs.Fmt.{WritesStyledOnOk, digit_glyph};
 ghost use Rattle.std.specs.List.{fold};
 ghost use Rattle.std.specs.Str.{IsAscii};
-ghost use Rattle.bit_addressing.specs.Row.{number_bits, words_for};
+ghost use Rattle.bit_addressing.specs.Row.{binary, words_for};
 ghost use Rattle.bit_addressing.specs.Text.{list_text, digit_of};
 ghost use Rattle.bit_addressing.specs.Bits.{has_bit};
 ghost use Rattle.bit_addressing.specs.Binary.{value_after};
@@ -12,7 +12,7 @@ ghost use Rattle.bit_slice.specs.Comparisons.{bits_fed};
 ghost use Rattle.bit_slice.specs.Texts.{IsDigitSize, digits_from, digits_text, spaced};
 
 use crate::slice::BitSlice;
-use bit_addressing::{BitOrder, BitStore, read_chunk};
+use bit_addressing::{BitOrder, BitStore, read_binary, read_chunk};
 use std::fmt;
 use std::hash::{Hash, Hasher};
 
@@ -91,19 +91,26 @@ pub fn write_list<T: BitStore, O: BitOrder, W: fmt::Write>(
     f.write_str("]")
 }
 
-// The digit of the bits `from..upto` of a number, the first the most significant.
+// The number that the bits `from..upto` are in binary, of those of a number's `n` lowest bits in binary.
 #[inline(always)]
-fn digit_of_bits(chunk: u64, from: u8, upto: u8, upper: bool) -> u8
-    requires ordered { from ≤ upto }
+fn value_of_bits(number: u64, n: u8, from: u8, upto: u8) -> u8
+    requires some { from < upto }
     requires few { upto ≤ from + 4 }
-    requires within { upto ≤ 64 }
-    ensures value { result ≡ digit_glyph upper (value_after 0 (slice_range (number_bits chunk 64) from upto)) }
+    requires within { upto ≤ n }
+    requires inside { n ≤ 64 }
+    ensures value { result ≡ value_after 0 (slice_range (binary n number) from upto) }
+    ensures small { result < 16 }
+{
+    (number >> (n - upto) & ((1 << (upto - from)) - 1)) as u8
+}
+
+// The digit of a number below 16.
+#[inline(always)]
+fn digit_of_value(value: u8, upper: bool) -> u8
+    requires { value < 16 }
+    ensures value { result ≡ digit_glyph upper value }
     ensures ascii { result < 128 }
 {
-    let mut value = 0;
-    for k in from..upto {
-        value = value * 2 + (digit_at(chunk, k) - b'0');
-    }
     if value < 10 {
         b'0' + value
     } else if upper {
@@ -130,17 +137,14 @@ fn write_groups<T: BitStore, O: BitOrder, W: fmt::Write>(
     ensures { WritesStyledOnOk W.write_str_gives f.old result
         (digits_from size upper (words_for size n) (slice_range (list_of view.entry) from (from + n))) f.new }
 {
-    let chunk = read_chunk::<T, O>(view.as_raw_slice(), view.head() + from, n);
+    let number = read_binary::<T, O>(view.as_raw_slice(), view.head() + from, n);
     let digits = (n + (size - 1)) / size;
     let mut piece = [0; PIECE];
     for i in 0..digits {
         let first = i * size;
         let last = (first + size).min(n);
-        put(
-            &mut piece,
-            i as usize,
-            digit_of_bits(chunk, first, last, upper),
-        );
+        let value = value_of_bits(number, n, first, last);
+        put(&mut piece, i as usize, digit_of_value(value, upper));
     }
     f.write_str(text_of(&piece, digits as usize))
 }

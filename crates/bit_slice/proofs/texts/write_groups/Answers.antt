@@ -1,14 +1,14 @@
 use Rattle.std.proofs.Common.{◌≡◌, ◌+◌, ◌-◌, ◌*◌, ◌/◌, ◌<◌, Bool, List, [], ◌∷◌, ◌++◌, length, min, take, drop, slice_range, sym, ◌∙◌, ap, arith}
 use Rattle.std.proofs.Output.{has_written_styled_of_eq}
 use Rattle.std.specs.Fmt.{digit_glyph}
-use Rattle.bit_addressing.specs.Row.{number_bits, number_of, words_for}
+use Rattle.bit_addressing.specs.Row.{binary, words_for}
 use Rattle.bit_addressing.specs.Typed.{row}
 use Rattle.bit_slice.specs.BitSlice.{list_of}
 use Rattle.bit_slice.specs.Texts.{digits_from}
 use Rattle.bit_slice.proofs.Writing.{chunk_of_list}
 use Rattle.bit_slice.proofs.Parts.{in_row}
 use Rattle.bit_addressing.proofs.lists.Shown.{length-between}
-use Rattle.bit_slice.proofs.Digits.{digits_more, group_at, group_begins, groups_are}
+use Rattle.bit_slice.proofs.Digits.{digits_more, group_begins, group_cut, groups_are}
 use Rattle.bit_slice.proofs.texts.write_groups.Goals as goal
 use Rattle.bit_addressing.specs.Binary.{value_after}
 
@@ -21,16 +21,15 @@ loop-i-preserved g c =
     let bits : List Bool = slice_range (list_of v) c.args.from (c.args.from + n) in
     let size : length (list_of v) ≡ v.len = length-between (row g.T.BitStore g.O.BitOrder v.words.now) v.head (v.head + v.len) (in_row g.T.BitStore g.O.BitOrder v.words.now (v.head + v.len) v.fits.room) ∙ omega arith in
     let all : length bits ≡ n = length-between (list_of v) c.args.from (c.args.from + n) (omega (arith, size, c.requires.within)) ∙ omega arith in
-    let chunk : c.read_chunk-chunk.result ≡ number_of bits =
-    c.read_chunk-chunk.ensures ∙ ap (λ ws. number_of (slice_range (row g.T.BitStore g.O.BitOrder ws) (c.head.result + c.args.from) (c.head.result + c.args.from + n))) c.as_raw_slice.ensures.words
-    ∙ ap (λ h. number_of (slice_range (row g.T.BitStore g.O.BitOrder v.words.now) (h + c.args.from) (h + c.args.from + n))) c.head.ensures.value
-    ∙ ap number_of (chunk_of_list g.T.BitStore g.O.BitOrder v c.args.from n c.requires.within) in
+    let digits : binary n c.read_binary-number.result ≡ bits =
+    c.read_binary-number.ensures.digits ∙ ap (λ ws. slice_range (row g.T.BitStore g.O.BitOrder ws) (c.head.result + c.args.from) (c.head.result + c.args.from + n)) c.as_raw_slice.ensures.words
+    ∙ ap (λ h. slice_range (row g.T.BitStore g.O.BitOrder v.words.now) (h + c.args.from) (h + c.args.from + n)) c.head.ensures.value ∙ chunk_of_list g.T.BitStore g.O.BitOrder v c.args.from n c.requires.within in
     let begins : i * s < n = group_begins s n i c.requires.some (omega (arith, c.loop-i-test.true, c.loop-i.auto.i-end, groups_are s n c.requires.some)) in
-    let digit : c.digit_of_bits.result ≡ digit_glyph c.args.upper (value_after 0 (take s (drop (i * s) bits))) =
-    c.digit_of_bits.ensures.value ∙ ap (λ x. digit_glyph c.args.upper (value_after 0 (slice_range (number_bits x 64) (i * s) c.min-last.result))) chunk
-    ∙ ap (λ l. digit_glyph c.args.upper (value_after 0 l)) (group_at bits (i * s) s c.min-last.result (omega arith) (omega (arith, c.requires.few)) (c.min-last.ensures ∙ ap (min (i * s + s)) (sym all))) in
+    let digit : c.digit_of_value.result ≡ digit_glyph c.args.upper (value_after 0 (take s (drop (i * s) bits))) =
+    c.digit_of_value.ensures.value ∙ ap (digit_glyph c.args.upper) c.value_of_bits-value.ensures.value ∙ ap (λ l. digit_glyph c.args.upper (value_after 0 (slice_range l (i * s) c.min-last.result))) digits
+    ∙ ap (λ l. digit_glyph c.args.upper (value_after 0 l)) (group_cut bits (i * s) s c.min-last.result (omega arith) (c.min-last.ensures ∙ ap (min (i * s + s)) (sym all))) in
     record {
-      text = c.put.ensures.text ∙ ap (λ t. t ++ c.digit_of_bits.result ∷ []) c.loop-i.invariant.text ∙ ap (λ d. digits_from s c.args.upper i bits ++ d ∷ []) digit ∙ sym (digits_more s c.args.upper i bits);
+      text = c.put.ensures.text ∙ ap (λ t. t ++ c.digit_of_value.result ∷ []) c.loop-i.invariant.text ∙ ap (λ d. digits_from s c.args.upper i bits ++ d ∷ []) digit ∙ sym (digits_more s c.args.upper i bits);
       ascii = c.put.ensures.ascii c.loop-i.invariant.ascii;
     }
 

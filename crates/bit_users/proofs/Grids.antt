@@ -59,13 +59,6 @@ source_out s d n j out = grind (arith, nat_tests)
 pub bit_left : (xs : List Bool) (s d n j : ℕ) → j < length xs → (j < d) ⊎ (d + n ≤ j) → get_or (moved xs s d n) j false ≡ get_or xs j false
 bit_left xs s d n j inside out = get_or-moved xs s d n j inside ∙ ap (λ k. get_or xs k false) (source_out s d n j out)
 
--- a row begins no later than another, or after its end
-pub rows_in_order : (i a columns : ℕ) → (i * columns ≤ a * columns) ⊎ (a * columns + columns ≤ i * columns)
-rows_in_order i a columns = elim (cases_lt a i) [
-  | inl less ↦ inr (row_ends a i columns less)
-  | inr up ↦ inl (mul-le-mul_right columns up)
-]
-
 -- a place in another row lies before or after a row
 pub place_apart : (i j a columns : ℕ) → j < columns → i ≢ a → (i * columns + j < a * columns) ⊎ (a * columns + columns ≤ i * columns + j)
 place_apart i j a columns inside differ = elim (rows_apart i a columns differ) [ inl low ↦ inl (omega arith) | inr high ↦ inr (omega arith) ]

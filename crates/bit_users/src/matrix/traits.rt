@@ -74,6 +74,7 @@ impl Matrix {
         requires { AreAlike other.now self.now }
         ensures { result ≡ bits_equal self.now.bits other.now.bits }
     {
+        // The proof needs how many bits the other matrix has.
         let _ = &other.bits;
         for row in 0..self.rows {
             if self.row(row) != other.row(row) {

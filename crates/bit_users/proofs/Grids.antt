@@ -1,9 +1,9 @@
 -- Where the bits of a matrix lie, and what becomes of them.
-use Rattle.std.proofs.Common.{◌≡◌, ◌≢◌, ℕ, ◌+◌, ◌-◌, ◌*◌, ◌<◌, ◌≤◌, Bool, true, false, ◌||◌, List, [], ◌∷◌, ◌++◌, Some, length, map, set, get_or, slice_get, slice_range, refl, sym, ◌∙◌, ap, subst, inl, inr, arith}
+use Rattle.std.proofs.Common.{◌≡◌, ◌≢◌, ℕ, ◌+◌, ◌-◌, ◌*◌, ◌<◌, ◌≤◌, Bool, true, false, ◌||◌, List, [], ◌∷◌, ◌++◌, Some, length, map, get_or, slice_get, slice_range, refl, sym, ◌∙◌, ap, subst, inl, inr, arith}
 use Rattle.std.specs.Prelude.{◌⊎◌, ◌↔◌}
 use Rattle.std.proofs.lemmas.Bool.{cases_lt, cases_eq, true≢false}
 use Rattle.std.proofs.lemmas.Bool.Decides.{nat_tests}
-use Rattle.std.proofs.lemmas.List.{get_or-set_other, map-append}
+use Rattle.std.proofs.lemmas.List.{map-append}
 use Rattle.std.proofs.Math.Nat.{mul-le-mul_right}
 use Rattle.std.proofs.lemmas.Option.{slice_get-get_or}
 use Rattle.bit_addressing.specs.Bits.{has_bit}
@@ -13,9 +13,6 @@ use Rattle.bit_addressing.proofs.Rows.{get_or-row_one, length-row_of}
 use Rattle.bit_addressing.proofs.lists.Moved.{get_or-moved}
 use Rattle.bit_addressing.proofs.lists.Put.{put_before, put_behind, put_inside}
 use Rattle.bit_addressing.proofs.lists.Shown.{get_or-run, length-between, length-run}
-use Rattle.bit_slice.specs.Operators.{combined}
-use Rattle.bit_slice.proofs.Combining.{length-combined}
-use Rattle.bit_slice.proofs.Ranges.{item_combined}
 use Rattle.bit_containers.proofs.Removing.{run_back}
 use Rattle.bit_users.specs.Matrix.{Grid, AreAlike, IsPath, IsSet, item}
 use Rattle.bit_users.proofs.Paths.{ArePathsOver, all_paths}
@@ -43,7 +40,7 @@ rows_apart i a columns differ = elim (cases_lt i a) [
 ]
 
 -- another row or another column is another place
-other_place : (i j a b columns : ℕ) → j < columns → b < columns → (i ≢ a) ⊎ (j ≢ b) → i * columns + j ≢ a * columns + b
+pub other_place : (i j a b columns : ℕ) → j < columns → b < columns → (i ≢ a) ⊎ (j ≢ b) → i * columns + j ≢ a * columns + b
 other_place i j a b columns inside within differ same = elim (cases_lt i a) [
   | inl less ↦ (let up = row_ends i a columns less in absurd (omega arith))
   | inr l ↦ elim (cases_lt a i) [
@@ -59,15 +56,8 @@ source_out : (s d n j : ℕ) → (j < d) ⊎ (d + n ≤ j) → source_of s d n j
 source_out s d n j out = grind (arith, nat_tests)
 
 -- a bit outside a run that was moved
-bit_left : (xs : List Bool) (s d n j : ℕ) → j < length xs → (j < d) ⊎ (d + n ≤ j) → get_or (moved xs s d n) j false ≡ get_or xs j false
+pub bit_left : (xs : List Bool) (s d n j : ℕ) → j < length xs → (j < d) ⊎ (d + n ≤ j) → get_or (moved xs s d n) j false ≡ get_or xs j false
 bit_left xs s d n j inside out = get_or-moved xs s d n j inside ∙ ap (λ k. get_or xs k false) (source_out s d n j out)
-
--- a row begins no later than another, or after its end
-pub rows_in_order : (i a columns : ℕ) → (i * columns ≤ a * columns) ⊎ (a * columns + columns ≤ i * columns)
-rows_in_order i a columns = elim (cases_lt a i) [
-  | inl less ↦ inr (row_ends a i columns less)
-  | inr up ↦ inl (mul-le-mul_right columns up)
-]
 
 -- a place in another row lies before or after a row
 pub place_apart : (i j a columns : ℕ) → j < columns → i ≢ a → (i * columns + j < a * columns) ⊎ (a * columns + columns ≤ i * columns + j)
@@ -121,16 +111,6 @@ row_leads_not old row k none i j = (λ s. inl s, λ w. elim w [ inl o ↦ o | in
 pub closed : (old now : Grid) (n : ℕ) → old.rows ≤ n → ArePathsOver (IsSet old) (IsSet now) 0 n → (i j : ℕ) → IsSet now i j ↔ IsPath (IsSet old) i j
 closed old now n past are = all_paths (IsSet old) (IsSet now) n (λ x y e. (let h = e.0 in omega arith)) are
 
--- the bits that a write at another place leaves
-pub set_elsewhere : (xs : List Bool) (columns i j a b : ℕ) (bit : Bool) → j < columns → b < columns → (i ≢ a) ⊎ (j ≢ b) → get_or (set xs (a * columns + b) bit) (i * columns + j) false ≡ get_or xs (i * columns + j) false
-set_elsewhere xs columns i j a b bit inside within apart = get_or-set_other xs (a * columns + b) (i * columns + j) bit false (other_place i j a b columns inside within apart)
-
-pub copied_elsewhere : (xs : List Bool) (rows columns i j from to n : ℕ) → n ≡ columns → length xs ≡ rows * columns → i < rows → j < columns → i ≢ to → get_or (moved xs (from * columns) (to * columns) n) (i * columns + j) false ≡ get_or xs (i * columns + j) false
-copied_elsewhere xs rows columns i j from to n all size row inside apart =
-    let within = place_inside rows columns i j row inside in
-    let ends : to * columns + n ≡ to * columns + columns = ap (λ k. to * columns + k) all in
-    bit_left xs (from * columns) (to * columns) n (i * columns + j) (omega arith) (elim (place_apart i j to columns inside apart) [ inl low ↦ inl low | inr high ↦ inr (omega arith) ])
-
 -- ---- a part of a row in whose place other bits were put
 
 module _ (xs ys : List Bool) (rows columns row column count start : ℕ) (size : length xs ≡ rows * columns) (inside : row < rows) (within : column + count ≤ columns) (many : length ys ≡ count) (at : start ≡ row * columns + column) where
@@ -159,19 +139,6 @@ module _ (xs ys : List Bool) (rows columns row column count start : ℕ) (size :
         | inr high ↦ put_behind xs ys start (i * columns + j) false (omega arith) (omega arith)
       ]
 
--- the same of a matrix
-module _ (old new : Grid) (ys : List Bool) (row column count start : ℕ) (size : length old.bits ≡ old.rows * old.columns) (inside : row < old.rows) (within : column + count ≤ old.columns) (many : length ys ≡ count) (at : start ≡ row * old.columns + column)
-    (wide : new.columns ≡ old.columns) (made : new.bits ≡ put old.bits start ys) where
-  pub part_written : (j : ℕ) → j < count → item new row (column + j) ≡ get_or ys j false
-  part_written j below =
-      ap (λ k. get_or new.bits (row * k + (column + j)) false) wide ∙ ap (λ l. get_or l (row * old.columns + (column + j)) false) made
-      ∙ part_put old.bits ys old.rows old.columns row column count start size inside within many at j below
-
-  pub part_unwritten : (i j : ℕ) → j < old.columns → (i ≢ row) ⊎ ((j < column) ⊎ (column + count ≤ j)) → item new i j ≡ item old i j
-  part_unwritten i j below apart =
-      ap (λ k. get_or new.bits (i * k + j) false) wide ∙ ap (λ l. get_or l (i * old.columns + j) false) made
-      ∙ part_kept old.bits ys old.rows old.columns row column count start size inside within many at i j below apart
-
 -- the first bits of a word
 pub length-first_bits : (number count : ℕ) → count ≤ 64 → length (slice_range (row_of (λ w i. i) 64 (number ∷ [])) 0 count) ≡ count
 length-first_bits number count few =
@@ -186,44 +153,6 @@ get_or-first_bits number count j below few =
     ∙ get_or-run (row_of (λ w i. i) 64 (number ∷ [])) 0 count j below
     ∙ ap (λ k. get_or (row_of (λ w i. i) 64 (number ∷ [])) k false) at
     ∙ get_or-row_one (λ w i. i) 64 number j (omega arith) (omega arith)
-
--- ---- a row in whose place other bits were put
-
-module _ (xs ys : List Bool) (rows columns into : ℕ) (size : length xs ≡ rows * columns) (row : into < rows) (many : length ys ≡ columns) where
-  pub row_put : (j : ℕ) → j < columns → get_or (put xs (into * columns) ys) (into * columns + j) false ≡ get_or ys j false
-  row_put j inside =
-      let from : into * columns + j ≡ into * columns + (0 + j) = omega arith in
-      ap (λ k. get_or (put xs (into * columns) ys) k false) from ∙ part_put xs ys rows columns into 0 columns (into * columns) size row (omega arith) many (omega arith) j inside
-
-  pub row_kept : (i j : ℕ) → j < columns → i ≢ into → get_or (put xs (into * columns) ys) (i * columns + j) false ≡ get_or xs (i * columns + j) false
-  row_kept i j inside apart = part_kept xs ys rows columns into 0 columns (into * columns) size row (omega arith) many (omega arith) i j inside (inl apart)
-
--- what combining it with other bits makes of the bits of a matrix
-module _ (f : Bool → Bool → Bool) (old new : Grid) (ys : List Bool) (into n : ℕ) (size : length old.bits ≡ old.rows * old.columns) (row : into < old.rows) (all : n ≡ old.columns) (wide : new.columns ≡ old.columns)
-    (made : new.bits ≡ put old.bits (into * old.columns) (combined f (slice_range old.bits (into * old.columns) (into * old.columns + n)) ys)) where
-  run : List Bool
-  run = slice_range old.bits (into * old.columns) (into * old.columns + n)
-
-  run_long : length run ≡ old.columns
-  unfolding run
-  run_long = let up = row_ends into old.rows old.columns row in length-run old.bits (into * old.columns) n (omega arith) ∙ all
-
-  many : length (combined f run ys) ≡ old.columns
-  many = length-combined f run ys ∙ run_long
-
-  pub row_combined : (j : ℕ) → j < old.columns → item new into j ≡ f (item old into j) (get_or ys j false)
-  unfolding run
-  row_combined j inside =
-      let long = run_long in
-      ap (λ k. get_or new.bits (into * k + j) false) wide ∙ ap (λ l. get_or l (into * old.columns + j) false) made
-      ∙ row_put old.bits (combined f run ys) old.rows old.columns into size row many j inside
-      ∙ item_combined f run ys j (omega arith) ∙ ap (λ b. f b (get_or ys j false)) (get_or-run old.bits (into * old.columns) n j (omega arith))
-
-  pub row_uncombined : (i j : ℕ) → i < old.rows → j < old.columns → i ≢ into → item new i j ≡ item old i j
-  unfolding run
-  row_uncombined i j low inside apart =
-      ap (λ k. get_or new.bits (i * k + j) false) wide ∙ ap (λ l. get_or l (i * old.columns + j) false) made
-      ∙ row_kept old.bits (combined f run ys) old.rows old.columns into size row many i j inside apart
 
 -- a bit of a row is the one at its column in the row's part of the list
 pub row_item : (xs : List Bool) (start columns end j : ℕ) → end ≡ start + columns → j < columns → get_or (slice_range xs start end) j false ≡ get_or xs (start + j) false

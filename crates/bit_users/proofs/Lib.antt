@@ -8,6 +8,7 @@ pub mod Lowest
 pub mod Members
 pub mod Merging
 pub mod ModTwo
+pub mod Padding
 pub mod Paths
 pub mod Ranks
 pub mod Retaining

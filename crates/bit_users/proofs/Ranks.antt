@@ -1,8 +1,9 @@
 -- The rows of a matrix that are left when each is reduced by those before it.
 use Rattle.std.proofs.Common.{◌≡◌, ◌≢◌, ℕ, zero, suc, ◌+◌, ◌<◌, ◌≤◌, Bool, true, false, ◌&&◌, ◌||◌, refl, sym, ◌∙◌, ap, subst, inl, inr, arith, add-zero, ltb, eq-eqb}
-use Rattle.std.specs.Prelude.{◌==◌, ◌⊎◌, cond, Option, None, Some, MatchOption}
+use Rattle.std.specs.Prelude.{◌==◌, ◌⊎◌, cond, Option, None, Some, IfNone, IfSome, MatchOption, List, EachIndex, slice_get}
 use Rattle.std.specs.Option.{is_some}
 use Rattle.std.proofs.lemmas.Bool.{cases_eq, cases_lt, ne_eqb, lt-ltb, le-ltb, ltb-true, true≢false}
+use Rattle.std.proofs.lemmas.Option.{slice_get_within}
 use Rattle.bit_users.specs.Matrix.{any_below, plus_mod_2 as plus}
 use Rattle.bit_users.specs.Rank.{IsBasis, IsPart, count_chosen, row_sum}
 use Rattle.bit_users.specs.Reduction.{AreReduced, IsLead, IsReducing, is_left}
@@ -326,3 +327,19 @@ count_most chosen (suc n) = let e = count_most chosen n in let h = one_at_most (
 -- the rows that are left when all were reduced
 pub reduced_all : (a w : ℕ → ℕ → Bool) (m n : ℕ) → AreReduced a w m n m → IsBasis a m n (is_left w n)
 reduced_all a w m n all = record { independent = all.independent; spans = all.spans }
+
+-- the first bit of a row, as its view finds it
+pub lead_found : (row : ℕ → Bool) (xs : List Bool) (long n : ℕ) (found : Option ℕ) → long ≡ n → ((j : ℕ) → j < n → slice_get xs j ≡ Some (row j))
+    → IfSome found (λ i. i < long) → IfSome found (λ i. slice_get xs i ≡ Some true) → IfSome found (λ i. (j : ℕ) → j < i → slice_get xs j ≡ Some false)
+    → IfNone found (EachIndex xs (λ j. slice_get xs j ≡ Some false)) → MatchOption found ((j : ℕ) → j < n → row j ≡ false) (λ column. (column < n) × IsLead row column)
+lead_found row xs long n None size items inside here before none =
+    λ j below. let is = items j below in let none_here = none j (slice_get_within xs j (row j) is) in cc
+lead_found row xs long n (Some i) size items inside here before none =
+    let within : i < n = omega arith in
+    let is = items i within in (
+      within,
+      record {
+        here = cc;
+        before = λ h less. let was = items h (omega arith) in let clear = before h less in cc;
+      },
+    )

@@ -1,5 +1,5 @@
 -- Matrices of truth values, and paths in the graphs whose edges are their set bits.
-use Rattle.std.specs.Prelude.{◌≡◌, ◌==◌, ℕ, zero, suc, ◌+◌, ◌*◌, ◌<◌, ◌≤◌, Bool, true, false, not, ◌&&◌, ◌||◌, if◌then◌else◌, List, [], ◌∷◌, ◌++◌, codes, map, replicate, slice_index_or, slice_range, refl}
+use Rattle.std.specs.Prelude.{◌≡◌, ◌==◌, ℕ, zero, suc, ◌+◌, ◌*◌, ◌/◌, ◌<◌, ◌≤◌, Bool, true, false, not, ◌&&◌, ◌||◌, if◌then◌else◌, List, [], ◌∷◌, ◌++◌, codes, map, replicate, slice_index_or, slice_range, refl}
 use Rattle.std.specs.Cmp.{IsEquivalence, and_equiv, nat_eq_equiv, on_equiv}
 use Rattle.bit_addressing.specs.Text.{digit_of}
 use Rattle.bit_slice.specs.Comparisons.{bits_equal, bits_equiv}
@@ -17,10 +17,21 @@ pub record Grid : Type 0 where
 abbrev pub grid_code : Coded Grid
 grid_code = code_by (ℕ × (ℕ × List Bool)) (coded× coded_ℕ (coded× coded_ℕ (coded_list coded_bool))) (λ m. (m.rows, (m.columns, m.bits))) (λ p. record { rows = p.0; columns = p.1.0; bits = p.1.1 }) (λ _. refl)
 
--- what always holds of the bits of a matrix, of which there are so many
-pub record IsGrid (rows columns size : ℕ) : Type 0 where
-  pub count : size ≡ rows * columns
+-- how many bits the words of a row of so many columns have
+abbrev pub padded : ℕ → ℕ
+padded columns = 64 * ((columns + 63) / 64)
+
+-- the first `columns` bits of each row, of rows that begin `stride` bits apart
+unfoldable pub unpadded : ℕ → ℕ → ℕ → List Bool → List Bool
+unpadded zero columns stride bits = []
+unpadded (suc rows) columns stride bits = unpadded rows columns stride bits ++ slice_range bits (rows * stride) (rows * stride + columns)
+
+-- what always holds of the `size` bits of a matrix with their padding, of which the first is bit `start` of its word
+pub record IsGrid (rows columns stride start size : ℕ) : Type 0 where
+  pub count : size ≡ rows * stride
   pub few : size ≤ MAX_BITS
+  pub wide : 0 < rows → stride ≡ padded columns
+  pub aligned : start ≡ 0
 
 -- the matrix whose bits are all false
 abbrev pub zeros : ℕ → ℕ → Grid
@@ -166,3 +177,21 @@ diagonal = refl
 two_lines : grid_text sheared ≡ codes "11\n01\n"
 unfolding sheared
 two_lines = refl
+
+-- rows of three columns take a word each, and rows of 65 two
+three_padded : padded 3 ≡ 64
+three_padded = refl
+
+none_padded : padded 0 ≡ 0
+none_padded = refl
+
+one_word_padded : padded 64 ≡ 64
+one_word_padded = refl
+
+one_more_padded : padded 65 ≡ 128
+one_more_padded = refl
+
+-- two rows of two bits, three bits apart
+two_unpadded : unpadded 2 2 3 (true ∷ false ∷ true ∷ false ∷ true ∷ true ∷ []) ≡ true ∷ false ∷ false ∷ true ∷ []
+unfolding unpadded
+two_unpadded = refl

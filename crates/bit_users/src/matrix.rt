@@ -1,9 +1,9 @@
 //! A matrix of truth values, one bit each.
-ghost use Rattle.std.specs.Prelude.{◌≡◌, ◌≢◌, ◌+◌, ◌*◌, ◌<◌, ◌⊎◌, ◌↔◌, ◌==◌, ◌||◌, ℕ, Err, IfOk, IsTrue, Some, set, slice_get, slice_range};
+ghost use Rattle.std.specs.Prelude.{◌≡◌, ◌≢◌, ◌+◌, ◌*◌, ◌<◌, ◌≤◌, ◌⊎◌, ◌↔◌, ◌==◌, ◌||◌, ℕ, Err, IfOk, IsTrue, Some, false, set, slice_get, slice_index_or, slice_range};
 ghost use Rattle.bit_addressing.specs.declared.errors.GrowError.TheVariants as errors;
 ghost use Rattle.bit_addressing.specs.declared.length.TheConstants.{MAX_BITS};
-ghost use Rattle.bit_slice.specs.BitSlice.{len_of, list_of};
-ghost use Rattle.bit_users.specs.Matrix.{AreAlike, IsSet, item, plus_mod_2, zeros};
+ghost use Rattle.bit_slice.specs.BitSlice.{head_of, len_of, list_of};
+ghost use Rattle.bit_users.specs.Matrix.{AreAlike, IsSet, item, padded, plus_mod_2, zeros};
 
 mod elimination;
 mod graph;
@@ -24,6 +24,8 @@ use std::marker::Model;
 /// in a list, row after row, `m.bits`. `item m i j` is the bit in row `i` and column `j`. A square matrix is
 /// also a graph: its nodes are the indices, and an edge leads from `i` to `j` where `IsSet m i j`.
 ///
+/// Each row begins with a word, so that its bits and their padding take `padded m.columns` bits, a multiple of 64.
+///
 /// ```text
 /// let mut leads = Matrix::new(alloc, 3, 3)?;
 /// leads.set(0, 1, true);
@@ -36,43 +38,51 @@ use std::marker::Model;
 pub struct Matrix {
     rows: usize,
     columns: usize,
+    stride: usize,
     bits: BitVec<usize, Lsb0>,
 }
 
 impl Model for Matrix {
     ghost use Rattle.std.specs.Prelude.{length};
     ghost use Rattle.bit_addressing.specs.Row.{row_of};
-    ghost use Rattle.bit_users.specs.Matrix.{Grid, IsGrid, grid_code};
+    ghost use Rattle.bit_users.specs.Matrix.{Grid, IsGrid, grid_code, unpadded};
 
     ghost Value = { Grid };
 
     ghost coded = { grid_code };
 
-    ghost view = { λ m. record { rows = m.rows; columns = m.columns; bits = m.bits.list } };
+    ghost view = { λ m. record {
+      rows = m.rows;
+      columns = m.columns;
+      bits = unpadded m.rows m.columns m.stride m.bits.list;
+    } };
 
-    ghost invariant = { λ m. IsGrid m.rows m.columns (length m.bits.list) };
+    ghost invariant = { λ m. IsGrid m.rows m.columns m.stride m.bits.head (length m.bits.list) };
 }
 
 impl Matrix {
-    /// A matrix of false bits. Returns `TooLong` where there would be more than `MAX_BITS` of them, and only there; takes no memory for no bit.
+    /// A matrix of false bits. Returns `TooLong` where with the padding of each row there would be more than `MAX_BITS` of them,
+    /// and only there; takes no memory for no bit.
     pub fn new(alloc: Global, rows: usize, columns: usize) -> Result<Self, GrowError>
         ensures zeros { IfOk result (λ m. m ≡ zeros rows columns) }
-        ensures too_long { (result ≡ Err errors.TooLong) ↔ (MAX_BITS < rows * columns) }
+        ensures too_long { (result ≡ Err errors.TooLong) ↔ (MAX_BITS < rows * padded columns) }
         ensures memory { result ≡ Err errors.OutOfMemory → 0 < rows * columns }
     {
-        let Some(size) = rows.checked_mul(columns) else {
+        let stride = stride_of(columns);
+        let Some(size) = rows.checked_mul(stride) else {
             return Err(GrowError::TooLong);
         };
         let bits = BitVec::repeat(alloc, false, size)?;
         Ok(Matrix {
             rows,
             columns,
+            stride,
             bits,
         })
     }
 
-    /// The identity matrix of `size` rows and columns: true on the diagonal alone. `TooLong` exactly where its bits
-    /// pass `MAX_BITS`; takes no memory for size 0.
+    /// The identity matrix of `size` rows and columns: true on the diagonal alone. `TooLong` exactly where its bits, with the
+    /// padding of each row, pass `MAX_BITS`; takes no memory for size 0.
     ///
     /// ```text
     /// Matrix::identity(alloc, 3)?      // 100, 010, 001
@@ -81,7 +91,7 @@ impl Matrix {
         ensures rows { IfOk result (λ m. m.rows ≡ size) }
         ensures columns { IfOk result (λ m. m.columns ≡ size) }
         ensures items { IfOk result (λ m. (i j : ℕ) → i < size → j < size → item m i j ≡ (i == j)) }
-        ensures too_long { (result ≡ Err errors.TooLong) ↔ (MAX_BITS < size * size) }
+        ensures too_long { (result ≡ Err errors.TooLong) ↔ (MAX_BITS < size * padded size) }
         ensures memory { result ≡ Err errors.OutOfMemory → 0 < size }
     {
         let mut made = Self::new(alloc, size, size)?;
@@ -106,18 +116,18 @@ impl Matrix {
     }
 
     /// The bit in a row and a column. Requires that the matrix has them.
-    #[tactic(auto, using(crate::proofs::Grids::place_inside))]
+    #[tactic(auto, using(crate::proofs::Padding::place_padded))]
     pub fn get(&self, row: usize, column: usize) -> bool
         requires row { row < self.now.rows }
         requires column { column < self.now.columns }
         ensures bit { result ≡ item self.now row column }
         ensures set { IsTrue result ↔ IsSet self.now row column }
     {
-        self.bits[row * self.columns + column]
+        self.bits[row * self.stride + column]
     }
 
     /// Writes the bit in a row and a column. Requires that the matrix has them.
-    #[tactic(auto, using(crate::proofs::Grids::place_inside, crate::proofs::Grids::set_elsewhere))]
+    #[tactic(auto, using(crate::proofs::Padding::place_padded))]
     pub fn set(&mut self, row: usize, column: usize, bit: bool)
         requires row { row < self.old.rows }
         requires column { column < self.old.columns }
@@ -126,18 +136,29 @@ impl Matrix {
         ensures here { item self.new row column ≡ bit }
         ensures others { (i j : ℕ) → i < self.old.rows → j < self.old.columns → (i ≢ row) ⊎ (j ≢ column) → item self.new i j ≡ item self.old i j }
     {
-        self.bits.set(row * self.columns + column, bit);
+        self.bits.set(row * self.stride + column, bit);
     }
 
-    /// The bits of a row, as a view. Requires that the matrix has it.
+    /// The bits of a row, as a view that begins with a word. Requires that the matrix has it.
     pub fn row(&self, row: usize) -> BitSlice<'_, usize, Lsb0>
         requires { row < self.now.rows }
         ensures list { list_of result ≡ slice_range self.now.bits (row * self.now.columns) (row * self.now.columns + self.now.columns) }
         ensures len { len_of result ≡ self.now.columns }
+        ensures head { head_of result ≡ 0 }
         ensures items { (j : ℕ) → j < self.now.columns → slice_get (list_of result) j ≡ Some (item self.now row j) }
     {
-        let start = row * self.columns;
+        let start = row * self.stride;
         self.bits.get_range(start..start + self.columns)
+    }
+
+    // The bits of a row and their padding.
+    fn padded_row(&self, row: usize) -> BitSlice<'_, usize, Lsb0>
+        requires { row < self.now.rows }
+        ensures len { len_of result ≡ padded self.now.columns }
+        ensures items { (j : ℕ) → j < self.now.columns → slice_index_or (list_of result) j false ≡ item self.now row j }
+    {
+        let start = row * self.stride;
+        self.bits.get_range(start..start + self.stride)
     }
 
     /// Sets each bit of a row whose column has a bit set in another row, by words. Requires that the matrix has
@@ -149,9 +170,9 @@ impl Matrix {
         ensures row { (j : ℕ) → j < self.old.columns → item self.new into j ≡ (item self.old into j || item self.old from j) }
         ensures others { (i j : ℕ) → i < self.old.rows → j < self.old.columns → i ≢ into → item self.new i j ≡ item self.old i j }
     {
-        let columns = self.columns;
-        let start = from * columns;
-        self.bits.or_within(start..start + columns, into * columns);
+        let stride = self.stride;
+        let start = from * stride;
+        self.bits.or_within(start..start + stride, into * stride);
     }
 
     /// Flips each bit of a row whose column has a bit set in another row, by words: the row becomes the sum mod 2
@@ -163,9 +184,9 @@ impl Matrix {
         ensures row { (j : ℕ) → j < self.old.columns → item self.new into j ≡ plus_mod_2 (item self.old into j) (item self.old from j) }
         ensures others { (i j : ℕ) → i < self.old.rows → j < self.old.columns → i ≢ into → item self.new i j ≡ item self.old i j }
     {
-        let columns = self.columns;
-        let start = from * columns;
-        self.bits.xor_within(start..start + columns, into * columns);
+        let stride = self.stride;
+        let start = from * stride;
+        self.bits.xor_within(start..start + stride, into * stride);
     }
 
     /// Like `or_row`, with a row of another matrix. Requires that both matrices have as many columns, and each its row.
@@ -177,9 +198,9 @@ impl Matrix {
         ensures row { (j : ℕ) → j < self.old.columns → item self.new into j ≡ (item self.old into j || item other.now from j) }
         ensures others { (i j : ℕ) → i < self.old.rows → j < self.old.columns → i ≢ into → item self.new i j ≡ item self.old i j }
     {
-        let start = into * self.columns;
+        let start = into * self.stride;
         self.bits
-            .or_range(start..start + self.columns, other.row(from));
+            .or_range(start..start + self.stride, other.padded_row(from));
     }
 
     /// Like `xor_row`, with a row of another matrix. Requires that both matrices have as many columns, and each its row.
@@ -191,13 +212,13 @@ impl Matrix {
         ensures row { (j : ℕ) → j < self.old.columns → item self.new into j ≡ plus_mod_2 (item self.old into j) (item other.now from j) }
         ensures others { (i j : ℕ) → i < self.old.rows → j < self.old.columns → i ≢ into → item self.new i j ≡ item self.old i j }
     {
-        let start = into * self.columns;
+        let start = into * self.stride;
         self.bits
-            .xor_range(start..start + self.columns, other.row(from));
+            .xor_range(start..start + self.stride, other.padded_row(from));
     }
 
     /// Writes a row over another, by one move of the words. Requires that the matrix has both rows.
-    #[tactic(auto, using(crate::proofs::Grids::row_inside, crate::proofs::Grids::copied_elsewhere))]
+    #[tactic(auto, using(crate::proofs::Grids::row_inside))]
     pub fn copy_row(&mut self, from: usize, to: usize)
         requires from { from < self.old.rows }
         requires to { to < self.old.rows }
@@ -205,9 +226,9 @@ impl Matrix {
         ensures row { (j : ℕ) → j < self.old.columns → item self.new to j ≡ item self.old from j }
         ensures others { (i j : ℕ) → i < self.old.rows → j < self.old.columns → i ≢ to → item self.new i j ≡ item self.old i j }
     {
-        let columns = self.columns;
-        let start = from * columns;
-        self.bits.copy_within(start..start + columns, to * columns);
+        let stride = self.stride;
+        let start = from * stride;
+        self.bits.copy_within(start..start + stride, to * stride);
     }
 
     /// Swaps two rows, by words. Takes no memory. Requires that the matrix has both rows.
@@ -225,4 +246,12 @@ impl Matrix {
             self.xor_row(a, b);
         }
     }
+}
+
+// How many bits a row of so many columns takes with its padding; where that passes the largest usize, more than any matrix has.
+fn stride_of(columns: usize) -> usize
+    ensures exact { columns ≤ MAX_BITS → result ≡ padded columns }
+    ensures past { MAX_BITS < columns → MAX_BITS < result }
+{
+    columns.div_ceil(64).saturating_mul(64)
 }

@@ -2,7 +2,7 @@
 ghost use Rattle.std.specs.Prelude.{◌≡◌, ◌≢◌, ◌*◌, ◌<◌, ◌↔◌, ◌&&◌, ◌||◌, ℕ, Err, IfOk};
 ghost use Rattle.bit_addressing.specs.declared.errors.GrowError.TheVariants as errors;
 ghost use Rattle.bit_addressing.specs.declared.length.TheConstants.{MAX_BITS};
-ghost use Rattle.bit_users.specs.Matrix.{AreAlike, any_below, item, plus_mod_2, product, product_mod_2, sum_mod_2};
+ghost use Rattle.bit_users.specs.Matrix.{AreAlike, any_below, item, padded, plus_mod_2, product, product_mod_2, sum_mod_2};
 
 use crate::matrix::Matrix;
 use bit_addressing::GrowError;
@@ -10,8 +10,8 @@ use std::alloc::Global;
 
 impl Matrix {
     /// The product over or and and: a bit is set where a middle index has a bit in its row here, and in its column
-    /// in the other matrix. Each bit set here costs an `or_row_of`. `TooLong` exactly where the bits of the product
-    /// pass `MAX_BITS`; takes no memory for no bit. Requires that there are as many rows in the other matrix as
+    /// in the other matrix. Each bit set here costs an `or_row_of`. `TooLong` exactly where the bits of the product, with
+    /// the padding of each row, pass `MAX_BITS`; takes no memory for no bit. Requires that there are as many rows in the other matrix as
     /// columns here.
     ///
     /// ```text
@@ -22,7 +22,7 @@ impl Matrix {
         ensures rows { IfOk result (λ m. m.rows ≡ self.now.rows) }
         ensures columns { IfOk result (λ m. m.columns ≡ other.now.columns) }
         ensures items { IfOk result (λ m. (i j : ℕ) → i < self.now.rows → j < other.now.columns → item m i j ≡ product self.now other.now i j) }
-        ensures too_long { (result ≡ Err errors.TooLong) ↔ (MAX_BITS < self.now.rows * other.now.columns) }
+        ensures too_long { (result ≡ Err errors.TooLong) ↔ (MAX_BITS < self.now.rows * padded other.now.columns) }
         ensures memory { result ≡ Err errors.OutOfMemory → 0 < self.now.rows * other.now.columns }
     {
         let mut made = Self::new(alloc, self.rows(), other.columns())?;
@@ -34,14 +34,14 @@ impl Matrix {
 
     /// The product mod 2: a bit is set where an odd number of middle indices have a bit in its row here, and in its
     /// column in the other matrix. Each bit set here costs an `xor_row_of`. `TooLong` exactly where the bits of the
-    /// product pass `MAX_BITS`; takes no memory for no bit. Requires that there are as many rows in the other matrix
+    /// product, with the padding of each row, pass `MAX_BITS`; takes no memory for no bit. Requires that there are as many rows in the other matrix
     /// as columns here.
     pub fn times_mod_2(&self, other: &Self, alloc: Global) -> Result<Self, GrowError>
         requires { other.now.rows ≡ self.now.columns }
         ensures rows { IfOk result (λ m. m.rows ≡ self.now.rows) }
         ensures columns { IfOk result (λ m. m.columns ≡ other.now.columns) }
         ensures items { IfOk result (λ m. (i j : ℕ) → i < self.now.rows → j < other.now.columns → item m i j ≡ product_mod_2 self.now other.now i j) }
-        ensures too_long { (result ≡ Err errors.TooLong) ↔ (MAX_BITS < self.now.rows * other.now.columns) }
+        ensures too_long { (result ≡ Err errors.TooLong) ↔ (MAX_BITS < self.now.rows * padded other.now.columns) }
         ensures memory { result ≡ Err errors.OutOfMemory → 0 < self.now.rows * other.now.columns }
     {
         let mut made = Self::new(alloc, self.rows(), other.columns())?;

@@ -2,7 +2,8 @@
 ghost use Rattle.std.specs.Prelude.{◌≡◌, ◌<◌, ◌↔◌, IsTrue, Some};
 ghost use Rattle.std.specs.Cmp.{partial_equiv_from_equiv};
 ghost use Rattle.std.specs.Fmt.{WritesStyledOnOk};
-ghost use Rattle.bit_users.specs.Matrix.{grid_equal, grid_equiv, grid_text, row_text};
+ghost use Rattle.bit_slice.specs.Comparisons.{bits_equal};
+ghost use Rattle.bit_users.specs.Matrix.{AreAlike, grid_equal, grid_equiv, grid_text, row_text};
 
 use crate::matrix::Matrix;
 use std::alloc::AllocError;
@@ -16,11 +17,13 @@ impl Clone for Matrix {
     ghost is_infallible = { λ m. m.rows * m.columns ≡ 0 };
 
     /// A copy. Takes memory where there is a bit, and is refused only then.
+    #[tactic(auto, using(crate::proofs::Padding::nothing_padded))]
     fn clone(&self) -> Result<Self, AllocError> {
         let bits = self.bits.clone()?;
         Ok(Matrix {
             rows: self.rows,
             columns: self.columns,
+            stride: self.stride,
             bits,
         })
     }
@@ -37,7 +40,7 @@ impl PartialEq for Matrix {
         ensures value { result ≡ grid_equal self.now other.now }
         ensures matrices { IsTrue result ↔ (self.now ≡ other.now) }
     {
-        self.rows == other.rows && self.columns == other.columns && self.bits == other.bits
+        self.rows == other.rows && self.columns == other.columns && self.has_rows_of(other)
     }
 }
 
@@ -66,6 +69,21 @@ impl fmt::Display for Matrix {
 }
 
 impl Matrix {
+    // Whether each row is that of another matrix of the same size.
+    fn has_rows_of(&self, other: &Self) -> bool
+        requires { AreAlike other.now self.now }
+        ensures { result ≡ bits_equal self.now.bits other.now.bits }
+    {
+        // The proof needs how many bits the other matrix has.
+        let _ = &other.bits;
+        for row in 0..self.rows {
+            if self.row(row) != other.row(row) {
+                return false;
+            }
+        }
+        true
+    }
+
     // Writes the line of a row.
     fn write_row<W: fmt::Write>(&self, row: usize, f: &mut fmt::Formatter<W>) -> fmt::Result
         requires { row < self.now.rows }

@@ -12,7 +12,7 @@ use std::alloc::{AllocError, Global};
 
 impl Matrix {
     /// The matrix whose rows are the columns of this one, by squares of 64 x 64 bits. Takes memory where there is a bit, and is
-    /// refused only then.
+    /// refused only then, also where its bits, with the padding of each row, pass `MAX_BITS`.
     ///
     /// ```text
     /// of the rows 110 and 001: m.transpose(alloc)? has the rows 10, 10 and 01
@@ -87,7 +87,7 @@ impl Matrix {
         ensures bits { (j : ℕ) → j < count → has_bit result j ≡ item self.now row (column + j) }
         ensures above { (j : ℕ) → count ≤ j → has_bit result j ≡ false }
     {
-        let start = row * self.columns + column;
+        let start = row * self.stride + column;
         self.bits.get_range(start..start + count).load_le()
     }
 
@@ -100,7 +100,7 @@ impl Matrix {
         ensures part { (j : ℕ) → j < count → item self.new row (column + j) ≡ has_bit number j }
         ensures others { (i j : ℕ) → i < self.old.rows → j < self.old.columns → (i ≢ row) ⊎ (j < column) ⊎ (column + count ≤ j) → item self.new i j ≡ item self.old i j }
     {
-        let start = row * self.columns + column;
+        let start = row * self.stride + column;
         let words = [number];
         self.bits.copy_into(
             start..start + count,

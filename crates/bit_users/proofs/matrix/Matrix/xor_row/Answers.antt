@@ -1,25 +1,24 @@
-use Rattle.std.proofs.Common.{◌≡◌, ◌+◌, ◌-◌, ◌*◌, not, slice_range, refl, ◌∙◌, ap, arith}
+use Rattle.std.proofs.Common.{◌≡◌, ◌+◌, ◌-◌, ◌*◌, not, slice_range, ◌∙◌, ap, arith}
 use Rattle.std.specs.Prelude.{if◌then◌else◌}
-use Rattle.bit_users.specs.Matrix.{Grid, item, plus_mod_2}
-use Rattle.bit_users.proofs.Grids.{row_combined, row_item, row_uncombined}
+use Rattle.bit_users.specs.Matrix.{item, plus_mod_2}
+use Rattle.bit_users.proofs.Padding.{item_padded, row_combined, row_uncombined}
 use Rattle.bit_users.proofs.matrix.Matrix.xor_row.Goals as goal
 use Rattle.bit_users.specs.contracts.matrix.Matrix.{the_view}
 
 pub returns-clause-row : goal.returns-clause-row
 returns-clause-row c j inside =
-    let old : Grid = the_view c.self.inside in
-    let new : Grid = record { rows = old.rows; columns = old.columns; bits = c.xor_within.new.self.list } in
-    let start = c.args.from * old.columns in
-    let n : start + old.columns - start ≡ old.columns = omega arith in
+    let m = c.self.inside in
+    let start = c.args.from * m.stride in
+    let n : start + m.stride - start ≡ m.stride = omega arith in
     let within = rw (← c.self.view_is) at inside in
     rw (← c.self.view_is)
-    (row_combined (λ x y. if x then not y else y) old new (slice_range old.bits start (start + old.columns)) c.args.into (start + old.columns - start) c.self.invariant.count (rw (← c.self.view_is) at c.requires.into) n refl c.xor_within.ensures.list j within
-    ∙ ap (plus_mod_2 (item old c.args.into j)) (row_item old.bits start old.columns (start + old.columns) j refl within))
+    (row_combined (λ x y. if x then not y else y) m.bits.list c.xor_within.new.self.list (slice_range m.bits.list start (start + m.stride)) m.rows m.columns m.stride m.bits.head c.args.into (start + m.stride - start) c.self.invariant c.xor_within.ensures.stayed.len (rw (← c.self.view_is) at c.requires.into) n c.xor_within.ensures.list j within
+    ∙ ap (plus_mod_2 (item (the_view m) c.args.into j)) (item_padded m.bits.list m.rows m.columns m.stride m.bits.head c.args.from j c.self.invariant (rw (← c.self.view_is) at c.requires.from) within))
 
 pub returns-clause-others : goal.returns-clause-others
 returns-clause-others c =
-    let old : Grid = the_view c.self.inside in
-    let new : Grid = record { rows = old.rows; columns = old.columns; bits = c.xor_within.new.self.list } in
-    let start = c.args.from * old.columns in
-    let n : start + old.columns - start ≡ old.columns = omega arith in
-    rw (← c.self.view_is) (row_uncombined (λ x y. if x then not y else y) old new (slice_range old.bits start (start + old.columns)) c.args.into (start + old.columns - start) c.self.invariant.count (rw (← c.self.view_is) at c.requires.into) n refl c.xor_within.ensures.list)
+    let m = c.self.inside in
+    let start = c.args.from * m.stride in
+    let n : start + m.stride - start ≡ m.stride = omega arith in
+    rw (← c.self.view_is)
+    (row_uncombined (λ x y. if x then not y else y) m.bits.list c.xor_within.new.self.list (slice_range m.bits.list start (start + m.stride)) m.rows m.columns m.stride m.bits.head c.args.into (start + m.stride - start) c.self.invariant c.xor_within.ensures.stayed.len (rw (← c.self.view_is) at c.requires.into) n c.xor_within.ensures.list)

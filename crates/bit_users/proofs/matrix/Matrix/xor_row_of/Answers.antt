@@ -1,25 +1,20 @@
-use Rattle.std.proofs.Common.{◌≡◌, ◌+◌, ◌*◌, not, false, get_or, refl, sym, ◌∙◌, ap, arith}
+use Rattle.std.proofs.Common.{◌<◌, not, refl, sym, subst, ◌∙◌, ap}
 use Rattle.std.specs.Prelude.{if◌then◌else◌}
 use Rattle.bit_slice.specs.BitSlice.{list_of}
-use Rattle.bit_users.specs.Matrix.{Grid, item, plus_mod_2}
-use Rattle.bit_users.proofs.Grids.{row_combined, row_item, row_uncombined}
+use Rattle.bit_users.specs.Matrix.{item, plus_mod_2}
+use Rattle.bit_users.proofs.Padding.{row_combined, row_uncombined}
 use Rattle.bit_users.proofs.matrix.Matrix.xor_row_of.Goals as goal
 use Rattle.bit_users.specs.contracts.matrix.Matrix.{the_view}
 
 pub returns-clause-row : goal.returns-clause-row
 returns-clause-row c j inside =
-    let old : Grid = the_view c.self.inside in
-    let new : Grid = record { rows = old.rows; columns = old.columns; bits = c.xor_range.new.self.list } in
-    let other : Grid = c.args.other.now in
-    let wide : other.columns ≡ old.columns = c.requires.columns ∙ sym (ap (λ g. g.columns) c.self.view_is) in
-    let within = rw (← c.self.view_is) at inside in
+    let m = c.self.inside in
     rw (← c.self.view_is)
-    (row_combined (λ x y. if x then not y else y) old new (list_of c.row.result) c.args.into old.columns c.self.invariant.count (rw (← c.self.view_is) at c.requires.into) refl refl c.xor_range.ensures.list j within
-    ∙ ap (plus_mod_2 (item old c.args.into j))
-    (ap (λ l. get_or l j false) c.row.ensures.list ∙ row_item other.bits (c.args.from * other.columns) other.columns (c.args.from * other.columns + other.columns) j refl (omega arith)))
+    (row_combined (λ x y. if x then not y else y) m.bits.list c.xor_range.new.self.list (list_of c.padded_row.result) m.rows m.columns m.stride m.bits.head c.args.into m.stride c.self.invariant c.xor_range.ensures.stayed.len (rw (← c.self.view_is) at c.requires.into) refl c.xor_range.ensures.list j (rw (← c.self.view_is) at inside)
+    ∙ ap (plus_mod_2 (item (the_view m) c.args.into j)) (c.padded_row.ensures.items j (subst (λ k. j < k) (sym c.requires.columns) inside)))
 
 pub returns-clause-others : goal.returns-clause-others
 returns-clause-others c =
-    let old : Grid = the_view c.self.inside in
-    let new : Grid = record { rows = old.rows; columns = old.columns; bits = c.xor_range.new.self.list } in
-    rw (← c.self.view_is) (row_uncombined (λ x y. if x then not y else y) old new (list_of c.row.result) c.args.into old.columns c.self.invariant.count (rw (← c.self.view_is) at c.requires.into) refl refl c.xor_range.ensures.list)
+    let m = c.self.inside in
+    rw (← c.self.view_is)
+    (row_uncombined (λ x y. if x then not y else y) m.bits.list c.xor_range.new.self.list (list_of c.padded_row.result) m.rows m.columns m.stride m.bits.head c.args.into m.stride c.self.invariant c.xor_range.ensures.stayed.len (rw (← c.self.view_is) at c.requires.into) refl c.xor_range.ensures.list)

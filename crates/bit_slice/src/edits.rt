@@ -31,12 +31,14 @@ impl BitOperator for AndNot {
     }
 }
 
-/// Flips the bits from `from` up to `upto` of the words' row, 64 at a time. No other bit changes. Requires that `from` is
-/// at most `upto`, which is at most the row's length.
+/// Flips the bits from `from` up to `upto` of the words' row, 64 at a time. No other bit changes. Requires that `from`
+/// is at most `upto`, which is at most the row's length.
 pub fn flip_words<T: BitStore, O: BitOrder>(words: &mut [T], from: usize, upto: usize)
     requires ordered { from ≤ upto }
     requires within { upto ≤ T.BITS * length words.old }
-    ensures bits { row T.BitStore O.BitOrder words.new ≡ put (row T.BitStore O.BitOrder words.old) from (map not (slice_range (row T.BitStore O.BitOrder words.old) from upto)) }
+    ensures bits { row T.BitStore O.BitOrder words.new
+        ≡ put (row T.BitStore O.BitOrder words.old) from
+        (map not (slice_range (row T.BitStore O.BitOrder words.old) from upto)) }
     ensures size { length words.new ≡ length words.old }
 {
     let mut at = from;
@@ -52,7 +54,9 @@ pub fn flip_words<T: BitStore, O: BitOrder>(words: &mut [T], from: usize, upto: 
 pub fn flip_in_vec<T: BitStore, O: BitOrder>(words: &mut Vec<T>, from: usize, upto: usize)
     requires ordered { from ≤ upto }
     requires within { upto ≤ T.BITS * length words.old.items }
-    ensures bits { row T.BitStore O.BitOrder words.new.items ≡ put (row T.BitStore O.BitOrder words.old.items) from (map not (slice_range (row T.BitStore O.BitOrder words.old.items) from upto)) }
+    ensures bits { row T.BitStore O.BitOrder words.new.items
+        ≡ put (row T.BitStore O.BitOrder words.old.items) from
+        (map not (slice_range (row T.BitStore O.BitOrder words.old.items) from upto)) }
     ensures size { length words.new.items ≡ length words.old.items }
     ensures capacity { vec_capacity words.new ≡ vec_capacity words.old }
 {
@@ -68,7 +72,9 @@ fn rotate_few<T: BitStore, O: BitOrder>(words: &mut [T], head: usize, len: usize
     requires within { head + len ≤ T.BITS * length words.old }
     requires inside { by ≤ len }
     requires few { by ≤ 1024 }
-    ensures bits { let bits = slice_range (row T.BitStore O.BitOrder words.old) head (head + len) in row T.BitStore O.BitOrder words.new ≡ put (row T.BitStore O.BitOrder words.old) head (drop by bits ++ take by bits) }
+    ensures bits { let bits = slice_range (row T.BitStore O.BitOrder words.old) head (head + len)
+        in row T.BitStore O.BitOrder words.new
+        ≡ put (row T.BitStore O.BitOrder words.old) head (drop by bits ++ take by bits) }
     ensures size { length words.new ≡ length words.old }
 {
     let mut kept = [0u64; 16];
@@ -83,7 +89,9 @@ fn rotate_all_but_few<T: BitStore, O: BitOrder>(words: &mut [T], head: usize, le
     requires within { head + len ≤ T.BITS * length words.old }
     requires inside { by ≤ len }
     requires few { len - by ≤ 1024 }
-    ensures bits { let bits = slice_range (row T.BitStore O.BitOrder words.old) head (head + len) in row T.BitStore O.BitOrder words.new ≡ put (row T.BitStore O.BitOrder words.old) head (drop by bits ++ take by bits) }
+    ensures bits { let bits = slice_range (row T.BitStore O.BitOrder words.old) head (head + len)
+        in row T.BitStore O.BitOrder words.new
+        ≡ put (row T.BitStore O.BitOrder words.old) head (drop by bits ++ take by bits) }
     ensures size { length words.new ≡ length words.old }
 {
     let rest = len - by;
@@ -103,7 +111,9 @@ fn rotate_by_reversals<T: BitStore, O: BitOrder>(
     requires within { head + len ≤ T.BITS * length words.old }
     requires fits { head + len < 2 ^ 64 }
     requires inside { by ≤ len }
-    ensures bits { let bits = slice_range (row T.BitStore O.BitOrder words.old) head (head + len) in row T.BitStore O.BitOrder words.new ≡ put (row T.BitStore O.BitOrder words.old) head (drop by bits ++ take by bits) }
+    ensures bits { let bits = slice_range (row T.BitStore O.BitOrder words.old) head (head + len)
+        in row T.BitStore O.BitOrder words.new
+        ≡ put (row T.BitStore O.BitOrder words.old) head (drop by bits ++ take by bits) }
     ensures size { length words.new ≡ length words.old }
 {
     reverse_words::<T, O>(words, head, by);
@@ -111,13 +121,16 @@ fn rotate_by_reversals<T: BitStore, O: BitOrder>(
     reverse_words::<T, O>(words, head, len);
 }
 
-/// Moves the first `by` of the `len` bits of the words' row from `head` on after the others: in one pass where at most 1024 bits stand
-/// on one side, else by three reversals. No other bit changes. Requires that the run lies in the words, and `by` is at most its length.
+/// Moves the first `by` of the `len` bits of the words' row from `head` on after the others: in one pass where at most
+/// 1024 bits stand on one side, else by three reversals. No other bit changes. Requires that the run lies in the words,
+/// and `by` is at most its length.
 pub fn rotate_words<T: BitStore, O: BitOrder>(words: &mut [T], head: usize, len: usize, by: usize)
     requires room { T.BITS * length words.old ≤ MAX_BITS + 2 * T.BITS }
     requires within { head + len ≤ T.BITS * length words.old }
     requires inside { by ≤ len }
-    ensures bits { let bits = slice_range (row T.BitStore O.BitOrder words.old) head (head + len) in row T.BitStore O.BitOrder words.new ≡ put (row T.BitStore O.BitOrder words.old) head (drop by bits ++ take by bits) }
+    ensures bits { let bits = slice_range (row T.BitStore O.BitOrder words.old) head (head + len)
+        in row T.BitStore O.BitOrder words.new
+        ≡ put (row T.BitStore O.BitOrder words.old) head (drop by bits ++ take by bits) }
     ensures size { length words.new ≡ length words.old }
 {
     if by <= KEPT {
@@ -140,15 +153,17 @@ pub fn shift_words_left<T: BitStore, O: BitOrder>(
     requires room { T.BITS * length words.old ≤ MAX_BITS + 2 * T.BITS }
     requires within { head + len ≤ T.BITS * length words.old }
     requires inside { by ≤ len }
-    ensures bits { row T.BitStore O.BitOrder words.new ≡ put (row T.BitStore O.BitOrder words.old) head (drop by (slice_range (row T.BitStore O.BitOrder words.old) head (head + len)) ++ replicate by false) }
+    ensures bits { row T.BitStore O.BitOrder words.new
+        ≡ put (row T.BitStore O.BitOrder words.old) head
+        (drop by (slice_range (row T.BitStore O.BitOrder words.old) head (head + len)) ++ replicate by false) }
     ensures size { length words.new ≡ length words.old }
 {
     move_bits::<T, O>(words, head + by, head, len - by);
     fill_bits::<T, O>(words, head + (len - by), head + len, false);
 }
 
-/// Moves the `len` bits of the words' row from `head` on `by` places towards the end: the last `by` go, and the first `by`
-/// are false. No other bit changes. Requires that the run lies in the words, and `by` is at most its length.
+/// Moves the `len` bits of the words' row from `head` on `by` places towards the end: the last `by` go, and the first
+/// `by` are false. No other bit changes. Requires that the run lies in the words, and `by` is at most its length.
 pub fn shift_words_right<T: BitStore, O: BitOrder>(
     words: &mut [T],
     head: usize,
@@ -158,14 +173,17 @@ pub fn shift_words_right<T: BitStore, O: BitOrder>(
     requires room { T.BITS * length words.old ≤ MAX_BITS + 2 * T.BITS }
     requires within { head + len ≤ T.BITS * length words.old }
     requires inside { by ≤ len }
-    ensures bits { row T.BitStore O.BitOrder words.new ≡ put (row T.BitStore O.BitOrder words.old) head (replicate by false ++ take (len - by) (slice_range (row T.BitStore O.BitOrder words.old) head (head + len))) }
+    ensures bits { row T.BitStore O.BitOrder words.new
+        ≡ put (row T.BitStore O.BitOrder words.old) head
+        (replicate by false ++ take (len - by) (slice_range (row T.BitStore O.BitOrder words.old) head (head + len))) }
     ensures size { length words.new ≡ length words.old }
 {
     move_bits::<T, O>(words, head, head + by, len - by);
     fill_bits::<T, O>(words, head, head + by, false);
 }
 
-// Combines the `n` bits from `at` on with those from `from` on, at most 1024: these are kept first, and then combined by words.
+// Combines the `n` bits from `at` on with those from `from` on, at most 1024: these are kept first, and then combined
+// by words.
 fn combine_piece<F: BitOperator, T: BitStore, O: BitOrder>(
     words: &mut [T],
     from: usize,
@@ -177,7 +195,10 @@ fn combine_piece<F: BitOperator, T: BitStore, O: BitOrder>(
     requires target { at + n ≤ T.BITS * length words.old }
     requires source_fits { from + n < 2 ^ 64 }
     requires fits { at + n < 2 ^ 64 }
-    ensures bits { row T.BitStore O.BitOrder words.new ≡ put (row T.BitStore O.BitOrder words.old) at (combined F.made (slice_range (row T.BitStore O.BitOrder words.old) at (at + n)) (slice_range (row T.BitStore O.BitOrder words.old) from (from + n))) }
+    ensures bits { row T.BitStore O.BitOrder words.new
+        ≡ put (row T.BitStore O.BitOrder words.old) at
+        (combined F.made (slice_range (row T.BitStore O.BitOrder words.old) at (at + n))
+        (slice_range (row T.BitStore O.BitOrder words.old) from (from + n))) }
     ensures size { length words.new ≡ length words.old }
 {
     let mut kept = [0u64; 16];
@@ -197,7 +218,10 @@ fn combine_upward<F: BitOperator, T: BitStore, O: BitOrder>(
     requires source_fits { from + n < 2 ^ 64 }
     requires fits { at + n < 2 ^ 64 }
     requires order { at ≤ from }
-    ensures bits { row T.BitStore O.BitOrder words.new ≡ put (row T.BitStore O.BitOrder words.old) at (combined F.made (slice_range (row T.BitStore O.BitOrder words.old) at (at + n)) (slice_range (row T.BitStore O.BitOrder words.old) from (from + n))) }
+    ensures bits { row T.BitStore O.BitOrder words.new
+        ≡ put (row T.BitStore O.BitOrder words.old) at
+        (combined F.made (slice_range (row T.BitStore O.BitOrder words.old) at (at + n))
+        (slice_range (row T.BitStore O.BitOrder words.old) from (from + n))) }
     ensures size { length words.new ≡ length words.old }
 {
     let mut done = 0;
@@ -220,7 +244,10 @@ fn combine_downward<F: BitOperator, T: BitStore, O: BitOrder>(
     requires source_fits { from + n < 2 ^ 64 }
     requires fits { at + n < 2 ^ 64 }
     requires order { from ≤ at }
-    ensures bits { row T.BitStore O.BitOrder words.new ≡ put (row T.BitStore O.BitOrder words.old) at (combined F.made (slice_range (row T.BitStore O.BitOrder words.old) at (at + n)) (slice_range (row T.BitStore O.BitOrder words.old) from (from + n))) }
+    ensures bits { row T.BitStore O.BitOrder words.new
+        ≡ put (row T.BitStore O.BitOrder words.old) at
+        (combined F.made (slice_range (row T.BitStore O.BitOrder words.old) at (at + n))
+        (slice_range (row T.BitStore O.BitOrder words.old) from (from + n))) }
     ensures size { length words.new ≡ length words.old }
 {
     let mut left = n;
@@ -231,7 +258,8 @@ fn combine_downward<F: BitOperator, T: BitStore, O: BitOrder>(
     }
 }
 
-// Like `combine_within`, where the bits at `from` end at or before the word in which those at `at` begin: no word is read and written, so nothing is kept.
+// Like `combine_within`, where the bits at `from` end at or before the word in which those at `at` begin: no word is
+// read and written, so nothing is kept.
 #[inline(always)]
 fn combine_back<F: BitOperator, T: BitStore, O: BitOrder>(
     words: &mut [T],
@@ -242,7 +270,10 @@ fn combine_back<F: BitOperator, T: BitStore, O: BitOrder>(
     requires apart { from + n ≤ at / T.BITS * T.BITS }
     requires target { at + n ≤ T.BITS * length words.old }
     requires fits { at + n < 2 ^ 64 }
-    ensures bits { row T.BitStore O.BitOrder words.new ≡ put (row T.BitStore O.BitOrder words.old) at (combined F.made (slice_range (row T.BitStore O.BitOrder words.old) at (at + n)) (slice_range (row T.BitStore O.BitOrder words.old) from (from + n))) }
+    ensures bits { row T.BitStore O.BitOrder words.new
+        ≡ put (row T.BitStore O.BitOrder words.old) at
+        (combined F.made (slice_range (row T.BitStore O.BitOrder words.old) at (at + n))
+        (slice_range (row T.BitStore O.BitOrder words.old) from (from + n))) }
     ensures size { length words.new ≡ length words.old }
 {
     let width = T::BITS as usize;
@@ -261,7 +292,10 @@ fn combine_front<F: BitOperator, T: BitStore, O: BitOrder>(
     requires apart { at + n ≤ from / T.BITS * T.BITS }
     requires source { from + n ≤ T.BITS * length words.old }
     requires fits { from + n < 2 ^ 64 }
-    ensures bits { row T.BitStore O.BitOrder words.new ≡ put (row T.BitStore O.BitOrder words.old) at (combined F.made (slice_range (row T.BitStore O.BitOrder words.old) at (at + n)) (slice_range (row T.BitStore O.BitOrder words.old) from (from + n))) }
+    ensures bits { row T.BitStore O.BitOrder words.new
+        ≡ put (row T.BitStore O.BitOrder words.old) at
+        (combined F.made (slice_range (row T.BitStore O.BitOrder words.old) at (at + n))
+        (slice_range (row T.BitStore O.BitOrder words.old) from (from + n))) }
     ensures size { length words.new ≡ length words.old }
 {
     let width = T::BITS as usize;
@@ -281,7 +315,10 @@ pub fn combine_within<F: BitOperator, T: BitStore, O: BitOrder>(
     requires target { at + n ≤ T.BITS * length words.old }
     requires source_fits { from + n < 2 ^ 64 }
     requires fits { at + n < 2 ^ 64 }
-    ensures bits { row T.BitStore O.BitOrder words.new ≡ put (row T.BitStore O.BitOrder words.old) at (combined F.made (slice_range (row T.BitStore O.BitOrder words.old) at (at + n)) (slice_range (row T.BitStore O.BitOrder words.old) from (from + n))) }
+    ensures bits { row T.BitStore O.BitOrder words.new
+        ≡ put (row T.BitStore O.BitOrder words.old) at
+        (combined F.made (slice_range (row T.BitStore O.BitOrder words.old) at (at + n))
+        (slice_range (row T.BitStore O.BitOrder words.old) from (from + n))) }
     ensures size { length words.new ≡ length words.old }
 {
     let width = T::BITS as usize;

@@ -61,8 +61,8 @@ impl Model for Matrix {
 }
 
 impl Matrix {
-    /// A matrix of false bits. Returns `TooLong` where with the padding of each row there would be more than `MAX_BITS` of them,
-    /// and only there; takes no memory for no bit.
+    /// A matrix of false bits. Returns `TooLong` where with the padding of each row there would be more than `MAX_BITS`
+    /// of them, and only there; takes no memory for no bit.
     pub fn new(alloc: Global, rows: usize, columns: usize) -> Result<Self, GrowError>
         ensures zeros { IfOk result (λ m. m ≡ zeros rows columns) }
         ensures too_long { (result ≡ Err errors.TooLong) ↔ (MAX_BITS < rows * padded columns) }
@@ -81,8 +81,8 @@ impl Matrix {
         })
     }
 
-    /// The identity matrix of `size` rows and columns: true on the diagonal alone. `TooLong` exactly where its bits, with the
-    /// padding of each row, pass `MAX_BITS`; takes no memory for size 0.
+    /// The identity matrix of `size` rows and columns: true on the diagonal alone. `TooLong` exactly where its bits,
+    /// with the padding of each row, pass `MAX_BITS`; takes no memory for size 0.
     ///
     /// ```text
     /// Matrix::identity(alloc, 3)?      // 100, 010, 001
@@ -134,7 +134,8 @@ impl Matrix {
         ensures alike { AreAlike self.new self.old }
         ensures bits { self.new.bits ≡ set self.old.bits (row * self.old.columns + column) bit }
         ensures here { item self.new row column ≡ bit }
-        ensures others { (i j : ℕ) → i < self.old.rows → j < self.old.columns → (i ≢ row) ⊎ (j ≢ column) → item self.new i j ≡ item self.old i j }
+        ensures others { (i j : ℕ) → i < self.old.rows → j < self.old.columns → (i ≢ row) ⊎ (j ≢ column)
+            → item self.new i j ≡ item self.old i j }
     {
         self.bits.set(row * self.stride + column, bit);
     }
@@ -142,7 +143,8 @@ impl Matrix {
     /// The bits of a row, as a view that begins with a word. Requires that the matrix has it.
     pub fn row(&self, row: usize) -> BitSlice<'_, usize, Lsb0>
         requires { row < self.now.rows }
-        ensures list { list_of result ≡ slice_range self.now.bits (row * self.now.columns) (row * self.now.columns + self.now.columns) }
+        ensures list { list_of result ≡ slice_range self.now.bits (row * self.now.columns)
+            (row * self.now.columns + self.now.columns) }
         ensures len { len_of result ≡ self.now.columns }
         ensures head { head_of result ≡ 0 }
         ensures items { (j : ℕ) → j < self.now.columns → slice_get (list_of result) j ≡ Some (item self.now row j) }
@@ -167,8 +169,10 @@ impl Matrix {
         requires into { into < self.old.rows }
         requires from { from < self.old.rows }
         ensures alike { AreAlike self.new self.old }
-        ensures row { (j : ℕ) → j < self.old.columns → item self.new into j ≡ (item self.old into j || item self.old from j) }
-        ensures others { (i j : ℕ) → i < self.old.rows → j < self.old.columns → i ≢ into → item self.new i j ≡ item self.old i j }
+        ensures row { (j : ℕ) → j < self.old.columns
+            → item self.new into j ≡ (item self.old into j || item self.old from j) }
+        ensures others { (i j : ℕ) → i < self.old.rows → j < self.old.columns → i ≢ into
+            → item self.new i j ≡ item self.old i j }
     {
         let stride = self.stride;
         let start = from * stride;
@@ -181,8 +185,10 @@ impl Matrix {
         requires into { into < self.old.rows }
         requires from { from < self.old.rows }
         ensures alike { AreAlike self.new self.old }
-        ensures row { (j : ℕ) → j < self.old.columns → item self.new into j ≡ plus_mod_2 (item self.old into j) (item self.old from j) }
-        ensures others { (i j : ℕ) → i < self.old.rows → j < self.old.columns → i ≢ into → item self.new i j ≡ item self.old i j }
+        ensures row { (j : ℕ) → j < self.old.columns
+            → item self.new into j ≡ plus_mod_2 (item self.old into j) (item self.old from j) }
+        ensures others { (i j : ℕ) → i < self.old.rows → j < self.old.columns → i ≢ into
+            → item self.new i j ≡ item self.old i j }
     {
         let stride = self.stride;
         let start = from * stride;
@@ -195,22 +201,27 @@ impl Matrix {
         requires from { from < other.now.rows }
         requires columns { other.now.columns ≡ self.old.columns }
         ensures alike { AreAlike self.new self.old }
-        ensures row { (j : ℕ) → j < self.old.columns → item self.new into j ≡ (item self.old into j || item other.now from j) }
-        ensures others { (i j : ℕ) → i < self.old.rows → j < self.old.columns → i ≢ into → item self.new i j ≡ item self.old i j }
+        ensures row { (j : ℕ) → j < self.old.columns
+            → item self.new into j ≡ (item self.old into j || item other.now from j) }
+        ensures others { (i j : ℕ) → i < self.old.rows → j < self.old.columns → i ≢ into
+            → item self.new i j ≡ item self.old i j }
     {
         let start = into * self.stride;
         self.bits
             .or_range(start..start + self.stride, other.padded_row(from));
     }
 
-    /// Like `xor_row`, with a row of another matrix. Requires that both matrices have as many columns, and each its row.
+    /// Like `xor_row`, with a row of another matrix. Requires that both matrices have as many columns, and each its
+    /// row.
     pub fn xor_row_of(&mut self, into: usize, other: &Self, from: usize)
         requires into { into < self.old.rows }
         requires from { from < other.now.rows }
         requires columns { other.now.columns ≡ self.old.columns }
         ensures alike { AreAlike self.new self.old }
-        ensures row { (j : ℕ) → j < self.old.columns → item self.new into j ≡ plus_mod_2 (item self.old into j) (item other.now from j) }
-        ensures others { (i j : ℕ) → i < self.old.rows → j < self.old.columns → i ≢ into → item self.new i j ≡ item self.old i j }
+        ensures row { (j : ℕ) → j < self.old.columns
+            → item self.new into j ≡ plus_mod_2 (item self.old into j) (item other.now from j) }
+        ensures others { (i j : ℕ) → i < self.old.rows → j < self.old.columns → i ≢ into
+            → item self.new i j ≡ item self.old i j }
     {
         let start = into * self.stride;
         self.bits
@@ -224,7 +235,8 @@ impl Matrix {
         requires to { to < self.old.rows }
         ensures alike { AreAlike self.new self.old }
         ensures row { (j : ℕ) → j < self.old.columns → item self.new to j ≡ item self.old from j }
-        ensures others { (i j : ℕ) → i < self.old.rows → j < self.old.columns → i ≢ to → item self.new i j ≡ item self.old i j }
+        ensures others { (i j : ℕ) → i < self.old.rows → j < self.old.columns → i ≢ to
+            → item self.new i j ≡ item self.old i j }
     {
         let stride = self.stride;
         let start = from * stride;
@@ -238,7 +250,8 @@ impl Matrix {
         ensures alike { AreAlike self.new self.old }
         ensures first { (j : ℕ) → j < self.old.columns → item self.new a j ≡ item self.old b j }
         ensures second { (j : ℕ) → j < self.old.columns → item self.new b j ≡ item self.old a j }
-        ensures others { (i j : ℕ) → i < self.old.rows → j < self.old.columns → i ≢ a → i ≢ b → item self.new i j ≡ item self.old i j }
+        ensures others { (i j : ℕ) → i < self.old.rows → j < self.old.columns → i ≢ a → i ≢ b
+            → item self.new i j ≡ item self.old i j }
     {
         if a != b {
             self.xor_row(a, b);
@@ -248,7 +261,8 @@ impl Matrix {
     }
 }
 
-// How many bits a row of so many columns takes with its padding; where that passes the largest usize, more than any matrix has.
+// How many bits a row of so many columns takes with its padding; where that passes the largest usize, more than any
+// matrix has.
 fn stride_of(columns: usize) -> usize
     ensures exact { columns ≤ MAX_BITS → result ≡ padded columns }
     ensures past { MAX_BITS < columns → MAX_BITS < result }

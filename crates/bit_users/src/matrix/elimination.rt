@@ -9,8 +9,8 @@ use std::alloc::{AllocError, Global};
 
 impl Matrix {
     /// The inverse mod 2, by Gauss-Jordan elimination over whole rows: the products with it are the identity from both
-    /// sides. None exactly where no matrix is the inverse, which is where the rank is less than the number of rows. Takes memory where there is a bit, and is refused only
-    /// then. Requires that the matrix is square.
+    /// sides. None exactly where no matrix is the inverse, which is where the rank is less than the number of rows.
+    /// Takes memory where there is a bit, and is refused only then. Requires that the matrix is square.
     ///
     /// ```text
     /// let undo = scramble.inverse_mod_2(alloc)?;
@@ -34,8 +34,9 @@ impl Matrix {
         Ok(Some(made))
     }
 
-    // Makes a column that of the identity, by rows that are added to others here and in `made`. False where the column has no
-    // bit from its own row on, and then nothing changes. Requires that the columns before it are those of the identity.
+    // Makes a column that of the identity, by rows that are added to others here and in `made`. False where the column
+    // has no bit from its own row on, and then nothing changes. Requires that the columns before it are those of the
+    // identity.
     fn reduce_column(&mut self, made: &mut Self, column: usize) -> bool
         requires square { self.old.rows ≡ self.old.columns }
         requires alike { AreAlike made.old self.old }
@@ -43,7 +44,8 @@ impl Matrix {
         requires before { AreUnits (item self.old) self.old.columns column }
         ensures alike { AreAlike self.new self.old }
         ensures made_alike { AreAlike made.new made.old }
-        ensures linked { (a : ℕ → ℕ → Bool) → AreLinked a (item self.old) (item made.old) self.old.columns → AreLinked a (item self.new) (item made.new) self.old.columns }
+        ensures linked { (a : ℕ → ℕ → Bool) → AreLinked a (item self.old) (item made.old) self.old.columns
+            → AreLinked a (item self.new) (item made.new) self.old.columns }
         ensures reduced { result ≡ true → AreUnits (item self.new) self.old.columns (column + 1) }
         ensures stuck { result ≡ false → (i : ℕ) → i < self.old.columns → column ≤ i → item self.old i column ≡ false }
         ensures stays { result ≡ false → (self.new ≡ self.old) × (made.new ≡ made.old) }
@@ -67,7 +69,8 @@ impl Matrix {
         requires bit { item self.old pivot column ≡ true }
         ensures alike { AreAlike self.new self.old }
         ensures made_alike { AreAlike made.new made.old }
-        ensures linked { (a : ℕ → ℕ → Bool) → AreLinked a (item self.old) (item made.old) self.old.columns → AreLinked a (item self.new) (item made.new) self.old.columns }
+        ensures linked { (a : ℕ → ℕ → Bool) → AreLinked a (item self.old) (item made.old) self.old.columns
+            → AreLinked a (item self.new) (item made.new) self.old.columns }
         ensures before { AreUnits (item self.new) self.old.columns column }
         ensures pivot { item self.new column column ≡ true }
     {
@@ -80,7 +83,8 @@ impl Matrix {
     // The first row from the one of a column's index on that has a bit in the column.
     fn pivot_row(&self, column: usize) -> Option<usize>
         requires { column < self.now.columns }
-        ensures { MatchOption result ((i : ℕ) → i < self.now.rows → column ≤ i → item self.now i column ≡ false) (λ pivot. (pivot < self.now.rows) × (column ≤ pivot) × (item self.now pivot column ≡ true)) }
+        ensures { MatchOption result ((i : ℕ) → i < self.now.rows → column ≤ i → item self.now i column ≡ false)
+            (λ pivot. (pivot < self.now.rows) × (column ≤ pivot) × (item self.now pivot column ≡ true)) }
     {
         for row in column..self.rows() {
             if self.get(row, column) {
@@ -100,7 +104,8 @@ impl Matrix {
         requires pivot { item self.old column column ≡ true }
         ensures alike { AreAlike self.new self.old }
         ensures made_alike { AreAlike made.new made.old }
-        ensures linked { (a : ℕ → ℕ → Bool) → AreLinked a (item self.old) (item made.old) self.old.columns → AreLinked a (item self.new) (item made.new) self.old.columns }
+        ensures linked { (a : ℕ → ℕ → Bool) → AreLinked a (item self.old) (item made.old) self.old.columns
+            → AreLinked a (item self.new) (item made.new) self.old.columns }
         ensures reduced { AreUnits (item self.new) self.old.columns (column + 1) }
     {
         for row in 0..self.rows() {
@@ -118,7 +123,8 @@ impl Matrix {
         requires pivot { item self.old column column ≡ true }
         ensures alike { AreAlike self.new self.old }
         ensures made_alike { AreAlike made.new made.old }
-        ensures linked { (a : ℕ → ℕ → Bool) → AreLinked a (item self.old) (item made.old) self.old.columns → AreLinked a (item self.new) (item made.new) self.old.columns }
+        ensures linked { (a : ℕ → ℕ → Bool) → AreLinked a (item self.old) (item made.old) self.old.columns
+            → AreLinked a (item self.new) (item made.new) self.old.columns }
         ensures before { AreUnits (item self.new) self.old.columns column }
         ensures pivot { item self.new column column ≡ true }
         ensures cleared { row ≢ column → item self.new row column ≡ false }

@@ -44,7 +44,8 @@ impl Matrix {
         requires order { start ≤ end }
         requires within { end ≤ self.old.rows }
         ensures alike { AreAlike self.new self.old }
-        ensures inside { (i j : ℕ) → start ≤ i → i < end → IsSet self.new i j ↔ IsPathOver (IsSet self.old) start end i j }
+        ensures inside { (i j : ℕ) → start ≤ i → i < end → IsSet self.new i j
+            ↔ IsPathOver (IsSet self.old) start end i j }
         ensures outside { (i j : ℕ) → (i < start) ⊎ (end ≤ i) → IsSet self.new i j ↔ IsSet self.old i j }
     {
         for middle in start..end {
@@ -60,7 +61,8 @@ impl Matrix {
         requires within { end ≤ self.old.rows }
         requires node { middle < self.old.rows }
         ensures alike { AreAlike self.new self.old }
-        ensures edges { (i j : ℕ) → IsSet self.new i j ↔ (IsSet self.old i j ⊎ ((start ≤ i) × (i < end) × IsSet self.old i middle × IsSet self.old middle j)) }
+        ensures edges { (i j : ℕ) → IsSet self.new i j
+            ↔ (IsSet self.old i j ⊎ ((start ≤ i) × (i < end) × IsSet self.old i middle × IsSet self.old middle j)) }
     {
         for row in start..end {
             self.lead_row_through(row, middle);
@@ -74,7 +76,8 @@ impl Matrix {
         requires row { row < self.old.rows }
         requires node { middle < self.old.rows }
         ensures alike { AreAlike self.new self.old }
-        ensures edges { (i j : ℕ) → IsSet self.new i j ↔ (IsSet self.old i j ⊎ ((i ≡ row) × IsSet self.old row middle × IsSet self.old middle j)) }
+        ensures edges { (i j : ℕ) → IsSet self.new i j
+            ↔ (IsSet self.old i j ⊎ ((i ≡ row) × IsSet self.old row middle × IsSet self.old middle j)) }
     {
         if self.get(row, middle) {
             self.or_row(row, middle);
@@ -105,9 +108,10 @@ impl Matrix {
         self.row(row).any()
     }
 
-    // Adds an edge from `row` to each node to which an edge leads from one of the nodes from `start` up to `end`, at most 64,
-    // to which an edge leads from `row`. Nodes whose bits in `leading` are not set have no edge, and are passed over.
-    // Requires that the nodes are closed: then those to which an edge leads from one of them are not followed too.
+    // Adds an edge from `row` to each node to which an edge leads from one of the nodes from `start` up to `end`, at
+    // most 64, to which an edge leads from `row`. Nodes whose bits in `leading` are not set have no edge, and are
+    // passed over. Requires that the nodes are closed: then those to which an edge leads from one of them are not
+    // followed too.
     fn lead_row(&mut self, row: usize, start: usize, end: usize, leading: u64)
         requires square { self.old.rows ≡ self.old.columns }
         requires row { row < self.old.rows }
@@ -117,7 +121,8 @@ impl Matrix {
         requires closed { IsClosed (IsSet self.old) start end }
         requires leading { (p j : ℕ) → start + p < end → IsSet self.old (start + p) j → has_bit leading p ≡ true }
         ensures alike { AreAlike self.new self.old }
-        ensures edges { (i j : ℕ) → IsSet self.new i j ↔ (IsSet self.old i j ⊎ ((i ≡ row) × LeadsOver (IsSet self.old) start end row j)) }
+        ensures edges { (i j : ℕ) → IsSet self.new i j
+            ↔ (IsSet self.old i j ⊎ ((i ≡ row) × LeadsOver (IsSet self.old) start end row j)) }
     {
         let count = end - start;
         let mut chunk = self.read_part(row, start, count) & leading;

@@ -9,10 +9,10 @@ use bit_addressing::GrowError;
 use std::alloc::Global;
 
 impl Matrix {
-    /// The product over or and and: a bit is set where a middle index has a bit in its row here, and in its column
-    /// in the other matrix. Each bit set here costs an `or_row_of`. `TooLong` exactly where the bits of the product, with
-    /// the padding of each row, pass `MAX_BITS`; takes no memory for no bit. Requires that there are as many rows in the other matrix as
-    /// columns here.
+    /// The product over or and and: a bit is set where a middle index has a bit in its row here, and in its column in
+    /// the other matrix. Each bit set here costs an `or_row_of`. `TooLong` exactly where the bits of the product, with
+    /// the padding of each row, pass `MAX_BITS`; takes no memory for no bit. Requires that there are as many rows in
+    /// the other matrix as columns here.
     ///
     /// ```text
     /// let two_steps = graph.times(&graph, alloc)?;     // where paths of two edges lead
@@ -21,7 +21,8 @@ impl Matrix {
         requires { other.now.rows ≡ self.now.columns }
         ensures rows { IfOk result (λ m. m.rows ≡ self.now.rows) }
         ensures columns { IfOk result (λ m. m.columns ≡ other.now.columns) }
-        ensures items { IfOk result (λ m. (i j : ℕ) → i < self.now.rows → j < other.now.columns → item m i j ≡ product self.now other.now i j) }
+        ensures items { IfOk result (λ m. (i j : ℕ) → i < self.now.rows → j < other.now.columns
+            → item m i j ≡ product self.now other.now i j) }
         ensures too_long { (result ≡ Err errors.TooLong) ↔ (MAX_BITS < self.now.rows * padded other.now.columns) }
         ensures memory { result ≡ Err errors.OutOfMemory → 0 < self.now.rows * other.now.columns }
     {
@@ -34,13 +35,14 @@ impl Matrix {
 
     /// The product mod 2: a bit is set where an odd number of middle indices have a bit in its row here, and in its
     /// column in the other matrix. Each bit set here costs an `xor_row_of`. `TooLong` exactly where the bits of the
-    /// product, with the padding of each row, pass `MAX_BITS`; takes no memory for no bit. Requires that there are as many rows in the other matrix
-    /// as columns here.
+    /// product, with the padding of each row, pass `MAX_BITS`; takes no memory for no bit. Requires that there are as
+    /// many rows in the other matrix as columns here.
     pub fn times_mod_2(&self, other: &Self, alloc: Global) -> Result<Self, GrowError>
         requires { other.now.rows ≡ self.now.columns }
         ensures rows { IfOk result (λ m. m.rows ≡ self.now.rows) }
         ensures columns { IfOk result (λ m. m.columns ≡ other.now.columns) }
-        ensures items { IfOk result (λ m. (i j : ℕ) → i < self.now.rows → j < other.now.columns → item m i j ≡ product_mod_2 self.now other.now i j) }
+        ensures items { IfOk result (λ m. (i j : ℕ) → i < self.now.rows → j < other.now.columns
+            → item m i j ≡ product_mod_2 self.now other.now i j) }
         ensures too_long { (result ≡ Err errors.TooLong) ↔ (MAX_BITS < self.now.rows * padded other.now.columns) }
         ensures memory { result ≡ Err errors.OutOfMemory → 0 < self.now.rows * other.now.columns }
     {
@@ -58,8 +60,11 @@ impl Matrix {
         requires columns { right.now.columns ≡ self.old.columns }
         requires middle { right.now.rows ≡ left.now.columns }
         ensures alike { AreAlike self.new self.old }
-        ensures row { (j : ℕ) → j < self.old.columns → item self.new row j ≡ (item self.old row j || any_below (λ k. item left.now row k && item right.now k j) left.now.columns) }
-        ensures others { (i j : ℕ) → i < self.old.rows → j < self.old.columns → i ≢ row → item self.new i j ≡ item self.old i j }
+        ensures row { (j : ℕ) → j < self.old.columns
+            → item self.new row j ≡ (item self.old row j
+            || any_below (λ k. item left.now row k && item right.now k j) left.now.columns) }
+        ensures others { (i j : ℕ) → i < self.old.rows → j < self.old.columns → i ≢ row
+            → item self.new i j ≡ item self.old i j }
     {
         for middle in 0..left.columns() {
             if left.get(row, middle) {
@@ -75,8 +80,11 @@ impl Matrix {
         requires columns { right.now.columns ≡ self.old.columns }
         requires middle { right.now.rows ≡ left.now.columns }
         ensures alike { AreAlike self.new self.old }
-        ensures row { (j : ℕ) → j < self.old.columns → item self.new row j ≡ plus_mod_2 (item self.old row j) (sum_mod_2 (λ k. item left.now row k && item right.now k j) left.now.columns) }
-        ensures others { (i j : ℕ) → i < self.old.rows → j < self.old.columns → i ≢ row → item self.new i j ≡ item self.old i j }
+        ensures row { (j : ℕ) → j < self.old.columns
+            → item self.new row j ≡ plus_mod_2 (item self.old row j)
+            (sum_mod_2 (λ k. item left.now row k && item right.now k j) left.now.columns) }
+        ensures others { (i j : ℕ) → i < self.old.rows → j < self.old.columns → i ≢ row
+            → item self.new i j ≡ item self.old i j }
     {
         for middle in 0..left.columns() {
             if left.get(row, middle) {

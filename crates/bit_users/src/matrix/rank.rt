@@ -8,8 +8,8 @@ use crate::matrix::Matrix;
 use std::alloc::{AllocError, Global};
 
 impl Matrix {
-    /// The rank mod 2: how many rows are independent, so that each row is a sum mod 2 of some of them. Each row of a copy is reduced by those
-    /// before it, as a whole. Takes memory where there is a bit, and is refused only then.
+    /// The rank mod 2: how many rows are independent, so that each row is a sum mod 2 of some of them. Each row of a
+    /// copy is reduced by those before it, as a whole. Takes memory where there is a bit, and is refused only then.
     ///
     /// ```text
     /// of the rows 110, 011 and 101: m.rank_mod_2(alloc)? == 2
@@ -40,7 +40,8 @@ impl Matrix {
     fn reduce_row(&mut self, row: usize)
         requires { row < self.old.rows }
         ensures alike { AreAlike self.new self.old }
-        ensures reduced { (a : ℕ → ℕ → Bool) → AreReduced a (item self.old) self.old.rows self.old.columns row → IsReducing a (item self.old) (item self.new) self.old.rows self.old.columns row row }
+        ensures reduced { (a : ℕ → ℕ → Bool) → AreReduced a (item self.old) self.old.rows self.old.columns row
+            → IsReducing a (item self.old) (item self.new) self.old.rows self.old.columns row row }
     {
         for before in 0..row {
             self.reduce_row_by(row, before);
@@ -52,7 +53,9 @@ impl Matrix {
         requires row { row < self.old.rows }
         requires before { before < row }
         ensures alike { AreAlike self.new self.old }
-        ensures reduced { (a w : ℕ → ℕ → Bool) → AreReduced a w self.old.rows self.old.columns row → IsReducing a w (item self.old) self.old.rows self.old.columns row before → IsReducing a w (item self.new) self.old.rows self.old.columns row (before + 1) }
+        ensures reduced { (a w : ℕ → ℕ → Bool) → AreReduced a w self.old.rows self.old.columns row
+            → IsReducing a w (item self.old) self.old.rows self.old.columns row before
+            → IsReducing a w (item self.new) self.old.rows self.old.columns row (before + 1) }
     {
         if let Some(column) = self.first_in_row(before) {
             if self.get(row, column) {
@@ -64,7 +67,8 @@ impl Matrix {
     // The column of the first bit of a row.
     fn first_in_row(&self, row: usize) -> Option<usize>
         requires { row < self.now.rows }
-        ensures { MatchOption result ((j : ℕ) → j < self.now.columns → item self.now row j ≡ false) (λ column. (column < self.now.columns) × IsLead (item self.now row) column) }
+        ensures { MatchOption result ((j : ℕ) → j < self.now.columns → item self.now row j ≡ false)
+            (λ column. (column < self.now.columns) × IsLead (item self.now row) column) }
     {
         self.row(row).first_one()
     }

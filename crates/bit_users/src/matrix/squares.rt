@@ -2,8 +2,9 @@
 ghost use Rattle.std.specs.Prelude.{◌≡◌, ◌<◌, ℕ};
 ghost use Rattle.bit_users.specs.Squares.{IsLower, source_column, source_row, square_bit};
 
-// Makes the rows of a square its columns, by six steps. Each weaves the words of the two halves: of a word of the upper half and its partner in
-// the lower half one takes the bits of the even columns, and the next those of the odd ones, where a column is even by one digit of its index.
+// Makes the rows of a square its columns, by six steps. Each weaves the words of the two halves: of a word of the upper
+// half and its partner in the lower half one takes the bits of the even columns, and the next those of the odd ones,
+// where a column is even by one digit of its index.
 pub fn turn(square: &mut [u64; 64])
     ensures { (i j : ℕ) → i < 64 → j < 64 → square_bit square.new i j ≡ square_bit square.old j i }
 {
@@ -20,7 +21,8 @@ pub fn turn(square: &mut [u64; 64])
 #[inline(always)]
 fn weave(from: &[u64; 64], to: &mut [u64; 64], step: u8, lower: u64)
     requires { IsLower step lower }
-    ensures { (i j : ℕ) → i < 64 → j < 64 → square_bit to.new i j ≡ square_bit from.now (source_row step i j) (source_column step i j) }
+    ensures { (i j : ℕ) → i < 64 → j < 64
+        → square_bit to.new i j ≡ square_bit from.now (source_row step i j) (source_column step i j) }
 {
     for i in 0..32 {
         let (low, high) = (from[i], from[i + 32]);

@@ -11,8 +11,8 @@ use bit_containers::BitSlice;
 use std::alloc::{AllocError, Global};
 
 impl Matrix {
-    /// The matrix whose rows are the columns of this one, by squares of 64 x 64 bits. Takes memory where there is a bit, and is
-    /// refused only then, also where its bits, with the padding of each row, pass `MAX_BITS`.
+    /// The matrix whose rows are the columns of this one, by squares of 64 x 64 bits. Takes memory where there is a
+    /// bit, and is refused only then, also where its bits, with the padding of each row, pass `MAX_BITS`.
     ///
     /// ```text
     /// of the rows 110 and 001: m.transpose(alloc)? has the rows 10, 10 and 01
@@ -20,7 +20,8 @@ impl Matrix {
     pub fn transpose(&self, alloc: Global) -> Result<Self, AllocError>
         ensures rows { IfOk result (λ m. m.rows ≡ self.now.columns) }
         ensures columns { IfOk result (λ m. m.columns ≡ self.now.rows) }
-        ensures items { IfOk result (λ m. (i j : ℕ) → i < self.now.columns → j < self.now.rows → item m i j ≡ item self.now j i) }
+        ensures items { IfOk result (λ m. (i j : ℕ) → i < self.now.columns → j < self.now.rows
+            → item m i j ≡ item self.now j i) }
         ensures memory { OnErr result (0 < self.now.rows * self.now.columns) }
     {
         let Ok(mut turned) = Self::new(alloc, self.columns(), self.rows()) else {
@@ -41,8 +42,10 @@ impl Matrix {
         requires rows { turned.old.rows ≡ self.now.columns }
         requires columns { turned.old.columns ≡ self.now.rows }
         ensures alike { AreAlike turned.new turned.old }
-        ensures band { (i j : ℕ) → left ≤ i → i < left + 64 → i < self.now.columns → j < self.now.rows → item turned.new i j ≡ item self.now j i }
-        ensures others { (i j : ℕ) → i < self.now.columns → j < self.now.rows → (i < left) ⊎ (left + 64 ≤ i) → item turned.new i j ≡ item turned.old i j }
+        ensures band { (i j : ℕ) → left ≤ i → i < left + 64 → i < self.now.columns → j < self.now.rows
+            → item turned.new i j ≡ item self.now j i }
+        ensures others { (i j : ℕ) → i < self.now.columns → j < self.now.rows → (i < left) ⊎ (left + 64 ≤ i)
+            → item turned.new i j ≡ item turned.old i j }
     {
         for part in 0..self.rows().div_ceil(64) {
             let mut square = self.read_square(64 * part, left);
@@ -55,7 +58,8 @@ impl Matrix {
     fn read_square(&self, top: usize, left: usize) -> [u64; 64]
         requires top { top < self.now.rows }
         requires left { left < self.now.columns }
-        ensures { (i j : ℕ) → i < 64 → j < 64 → top + i < self.now.rows → left + j < self.now.columns → square_bit result i j ≡ item self.now (top + i) (left + j) }
+        ensures { (i j : ℕ) → i < 64 → j < 64 → top + i < self.now.rows → left + j < self.now.columns
+            → square_bit result i j ≡ item self.now (top + i) (left + j) }
     {
         let mut square = [0u64; 64];
         let count = (self.columns() - left).min(64);
@@ -70,8 +74,10 @@ impl Matrix {
         requires top { top < self.old.rows }
         requires left { left < self.old.columns }
         ensures alike { AreAlike self.new self.old }
-        ensures inside { (i j : ℕ) → i < 64 → j < 64 → top + i < self.old.rows → left + j < self.old.columns → item self.new (top + i) (left + j) ≡ square_bit square.now i j }
-        ensures others { (i j : ℕ) → i < self.old.rows → j < self.old.columns → (i < top) ⊎ (top + 64 ≤ i) ⊎ (j < left) ⊎ (left + 64 ≤ j) → item self.new i j ≡ item self.old i j }
+        ensures inside { (i j : ℕ) → i < 64 → j < 64 → top + i < self.old.rows → left + j < self.old.columns
+            → item self.new (top + i) (left + j) ≡ square_bit square.now i j }
+        ensures others { (i j : ℕ) → i < self.old.rows → j < self.old.columns
+            → (i < top) ⊎ (top + 64 ≤ i) ⊎ (j < left) ⊎ (left + 64 ≤ j) → item self.new i j ≡ item self.old i j }
     {
         let count = (self.columns() - left).min(64);
         for row in 0..(self.rows() - top).min(64) {
@@ -98,7 +104,8 @@ impl Matrix {
         requires within { column + count ≤ self.old.columns }
         ensures alike { AreAlike self.new self.old }
         ensures part { (j : ℕ) → j < count → item self.new row (column + j) ≡ has_bit number j }
-        ensures others { (i j : ℕ) → i < self.old.rows → j < self.old.columns → (i ≢ row) ⊎ (j < column) ⊎ (column + count ≤ j) → item self.new i j ≡ item self.old i j }
+        ensures others { (i j : ℕ) → i < self.old.rows → j < self.old.columns
+            → (i ≢ row) ⊎ (j < column) ⊎ (column + count ≤ j) → item self.new i j ≡ item self.old i j }
     {
         let start = row * self.stride + column;
         let words = [number];

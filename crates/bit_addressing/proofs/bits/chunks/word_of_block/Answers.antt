@@ -1,4 +1,4 @@
-use Rattle.std.proofs.Common.{◌≡◌, ◌*◌, ap}
+use Rattle.std.proofs.Common.{◌*◌, ap}
 use Rattle.bit_addressing.proofs.Packs.{word_unpacked}
 use Rattle.bit_addressing.proofs.bits.chunks.word_of_block.Goals as goal
 

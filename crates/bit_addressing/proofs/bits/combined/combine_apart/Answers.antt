@@ -31,7 +31,6 @@ returns-then-first-last-clause-bits g c =
     c.combine_part.ensures.bits
     ∙ combined_part f old old zs _ at at (at + c.args.n) from from (from + c.args.n) (s.first * w + s.low) (s.first * w + s.end) run.begins (omega arith) (omega arith) (omega arith) (omega arith) (omega arith) (omega arith) (omega arith) part (combined_begin f old zs at from)
 
-
 pub combine_ahead-requires-clause-target : goal.combine_ahead-requires-clause-target
 combine_ahead-requires-clause-target g c =
     let w = g.T.BitStore.BITS in

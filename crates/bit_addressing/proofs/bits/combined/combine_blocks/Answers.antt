@@ -1,4 +1,4 @@
-use Rattle.std.proofs.Common.{◌≡◌, ℕ, ◌+◌, ◌-◌, ◌*◌, ◌/◌, List, Bool, [], ◌∷◌, length, slice_range, refl, sym, ◌∙◌, ap, arith, rules, mul_comm}
+use Rattle.std.proofs.Common.{◌≡◌, ℕ, ◌+◌, ◌*◌, ◌/◌, List, Bool, [], ◌∷◌, length, slice_range, refl, sym, ◌∙◌, ap, arith, rules, mul_comm}
 use Rattle.std.specs.Simd.Lanes.{zip2}
 use Rattle.bit_addressing.specs.Row.{put, row_of}
 use Rattle.bit_addressing.specs.Typed.{row}

@@ -1,4 +1,4 @@
-use Rattle.std.proofs.Common.{◌≡◌, ℕ, ◌+◌, ◌*◌, ◌/◌, ◌%◌, ◌∙◌, ap, arith}
+use Rattle.std.proofs.Common.{◌≡◌, ◌+◌, ◌*◌, ◌/◌, ◌%◌, ◌∙◌, ap, arith}
 use Rattle.bit_addressing.specs.Bits.{has_bit}
 use Rattle.bit_addressing.proofs.Moves.{collect_step}
 use Rattle.bit_addressing.proofs.Packs.{unpacked_lawful, unpacked_place}

@@ -13,7 +13,7 @@ use Rattle.bit_addressing.proofs.Rows.{length-row_of, get_or-row_one}
 use Rattle.bit_addressing.proofs.Windows.{first_of_two, second_of_two}
 
 -- a bit of a block that stands in a list from place a on
-block_bit : (place : ℕ → ℕ → ℕ) (v a i : ℕ) (zs : List Bool) → i < 64 → row_of place 64 (v ∷ []) ≡ slice_range zs a (a + 64) → has_bit v (place 64 i) ≡ get_or zs (a + i) false
+pub block_bit : (place : ℕ → ℕ → ℕ) (v a i : ℕ) (zs : List Bool) → i < 64 → row_of place 64 (v ∷ []) ≡ slice_range zs a (a + 64) → has_bit v (place 64 i) ≡ get_or zs (a + i) false
 block_bit place v a i zs h is = sym (get_or-row_one place 64 v i (omega arith) h) ∙ ap (λ l. get_or l i false) is ∙ get_or-run zs a 64 i h
 
 -- a window over two blocks, put into another order

@@ -1,19 +1,18 @@
 -- Words of 64 bits packed out of narrower ones.
-use Rattle.std.proofs.Common.{◌≡◌, ℕ, ◌+◌, ◌-◌, ◌*◌, ◌/◌, ◌%◌, ◌^◌, ◌<◌, ◌≤◌, Bool, false, List, [], ◌∷◌, map, length, get_or, slice_range, refl, sym, ◌∙◌, ap, inl, inr, arith, bit_or}
-use Rattle.std.proofs.Math.Bool.{or-false}
-use Rattle.std.proofs.lemmas.Bool.{cases_lt}
+use Rattle.std.proofs.Common.{◌≡◌, ℕ, ◌+◌, ◌-◌, ◌*◌, ◌/◌, ◌%◌, ◌^◌, ◌<◌, ◌≤◌, Bool, false, List, [], ◌∷◌, length, get_or, slice_range, refl, sym, ◌∙◌, ap, inl, inr, arith, mul_comm}
+use Rattle.std.proofs.Math.Nat.{mod-lt}
 use Rattle.std.proofs.lemmas.List.{ext_get_or}
-use Rattle.std.proofs.lemmas.Nat.{div-add-mod'}
+use Rattle.std.proofs.lemmas.Nat.{div-add-mod', div-mul-add, mod-mul-add}
 use Rattle.bit_addressing.specs.Bits.{has_bit, IsWidth}
 use Rattle.bit_addressing.specs.Order.{IsPermutation}
-use Rattle.bit_addressing.specs.Row.{row_of}
+use Rattle.bit_addressing.specs.Row.{row_bit, row_of}
 use Rattle.bit_addressing.proofs.Chunks.{IsRead}
 use Rattle.bit_addressing.proofs.lists.Shown.{get_or-run, length-run}
-use Rattle.bit_addressing.proofs.Rows.{length-row_of, get_or-row_one}
+use Rattle.bit_addressing.proofs.Rows.{length-row_of, get_or-row_one, width_positive, word_below}
 use Rattle.bit_addressing.proofs.Runs.{mul_mono}
-use Rattle.bit_addressing.proofs.lists.Sized.{one_more_word}
-use Rattle.bit_addressing.proofs.Wholes.{bit_is}
-use Rattle.bit_addressing.proofs.Words.{has_none, has_or, has_shl_low, has_shl_high}
+use Rattle.bit_addressing.proofs.lists.Sized.{one_more_word, right_sum}
+use Rattle.bit_addressing.proofs.Reverse.{from_high}
+use Rattle.bit_addressing.proofs.Words.{has_none, has_shr_low}
 
 -- the words of 64 bits
 pub pack_fills : (w : ℕ) → IsWidth w → 64 / w * w ≡ 64
@@ -58,27 +57,60 @@ same_word place other w u v x positive width lawful same bits =
     let below : i < w = omega arith in
     get_or-row_one place w v i positive below ∙ bits (place w i) (lawful.in_range i below) ∙ ap (has_bit x) (same i below) ∙ sym (get_or-row_one other w x i positive below)))
 
--- the bits of x from its place 63 down are those of the list from `at` on, `got` of them, and those below are false
-pub record IsPacked (ms : List Bool) (at got x : ℕ) : Type 0 where
-  pub shown : (i : ℕ) → i < got → i < 64 → has_bit x (63 - i) ≡ get_or ms (at + i) false
-  pub clear : (p : ℕ) → p + got < 64 → has_bit x p ≡ false
+-- the word that a bit of 64 stands in
+pub word_inside : (w i : ℕ) → IsWidth w → i < 64 → i / w * w + w ≤ 64
+word_inside w i width h =
+    let fills = pack_fills w width in
+    let turned = mul_comm (64 / w) w in
+    pack_inside w (i / w) (word_below w i (64 / w) (width_positive w width) (omega arith))
 
-module _ {X : Type 0} (value : X → ℕ) (w : ℕ) (positive : 0 < w) (ws : List X) where
-  pub packed_next : (at k got x y back : ℕ) (word : X) → IsPacked (row_of (λ w i. w - 1 - i) w (map value ws)) at got x → at + got ≡ k * w → got + w ≤ 64 → back ≡ 64 - w - got → k < length ws → word ≡ get_or ws k word
-      → ((p : ℕ) → p < w → has_bit y p ≡ has_bit (value word) p) → ((p : ℕ) → w ≤ p → has_bit y p ≡ false)
-      → IsPacked (row_of (λ w i. w - 1 - i) w (map value ws)) at (got + w) (bit_or x (y * 2 ^ back % 2 ^ 64))
-  packed_next at k got x y back word so_far reached few is here read low high =
-      let ms : List Bool = row_of (λ w i. w - 1 - i) w (map value ws) in
-      record {
-        shown = λ i h q. has_or x (y * 2 ^ back % 2 ^ 64) (63 - i) ∙ elim (cases_lt i got) [
-          | inl l ↦
-              let none : has_bit (y * 2 ^ back % 2 ^ 64) (63 - i) ≡ false = has_shl_high 64 y back (63 - i) (omega arith) (omega arith) ∙ high (63 - i - back) (omega arith) in
-              rw none (or-false (has_bit x (63 - i)) ∙ so_far.shown i l q)
-          | inr l ↦
-              let next : k * w + (i - got) ≡ at + i = omega arith in
-              let spot : 63 - i - back ≡ w - 1 - (i - got) = omega arith in
-              rw (so_far.clear (63 - i) (omega arith)) (has_shl_high 64 y back (63 - i) (omega arith) (omega arith) ∙ ap (has_bit y) spot ∙ low (w - 1 - (i - got)) (omega arith)
-              ∙ bit_is value (λ w i. w - 1 - i) w positive ws k (i - got) word here (omega arith) read ∙ ap (λ n. get_or ms n false) next)
-        ];
-        clear = λ p h. has_or x (y * 2 ^ back % 2 ^ 64) p ∙ rw (so_far.clear p (omega arith)) (has_shl_low 64 y back p (omega arith) (omega arith));
-      }
+-- a bit that is counted from the highest place of its word is that of the order from there
+pub high_of_low : (w k i : ℕ) (ws : List ℕ) → 0 < w → row_bit (λ w i. i) w ws (k * w + from_high w i) ≡ row_bit (λ w i. w - 1 - i) w ws (k * w + i)
+high_of_low w k i ws positive =
+    let at : ℕ = k + i / w in
+    let s : ℕ = w - 1 - i % w in
+    let below : i % w < w = mod-lt i positive in
+    let low : s < w = omega arith in
+    let split : i / w * w + i % w ≡ i = div-add-mod' i w in
+    let joined : at * w ≡ k * w + i / w * w = right_sum k (i / w) w in
+    let here : k * w + (i / w * w + s) ≡ at * w + s = omega arith in
+    let there : k * w + i ≡ at * w + i % w = omega arith in
+    ap (row_bit (λ w i. i) w ws) here
+    ∙ ap (λ q. has_bit (get_or ws q 0) ((at * w + s) % w)) (div-mul-add at w s low)
+    ∙ ap (λ r. has_bit (get_or ws at 0) r) (mod-mul-add at w s low)
+    ∙ sym (ap (row_bit (λ w i. w - 1 - i) w ws) there
+    ∙ ap (λ q. has_bit (get_or ws q 0) (w - 1 - (at * w + i % w) % w)) (div-mul-add at w (i % w) below)
+    ∙ ap (λ r. has_bit (get_or ws at 0) (w - 1 - r)) (mod-mul-add at w (i % w) below))
+
+-- the place of a bit of 64 in the words that they are taken apart into
+abbrev pub unpacked_place : (ℕ → ℕ → ℕ) → ℕ → ℕ → ℕ
+unpacked_place place w i = i / w * w + place w (i % w)
+
+pub unpacked_lawful : (place : ℕ → ℕ → ℕ) (w : ℕ) → IsWidth w → IsPermutation w (place w) → IsPermutation 64 (unpacked_place place w)
+unpacked_lawful place w width lawful =
+    let positive = width_positive w width in
+    record {
+      in_range = λ i h. (let a = lawful.in_range (i % w) (mod-lt i positive) in let b = word_inside w i width h in omega arith);
+      apart = λ i j h k e.
+          let a = lawful.in_range (i % w) (mod-lt i positive) in
+          let b = lawful.in_range (j % w) (mod-lt j positive) in
+          let same : i / w ≡ j / w = sym (div-mul-add (i / w) w (place w (i % w)) a) ∙ ap (λ n. n / w) e ∙ div-mul-add (j / w) w (place w (j % w)) b in
+          let rest : place w (i % w) ≡ place w (j % w) = sym (mod-mul-add (i / w) w (place w (i % w)) a) ∙ ap (λ n. n % w) e ∙ mod-mul-add (j / w) w (place w (j % w)) b in
+          let left : i % w ≡ j % w = lawful.apart (i % w) (j % w) (mod-lt i positive) (mod-lt j positive) rest in
+          sym (div-add-mod' i w) ∙ ap (λ q. q * w + i % w) same ∙ ap (λ r. j / w * w + r) left ∙ div-add-mod' j w;
+    }
+
+-- one of the words that a block was taken apart into
+pub word_unpacked : (place : ℕ → ℕ → ℕ) (w i x block v count : ℕ) → IsWidth w → IsPermutation w (place w) → i < 64 / w → count ≡ i * w
+    → ((t : ℕ) → t < 64 → has_bit x (unpacked_place place w t) ≡ has_bit block (place 64 t)) → ((p : ℕ) → p < w → has_bit v p ≡ has_bit (x / 2 ^ count) p)
+    → row_of place w (v ∷ []) ≡ slice_range (row_of place 64 (block ∷ [])) (i * w) (i * w + w)
+word_unpacked place w i x block v count width lawful turn is apart low =
+    let inside : i * w + w ≤ 64 = pack_inside w i turn in
+    let size : length (row_of place 64 (block ∷ [])) ≡ 64 * 1 = length-row_of place 64 (block ∷ []) in
+    row_from place w v (i * w) (row_of place 64 (block ∷ [])) (width_positive w width) (omega arith)
+    (λ j h.
+    let below : i * w + j < 64 = omega arith in
+    let spot : place w j + count ≡ i * w + place w j = omega arith in
+    low (place w j) (lawful.in_range j h) ∙ has_shr_low x count (place w j) ∙ ap (has_bit x) spot
+    ∙ sym (ap (λ q. has_bit x (q * w + place w ((i * w + j) % w))) (div-mul-add i w j h) ∙ ap (λ r. has_bit x (i * w + place w r)) (mod-mul-add i w j h))
+    ∙ apart (i * w + j) below ∙ sym (get_or-row_one place 64 block (i * w + j) (omega arith) below))

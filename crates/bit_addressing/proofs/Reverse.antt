@@ -1,7 +1,7 @@
--- A word reversed by steps, each of which makes the bits of pairs of places change places.
-use Rattle.std.proofs.Common.{◌≡◌, ℕ, ◌+◌, ◌-◌, ◌*◌, ◌/◌, ◌%◌, ◌^◌, ◌<◌, ◌≤◌, Bool, true, false, not, ◌&&◌, ◌||◌, if◌then◌else◌, eqb, leb, ltb, List, [], ◌∷◌, refl, ◌∙◌, ap, subst, inl, inr, bit_and, bit_or}
+-- A word turned by steps, each of which makes the bits of pairs of places change places.
+use Rattle.std.proofs.Common.{◌≡◌, ◌≢◌, ℕ, ◌+◌, ◌-◌, ◌*◌, ◌/◌, ◌%◌, ◌^◌, ◌<◌, ◌≤◌, Bool, true, false, not, ◌&&◌, ◌||◌, if◌then◌else◌, eqb, leb, ltb, List, [], ◌∷◌, refl, ◌∙◌, ap, subst, inl, inr, bit_and, bit_or}
 use Rattle.std.proofs.lemmas.Bool.{cases_lt, ltb-true, leb-true, eqb-true, le-ltb}
-use Rattle.bit_addressing.specs.Bits.{has_bit}
+use Rattle.bit_addressing.specs.Bits.{has_bit, IsWidth}
 use Rattle.bit_addressing.specs.Order.{all_below, below_tells}
 use Rattle.bit_addressing.proofs.Words.{has_and, has_or, has_shr_low, has_shl_low, has_shl_high}
 
@@ -34,9 +34,13 @@ abbrev all_paired : ℕ → List Swap → ℕ → Bool
 all_paired w [] p = true
 all_paired w (s ∷ steps) p = paired w s (origin steps p) && all_paired w steps p
 
+-- the steps together bring to each of w places the bit of another
+abbrev pub brings : ℕ → List Swap → (ℕ → ℕ) → (ℕ → ℕ) → Bool
+brings w steps to from = all_below (λ i. all_paired w steps (to i) && eqb (origin steps (to i)) (from i)) w
+
 -- the steps together reverse a word of w bits
 abbrev pub reverses : ℕ → List Swap → Bool
-reverses w steps = all_below (λ p. all_paired w steps p && eqb (origin steps p) (w - 1 - p)) w
+reverses w steps = brings w steps (λ p. p) (λ p. w - 1 - p)
 
 both_true : (a b : Bool) → (a && b) ≡ true → (a ≡ true) × (b ≡ true)
 both_true true true h = (refl, refl)
@@ -95,11 +99,15 @@ all_steps w (s ∷ steps) x p h =
     let t = both_true (paired w s (origin steps p)) (all_paired w steps p) h in
     all_steps w steps (swapped w s x) p t.1 ∙ one_step w s x (origin steps p) (has_bit s.lower (origin steps p)) refl t.0
 
+-- steps that pass the test bring the bits there
+pub brought_by : (w : ℕ) (steps : List Swap) (to from : ℕ → ℕ) (x : ℕ) → brings w steps to from ≡ true → (i : ℕ) → i < w → has_bit (swapped_by w steps x) (to i) ≡ has_bit x (from i)
+brought_by w steps to from x tested i h =
+    let t = both_true (all_paired w steps (to i)) (eqb (origin steps (to i)) (from i)) (below_tells (λ q. all_paired w steps (to q) && eqb (origin steps (to q)) (from q)) w tested i h) in
+    all_steps w steps x (to i) t.0 ∙ ap (has_bit x) (eqb-true (origin steps (to i)) (from i) t.1)
+
 -- steps that pass the test reverse each word
 pub reversed_by : (w : ℕ) (steps : List Swap) (x : ℕ) → reverses w steps ≡ true → (p : ℕ) → p < w → has_bit (swapped_by w steps x) p ≡ has_bit x (w - 1 - p)
-reversed_by w steps x tested p h =
-    let t = both_true (all_paired w steps p) (eqb (origin steps p) (w - 1 - p)) (below_tells (λ q. all_paired w steps q && eqb (origin steps q) (w - 1 - q)) w tested p h) in
-    all_steps w steps x p t.0 ∙ ap (has_bit x) (eqb-true (origin steps p) (w - 1 - p) t.1)
+reversed_by w steps x = brought_by w steps (λ p. p) (λ p. w - 1 - p) x
 
 abbrev pub steps_8 : List Swap
 steps_8 = record { apart = 1; lower = 0x55 } ∷ record { apart = 2; lower = 0x33 } ∷ record { apart = 4; lower = 0x0f } ∷ []
@@ -124,3 +132,37 @@ reverses_32 x = reversed_by 32 steps_32 x refl
 
 pub reverses_64 : (x p : ℕ) → p < 64 → has_bit (swapped_by 64 steps_64 x) p ≡ has_bit x (64 - 1 - p)
 reverses_64 x = reversed_by 64 steps_64 x refl
+
+-- ---- the words of w bits in 64, the last one first
+
+-- where index i of words of w bits is counted from the highest place of each
+abbrev pub from_high : ℕ → ℕ → ℕ
+from_high w i = i / w * w + (w - 1 - i % w)
+
+pub turned_down : (w n : ℕ) (steps : List Swap) (x : ℕ) → w ≡ n → brings 64 steps (λ i. 63 - i) (from_high n) ≡ true → (i : ℕ) → i < 64 → has_bit (swapped_by 64 steps x) (63 - i) ≡ has_bit x (from_high w i)
+turned_down w n steps x is tested = rw is (brought_by 64 steps (λ i. 63 - i) (from_high n) x tested)
+
+pub turned_up : (w n : ℕ) (steps : List Swap) (x : ℕ) → w ≡ n → brings 64 steps (from_high n) (λ i. 63 - i) ≡ true → (i : ℕ) → i < 64 → has_bit (swapped_by 64 steps x) (from_high w i) ≡ has_bit x (63 - i)
+turned_up w n steps x is tested = rw is (brought_by 64 steps (from_high n) (λ i. 63 - i) x tested)
+
+abbrev pub turn_32 : List Swap
+turn_32 = record { apart = 32; lower = 0x00000000ffffffff } ∷ []
+
+abbrev pub turn_16 : List Swap
+turn_16 = record { apart = 32; lower = 0x00000000ffffffff } ∷ record { apart = 16; lower = 0x0000ffff0000ffff } ∷ []
+
+abbrev pub turn_8 : List Swap
+turn_8 = record { apart = 32; lower = 0x00000000ffffffff } ∷ record { apart = 16; lower = 0x0000ffff0000ffff } ∷ record { apart = 8; lower = 0x00ff00ff00ff00ff } ∷ []
+
+-- the width that is left
+pub narrowest : (w : ℕ) → IsWidth w → w ≢ 64 → w ≢ 32 → w ≢ 16 → w ≡ 8
+narrowest w width a b c = elim width [
+  | inl e ↦ e
+  | inr wider ↦ elim wider [
+    | inl e ↦ absurd (c e)
+    | inr widest ↦ elim widest [
+      | inl e ↦ absurd (b e)
+      | inr e ↦ absurd (a e)
+    ]
+  ]
+]

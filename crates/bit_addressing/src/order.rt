@@ -1,5 +1,5 @@
 //! Orders of the bits in a word.
-ghost use Rattle.std.specs.Prelude.{◌≡◌, ℕ, ◌+◌, ◌-◌, ◌*◌, ◌^◌, ◌<◌, ◌≤◌, ◌&&◌, if◌then◌else◌, [], ◌∷◌, leb, length, ltb, map, slice_range};
+ghost use Rattle.std.specs.Prelude.{◌≡◌, ℕ, ◌+◌, ◌-◌, ◌*◌, ◌/◌, ◌%◌, ◌^◌, ◌<◌, ◌≤◌, ◌&&◌, if◌then◌else◌, [], ◌∷◌, leb, length, ltb, map, slice_range};
 ghost use Rattle.bit_addressing.specs.Bits.{has_bit};
 ghost use Rattle.bit_addressing.specs.Order.{IsLawful, lsb0_lawful, msb0_lawful};
 ghost use Rattle.bit_addressing.specs.Row.{row_bit, row_of, moved, touched};
@@ -166,6 +166,21 @@ pub trait BitOrder {
         Self::from_lsb0(bits)
     }
 
+    /// The words whose bits are those of a word of 64 bits, in the same order: word `i` is at the places from
+    /// `i * T::BITS` on.
+    fn unpack<T: BitStore>(block: u64) -> u64
+        ensures { (i : ℕ) → i < 64
+            → has_bit result (i / T.BITS * T.BITS + place T.BITS (i % T.BITS)) ≡ has_bit block (place 64 i) }
+    {
+        let mut bits = 0u64;
+        for i in 0..64 {
+            let bit = block.bit(Self::at(BitIdx::<u64>::new_unchecked(i)).into_inner());
+            let place = Self::at(BitIdx::<T>::new_unchecked(i % T::BITS)).into_inner();
+            bits = bits.with_bit(i / T::BITS * T::BITS + place, bit);
+        }
+        bits
+    }
+
     /// Moves the `n` bits from `src` on to the places from `dst` on, as if they were copied out first: the
     /// two runs may overlap. No other bit changes, and no more words are written than have a bit of the
     /// target. Requires that both runs lie in the row.
@@ -270,6 +285,10 @@ impl BitOrder for Lsb0 {
     ) -> T {
         blend(old, Lsb0::window(low, high, at), Lsb0::mask(from, upto))
     }
+
+    fn unpack<T: BitStore>(block: u64) -> u64 {
+        block
+    }
 }
 
 /// The order from the most significant bit: index `i` is place `T::BITS - 1 - i`.
@@ -335,10 +354,31 @@ impl BitOrder for Msb0 {
     }
 
     fn pack<T: BitStore>(words: &[T], k: usize) -> u64 {
-        let mut bits = 0u64;
-        for i in 0..64 / T::BITS {
-            bits |= words[k + i as usize].to_u64() << (64 - T::BITS - i * T::BITS);
-        }
-        bits
+        turned::<T>(Lsb0::pack(words, k))
     }
+
+    fn unpack<T: BitStore>(block: u64) -> u64 {
+        turned::<T>(block)
+    }
+}
+
+/// The words of type `T` that lie in 64 bits, the last one first.
+fn turned<T: BitStore>(block: u64) -> u64
+    ensures packed { (i : ℕ) → i < 64
+        → has_bit result (63 - i) ≡ has_bit block (i / T.BITS * T.BITS + (T.BITS - 1 - i % T.BITS)) }
+    ensures unpacked { (i : ℕ) → i < 64
+        → has_bit result (i / T.BITS * T.BITS + (T.BITS - 1 - i % T.BITS)) ≡ has_bit block (63 - i) }
+{
+    if T::BITS == 64 {
+        return block;
+    }
+    let words = ((block >> 32) & 0x00000000ffffffff) | ((block & 0x00000000ffffffff) << 32);
+    if T::BITS == 32 {
+        return words;
+    }
+    let halves = ((words >> 16) & 0x0000ffff0000ffff) | ((words & 0x0000ffff0000ffff) << 16);
+    if T::BITS == 16 {
+        return halves;
+    }
+    ((halves >> 8) & 0x00ff00ff00ff00ff) | ((halves & 0x00ff00ff00ff00ff) << 8)
 }

@@ -290,6 +290,16 @@ pub(crate) fn block_at<O: BitOrder, U: BitStore, P: BitOrder>(
     O::from_lsb0(P::to_lsb0(word))
 }
 
+/// The word of the bits of a block from its bit `i * T::BITS` on. Requires that the block has them.
+#[inline(always)]
+pub(crate) fn word_of_block<T: BitStore, O: BitOrder>(block: u64, i: u8) -> T
+    requires { i < 64 / T.BITS }
+    ensures { row T.BitStore O.BitOrder (result ∷ [])
+        ≡ slice_range (row_of O.place 64 (block ∷ [])) (i * T.BITS) (i * T.BITS + T.BITS) }
+{
+    T::from_u64(O::unpack::<T>(block) >> (i * T::BITS))
+}
+
 /// The word of the bits of `source` from place `at` on. Requires that the row has them.
 #[inline(always)]
 fn word_at<T: BitStore, O: BitOrder, U: BitStore, P: BitOrder>(source: &[U], at: usize) -> T

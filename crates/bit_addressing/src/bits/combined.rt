@@ -2,11 +2,11 @@
 ghost use Rattle.std.specs.Prelude.{◌≡◌, ℕ, ◌+◌, ◌-◌, ◌*◌, ◌/◌, ◌^◌, ◌<◌, ◌≤◌, if◌then◌else◌, ◌&&◌, ◌||◌, Bool, false, not, [], ◌∷◌, length, slice_range};
 ghost use Rattle.std.specs.Simd.Lanes.{zip2};
 ghost use Rattle.bit_addressing.specs.Bits.{has_bit};
-ghost use Rattle.bit_addressing.specs.Row.{put};
+ghost use Rattle.bit_addressing.specs.Row.{put, row_of};
 ghost use Rattle.bit_addressing.specs.Typed.{row};
 
 use crate::bits::chunks::{
-    are_alike, block_at, blocks_behind, word_alike, word_behind, word_of_run,
+    are_alike, block_at, blocks_behind, word_alike, word_behind, word_of_block, word_of_run,
 };
 use crate::bits::single::write_part;
 use crate::each_shift::each_shift;
@@ -141,6 +141,23 @@ fn combine_behind<F: BitOperator, T: BitStore, O: BitOrder, U: BitStore, P: BitO
     }
 }
 
+/// Makes each bit of the words of 64 bits from word `k` on into the bit that `F` makes of it and of the bit of `block`
+/// that stands as far after its first. Requires that the words are there.
+fn combine_block<F: BitOperator, T: BitStore, O: BitOrder>(words: &mut [T], k: usize, block: u64)
+    requires { k + 64 / T.BITS ≤ length words.old }
+    ensures bits { row T.BitStore O.BitOrder words.new
+        ≡ put (row T.BitStore O.BitOrder words.old) (k * T.BITS)
+        (zip2 F.made (slice_range (row T.BitStore O.BitOrder words.old) (k * T.BITS) ((k + 64 / T.BITS) * T.BITS))
+        (row_of O.place 64 (block ∷ []))) }
+    ensures size { length words.new ≡ length words.old }
+{
+    for i in 0..64 / T::BITS {
+        let at = k + i as usize;
+        let new = word_of_block::<T, O>(block, i);
+        words[at] = F::apply(words[at], new);
+    }
+}
+
 /// Like `combine_behind`, of `blocks` blocks of 64 bits: each is made once, in the order of the words, and taken
 /// apart. Requires that the words are there, and each block has another after it.
 #[inline(always)]
@@ -166,14 +183,13 @@ fn combine_blocks<F: BitOperator, T: BitStore, O: BitOrder, U: BitStore, P: BitO
     let (each, others) = ((64 / T::BITS) as usize, (64 / U::BITS) as usize);
     for t in 0..blocks {
         let block = block_at::<O, U, P>(source, begin + t * others, skip);
-        let k = first + t * each;
-        combine_behind::<F, T, O, u64, O>(words, k, k + each, &[block, block], 0, 0);
+        combine_block::<F, T, O>(words, first + t * each, block);
     }
 }
 
-/// Like `combine_behind`, into words narrower than those of `source`: by blocks of 64 bits, as far as they
-/// go (docs/SPEED.md, "Rows of words", u64 into u8).
-fn combine_narrower<F: BitOperator, T: BitStore, O: BitOrder, U: BitStore, P: BitOrder>(
+/// Like `combine_behind`, by blocks of 64 bits, as far as they go (docs/SPEED.md, "Rows of words", u64 into u8).
+#[inline(always)]
+fn combine_unlike<F: BitOperator, T: BitStore, O: BitOrder, U: BitStore, P: BitOrder>(
     words: &mut [T],
     first: usize,
     last: usize,
@@ -223,8 +239,12 @@ fn combine_whole<F: BitOperator, T: BitStore, O: BitOrder, U: BitStore, P: BitOr
     let width = U::BITS as usize;
     let begin = from / width;
     let skip = (from % width) as u8;
-    if T::BITS < U::BITS && O::goes_by_shifts() && P::goes_by_shifts() {
-        combine_narrower::<F, T, O, U, P>(words, first, last, source, begin, skip);
+    if T::BITS != U::BITS && O::goes_by_shifts() && P::goes_by_shifts() {
+        if skip == 0 {
+            combine_unlike::<F, T, O, U, P>(words, first, last, source, begin, 0);
+        } else {
+            combine_unlike::<F, T, O, U, P>(words, first, last, source, begin, skip);
+        }
     } else if T::BITS == 8 && U::BITS == 8 && P::goes_by_shifts() {
         each_shift!(skip, by => combine_behind::<F, T, O, U, P>(words, first, last, source, begin, by));
     } else if skip == 0 {
@@ -262,6 +282,34 @@ fn combine_alike<F: BitOperator, T: BitStore, O: BitOrder, U: BitStore, P: BitOr
     }
 }
 
+/// Like `combine_whole`, of the words `first..last` and the bits of word `last` before index `end`. Requires that the
+/// words are there, some of those bits too, and the run lies in `source`.
+fn combine_ahead<F: BitOperator, T: BitStore, O: BitOrder, U: BitStore, P: BitOrder>(
+    words: &mut [T],
+    first: usize,
+    last: usize,
+    end: usize,
+    source: &[U],
+    from: usize,
+)
+    requires ordered { first ≤ last }
+    requires target { last < length words.old }
+    requires some { 0 < end }
+    requires within { end ≤ T.BITS }
+    requires source { from + (last - first) * T.BITS + end ≤ U.BITS * length source.now }
+    requires source_fits { from + (last - first) * T.BITS + end < 2 ^ 64 }
+    ensures bits { row T.BitStore O.BitOrder words.new
+        ≡ put (row T.BitStore O.BitOrder words.old) (first * T.BITS)
+        (zip2 F.made (slice_range (row T.BitStore O.BitOrder words.old) (first * T.BITS) (last * T.BITS + end))
+        (slice_range (row U.BitStore P.BitOrder source.now) from (from + (last - first) * T.BITS + end))) }
+    ensures size { length words.new ≡ length words.old }
+{
+    combine_whole::<F, T, O, U, P>(words, first, last, source, from);
+    let whole = (last - first) * T::BITS as usize;
+    let new = word_of_run::<T, O, U, P>(source, from + whole, end as u8, 0);
+    combine_part::<F, T, O>(words, last, 0, end, new);
+}
+
 /// Like `combine_bits`, of runs that begin anywhere in words of any kinds.
 #[inline(never)]
 fn combine_apart<F: BitOperator, T: BitStore, O: BitOrder, U: BitStore, P: BitOrder>(
@@ -296,11 +344,13 @@ fn combine_apart<F: BitOperator, T: BitStore, O: BitOrder, U: BitStore, P: BitOr
         combine_part::<F, T, O>(words, first, low, end, new);
         return;
     }
+    if low == 0 {
+        combine_ahead::<F, T, O, U, P>(words, first, last, end, source, from);
+        return;
+    }
     let new = word_of_run::<T, O, U, P>(source, from, (width - low) as u8, low as u8);
     combine_part::<F, T, O>(words, first, low, width, new);
-    combine_whole::<F, T, O, U, P>(words, first + 1, last, source, from + (width - low));
-    let new = word_of_run::<T, O, U, P>(source, from + (n - end), end as u8, 0);
-    combine_part::<F, T, O>(words, last, 0, end, new);
+    combine_ahead::<F, T, O, U, P>(words, first + 1, last, end, source, from + (width - low));
 }
 
 /// Makes each of `n` bits of `words`, from `at` on, into the bit that `F` makes of it and of the bit of

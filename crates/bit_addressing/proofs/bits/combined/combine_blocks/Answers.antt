@@ -1,4 +1,4 @@
-use Rattle.std.proofs.Common.{◌≡◌, ℕ, ◌+◌, ◌-◌, ◌*◌, ◌/◌, List, Bool, [], ◌∷◌, length, slice_range, refl, sym, ◌∙◌, ap, arith, rules, mul_comm}
+use Rattle.std.proofs.Common.{◌≡◌, ℕ, ◌+◌, ◌*◌, ◌/◌, List, Bool, [], ◌∷◌, length, slice_range, refl, sym, ◌∙◌, ap, arith, rules, mul_comm}
 use Rattle.std.specs.Simd.Lanes.{zip2}
 use Rattle.bit_addressing.specs.Row.{put, row_of}
 use Rattle.bit_addressing.specs.Typed.{row}
@@ -7,7 +7,7 @@ use Rattle.bit_addressing.proofs.Combined.{combined_next, combined_none}
 use Rattle.bit_addressing.proofs.Packs.{pack_fills}
 use Rattle.bit_addressing.proofs.Rows.{width_small}
 use Rattle.bit_addressing.proofs.Runs.{mul_mono}
-use Rattle.bit_addressing.proofs.Typed.{length_row, row_whole}
+use Rattle.bit_addressing.proofs.Typed.{length_row}
 use Rattle.bit_addressing.proofs.lists.Sized.{right_sum}
 use Rattle.bit_addressing.proofs.bits.combined.combine_blocks.Goals as goal
 
@@ -33,7 +33,6 @@ loop-t-preserved g c =
     let cur = row g.T.BitStore g.O.BitOrder c.loop-t.words in
     let zs = row g.U.BitStore g.P.BitOrder source in
     let block = c.block_at-block.result in
-    let two : List Bool = row_of place 64 (block ∷ block ∷ []) in
     let each : ℕ = 64 / c.BITS.result in
     let k : ℕ = first + t * each in
     let at : ℕ = first * w in
@@ -43,17 +42,14 @@ loop-t-preserved g c =
     let a : ℕ = from + t * 64 in
     let upto : ℕ = from + (t + 1) * 64 in
     let below = c.loop-t-test.true in
-    let same : each ≡ 64 / w = ap (λ n. 64 / n) c.BITS.ensures in
-    let fills : each * w ≡ 64 = ap (λ n. n * w) same ∙ pack_fills w g.met.T.BitStore.width in
+    let fills : 64 / w * w ≡ 64 = pack_fills w g.met.T.BitStore.width in
     let begins : k * w ≡ p = (let d = stands w c.BITS.result first 0 t g.met.T.BitStore.width c.BITS.ensures in omega arith) in
-    let ends : (k + each) * w ≡ q = (let d = right_sum k each w in omega arith) in
-    let wide : (k + each - k) * w ≡ 64 = (let d : k + each - k ≡ each = omega arith in ap (λ n. n * w) d ∙ fills) in
-    let end : 0 * 64 + 0 + (k + each - k) * w ≡ 64 = omega arith in
+    let ends : (k + 64 / w) * w ≡ q = (let d = right_sum k (64 / w) w in omega arith) in
     let size : length old ≡ w * length words = length_row g.T.BitStore.value place w words in
     let long : length zs ≡ u * length source = length_row g.U.BitStore.value g.P.BitOrder.place u source in
     let room = c.requires.target t below in
-    let held : first + t * (64 / w) + 64 / w ≡ k + each = ap (λ n. first + t * n + n) (sym same) in
-    let fit = mul_mono (k + each) (length words) w (omega arith) in
+    let held : first + t * (64 / w) + 64 / w ≡ k + 64 / w = ap (λ n. first + t * (64 / n) + 64 / w) (sym c.BITS.ensures) in
+    let fit = mul_mono (k + 64 / w) (length words) w (omega arith) in
     let turned = mul_comm (length words) w in
     let lies : (begin + t * (64 / u)) * u + skip ≡ a = stands u u begin skip t g.met.U.BitStore.width refl in
     let behind = c.requires.source t below in
@@ -61,16 +57,13 @@ loop-t-preserved g c =
     let within = c.requires.within in
     let stood : (begin + t * (64 / c.BITS-2.result)) * u + skip ≡ a = stands u c.BITS-2.result begin skip t g.met.U.BitStore.width c.BITS-2.ensures in
     let next : a + 64 ≡ upto = omega arith in
-    let one : List Bool = zip2 f (slice_range cur (k * w) ((k + each) * w)) (slice_range two (0 * 64 + 0) (0 * 64 + 0 + (k + each - k) * w)) in
-    let bits : slice_range two (0 * 64 + 0) (0 * 64 + 0 + (k + each - k) * w) ≡ slice_range zs a upto =
-    ap (slice_range two 0) end
-    ∙ sym (row_whole (λ (x : ℕ). x) place 64 (block ∷ block ∷ []) 0 0 64 block (omega arith) (omega arith) refl refl refl)
-    ∙ c.block_at-block.ensures
+    let one : List Bool = zip2 f (slice_range cur (k * w) ((k + 64 / w) * w)) (row_of place 64 (block ∷ [])) in
+    let bits : row_of place 64 (block ∷ []) ≡ slice_range zs a upto = c.block_at-block.ensures
     ∙ ap (λ n. slice_range zs n (n + 64)) stood
     ∙ ap (slice_range zs a) next in
-    let is : one ≡ zip2 f (slice_range cur p q) (slice_range zs a upto) = ap (zip2 f (slice_range cur (k * w) ((k + each) * w))) bits ∙ ap (λ n. zip2 f (slice_range cur n ((k + each) * w)) (slice_range zs a upto)) begins ∙ ap (λ n. zip2 f (slice_range cur p n) (slice_range zs a upto)) ends in
+    let is : one ≡ zip2 f (slice_range cur p q) (slice_range zs a upto) = ap (zip2 f (slice_range cur (k * w) ((k + 64 / w) * w))) bits ∙ ap (λ n. zip2 f (slice_range cur n ((k + 64 / w) * w)) (slice_range zs a upto)) begins ∙ ap (λ n. zip2 f (slice_range cur p n) (slice_range zs a upto)) ends in
     record {
-      bits = c.combine_behind.ensures.bits
+      bits = c.combine_block.ensures.bits
           ∙ ap (λ d. put cur d one) begins
           ∙ combined_next f old cur zs one at p q from a upto (omega arith) (omega arith) (omega arith) (omega arith) (omega arith) (omega arith) c.loop-t.invariant.bits is;
       size = search rules;

@@ -8,7 +8,7 @@ use Rattle.bit_addressing.proofs.Combined.{combined_next}
 use Rattle.bit_addressing.proofs.Runs.{mul_mono}
 use Rattle.bit_addressing.proofs.Typed.{length_row}
 use Rattle.bit_addressing.proofs.Wholes.{split_sum}
-use Rattle.bit_addressing.proofs.bits.combined.combine_narrower.Goals as goal
+use Rattle.bit_addressing.proofs.bits.combined.combine_unlike.Goals as goal
 
 pub returns-clause-bits : goal.returns-clause-bits
 returns-clause-bits g c =

@@ -141,8 +141,8 @@ fn combine_behind<F: BitOperator, T: BitStore, O: BitOrder, U: BitStore, P: BitO
     }
 }
 
-/// Makes each bit of the words of 64 bits from word `k` on into the bit that `F` makes of it and of the bit of `block`
-/// that stands as far after its first. Requires that the words are there.
+/// Like `combine_behind`, of the 64 bits of `block`, into as many bits from word `k` on. Requires that the words are
+/// there.
 fn combine_block<F: BitOperator, T: BitStore, O: BitOrder>(words: &mut [T], k: usize, block: u64)
     requires { k + 64 / T.BITS ≤ length words.old }
     ensures bits { row T.BitStore O.BitOrder words.new

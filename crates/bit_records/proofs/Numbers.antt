@@ -61,7 +61,7 @@ pub number_at : (w : ℕ) (xs : List Bool) (i : ℕ) → i < length xs / w → g
 unfolding numbers_in
 number_at w xs i h = get_or-map-range_with_len (λ i. written (slice_range xs (i * w) (i * w + w))) 0 (length xs / w) i i 0 h (omega arith)
 
--- so many numbers, each written at its place
+-- numbers, each written at its place
 pub same_numbers : (w : ℕ) (xs : List Bool) (ns : List ℕ) → 0 < w → w ≤ 64 → length xs ≡ length ns * w → ((i : ℕ) → i < length ns → (slice_range xs (i * w) (i * w + w) ≡ binary w (get_or ns i 0)) × (get_or ns i 0 < 2 ^ w)) → numbers_in w xs ≡ ns
 same_numbers w xs ns positive few size each =
     let count : length xs / w ≡ length ns = ap (λ k. k / w) (size ∙ omega arith) ∙ div-mul-add (length ns) w 0 positive in

@@ -10,7 +10,7 @@ use Rattle.bit_containers.specs.BitVec.{Held, held_code, IsClean}
 abbrev pub written : List Bool → ℕ
 written digits = number_of (reverse digits)
 
--- the numbers that a list of bits writes, by so many digits each
+-- the numbers that a list of bits writes, by as many digits each
 unfoldable pub numbers_in : ℕ → List Bool → List ℕ
 numbers_in width bits = map (λ i. written (slice_range bits (i * width) (i * width + width))) (range_with_len 0 (length bits / width))
 

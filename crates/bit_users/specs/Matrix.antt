@@ -17,7 +17,7 @@ pub record Grid : Type 0 where
 abbrev pub grid_code : Coded Grid
 grid_code = code_by (ℕ × (ℕ × List Bool)) (coded× coded_ℕ (coded× coded_ℕ (coded_list coded_bool))) (λ m. (m.rows, (m.columns, m.bits))) (λ p. record { rows = p.0; columns = p.1.0; bits = p.1.1 }) (λ _. refl)
 
--- how many bits the words of a row of so many columns have
+-- how many bits the words of a row have, by its columns
 abbrev pub padded : ℕ → ℕ
 padded columns = 64 * ((columns + 63) / 64)
 

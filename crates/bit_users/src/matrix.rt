@@ -261,7 +261,7 @@ impl Matrix {
     }
 }
 
-// How many bits a row of so many columns takes with its padding; where that passes the largest usize, more than any
+// How many bits a row of `columns` columns takes with its padding; where that passes the largest usize, more than any
 // matrix has.
 fn stride_of(columns: usize) -> usize
     ensures exact { columns ≤ MAX_BITS → result ≡ padded columns }

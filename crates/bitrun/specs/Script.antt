@@ -92,7 +92,7 @@ abbrev pub texts_of : List Bool → List Line → List (List ℕ) → List (List
 texts_of list [] words = []
 texts_of list (line ∷ lines) words = line_text list line (first_text words) ∷ texts_of (list_after_line list line) lines (later_texts words)
 
--- how a script ends, of whose lines so many are lines and so many of these fit, from line n on
+-- how a script ends, from line n on, by how many of its lines there are, and how many of these fit
 abbrev pub ending_at : ℕ → ℕ → ℕ → ℕ → Ending
 ending_at n all lines fit = if nat_lt fit lines then TooLong else if nat_lt lines all then BadCommand (n + lines) else Finished
 

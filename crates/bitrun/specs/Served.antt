@@ -48,7 +48,7 @@ abbrev pub IsShort : Option (List ℕ) → Type 0
 IsShort None = ⊥
 IsShort (Some text) = length text < 2 ^ 64 - 1
 
--- so many of the known bytes were read
+-- `count` of the known bytes were read
 abbrev pub IsRead : Option (List ℕ) → Option (List ℕ) → ℕ → Type 0
 IsRead None now count = ⊥
 IsRead (Some text) None count = ⊥

@@ -52,7 +52,7 @@ pub fn room_from_the_start(alloc: Global) -> Result<usize, GrowError>
     Ok(v.capacity())
 }
 
-/// After a reservation so many pushes find room, wherever the head is.
+/// After a reservation that many pushes find room, wherever the head is.
 pub fn pushed_after_reserving<T: BitStore, O: BitOrder>(
     v: &mut BitVec<T, O>,
     k: usize,

@@ -59,7 +59,7 @@ const BITS: (bool, bool) = (true, false);
 
 const WORDS: (u8, u8) = (0xa5, 0x0f);
 
-/// The bits that come from so many, in a list.
+/// The `n` bits that the tests pull, in a list.
 fn bits(rt: &(impl Abort + AllocGlobal), n: usize) -> Vec<bool> {
     let mut list = Vec::new(rt.alloc());
     for i in 0..n {
@@ -68,7 +68,7 @@ fn bits(rt: &(impl Abort + AllocGlobal), n: usize) -> Vec<bool> {
     list
 }
 
-/// That a vector holds two bits and then those that come from so many.
+/// That a vector holds two bits and then the `n` that were pulled.
 fn ends_with(rt: &impl Abort, v: &BitVec<u8, Lsb0>, n: usize) {
     assert!(rt; n < 2000 && v.len() == n + 2);
     assert!(rt; v.get(0) == Some(false) && v.get(1) == Some(true));

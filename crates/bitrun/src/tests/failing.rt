@@ -5,7 +5,7 @@ use std::io;
 use std::io::{Read, Write};
 use std::test::Fail;
 
-/// A reader that gives so many bytes at each read, and fails when no read is left.
+/// A reader that gives a number of bytes at each read, and fails when no read is left.
 #[derive(Drop)]
 struct Stuttering<'a> {
     bytes: &'a [u8],

@@ -33,7 +33,7 @@ fn copied<T: BitStore, O: BitOrder>(rt: &(impl Abort + AllocGlobal), head: usize
     assert!(rt; shows(rt, &v, head, &list, &row));
 }
 
-/// One bit so many times, which fills the dead bits too, and room for so many.
+/// One bit repeated, which fills the dead bits too, and room for bits.
 fn repeated<T: BitStore, O: BitOrder>(rt: &(impl Abort + AllocGlobal), len: usize) {
     for bit in [false, true] {
         let v = ok(rt, BitVec::<T, O>::repeat(rt.alloc(), bit, len));

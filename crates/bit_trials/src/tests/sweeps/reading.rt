@@ -84,7 +84,7 @@ fn parts<T: BitStore, O: BitOrder>(rt: &(impl Abort + AllocGlobal), head: usize,
     }
 }
 
-/// The digits of a list, one for each group of so many bits, where the bit that comes first weighs most.
+/// The digits of a list, one for each group of `width` bits, where the bit that comes first weighs most.
 fn digits_of(rt: &(impl Abort + AllocGlobal), list: &[bool], width: u8, digits: &str) -> Vec<u8> {
     let mut text = Vec::new(rt.alloc());
     ok(rt, text.push(b'['));

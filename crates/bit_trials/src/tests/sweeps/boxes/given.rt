@@ -34,7 +34,7 @@ pub(crate) fn taken<T: BitStore, O: BitOrder>(rt: &(impl Abort + AllocGlobal), b
     assert!(rt; shows(&back, &row, 0, back.len()));
 }
 
-/// The digits of a list, one for each group of so many bits, where the bit that comes first weighs most.
+/// The digits of a list, one for each group of `width` bits, where the bit that comes first weighs most.
 fn digits_of<T: BitStore, O: BitOrder>(
     rt: &(impl Abort + AllocGlobal),
     b: &BitBox<T, O>,

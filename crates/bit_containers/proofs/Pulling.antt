@@ -85,3 +85,19 @@ word_bits place w x y positive same =
     (λ i h.
     let below : i < w = omega arith in
     get_or-map-range_with_len (has_bit y) 0 w i i false below (omega arith) ∙ same i below ∙ sym (get_or-row_one place w x i positive below))
+
+-- of the bits that were pulled the first are a list, and the others are still in a number
+pub pulled_length : (xs : List Bool) (number got : ℕ) (pulled : List Bool) → xs ++ number_bits number got ≡ pulled → length xs + got ≡ length pulled
+pulled_length xs number got pulled all =
+    let a = ap length all in
+    let b = length-append xs (number_bits number got) in
+    let s = length-number_bits number got in
+    omega arith
+
+pub pulled_more : (xs more zs : List Bool) (number got next n : ℕ) (pulled : List Bool) (bit : Bool) → xs ++ number_bits number got ≡ pulled → zs ≡ xs ++ more → more ++ number_bits next n ≡ number_bits number got ++ bit ∷ [] → zs ++ number_bits next n ≡ pulled ++ bit ∷ []
+pulled_more xs more zs number got next n pulled bit all list same =
+    ap (λ l. l ++ number_bits next n) list
+    ∙ append_assoc xs more (number_bits next n)
+    ∙ ap (λ l. xs ++ l) same
+    ∙ sym (append_assoc xs (number_bits number got) (bit ∷ []))
+    ∙ ap (λ l. l ++ bit ∷ []) all

@@ -2,9 +2,10 @@
 use Rattle.std.proofs.Common.{◌≡◌, ℕ, ◌+◌, ◌-◌, ◌*◌, ◌<◌, ◌≤◌, Bool, false, List, ◌++◌, length, take, drop, reverse, replicate, get_or, slice_range, refl, sym, ◌∙◌, ap, subst, inl, inr, arith, rules}
 use Rattle.std.proofs.lemmas.Bool.{cases_lt}
 use Rattle.std.proofs.lemmas.List.{ext_get_or, get_or-reverse, length-reverse, reverse-append, reverse-reverse, same_lists, places, length-append, length-take, length-drop, length-replicate}
-use Rattle.std.proofs.lemmas.List.FromFn.{length-map-range_with_len, get_or-map-range_with_len}
+use Rattle.std.proofs.lemmas.List.FromFn.{get_or-map-range_with_len}
 use Rattle.bit_addressing.specs.Bits.{has_bit}
 use Rattle.bit_addressing.specs.Row.{put, moved, binary, number_bits, row_of}
+use Rattle.bit_addressing.proofs.Binary.{length-number_bits}
 use Rattle.bit_addressing.proofs.Rows.{length-row_of}
 use Rattle.bit_addressing.proofs.lists.Put.{length-put, put_before, put_inside, put_behind, put_joined}
 use Rattle.bit_addressing.proofs.lists.Shown.{length-run, get_or-run}
@@ -32,14 +33,10 @@ reversed_item zs at n i room h =
     let e : length (slice_range zs at (at + n)) - 1 - i ≡ n - 1 - i = omega (arith, b) in
     get_or-reverse (slice_range zs at (at + n)) i false (omega (arith, b)) ∙ ap (λ k. get_or (slice_range zs at (at + n)) k false) e ∙ get_or-run zs at n (n - 1 - i) (omega arith)
 
-pub size_of_number : (x n : ℕ) → length (number_bits x n) ≡ n
-unfolding number_bits
-size_of_number x n = length-map-range_with_len (has_bit x) 0 n
-
 -- the number's bits are those digits reversed
 pub turned_number : (x n at : ℕ) (zs : List Bool) → at + n ≤ length zs → binary n x ≡ slice_range zs at (at + n) → number_bits x n ≡ reverse (slice_range zs at (at + n))
 turned_number x n at zs room is =
-    let a = size_of_number x n in
+    let a = length-number_bits x n in
     let b : length (slice_range zs at (at + n)) ≡ n = length-run zs at n room in
     let d : length (reverse (slice_range zs at (at + n))) ≡ n = length-reverse (slice_range zs at (at + n)) ∙ b in
     ext_get_or false (number_bits x n) (reverse (slice_range zs at (at + n))) (a ∙ sym d)

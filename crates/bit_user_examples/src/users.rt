@@ -116,7 +116,7 @@ fn sets_that_grow(rt: HostRuntime) -> Result<(), Fail> {
     let numbers = low.members(rt.alloc())?;
     assert_eq!(rt; numbers.as_slice(), [2, 7, 70, 150].as_slice());
     assert!(rt; high.is_subset(&low) && low.is_superset(&high) && !low.is_subset(&high));
-    assert_eq!(rt; low.count_both(&high), 2);
+    assert_eq!(rt; low.count_intersection(&high), 2);
     Ok(())
 }
 

@@ -5,7 +5,8 @@ use Rattle.std.proofs.lemmas.Bool.{cases_eq, cases_lt, ne_eqb, lt-ltb, le-ltb, t
 use Rattle.bit_users.specs.Elimination.{AreUnits}
 use Rattle.bit_users.specs.Matrix.{Grid, item, plus_mod_2 as plus, sum_mod_2 as sum_below}
 use Rattle.bit_users.specs.Rank.{IsBasis, IsPart, IsRank, count_chosen, row_sum}
-use Rattle.bit_users.proofs.ModTwo.{and_assoc, and_false, and_one, and_plus, one_sum, plus_false, plus_same, sum_none, sum_one, sums_added, sums_same, three, times_sum}
+use Rattle.bit_slice.proofs.Sets.{and_false}
+use Rattle.bit_users.proofs.ModTwo.{and_assoc, and_one, and_plus, one_sum, plus_false, plus_same, sum_none, sum_one, sums_added, sums_same, three, times_sum}
 use Rattle.bit_users.proofs.Ranks.{and_true, any_or_none, count_most, count_same, one_at_most, sum_either, true_or_false}
 
 -- ---- how many numbers are chosen

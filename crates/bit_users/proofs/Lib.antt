@@ -1,10 +1,12 @@
 pub mod Blocks
 pub mod Counted
+pub mod CountedSets
 pub mod Fields
 pub mod Frames
 pub mod FullRank
 pub mod Grids
 pub mod Lowest
+pub mod MatrixRuns
 pub mod Members
 pub mod Merging
 pub mod ModTwo

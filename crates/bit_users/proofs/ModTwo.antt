@@ -2,6 +2,7 @@
 use Rattle.std.proofs.Common.{◌≡◌, ◌≢◌, ℕ, zero, suc, ◌+◌, ◌<◌, ◌≤◌, Bool, true, false, not, ◌&&◌, refl, sym, ◌∙◌, ap, inl, inr, arith, ltb, eq-eqb}
 use Rattle.std.proofs.lemmas.Bool.{cases_eq, cases_lt, ne_eqb, lt-ltb, le-ltb, true≢false}
 use Rattle.std.specs.Prelude.{◌==◌}
+use Rattle.bit_slice.proofs.Sets.{and_false}
 use Rattle.bit_users.specs.Elimination.{AreLinked, AreUnits, IsAdded}
 use Rattle.bit_users.specs.Matrix.{plus_mod_2 as plus, sum_mod_2 as sum_below}
 
@@ -37,10 +38,6 @@ plus_and true true true = refl
 plus_and true true false = refl
 plus_and true false c = sym (plus_false (true && c))
 plus_and false y c = refl
-
-pub and_false : (c : Bool) → (c && false) ≡ false
-and_false true = refl
-and_false false = refl
 
 pub and_one : (x : Bool) → (x && true) ≡ x
 and_one true = refl
@@ -260,16 +257,4 @@ units_kept w v n c into from inside at within late units added i j h l = elim (c
       ap (λ x. v x j) here ∙ added.here j (omega arith) ∙ ap (λ x. plus x (w from j)) (units into j at l) ∙ ap (plus (into == j)) (units from j within l ∙ ne_eqb from j (omega arith))
       ∙ plus_false (into == j) ∙ ap (λ x. x == j) (sym here)
   | inr apart ↦ added.others i j h (omega arith) apart ∙ units i j h l
-]
-
--- column c is that of the identity too
-pub units_more : (w : ℕ → ℕ → Bool) (n c : ℕ) → c < n → AreUnits w n c → w c c ≡ true → ((i : ℕ) → i < n → i ≢ c → w i c ≡ false) → AreUnits w n (c + 1)
-units_more w n c inside units set clear i j h l = elim (cases_lt j c) [
-  | inl low ↦ units i j h low
-  | inr high ↦
-      let at : j ≡ c = omega arith in
-      ap (w i) at ∙ elim (cases_eq i c) [
-        | inl here ↦ ap (λ x. w x c) here ∙ set ∙ sym (eq-eqb i j (here ∙ sym at))
-        | inr apart ↦ clear i h apart ∙ sym (ne_eqb i j (λ e. apart (e ∙ at)))
-      ]
 ]

@@ -73,9 +73,6 @@ all_paths edge now n inside is i j = (λ here. (let p = (is.paths i j).0 here in
 pub record AreLed (old now : ℕ → ℕ → Type 0) (k low r : ℕ) : Type 0 where
   pub led : (i j : ℕ) → now i j ↔ (old i j ⊎ ((low ≤ i) × (i < r) × old i k × old k j))
 
-pub none_led : (old : ℕ → ℕ → Type 0) (k low : ℕ) → AreLed old old k low low
-none_led old k low = record { led = λ i j. (λ o. inl o, λ w. elim w [ inl o ↦ o | inr t ↦ absurd (let h = t.0 in let l = t.1 in omega arith) ]) }
-
 -- row r, where it has an edge to k, is led on too
 pub row_more : (old now new : ℕ → ℕ → Type 0) (k low r : ℕ) → low ≤ r → AreLed old now k low r → ((i j : ℕ) → new i j ↔ (now i j ⊎ ((i ≡ r) × now r k × now k j))) → AreLed old new k low (r + 1)
 row_more old now new k low r past was is =
@@ -241,9 +238,6 @@ row_led old now row low high chunk none was i j = (
 
 pub record AreLedOver (old now : ℕ → ℕ → Type 0) (low high r : ℕ) : Type 0 where
   pub led : (i j : ℕ) → now i j ↔ (old i j ⊎ ((i < r) × LeadsOver old low high i j))
-
-pub no_row_led : (old : ℕ → ℕ → Type 0) (low high : ℕ) → AreLedOver old old low high 0
-no_row_led old low high = record { led = λ i j. (λ o. inl o, λ w. elim w [ inl o ↦ o | inr t ↦ absurd (let h = t.0 in omega arith) ]) }
 
 module _ (old now : ℕ → ℕ → Type 0) (low high r : ℕ) (closed : IsClosed old low high) (was : AreLedOver old now low high r) where
   pub inner : (b j : ℕ) → low ≤ b → b < high → now b j → old b j

@@ -86,16 +86,6 @@ module _ {F : Type 0} (step : F → ℕ → Bool → F → Type 0) where
     pub calls : AnswersInTurn step f (ones_below old from) answers now
     pub kept : ones_below new from ≡ items_where_true answers (ones_below old from)
 
-  pub retained_none : (f : F) (old : List Bool) → HasRetained f old f old 0
-  retained_none f old = record {
-    bound = refl;
-    inside = omega arith;
-    rest = λ k h. refl;
-    answers = [];
-    calls = (refl, refl);
-    kept = refl;
-  }
-
   module _ (f : F) (old : List Bool) (now : F) (new : List Bool) (from : ℕ) (was : HasRetained f old now new from) where
     -- no number is left
     pub retained_all : ((k : ℕ) → from ≤ k → get_or new k false ≡ false) → (answers : List Bool) × AnswersInTurn step f (ones_of old) answers now × (ones_of new ≡ items_where_true answers (ones_of old))
@@ -147,9 +137,6 @@ inside_bound xs k here = elim (cases_lt k (length xs)) [ inl low ↦ low | inr p
 bound_more : (numbers : List ℕ) (number : ℕ) → bound_of (numbers ++ number ∷ []) ≡ max (bound_of numbers) (number + 1)
 bound_more [] number = omega arith
 bound_more (n ∷ numbers) number = let e = bound_more numbers number in omega arith
-
-pub taken_none : (old : List Bool) → HasTaken old old []
-taken_none old = record { bound = omega arith; members = λ k. ((λ h. inl h), (λ h. elim h [ inl f ↦ f | inr f ↦ absurd (let e = f.1 in omega arith) ])) }
 
 pub taken_more : (old now new : List Bool) (numbers : List ℕ) (number : ℕ) → HasTaken old now numbers → length new ≡ max (length now) (number + 1) → ((k : ℕ) → IsIn new k ↔ ((k ≡ number) ⊎ IsIn now k)) → HasTaken old new (numbers ++ number ∷ [])
 taken_more old now new numbers number was size members = record {

@@ -10,7 +10,8 @@ use Rattle.bit_addressing.specs.Order.{all_below, below_tells}
 use Rattle.bit_users.specs.Matrix.{plus_mod_2 as xor}
 use Rattle.bit_users.specs.Squares.{IsLower, source_column, source_row, square_bit}
 use Rattle.bit_addressing.proofs.Words.{has_and, has_xor, has_shr_low, has_shl_low, has_shl_high}
-use Rattle.bit_users.proofs.ModTwo.{and_false, and_one, plus_false as xor_false}
+use Rattle.bit_slice.proofs.Sets.{and_false}
+use Rattle.bit_users.proofs.ModTwo.{and_one, plus_false as xor_false}
 use Rattle.bit_users.proofs.Ranks.{and_true as both_true}
 
 -- ---- one step, on a word of the upper half and one of the lower half

@@ -2,6 +2,7 @@ pub mod Elimination
 pub mod FreeMap
 pub mod InTurn
 pub mod Matrix
+pub mod MatrixLeft
 pub mod Merged
 pub mod Rank
 pub mod Reduction

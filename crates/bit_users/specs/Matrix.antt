@@ -1,5 +1,6 @@
 -- Matrices of truth values, and paths in the graphs whose edges are their set bits.
 use Rattle.std.specs.Prelude.{◌≡◌, ◌==◌, ℕ, zero, suc, ◌+◌, ◌*◌, ◌/◌, ◌<◌, ◌≤◌, Bool, true, false, not, ◌&&◌, ◌||◌, if◌then◌else◌, List, [], ◌∷◌, ◌++◌, codes, map, replicate, slice_index_or, slice_range, refl}
+use Rattle.std.specs.List.{range_with_len}
 use Rattle.std.specs.Cmp.{IsEquivalence, and_equiv, nat_eq_equiv, on_equiv}
 use Rattle.bit_addressing.specs.Text.{digit_of}
 use Rattle.bit_slice.specs.Comparisons.{bits_equal, bits_equiv}
@@ -40,6 +41,18 @@ zeros rows columns = record { rows = rows; columns = columns; bits = replicate (
 -- the bit in row i and column j
 abbrev pub item : Grid → ℕ → ℕ → Bool
 item m i j = slice_index_or m.bits (i * m.columns + j) false
+
+-- the bits of row i
+abbrev pub row_bits : Grid → ℕ → List Bool
+row_bits m i = slice_range m.bits (i * m.columns) (i * m.columns + m.columns)
+
+-- the bits of each row
+abbrev pub rows_bits : Grid → List (List Bool)
+rows_bits m = map (row_bits m) (range_with_len 0 m.rows)
+
+-- the bits of column j
+abbrev pub column_bits : Grid → ℕ → List Bool
+column_bits m j = map (λ i. item m i j) (range_with_len 0 m.rows)
 
 -- two matrices have as many rows, and as many columns
 abbrev pub AreAlike : Grid → Grid → Type 0
@@ -116,7 +129,7 @@ grid_equiv = and_equiv (on_equiv (λ m. m.rows) nat_eq_equiv) (and_equiv (on_equ
 
 -- the digits of row i, and the end of a line
 abbrev pub row_text : Grid → ℕ → List ℕ
-row_text m i = map digit_of (slice_range m.bits (i * m.columns) (i * m.columns + m.columns)) ++ 10 ∷ []
+row_text m i = map digit_of (row_bits m i) ++ 10 ∷ []
 
 -- the lines of the first n rows
 abbrev pub rows_text : Grid → ℕ → List ℕ
@@ -136,6 +149,12 @@ first_edge = (lit< tt, lit< tt, refl)
 
 second_edge : IsSet line 1 2
 second_edge = (lit< tt, lit< tt, refl)
+
+second_column : column_bits line 1 ≡ true ∷ false ∷ false ∷ []
+second_column = refl
+
+rows_of_line : rows_bits line ≡ (false ∷ true ∷ false ∷ []) ∷ (false ∷ false ∷ true ∷ []) ∷ (false ∷ false ∷ false ∷ []) ∷ []
+rows_of_line = refl
 
 -- the edges go one way, and none goes from 0 to 2
 no_edge_back : item line 1 0 ≡ false

@@ -5,7 +5,7 @@ ghost use Rattle.bit_containers.specs.Making.{filled_up};
 ghost use Rattle.bit_slice.specs.Operators.{or_of};
 ghost use Rattle.bit_slice.specs.Places.{ones_of};
 ghost use Rattle.bit_users.specs.FreeMap.{AreFree};
-ghost use Rattle.bit_users.specs.Matrix.{IsPath, IsSet, item, product};
+ghost use Rattle.bit_users.specs.Matrix.{IsPath, IsSet, column_bits, item, product};
 ghost use Rattle.bit_users.specs.Rank.{IsRank};
 ghost use Rattle.bit_users.specs.Serving.{IsNeverTwice};
 ghost use Rattle.bit_users.specs.Table.{IsIn, IsPrime};
@@ -315,4 +315,35 @@ pub fn rank_within_sizes(matrix: &Matrix, alloc: Global) -> Result<usize, AllocE
 {
     let rank = matrix.rank_mod_2(alloc)?;
     Ok(rank)
+}
+
+/// As many numbers are in either set as are collected.
+pub fn counted_of_either(
+    alloc: Global,
+    set: &NumberSet,
+    other: &NumberSet,
+) -> Result<(usize, Vec<usize>), AllocError>
+    ensures { IfOk result (λ found. found.0 ≡ length found.1.items) }
+{
+    let numbers = set.iter_union(other).collect(alloc)?;
+    Ok((set.count_union(other), numbers))
+}
+
+/// The bits of a column, collected.
+pub fn column_collected(
+    alloc: Global,
+    matrix: &Matrix,
+    column: usize,
+) -> Result<Vec<bool>, AllocError>
+    requires { column < matrix.now.columns }
+    ensures { IfOk result (λ bits. bits.items ≡ column_bits matrix.now column) }
+{
+    matrix.column(column).collect(alloc)
+}
+
+/// An iterator gives each row.
+pub fn rows_counted(matrix: &Matrix) -> usize
+    ensures { result ≡ matrix.now.rows }
+{
+    matrix.iter_rows().count()
 }

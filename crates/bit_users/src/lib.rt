@@ -11,7 +11,7 @@ mod table;
 mod wire;
 
 pub use free_map::{FreeMap, NotTaken, Reply, Request};
-pub use matrix::Matrix;
+pub use matrix::{Column, Matrix, Rows};
 pub use sequence::{Fault, are_of_one_list, from_bytes, to_bytes};
 pub use table::{Merged, NumberSet};
 pub use wire::{Header, HeaderFault};

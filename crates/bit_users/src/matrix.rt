@@ -3,10 +3,11 @@ ghost use Rattle.std.specs.Prelude.{◌≡◌, ◌≢◌, ◌+◌, ◌*◌, ◌<
 ghost use Rattle.bit_addressing.specs.declared.errors.GrowError.TheVariants as errors;
 ghost use Rattle.bit_addressing.specs.declared.length.TheConstants.{MAX_BITS};
 ghost use Rattle.bit_slice.specs.BitSlice.{head_of, len_of, list_of};
-ghost use Rattle.bit_users.specs.Matrix.{AreAlike, IsSet, item, padded, plus_mod_2, zeros};
+ghost use Rattle.bit_users.specs.Matrix.{AreAlike, IsSet, item, padded, plus_mod_2, row_bits, zeros};
 
 mod elimination;
 mod graph;
+mod iter;
 mod products;
 mod rank;
 mod squares;
@@ -15,6 +16,7 @@ mod transpose;
 
 use bit_addressing::{GrowError, Lsb0};
 use bit_containers::{BitSlice, BitVec};
+pub use iter::{Column, Rows};
 use std::alloc::Global;
 use std::marker::Model;
 
@@ -143,8 +145,7 @@ impl Matrix {
     /// The bits of a row, as a view that begins with a word. Requires that the matrix has it.
     pub fn row(&self, row: usize) -> BitSlice<'_, usize, Lsb0>
         requires { row < self.now.rows }
-        ensures list { list_of result ≡ slice_range self.now.bits (row * self.now.columns)
-            (row * self.now.columns + self.now.columns) }
+        ensures list { list_of result ≡ row_bits self.now row }
         ensures len { len_of result ≡ self.now.columns }
         ensures head { head_of result ≡ 0 }
         ensures items { (j : ℕ) → j < self.now.columns → slice_get (list_of result) j ≡ Some (item self.now row j) }

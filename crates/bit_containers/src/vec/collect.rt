@@ -122,7 +122,7 @@ impl<T: BitStore, O: BitOrder> BitVec<T, O> {
     // How many bits may be gathered in a number before they are appended: 64, or as many as the list may grow by where
     // those are fewer.
     #[inline(always)]
-    fn gathers(&self) -> u8
+    pub(crate) fn gathers(&self) -> u8
         ensures few { result ≤ 64 }
         ensures fits { length self.now.list + result ≤ MAX_BITS }
         ensures some { length self.now.list < MAX_BITS → 0 < result }
@@ -134,7 +134,7 @@ impl<T: BitStore, O: BitOrder> BitVec<T, O> {
     // may be gathered, they are appended first. Returns the number, how many of its bits are to be appended
     // then, and how many may be gathered.
     #[inline(always)]
-    fn gather(
+    pub(crate) fn gather(
         &mut self,
         number: u64,
         got: u8,

@@ -4,13 +4,12 @@ ghost use Rattle.std.specs.Iterator.{IsFinite, Drains, Yields, YieldsFirst, Yiel
 ghost use Rattle.std.specs.Iterator.Runs.{WholeRun, YieldsInOrder, YieldsInReverse};
 ghost use Rattle.std.specs.List.{splice};
 ghost use Rattle.bit_addressing.specs.Range.{LiesIn};
-ghost use Rattle.bit_addressing.specs.Row.{put};
 ghost use Rattle.bit_addressing.specs.declared.length.TheConstants.{MAX_BITS};
 ghost use Rattle.bit_slice.specs.BitSlice.{len_of, list_of};
-ghost use Rattle.bit_containers.specs.BitVec.{Shrank, Stayed, IsClean};
+ghost use Rattle.bit_containers.specs.BitVec.{IsClean, IsKept, RefusesOnly, Shrank};
 
 use crate::vec::{BitVec, Items};
-use bit_addressing::{BitOrder, BitStore, GrowError, Lsb0, MAX_BITS, RangeExt, copy_bits_in_vec};
+use bit_addressing::{BitOrder, BitStore, GrowError, Lsb0, MAX_BITS, RangeExt};
 use bit_slice::BitSlice;
 use std::alloc::{AllocError, Global};
 
@@ -107,24 +106,41 @@ impl<T: BitStore, O: BitOrder> BitVec<T, O> {
         }
     }
 
-    // Writes the bits of a view at the indices from `at` on. Requires that they lie in the length.
-    #[tactic(auto, using(bit_slice::proofs::Parts::shown_length))]
-    fn write_bits(&mut self, at: usize, view: BitSlice<'_, T, O>)
-        requires { at + len_of view ≤ length self.old.list }
-        ensures list { self.new.list ≡ put self.old.list at (list_of view.entry) }
-        ensures stayed { Stayed self.old self.new }
+    /// Replaces the bits at a range of indices by those of a view, by whatever words and order: what follows moves once.
+    /// Takes memory only where the list grows, and is refused like `resize` to the new length. What becomes of dead bits
+    /// is open. Requires that the range lies in the length.
+    ///
+    /// ```text
+    /// of 0110 and 101: bits.replace_range(1..2, other)? leaves 010110
+    /// ```
+    pub fn replace_range<R: RangeExt, U: BitStore, P: BitOrder>(
+        &mut self,
+        range: R,
+        view: BitSlice<'_, U, P>,
+    ) -> Result<(), GrowError>
+        requires lies { LiesIn (R.start_of range) (R.end_of range (length self.old.list)) (length self.old.list) }
+        ensures list { OnOk result (self.new.list
+            ≡ splice self.old.list (R.start_of range) (R.end_of range (length self.old.list)) (list_of view.entry)) }
+        ensures head { self.new.head ≡ self.old.head }
+        ensures refusal { RefusesOnly result (length self.old.list
+            - (R.end_of range (length self.old.list) - R.start_of range) + len_of view.entry) self.old self.new }
+        ensures capacity { self.old.capacity ≤ self.new.capacity }
     {
-        let (at, n) = (self.head + at, view.len());
-        let from = view.head();
-        copy_bits_in_vec::<T, O, T, O>(&mut self.words, at, view.as_raw_slice(), from, n);
+        let len = self.len();
+        let range = range.normalize(len);
+        let (start, end) = (range.start, range.end);
+        if view.len() > MAX_BITS - (len - (end - start)) {
+            return Err(GrowError::TooLong);
+        }
+        self.put_range(start, end, view)
     }
 
     // Puts the bits of a view in place of those from `start` up to `end`: what follows moves once.
-    fn put_range(
+    fn put_range<U: BitStore, P: BitOrder>(
         &mut self,
         start: usize,
         end: usize,
-        view: BitSlice<'_, T, O>,
+        view: BitSlice<'_, U, P>,
     ) -> Result<(), GrowError>
         requires ordered { start ≤ end }
         requires within { end ≤ length self.old.list }
@@ -133,19 +149,21 @@ impl<T: BitStore, O: BitOrder> BitVec<T, O> {
         ensures head { self.new.head ≡ self.old.head }
         ensures too_long { result ≢ Err GrowError.TooLong }
         ensures memory { result ≡ Err GrowError.OutOfMemory → end - start < len_of view.entry }
-        ensures unchanged { OnErr result (self.new.list ≡ self.old.list) }
+        ensures wanted { result ≡ Err GrowError.OutOfMemory
+            → self.old.capacity < length self.old.list - (end - start) + len_of view.entry }
+        ensures unchanged { OnErr result (IsKept self.old self.new) }
         ensures capacity { self.old.capacity ≤ self.new.capacity }
     {
         let (len, more) = (self.len(), view.len());
         if more <= end - start {
-            self.write_bits(start, view);
+            self.copy_into(start..start + more, view);
             self.remove_range(start + more, end);
             return Ok(());
         }
         let extra = more - (end - start);
         self.resize(len + extra, false)?;
         self.copy_within(end..len, end + extra);
-        self.write_bits(start, view);
+        self.copy_into(start..start + more, view);
         Ok(())
     }
 
@@ -177,7 +195,7 @@ impl<T: BitStore, O: BitOrder> BitVec<T, O> {
         self.put_range(start, end, bits.as_bitslice())
     }
 
-    // What an iterator gives before its first None, at most so many bits.
+    // What an iterator gives before its first None, at most `most` bits, 64 at a time.
     fn pulled<I: Iterator<Item = bool>>(
         alloc: Global,
         most: usize,
@@ -194,17 +212,21 @@ impl<T: BitStore, O: BitOrder> BitVec<T, O> {
             × (length bits ≤ most) }
     {
         let mut v = Self::new(alloc);
+        let (mut number, mut got) = (0, 0);
+        let mut room = v.gathers();
         for bit in iter {
-            if v.len() == most {
+            if v.len() + got as usize == most {
                 return Err(GrowError::TooLong);
             }
-            v.push(bit)?;
+            (number, got, room) = v.gather(number, got, room, bit)?;
         }
+        v.in_words();
+        v.extend_from_number(number, got)?;
         Ok(v)
     }
 
     // Puts what an iterator gives in place of the bits from `start` up to `end`.
-    fn replace_range<I: Iterator<Item = bool>>(
+    fn replace_by_items<I: Iterator<Item = bool>>(
         &mut self,
         start: usize,
         end: usize,
@@ -363,6 +385,6 @@ impl<'a, T: BitStore, O: BitOrder, I: Iterator<Item = bool>> Splice<'a, T, O, I>
             back: _,
             replacement,
         } = self;
-        vec.replace_range(start, end, replacement)
+        vec.replace_by_items(start, end, replacement)
     }
 }

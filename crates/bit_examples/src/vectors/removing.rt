@@ -1,7 +1,7 @@
 //! Bits taken out, and put in place of others.
 use crate::found::ok;
 use crate::vectors::{holds, of, shows};
-use bit_containers::{BitVec, Lsb0, Msb0};
+use bit_containers::{BitSlice, BitVec, Lsb0, Msb0};
 
 #[test]
 fn drained(rt: HostRuntime) {
@@ -73,6 +73,19 @@ fn spliced(rt: HostRuntime) {
     assert!(rt; v.len() == 5);
     ok(&rt, v.splice(2.., None).finish());
     holds(&rt, &v, b"01");
+}
+
+#[test]
+fn replaced_by_a_view(rt: HostRuntime) {
+    let words = [0b1010_0000_u8];
+    let view = BitSlice::<u8, Msb0>::from_slice(&words).get_range(0..3);
+    let mut v = of::<u16, Lsb0>(&rt, b"0110");
+    assert!(rt; v.len() == 4);
+    ok(&rt, v.replace_range(1..2, view));
+    holds(&rt, &v, b"010110");
+    assert!(rt; v.len() == 6);
+    ok(&rt, v.replace_range(1..5, view.get_range(1..2)));
+    holds(&rt, &v, b"000");
 }
 
 /// What is replaced, taken from both ends first.

@@ -1,9 +1,10 @@
 //! Callers that take bits out of a vector, and put others in their place.
 ghost use Rattle.std.specs.Prelude.{◌≡◌, ◌+◌, ◌≤◌, ◌++◌, true, false, [], ◌∷◌, take, drop, length, slice_get, slice_range, count_by, IfOk, OnOk, OnErr};
 ghost use Rattle.std.specs.List.{filter, splice};
+ghost use Rattle.bit_slice.specs.BitSlice.{list_of};
 ghost use Rattle.bit_containers.specs.Closures.{keep_where};
 
-use bit_containers::{BitOrder, BitStore, BitVec, GrowError, Lsb0, Msb0};
+use bit_containers::{BitOrder, BitSlice, BitStore, BitVec, GrowError, Lsb0, Msb0};
 use std::alloc::AllocError;
 
 /// A range is gone though nothing of it was asked for.
@@ -86,6 +87,18 @@ pub fn counted_and_replaced(v: &mut BitVec<u8, Lsb0>, bits: Vec<bool>) -> Result
     let ones = splice.items().filter(|bit| *bit).count();
     splice.finish()?;
     Ok(ones)
+}
+
+/// A range gives way to the bits of a view; what could not grow is as it was.
+pub fn replaced_by_a_view<T: BitStore, O: BitOrder>(
+    v: &mut BitVec<u8, Lsb0>,
+    view: BitSlice<'_, T, O>,
+) -> Result<(), GrowError>
+    requires { 4 ≤ length v.old.list }
+    ensures list { OnOk result (v.new.list ≡ splice v.old.list 1 4 (list_of view.entry)) }
+    ensures kept { OnErr result (v.new.list ≡ v.old.list) }
+{
+    v.replace_range(1..4, view)
 }
 
 pub fn emptied(v: &mut BitVec<u32, Msb0>)

@@ -42,6 +42,34 @@ fn ways(left: &Matrix, right: &Matrix, row: usize, column: usize, middle: usize)
 }
 
 #[test]
+fn rows_and_columns(rt: HostRuntime) -> Result<(), Fail> {
+    let matrix = scattered(rt.alloc(), 5, 70, 3)?;
+    let mut rows = matrix.iter_rows();
+    assert_eq!(rt; (rows.len(), rows.size_hint()), (5, (5, Some(5))));
+    for row in 0..5 {
+        let Some(view) = rows.next() else {
+            assert!(rt; false);
+            return Ok(());
+        };
+        for column in 0..70 {
+            assert_eq!(rt; view.get(column), Some(bit(&matrix, row, column)));
+        }
+    }
+    assert!(rt; rows.next().is_none() && rows.next_back().is_none());
+    assert!(rt; matrix.columns() == 70);
+    for column in 0..70 {
+        let mut bits = matrix.column(column);
+        assert_eq!(rt; bits.len(), 5);
+        assert_eq!(rt; bits.next_back(), Some(bit(&matrix, 4, column)));
+        for row in 0..4 {
+            assert_eq!(rt; bits.next(), Some(bit(&matrix, row, column)));
+        }
+        assert_eq!(rt; (bits.next(), bits.next_back()), (None, None));
+    }
+    Ok(())
+}
+
+#[test]
 fn products(rt: HostRuntime) -> Result<(), Fail> {
     let left = scattered(rt.alloc(), 9, 70, 1)?;
     let right = scattered(rt.alloc(), 70, 67, 2)?;

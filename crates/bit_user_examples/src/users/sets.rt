@@ -44,6 +44,22 @@ fn numbers_of_one_set_alone(rt: HostRuntime) -> Result<(), Fail> {
 }
 
 #[test]
+fn counts_of_two_sets(rt: HostRuntime) -> Result<(), Fail> {
+    let (small, large) = two_sets(rt.alloc())?;
+    assert_eq!(rt;
+        (small.count_union(&large), large.count_union(&small)),
+        (6, 6)
+    );
+    assert_eq!(rt; small.count_intersection(&large), 2);
+    assert_eq!(rt;
+        (small.count_difference(&large), large.count_difference(&small)),
+        (2, 2)
+    );
+    assert_eq!(rt; large.count_symmetric_difference(&small), 4);
+    Ok(())
+}
+
+#[test]
 fn ranges_and_texts(rt: HostRuntime) -> Result<(), Fail> {
     let mut set = NumberSet::new(rt.alloc(), 130)?;
     assert_eq!(rt; set.to_string(rt.alloc())?.as_str(), "{}");

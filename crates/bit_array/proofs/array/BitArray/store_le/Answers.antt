@@ -1,6 +1,6 @@
 use Rattle.std.proofs.Common.{◌≡◌, length, ◌∙◌, ap}
 use Rattle.bit_addressing.specs.Row.{number_bits}
-use Rattle.bit_slice.proofs.Turned.{size_of_number}
+use Rattle.bit_addressing.proofs.Binary.{length-number_bits}
 use Rattle.bit_array.proofs.Arrays.{row_whole}
 use Rattle.bit_addressing.specs.Typed.{row}
 use Rattle.bit_array.proofs.array.BitArray.store_le.Goals as goal
@@ -15,5 +15,5 @@ returns g c =
     let same : length new ≡ n = c.write_chunk.ensures.size ∙ c.as_raw_mut_slice-words.ensures.len in
     let size = c.len-len.ensures.value in
     ap (row W P) (g.met.A.BitViewSized.kept c.self.inside.inner new same)
-    ∙ row_whole W P old new (number_bits c.args.number c.len-len.result) n c.as_raw_mut_slice-words.ensures.len (size_of_number c.args.number c.len-len.result ∙ size) c.write_chunk.ensures.bits
+    ∙ row_whole W P old new (number_bits c.args.number c.len-len.result) n c.as_raw_mut_slice-words.ensures.len (length-number_bits c.args.number c.len-len.result ∙ size) c.write_chunk.ensures.bits
     ∙ ap (λ k. number_bits c.args.number k) size

@@ -11,7 +11,7 @@ returns-then-more-end-clause-list g c =
     let ys = list_of c.args.view in
     let start = c.args.start in
     let more = c.len-more.result in
-    c.remove_range.ensures.list ∙ ap (λ l. splice l (start + more) c.args.end []) c.write_bits.ensures.list
+    c.remove_range.ensures.list ∙ ap (λ l. splice l (start + more) c.args.end []) c.copy_into.ensures.list
     ∙ spliced_short old ys start c.args.end more (c.len-more.ensures.list) (omega (arith, c.if-more-end.true, c.requires.ordered)) c.requires.within
 
 pub returns-clause-list : goal.returns-clause-list
@@ -25,6 +25,6 @@ returns-clause-list g c =
     let extra = more - (end - start) in
     let size : len ≡ length old = c.len-len.ensures.value in
     let longer : List Bool = take (len + extra) old ++ replicate (len + extra - length old) false in
-    c.write_bits-2.ensures.list ∙ ap (λ l. put l start ys) (c.copy_within.ensures.list ∙ ap (λ l. moved l end (end + extra) (len - end)) c.in_ok-resize.ensures.list)
+    c.copy_into-2.ensures.list ∙ ap (λ l. put l start ys) (c.copy_within.ensures.list ∙ ap (λ l. moved l end (end + extra) (len - end)) c.in_ok-resize.ensures.list)
     ∙ ap (λ n. put (moved (take (n + extra) old ++ replicate (n + extra - length old) false) end (end + extra) (n - end)) start ys) size
     ∙ spliced_long old ys start end extra c.requires.ordered c.requires.within (omega (arith, c.len-more.ensures.list, c.if-more-end.false))

@@ -7,6 +7,6 @@ use Rattle.bit_containers.proofs.vec.splice.Splice.finish.Goals as goal
 pub returns-clause-runs : goal.returns-clause-runs
 returns-clause-runs g c =
     let s = c.args.self in
-    on_ok_weaker c.replace_range.result
-    (λ h. total_runs g.I.Iterator.next_gives _ (Unit {0}) (λ xs. c.replace_range.new.self.list ≡ splice s.vec.now.list s.start s.end xs) (h.0, λ _. h.1, h.2) tt)
-    c.replace_range.ensures.list
+    on_ok_weaker c.replace_by_items.result
+    (λ h. total_runs g.I.Iterator.next_gives _ (Unit {0}) (λ xs. c.replace_by_items.new.self.list ≡ splice s.vec.now.list s.start s.end xs) (h.0, λ _. h.1, h.2) tt)
+    c.replace_by_items.ensures.list

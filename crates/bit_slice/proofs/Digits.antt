@@ -2,7 +2,7 @@
 use Rattle.std.proofs.Common.{◌≡◌, ℕ, zero, suc, ◌+◌, ◌-◌, ◌*◌, ◌/◌, ◌%◌, ◌^◌, ◌<◌, ◌≤◌, Bool, List, [], ◌∷◌, ◌++◌, length, take, drop, slice_range, min, mod-lt, refl, ap, sym, ◌∙◌, arith, rules}
 use Rattle.std.proofs.Common.{inl, inr}
 use Rattle.std.proofs.lemmas.Bool.{cases_lt}
-use Rattle.std.proofs.Math.Nat.{mul-le-mul_left}
+use Rattle.std.proofs.Math.Nat.{div-le_self, mul-le-mul_left}
 use Rattle.std.proofs.lemmas.List.{length-drop, take_all, take-take, drop-drop, drop-take, same_lists, places}
 use Rattle.std.proofs.lemmas.Nat.{pow_pos}
 use Rattle.std.specs.Fmt.{digit_glyph}
@@ -94,20 +94,25 @@ unfolding words_for
 groups_split s t r size = elim size [ inl e ↦ rw e (omega arith) | inr r ↦ elim r [ inl e ↦ rw e (omega arith) | inr e ↦ rw e (omega arith) ] ]
 
 module _ (s : ℕ) (u : Bool) (size : IsDigitSize s) (bits : List Bool) where
+  -- m blocks behind t blocks
+  pub blocks_joined : (t m upto : ℕ) → upto ≡ t * 60 + m * 60 → digits s u (t * words_for s 60) bits ++ digits s u (m * words_for s 60) (slice_range bits (t * 60) upto) ≡ digits s u ((t + m) * words_for s 60) bits
+  blocks_joined t m upto end =
+      let d = words_for s 60 in
+      let fits : m * d * s ≤ m * 60 = omega (arith, block_groups s m size) in
+      let length_is : upto - t * 60 ≡ m * 60 = omega arith in
+      let next : t * d + m * d ≡ (t + m) * d = grind arith in
+      ap (λ n. digits s u (t * d) bits ++ digits s u (m * d) (take n (drop (t * 60) bits))) length_is
+      ∙ ap (λ l. digits s u (t * d) bits ++ l) (digits_cut s u (m * d) (m * 60) (drop (t * 60) bits) fits)
+      ∙ ap (λ n. digits s u (t * d) bits ++ digits s u (m * d) (drop n bits)) (sym (block_groups s t size))
+      ∙ sym (digits_joined s u (t * d) (m * d) bits)
+      ∙ ap (λ n. digits s u n bits) next
+
   -- a block behind t blocks
   pub block_joined : (t upto : ℕ) → upto ≡ t * 60 + 60 → digits s u (t * words_for s 60) bits ++ digits s u (words_for s 60) (slice_range bits (t * 60) upto) ≡ digits s u ((t + 1) * words_for s 60) bits
   block_joined t upto end =
-      let d = words_for s 60 in
-      let one : 1 * d * s ≡ 1 * 60 = block_groups s 1 size in
-      let same : 1 * d ≡ d = omega arith in
-      let fits : d * s ≤ 60 = omega (arith, one, ap (λ n. n * s) same) in
-      let length_is : upto - t * 60 ≡ 60 = omega arith in
-      let next : t * d + d ≡ (t + 1) * d = grind arith in
-      ap (λ n. digits s u (t * d) bits ++ digits s u d (take n (drop (t * 60) bits))) length_is
-      ∙ ap (λ l. digits s u (t * d) bits ++ l) (digits_cut s u d 60 (drop (t * 60) bits) fits)
-      ∙ ap (λ n. digits s u (t * d) bits ++ digits s u d (drop n bits)) (sym (block_groups s t size))
-      ∙ sym (digits_joined s u (t * d) d bits)
-      ∙ ap (λ n. digits s u n bits) next
+      let one : words_for s 60 ≡ 1 * words_for s 60 = omega arith in
+      ap (λ n. digits s u (t * words_for s 60) bits ++ digits s u n (slice_range bits (t * 60) upto)) one
+      ∙ blocks_joined t 1 upto (omega arith)
 
   -- what is left behind t blocks
   pub rest_joined : (t r from upto : ℕ) → from ≡ t * 60 → upto ≡ from + r → upto ≡ length bits → digits s u (t * words_for s 60) bits ++ digits s u (words_for s r) (slice_range bits from upto) ≡ digits s u (words_for s (length bits)) bits
@@ -119,6 +124,19 @@ module _ (s : ℕ) (u : Bool) (size : IsDigitSize s) (bits : List Bool) where
       ∙ sym (digits_joined s u (t * d) (words_for s r) bits)
       ∙ ap (λ n. digits s u n bits) (groups_split s t r size)
       ∙ ap (λ n. digits s u (words_for s n) bits) (omega arith)
+
+-- there are no more groups than bits, where a group has a bit
+pub groups_most : (s n : ℕ) → 0 < s → words_for s n ≤ n + (s - 1)
+unfolding words_for
+groups_most s n positive = div-le_self (n + (s - 1)) s
+
+pub size_positive : (s : ℕ) → IsDigitSize s → 0 < s
+size_positive s size = elim size [ inl e ↦ omega arith | inr r ↦ elim r [ inl e ↦ omega arith | inr e ↦ omega arith ] ]
+
+-- 60 bits have at most as many groups
+pub sixty_groups : (s : ℕ) → IsDigitSize s → words_for s 60 ≤ 60
+unfolding words_for
+sixty_groups s size = elim size [ inl e ↦ rw e (omega arith) | inr r ↦ elim r [ inl e ↦ rw e (omega arith) | inr e ↦ rw e (omega arith) ] ]
 
 pub groups_are : (s n : ℕ) → 0 < s → words_for s n ≡ (n + (s - 1)) / s
 unfolding words_for

@@ -1,10 +1,7 @@
 -- The first and the last of the parts that are left, and how many there are.
-use Rattle.std.proofs.Common.{◌≡◌, ℕ, suc, ◌+◌, ◌-◌, ◌*◌, ◌/◌, ◌%◌, ◌<◌, ◌≤◌, min, [], ◌∷◌, ◌++◌, map, ◌∙◌, ap, inl, inr, arith, mul_comm}
+use Rattle.std.proofs.Common.{◌≡◌, ℕ, ◌+◌, ◌-◌, ◌<◌, [], ◌∷◌, ◌++◌, map, ◌∙◌, ap, arith}
 use Rattle.std.specs.List.{range_with_len}
-use Rattle.std.proofs.lemmas.Bool.{cases_lt}
 use Rattle.std.proofs.lemmas.List.FromFn.{map-range_with_len_more}
-use Rattle.std.proofs.lemmas.Nat.{div-add-mod'}
-use Rattle.std.proofs.Math.Nat.{mul-le-mul_left}
 
 module _ {X : Type 0} (f : ℕ → X) (from upto : ℕ) (some : from < upto) where
   pub part_last : map f (range_with_len from (upto - from)) ≡ map f (range_with_len from (upto - 1 - from)) ++ f (upto - 1) ∷ []

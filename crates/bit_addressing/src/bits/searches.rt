@@ -85,6 +85,47 @@ pub fn count_bits<T: BitStore, O: BitOrder>(words: &[T], from: usize, upto: usiz
     count_apart::<T, O>(words, from, upto)
 }
 
+/// How many of the first `count` blocks of 64 bits, from index `skip` of word `k` and index `over` of word `l` on, are
+/// equal, by turns of 16 blocks up to one that is not. A turn is tested once, so that the compiler shifts and turns
+/// its words side by side (docs/SPEED.md, "Small vectors, arrays, texts and searches", `==` at other heads). Requires
+/// that the indices are in the words, the blocks are there, and each has another after it.
+#[inline(always)]
+fn equal_blocks<T: BitStore, O: BitOrder, U: BitStore, P: BitOrder>(
+    a: &[T],
+    k: usize,
+    skip: u8,
+    b: &[U],
+    l: usize,
+    over: u8,
+    count: usize,
+) -> usize
+    requires index { skip < T.BITS }
+    requires other_index { over < U.BITS }
+    requires first { k * T.BITS + skip + count * 64 ≤ T.BITS * length a.now }
+    requires second { l * U.BITS + over + count * 64 ≤ U.BITS * length b.now }
+    requires more { (t : ℕ) → t < count → (k + t * (64 / T.BITS)) * T.BITS + 128 ≤ T.BITS * length a.now }
+    requires other_more { (t : ℕ) → t < count → (l + t * (64 / U.BITS)) * U.BITS + 128 ≤ U.BITS * length b.now }
+    ensures most { result ≤ count }
+    ensures alike { slice_range (row T.BitStore O.BitOrder a.now) (k * T.BITS + skip)
+        (k * T.BITS + skip + result * 64)
+        ≡ slice_range (row U.BitStore P.BitOrder b.now) (l * U.BITS + over) (l * U.BITS + over + result * 64) }
+{
+    let (each, others) = ((64 / T::BITS) as usize, (64 / U::BITS) as usize);
+    for t in 0..count / 16 {
+        let done = t * 16;
+        let mut apart = 0u64;
+        for i in 0..16 {
+            let left = block_at::<O, T, O>(a, k + (done + i) * each, skip);
+            let right = block_at::<O, U, P>(b, l + (done + i) * others, over);
+            apart = apart.or(left.xor(right));
+        }
+        if apart != 0 {
+            return done;
+        }
+    }
+    count / 16 * 16
+}
+
 /// Like `differ_at`, from index `skip` of word `k` and index `over` of word `l` on. It is inlined, and compiled apart
 /// for runs that begin at a word's first bit.
 #[inline(always)]
@@ -115,7 +156,8 @@ fn differ_from<T: BitStore, O: BitOrder, U: BitStore, P: BitOrder>(
     let j = l * U::BITS as usize + over as usize;
     let room = blocks_behind::<T>(a.len(), k).min(blocks_behind::<U>(b.len(), l));
     let blocks = room.min(n / 64);
-    for t in 0..blocks {
+    let start = equal_blocks::<T, O, U, P>(a, k, skip, b, l, over, blocks);
+    for t in start..blocks {
         let left = block_at::<O, T, O>(a, k + t * each, skip);
         let right = block_at::<O, U, P>(b, l + t * others, over);
         if left != right {
@@ -181,7 +223,35 @@ fn equal_turns<T: BitStore, O: BitOrder, U: BitStore, P: BitOrder>(
     count / each * each
 }
 
-/// Like `equal_turns`, by turns of 64 bits, and before them by turns of 1024 where the run is long.
+/// Like `equal_turns`, where the first `far` words are known to be equal.
+#[inline(always)]
+fn equal_after<T: BitStore, O: BitOrder, U: BitStore, P: BitOrder>(
+    a: &[T],
+    k: usize,
+    b: &[U],
+    l: usize,
+    count: usize,
+    far: usize,
+    each: usize,
+) -> usize
+    requires width { U.BITS ≡ T.BITS }
+    requires order { (i : ℕ) → i < T.BITS → O.place T.BITS i ≡ P.place T.BITS i }
+    requires some { 0 < each }
+    requires first { k + count ≤ length a.now }
+    requires second { l + count ≤ length b.now }
+    requires within { far ≤ count }
+    requires known { slice_range (row T.BitStore O.BitOrder a.now) (k * T.BITS) (k * T.BITS + far * T.BITS)
+        ≡ slice_range (row U.BitStore P.BitOrder b.now) (l * T.BITS) (l * T.BITS + far * T.BITS) }
+    ensures most { result ≤ count }
+    ensures alike { slice_range (row T.BitStore O.BitOrder a.now) (k * T.BITS)
+        (k * T.BITS + result * T.BITS)
+        ≡ slice_range (row U.BitStore P.BitOrder b.now) (l * T.BITS) (l * T.BITS + result * T.BITS) }
+{
+    far + equal_turns::<T, O, U, P>(a, k + far, b, l + far, count - far, each)
+}
+
+/// Like `equal_turns`, by turns of 64 bits in narrow words, and before them by turns of 2048 and of 512 where the run
+/// is long.
 #[inline(always)]
 fn equal_front<T: BitStore, O: BitOrder, U: BitStore, P: BitOrder>(
     a: &[T],
@@ -202,14 +272,15 @@ fn equal_front<T: BitStore, O: BitOrder, U: BitStore, P: BitOrder>(
 {
     let width = T::BITS as usize;
     let far = if long {
-        equal_turns::<T, O, U, P>(a, k, b, l, count, 1024 / width)
+        let most = equal_turns::<T, O, U, P>(a, k, b, l, count, 2048 / width);
+        equal_after::<T, O, U, P>(a, k, b, l, count, most, 512 / width)
     } else {
         0
     };
     if T::BITS == 64 {
         return far;
     }
-    far + equal_turns::<T, O, U, P>(a, k + far, b, l + far, count - far, 64 / width)
+    equal_after::<T, O, U, P>(a, k, b, l, count, far, 64 / width)
 }
 
 /// The word whose bits are those of two words that differ, below index `n`. Requires that both kinds of words

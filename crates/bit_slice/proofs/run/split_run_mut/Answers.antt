@@ -8,7 +8,6 @@ use Rattle.bit_addressing.specs.Typed.{row}
 use Rattle.bit_addressing.proofs.Rows.{row_take, width_positive}
 use Rattle.bit_addressing.proofs.Typed.{length_row}
 use Rattle.bit_slice.proofs.Parts.{row_drop}
-use Rattle.bit_slice.proofs.run.split_run_mut.Given as given
 use Rattle.bit_slice.proofs.run.split_run_mut.Goals as goal
 
 -- a run of a front, and one from a place on

@@ -10,6 +10,7 @@ use crate::length::elts;
 use crate::order::BitOrder;
 use crate::store::BitStore;
 use std::alloc::AllocError;
+use std::mem::replace;
 
 /// Cuts the words to those for `bits` bits, or fills them up with words of zero. Takes memory.
 /// It is refused only where the capacity, in words, is too small.
@@ -104,8 +105,27 @@ fn push_word<T: BitStore>(words: &mut Vec<T>, word: T) -> Result<(), AllocError>
         words.push_reserved(word);
         return Ok(());
     }
-    words.push(word)?;
-    Ok(())
+    let alloc = *words.allocator();
+    let (grown, done) = push_growing(replace(words, Vec::new(alloc)), word);
+    let _empty = replace(words, grown);
+    done
+}
+
+/// Like `push_word`, by value: a vector that is lent to a call would stay in memory wherever words are pushed
+/// (docs/SPEED.md, push).
+#[cold]
+#[inline(never)]
+fn push_growing<T: BitStore>(words: Vec<T>, word: T) -> (Vec<T>, Result<(), AllocError>)
+    ensures items { OnOk result.1 (result.0.items ≡ words.items ++ word ∷ []) }
+    ensures capacity { vec_capacity words ≤ vec_capacity result.0 }
+    ensures full { OnErr result.1 (vec_capacity words ≤ length words.items) }
+    ensures unchanged { OnErr result.1 (result.0.items ≡ words.items) }
+{
+    let mut words = words;
+    match words.push(word) {
+        Ok(()) => (words, Ok(())),
+        Err(_) => (words, Err(AllocError)),
+    }
 }
 
 /// Appends a bit after the first `end` bits: a word is added only where no word has room for it, and the other bits

@@ -20,3 +20,4 @@ pub mod Pairs
 pub mod Blocks
 pub mod Shifts
 pub mod Counts
+pub mod Growth

@@ -18,7 +18,10 @@ mod word_row;
 pub use bits::chunks::{read_binary, read_chunk, write_binary, write_chunk};
 pub use bits::combined::{And, BitOperator, Or, Xor, combine_bits};
 pub use bits::copies::copy_bits;
-pub use bits::growth::{append_run_in_vec, cut_words_in_vec, push_bit_in_vec, resize_words_in_vec};
+pub use bits::growth::{
+    append_run_in_vec, cut_words_in_vec, push_binary_in_vec, push_bit_in_vec, push_chunk_in_vec,
+    resize_words_in_vec,
+};
 pub use bits::pairs::{count_blocks, false_blocks};
 pub use bits::searches::{count_bits, differ_at, find_bit};
 pub use bits::single::{

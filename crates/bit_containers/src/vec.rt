@@ -329,8 +329,9 @@ impl<T: BitStore, O: BitOrder> BitVec<T, O> {
         ensures memory { OnErr result (0 < length (words_of view.entry)) }
     {
         let (head, len) = (view.head(), view.len());
-        let mut words = Vec::new(alloc);
-        words.extend_from_slice(view.as_raw_slice())?;
+        let shown = view.as_raw_slice();
+        let mut words = Vec::with_capacity(alloc, shown.len())?;
+        words.extend_from_slice(shown)?;
         fill_outside_in_vec::<T, O>(&mut words, head, len, false);
         Ok(BitVec {
             words,

@@ -111,6 +111,7 @@ impl<T: BitStore, O: BitOrder> Records<T, O> {
     /// Appends a number. Returns `TooLong` exactly where the bits with it would pass `MAX_BITS`, and
     /// `OutOfMemory` only where they would pass the capacity. A refusal leaves the records. Requires that the
     /// number has at most as many digits as the width.
+    #[inline(always)]
     pub fn push(&mut self, number: u64) -> Result<(), GrowError>
         requires { number < 2 ^ self.old.width }
         ensures list { OnOk result (self.new.list ≡ self.old.list ++ number ∷ []) }

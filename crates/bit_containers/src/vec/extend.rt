@@ -9,7 +9,7 @@ ghost use Rattle.bit_slice.specs.BitSlice.{len_of, list_of};
 use crate::vec::BitVec;
 use bit_addressing::{
     BitOrder, BitStore, GrowError, MAX_BITS, RangeExt, append_run_in_vec, copy_bits_in_vec,
-    move_bits_in_vec, resize_words_in_vec, write_chunk_in_vec,
+    move_bits_in_vec, push_chunk_in_vec, resize_words_in_vec,
 };
 use bit_slice::BitSlice;
 
@@ -188,8 +188,7 @@ impl<T: BitStore, O: BitOrder> BitVec<T, O> {
             return Err(GrowError::TooLong);
         }
         let (end, len) = (self.head + self.len, self.len + more);
-        resize_words_in_vec::<T, O>(&mut self.words, self.head + len)?;
-        write_chunk_in_vec::<T, O>(&mut self.words, end, n, number);
+        push_chunk_in_vec::<T, O>(&mut self.words, end, n, number)?;
         self.len = len;
         Ok(())
     }

@@ -7,7 +7,7 @@ ghost use Rattle.bit_containers.specs.BitVec.{Grew, IsClean, RefusesOnly, Stayed
 
 use crate::vec::BitVec;
 use bit_addressing::{
-    BitOrder, BitStore, GrowError, MAX_BITS, read_binary, resize_words_in_vec, write_binary_in_vec,
+    BitOrder, BitStore, GrowError, MAX_BITS, push_binary_in_vec, read_binary, write_binary_in_vec,
 };
 
 impl<T: BitStore, O: BitOrder> BitVec<T, O> {
@@ -58,6 +58,7 @@ impl<T: BitStore, O: BitOrder> BitVec<T, O> {
     /// ```text
     /// of 01: bits.push_binary(3, 5)? leaves 01101
     /// ```
+    #[inline(always)]
     #[tactic(auto, using(bit_slice::proofs::Parts::shown_length))]
     pub fn push_binary(&mut self, n: u8, number: u64) -> Result<(), GrowError>
         requires { n ≤ 64 }
@@ -73,8 +74,7 @@ impl<T: BitStore, O: BitOrder> BitVec<T, O> {
             return Err(GrowError::TooLong);
         }
         let (end, len) = (self.head + self.len, self.len + more);
-        resize_words_in_vec::<T, O>(&mut self.words, self.head + len)?;
-        write_binary_in_vec::<T, O>(&mut self.words, end, n, number);
+        push_binary_in_vec::<T, O>(&mut self.words, end, n, number)?;
         self.len = len;
         Ok(())
     }

@@ -14,7 +14,7 @@ pub fill_outside_in_vec-requires-clause-fits : goal.fill_outside_in_vec-requires
 fill_outside_in_vec-requires-clause-fits g c =
     let w = g.T.BitStore.BITS in
     let v = c.args.view in
-    let copied : c.extend_from_slice.new.self.items ≡ v.words.now = c.in_ok-extend_from_slice.ensures.items ∙ ap (λ l. l ++ c.as_raw_slice.result.now) c.new-words.ensures.items ∙ c.as_raw_slice.ensures.words in
+    let copied : c.extend_from_slice.new.self.items ≡ v.words.now = c.in_ok-extend_from_slice.ensures.items ∙ ap (λ l. l ++ c.as_raw_slice-shown.result.now) c.in_ok-words.ensures.items ∙ c.as_raw_slice-shown.ensures.words in
     let small = width_small w g.met.T.BitStore.width in
     let low = v.fits.in_word in
     let few = v.fits.few in
@@ -26,7 +26,7 @@ pub returns-clause-list : goal.returns-clause-list
 returns-clause-list g c =
     let v = c.args.view in
     let bits = row g.T.BitStore g.O.BitOrder in
-    let copied : c.extend_from_slice.new.self.items ≡ v.words.now = c.in_ok-extend_from_slice.ensures.items ∙ ap (λ l. l ++ c.as_raw_slice.result.now) c.new-words.ensures.items ∙ c.as_raw_slice.ensures.words in
+    let copied : c.extend_from_slice.new.self.items ≡ v.words.now = c.in_ok-extend_from_slice.ensures.items ∙ ap (λ l. l ++ c.as_raw_slice-shown.result.now) c.in_ok-words.ensures.items ∙ c.as_raw_slice-shown.ensures.words in
     let size : length (bits v.words.now) ≡ g.T.BitStore.BITS * length v.words.now = length_row g.T.BitStore.value g.O.BitOrder.place g.T.BitStore.BITS v.words.now in
     let fits : v.head + v.len ≤ length (bits v.words.now) = let r = v.fits.room in omega arith in
     rw (c.fill_outside_in_vec.ensures.bits, copied, c.head-head.ensures.value, c.len-len.ensures.value) (shows_filled (bits v.words.now) v.head v.len false fits)
@@ -35,7 +35,7 @@ pub returns-clause-clean : goal.returns-clause-clean
 returns-clause-clean g c none =
     let v = c.args.view in
     let w = g.T.BitStore.BITS in
-    let copied : c.extend_from_slice.new.self.items ≡ v.words.now = c.in_ok-extend_from_slice.ensures.items ∙ ap (λ l. l ++ c.as_raw_slice.result.now) c.new-words.ensures.items ∙ c.as_raw_slice.ensures.words in
+    let copied : c.extend_from_slice.new.self.items ≡ v.words.now = c.in_ok-extend_from_slice.ensures.items ∙ ap (λ l. l ++ c.as_raw_slice-shown.result.now) c.in_ok-words.ensures.items ∙ c.as_raw_slice-shown.ensures.words in
     let here : IsVector w (length v.words.now) v.head v.len v.len = record { head_below = v.fits.in_word; len_small = v.fits.few; count = v.fits.exact; fits = v.fits.room; shows = refl } in
     let is : IsVector w (length c.extend_from_slice.new.self.items) c.head-head.result c.len-len.result v.len = rw (copied, c.head-head.ensures.value, c.len-len.ensures.value) here in
     let zero : c.head-head.result ≡ 0 = c.head-head.ensures.value ∙ none in

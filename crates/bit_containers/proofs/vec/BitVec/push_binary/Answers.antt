@@ -1,7 +1,7 @@
-use Rattle.std.proofs.Common.{◌≡◌, ◌+◌, ◌≤◌, ◌++◌, length, slice_range, sym, ◌∙◌, ap, arith, rules}
+use Rattle.std.proofs.Common.{◌≡◌, ◌+◌, ◌<◌, ◌≤◌, ◌++◌, length, slice_range, sym, ◌∙◌, ap, subst, arith, rules}
 use Rattle.std.proofs.Common.{vec_capacity}
 use Rattle.std.proofs.lemmas.Result.{err_from_is_err_and}
-use Rattle.bit_addressing.specs.Row.{put, sized, binary}
+use Rattle.bit_addressing.specs.Row.{put, sized, words_for, binary}
 use Rattle.bit_addressing.specs.Typed.{row}
 use Rattle.bit_addressing.proofs.Binary.{length-binary}
 use Rattle.bit_addressing.proofs.lists.Shown.{grown_shows}
@@ -11,16 +11,16 @@ use Rattle.bit_containers.proofs.Growing.{grew_by}
 use Rattle.bit_containers.proofs.Clean.{clean_grown}
 use Rattle.bit_containers.proofs.vec.BitVec.push_binary.Goals as goal
 
-pub returns-in_err-resize_words_in_vec-clause-refusal : goal.returns-in_err-resize_words_in_vec-clause-refusal
-returns-in_err-resize_words_in_vec-clause-refusal g c =
+pub returns-in_err-push_binary_in_vec-clause-refusal : goal.returns-in_err-push_binary_in_vec-clause-refusal
+returns-in_err-push_binary_in_vec-clause-refusal g c =
     let i = c.self.inside in
     let w = g.T.BitStore.BITS in
     let least : length i.words.items ≤ vec_capacity i.words = search rules in
     let p = err_from_is_err_and c.from_residual.result c.from_residual.ensures.1 in
     rw (p.1, p.2, ← c.self.view_is, c.self.invariant.shows) (record {
       too_long = ((λ e. cc), (λ h. absurd (omega (arith, c.self.invariant.len_small, c.if-more-self.false))));
-      memory = λ _. no_room_for w (length i.words.items) (vec_capacity i.words) i.head i.len (i.len + c.args.n) (width_positive w g.met.T.BitStore.width) c.self.invariant least (omega arith) c.in_err-resize_words_in_vec.ensures.full;
-      unchanged = kept g.T.BitStore g.O.BitOrder i.words.items c.resize_words_in_vec.new.words.items i.head i.len _ _ c.in_err-resize_words_in_vec.ensures.unchanged;
+      memory = λ _. no_room_for w (length i.words.items) (vec_capacity i.words) i.head i.len (i.len + c.args.n) (width_positive w g.met.T.BitStore.width) c.self.invariant least (omega arith) (subst (λ m. vec_capacity i.words < words_for w m) (omega arith) c.in_err-push_binary_in_vec.ensures.full);
+      unchanged = kept g.T.BitStore g.O.BitOrder i.words.items c.push_binary_in_vec.new.words.items i.head i.len _ _ c.in_err-push_binary_in_vec.ensures.unchanged;
     })
 
 pub returns-clause-list : goal.returns-clause-list
@@ -31,8 +31,7 @@ returns-clause-list g c =
     let bits = binary n c.args.number in
     let old = row g.T.BitStore g.O.BitOrder i.words.items in
     let fits = shown g.T.BitStore g.O.BitOrder i.words.items i.head i.len g.met.T.BitStore.width c.self.invariant in
-    let end : i.head + (i.len + n) ≡ i.head + i.len + n = omega arith in
-    ap (λ r. slice_range r i.head (i.head + (i.len + n))) (c.write_binary_in_vec.ensures.bits ∙ ap (λ r. put r (i.head + i.len) bits) (c.in_ok-resize_words_in_vec.ensures.bits ∙ ap (sized w old) end))
+    ap (λ r. slice_range r i.head (i.head + (i.len + n))) c.in_ok-push_binary_in_vec.ensures.bits
     ∙ grown_shows w old bits i.head i.len n (width_positive w g.met.T.BitStore.width) fits (sym (length-binary n c.args.number))
     ∙ ap (λ v. v.list ++ bits) c.self.view_is
 
@@ -44,10 +43,9 @@ returns-clause-row g c =
     let now = c.args.self.now in
     let bits = binary n c.args.number in
     let old = row g.T.BitStore g.O.BitOrder i.words.items in
-    let end : i.head + (i.len + n) ≡ i.head + i.len + n = omega arith in
     let len : i.len ≡ length now.list = sym c.self.invariant.shows ∙ ap (λ v. length v.list) c.self.view_is in
     grew_by w now _ bits (ap (λ v. v.head) c.self.view_is) (returns-clause-list g c)
-    (c.write_binary_in_vec.ensures.bits ∙ ap (λ r. put r (i.head + i.len) bits) (c.in_ok-resize_words_in_vec.ensures.bits ∙ ap (sized w old) end)
+    (c.in_ok-push_binary_in_vec.ensures.bits
     ∙ ap (λ v. put (sized w v.row (v.head + i.len + n)) (v.head + i.len) bits) c.self.view_is
     ∙ ap (λ m. put (sized w now.row (now.head + m + n)) (now.head + m) bits) len
     ∙ ap (λ m. put (sized w now.row (now.head + length now.list + m)) (now.head + length now.list) bits) (sym (length-binary n c.args.number)))

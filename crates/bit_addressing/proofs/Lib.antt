@@ -21,3 +21,4 @@ pub mod Blocks
 pub mod Shifts
 pub mod Counts
 pub mod Growth
+pub mod Inserted

@@ -28,9 +28,9 @@ pub use bits::single::{
     exact_words, fill_bits, fill_outside, flip_bits, read_bit, swap_bits, write_bit,
 };
 pub use bits::vectors::{
-    copy_bits_in_vec, fill_bits_in_vec, fill_outside_in_vec, flip_bits_in_vec,
-    move_bits_counted_in_vec, move_bits_in_vec, swap_bits_in_vec, write_binary_in_vec,
-    write_bit_in_vec, write_chunk_in_vec,
+    copy_bits_in_vec, fill_bits_in_vec, fill_outside_in_vec, flip_bits_in_vec, insert_bit_in_vec,
+    move_bits_counted_in_vec, move_bits_in_vec, remove_bit_in_vec, swap_bits_in_vec,
+    write_binary_in_vec, write_bit_in_vec, write_chunk_in_vec,
 };
 pub use equal::equal_words;
 pub use errors::GrowError;

@@ -1,5 +1,5 @@
 //! The calls on words that lie in a vector, which keeps its capacity.
-ghost use Rattle.std.specs.Prelude.{◌≡◌, ◌+◌, ◌-◌, ◌*◌, ◌^◌, ◌<◌, ◌≤◌, not, map, length, replicate, slice_range, set, swap, vec_capacity};
+ghost use Rattle.std.specs.Prelude.{◌≡◌, ◌+◌, ◌-◌, ◌*◌, ◌%◌, ◌^◌, ◌<◌, ◌≤◌, not, map, length, replicate, slice_range, set, swap, vec_capacity};
 ghost use Rattle.bit_addressing.specs.Row.{binary, filled, moved, number_bits, put, touched};
 ghost use Rattle.bit_addressing.specs.declared.length.TheConstants.{MAX_BITS};
 ghost use Rattle.bit_addressing.specs.Typed.{row};
@@ -7,8 +7,9 @@ ghost use Rattle.bit_addressing.specs.Typed.{row};
 use crate::bits::chunks::{write_binary, write_chunk};
 use crate::bits::copies::copy_bits;
 use crate::bits::single::{fill_bits, fill_outside, flip_bits, swap_bits, write_bit};
+use crate::index::{BitEnd, BitIdx};
 use crate::meter::Meter;
-use crate::move_run::move_bits_counted;
+use crate::move_run::{move_bits, move_bits_counted};
 use crate::order::BitOrder;
 use crate::store::BitStore;
 
@@ -113,6 +114,88 @@ pub fn move_bits_in_vec<T: BitStore, O: BitOrder>(
     ensures capacity { vec_capacity words.new ≡ vec_capacity words.old }
 {
     let _meter = move_bits_counted_in_vec::<T, O>(words, src, dst, n);
+}
+
+/// Moves the `n` bits from `at` on one index up. Requires that they lie in one word, with the index after them.
+#[inline(always)]
+fn move_up_in_word<T: BitStore, O: BitOrder>(words: &mut [T], at: usize, n: usize)
+    requires some { 0 < n }
+    requires word { at % T.BITS + n < T.BITS }
+    requires within { at + n < T.BITS * length words.old }
+    ensures bits { row T.BitStore O.BitOrder words.new ≡ moved (row T.BitStore O.BitOrder words.old) at (at + 1) n }
+    ensures size { length words.new ≡ length words.old }
+{
+    let width = T::BITS as usize;
+    let (k, low) = (at / width, (at % width) as u8);
+    let high = low + n as u8;
+    let back = BitIdx::<T>::new_unchecked(T::BITS - 1);
+    let start = BitIdx::<T>::new_unchecked(low + 1);
+    let end = BitEnd::<T>::new_unchecked(high + 1);
+    let old = words[k];
+    words[k] = O::with_run(old, old, old, back, start, end);
+}
+
+/// Moves the `n` bits after `at` one index down. Requires that they lie in one word with it.
+#[inline(always)]
+fn move_down_in_word<T: BitStore, O: BitOrder>(words: &mut [T], at: usize, n: usize)
+    requires some { 0 < n }
+    requires word { at % T.BITS + n < T.BITS }
+    requires within { at + n < T.BITS * length words.old }
+    ensures bits { row T.BitStore O.BitOrder words.new ≡ moved (row T.BitStore O.BitOrder words.old) (at + 1) at n }
+    ensures size { length words.new ≡ length words.old }
+{
+    let width = T::BITS as usize;
+    let (k, low) = (at / width, (at % width) as u8);
+    let high = low + n as u8;
+    let next = BitIdx::<T>::new_unchecked(1);
+    let start = BitIdx::<T>::new_unchecked(low);
+    let end = BitEnd::<T>::new_unchecked(high);
+    let old = words[k];
+    words[k] = O::with_run(old, old, old, next, start, end);
+}
+
+/// Moves the `n` bits from `at` on one index up, and writes `bit` at `at`: within one word by one step.
+#[inline(always)]
+pub fn insert_bit_in_vec<T: BitStore, O: BitOrder>(
+    words: &mut Vec<T>,
+    at: usize,
+    n: usize,
+    bit: bool,
+)
+    requires room { T.BITS * length words.old.items ≤ MAX_BITS + 2 * T.BITS }
+    requires within { at + n < T.BITS * length words.old.items }
+    ensures bits { row T.BitStore O.BitOrder words.new.items
+        ≡ set (moved (row T.BitStore O.BitOrder words.old.items) at (at + 1) n) at bit }
+    ensures size { length words.new.items ≡ length words.old.items }
+    ensures capacity { vec_capacity words.new ≡ vec_capacity words.old }
+{
+    let width = T::BITS as usize;
+    let words = words.as_mut_slice();
+    if n > 0 && n < width - at % width {
+        move_up_in_word::<T, O>(words, at, n);
+    } else {
+        move_bits::<T, O>(words, at, at + 1, n);
+    }
+    write_bit::<T, O>(words, at, bit);
+}
+
+/// Moves the `n` bits after `at` one index down: within one word by one step.
+#[inline(always)]
+pub fn remove_bit_in_vec<T: BitStore, O: BitOrder>(words: &mut Vec<T>, at: usize, n: usize)
+    requires room { T.BITS * length words.old.items ≤ MAX_BITS + 2 * T.BITS }
+    requires within { at + n < T.BITS * length words.old.items }
+    ensures bits { row T.BitStore O.BitOrder words.new.items
+        ≡ moved (row T.BitStore O.BitOrder words.old.items) (at + 1) at n }
+    ensures size { length words.new.items ≡ length words.old.items }
+    ensures capacity { vec_capacity words.new ≡ vec_capacity words.old }
+{
+    let width = T::BITS as usize;
+    let words = words.as_mut_slice();
+    if n > 0 && n < width - at % width {
+        move_down_in_word::<T, O>(words, at, n);
+    } else {
+        move_bits::<T, O>(words, at + 1, at, n);
+    }
 }
 
 /// Like `move_bits_counted`, in the words of a vector.

@@ -6,8 +6,8 @@ ghost use Rattle.bit_containers.specs.BitVec.{Grew, Shrank, IsClean, RefusesOnly
 
 use crate::vec::BitVec;
 use bit_addressing::{
-    BitOrder, BitStore, GrowError, MAX_BITS, cut_words_in_vec, move_bits_in_vec, push_bit_in_vec,
-    read_bit, write_bit_in_vec,
+    BitOrder, BitStore, GrowError, MAX_BITS, cut_words_in_vec, insert_bit_in_vec, push_bit_in_vec,
+    read_bit, remove_bit_in_vec, write_bit_in_vec,
 };
 
 impl<T: BitStore, O: BitOrder> BitVec<T, O> {
@@ -120,7 +120,7 @@ impl<T: BitStore, O: BitOrder> BitVec<T, O> {
     }
 
     /// Puts a bit before the one at `i`, or at the end where `i` is the length; the rest moves up after it,
-    /// by one counted move. It is refused like `push`, and a refusal leaves the vector. Requires that `i`
+    /// by one move. It is refused like `push`, and a refusal leaves the vector. Requires that `i`
     /// is at most the length. What becomes of dead bits is open.
     ///
     /// ```text
@@ -139,12 +139,11 @@ impl<T: BitStore, O: BitOrder> BitVec<T, O> {
         self.push(bit)?;
         let at = self.head + i;
         let behind = self.len - 1 - i;
-        move_bits_in_vec::<T, O>(&mut self.words, at, at + 1, behind);
-        write_bit_in_vec::<T, O>(&mut self.words, at, bit);
+        insert_bit_in_vec::<T, O>(&mut self.words, at, behind, bit);
         Ok(())
     }
 
-    /// Takes the bit at `i`; those after it move down, by one counted move. Takes no memory. Requires that `i` is
+    /// Takes the bit at `i`; those after it move down, by one move. Takes no memory. Requires that `i` is
     /// below the length. What becomes of dead bits is open.
     ///
     /// ```text
@@ -162,7 +161,7 @@ impl<T: BitStore, O: BitOrder> BitVec<T, O> {
         let at = self.head + i;
         let less = self.len - 1;
         let bit = read_bit::<T, O>(self.words.as_slice(), at);
-        move_bits_in_vec::<T, O>(&mut self.words, at + 1, at, less - i);
+        remove_bit_in_vec::<T, O>(&mut self.words, at, less - i);
         cut_words_in_vec::<T, O>(&mut self.words, self.head + less);
         self.len = less;
         bit

@@ -8,8 +8,8 @@ use Rattle.bit_addressing.proofs.lists.Moved.{removed_shows}
 use Rattle.bit_containers.proofs.Vectors.{few_words, shown}
 use Rattle.bit_containers.proofs.vec.BitVec.remove.Goals as goal
 
-pub move_bits_in_vec-requires-clause-room : goal.move_bits_in_vec-requires-clause-room
-move_bits_in_vec-requires-clause-room g c = few_words g.T.BitStore.BITS (length c.self.inside.words.items) c.self.inside.head c.self.inside.len (width_positive _ g.met.T.BitStore.width) c.self.invariant
+pub remove_bit_in_vec-requires-clause-room : goal.remove_bit_in_vec-requires-clause-room
+remove_bit_in_vec-requires-clause-room g c = few_words g.T.BitStore.BITS (length c.self.inside.words.items) c.self.inside.head c.self.inside.len (width_positive _ g.met.T.BitStore.width) c.self.invariant
 
 pub returns-clause-answer : goal.returns-clause-answer
 returns-clause-answer g c =
@@ -25,6 +25,6 @@ returns-clause-list g c =
     let bits = row g.T.BitStore g.O.BitOrder i.words.items in
     let fits = shown g.T.BitStore g.O.BitOrder i.words.items i.head i.len g.met.T.BitStore.width c.self.invariant in
     let len : i.len ≡ length c.args.self.now.list = sym c.self.invariant.shows ∙ ap (λ v. length v.list) c.self.view_is in
-    ap (λ r. slice_range r i.head (i.head + (i.len - 1))) (c.cut_words_in_vec.ensures.bits ∙ ap (λ r. sized w r (i.head + (i.len - 1))) c.move_bits_in_vec.ensures.bits)
+    ap (λ r. slice_range r i.head (i.head + (i.len - 1))) (c.cut_words_in_vec.ensures.bits ∙ ap (λ r. sized w r (i.head + (i.len - 1))) c.remove_bit_in_vec.ensures.bits)
     ∙ removed_shows w bits i.head i.len c.args.i (width_positive w g.met.T.BitStore.width) (omega arith) fits
     ∙ ap (λ v. remove v.list c.args.i) c.self.view_is

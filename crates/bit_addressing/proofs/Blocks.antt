@@ -39,7 +39,7 @@ block_as_word place w v block is same inside =
     let below : i < w = omega arith in
     get_or-row_one place w v i (omega arith) below ∙ same (place w i) (inside i below) ∙ ap (λ n. has_bit block (place n i)) is ∙ sym (get_or-row_one place 64 block i (omega arith) (omega arith)))
 
--- where a block stands, some blocks behind an index of a word
+-- where a block stands, some blocks after an index of a word
 pub block_from : (w each k skip t : ℕ) → each * w ≡ 64 → (k + t * each) * w + skip ≡ k * w + skip + t * 64
 block_from w each k skip t fills =
     let sum : (k + t * each) * w ≡ k * w + (t * each) * w = right_sum k (t * each) w in

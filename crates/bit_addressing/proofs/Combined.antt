@@ -19,7 +19,7 @@ zip2-append f [] us (y ∷ ys) vs h = cc
 zip2-append f (x ∷ xs) us [] vs h = cc
 zip2-append f (x ∷ xs) us (y ∷ ys) vs h = ap (λ l. f x y ∷ l) (zip2-append f xs us ys vs (omega arith))
 
--- behind what was put the list is as it was
+-- after what was put the list is as it was
 pub put_later : (xs ys : List Bool) (d a b : ℕ) → d ≤ length xs → d + length ys ≤ a → a ≤ b → b ≤ length xs → slice_range (put xs d ys) a b ≡ slice_range xs a b
 unfolding put
 put_later xs ys d a b h k l n = same_lists _ _ (search (rules, places)) (λ i e below. grind (arith, places))

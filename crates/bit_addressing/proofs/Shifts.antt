@@ -256,7 +256,7 @@ run_moved_back {w} {dst} {first} {low} {last} {high} xs ys zs us src n a run apa
 
 -- ---- runs copied from another row
 
--- two runs of one row that are put one behind the other
+-- two runs of one row that are put one after the other
 module _ (place : ℕ → ℕ → ℕ) (w : ℕ) where
   -- a run of one word's bits is a run of the row
   pub part_copied : (words : List ℕ) (v low high from : ℕ) → 0 < w → low ≤ high → high ≤ w → from + (high - low) ≤ w * length words

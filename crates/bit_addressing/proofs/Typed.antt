@@ -100,7 +100,7 @@ module _ {X : Type 0} (value : X → ℕ) (place : ℕ → ℕ → ℕ) (w : ℕ
   pub row_replaced : (ws : List X) (k : ℕ) (v : X) → 0 < w → k < length ws → row_of place w (map value (set ws k v)) ≡ put (row_of place w (map value ws)) (k * w) (row_of place w (value v ∷ []))
   row_replaced ws k v positive below = ap (row_of place w) (map-set value ws k v) ∙ row_stored place w (map value ws) k (value v) positive (rw length-map below)
 
-  -- a bit is joined in a new word, whose other bits are those of a blank word
+  -- a bit is appended in a new word, whose other bits are those of a blank word
   pub row_pushed : (ws : List X) (blank v : X) (end p : ℕ) (b : Bool) → 0 < w → IsPermutation w (place w) → value blank ≡ 0 → end / w ≡ length ws → length ws + 1 ≡ words_for w (end + 1) → end < w * (length ws + 1) → p ≡ place w (end % w)
       → ((q : ℕ) → q < w → has_bit (value v) q ≡ (if eqb q p then b else has_bit (value blank) q))
       → row_of place w (map value (ws ++ v ∷ [])) ≡ put (sized w (row_of place w (map value ws)) (end + 1)) end (b ∷ [])

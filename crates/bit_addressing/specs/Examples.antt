@@ -14,7 +14,7 @@ highest_first : row_of (λ w i. w - 1 - i) 8 (28 ∷ []) ≡ false ∷ false ∷
 unfolding row_of
 highest_first = refl
 
--- an order of a user's own: the two halves of each byte change places
+-- an order that a user writes: the two halves of each byte change places
 abbrev xor4_place : ℕ → ℕ → ℕ
 xor4_place w i = bit_xor i 4
 

@@ -19,7 +19,7 @@ lsb0_lawful w _ = record { in_range = λ i h. h; apart = λ i j h k e. e }
 pub msb0_lawful : IsLawful (λ w i. w - 1 - i)
 msb0_lawful w _ = record { in_range = λ i h. omega arith; apart = λ i j h k e. omega arith }
 
--- ---- an order of a user's own: `lawful_by_test place refl refl refl refl`
+-- ---- an order that a user writes: `lawful_by_test place refl refl refl refl`
 
 -- a test holds of each number below n
 abbrev pub all_below : (ℕ → Bool) → ℕ → Bool

@@ -26,7 +26,7 @@ packed_words place w (suc n) bits = gathered place 0 (take w bits) ∷ packed_wo
 unfoldable pub packed : (ℕ → ℕ → ℕ) → ℕ → List Bool → List ℕ
 packed place w bits = packed_words (place w) w (length bits / w) bits
 
--- the words of w bits for a list: its bits, and 0 behind them
+-- the words of w bits for a list: its bits, and 0 after them
 abbrev pub list_words : (ℕ → ℕ → ℕ) → ℕ → List Bool → List ℕ
 list_words place w bits = packed_words (place w) w ((length bits + (w - 1)) / w) bits
 

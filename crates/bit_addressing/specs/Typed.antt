@@ -13,6 +13,6 @@ module _ {X Y : Type 0} (W : store.Ghosts X) (P : order.Ghosts Y) where
   abbrev pub words_from : List Bool → List X
   words_from bits = map W.number (packed P.place W.BITS bits)
 
-  -- the words for a list: its bits, and 0 behind them
+  -- the words for a list: its bits, and 0 after them
   abbrev pub words_for_list : List Bool → List X
   words_for_list bits = map W.number (list_words P.place W.BITS bits)

@@ -8,7 +8,7 @@ use Rattle.bit_array.specs.declared.errors.Reason.{Reason}
 use Rattle.bit_array.specs.declared.errors.Reason.TheVariants as reasons
 use Rattle.bit_array.specs.declared.errors.TryFromBitSliceError.{TryFromBitSliceError}
 
--- the view has so many bits, and so many are wanted
+-- the number of bits of the view, and the number that the array has
 abbrev pub UnequalLen : ℕ → ℕ → TryFromBitSliceError
 UnequalLen actual expected = record { reason = reasons.UnequalLen actual expected }
 

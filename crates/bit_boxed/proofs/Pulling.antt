@@ -10,7 +10,7 @@ pub yields_more : {S A : Type 0} (steps : S → Option A → S → Type 0) (s : 
 yields_more steps s [] t x u run step = (u, subst (λ j. steps j (Some x) u) (sym run) step, refl)
 yields_more steps s (y ∷ items) t x u run step = (run.0, run.1, yields_more steps run.0 items t x u run.2 step)
 
--- a bit joined to bits and then false
+-- a bit appended to bits and then false
 pub one_more : (w : ℕ) (row bits : List Bool) (n : ℕ) (b : Bool) → 0 < w → length bits ≡ n → row ≡ sized w bits n → put (sized w row (n + 1)) n (b ∷ []) ≡ sized w (bits ++ b ∷ []) (n + 1)
 one_more w row bits n b positive size is =
     let same : 0 + n ≡ n = omega arith in

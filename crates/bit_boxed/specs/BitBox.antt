@@ -20,7 +20,7 @@ abbrev pub held_code : {X : Type 0} → Coded X → Coded (Held X)
 held_code {X} c =
     code_by (List X × (List Bool × (ℕ × List Bool))) (coded× (coded_list c) (coded× (coded_list coded_bool) (coded× coded_ℕ (coded_list coded_bool)))) (λ v. (v.words, (v.row, (v.head, v.list)))) (λ p. record { words = p.0; row = p.1.0; head = p.1.1.0; list = p.1.1.1 }) (λ _. refl)
 
--- what always holds of a box of n words of w bits, whose list has so many bits: it may have words to spare
+-- what always holds of a box of n words of w bits, whose list has `len` bits: it may have words to spare
 pub record IsBox (w n head len size : ℕ) : Type 0 where
   pub head_below : head < w
   pub len_small : len ≤ MAX_BITS

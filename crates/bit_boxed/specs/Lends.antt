@@ -18,7 +18,7 @@ abbrev pub written_over : {X : Type 0} → List X → ℕ → List X → List X
 written_over xs first ws = take first xs ++ (ws ++ drop (length ws) (drop first xs))
 
 module _ (T O : RattleType) (W : store.Ghosts T.Denot) (P : order.Ghosts O.Denot) (v : MutBor (Held T.Denot)) where
-  -- the box ends with the words that are left behind this slice
+  -- the box ends with the words that this slice has at its end
   abbrev pub lends_words : MutBor (List T.Denot) → Fml
   lends_words r = Lends (the_row T O W P) (Array T 0) v r (with_words W P v.now)
 

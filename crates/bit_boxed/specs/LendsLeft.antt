@@ -15,6 +15,6 @@ module _ {X Y : Type 0} (W : store.Ghosts X) (P : order.Ghosts Y) where
   with_words v ws =
       record { words = refill (length v.words) v.words ws; head = v.head; list = refill (length v.list) v.list (slice_range (row W P (refill (length v.words) v.words ws)) v.head (v.head + length v.list)) }
 
--- the iterator ends with the words that are left behind a view of its bits: the words around them stay
+-- the iterator ends with the words that a view of its bits has at its end: the words around them stay
 abbrev pub lends_left : (T O : RattleType) (W : store.Ghosts T.Denot) (P : order.Ghosts O.Denot) → MutBor (Left T.Denot) → GName → Fml
 lends_left T O W P v n = follows (the_row T O W P) (Array T 0) v.ghost_name n (λ ws. with_words W P v.now (written_over v.now.words (v.now.head / W.BITS) ws))

@@ -17,7 +17,7 @@ module _ {F : Type 0} (step : F → ℕ → Bool → F → Type 0) where
   answers_more f i (a ∷ answers) g j b h run called at =
       (run.0, run.1, answers_more run.0 (i + 1) answers g j b h run.2 called (omega arith))
 
-  -- where each answer is that of a function of the index, those are the values of that function at the indices
+  -- where each result is that of a function of the index, those are the values of that function at the indices
   pub filled_with : (of : ℕ → Bool) → ((f : F) (i : ℕ) (answer : Bool) (next : F) → step f i answer next → answer ≡ of i)
       → (f : F) (i : ℕ) (answers : List Bool) (last : F) → AnswersFrom step f i answers last → answers ≡ map of (range_with_len i (length answers))
   filled_with of says f i [] last run = refl
@@ -53,7 +53,7 @@ module _ {F : Type 0} (step : F → ℕ → Bor Bool → Bool → F → Type 0) 
   length-answers f i [] answers g run = rw run.0 refl
   length-answers f i (x ∷ bits) answers g run = rw run.4 (ap suc (length-answers run.2 (i + 1) bits run.1 g run.7))
 
-  -- where each answer is that of a test of the index and the bit, the bits that pass it are kept
+  -- where each result is that of a test of the index and the bit, the bits that pass it are kept
   pub kept_where : (test : ℕ → Bool → Bool) → ((f : F) (i : ℕ) (shown : Bor Bool) (answer : Bool) (next : F) → step f i shown answer next → answer ≡ test i shown.now)
       → (f : F) (i : ℕ) (bits answers : List Bool) (last : F) → AnswersAtEach step f i bits answers last → kept bits answers ≡ keep_where test i bits
   kept_where test says f i [] answers last run = rw run.0 refl
@@ -62,7 +62,7 @@ module _ {F : Type 0} (step : F → ℕ → Bor Bool → Bool → F → Type 0) 
       let rest = kept_where test says run.2 (i + 1) bits run.1 last run.7 in
       rw (run.4, same) (kept_cond (test i x) x bits run.1 ∙ ap (λ l. cond (test i x) (x ∷ l) l) rest)
 
-  -- where each answer is that of a test of the bit alone, the bits that pass it are kept
+  -- where each result is that of a test of the bit alone, the bits that pass it are kept
   pub kept_filter : (test : Bool → Bool) → ((f : F) (i : ℕ) (shown : Bor Bool) (answer : Bool) (next : F) → step f i shown answer next → answer ≡ test shown.now)
       → (f : F) (i : ℕ) (bits answers : List Bool) (last : F) → AnswersAtEach step f i bits answers last → kept bits answers ≡ filter test bits
   kept_filter test says f i bits answers last run = kept_where (λ _. test) says f i bits answers last run ∙ kept_by_bit test i bits

@@ -17,7 +17,7 @@ use Rattle.bit_containers.specs.BitVec.{IsClean}
 use Rattle.bit_slice.specs.Clean.{IsCleanRow}
 use Rattle.bit_slice.proofs.Clean.{Seen, IsCleanSeen, clean_set, clean_moved, moved_nowhere}
 
--- a bit joined to a clean vector leaves it clean
+-- a bit appended to a clean vector leaves it clean
 pub clean_joined : {X : Type 0} (w : ℕ) (old : Held X) (new : Seen) (b : Bool) → 0 < w → new.head ≡ old.head → new.list ≡ old.list ++ b ∷ [] → new.row ≡ put (sized w old.row (old.head + length old.list + 1)) (old.head + length old.list) (b ∷ []) → IsClean w old → IsCleanRow w new.head new.row new.list
 clean_joined w old new b positive head list row clean =
     let n = length old.list in
@@ -29,7 +29,7 @@ clean_joined w old new b positive head list row clean =
           ∙ ap (λ l. sized w l (n + 1)) (sym list) ∙ ap (sized w new.list) (sym more);
     }
 
--- a list joined to a list and then false
+-- a list appended to a list and then false
 joined_sized : (w : ℕ) (xs ys : List Bool) (len n : ℕ) → 0 < w → length xs ≡ len → length ys ≡ n → put (sized w (sized w xs len) (0 + len + n)) (0 + len) ys ≡ sized w (xs ++ ys) (len + n)
 unfolding put sized
 joined_sized w xs ys len n positive size more =
@@ -39,7 +39,7 @@ joined_sized w xs ys len n positive size more =
     let next : 0 + len + n ≡ len + n = omega arith in
     rw next (same_lists _ _ (search (rules, places)) (λ i d below. grind (arith, places)))
 
--- bits joined to a clean vector leave it clean
+-- bits appended to a clean vector leave it clean
 pub clean_grown : {X : Type 0} (w : ℕ) (old : Held X) (new : Seen) (ys : List Bool) → 0 < w → new.head ≡ old.head → new.list ≡ old.list ++ ys → new.row ≡ put (sized w old.row (old.head + length old.list + length ys)) (old.head + length old.list) ys → IsClean w old → IsCleanRow w new.head new.row new.list
 clean_grown w old new ys positive head list row clean =
     let n = length old.list in
@@ -51,7 +51,7 @@ clean_grown w old new ys positive head list row clean =
           ∙ ap (λ l. sized w l (n + length ys)) (sym list) ∙ ap (sized w new.list) (sym more);
     }
 
--- a bit put before another: one joined, the rest moved up, and it written
+-- a bit put before another: one appended, the rest moved up, and it written
 pub clean_inserted : {X : Type 0} (w : ℕ) (old mid : Held X) (new : Seen) (i : ℕ) (b : Bool) → 0 < w → i ≤ length old.list → mid.list ≡ old.list ++ b ∷ [] → new.head ≡ mid.head → new.list ≡ insert old.list i b
     → new.row ≡ set (moved mid.row (mid.head + i) (mid.head + i + 1) (length old.list - i)) (mid.head + i) b → IsClean w mid → IsCleanRow w new.head new.row new.list
 clean_inserted w old mid new i b positive h joined head list row clean =

@@ -1,4 +1,4 @@
--- Bits joined: a part of the list once more, and in several steps.
+-- Bits appended: a part of the list once more, and in several steps.
 use Rattle.std.proofs.Common.{if◌then◌else◌, eqb, map, get_or, ◌≡◌, ℕ, ◌+◌, ◌-◌, ◌*◌, ◌<◌, ◌≤◌, Bool, false, List, [], ◌∷◌, ◌++◌, length, replicate, slice_range, refl, sym, ◌∙◌, ap, inl, inr, arith, rules}
 use Rattle.std.proofs.lemmas.Bool.{cases_lt}
 use Rattle.std.proofs.lemmas.List.{places, same_lists, length-append, ext_get_or, length_push, get_or-append_right, get_or_append_left}
@@ -18,7 +18,7 @@ use Rattle.bit_addressing.specs.declared.errors.GrowError.TheVariants.{TooLong, 
 use Rattle.bit_addressing.specs.declared.length.TheConstants.{MAX_BITS}
 use Rattle.bit_containers.specs.BitVec.{Held, Grew, RefusesOnly}
 
--- a part of what is shown moved behind it
+-- a part of what is shown moved after it
 pub part_moved : (w : ℕ) (xs : List Bool) (head len s n : ℕ) → 0 < w → s + n ≤ len → head + len ≤ length xs
     → moved (sized w xs (head + (len + n))) (head + s) (head + len) n ≡ put (sized w xs (head + len + n)) (head + len) (slice_range (slice_range xs head (head + len)) s (s + n))
 part_moved w xs head len s n positive h k =
@@ -68,7 +68,7 @@ put_twice w xs ys zs e n m positive inside size more =
     ∙ put_joined (sized w xs (e + n + m)) ys zs e (e + n) (omega arith) (rw (length-sized w xs (e + n + m)) (omega arith))
     ∙ ap (λ k. put (sized w xs k) e (ys ++ zs)) next
 
--- bits joined, and then more
+-- bits appended, and then more
 pub grew_twice : {X : Type 0} (w : ℕ) (old mid new : Held X) (xs ys : List Bool) → 0 < w → length old.row ≡ w * words_for w (old.head + length old.list) → Grew w old mid xs → Grew w mid new ys → Grew w old new (xs ++ ys)
 grew_twice w old mid new xs ys positive inside first second =
     let e = old.head + length old.list in
@@ -83,7 +83,7 @@ grew_twice w old mid new xs ys positive inside first second =
           ∙ ap (λ n. put (sized w old.row n) e (xs ++ ys)) upto;
     }
 
--- no bit joined
+-- no bit appended
 pub grew_none : {X : Type 0} (w : ℕ) (v : Held X) → length v.row ≡ w * words_for w (v.head + length v.list) → Grew w v v []
 grew_none w v size =
     let end : v.head + length v.list + 0 ≡ v.head + length v.list = omega arith in
@@ -104,7 +104,7 @@ some_bits w n positive h = elim (cases_lt 0 n) [
   | inr none ↦ let few = words_for_le w n 0 positive (omega arith) in absurd (omega arith)
 ]
 
--- false bits and false bits behind them
+-- false bits and false bits after them
 pub sized_false : (w n : ℕ) → 0 < w → sized w (replicate n false) n ≡ replicate (w * words_for w n) false
 unfolding sized
 sized_false w n positive =
@@ -132,7 +132,7 @@ number_bits_next x y n b few change =
 one_error : {A : Type 0} (result : Result A GrowError) → result ≡ Err TooLong → result ≢ Err OutOfMemory
 one_error result is other = cc
 
--- memory is wanting only for a length that a vector may have
+-- memory is refused only for a length that a vector may have
 pub wanted_fits : {X A : Type 0} (result : Result A GrowError) (wanted : ℕ) (old new : Held X) → RefusesOnly result wanted old new → result ≡ Err OutOfMemory → wanted ≤ MAX_BITS
 wanted_fits result wanted old new r out = elim (cases_lt MAX_BITS wanted) [
   | inl past ↦ absurd (one_error result (r.too_long.1 past) out)

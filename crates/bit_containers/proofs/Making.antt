@@ -17,7 +17,7 @@ use Rattle.bit_slice.proofs.Combining.{length-combined}
 use Rattle.bit_slice.proofs.Ranges.{item_combined}
 use Rattle.bit_containers.specs.Making.{filled_up, CombinesAll, marked}
 
--- no bit joined
+-- no bit appended
 pub not_filled : (w : ℕ) (row : List Bool) (head len n : ℕ) → length row ≡ w * words_for w (head + len) → n ≤ len → row ≡ put (sized w row (head + len)) (head + len) (replicate (n - len) false)
 not_filled w row head len n size few =
     let none : n - len ≡ 0 = omega arith in
@@ -36,7 +36,7 @@ filled_over w row zs head len n m positive is size =
     let all = length-sized w row (head + m) in
     put_again (sized w row (head + m)) (replicate (n - len) false) zs head (head + len) (omega arith) (omega arith) (omega arith)
 
--- false joined changes no item, nor what lies past the end
+-- false appended changes no item, nor what lies past the end
 filled_at : (xs : List Bool) (n i : ℕ) → get_or (filled_up xs n) i false ≡ get_or xs i false
 filled_at xs n i = grind (arith, places)
 

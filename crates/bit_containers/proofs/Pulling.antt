@@ -33,7 +33,7 @@ module _ {X : Type 0} (w : ℕ) (old : Held X) (positive : 0 < w) (inside : leng
     append_assoc was.0 front (number_bits next more) ∙ ap (λ l. was.0 ++ l) same ∙ sym (append_assoc was.0 (number_bits number got) (bit ∷ [])) ∙ ap (λ l. l ++ bit ∷ []) was.3,
   )
 
-  -- what the number still has is joined
+  -- what the number still has is appended
   pub gathers_all : (mid new : Held X) (number got : ℕ) (pulled : List Bool) → Gathers w old mid number got pulled → new.list ≡ mid.list ++ number_bits number got → Grew w mid new (number_bits number got) → (new.list ≡ old.list ++ pulled) × Grew w old new pulled
   gathers_all mid new number got pulled was list grew = (
     list ∙ ap (λ l. l ++ number_bits number got) was.1 ∙ append_assoc old.list was.0 (number_bits number got) ∙ ap (λ l. old.list ++ l) was.3,

@@ -18,7 +18,7 @@ use Rattle.bit_containers.specs.Drain.{drain_rest, DrainSteps, DrainStepsBack, D
 
 -- ---- a range that is taken out
 
--- what is behind a range moved over it
+-- what is after a range moved over it
 closed_up : (xs : List Bool) (s e : ℕ) → s ≤ e → e ≤ length xs → take (s + (length xs - e)) (put xs s (slice_range xs e (e + (length xs - e)))) ≡ splice xs s e []
 unfolding put
 closed_up xs s e h k = same_lists _ _ (search (rules, places)) (λ i d below. grind (arith, places))
@@ -49,7 +49,7 @@ run_front xs i j h k = run_first xs i j (get_or xs i false) h k refl
 pub run_back : (xs : List Bool) (i j : ℕ) → i < j → j ≤ length xs → slice_range xs i j ≡ slice_range xs i (j - 1) ++ get_or xs (j - 1) false ∷ []
 run_back xs i j h k = run_last xs i j (get_or xs (j - 1) false) h k refl
 
--- what is behind the first of a run, and one more
+-- what is after the first of a run, and one more
 pub run_behind : (xs : List Bool) (i j n : ℕ) → i + n < j → j ≤ length xs → slice_range xs (i + n + 1) j ≡ drop (n + 1) (slice_range xs i j)
 run_behind xs i j n h k = same_lists _ _ (search (rules, places)) (λ a d below. grind (arith, places))
 
@@ -75,7 +75,7 @@ module _ {X Y : Type 0} {W : store.Ghosts X} {P : order.Ghosts Y} where
 
 -- ---- bits written inside what a vector shows
 
--- the front of a list, up to what was written behind it
+-- the front of a list, up to what was written after it
 pub take_put : (xs ys : List Bool) (d n : ℕ) → n ≡ d + length ys → n ≤ length xs → take n (put xs d ys) ≡ take d xs ++ ys
 unfolding put
 take_put xs ys d n is h = same_lists _ _ (search (rules, places)) (λ i e below. grind (arith, places))
@@ -97,12 +97,12 @@ pub spliced_short : (xs ys : List Bool) (s e n : ℕ) → n ≡ length ys → s 
 unfolding put
 spliced_short xs ys s e n is h k = same_lists _ _ (search (rules, places)) (λ i d below. grind (arith, places))
 
--- what is behind the range, moved up in a longer list
+-- what is after the range, moved up in a longer list
 made_room : (xs ys : List Bool) (s e extra : ℕ) → s ≤ e → e ≤ length xs → length ys ≡ e - s + extra → put (put (xs ++ replicate extra false) (e + extra) (drop e xs)) s ys ≡ splice xs s e ys
 unfolding put
 made_room xs ys s e extra h k size = same_lists _ _ (search (rules, places)) (λ i d below. grind (arith, places))
 
--- before more bits than they replace are written, what is behind moves up
+-- before more bits than they replace are written, what is after them moves up
 pub spliced_long : (xs ys : List Bool) (s e extra : ℕ) → s ≤ e → e ≤ length xs → length ys ≡ e - s + extra → put (moved (take (length xs + extra) xs ++ replicate (length xs + extra - length xs) false) e (e + extra) (length xs - e)) s ys ≡ splice xs s e ys
 spliced_long xs ys s e extra h k size =
     let more : length xs + extra - length xs ≡ extra = omega arith in

@@ -43,7 +43,7 @@ module _ (list : List Bool) (cs : List Command) (i : ℕ) (d : Command) (h : i <
 pub stopped_at : (old new : List Bool) (cs : List Command) (i : ℕ) (d : Command) (why : GrowError) → i < length cs → new ≡ old → IsRefusal old (get_or cs i d) why → IsStopReason new cs i why
 stopped_at old new cs i d why h same r = inl (get_or cs i d, slice_get-get_or cs i d h, subst (λ list. IsRefusal list (get_or cs i d) why) (sym same) r)
 
--- memory that may be wanting at a capacity may be wanting at a smaller one
+-- memory that may be refused at a capacity may be refused at a smaller one
 pub wants_before : (less more : ℕ) (list : List Bool) (command : Command) → less ≤ more → CanWantMemory more list command → CanWantMemory less list command
 wants_before less more list command h wants = elim wants [
   | inl longer ↦ inl (omega arith)

@@ -31,7 +31,7 @@ in_words w n head len size width v = v.fits
 pub shown : {X Y : Type 0} {size : ℕ} (W : store.Ghosts X) (P : order.Ghosts Y) (ws : List X) (head len : ℕ) → IsWidth W.BITS → IsVector W.BITS (length ws) head len size → head + len ≤ length (row W P ws)
 shown W P ws head len width v = in_row W P ws (head + len) v.fits
 
--- a capacity below the words for so many bits has no room for them
+-- a capacity below the words for n bits has no room for them
 pub no_room : (w words head wanted : ℕ) → 0 < w → 0 < wanted → words < words_for w (head + wanted) → bits_in w words head < wanted
 no_room w words head wanted positive some h =
     let r = (room w (head + wanted) positive).1 in
@@ -89,7 +89,7 @@ room_in w words head len positive h = elim (cases_lt words (words_for w (head + 
   | inr room ↦ room
 ]
 
--- a capacity of the words for so many bits has room for them
+-- a capacity of the words for n bits has room for them
 pub has_room : (w words head wanted : ℕ) → 0 < w → head + wanted < 18446744073709551616 → words_for w (head + wanted) ≤ words → wanted ≤ bits_in w words head
 has_room w words head wanted positive short h =
     let r = (room w (head + wanted) positive).0 in
@@ -114,10 +114,10 @@ kept W P old new head len room more same = record {
   list = ap (λ ws. slice_range (row W P ws) head (head + len)) same;
 }
 
--- the words of a vector have at most so many bits
+-- the words of a vector have at most `MAX_BITS` bits and those of two words more
 pub few_words : {size : ℕ} (w n head len : ℕ) → 0 < w → IsVector w n head len size → w * n ≤ MAX_BITS + 2 * w
 few_words w n head len positive v = few w n head len MAX_BITS positive v.head_below v.len_small v.count
 
--- words for at most so many bits behind a head have at most so many bits
+-- and so have the words for a head and a list of at most `MAX_BITS` bits
 pub few_words_for : (w head len n : ℕ) → 0 < w → head < w → len ≤ MAX_BITS → n ≡ words_for w (head + len) → w * n ≤ MAX_BITS + 2 * w
 few_words_for w head len n positive below few_bits exact = few w n head len MAX_BITS positive below few_bits exact

@@ -20,11 +20,11 @@ abbrev pub held_code : {X : Type 0} → Coded X → Coded (Held X)
 held_code {X} c =
     code_by (List X × (List Bool × (ℕ × (List Bool × ℕ)))) (coded× (coded_list c) (coded× (coded_list coded_bool) (coded× coded_ℕ (coded× (coded_list coded_bool) coded_ℕ)))) (λ v. (v.words, (v.row, (v.head, (v.list, v.capacity))))) (λ p. record { words = p.0; row = p.1.0; head = p.1.1.0; list = p.1.1.1.0; capacity = p.1.1.1.1 }) (λ _. refl)
 
--- how many bits fit into so many words of w bits behind the head; where their number passes the largest usize, that less the head
+-- how many bits fit into `words` words of w bits after the head; where their number passes the largest usize, that less the head
 abbrev pub bits_in : ℕ → ℕ → ℕ → ℕ
 bits_in w words head = min (w * words) (2 ^ 64 - 1) - head
 
--- what always holds of a vector of n words of w bits, whose list has so many bits; `fits` follows from `count`
+-- what always holds of a vector of n words of w bits, whose list has `len` bits; `fits` follows from `count`
 pub record IsVector (w n head len size : ℕ) : Type 0 where
   pub head_below : head < w
   pub len_small : len ≤ MAX_BITS
@@ -34,7 +34,7 @@ pub record IsVector (w n head len size : ℕ) : Type 0 where
 
 -- ---- what calls do
 
--- Bits were joined at the end. Words that were added are of zero, and no other dead bit changed.
+-- Bits were appended. Words that were added are of zero, and no other dead bit changed.
 pub record Grew {X : Type 0} (w : ℕ) (old new : Held X) (bits : List Bool) : Type 0 where
   pub head : new.head ≡ old.head
   pub len : length new.list ≡ length old.list + length bits
@@ -62,7 +62,7 @@ pub record IsKept {X : Type 0} (old new : Held X) : Type 0 where
   pub head : new.head ≡ old.head
   pub list : new.list ≡ old.list
 
--- A call that wants so many bits is refused only so: it is too long exactly past `MAX_BITS`, memory is wanting only past the old capacity, and a refusal leaves the vector.
+-- A call that asks for `wanted` bits is refused in two ways: `TooLong` exactly past `MAX_BITS`, `OutOfMemory` only past the old capacity, and a refusal leaves the vector.
 pub record RefusesOnly {X A : Type 0} (result : Result A GrowError) (wanted : ℕ) (old new : Held X) : Type 0 where
   pub too_long : (result ≡ Err TooLong) ↔ (MAX_BITS < wanted)
   pub memory : result ≡ Err OutOfMemory → old.capacity < wanted

@@ -1,22 +1,22 @@
--- What the calls of a function that keeps a state answered, one after another.
+-- What the calls of a function that keeps a state returned, one after another.
 use Rattle.std.specs.Prelude.{◌≡◌, ℕ, ◌+◌, Bool, cond, List, [], ◌∷◌}
 use Rattle.std.specs.Borrow.{Bor}
 use Rattle.std.specs.List.{items_where_true}
 
 module _ {F : Type 0} (step : F → ℕ → Bool → F → Type 0) where
-  -- called at `index` and at the indices behind it, one after another, the function gave these answers, and each call began in the state that the one before left; `last` is the state after all of them
+  -- called at `index` and at the indices after it, one after another, the function gave these results, and each call began in the state that the one before left; `last` is the state after all of them
   abbrev pub AnswersFrom : F → ℕ → List Bool → F → Type 0
   AnswersFrom f index [] last = f ≡ last
   AnswersFrom f index (answer ∷ answers) last = (next : F) × step f index answer next × AnswersFrom next (index + 1) answers last
 
 module _ {F : Type 0} (step : F → ℕ → Bor Bool → Bool → F → Type 0) where
-  -- called at each of these bits and its index, the first of which is `index`, the function gave these answers, and each call began in the state that the one before left
+  -- called at each of these bits and its index, the first of which is `index`, the function gave these results, and each call began in the state that the one before left
   abbrev pub AnswersAtEach : F → ℕ → List Bool → List Bool → F → Type 0
   AnswersAtEach f index [] answers last = (answers ≡ []) × (f ≡ last)
   AnswersAtEach f index (bit ∷ bits) answers last = (answer : Bool) × (later : List Bool) × (next : F) × (shown : Bor Bool)
       × (answers ≡ answer ∷ later) × (shown.now ≡ bit) × step f index shown answer next × AnswersAtEach next (index + 1) bits later last
 
--- the bits whose answer was true, in order
+-- the bits whose result was true, in order
 abbrev pub kept : List Bool → List Bool → List Bool
 kept bits answers = items_where_true answers bits
 

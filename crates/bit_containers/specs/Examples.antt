@@ -13,7 +13,7 @@ use Rattle.bit_containers.specs.Machine.{list_after_one, head_after_one, reply_t
 
 -- ---- vectors
 
--- two words of four bits have room for five bits behind a head of 3
+-- two words of four bits have room for five bits after a head of 3
 room_behind_a_head : bits_in 4 2 3 ≡ 5
 room_behind_a_head = refl
 
@@ -21,7 +21,7 @@ room_behind_a_head = refl
 room_of_all : bits_in 64 (2 ^ 60) 3 ≡ 2 ^ 64 - 4
 room_of_all = refl
 
--- 1, 0, 1 behind a head of 1 in a word of four bits, the lowest first
+-- 1, 0, 1 after a head of 1 in a word of four bits, the lowest first
 unfoldable three : Held ℕ
 three = record { words = 10 ∷ []; row = false ∷ true ∷ false ∷ true ∷ []; head = 1; list = true ∷ false ∷ true ∷ []; capacity = 11 }
 
@@ -33,7 +33,7 @@ grew_by_a_word : Grew 4 three five (true ∷ true ∷ [])
 unfolding three five put sized words_for
 grew_by_a_word = record { head = refl; len = refl; row = refl }
 
--- no bit of an added word is set but those that are joined
+-- no bit of an added word is set but those that are appended
 not_with_a_dead_bit : Grew 4 three (record five { row = false ∷ true ∷ false ∷ true ∷ true ∷ true ∷ false ∷ true ∷ [] }) (true ∷ true ∷ []) → ⊥
 unfolding three five put sized words_for
 not_with_a_dead_bit grew = true≢false (ap (λ row. get_or row 7 false) grew.row)
@@ -42,7 +42,7 @@ shrank_by_a_word : Shrank 4 five three 3
 unfolding three five sized words_for
 shrank_by_a_word = record { head = refl; words = refl; len = refl; row = refl; capacity = refl }
 
--- a shrinking call writes nothing, not even behind the list
+-- a shrinking call writes nothing, not even after the list
 not_by_writing : Shrank 4 three (record three { row = false ∷ true ∷ false ∷ false ∷ []; list = true ∷ false ∷ [] }) 2 → ⊥
 unfolding three sized words_for
 not_by_writing shrank = true≢false (ap (λ row. get_or row 3 false) (sym shrank.row))
@@ -160,7 +160,7 @@ len = (refl, refl, refl)
 
 -- ---- runs
 
--- the second push of this run is refused for want of memory: one bit was joined, one reply given
+-- the second push of this run is refused for memory: one bit was appended, one reply given
 abbrev refused : List Command
 refused = Push true ∷ Push false ∷ Align ∷ []
 

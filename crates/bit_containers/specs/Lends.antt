@@ -15,7 +15,7 @@ with_words W P v ws =
     record { words = refill (length v.words) v.words ws; row = row W P (refill (length v.words) v.words ws); head = v.head; list = refill (length v.list) v.list (slice_range (row W P (refill (length v.words) v.words ws)) v.head (v.head + length v.list)); capacity = v.capacity }
 
 module _ (T O : RattleType) (W : store.Ghosts T.Denot) (P : order.Ghosts O.Denot) (v : MutBor (Held T.Denot)) where
-  -- the vector ends with the words that are left behind this slice
+  -- the vector ends with the words that this slice has at its end
   abbrev pub lends_words : MutBor (List T.Denot) → Fml
   lends_words r = Lends (the_row T O W P) (Array T 0) v r (with_words W P v.now)
 

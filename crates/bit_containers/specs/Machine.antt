@@ -137,7 +137,7 @@ abbrev pub IsRefusal : List Bool → Command → GrowError → Type 0
 IsRefusal list command TooLong = MAX_BITS < new_length list command
 IsRefusal list command OutOfMemory = ((length list < new_length list command) ⊎ TakesMore list command) × (new_length list command ≤ MAX_BITS)
 
--- a command for which memory may be wanting, at this capacity and list: its length passes the capacity, or it takes memory of its own
+-- a command for which memory may be refused, at this capacity and list: its length passes the capacity, or it takes memory of its own
 abbrev pub CanWantMemory : ℕ → List Bool → Command → Type 0
 CanWantMemory capacity list command = (capacity < new_length list command) ⊎ TakesMore list command
 

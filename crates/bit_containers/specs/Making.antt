@@ -2,7 +2,7 @@
 use Rattle.std.specs.Prelude.{◌≡◌, ℕ, ◌-◌, ◌<◌, Bool, true, false, List, [], ◌∷◌, ◌++◌, fold, length, replicate, set, slice_index_or, refl}
 use Rattle.bit_slice.specs.Operators.{or_of, xor_of}
 
--- a list, with false joined to it up to n items where it has fewer
+-- a list, with false appended to it up to n items where it has fewer
 abbrev pub filled_up : List Bool → ℕ → List Bool
 filled_up xs n = xs ++ replicate (n - length xs) false
 

@@ -29,13 +29,13 @@ pub enum Command {
     Clear,
     /// Keeps the first items, or fills the list up to a length with a bit.
     Resize(usize, bool),
-    /// Makes room for so many bits more.
+    /// Makes room for this number of bits more.
     Reserve(usize),
     /// Appends the range from the first index to the second once more.
     ExtendWithin(usize, usize),
     /// Takes out the range from the first index to the second, and asks how many of its bits are true.
     Drain(usize, usize),
-    /// Puts a bit so many times in place of the range from the first index to the second.
+    /// Puts a bit, as often as the last number says, in place of the range from the first index to the second.
     Splice(usize, usize, bool, usize),
     /// Drops the items from an index on, and asks how many they are.
     SplitOff(usize),
@@ -161,7 +161,7 @@ fn drain_at<T: BitStore, O: BitOrder>(v: &mut BitVec<T, O>, from: usize, upto: u
     }
 }
 
-/// Puts a bit in place of a range, so many times, where it is one of the list.
+/// Puts a bit `n` times in place of a range, where it is one of the list.
 fn splice_at<T: BitStore, O: BitOrder>(
     v: &mut BitVec<T, O>,
     from: usize,

@@ -180,7 +180,7 @@ impl<T: BitStore, O: BitOrder> BitVec<T, O> {
         })
     }
 
-    /// Whether so many words have at most `MAX_BITS` bits: the condition of `from_vec`.
+    /// Whether `words` words have at most `MAX_BITS` bits, which `from_vec` requires.
     pub fn fits(words: usize) -> bool
         ensures { IsTrue result ↔ (T.BITS * words ≤ MAX_BITS) }
     {

@@ -17,7 +17,7 @@ use crate::found::ok;
 use bit_containers::{BitOrder, BitStore, BitVec};
 use std::process::Abort;
 
-/// A vector of the bits that these digits write, joined one by one.
+/// A vector of the bits that these digits write, appended one by one.
 fn of<T: BitStore, O: BitOrder>(rt: &(impl Abort + AllocGlobal), digits: &[u8]) -> BitVec<T, O> {
     let mut v = BitVec::new(rt.alloc());
     for digit in digits {

@@ -178,7 +178,7 @@ joined_from w k (suc n) xs positive size =
     ∙ ap (λ m. slice_range xs (k * w) (k * w + w) ++ drop m xs) more
     ∙ cut_in_two xs (k * w) (k * w + w) (omega arith) (omega arith)
 
--- bits are the joined writings of the numbers in them
+-- bits are the writings of the numbers in them, one after another
 pub joined_numbers : (w n : ℕ) (xs : List Bool) → 0 < w → length xs ≡ n * w → joined w (numbers_in w xs) ≡ xs
 unfolding numbers_in
 joined_numbers w n xs positive size =

@@ -14,7 +14,7 @@ written digits = number_of (reverse digits)
 unfoldable pub numbers_in : ℕ → List Bool → List ℕ
 numbers_in width bits = map (λ i. written (slice_range bits (i * width) (i * width + width))) (range_with_len 0 (length bits / width))
 
--- the bits of records: the numbers in binary, one behind the other
+-- the bits of records: the numbers in binary, one after the other
 unfoldable pub joined : ℕ → List ℕ → List Bool
 joined width [] = []
 joined width (x ∷ xs) = binary width x ++ joined width xs

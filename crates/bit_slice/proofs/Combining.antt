@@ -17,7 +17,7 @@ zipped f [] ys h = refl
 zipped f (x ∷ xs) [] h = cc
 zipped f (x ∷ xs) (y ∷ ys) h = ap (λ l. f x y ∷ l) (zipped f xs ys (omega arith))
 
--- what stands on both sides, and behind it what the left has alone
+-- what stands on both sides, and after it what the left has alone
 split : (f : Bool → Bool → Bool) (n : ℕ) (xs ys : List Bool) → n ≡ min (length xs) (length ys) → combined f xs ys ≡ zip2 f (take n xs) (take n ys) ++ map (λ x. f x false) (drop n xs)
 split f zero [] ys h = refl
 split f zero (x ∷ xs) [] h = ap (λ l. f x false ∷ l) (split f zero xs [] (omega arith))
@@ -46,7 +46,7 @@ put_same : (xs : List Bool) (a b : ℕ) → a ≤ b → b ≤ length xs → put 
 unfolding put
 put_same xs a b h l = same_lists _ _ (search (rules, places)) (λ i e below. grind (arith, places))
 
--- what stands behind a run that is written stays
+-- what stands after a run that is written stays
 put_kept : (xs ys : List Bool) (d n b : ℕ) → n ≡ d + length ys → n ≤ b → b ≤ length xs → put xs d (ys ++ slice_range xs n b) ≡ put xs d ys
 put_kept xs ys d n b is h l =
     let long = length-put xs ys d (omega arith) in

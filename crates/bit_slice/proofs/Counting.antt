@@ -14,7 +14,7 @@ use Rattle.bit_slice.proofs.Parts.{run_in_run}
 pub one_number : (xs ys : List Bool) → length xs ≡ length ys → number_of xs ≡ number_of ys → xs ≡ ys
 one_number xs ys size same = ext_get_or false xs ys size (λ i h. sym (has_number xs i) ∙ ap (λ n. has_bit n i) same ∙ has_number ys i)
 
--- the first place of head .. end in word k or behind it
+-- the first place of head .. end in word k or after it
 abbrev pub begin : ℕ → ℕ → ℕ → ℕ → ℕ
 begin w head end k = min end (max head (w * k))
 
@@ -42,7 +42,7 @@ word_before w end k positive h =
     let o : w * 1 ≡ w = search rules in
     omega arith
 
--- and the next one not far behind it
+-- and the next one not far after it
 pub next_before : (w end k : ℕ) → 0 < w → k < words_for w end → w * (k + 1) < end + w
 next_before w end k positive h =
     let before = word_before w end k positive h in
@@ -115,7 +115,7 @@ told = refl
 pub not_told : IsTrue false → ⊥
 not_told t = search rules
 
--- the answer false, where the fact does not hold, and the answer true, where it does
+-- the result false, where the fact does not hold, and the result true, where it does
 pub told_false : (P : Type 0) → (P → ⊥) → IsTrue false ↔ P
 told_false P fails = (λ t. absurd (not_told t), λ p. absurd (fails p))
 

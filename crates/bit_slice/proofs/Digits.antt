@@ -38,7 +38,7 @@ module _ (s : ℕ) (u : Bool) where
   abbrev digits : ℕ → List Bool → List ℕ
   digits = digits_from s u
 
-  -- groups behind groups
+  -- groups after groups
   pub digits_joined : (a b : ℕ) (bits : List Bool) → digits (a + b) bits ≡ digits a bits ++ digits b (drop (a * s) bits)
   digits_joined zero b bits =
       let none : zero * s ≡ 0 = omega arith in
@@ -94,7 +94,7 @@ unfolding words_for
 groups_split s t r size = elim size [ inl e ↦ rw e (omega arith) | inr r ↦ elim r [ inl e ↦ rw e (omega arith) | inr e ↦ rw e (omega arith) ] ]
 
 module _ (s : ℕ) (u : Bool) (size : IsDigitSize s) (bits : List Bool) where
-  -- m blocks behind t blocks
+  -- m blocks after t blocks
   pub blocks_joined : (t m upto : ℕ) → upto ≡ t * 60 + m * 60 → digits s u (t * words_for s 60) bits ++ digits s u (m * words_for s 60) (slice_range bits (t * 60) upto) ≡ digits s u ((t + m) * words_for s 60) bits
   blocks_joined t m upto end =
       let d = words_for s 60 in
@@ -107,14 +107,14 @@ module _ (s : ℕ) (u : Bool) (size : IsDigitSize s) (bits : List Bool) where
       ∙ sym (digits_joined s u (t * d) (m * d) bits)
       ∙ ap (λ n. digits s u n bits) next
 
-  -- a block behind t blocks
+  -- a block after t blocks
   pub block_joined : (t upto : ℕ) → upto ≡ t * 60 + 60 → digits s u (t * words_for s 60) bits ++ digits s u (words_for s 60) (slice_range bits (t * 60) upto) ≡ digits s u ((t + 1) * words_for s 60) bits
   block_joined t upto end =
       let one : words_for s 60 ≡ 1 * words_for s 60 = omega arith in
       ap (λ n. digits s u (t * words_for s 60) bits ++ digits s u n (slice_range bits (t * 60) upto)) one
       ∙ blocks_joined t 1 upto (omega arith)
 
-  -- what is left behind t blocks
+  -- what is left after t blocks
   pub rest_joined : (t r from upto : ℕ) → from ≡ t * 60 → upto ≡ from + r → upto ≡ length bits → digits s u (t * words_for s 60) bits ++ digits s u (words_for s r) (slice_range bits from upto) ≡ digits s u (words_for s (length bits)) bits
   rest_joined t r from upto begins ends all =
       let d = words_for s 60 in

@@ -1,4 +1,4 @@
--- A `&mut` to a view hands on the words that the view holds, for all the time that it has left: what is behind them in the end stands in the view.
+-- A `&mut` to a view hands on the words that the view holds, for all the time that it has left: what they are in the end stands in the view.
 use Rattle.std.proofs.Common.{◌≡◌, ℕ, ◌+◌, List, [], ◌∷◌, length, refl, sym, subst, MutBor}
 use Rattle.std.specs.List.{refill, length_refill}
 use base.Fraction.{full_share}

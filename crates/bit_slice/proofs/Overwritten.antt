@@ -1,4 +1,4 @@
--- What was written in a list that stands in words behind a head, told by the row of the words.
+-- What was written in a list that stands in words from a head on, told by the row of the words.
 use Rattle.std.proofs.Common.{◌≡◌, ℕ, ◌+◌, ◌*◌, ◌≤◌, Bool, List, length, slice_range, refl, sym, ◌∙◌, ap, arith}
 use Rattle.std.specs.List.{refill}
 use Rattle.bit_addressing.specs.Bits.{IsWidth}
@@ -17,7 +17,7 @@ module _ {X Y : Type 0} (W : store.Ghosts X) (P : order.Ghosts Y) (old : List X)
   abbrev seen_in : List X → Seen
   seen_in ws = record { head = head; row = row W P ws; list = list_in W P ws head len }
 
-  -- what a vector of n words has behind the writes
+  -- what a vector of n words has after the writes
   abbrev new : List X
   new = refill n old ws
 

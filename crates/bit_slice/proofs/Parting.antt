@@ -1,4 +1,4 @@
--- A borrowed run of words is lent on in part: what is behind the part in the end stands between the words around it.
+-- A borrowed run of words is lent on in part: what the part is in the end stands between the words around it.
 use Rattle.std.proofs.Common.{◌≡◌, ℕ, ◌+◌, List, [], ◌∷◌, ◌++◌, length, refl, sym, ap, ◌∙◌, arith}
 use base.Fml.{GName, Lft, Share, fobs, fbor, flft}
 use base.Logic.{SProp, ent, sep, ex}

@@ -27,7 +27,7 @@ pub number_bits_more : (x n : ℕ) → number_bits x (n + 1) ≡ number_bits x n
 unfolding number_bits
 number_bits_more x n = map-range_with_len_more (has_bit x) 0 n n (omega arith)
 
--- ---- digits behind commas
+-- ---- digits after commas
 
 pub spaced-append : (xs ys : List Bool) → spaced (xs ++ ys) ≡ spaced xs ++ spaced ys
 spaced-append [] ys = refl

@@ -1,4 +1,4 @@
--- Lists of bits compared, as std's traits want it: equality, order and what a hasher is fed, with their laws.
+-- Lists of bits compared, as std's traits ask: equality, order and what a hasher is fed, with their laws.
 use Rattle.std.specs.Prelude.{◌≡◌, ◌↔◌, Bool, true, false, List, IsTrue, Some, refl}
 use Rattle.std.specs.Ordering.{is_eq, bool_cmp}
 use Rattle.std.specs.Cmp.{IsEquivalence, IsTotalOrder, IsPartialOrder, bool_eq_equiv, bool_cmp_total, booleans_Decides, partial_order_from_agreeing_total}

@@ -3,14 +3,14 @@ use Rattle.std.specs.Prelude.{◌≡◌, ℕ, ◌+◌, ◌*◌, ◌<◌, ◌≤�
 use Rattle.bit_addressing.specs.Row.{words_for}
 use Rattle.bit_addressing.specs.declared.length.TheConstants.{MAX_BITS}
 
--- so many words of w bits are those of a view with this head and length: the head is in the first word, and no word is to spare
+-- `words` words of w bits are those of a view with this head and length: the head is in the first word, and no word is to spare
 pub record IsView (w words head len : ℕ) : Type 0 where
   pub in_word : head < w
   pub few : len ≤ MAX_BITS
   pub exact : words ≡ words_for w (head + len)
   pub room : head + len ≤ w * words
 
--- the bits from one place up to another lie in so many words of w bits
+-- the bits from one index up to another lie in `words` words of w bits
 pub record IsRun (w words from upto : ℕ) : Type 0 where
   pub ordered : from ≤ upto
   pub few : upto ≤ from + MAX_BITS

@@ -55,7 +55,7 @@ FlipsEach xs zs = (i : ℕ) (x : Bool) → slice_get xs i ≡ Some x → slice_g
 abbrev pub bits_cmp : List Bool → List Bool → Ordering
 bits_cmp = slice_cmp bool_cmp
 
--- the order asked from the other side answers the other way round
+-- the order from the other side is the other way round
 abbrev pub SameFromEitherSide : Type 0
 SameFromEitherSide = (xs ys : List Bool) → bits_cmp ys xs ≡ ordering_reverse (bits_cmp xs ys)
 
@@ -67,11 +67,11 @@ EqualWhereEqual = (xs ys : List Bool) → (bits_cmp xs ys ≡ Equal) ↔ (xs ≡
 abbrev pub BelowTheNext : Type 0
 BelowTheNext = (xs ys zs : List Bool) → bits_cmp xs ys ≡ Less → bits_cmp ys zs ≡ Less → bits_cmp xs zs ≡ Less
 
--- behind what two lists share, the one that goes on with false is below the one that goes on with true
+-- after what two lists share, the one that goes on with false is below the one that goes on with true
 abbrev pub FalseFirst : Type 0
 FalseFirst = (zs xs ys : List Bool) → bits_cmp (zs ++ (false ∷ xs)) (zs ++ (true ∷ ys)) ≡ Less
 
--- a list is below each that goes on behind it
+-- a list is below each that goes on after it
 abbrev pub PrefixFirst : Type 0
 PrefixFirst = (xs ys : List Bool) (y : Bool) → bits_cmp xs (xs ++ (y ∷ ys)) ≡ Less
 

@@ -5,7 +5,7 @@ use Rattle.bit_addressing.specs.Row.{words_for}
 use Rattle.bit_addressing.specs.Binary.{value_after}
 use Rattle.bit_addressing.specs.Text.{digit_of}
 
--- each digit behind a comma and a space
+-- each digit after a comma and a space
 abbrev pub spaced : List Bool → List ℕ
 spaced [] = []
 spaced (b ∷ bits) = 44 ∷ 32 ∷ digit_of b ∷ spaced bits

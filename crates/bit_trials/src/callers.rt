@@ -1,4 +1,4 @@
-//! Callers that know what they get from the contracts alone: none has an answer, and three loops have an invariant.
+//! Callers that know what they get from the contracts alone: none has a proof of its own, and three loops have an invariant.
 
 mod arrays;
 mod bits;

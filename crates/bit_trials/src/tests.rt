@@ -12,7 +12,7 @@ mod sweeps;
 use bit_containers::{BitOrder, BitStore, BitVec};
 use std::process::Abort;
 
-/// What a call answers that found memory.
+/// What a call returns that found memory.
 fn ok<V, E>(rt: &impl Abort, answer: Result<V, E>) -> V {
     match answer {
         Ok(value) => value,
@@ -20,7 +20,7 @@ fn ok<V, E>(rt: &impl Abort, answer: Result<V, E>) -> V {
     }
 }
 
-/// A vector of the bits that these digits write, joined one by one.
+/// A vector of the bits that these digits write, appended one by one.
 fn of<T: BitStore, O: BitOrder>(rt: &(impl Abort + AllocGlobal), digits: &[u8]) -> BitVec<T, O> {
     let mut v = BitVec::new(rt.alloc());
     for digit in digits {

@@ -14,7 +14,7 @@ pub(crate) fn next_state(state: u64) -> u64 {
         .wrapping_add(1442695040888963407)
 }
 
-// So many pseudo-random truth values, of which about one in `of` is true.
+// A number of pseudo-random truth values, of which about one in `of` is true.
 fn random_bits(alloc: Global, n: usize, of: u64) -> Option<Vec<bool>> {
     let mut bits = Vec::new(alloc);
     let mut state = n as u64;

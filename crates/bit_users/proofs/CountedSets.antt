@@ -27,7 +27,7 @@ none_added : (n : ℕ) → ones (replicate n false) ≡ 0
 none_added zero = refl
 none_added (suc n) = omega (arith, one_more false (replicate n false), none_added n)
 
--- false joined to a list adds no one
+-- false appended to a list adds no one
 filled_ones : (xs : List Bool) (n : ℕ) → ones (xs ++ replicate n false) ≡ ones xs
 filled_ones [] n = none_added n
 filled_ones (x ∷ xs) n = omega (arith, one_more x (xs ++ replicate n false), one_more x xs, filled_ones xs n)

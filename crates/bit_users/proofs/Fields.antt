@@ -1,4 +1,4 @@
--- Numbers written in binary one behind the other, and the bytes that they make.
+-- Numbers written in binary one after the other, and the bytes that they make.
 use Rattle.std.proofs.Common.{zero, suc, ◌≡◌, ℕ, ◌+◌, ◌-◌, ◌*◌, ◌/◌, ◌%◌, ◌^◌, ◌<◌, ◌≤◌, Bool, false, List, [], ◌∷◌, ◌++◌, map, length, slice_range, refl, sym, ◌∙◌, ap, inl, arith, append_assoc}
 use Rattle.std.specs.Prelude.{⊤}
 use Rattle.std.proofs.lemmas.List.{append-nil, ext_get_or, length-append}
@@ -78,7 +78,7 @@ abbrev pub digits : List (ℕ × ℕ) → ℕ
 digits [] = 0
 digits (f ∷ fs) = f.0 + digits fs
 
--- fields stand one behind the other in a list, from a place on
+-- fields stand one after the other in a list, from a place on
 abbrev pub StandAt : List Bool → ℕ → List (ℕ × ℕ) → Type 0
 StandAt xs at [] = ⊤
 StandAt xs at (f ∷ fs) = (binary f.0 f.1 ≡ slice_range xs at (at + f.0)) × StandAt xs (at + f.0) fs
@@ -145,7 +145,7 @@ bytes_below h a =
     let b19 : h.destination % 256 < 256 = omega arith in
     are_bytes (bytes_of h) (b0, (b1, (b2, (b3, (b4, (b5, (b6, (b7, (a.time_to_live, (a.protocol, (b10, (b11, (b12, (b13, (b14, (b15, (b16, (b17, (b18, (b19, tt))))))))))))))))))))
 
--- a field that was joined before others
+-- a field that was appended before others
 pub joined_field : (all old new : List Bool) (f : ℕ × ℕ) (fs : List (ℕ × ℕ)) → new ≡ old ++ binary f.0 f.1 → all ≡ new ++ written_fields fs → all ≡ old ++ written_fields (f ∷ fs)
 unfolding written_fields
 joined_field all old new f fs joined rest = rest ∙ ap (λ l. l ++ written_fields fs) joined ∙ append_assoc old (binary f.0 f.1) (written_fields fs)

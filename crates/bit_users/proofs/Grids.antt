@@ -97,7 +97,7 @@ row_sets old new into from inside within alike row others i j =
       ],
     )
 
--- a row that has an edge to a node, and to which the edges from there were joined; and one that has none
+-- a row that has an edge to a node, and to which the edges from there were added; and one that has none
 pub row_leads : (old new : Grid) (row k : ℕ) → row < old.rows → k < old.rows → IsSet old row k → AreAlike new old → ((j : ℕ) → j < old.columns → item new row j ≡ (item old row j || item old k j)) → ((i j : ℕ) → i < old.rows → j < old.columns → i ≢ row → item new i j ≡ item old i j)
     → (i j : ℕ) → IsSet new i j ↔ (IsSet old i j ⊎ ((i ≡ row) × IsSet old row k × IsSet old k j))
 row_leads old new row k inside node leads alike ored others i j =

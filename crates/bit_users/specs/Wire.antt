@@ -9,7 +9,7 @@ fields_of h =
     (4, h.version) ∷ (4, h.header_words) ∷ (6, h.service) ∷ (2, h.congestion) ∷ (16, h.total_length) ∷ (16, h.identification) ∷ (3, h.flags) ∷ (13, h.fragment_offset)
     ∷ (8, h.time_to_live) ∷ (8, h.protocol) ∷ (16, h.checksum) ∷ (32, h.source) ∷ (32, h.destination) ∷ []
 
--- numbers in binary, one behind the other, each by its own count of digits, the most significant first
+-- numbers in binary, one after the other, each by its own count of digits, the most significant first
 unfoldable pub written_fields : List (ℕ × ℕ) → List Bool
 written_fields [] = []
 written_fields (f ∷ fs) = binary f.0 f.1 ++ written_fields fs

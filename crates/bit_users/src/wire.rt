@@ -141,7 +141,7 @@ impl Header {
         Ok(header)
     }
 
-    // The fields' bits, joined.
+    // The fields' bits, one after another.
     fn join_fields(self, alloc: Global) -> Result<BitVec<u8, Msb0>, GrowError>
         ensures bits { IfOk result (λ v. v.list ≡ bits_of self) }
         ensures clean { IfOk result (λ v. IsClean 8 v) }

@@ -72,7 +72,7 @@ module _ (old new : Progress) (part : IsPart old.line) where
   refused_stops l (BadCommand n) some h e = absurd h
   refused_stops l ReadFailed some h e = absurd h
 
-  -- a line was answered, and the next one begins
+  -- a line was replied to, and the next one begins
   pub line_advances : (l : Line) (mid : Progress) → Some l ≡ line_of old.line → Replies old l mid → new ≡ record mid { line = []; number = mid.number + 1 } → Advances old (10 ∷ []) new
   line_advances l mid some r e = (
     r.text.0 ∷ [],

@@ -29,7 +29,7 @@ pub first_word : (w x : ℕ) → words_text w (x ∷ []) ≡ hex_digits (w / 4) 
 unfolding words_text
 first_word w x = refl
 
--- one word more behind others
+-- one word more after others
 pub next_word : (w : ℕ) (xs : List ℕ) (x : ℕ) → 0 < length xs → words_text w (xs ++ x ∷ []) ≡ (words_text w xs ++ 32 ∷ []) ++ hex_digits (w / 4) x
 unfolding words_text
 next_word w [] x some = absurd (omega arith)
@@ -53,7 +53,7 @@ module _ {X : Type 0} (value : X → ℕ) (w : ℕ) (words : List X) where
   taken : (i : ℕ) (x : X) → i < length words → x ≡ get_or words i x → map value (take (i + 1) words) ≡ map value (take i words) ++ value x ∷ []
   taken i x inside is = ap (map value) (take_more words i x inside ∙ ap (λ y. take i words ++ y ∷ []) (sym is)) ∙ map-append value (take i words) (x ∷ [])
 
-  -- the first word is joined
+  -- the first word is appended
   pub row_first : (old out new : List ℕ) (i : ℕ) (x : X) → i < length words → x ≡ get_or words i x → i ≡ 0 → out ≡ old ++ words_text w (map value (take i words)) → new ≡ out ++ hex_digits (w / 4) (value x) → new ≡ old ++ words_text w (map value (take (i + 1) words))
   row_first old out new i x inside is first so_far more =
       more ∙ ap (λ l. l ++ hex_digits (w / 4) (value x)) (so_far ∙ ap (λ k. old ++ words_text w (map value (take k words))) first ∙ sym (nothing w old))

@@ -142,7 +142,7 @@ module _ (from now wrote mid : Option (List ℕ)) (given : List (List ℕ)) (a :
         cut_here from now given a going,
       )
 
--- a call that answers this ending served it
+-- a call that returns this ending served it
 pub concluded : {F : Type 0} (r : Result Ending F) (e : Ending) (P : Ending → Type 0) (Q : Type 0) → IfOk r (λ x. x ≡ e) → OnOk r Q → (Q → P e) → IfOk r P
 concluded (Ok x) e P Q same q f = subst P (sym same) (f q)
 concluded (Err x) e P Q same q f = tt

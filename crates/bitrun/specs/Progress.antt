@@ -51,7 +51,7 @@ pub record Goes (old : Progress) (bytes : List ℕ) (given : List (List ℕ)) (n
 abbrev pub Ends : Progress → List ℕ → List (List ℕ) → Ending → Type 0
 Ends old bytes given ending = (rest : List ℕ) → IsEnd ending given (replies_left old (bytes ++ rest) given) (ending_left old (bytes ++ rest))
 
--- these replies wait to be written, behind what waited before
+-- these replies wait to be written, after what waited before
 abbrev pub Queues : Progress → List (List ℕ) → Progress → Type 0
 Queues old given new = new.out ≡ old.out ++ flat_map with_line_feed given
 

@@ -118,7 +118,7 @@ ShowsNoWords text = All (λ bytes. line_of bytes ≢ Some ShowWords) (lines_of t
 
 -- ---- what is written
 
--- a text with a line feed behind it
+-- a text with a line feed after it
 abbrev pub with_line_feed : List ℕ → List ℕ
 with_line_feed text = text ++ 10 ∷ []
 
@@ -142,6 +142,6 @@ ending_status ReadFailed = 1
 abbrev pub transcript : List ℕ → List ℕ
 transcript text = flat_map with_line_feed (script_replies text []) ++ ending_text (script_ending text)
 
--- something was joined
+-- something was appended
 abbrev pub Extends : List ℕ → List ℕ → Type 0
 Extends old new = (added : List ℕ) × (new ≡ old ++ added)

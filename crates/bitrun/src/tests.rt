@@ -18,7 +18,7 @@ fn words_of(alloc: Global, call: &str) -> Result<Vec<String>, Fail> {
     Ok(list)
 }
 
-/// Starts the program on an input, and compares what it writes and answers.
+/// Starts the program on an input, and compares what it writes and returns.
 fn check(
     rt: &impl Abort,
     alloc: Global,

@@ -42,7 +42,7 @@ source_before s d n j h = grind (arith, nat_tests)
 pub source_inside : (s d n j : ℕ) → d ≤ j → j < d + n → source_of s d n j ≡ (s + j) - d
 source_inside s d n j h k = grind (arith, nat_tests)
 
--- one item is joined, the rest moves up behind it, and the item is written
+-- one item is appended, those from an index on move up by one, and the item is written
 pub inserted : (xs : List Bool) (i : ℕ) (b : Bool) → i ≤ length xs → set (moved (xs ++ b ∷ []) i (i + 1) (length xs - i)) i b ≡ insert xs i b
 inserted xs i b h =
     let longer : List Bool = xs ++ b ∷ [] in

@@ -38,7 +38,7 @@ pub put_behind : (xs ys : List Bool) (d j : ℕ) (b : Bool) → d + length ys �
 unfolding put
 put_behind xs ys d j b h k = grind (arith, places)
 
--- two runs that are put one behind the other
+-- two runs that are put one after the other
 pub put_joined : (xs ys zs : List Bool) (d n : ℕ) → n ≡ d + length ys → n + length zs ≤ length xs → put (put xs d ys) n zs ≡ put xs d (ys ++ zs)
 unfolding put
 put_joined xs ys zs d n is h = same_lists _ _ (search (rules, places)) (λ i b below. grind (arith, places))

@@ -96,7 +96,7 @@ canonical_row w xs len positive size =
     let short : length (slice_range xs 0 (0 + len)) ≡ 0 + len = length-run xs 0 len (omega arith) ∙ omega arith in
     rw (short, take_all (w * words_for w (0 + len)) (slice_range xs 0 (0 + len)) (omega arith), size) refl
 
--- a bit joined to a list and then false
+-- a bit appended to a list and then false
 pub sized_joined : (w : ℕ) (bits : List Bool) (len : ℕ) (b : Bool) → 0 < w → length bits ≡ len → put (sized w (sized w bits len) (0 + len + 1)) (0 + len) (b ∷ []) ≡ sized w (bits ++ b ∷ []) (len + 1)
 unfolding put sized
 sized_joined w bits len b positive size =

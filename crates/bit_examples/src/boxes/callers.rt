@@ -38,7 +38,7 @@ pub fn round<T: BitStore, O: BitOrder>(words: BoxedSlice<T>) -> BoxedSlice<T>
     BitBox::<T, O>::from_boxed_slice(words).into_boxed_slice()
 }
 
-/// A bit written behind any head.
+/// A bit written at any head.
 pub fn marked<T: BitStore, O: BitOrder>(b: BitBox<T, O>) -> BitBox<T, O>
     requires { 2 < length b.list }
     ensures { result.list ≡ set b.list 2 true }

@@ -1,4 +1,4 @@
-//! Each request for memory refused: what is answered then, and what stays.
+//! Each request for memory refused: what is returned then, and what stays.
 //!
 //! The tests pass with ample memory, and whichever request `rt try --test --fail-alloc N` refuses.
 use crate::boxes::{holds, shows};
@@ -10,7 +10,7 @@ use std::alloc::AllocError;
 use std::process::Abort;
 use std::test::Fail;
 
-/// That an answer is the box of these digits, or that memory is wanting.
+/// That a result is the box of these digits, or that memory was refused.
 fn made<T: BitStore, O: BitOrder>(
     rt: &impl Abort,
     answer: Result<BitBox<T, O>, AllocError>,

@@ -1,4 +1,4 @@
-//! The calls of a view that the box has itself: bits read, written and combined behind a head.
+//! The calls of a view that the box has itself: bits read, written and combined at a head.
 use crate::boxes::{holds, shows};
 use crate::found::ok;
 use bit_addressing::{Lsb0, Msb0};

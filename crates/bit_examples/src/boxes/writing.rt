@@ -1,4 +1,4 @@
-//! The writing calls of a view that the box has itself: behind a head, and dead bits stay.
+//! The writing calls of a view that the box has itself: at a head, and dead bits stay.
 use crate::boxes::{holds, shows};
 use crate::found::ok;
 use bit_addressing::Lsb0;

@@ -34,7 +34,7 @@ fn copies_of_views(rt: HostRuntime) {
     assert_eq!(rt; v.len(), 10);
 }
 
-/// No bit behind a head of 5, in a word of its own.
+/// No bit at a head of 5, in a word of its own.
 #[test]
 fn empty_behind_a_head(rt: HostRuntime) {
     let words = [0xff];

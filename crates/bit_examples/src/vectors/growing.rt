@@ -53,7 +53,7 @@ fn appended(rt: HostRuntime) {
     assert!(rt; other.is_empty() && other.as_raw_slice().is_empty());
 }
 
-/// A vector behind a head that shows a word has room in it.
+/// A vector with a head that shows a word has room in it.
 #[test]
 fn room_behind_a_head(rt: HostRuntime) {
     let words = [0xff];

@@ -1,4 +1,4 @@
-//! Callers that want the exact words of an array, and lengths.
+//! Callers that prove the exact words of an array, and lengths.
 ghost use Rattle.std.specs.Prelude.{◌≡◌, ◌↔◌, ◌*◌, IsTrue, IsSome, true, false, [], ◌∷◌, length, if◌then◌else◌};
 
 use bit_containers::array::{BitArray, BitViewSized, BitWords};

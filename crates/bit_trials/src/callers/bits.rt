@@ -1,4 +1,4 @@
-//! Callers that want the list.
+//! Callers that prove the list.
 ghost use Rattle.std.specs.Prelude.{◌≡◌, ◌+◌, ◌-◌, ◌*◌, ◌<◌, ◌≤◌, ◌↔◌, Some, Ok, Err, true, false, [], ◌∷◌, ◌++◌, length, set, insert, swap, slice_get, slice_range, OnOk, OnErr, IfOk, not};
 ghost use Rattle.bit_addressing.specs.declared.length.TheConstants.{MAX_BITS};
 

@@ -139,7 +139,7 @@ pub fn boxed_and_back<T: BitStore, O: BitOrder>(v: BitVec<T, O>) -> Result<BitVe
     v.into_boxed_bitslice()?.into_bitvec()
 }
 
-/// A vector cut in two and joined again.
+/// A vector cut in two, and the second part appended again.
 pub fn cut_and_joined<T: BitStore, O: BitOrder>(
     v: &mut BitVec<T, O>,
     at: usize,
@@ -177,7 +177,7 @@ pub fn flipped_twice<T: BitStore, O: BitOrder>(v: BitVec<T, O>) -> Vec<T>
     (!!v).into_vec()
 }
 
-/// Behind its last bit an iterator that owns its bits gives None for good, from either end.
+/// After its last bit an iterator that owns its bits gives None for good, from either end.
 pub fn after_the_end<T: BitStore, O: BitOrder>(
     bits: &mut IntoIter<T, O>,
 ) -> (Option<bool>, Option<bool>)

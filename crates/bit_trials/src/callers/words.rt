@@ -1,4 +1,4 @@
-//! Callers that want exact words. Where words are computed from other words, one hint opens what computes.
+//! Callers that prove exact words. Where words are computed from other words, one hint opens what computes.
 ghost use Rattle.std.specs.Prelude.{◌≡◌, true, false, [], ◌∷◌, if◌then◌else◌, length, IfOk};
 ghost use Rattle.bit_addressing.specs.Typed.{row};
 

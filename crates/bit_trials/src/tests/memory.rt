@@ -1,4 +1,4 @@
-//! Each request for memory refused: what is answered then, and what stays.
+//! Each request for memory refused: what is returned then, and what stays.
 //!
 //! The tests pass with ample memory, and whichever request `rt try --test --fail-alloc N` refuses.
 use crate::tests::holds;
@@ -10,7 +10,7 @@ use bit_containers::{
 use std::alloc::AllocError;
 use std::process::Abort;
 
-/// That an answer is the vector of these digits, or that memory is wanting.
+/// That a result is the vector of these digits, or that memory was refused.
 fn made<T: BitStore, O: BitOrder>(
     rt: &impl Abort,
     answer: Result<BitVec<T, O>, AllocError>,
@@ -21,7 +21,7 @@ fn made<T: BitStore, O: BitOrder>(
     }
 }
 
-/// That an answer is the vector of these digits, or that memory is wanting, and never that it would be too long.
+/// That a result is the vector of these digits, or that memory was refused, and never that it would be too long.
 fn grown<T: BitStore, O: BitOrder>(
     rt: &impl Abort,
     answer: Result<BitVec<T, O>, GrowError>,
@@ -89,7 +89,7 @@ fn makers_that_take_none(rt: HostRuntime) {
     assert!(rt; v.into_boxed_bitslice().is_ok());
 }
 
-/// That a vector has 96 ones behind its eight bits, or, where it was refused, those bits alone.
+/// That a vector has 96 ones after its eight bits, or, where it was refused, those bits alone.
 fn stands(rt: &impl Abort, v: &BitVec<u8, Lsb0>, answer: Result<(), GrowError>) {
     match answer {
         Ok(()) => {
@@ -213,7 +213,7 @@ fn appending_refused(rt: HostRuntime) {
     stands(&rt, &v, answer);
 }
 
-/// Bits one by one, room, and a range joined once more: each refusal leaves what stood before it.
+/// Bits one by one, room, and a range appended once more: each refusal leaves what stood before it.
 #[test]
 fn one_by_one_refused(rt: HostRuntime) {
     let mut v = BitVec::<u8, Msb0>::new(rt.alloc());

@@ -1,4 +1,4 @@
-//! Orders of a user's own, by which the sweeps go too, and words that containers hold by them.
+//! Orders that a user writes, by which the sweeps go too, and words that containers hold by them.
 ghost use Rattle.std.specs.Prelude.{◌+◌, ◌*◌, ◌%◌, bit_xor, refl};
 ghost use Rattle.bit_addressing.specs.Order.{lawful_by_test};
 

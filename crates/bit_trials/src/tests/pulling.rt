@@ -7,7 +7,7 @@ use bit_containers::{BitVec, GrowError, Lsb0, Msb0};
 use std::process::Abort;
 
 /// One item or the other, the first of them at each third place from the end, under a hint that says nothing, or as
-/// good as nothing. It counts the calls, and those that found none; behind the first None there are more items.
+/// good as nothing. It counts the calls, and those that found none; after the first None there are more items.
 #[derive(Drop)]
 struct Loose<X: Copy> {
     left: usize,
@@ -77,7 +77,7 @@ fn ends_with(rt: &impl Abort, v: &BitVec<u8, Lsb0>, n: usize) {
     }
 }
 
-/// Bits joined, and put in place of others.
+/// Bits appended, and put in place of others.
 fn joined(rt: &(impl Abort + AllocGlobal), n: usize, bounded: bool) {
     let mut v = of::<u8, Lsb0>(rt, b"01");
     ok(rt, v.extend(Loose::of(n, BITS, bounded)));
@@ -101,7 +101,7 @@ fn made(rt: &(impl Abort + AllocGlobal), n: usize, bounded: bool) {
     assert!(rt; boxed.eq_bits(exact.as_bitslice()));
 }
 
-/// A vector made of words, and one that they are joined to.
+/// A vector made of words, and one that they are appended to.
 fn of_words(rt: &(impl Abort + AllocGlobal), n: usize, bounded: bool) {
     let words = Loose::of(n, WORDS, bounded);
     let made = ok(rt, BitVec::<u8, Msb0>::from_words(rt.alloc(), words));
@@ -166,7 +166,7 @@ fn words_counted(rt: &(impl Abort + AllocGlobal), n: usize, bounded: bool) {
     assert!(rt; words.nones == 1 && words.calls.wrapping_sub(1) == n);
 }
 
-/// No call follows the first None, behind which there would be more.
+/// No call follows the first None, after which there would be more.
 #[test]
 fn calls_counted(rt: HostRuntime) {
     for n in [0usize, 1, 63, 64, 65, 200] {

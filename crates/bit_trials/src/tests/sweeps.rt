@@ -1,4 +1,4 @@
-//! Each call behind every head of a byte, at every length up to 17 bits, beside plain lists.
+//! Each call at every head of a byte, at every length up to 17 bits, beside plain lists.
 ghost use Rattle.std.specs.Prelude.{◌+◌, ◌<◌};
 
 mod arrays;
@@ -122,7 +122,7 @@ fn behind<T: BitStore, O: BitOrder>(
     Case { v, list, row }
 }
 
-/// The same list behind the same head, with dead bits that are true.
+/// The same list at the same head, with dead bits that are true.
 fn again<T: BitStore, O: BitOrder>(
     rt: &(impl Abort + AllocGlobal),
     v: &BitVec<T, O>,

@@ -11,7 +11,7 @@ use std::alloc::{AllocError, Global};
 pub enum Request {
     /// The lowest run of this many free frames.
     Take(usize),
-    /// So many frames, from this one on, are given back: the first, and how many.
+    /// Frames are given back: the first, and how many.
     GiveBack(usize, usize),
 }
 

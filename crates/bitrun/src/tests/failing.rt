@@ -47,7 +47,7 @@ impl Write for Filling<'_> {
 
 const REPLIES: &[u8] = b"ok\nok\nrange\n1\n";
 
-/// What is replied to the first lines of the first run that end within so many bytes.
+/// What is replied to the first lines of the first run that end within a number of bytes.
 fn replies_within(bytes: usize) -> &'static [u8] {
     match bytes {
         0..7 => b"",

@@ -296,7 +296,7 @@ fn every_call<T: BitStore, O: BitOrder>(rt: &(impl Abort + AllocGlobal), head: u
     taken(rt, worked(rt, b));
 }
 
-/// Two boxes, at one head and length of the one and each length of the other, behind another head.
+/// Two boxes, at one head and length of the one and each length of the other, at another head.
 fn pairs<T: BitStore, O: BitOrder>(rt: &(impl Abort + AllocGlobal), head: usize, len: usize)
     requires head { head < 8 }
     requires len { len < 18 }

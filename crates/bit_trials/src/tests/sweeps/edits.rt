@@ -9,7 +9,7 @@ use std::process::Abort;
 
 const SEED: u64 = 0x0fed_cba9_8765_4321;
 
-/// A bit joined at the end, and put before each item.
+/// A bit appended, and put before each item.
 fn joined<T: BitStore, O: BitOrder>(rt: &(impl Abort + AllocGlobal), head: usize, len: usize)
     requires head { head < 8 }
     requires len { len < 18 }
@@ -111,7 +111,7 @@ fn exchanged<T: BitStore, O: BitOrder>(rt: &(impl Abort + AllocGlobal), head: us
     }
 }
 
-/// All of it, behind one head and at one length.
+/// All of it, at one head and one length.
 fn edited<T: BitStore, O: BitOrder>(rt: &(impl Abort + AllocGlobal), head: usize, len: usize)
     requires head { head < 8 }
     requires len { len < 18 }

@@ -1,4 +1,4 @@
-//! Bits joined, from lists, views, words and functions, and room made.
+//! Bits appended, from lists, views, words and functions, and room made.
 ghost use Rattle.std.specs.Prelude.{◌<◌};
 
 use crate::tests::ok;
@@ -11,7 +11,7 @@ const SEED: u64 = 0x1234_5678_9abc_def1;
 
 const OTHER: u64 = 0x0fed_cba9_8765_4321;
 
-/// Another list joined: pulled, as a view by other words and another order, and as a vector that is emptied.
+/// Another list appended: pulled, as a view by other words and another order, and as a vector that is emptied.
 fn extended<T: BitStore, O: BitOrder>(rt: &(impl Abort + AllocGlobal), head: usize, len: usize)
     requires head { head < 8 }
     requires len { len < 18 }
@@ -34,7 +34,7 @@ fn extended<T: BitStore, O: BitOrder>(rt: &(impl Abort + AllocGlobal), head: usi
     }
 }
 
-/// The length set, by one bit and by the answers of a function, which is called at each new index in turn.
+/// The length set, by one bit and by the results of a function, which is called at each new index in turn.
 fn resized<T: BitStore, O: BitOrder>(rt: &(impl Abort + AllocGlobal), head: usize, len: usize)
     requires head { head < 8 }
     requires len { len < 18 }
@@ -64,7 +64,7 @@ fn resized<T: BitStore, O: BitOrder>(rt: &(impl Abort + AllocGlobal), head: usiz
     }
 }
 
-/// Whole words joined, copied and pulled.
+/// Whole words appended, copied and pulled.
 fn extended_by_words<T: BitStore, O: BitOrder>(
     rt: &(impl Abort + AllocGlobal),
     head: usize,
@@ -90,7 +90,7 @@ fn extended_by_words<T: BitStore, O: BitOrder>(
     }
 }
 
-/// Each range joined once more.
+/// Each range appended once more.
 fn extended_within<T: BitStore, O: BitOrder>(
     rt: &(impl Abort + AllocGlobal),
     head: usize,
@@ -129,7 +129,7 @@ fn roomy<T: BitStore, O: BitOrder>(rt: &(impl Abort + AllocGlobal), head: usize,
     }
 }
 
-/// All of it, behind one head and at one length.
+/// All of it, at one head and one length.
 fn grown<T: BitStore, O: BitOrder>(rt: &(impl Abort + AllocGlobal), head: usize, len: usize)
     requires head { head < 8 }
     requires len { len < 18 }

@@ -113,7 +113,7 @@ fn spliced<T: BitStore, O: BitOrder>(rt: &(impl Abort + AllocGlobal), head: usiz
     }
 }
 
-/// The list cut in two at each place: what is behind begins at head 0, and is clean.
+/// The list cut in two at each index: what is after it begins at head 0, and is clean.
 fn split<T: BitStore, O: BitOrder>(rt: &(impl Abort + AllocGlobal), head: usize, len: usize)
     requires head { head < 8 }
     requires len { len < 18 }

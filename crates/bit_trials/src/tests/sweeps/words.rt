@@ -127,7 +127,7 @@ fn given_up<T: BitStore, O: BitOrder>(rt: &(impl Abort + AllocGlobal), head: usi
     assert!(rt; shows(rt, &v, 0, &row, &[]));
 }
 
-/// All of it, behind one head and at one length.
+/// All of it, at one head and one length.
 fn worked<T: BitStore, O: BitOrder>(rt: &(impl Abort + AllocGlobal), head: usize, len: usize)
     requires head { head < 8 }
     requires len { len < 18 }

@@ -5,7 +5,7 @@ use Rattle.bit_addressing.proofs.Packs.{pack_fills}
 use Rattle.bit_addressing.proofs.lists.Sized.{right_sum}
 use Rattle.bit_addressing.proofs.bits.chunks.word_behind.Goals as goal
 
--- where a block begins, some blocks behind a word
+-- where a block begins, some blocks after a word
 behind : (begin t each u skip w : ℕ) → each * u ≡ 64 → w ≡ 64 → (begin + t * each) * u + skip ≡ begin * u + skip + t * w
 behind begin t each u skip w fills wide =
     let split : (t * each) * u ≡ t * (each * u) = grind arith in

@@ -56,7 +56,11 @@ impl<A: BitWords, O: BitOrder> Model for BitArray<A, O> {
 impl<A: BitWords, O: BitOrder> Copy for BitArray<A, O> {}
 
 impl<A: BitWords, O: BitOrder> BitArray<A, O> {
-    /// Whether the words have at most `MAX_BITS` bits: the condition of `zero` and `new`.
+    /// Whether the words have at most `MAX_BITS` bits, which `zero` and `new` require.
+    ///
+    /// ```text
+    /// BitArray::<[u8; 2], Lsb0>::fits() == true
+    /// ```
     pub fn fits() -> bool
         ensures { IsTrue result ↔ (A.Store.BITS * A.count ≤ MAX_BITS) }
     {

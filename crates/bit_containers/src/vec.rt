@@ -181,6 +181,10 @@ impl<T: BitStore, O: BitOrder> BitVec<T, O> {
     }
 
     /// Whether `words` words have at most `MAX_BITS` bits, which `from_vec` requires.
+    ///
+    /// ```text
+    /// BitVec::<u8, Lsb0>::fits(3) == true
+    /// ```
     pub fn fits(words: usize) -> bool
         ensures { IsTrue result ↔ (T.BITS * words ≤ MAX_BITS) }
     {
@@ -252,6 +256,10 @@ impl<T: BitStore, O: BitOrder> BitVec<T, O> {
 
     /// Like `from_slice`, with no condition: it returns `TooLong` exactly where the words don't
     /// fit.
+    ///
+    /// ```text
+    /// BitVec::<u8, Lsb0>::try_from_slice(alloc, &[6])? holds 01100000
+    /// ```
     pub fn try_from_slice(alloc: Global, words: &[T]) -> Result<Self, GrowError>
         ensures words { IfOk result (λ v. v.words ≡ words.now) }
         ensures head { IfOk result (λ v. v.head ≡ 0) }

@@ -65,6 +65,10 @@ impl<'a, T: BitStore, O: BitOrder> BitSlice<'a, T, O> {
     ghost use Rattle.bit_slice.specs.Iter.{rest_of};
 
     /// All bits of the words, with the head 0. Requires that they are at most `MAX_BITS` bits.
+    ///
+    /// ```text
+    /// BitSlice::<u8, Lsb0>::from_slice(&[6]) shows 01100000
+    /// ```
     pub fn from_slice(words: &'a [T]) -> Self
         requires { T.BITS * length words.now ≤ MAX_BITS }
         ensures words { words_of result ≡ words.now }
@@ -82,6 +86,10 @@ impl<'a, T: BitStore, O: BitOrder> BitSlice<'a, T, O> {
     }
 
     /// Like `from_slice`. Returns `TooLong` exactly where the words have more than `MAX_BITS` bits.
+    ///
+    /// ```text
+    /// BitSlice::<u8, Lsb0>::try_from_slice(&[6])? shows 01100000
+    /// ```
     pub fn try_from_slice(words: &'a [T]) -> Result<Self, GrowError>
         ensures too_long { (result ≡ Err GrowError.TooLong) ↔ (MAX_BITS < T.BITS * length words.now) }
         ensures fits { IsOk result ↔ (T.BITS * length words.now ≤ MAX_BITS) }
@@ -96,8 +104,12 @@ impl<'a, T: BitStore, O: BitOrder> BitSlice<'a, T, O> {
         Ok(BitSlice::from_slice(words))
     }
 
-    /// The view of `len` bits that begins at the place `head` of the words' row. Requires that the
+    /// The view of `len` bits that begins at the index `head` of the words' row. Requires that the
     /// head is in the first word, the words are as many as it takes, and the bits at most `MAX_BITS`.
+    ///
+    /// ```text
+    /// BitSlice::<u8, Lsb0>::from_parts(&[6], 1, 3) shows 110
+    /// ```
     pub fn from_parts(words: &'a [T], head: usize, len: usize) -> Self
         requires in_word { head < T.BITS }
         requires few { len ≤ MAX_BITS }

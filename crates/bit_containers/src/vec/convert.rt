@@ -15,6 +15,10 @@ use std::marker::PhantomData;
 impl<T: BitStore, O: BitOrder> BitVec<T, O> {
     /// The bits of an array, whose words are copied: head 0. Takes memory where it has a word, and is refused
     /// only then.
+    ///
+    /// ```text
+    /// BitVec::from_bitarray(alloc, BitArray::<u8, Lsb0>::new(6))? holds 01100000
+    /// ```
     pub fn from_bitarray<A: BitWords<Store = T>>(
         alloc: Global,
         array: BitArray<A, O>,

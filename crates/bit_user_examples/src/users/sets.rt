@@ -52,7 +52,10 @@ fn counts_of_two_sets(rt: HostRuntime) -> Result<(), Fail> {
     );
     assert_eq!(rt; small.count_intersection(&large), 2);
     assert_eq!(rt;
-        (small.count_difference(&large), large.count_difference(&small)),
+        (
+            small.count_difference(&large),
+            large.count_difference(&small)
+        ),
         (2, 2)
     );
     assert_eq!(rt; large.count_symmetric_difference(&small), 4);

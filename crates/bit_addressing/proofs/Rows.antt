@@ -15,7 +15,7 @@ use Rattle.std.proofs.lemmas.List.{get_or-append-add, take_at, take-append-drop}
 use Rattle.std.proofs.Math.Nat.{add-mul-div_left, add-mul-mod_self_left, mul-le-mul_left}
 use Rattle.std.proofs.Common.{add_comm}
 use Rattle.bit_addressing.proofs.lists.Sized.{words_for_le, length-sized, sized_cut, sized_more}
-use Rattle.bit_addressing.proofs.lists.Put.{length-put, put_before, put_inside, put_behind}
+use Rattle.bit_addressing.proofs.lists.Put.{length-put, put_before, put_inside, put_after}
 use Rattle.bit_addressing.specs.Row.{row_bit, row_of, words_for, put, sized}
 
 pub width_positive : (w : ℕ) → IsWidth w → 0 < w
@@ -41,8 +41,8 @@ word_room w k n h = let m : w * (k + 1) ≤ w * n = mul-le-mul_left w (omega ari
 before_word : (w j k : ℕ) → 0 < w → j / w < k → j < k * w
 before_word w j k positive h = (div-lt_iff_lt-mul positive).0 h
 
-behind_word : (w j k : ℕ) → 0 < w → k < j / w → k * w + w ≤ j
-behind_word w j k positive h =
+word_ends_before : (w j k : ℕ) → 0 < w → k < j / w → k * w + w ≤ j
+word_ends_before w j k positive h =
     let d : j / w * w + j % w ≡ j = div-add-mod' j w in
     let m : w * (k + 1) ≤ w * (j / w) = mul-le-mul_left w (omega arith) in
     let e : w * (k + 1) ≡ k * w + w = grind arith in
@@ -185,12 +185,12 @@ module _ (place : ℕ → ℕ → ℕ) (w : ℕ) where
               | inl m ↦ rw (lt-leb low (j % w) m) (ap (λ q. has_bit (get_or words q 0) (place w (j % w))) (sym e.1) ∙ sym (put_before all ys (k * w + low) j false (omega arith) (omega arith) ∙ get_or-row_of words j inside))
               | inr m ↦ rw (le-leb low (j % w) m) (elim (cases_lt (j % w) (low + length ys)) [
                 | inl n ↦ rw (lt-ltb (j % w) (low + length ys) n) (let from : j % w - low ≡ j - (k * w + low) = omega arith in ap (λ q. get_or ys q false) from ∙ sym (put_inside all ys (k * w + low) j false (omega arith) (omega arith) (omega arith)))
-                | inr n ↦ rw (le-ltb (j % w) (low + length ys) n) (ap (λ q. has_bit (get_or words q 0) (place w (j % w))) (sym e.1) ∙ sym (put_behind all ys (k * w + low) j false (omega arith) (omega arith) ∙ get_or-row_of words j inside))
+                | inr n ↦ rw (le-ltb (j % w) (low + length ys) n) (ap (λ q. has_bit (get_or words q 0) (place w (j % w))) (sym e.1) ∙ sym (put_after all ys (k * w + low) j false (omega arith) (omega arith) ∙ get_or-row_of words j inside))
               ])
             ])
         | inr e ↦ rw (get_or-set_other words k (j / w) v 0 e.1) (elim (cases_lt (j / w) k) [
           | inl m ↦ let front : j < k * w = before_word w j k positive m in let before : j < k * w + low = omega arith in sym (put_before all ys (k * w + low) j false (omega arith) before ∙ get_or-row_of words j inside)
-          | inr m ↦ let behind : k * w + w ≤ j = behind_word w j k positive (omega arith) in sym (put_behind all ys (k * w + low) j false (omega arith) (omega arith) ∙ get_or-row_of words j inside)
+          | inr m ↦ let beyond : k * w + w ≤ j = word_ends_before w j k positive (omega arith) in sym (put_after all ys (k * w + low) j false (omega arith) (omega arith) ∙ get_or-row_of words j inside)
         ])
       ])
 

@@ -6,7 +6,7 @@ use Rattle.std.proofs.lemmas.Bool.{cases_lt, lt-leb, le-leb, lt-ltb, le-ltb}
 use Rattle.std.proofs.lemmas.Bool.Decides.{nat_tests}
 use Rattle.bit_addressing.specs.Bits.{has_bit}
 use Rattle.bit_addressing.specs.Row.{IsSpan, row_bit, row_of, put, source_of, moved}
-use Rattle.bit_addressing.proofs.lists.Put.{length-put, put_before, put_inside, put_behind}
+use Rattle.bit_addressing.proofs.lists.Put.{length-put, put_before, put_inside, put_after}
 use Rattle.bit_addressing.proofs.lists.Shown.{get_or-run, length-run}
 use Rattle.bit_addressing.proofs.Runs.{inner, mul_mono}
 use Rattle.bit_addressing.proofs.lists.Sized.{one_more_word}
@@ -104,7 +104,7 @@ put_moved xs s d n from to =
             let at : s + (j - d) ≡ (s + j) - d = omega arith in
             put_inside xs ys d j false (omega arith) k (omega arith) ∙ get_or-run xs s n (j - d) (omega arith) ∙ ap (λ m. get_or xs m false) at
             ∙ sym (get_or-moved xs s d n j below ∙ ap (λ m. get_or xs m false) (source_inside s d n j k l))
-        | inr l ↦ put_behind xs ys d j false (omega arith) (omega arith) ∙ sym (get_or-moved xs s d n j below ∙ ap (λ m. get_or xs m false) (source_out s d n j (inr l)))
+        | inr l ↦ put_after xs ys d j false (omega arith) (omega arith) ∙ sym (get_or-moved xs s d n j below ∙ ap (λ m. get_or xs m false) (source_out s d n j (inr l)))
       ]
     ])
 
@@ -228,14 +228,14 @@ run_moved_on {w} {dst} {first} {low} {last} {high} xs ys zs us src n a run apart
     let b : ℕ = (last - first - 1) * w in
     let at = inner_words n run apart in
     let inner : (first + 1) * w ≡ dst + a = at.0 ∙ ap (λ m. dst + m) (sym is) in
-    let behind : last * w + 0 ≡ dst + (a + b) = let e = at.1 in omega arith in
+    let beyond : last * w + 0 ≡ dst + (a + b) = let e = at.1 in omega arith in
     let sum : a + b + high ≡ n = let e = at.2 in omega arith in
     let from : src + (n - high) ≡ src + (a + b) = omega arith in
     let most : high - 0 ≡ high = omega arith in
     let first_part : ys ≡ moved xs src dst a = one ∙ ap (λ d. moved xs src d a) run.begins in
     let next_part : zs ≡ moved (moved xs src dst a) (src + a) (dst + a) b = two ∙ ap (λ l. moved l (src + a) ((first + 1) * w) b) first_part ∙ ap (λ d. moved (moved xs src dst a) (src + a) d b) inner in
     let both : List Bool = moved (moved xs src dst a) (src + a) (dst + a) b in
-    three ∙ ap (λ l. moved l (src + (n - high)) (last * w + 0) (high - 0)) next_part ∙ ap (λ s. moved both s (last * w + 0) (high - 0)) from ∙ ap (λ d. moved both (src + (a + b)) d (high - 0)) behind ∙ ap (moved both (src + (a + b)) (dst + (a + b))) most
+    three ∙ ap (λ l. moved l (src + (n - high)) (last * w + 0) (high - 0)) next_part ∙ ap (λ s. moved both s (last * w + 0) (high - 0)) from ∙ ap (λ d. moved both (src + (a + b)) d (high - 0)) beyond ∙ ap (moved both (src + (a + b)) (dst + (a + b))) most
     ∙ moved_thrice_on xs src dst a b high h (omega arith) ∙ ap (moved xs src dst) sum
 
 pub run_moved_back : {w dst first low last high : ℕ} (xs ys zs us : List Bool) (src n a : ℕ) → IsSpan w dst (dst + n) first low last high → first ≢ last → a ≡ w - low → src ≤ dst → src + n ≤ length xs
@@ -245,11 +245,11 @@ run_moved_back {w} {dst} {first} {low} {last} {high} xs ys zs us src n a run apa
     let b : ℕ = (last - first - 1) * w in
     let at = inner_words n run apart in
     let inner : (first + 1) * w ≡ dst + a = at.0 ∙ ap (λ m. dst + m) (sym is) in
-    let behind : last * w + 0 ≡ dst + (a + b) = let e = at.1 in omega arith in
+    let beyond : last * w + 0 ≡ dst + (a + b) = let e = at.1 in omega arith in
     let sum : a + b + high ≡ n = let e = at.2 in omega arith in
     let from : src + (n - high) ≡ src + (a + b) = omega arith in
     let most : high - 0 ≡ high = omega arith in
-    let last_part : ys ≡ moved xs (src + (a + b)) (dst + (a + b)) high = one ∙ ap (λ s. moved xs s (last * w + 0) (high - 0)) from ∙ ap (λ d. moved xs (src + (a + b)) d (high - 0)) behind ∙ ap (moved xs (src + (a + b)) (dst + (a + b))) most in
+    let last_part : ys ≡ moved xs (src + (a + b)) (dst + (a + b)) high = one ∙ ap (λ s. moved xs s (last * w + 0) (high - 0)) from ∙ ap (λ d. moved xs (src + (a + b)) d (high - 0)) beyond ∙ ap (moved xs (src + (a + b)) (dst + (a + b))) most in
     let next_part : zs ≡ moved (moved xs (src + (a + b)) (dst + (a + b)) high) (src + a) (dst + a) b = two ∙ ap (λ l. moved l (src + a) ((first + 1) * w) b) last_part ∙ ap (λ d. moved (moved xs (src + (a + b)) (dst + (a + b)) high) (src + a) d b) inner in
     three ∙ ap (λ l. moved l src (first * w + low) a) next_part ∙ ap (λ d. moved (moved (moved xs (src + (a + b)) (dst + (a + b)) high) (src + a) (dst + a) b) src d a) run.begins
     ∙ moved_thrice_back xs src dst a b high h (omega arith) ∙ ap (moved xs src dst) sum

@@ -4,7 +4,7 @@ ghost use Rattle.bit_addressing.specs.Bits.{has_bit};
 ghost use Rattle.bit_addressing.specs.Order.{IsLawful, lsb0_lawful, msb0_lawful};
 ghost use Rattle.bit_addressing.specs.Row.{row_bit, row_of, moved, touched};
 
-use crate::bits::single::{blend, shl_behind, shr_behind};
+use crate::bits::single::{blend, shl_by_rest, shr_by_rest};
 use crate::index::{BitEnd, BitIdx, BitPos};
 use crate::length::Span;
 use crate::move_run::{move_part, move_words};
@@ -212,15 +212,15 @@ pub trait BitOrder {
             return;
         }
         let inner = src + (width - low);
-        let behind = src + (n - end);
+        let tail = src + (n - end);
         let count = last - first - 1;
         if dst <= src {
             move_part::<T, Self>(row, src, first, low, width);
             move_words::<T, Self>(row, inner, first + 1, count);
-            move_part::<T, Self>(row, behind, last, 0, end);
+            move_part::<T, Self>(row, tail, last, 0, end);
             return;
         }
-        move_part::<T, Self>(row, behind, last, 0, end);
+        move_part::<T, Self>(row, tail, last, 0, end);
         move_words::<T, Self>(row, inner, first + 1, count);
         move_part::<T, Self>(row, src, first, low, width);
     }
@@ -268,7 +268,7 @@ impl BitOrder for Lsb0 {
         if begin == 0 {
             return low;
         }
-        low.shr(begin).or(shl_behind(high, begin))
+        low.shr(begin).or(shl_by_rest(high, begin))
     }
 
     fn window_lsb0<T: BitStore>(low: T, high: T, at: BitIdx<T>) -> T {
@@ -331,7 +331,7 @@ impl BitOrder for Msb0 {
         if begin == 0 {
             return low;
         }
-        low.shl(begin).or(shr_behind(high, begin))
+        low.shl(begin).or(shr_by_rest(high, begin))
     }
 
     fn window_lsb0<T: BitStore>(low: T, high: T, at: BitIdx<T>) -> T {

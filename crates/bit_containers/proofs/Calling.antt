@@ -5,24 +5,24 @@ use Rattle.std.specs.Borrow.{Bor}
 use Rattle.std.specs.List.{filter, range_with_len}
 use Rattle.bit_addressing.specs.Row.{words_for, number_bits}
 use Rattle.bit_containers.specs.BitVec.{Held, Grew, IsKept}
-use Rattle.bit_containers.specs.Closures.{AnswersFrom, AnswersAtEach, kept, keep_where}
+use Rattle.bit_containers.specs.Closures.{ResultsFrom, ResultsAtEach, kept, keep_where}
 use Rattle.bit_addressing.proofs.Binary.{number_bits_none}
 use Rattle.bit_containers.proofs.Growing.{grew_none}
 
 module _ {F : Type 0} (step : F → ℕ → Bool → F → Type 0) where
-  pub answers_more : (f : F) (i : ℕ) (answers : List Bool) (g : F) (j : ℕ) (b : Bool) (h : F) → AnswersFrom step f i answers g → step g j b h → j ≡ i + length answers → AnswersFrom step f i (answers ++ b ∷ []) h
-  answers_more f i [] g j b h run called at =
+  pub results_more : (f : F) (i : ℕ) (results : List Bool) (g : F) (j : ℕ) (b : Bool) (h : F) → ResultsFrom step f i results g → step g j b h → j ≡ i + length results → ResultsFrom step f i (results ++ b ∷ []) h
+  results_more f i [] g j b h run called at =
       let same : j ≡ i = omega arith in
       (h, rw (run, ← same) called, refl)
-  answers_more f i (a ∷ answers) g j b h run called at =
-      (run.0, run.1, answers_more run.0 (i + 1) answers g j b h run.2 called (omega arith))
+  results_more f i (a ∷ results) g j b h run called at =
+      (run.0, run.1, results_more run.0 (i + 1) results g j b h run.2 called (omega arith))
 
   -- where each result is that of a function of the index, those are the values of that function at the indices
-  pub filled_with : (of : ℕ → Bool) → ((f : F) (i : ℕ) (answer : Bool) (next : F) → step f i answer next → answer ≡ of i)
-      → (f : F) (i : ℕ) (answers : List Bool) (last : F) → AnswersFrom step f i answers last → answers ≡ map of (range_with_len i (length answers))
+  pub filled_with : (of : ℕ → Bool) → ((f : F) (i : ℕ) (given : Bool) (next : F) → step f i given next → given ≡ of i)
+      → (f : F) (i : ℕ) (results : List Bool) (last : F) → ResultsFrom step f i results last → results ≡ map of (range_with_len i (length results))
   filled_with of says f i [] last run = refl
-  filled_with of says f i (a ∷ answers) last run =
-      rw (says f i a run.0 run.1) (ap (λ l. of i ∷ l) (filled_with of says run.0 (i + 1) answers last run.2))
+  filled_with of says f i (a ∷ results) last run =
+      rw (says f i a run.0 run.1) (ap (λ l. of i ∷ l) (filled_with of says run.0 (i + 1) results last run.2))
 
 -- a vector that was kept has grown by nothing
 pub grew_kept : {X : Type 0} (w : ℕ) (old new : Held X) → length old.row ≡ w * words_for w (old.head + length old.list) → IsKept old new → Grew w old new []
@@ -32,9 +32,9 @@ grew_kept w old new size same =
 
 -- ---- the bits that stay
 
-kept_cond : (b x : Bool) (bits answers : List Bool) → kept (x ∷ bits) (b ∷ answers) ≡ cond b (x ∷ kept bits answers) (kept bits answers)
-kept_cond true x bits answers = refl
-kept_cond false x bits answers = refl
+kept_cond : (b x : Bool) (bits results : List Bool) → kept (x ∷ bits) (b ∷ results) ≡ cond b (x ∷ kept bits results) (kept bits results)
+kept_cond true x bits results = refl
+kept_cond false x bits results = refl
 
 -- a test of the bit alone keeps the bits that pass it
 kept_by_bit : (test : Bool → Bool) (i : ℕ) (bits : List Bool) → keep_where (λ _ bit. test bit) i bits ≡ filter test bits
@@ -42,38 +42,38 @@ kept_by_bit test i [] = refl
 kept_by_bit test i (x ∷ bits) = ap (λ l. cond (test x) (x ∷ l) l) (kept_by_bit test (i + 1) bits)
 
 module _ {F : Type 0} (step : F → ℕ → Bor Bool → Bool → F → Type 0) where
-  pub answers_at_each_more : (f : F) (i : ℕ) (bits answers : List Bool) (g : F) (j : ℕ) (bit : Bool) (shown : Bor Bool) (b : Bool) (h : F) → AnswersAtEach step f i bits answers g → step g j shown b h → shown.now ≡ bit → j ≡ i + length bits → AnswersAtEach step f i (bits ++ bit ∷ []) (answers ++ b ∷ []) h
-  answers_at_each_more f i [] answers g j bit shown b h run called shows at =
+  pub results_at_each_more : (f : F) (i : ℕ) (bits results : List Bool) (g : F) (j : ℕ) (bit : Bool) (shown : Bor Bool) (b : Bool) (h : F) → ResultsAtEach step f i bits results g → step g j shown b h → shown.now ≡ bit → j ≡ i + length bits → ResultsAtEach step f i (bits ++ bit ∷ []) (results ++ b ∷ []) h
+  results_at_each_more f i [] results g j bit shown b h run called shows at =
       let same : j ≡ i = omega arith in
       (b, [], h, shown, rw run.0 refl, shows, rw (run.1, ← same) called, (refl, refl))
-  answers_at_each_more f i (x ∷ bits) answers g j bit shown b h run called shows at =
-      (run.0, run.1 ++ b ∷ [], run.2, run.3, rw run.4 refl, run.5, run.6, answers_at_each_more run.2 (i + 1) bits run.1 g j bit shown b h run.7 called shows (omega arith))
+  results_at_each_more f i (x ∷ bits) results g j bit shown b h run called shows at =
+      (run.0, run.1 ++ b ∷ [], run.2, run.3, rw run.4 refl, run.5, run.6, results_at_each_more run.2 (i + 1) bits run.1 g j bit shown b h run.7 called shows (omega arith))
 
-  length-answers : (f : F) (i : ℕ) (bits answers : List Bool) (g : F) → AnswersAtEach step f i bits answers g → length answers ≡ length bits
-  length-answers f i [] answers g run = rw run.0 refl
-  length-answers f i (x ∷ bits) answers g run = rw run.4 (ap suc (length-answers run.2 (i + 1) bits run.1 g run.7))
+  length-results : (f : F) (i : ℕ) (bits results : List Bool) (g : F) → ResultsAtEach step f i bits results g → length results ≡ length bits
+  length-results f i [] results g run = rw run.0 refl
+  length-results f i (x ∷ bits) results g run = rw run.4 (ap suc (length-results run.2 (i + 1) bits run.1 g run.7))
 
   -- where each result is that of a test of the index and the bit, the bits that pass it are kept
-  pub kept_where : (test : ℕ → Bool → Bool) → ((f : F) (i : ℕ) (shown : Bor Bool) (answer : Bool) (next : F) → step f i shown answer next → answer ≡ test i shown.now)
-      → (f : F) (i : ℕ) (bits answers : List Bool) (last : F) → AnswersAtEach step f i bits answers last → kept bits answers ≡ keep_where test i bits
-  kept_where test says f i [] answers last run = rw run.0 refl
-  kept_where test says f i (x ∷ bits) answers last run =
+  pub kept_where : (test : ℕ → Bool → Bool) → ((f : F) (i : ℕ) (shown : Bor Bool) (given : Bool) (next : F) → step f i shown given next → given ≡ test i shown.now)
+      → (f : F) (i : ℕ) (bits results : List Bool) (last : F) → ResultsAtEach step f i bits results last → kept bits results ≡ keep_where test i bits
+  kept_where test says f i [] results last run = rw run.0 refl
+  kept_where test says f i (x ∷ bits) results last run =
       let same : run.0 ≡ test i x = says f i run.3 run.0 run.2 run.6 ∙ ap (test i) run.5 in
       let rest = kept_where test says run.2 (i + 1) bits run.1 last run.7 in
       rw (run.4, same) (kept_cond (test i x) x bits run.1 ∙ ap (λ l. cond (test i x) (x ∷ l) l) rest)
 
   -- where each result is that of a test of the bit alone, the bits that pass it are kept
-  pub kept_filter : (test : Bool → Bool) → ((f : F) (i : ℕ) (shown : Bor Bool) (answer : Bool) (next : F) → step f i shown answer next → answer ≡ test shown.now)
-      → (f : F) (i : ℕ) (bits answers : List Bool) (last : F) → AnswersAtEach step f i bits answers last → kept bits answers ≡ filter test bits
-  kept_filter test says f i bits answers last run = kept_where (λ _. test) says f i bits answers last run ∙ kept_by_bit test i bits
+  pub kept_filter : (test : Bool → Bool) → ((f : F) (i : ℕ) (shown : Bor Bool) (given : Bool) (next : F) → step f i shown given next → given ≡ test shown.now)
+      → (f : F) (i : ℕ) (bits results : List Bool) (last : F) → ResultsAtEach step f i bits results last → kept bits results ≡ filter test bits
+  kept_filter test says f i bits results last run = kept_where (λ _. test) says f i bits results last run ∙ kept_by_bit test i bits
 
-kept_more : (bits answers : List Bool) (x b : Bool) → length answers ≡ length bits → kept (bits ++ x ∷ []) (answers ++ b ∷ []) ≡ kept bits answers ++ cond b (x ∷ []) []
+kept_more : (bits results : List Bool) (x b : Bool) → length results ≡ length bits → kept (bits ++ x ∷ []) (results ++ b ∷ []) ≡ kept bits results ++ cond b (x ∷ []) []
 kept_more [] [] x true e = refl
 kept_more [] [] x false e = refl
-kept_more [] (a ∷ answers) x b e = absurd (omega arith)
+kept_more [] (a ∷ results) x b e = absurd (omega arith)
 kept_more (y ∷ bits) [] x b e = absurd (omega arith)
-kept_more (y ∷ bits) (true ∷ answers) x b e = ap (λ l. y ∷ l) (kept_more bits answers x b (omega arith))
-kept_more (y ∷ bits) (false ∷ answers) x b e = kept_more bits answers x b (omega arith)
+kept_more (y ∷ bits) (true ∷ results) x b e = ap (λ l. y ∷ l) (kept_more bits results x b (omega arith))
+kept_more (y ∷ bits) (false ∷ results) x b e = kept_more bits results x b (omega arith)
 
 -- the bits that stay so far: those that were written, and those in a number, which are written 64 at a time
 abbrev pub staying : List Bool → ℕ → ℕ → List Bool
@@ -95,15 +95,15 @@ takes_one bit index now count number later next h size rest front =
 module _ {F : Type 0} (step : F → ℕ → Bor Bool → Bool → F → Type 0) where
   -- the function was called at each bit below `index`
   pub record RetainsUpTo (first : F) (old : List Bool) (f : F) (now : List Bool) (count number index : ℕ) : Type 0 where
-    pub behind : count ≤ index
+    pub beyond : count ≤ index
     pub size : length now ≡ length old
     pub rest : drop index now ≡ drop index old
-    pub answers : List Bool
-    pub answered : AnswersAtEach step first 0 (take index old) answers f
-    pub front : staying now count number ≡ kept (take index old) answers
+    pub results : List Bool
+    pub gave : ResultsAtEach step first 0 (take index old) results f
+    pub front : staying now count number ≡ kept (take index old) results
 
   pub retains_nothing : (first : F) (old : List Bool) → RetainsUpTo first old first old 0 0 0
-  retains_nothing first old = record { behind = omega arith; size = refl; rest = refl; answers = []; answered = (refl, refl); front = number_bits_none 0 }
+  retains_nothing first old = record { beyond = omega arith; size = refl; rest = refl; results = []; gave = (refl, refl); front = number_bits_none 0 }
 
   -- one call more
   pub retains_more : (first : F) (old : List Bool) (f : F) (now : List Bool) (count number index : ℕ) (bit : Bool) (shown : Bor Bool) (b : Bool) (h : F) (later : List Bool) (more next : ℕ) → index < length now → bit ≡ get_or now index false → shown.now ≡ bit → step f index shown b h → TakesIf b bit index now count number later more next → RetainsUpTo first old f now count number index → RetainsUpTo first old h later more next (index + 1)
@@ -116,19 +116,19 @@ module _ {F : Type 0} (step : F → ℕ → Bor Bool → Bool → F → Type 0) 
       let same_bit : get_or old index false ≡ bit = cc in
       let grown : take (index + 1) old ≡ take index old ++ bit ∷ [] = rw (take_more old index false short, same_bit) refl in
       let reached : index ≡ 0 + length (take index old) = omega (arith, length-take-le index old (omega arith)) in
-      let pushed = answers_at_each_more step first 0 (take index old) was.answers f index bit shown b h was.answered called shows reached in
-      let longer = kept_more (take index old) was.answers bit b (length-answers step first 0 (take index old) was.answers f was.answered) in
+      let pushed = results_at_each_more step first 0 (take index old) was.results f index bit shown b h was.gave called shows reached in
+      let longer = kept_more (take index old) was.results bit b (length-results step first 0 (take index old) was.results f was.gave) in
       record {
-        behind = takes.2;
+        beyond = takes.2;
         size = takes.0 ∙ was.size;
         rest = takes.1 ∙ tails;
-        answers = was.answers ++ b ∷ [];
-        answered = rw grown pushed;
-        front = takes.3 ∙ ap (λ l. l ++ cond b (bit ∷ []) []) was.front ∙ sym longer ∙ ap (λ l. kept l (was.answers ++ b ∷ [])) (sym grown);
+        results = was.results ++ b ∷ [];
+        gave = rw grown pushed;
+        front = takes.3 ∙ ap (λ l. l ++ cond b (bit ∷ []) []) was.front ∙ sym longer ∙ ap (λ l. kept l (was.results ++ b ∷ [])) (sym grown);
       }
 
   -- after the last call
-  pub retains_all : (first : F) (old : List Bool) (f : F) (now : List Bool) (count number index : ℕ) → length old ≤ index → RetainsUpTo first old f now count number index → (answers : List Bool) × AnswersAtEach step first 0 old answers f × (staying now count number ≡ kept old answers)
+  pub retains_all : (first : F) (old : List Bool) (f : F) (now : List Bool) (count number index : ℕ) → length old ≤ index → RetainsUpTo first old f now count number index → (results : List Bool) × ResultsAtEach step first 0 old results f × (staying now count number ≡ kept old results)
   retains_all first old f now count number index past was =
       let whole = take_all index old past in
-      (was.answers, rw whole at was.answered, rw whole at was.front)
+      (was.results, rw whole at was.gave, rw whole at was.front)

@@ -50,8 +50,8 @@ pub run_back : (xs : List Bool) (i j : ℕ) → i < j → j ≤ length xs → sl
 run_back xs i j h k = run_last xs i j (get_or xs (j - 1) false) h k refl
 
 -- what is after the first of a run, and one more
-pub run_behind : (xs : List Bool) (i j n : ℕ) → i + n < j → j ≤ length xs → slice_range xs (i + n + 1) j ≡ drop (n + 1) (slice_range xs i j)
-run_behind xs i j n h k = same_lists _ _ (search (rules, places)) (λ a d below. grind (arith, places))
+pub run_after : (xs : List Bool) (i j n : ℕ) → i + n < j → j ≤ length xs → slice_range xs (i + n + 1) j ≡ drop (n + 1) (slice_range xs i j)
+run_after xs i j n h k = same_lists _ _ (search (rules, places)) (λ a d below. grind (arith, places))
 
 module _ {X Y : Type 0} {W : store.Ghosts X} {P : order.Ghosts Y} where
   pub drain_runs : YieldsInOrder (DrainSteps {X = X} {Y = Y} {W = W} {P = P}) drain_rest

@@ -5,20 +5,20 @@ use Rattle.std.specs.List.{items_where_true}
 
 module _ {F : Type 0} (step : F → ℕ → Bool → F → Type 0) where
   -- called at `index` and at the indices after it, one after another, the function gave these results, and each call began in the state that the one before left; `last` is the state after all of them
-  abbrev pub AnswersFrom : F → ℕ → List Bool → F → Type 0
-  AnswersFrom f index [] last = f ≡ last
-  AnswersFrom f index (answer ∷ answers) last = (next : F) × step f index answer next × AnswersFrom next (index + 1) answers last
+  abbrev pub ResultsFrom : F → ℕ → List Bool → F → Type 0
+  ResultsFrom f index [] last = f ≡ last
+  ResultsFrom f index (given ∷ results) last = (next : F) × step f index given next × ResultsFrom next (index + 1) results last
 
 module _ {F : Type 0} (step : F → ℕ → Bor Bool → Bool → F → Type 0) where
   -- called at each of these bits and its index, the first of which is `index`, the function gave these results, and each call began in the state that the one before left
-  abbrev pub AnswersAtEach : F → ℕ → List Bool → List Bool → F → Type 0
-  AnswersAtEach f index [] answers last = (answers ≡ []) × (f ≡ last)
-  AnswersAtEach f index (bit ∷ bits) answers last = (answer : Bool) × (later : List Bool) × (next : F) × (shown : Bor Bool)
-      × (answers ≡ answer ∷ later) × (shown.now ≡ bit) × step f index shown answer next × AnswersAtEach next (index + 1) bits later last
+  abbrev pub ResultsAtEach : F → ℕ → List Bool → List Bool → F → Type 0
+  ResultsAtEach f index [] results last = (results ≡ []) × (f ≡ last)
+  ResultsAtEach f index (bit ∷ bits) results last = (given : Bool) × (later : List Bool) × (next : F) × (shown : Bor Bool)
+      × (results ≡ given ∷ later) × (shown.now ≡ bit) × step f index shown given next × ResultsAtEach next (index + 1) bits later last
 
 -- the bits whose result was true, in order
 abbrev pub kept : List Bool → List Bool → List Bool
-kept bits answers = items_where_true answers bits
+kept bits results = items_where_true results bits
 
 -- the bits that pass a test of their index and themselves, where the first index is `index`
 abbrev pub keep_where : (ℕ → Bool → Bool) → ℕ → List Bool → List Bool

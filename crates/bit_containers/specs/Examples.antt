@@ -14,8 +14,8 @@ use Rattle.bit_containers.specs.Machine.{list_after_one, head_after_one, reply_t
 -- ---- vectors
 
 -- two words of four bits have room for five bits after a head of 3
-room_behind_a_head : bits_in 4 2 3 ≡ 5
-room_behind_a_head = refl
+room_after_a_head : bits_in 4 2 3 ≡ 5
+room_after_a_head = refl
 
 -- the bits of all memory pass the largest usize
 room_of_all : bits_in 64 (2 ^ 60) 3 ≡ 2 ^ 64 - 4
@@ -59,9 +59,9 @@ clean_at_its_beginning : IsClean 4 (record three { words = 5 ∷ []; row = true 
 unfolding three sized words_for
 clean_at_its_beginning = record { head = refl; row = refl }
 
-not_clean_behind_a_head : IsClean 4 three → ⊥
+not_clean_after_a_head : IsClean 4 three → ⊥
 unfolding three
-not_clean_behind_a_head clean = absurd (omega (arith, clean.head))
+not_clean_after_a_head clean = absurd (omega (arith, clean.head))
 
 -- a copy begins its first word, and dead bits aren't copied
 copied_to_the_beginning : IsCopy 4 three (record three { words = 5 ∷ []; row = true ∷ false ∷ true ∷ false ∷ []; head = 0 })
@@ -69,7 +69,7 @@ unfolding three sized words_for
 copied_to_the_beginning = record { list = refl; clean = record { head = refl; row = refl } }
 
 not_copied_where_it_stood : IsCopy 4 three three → ⊥
-not_copied_where_it_stood copy = not_clean_behind_a_head copy.clean
+not_copied_where_it_stood copy = not_clean_after_a_head copy.clean
 
 -- ---- one command
 

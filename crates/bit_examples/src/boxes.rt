@@ -294,7 +294,7 @@ fn iterated(rt: HostRuntime) -> Result<(), Fail> {
 }
 
 #[test]
-fn empty_behind_a_head(rt: HostRuntime) {
+fn empty_after_a_head(rt: HostRuntime) {
     let words = [0xff_u8];
     let view = BitSlice::<u8, Lsb0>::from_slice(&words).get_range(5..5);
     let mut b = ok(&rt, BitBox::from_bitslice_headed(rt.alloc(), view));

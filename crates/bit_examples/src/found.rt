@@ -2,8 +2,8 @@
 use std::process::Abort;
 
 /// What a call returns that found memory.
-pub(crate) fn ok<V, E>(rt: &impl Abort, answer: Result<V, E>) -> V {
-    match answer {
+pub(crate) fn ok<V, E>(rt: &impl Abort, result: Result<V, E>) -> V {
+    match result {
         Ok(value) => value,
         Err(_) => panic!(rt; "memory is wanting"),
     }

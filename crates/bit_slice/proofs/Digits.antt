@@ -46,9 +46,9 @@ module _ (s : ℕ) (u : Bool) where
       ap (λ n. digits n bits) same ∙ ap (λ n. digits b (drop n bits)) (sym none)
   digits_joined (suc a) b bits =
       let next : suc a + b ≡ suc (a + b) = omega arith in
-      let behind : s + a * s ≡ suc a * s = grind arith in
+      let beyond : s + a * s ≡ suc a * s = grind arith in
       ap (λ n. digits n bits) next
-      ∙ ap (λ l. digit_glyph u (value_after 0 (take s bits)) ∷ l) (digits_joined a b (drop s bits) ∙ ap (λ l. digits a (drop s bits) ++ digits b l) (drop-drop (a * s) s bits ∙ ap (λ n. drop n bits) behind))
+      ∙ ap (λ l. digit_glyph u (value_after 0 (take s bits)) ∷ l) (digits_joined a b (drop s bits) ∙ ap (λ l. digits a (drop s bits) ++ digits b l) (drop-drop (a * s) s bits ∙ ap (λ n. drop n bits) beyond))
 
   -- one group more
   pub digits_more : (i : ℕ) (bits : List Bool) → digits (i + 1) bits ≡ digits i bits ++ digit_glyph u (value_after 0 (take s (drop (i * s) bits))) ∷ []

@@ -20,7 +20,7 @@ use Rattle.bit_addressing.proofs.lists.Shown.{length-run, length-between, get_or
 use Rattle.bit_slice.proofs.Shown.{run_none}
 use Rattle.bit_addressing.proofs.Runs.{slices_joined}
 use Rattle.bit_addressing.specs.Row.{put, number_bits, number_of}
-use Rattle.bit_addressing.proofs.lists.Put.{length-put, put_before, put_inside, put_behind, put_joined, put_none}
+use Rattle.bit_addressing.proofs.lists.Put.{length-put, put_before, put_inside, put_after, put_joined, put_none}
 
 -- lists of one length with the same item
 same_read : (xs ys : List Bool) (j : ℕ) → length xs ≡ length ys → get_or xs j false ≡ get_or ys j false → slice_get xs j ≡ slice_get ys j
@@ -34,7 +34,7 @@ module _ (xs ys : List Bool) (d n : ℕ) (size : length ys ≡ n) (fits : d + n 
   read_before j h = same_read (put xs d ys) xs j (length-put xs ys d (omega arith)) (put_before xs ys d j false (omega arith) h)
 
   pub read_after : (j : ℕ) → d + n ≤ j → slice_get (put xs d ys) j ≡ slice_get xs j
-  read_after j h = same_read (put xs d ys) xs j (length-put xs ys d (omega arith)) (put_behind xs ys d j false (omega arith) (omega arith))
+  read_after j h = same_read (put xs d ys) xs j (length-put xs ys d (omega arith)) (put_after xs ys d j false (omega arith) (omega arith))
 
   pub read_within : (j : ℕ) → d ≤ j → j < d + n → slice_get (put xs d ys) j ≡ Some (get_or ys (j - d) false)
   read_within j a b =
@@ -113,7 +113,7 @@ module _ (xs : List Bool) (from at n : ℕ) (ordered : from ≤ at) (room : at +
       let a : length (slice_range ys at (at + n)) ≡ n = length-run ys at n (omega arith) in
       let b : length (slice_range xs at (at + n)) ≡ n = length-run xs at n room in
       ext_get_or false (slice_range ys at (at + n)) (slice_range xs at (at + n)) (omega arith)
-      (λ i h. get_or-run ys at n i (omega arith) ∙ put_behind xs (map not (slice_range xs from at)) from (at + i) false (omega arith) (omega arith) ∙ sym (get_or-run xs at n i (omega arith)))
+      (λ i h. get_or-run ys at n i (omega arith) ∙ put_after xs (map not (slice_range xs from at)) from (at + i) false (omega arith) (omega arith) ∙ sym (get_or-run xs at n i (omega arith)))
 
   pub flipped_more : put (put xs from (map not (slice_range xs from at))) at (map not (slice_range xs at (at + n))) ≡ put xs from (map not (slice_range xs from (at + n)))
   flipped_more =

@@ -13,7 +13,7 @@ use Rattle.bit_addressing.specs.declared.store.BitStore as store
 use Rattle.bit_addressing.specs.declared.order.BitOrder as order
 use Rattle.bit_addressing.proofs.Rows.{word_below, length-row_of, get_or-row_of, same_rows}
 use Rattle.bit_addressing.proofs.Shifts.{put_moved}
-use Rattle.bit_addressing.proofs.lists.Put.{length-put, put_before, put_inside, put_behind}
+use Rattle.bit_addressing.proofs.lists.Put.{length-put, put_before, put_inside, put_after}
 use Rattle.bit_addressing.proofs.lists.Shown.{length-run, get_or-run}
 use Rattle.bit_slice.specs.Mirrored.{IsMirrored}
 use Rattle.bit_slice.proofs.Halves.{row_halves, run_of_front, run_of_back, put_front, put_back}
@@ -171,7 +171,7 @@ module _ (xs : List Bool) (before len after : ℕ) (whole : before + len + after
               put_inside (put (reverse xs) before turned) front 0 j false (omega arith) (omega arith) (omega (arith, f, l))
               ∙ get_or-run xs 0 before (j - 0) (omega (arith, l)) ∙ ap (λ i. get_or xs i false) at ∙ sym (put_before xs turned before j false (omega (arith, whole)) l)
           | inr l ↦
-              put_behind (put (reverse xs) before turned) front 0 j false (omega (arith, l1, f, whole)) (omega (arith, f, l))
+              put_after (put (reverse xs) before turned) front 0 j false (omega (arith, l1, f, whole)) (omega (arith, f, l))
               ∙ put_inside (reverse xs) turned before j false (omega (arith, size, whole)) l (omega (arith, t, k))
               ∙ sym (put_inside xs turned before j false (omega (arith, whole)) l (omega (arith, t, k)))
         ]
@@ -179,7 +179,7 @@ module _ (xs : List Bool) (before len after : ℕ) (whole : before + len + after
             let at : before + len + (j - (before + len)) ≡ j = omega (arith, k) in
             put_inside (put (put (reverse xs) before turned) 0 front) back (before + len) j false (omega (arith, l2, whole)) k (omega (arith, l3, b, h, whole))
             ∙ get_or-run xs (before + len) after (j - (before + len)) (omega (arith, l3, h, k, whole)) ∙ ap (λ i. get_or xs i false) at
-            ∙ sym (put_behind xs turned before j false (omega (arith, t, whole)) (omega (arith, t, k)))
+            ∙ sym (put_after xs turned before j false (omega (arith, t, whole)) (omega (arith, t, k)))
       ])
 
   -- the same in steps, where what stood around the run was kept as numbers

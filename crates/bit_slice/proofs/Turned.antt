@@ -7,7 +7,7 @@ use Rattle.bit_addressing.specs.Bits.{has_bit}
 use Rattle.bit_addressing.specs.Row.{put, moved, binary, number_bits, row_of}
 use Rattle.bit_addressing.proofs.Binary.{length-number_bits}
 use Rattle.bit_addressing.proofs.Rows.{length-row_of}
-use Rattle.bit_addressing.proofs.lists.Put.{length-put, put_before, put_inside, put_behind, put_joined}
+use Rattle.bit_addressing.proofs.lists.Put.{length-put, put_before, put_inside, put_after, put_joined}
 use Rattle.bit_addressing.proofs.lists.Shown.{length-run, get_or-run}
 use Rattle.bit_addressing.proofs.Combined.{put_later}
 use Rattle.bit_addressing.proofs.Shifts.{put_moved}
@@ -105,8 +105,8 @@ module _ (xs zs : List Bool) (head len low high n : ℕ) (t : IsTurned xs zs hea
       let e = length-one in
       let lower : (j : ℕ) → j < high - n → get_or both j false ≡ get_or one j false = λ j l. put_before one lower_run (high - n) j false (omega (arith, e, inside)) l in
       let upper : (j : ℕ) → high ≤ j → get_or both j false ≡ get_or zs j false = λ j l.
-      put_behind one lower_run (high - n) j false (omega (arith, d, e, inside, few, l)) (omega (arith, d, few, l))
-      ∙ put_behind zs upper_run low j false (omega (arith, b, inside, few, l)) (omega (arith, b, few, l)) in
+      put_after one lower_run (high - n) j false (omega (arith, d, e, inside, few, l)) (omega (arith, d, few, l))
+      ∙ put_after zs upper_run low j false (omega (arith, b, inside, few, l)) (omega (arith, b, few, l)) in
       record {
         begins = omega arith;
         ordered = omega arith;
@@ -126,7 +126,7 @@ module _ (xs zs : List Bool) (head len low high n : ℕ) (t : IsTurned xs zs hea
               ∙ reversed_item zs low n (j - (high - n)) (omega (arith, inside, few)) (omega (arith, a, k, few)) ∙ t.inner (low + (n - 1 - (j - (high - n)))) (omega arith) (omega (arith, few, a, k)) ∙ ap (λ i. get_or xs i false) at
           | inr k ↦ upper j k ∙ t.back j k l
         ];
-        inner = λ j a l. lower j l ∙ put_behind zs upper_run low j false (omega (arith, b, inside, few)) (omega (arith, b, a)) ∙ t.inner j (omega arith) (omega (arith, l));
+        inner = λ j a l. lower j l ∙ put_after zs upper_run low j false (omega (arith, b, inside, few)) (omega (arith, b, a)) ∙ t.inner j (omega arith) (omega (arith, l));
         before = λ j a. lower j (omega arith) ∙ put_before zs upper_run low j false (omega arith) (omega arith) ∙ t.before j a;
         after = λ j a. upper j (omega arith) ∙ t.after j a;
       }
@@ -161,7 +161,7 @@ turned_all xs zs head len low high t few room =
                 | inr q ↦ t.back j q l ∙ sym there
               ]
             ]
-        | inr l ↦ t.after j l ∙ sym (put_behind xs (reverse ms) head j false (omega (arith, b, room)) (omega (arith, b, l)))
+        | inr l ↦ t.after j l ∙ sym (put_after xs (reverse ms) head j false (omega (arith, b, room)) (omega (arith, b, l)))
       ]
     ])
 
@@ -177,7 +177,7 @@ put_over xs ys zs d same room =
       | inl k ↦ put_before (put xs d ys) zs d j false (omega (arith, a, room)) k ∙ put_before xs ys d j false (omega arith) k ∙ sym (put_before xs zs d j false (omega arith) k)
       | inr k ↦ elim (cases_lt j (d + length zs)) [
         | inl l ↦ put_inside (put xs d ys) zs d j false (omega (arith, a, room)) k l ∙ sym (put_inside xs zs d j false (omega arith) k l)
-        | inr l ↦ put_behind (put xs d ys) zs d j false (omega (arith, a, same, room)) l ∙ put_behind xs ys d j false room (omega (arith, same, l)) ∙ sym (put_behind xs zs d j false (omega (arith, same, room)) l)
+        | inr l ↦ put_after (put xs d ys) zs d j false (omega (arith, a, same, room)) l ∙ put_after xs ys d j false room (omega (arith, same, l)) ∙ sym (put_after xs zs d j false (omega (arith, same, room)) l)
       ]
     ])
 

@@ -58,11 +58,11 @@ text_whole [] d n from upto some is at one more end = absurd (omega arith)
 text_whole (x ∷ ys) d n from upto some is at one more end =
     let xs : List Bool = x ∷ ys in
     let size : length xs ≡ suc (length ys) = refl in
-    let behind : spaced (slice_range xs 1 n) ++ spaced (slice_range xs from upto) ≡ spaced ys =
+    let beyond : spaced (slice_range xs 1 n) ++ spaced (slice_range xs from upto) ≡ spaced ys =
     ap (λ k. spaced (slice_range xs 1 n) ++ spaced (slice_range xs k upto)) at ∙ spaced_runs xs 1 n upto one more (omega arith)
     ∙ ap spaced (take_all (upto - 1) ys (omega arith)) in
     ap (λ l. (((91 ∷ l) ++ spaced (slice_range xs 1 n)) ++ spaced (slice_range xs from upto)) ++ 93 ∷ []) is
-    ∙ ap (λ l. 91 ∷ digit_of x ∷ l) (ap (λ l. l ++ 93 ∷ []) behind)
+    ∙ ap (λ l. 91 ∷ digit_of x ∷ l) (ap (λ l. l ++ 93 ∷ []) beyond)
     ∙ ap (λ l. 91 ∷ l ++ 93 ∷ []) (sym (joined_spaced x ys))
 
 -- a run of a view's list stands in the row of its words

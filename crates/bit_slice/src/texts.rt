@@ -83,11 +83,11 @@ pub fn write_list<T: BitStore, O: BitOrder, W: fmt::Write>(
         return f.write_str("]");
     }
     f.write_str(if view.bit(0) { "1" } else { "0" })?;
-    let behind = view.len() - 1;
-    for t in 0..behind / 64 {
+    let more = view.len() - 1;
+    for t in 0..more / 64 {
         write_more(view, 1 + t * 64, 64, f)?;
     }
-    write_more(view, 1 + behind / 64 * 64, (behind % 64) as u8, f)?;
+    write_more(view, 1 + more / 64 * 64, (more % 64) as u8, f)?;
     f.write_str("]")
 }
 

@@ -45,7 +45,7 @@ fn worked<B: Bits>(rt: &(impl Abort + AllocGlobal), bits: &mut B) -> Result<(), 
 }
 
 /// Each command that was not run there, and those that are out of range.
-fn answered<B: Bits>(rt: &(impl Abort + AllocGlobal), bits: &mut B) -> Result<(), Fail> {
+fn gave<B: Bits>(rt: &(impl Abort + AllocGlobal), bits: &mut B) -> Result<(), Fail> {
     let commands = [
         FixedCommand::Fill(true),
         FixedCommand::Get(7),
@@ -97,7 +97,7 @@ fn called<B: Bits>(rt: &impl Abort, bits: &mut B) {
 /// The whole of it over eight bits that are false.
 fn run_over<B: Bits>(rt: &(impl Abort + AllocGlobal), bits: &mut B) -> Result<(), Fail> {
     worked(rt, bits)?;
-    answered(rt, bits)?;
+    gave(rt, bits)?;
     called(rt, bits);
     Ok(())
 }

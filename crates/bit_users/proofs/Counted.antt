@@ -8,7 +8,7 @@ use Rattle.std.proofs.lemmas.List.Folds.{sum_by-replicate}
 use Rattle.std.proofs.lemmas.List.Sums.{sum_by-append}
 use Rattle.std.proofs.lemmas.Option.{get_or_from_slice_get}
 use Rattle.bit_addressing.specs.Row.{put}
-use Rattle.bit_addressing.proofs.lists.Put.{length-put, put_before, put_behind, put_inside, put_one}
+use Rattle.bit_addressing.proofs.lists.Put.{length-put, put_before, put_after, put_inside, put_one}
 use Rattle.bit_users.specs.FreeMap.{AreFree, AreTaken}
 
 -- frames that are all free or all taken are so already
@@ -24,7 +24,7 @@ same_put map first count bit inside each =
             let at : first + (i - first) ≡ i = omega arith in
             put_inside map (replicate count bit) first i false (omega arith) l (omega arith) ∙ get_or-replicate count (i - first) bit false (omega arith)
             ∙ sym (get_or_from_slice_get map i bit false (ap (slice_get map) (sym at) ∙ each (i - first) (omega arith)))
-        | inr m ↦ put_behind map (replicate count bit) first i false (omega arith) (omega arith)
+        | inr m ↦ put_after map (replicate count bit) first i false (omega arith) (omega arith)
       ]
     ])
 

@@ -5,7 +5,7 @@ use Rattle.std.proofs.lemmas.Bool.{cases_lt}
 use Rattle.std.proofs.lemmas.List.{ext_get_or, get_or-replicate, length-replicate}
 use Rattle.std.proofs.lemmas.Option.{get_or_from_slice_get, slice_get-get_or, slice_get_within}
 use Rattle.bit_addressing.specs.Row.{put}
-use Rattle.bit_addressing.proofs.lists.Put.{length-put, put_before, put_behind, put_inside, put_none}
+use Rattle.bit_addressing.proofs.lists.Put.{length-put, put_before, put_after, put_inside, put_none}
 use Rattle.std.specs.Prelude.{◌⊎◌, ◌↔◌, EachIndex}
 use Rattle.std.proofs.lemmas.Nat.{mod-mul-add}
 use Rattle.bit_addressing.proofs.lists.Sized.{one_more_word}
@@ -62,7 +62,7 @@ put_back map now new first count inside free taken given =
                   let at : first + (i - first) ≡ i = omega arith in
                   put_inside now clear first i false (omega arith) l (omega arith) ∙ get_or-replicate count (i - first) false false (omega arith)
                   ∙ sym (get_or_from_slice_get map i false false (ap (slice_get map) (sym at) ∙ free (i - first) (omega arith)))
-              | inr m ↦ put_behind now clear first i false (omega arith) (omega arith) ∙ ap (λ l. get_or l i false) taken ∙ put_behind map marks first i false (omega arith) (omega arith)
+              | inr m ↦ put_after now clear first i false (omega arith) (omega arith) ∙ ap (λ l. get_or l i false) taken ∙ put_after map marks first i false (omega arith) (omega arith)
             ]
           ])
       | inr none ↦

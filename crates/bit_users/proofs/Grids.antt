@@ -11,7 +11,7 @@ use Rattle.bit_addressing.specs.Row.{moved, put, row_of, source_of}
 use Rattle.bit_addressing.specs.Text.{digit_of}
 use Rattle.bit_addressing.proofs.Rows.{get_or-row_one, length-row_of}
 use Rattle.bit_addressing.proofs.lists.Moved.{get_or-moved}
-use Rattle.bit_addressing.proofs.lists.Put.{put_before, put_behind, put_inside}
+use Rattle.bit_addressing.proofs.lists.Put.{put_before, put_after, put_inside}
 use Rattle.bit_addressing.proofs.lists.Shown.{get_or-run, length-between, length-run}
 use Rattle.bit_containers.proofs.Removing.{run_back}
 use Rattle.bit_users.specs.Matrix.{Grid, AreAlike, IsPath, IsSet, item}
@@ -136,7 +136,7 @@ module _ (xs ys : List Bool) (rows columns row column count start : ℕ) (size :
       let up = row_ends row rows columns inside in
       elim (out i j below apart) [
         | inl low ↦ put_before xs ys start (i * columns + j) false (omega arith) low
-        | inr high ↦ put_behind xs ys start (i * columns + j) false (omega arith) (omega arith)
+        | inr high ↦ put_after xs ys start (i * columns + j) false (omega arith) (omega arith)
       ]
 
 -- the first bits of a word

@@ -4,7 +4,7 @@ use Rattle.std.specs.Prelude.{◌⊎◌, ◌↔◌, if◌then◌else◌}
 use Rattle.std.proofs.lemmas.Bool.{cases_lt, true≢false}
 use Rattle.std.proofs.lemmas.Option.{get_or_from_slice_get, slice_get-get_or}
 use Rattle.bit_addressing.specs.Row.{put}
-use Rattle.bit_addressing.proofs.lists.Put.{put_before, put_behind, put_inside}
+use Rattle.bit_addressing.proofs.lists.Put.{put_before, put_after, put_inside}
 use Rattle.bit_slice.specs.Operators.{and_of, and_not_of, or_of, xor_of}
 use Rattle.bit_slice.proofs.Combining.{length-combined}
 use Rattle.bit_containers.proofs.Making.{combined_all}
@@ -102,7 +102,7 @@ outside_bit xs a b bit k ordered inside out =
     let size = length-replicate (b - a) bit in
     elim out [
       | inl low ↦ put_before xs (replicate (b - a) bit) a k false (omega arith) low
-      | inr high ↦ put_behind xs (replicate (b - a) bit) a k false (omega arith) (omega arith)
+      | inr high ↦ put_after xs (replicate (b - a) bit) a k false (omega arith) (omega arith)
     ]
 
 pub in_range : (k a b : ℕ) → ((a ≤ k) × (k < b)) ⊎ ((k < a) ⊎ (b ≤ k))

@@ -10,9 +10,9 @@ pub record ArePathsOver (edge now : ℕ → ℕ → Type 0) (low high : ℕ) : T
   pub paths : (i j : ℕ) → now i j ↔ IsPathOver edge low high i j
 
 -- two walks, one after the other
-walks_joined : (edge : ℕ → ℕ → Type 0) (i : ℕ) (before : List ℕ) (k : ℕ) (behind : List ℕ) (j : ℕ) → IsWalk edge i before k → IsWalk edge k behind j → IsWalk edge i (before ++ k ∷ behind) j
-walks_joined edge i [] k behind j to from = (to, from)
-walks_joined edge i (x ∷ xs) k behind j to from = (to.0, walks_joined edge x xs k behind j to.1 from)
+walks_joined : (edge : ℕ → ℕ → Type 0) (i : ℕ) (before : List ℕ) (k : ℕ) (beyond : List ℕ) (j : ℕ) → IsWalk edge i before k → IsWalk edge k beyond j → IsWalk edge i (before ++ k ∷ beyond) j
+walks_joined edge i [] k beyond j to from = (to, from)
+walks_joined edge i (x ∷ xs) k beyond j to from = (to.0, walks_joined edge x xs k beyond j to.1 from)
 
 within_joined : (low high : ℕ) (xs ys : List ℕ) → AreWithin low high xs → AreWithin low high ys → AreWithin low high (xs ++ ys)
 within_joined low high [] ys in_x in_y = in_y

@@ -8,7 +8,7 @@ use Rattle.std.proofs.lemmas.List.Elements.{Contains-append_left, Contains-push,
 use Rattle.bit_addressing.specs.declared.length.TheConstants.{MAX_BITS}
 use Rattle.bit_slice.proofs.Places.{ranges_joined}
 use Rattle.bit_slice.specs.Places.{ones_of}
-use Rattle.bit_users.specs.InTurn.{AnswersInTurn, HasTaken, IsRefused, bound_of}
+use Rattle.bit_users.specs.InTurn.{ResultsInTurn, HasTaken, IsRefused, bound_of}
 use Rattle.bit_users.specs.Table.{IsIn}
 use Rattle.bit_users.proofs.Members.{in_bit}
 
@@ -16,19 +16,19 @@ use Rattle.bit_users.proofs.Members.{in_bit}
 
 module _ {F : Type 0} (step : F → ℕ → Bool → F → Type 0) where
   -- one call more
-  pub in_turn_more : (f : F) (numbers : List ℕ) (answers : List Bool) (g : F) (number : ℕ) (answer : Bool) (h : F) → AnswersInTurn step f numbers answers g → step g number answer h → AnswersInTurn step f (numbers ++ number ∷ []) (answers ++ answer ∷ []) h
-  in_turn_more f [] answers g number answer h run called = (answer, [], h, rw run.0 refl, rw run.1 called, (refl, refl))
-  in_turn_more f (n ∷ numbers) answers g number answer h run called = (run.0, run.1 ++ answer ∷ [], run.2, rw run.3 refl, run.4, in_turn_more run.2 numbers run.1 g number answer h run.5 called)
+  pub in_turn_more : (f : F) (numbers : List ℕ) (results : List Bool) (g : F) (number : ℕ) (given : Bool) (h : F) → ResultsInTurn step f numbers results g → step g number given h → ResultsInTurn step f (numbers ++ number ∷ []) (results ++ given ∷ []) h
+  in_turn_more f [] results g number given h run called = (given, [], h, rw run.0 refl, rw run.1 called, (refl, refl))
+  in_turn_more f (n ∷ numbers) results g number given h run called = (run.0, run.1 ++ given ∷ [], run.2, rw run.3 refl, run.4, in_turn_more run.2 numbers run.1 g number given h run.5 called)
 
-  pub length-in_turn : (f : F) (numbers : List ℕ) (answers : List Bool) (g : F) → AnswersInTurn step f numbers answers g → length answers ≡ length numbers
-  length-in_turn f [] answers g run = rw run.0 refl
-  length-in_turn f (n ∷ numbers) answers g run = rw run.3 (ap suc (length-in_turn run.2 numbers run.1 g run.5))
+  pub length-in_turn : (f : F) (numbers : List ℕ) (results : List Bool) (g : F) → ResultsInTurn step f numbers results g → length results ≡ length numbers
+  length-in_turn f [] results g run = rw run.0 refl
+  length-in_turn f (n ∷ numbers) results g run = rw run.3 (ap suc (length-in_turn run.2 numbers run.1 g run.5))
 
   -- where each call returned what a test says of the number, the numbers that pass it are kept
-  pub in_turn_filter : (test : ℕ → Bool) → ((f : F) (number : ℕ) (answer : Bool) (next : F) → step f number answer next → answer ≡ test number)
-      → (f : F) (numbers : List ℕ) (answers : List Bool) (last : F) → AnswersInTurn step f numbers answers last → items_where_true answers numbers ≡ filter test numbers
-  in_turn_filter test says f [] answers last run = rw run.0 refl
-  in_turn_filter test says f (n ∷ numbers) answers last run =
+  pub in_turn_filter : (test : ℕ → Bool) → ((f : F) (number : ℕ) (given : Bool) (next : F) → step f number given next → given ≡ test number)
+      → (f : F) (numbers : List ℕ) (results : List Bool) (last : F) → ResultsInTurn step f numbers results last → items_where_true results numbers ≡ filter test numbers
+  in_turn_filter test says f [] results last run = rw run.0 refl
+  in_turn_filter test says f (n ∷ numbers) results last run =
       let same : run.0 ≡ test n = says f n run.0 run.2 run.4 in
       let rest = in_turn_filter test says run.2 numbers run.1 last run.5 in
       rw (run.3, same) (first (test n) n numbers run.1 ∙ ap (λ l. cond (test n) (n ∷ l) l) rest)
@@ -37,13 +37,13 @@ module _ {F : Type 0} (step : F → ℕ → Bool → F → Type 0) where
       first true n numbers later = refl
       first false n numbers later = refl
 
-kept_more : (numbers : List ℕ) (answers : List Bool) (n : ℕ) (b : Bool) → length answers ≡ length numbers → items_where_true (answers ++ b ∷ []) (numbers ++ n ∷ []) ≡ items_where_true answers numbers ++ cond b (n ∷ []) []
+kept_more : (numbers : List ℕ) (results : List Bool) (n : ℕ) (b : Bool) → length results ≡ length numbers → items_where_true (results ++ b ∷ []) (numbers ++ n ∷ []) ≡ items_where_true results numbers ++ cond b (n ∷ []) []
 kept_more [] [] n true e = refl
 kept_more [] [] n false e = refl
-kept_more [] (a ∷ answers) n b e = absurd (omega arith)
+kept_more [] (a ∷ results) n b e = absurd (omega arith)
 kept_more (m ∷ numbers) [] n b e = absurd (omega arith)
-kept_more (m ∷ numbers) (true ∷ answers) n b e = ap (λ l. m ∷ l) (kept_more numbers answers n b (omega arith))
-kept_more (m ∷ numbers) (false ∷ answers) n b e = kept_more numbers answers n b (omega arith)
+kept_more (m ∷ numbers) (true ∷ results) n b e = ap (λ l. m ∷ l) (kept_more numbers results n b (omega arith))
+kept_more (m ∷ numbers) (false ∷ results) n b e = kept_more numbers results n b (omega arith)
 
 -- ---- the numbers of a set below an index
 
@@ -82,42 +82,42 @@ module _ {F : Type 0} (step : F → ℕ → Bool → F → Type 0) where
     pub bound : length new ≡ length old
     pub inside : from ≤ length old
     pub rest : (k : ℕ) → from ≤ k → get_or new k false ≡ get_or old k false
-    pub answers : List Bool
-    pub calls : AnswersInTurn step f (ones_below old from) answers now
-    pub kept : ones_below new from ≡ items_where_true answers (ones_below old from)
+    pub results : List Bool
+    pub calls : ResultsInTurn step f (ones_below old from) results now
+    pub kept : ones_below new from ≡ items_where_true results (ones_below old from)
 
   module _ (f : F) (old : List Bool) (now : F) (new : List Bool) (from : ℕ) (was : HasRetained f old now new from) where
     -- no number is left
-    pub retained_all : ((k : ℕ) → from ≤ k → get_or new k false ≡ false) → (answers : List Bool) × AnswersInTurn step f (ones_of old) answers now × (ones_of new ≡ items_where_true answers (ones_of old))
+    pub retained_all : ((k : ℕ) → from ≤ k → get_or new k false ≡ false) → (results : List Bool) × ResultsInTurn step f (ones_of old) results now × (ones_of new ≡ items_where_true results (ones_of old))
     retained_all none =
         let all : ones_below old (length old) ≡ ones_below old from = below_shorter old from (length old) was.inside (λ k low high. sym (was.rest k low) ∙ none k low) in
         let left : ones_below new (length new) ≡ ones_below new from = let inside = was.inside in let bound = was.bound in below_shorter new from (length new) (omega arith) (λ k low high. none k low) in (
-          was.answers,
-          subst (λ numbers. AnswersInTurn step f numbers was.answers now) (sym all) was.calls,
-          left ∙ was.kept ∙ ap (items_where_true was.answers) (sym all),
+          was.results,
+          subst (λ numbers. ResultsInTurn step f numbers was.results now) (sym all) was.calls,
+          left ∙ was.kept ∙ ap (items_where_true was.results) (sym all),
         )
 
-    module _ (number : ℕ) (low : from ≤ number) (here : get_or new number false ≡ true) (before : (k : ℕ) → from ≤ k → k < number → get_or new k false ≡ false) (inside : number < length old) (answer : Bool) (next : F) (called : step now number answer next) where
+    module _ (number : ℕ) (low : from ≤ number) (here : get_or new number false ≡ true) (before : (k : ℕ) → from ≤ k → k < number → get_or new k false ≡ false) (inside : number < length old) (given : Bool) (next : F) (called : step now number given next) where
       asked : ones_below old (suc number) ≡ ones_below old from ++ number ∷ []
       asked =
           one_more old number ∙ ap (λ b. ones_below old number ++ cond b (number ∷ []) []) (sym (was.rest number low) ∙ here)
           ∙ ap (λ l. l ++ number ∷ []) (below_shorter old from number low (λ k at under. sym (was.rest k at) ∙ before k at under))
 
       -- the next number was asked for, and it stayed or went
-      retained_next : (then : List Bool) → length then ≡ length new → ((k : ℕ) → k ≢ number → get_or then k false ≡ get_or new k false) → get_or then number false ≡ answer → HasRetained f old next then (suc number)
+      retained_next : (then : List Bool) → length then ≡ length new → ((k : ℕ) → k ≢ number → get_or then k false ≡ get_or new k false) → get_or then number false ≡ given → HasRetained f old next then (suc number)
       retained_next then size others bit = record {
         bound = size ∙ was.bound;
         inside = omega arith;
         rest = λ k past. others k (omega arith) ∙ was.rest k (omega arith);
-        answers = was.answers ++ answer ∷ [];
-        calls = subst (λ numbers. AnswersInTurn step f numbers (was.answers ++ answer ∷ []) next) (sym asked) (in_turn_more step f (ones_below old from) was.answers now number answer next was.calls called);
+        results = was.results ++ given ∷ [];
+        calls = subst (λ numbers. ResultsInTurn step f numbers (was.results ++ given ∷ []) next) (sym asked) (in_turn_more step f (ones_below old from) was.results now number given next was.calls called);
         kept =
             one_more then number ∙ ap (λ b. ones_below then number ++ cond b (number ∷ []) []) bit
-            ∙ ap (λ l. l ++ cond answer (number ∷ []) []) (below_same then new number (λ k under. others k (omega arith)) ∙ below_shorter new from number low before ∙ was.kept)
-            ∙ sym (ap (items_where_true (was.answers ++ answer ∷ [])) asked ∙ kept_more (ones_below old from) was.answers number answer (length-in_turn step f (ones_below old from) was.answers now was.calls));
+            ∙ ap (λ l. l ++ cond given (number ∷ []) []) (below_same then new number (λ k under. others k (omega arith)) ∙ below_shorter new from number low before ∙ was.kept)
+            ∙ sym (ap (items_where_true (was.results ++ given ∷ [])) asked ∙ kept_more (ones_below old from) was.results number given (length-in_turn step f (ones_below old from) was.results now was.calls));
       }
 
-      pub retained_more : (then : List Bool) (index : ℕ) → index ≡ number + 1 → length then ≡ length new → ((k : ℕ) → k ≢ number → get_or then k false ≡ get_or new k false) → get_or then number false ≡ answer → HasRetained f old next then index
+      pub retained_more : (then : List Bool) (index : ℕ) → index ≡ number + 1 → length then ≡ length new → ((k : ℕ) → k ≢ number → get_or then k false ≡ get_or new k false) → get_or then number false ≡ given → HasRetained f old next then index
       retained_more then index at size others bit = let same : suc number ≡ index = omega arith in subst (HasRetained f old next then) same (retained_next then size others bit)
 
 -- a number that is not in a set

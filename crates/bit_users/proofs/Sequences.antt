@@ -37,9 +37,9 @@ words_count bits bytes are =
     omega arith
 
 -- after the list a row has false alone
-behind : (w : ℕ) (xs : List Bool) (b j : ℕ) → length xs ≤ j → get_or (sized w xs b) j false ≡ false
+beyond : (w : ℕ) (xs : List Bool) (b j : ℕ) → length xs ≤ j → get_or (sized w xs b) j false ≡ false
 unfolding sized
-behind w xs b j past =
+beyond w xs b j past =
     let n : ℕ = w * words_for w b in
     let front : length (take n xs) ≤ j = (let e = length-take n xs in omega arith) in
     get_or-append_right (take n xs) (replicate (n - length xs) false) (length (take n xs)) j false refl front
@@ -56,7 +56,7 @@ stray row bits len end (Some k) is at first some ordered inside =
     let back : len + (end - len) ≡ end = omega arith in
     let size : length (slice_range row len end) ≡ end - len = ap (λ e. length (slice_range row len e)) (sym back) ∙ length-run row len (end - len) (omega arith) in
     let within = first.within in
-    true≢false (sym first.here ∙ ap (λ e. get_or (slice_range row len e) k false) (sym back) ∙ get_or-run row len (end - len) k (omega arith) ∙ ap (λ l. get_or l (len + k) false) is ∙ behind 8 bits (length bits) (len + k) (omega arith))
+    true≢false (sym first.here ∙ ap (λ e. get_or (slice_range row len e) k false) (sym back) ∙ get_or-run row len (end - len) k (omega arith) ∙ ap (λ l. get_or l (len + k) false) is ∙ beyond 8 bits (length bits) (len + k) (omega arith))
 
 -- no bit is set after the list
 pub no_stray : (row : List Bool) (len end : ℕ) (r : Option ℕ) → MatchOption r (slice_range row len end ≡ replicate (end - len) false) (λ k. IsFirst true (slice_range row len end) k) → is_some r ≡ false → slice_range row len end ≡ replicate (end - len) false

@@ -5,9 +5,9 @@ use Rattle.bit_users.specs.Table.{IsIn}
 
 module _ {F : Type 0} (step : F → ℕ → Bool → F → Type 0) where
   -- called at each of these numbers, a function returned these truth values, and each call began in the state that the one before left; `last` is the state after all of them
-  abbrev pub AnswersInTurn : F → List ℕ → List Bool → F → Type 0
-  AnswersInTurn f [] answers last = (answers ≡ []) × (f ≡ last)
-  AnswersInTurn f (number ∷ numbers) answers last = (answer : Bool) × (later : List Bool) × (next : F) × (answers ≡ answer ∷ later) × step f number answer next × AnswersInTurn next numbers later last
+  abbrev pub ResultsInTurn : F → List ℕ → List Bool → F → Type 0
+  ResultsInTurn f [] results last = (results ≡ []) × (f ≡ last)
+  ResultsInTurn f (number ∷ numbers) results last = (given : Bool) × (later : List Bool) × (next : F) × (results ≡ given ∷ later) × step f number given next × ResultsInTurn next numbers later last
 
 -- the least bound that is above each of these numbers
 abbrev pub bound_of : List ℕ → ℕ

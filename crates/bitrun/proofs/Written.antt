@@ -81,8 +81,8 @@ outcome ReadFailed given all last h = absurd h
 pub end_apart : (e : Ending) (given all : List (List ℕ)) (last : Ending) → IsEnd e given all last → e ≡ ReadFailed → ⊥
 end_apart e given all last h is = subst (λ x. IsEnd x given all last) is h
 
-pub end_answered : {F : Type 0} (r : Result Ending F) (e : Ending) → IfOk r (λ x. x ≡ e) → (e ≡ ReadFailed → ⊥) → r ≡ Ok ReadFailed → ⊥
-end_answered {F} r e same other is = let P : Result Ending F → Type 0 = λ x. IfOk x (λ y. y ≡ e) in other (sym (subst P is same))
+pub end_of_result : {F : Type 0} (r : Result Ending F) (e : Ending) → IfOk r (λ x. x ≡ e) → (e ≡ ReadFailed → ⊥) → r ≡ Ok ReadFailed → ⊥
+end_of_result {F} r e same other is = let P : Result Ending F → Type 0 = λ x. IfOk x (λ y. y ≡ e) in other (sym (subst P is same))
 
 ended_within : (from now next : Option (List ℕ)) (given more : List (List ℕ)) (a : Progress) (piece : List ℕ) (e : Ending)
     → IsGoing from now given a → Consumes now next piece → Ends a piece more e → IfSome from (λ text. IsOutcome e (given ++ more) (script_replies text (given ++ more)) (script_ending text))
@@ -152,9 +152,9 @@ transcribed : (from wrote writes : Option (List ℕ)) (e : Ending) → IsServed 
 transcribed None wrote writes e h = tt
 transcribed (Some text) wrote writes e h = λ none. (h.0, h.1, subst (λ all. IsOutcome e h.0 all (script_ending text)) (replies_alike [] (lines_of text) h.0 [] none) h.2)
 
-pub answers_transcribed : {F : Type 0} (from wrote writes : Option (List ℕ)) (r : Result Ending F) → IfOk r (λ e. IsServed from wrote writes e) → IfOk r (λ e. IsTranscribed from wrote writes e)
-answers_transcribed from wrote writes (Ok e) h = transcribed from wrote writes e h
-answers_transcribed from wrote writes (Err e) h = tt
+pub results_transcribed : {F : Type 0} (from wrote writes : Option (List ℕ)) (r : Result Ending F) → IfOk r (λ e. IsServed from wrote writes e) → IfOk r (λ e. IsTranscribed from wrote writes e)
+results_transcribed from wrote writes (Ok e) h = transcribed from wrote writes e h
+results_transcribed from wrote writes (Err e) h = tt
 
 pub read_start : (o : Option (List ℕ)) → IsShort o → IsRead o o 0
 read_start None h = absurd h

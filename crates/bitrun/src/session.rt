@@ -133,7 +133,7 @@ impl<T: BitStore, O: BitOrder> Session<T, O> {
     }
 
     /// Does a command, and appends the line of its reply.
-    fn answer_command(&mut self, command: Command) -> Result<(), Ending>
+    fn reply_to_command(&mut self, command: Command) -> Result<(), Ending>
         ensures ok { OnOk result (Replies self.old (Line.Run command) self.new) }
         ensures out { OnErr result (self.new.out ≡ self.old.out) }
         ensures err { IfErr result (CanRefuse self.old.list (Line.Run command)) }
@@ -146,7 +146,7 @@ impl<T: BitStore, O: BitOrder> Session<T, O> {
     }
 
     /// Appends the line that shows the list.
-    fn answer_list(&mut self) -> Result<(), Ending>
+    fn reply_with_list(&mut self) -> Result<(), Ending>
         ensures ok { OnOk result (Replies self.old Line.ShowList self.new) }
         ensures out { OnErr result (self.new.out ≡ self.old.out) }
         ensures err { IfErr result (CanRefuse self.old.list Line.ShowList) }
@@ -158,7 +158,7 @@ impl<T: BitStore, O: BitOrder> Session<T, O> {
     }
 
     /// Appends the line that shows the words.
-    fn answer_words(&mut self) -> Result<(), Ending>
+    fn reply_with_words(&mut self) -> Result<(), Ending>
         ensures ok { OnOk result (Replies self.old Line.ShowWords self.new) }
         ensures out { OnErr result (self.new.out ≡ self.old.out) }
         ensures err { IfErr result (CanRefuse self.old.list Line.ShowWords) }
@@ -170,15 +170,15 @@ impl<T: BitStore, O: BitOrder> Session<T, O> {
     }
 
     /// Does what a line asks for, and appends the line of the reply.
-    fn answer(&mut self, line: Line) -> Result<(), Ending>
+    fn reply(&mut self, line: Line) -> Result<(), Ending>
         ensures ok { OnOk result (Replies self.old line self.new) }
         ensures out { OnErr result (self.new.out ≡ self.old.out) }
         ensures err { IfErr result (CanRefuse self.old.list line) }
     {
         match line {
-            Line::Run(command) => self.answer_command(command),
-            Line::ShowList => self.answer_list(),
-            Line::ShowWords => self.answer_words(),
+            Line::Run(command) => self.reply_to_command(command),
+            Line::ShowList => self.reply_with_list(),
+            Line::ShowWords => self.reply_with_words(),
         }
     }
 
@@ -193,7 +193,7 @@ impl<T: BitStore, O: BitOrder> Session<T, O> {
         let Some(line) = parse_line(self.line()) else {
             return Err(self.bad_command());
         };
-        match self.answer(line) {
+        match self.reply(line) {
             Ok(()) => {
                 self.next_line();
                 Ok(())

@@ -106,10 +106,10 @@ pub inserted_shows : (xs list : List Bool) (head len i : ℕ) (b : Bool) → sli
 inserted_shows xs list head len i b pushed size h fits =
     let n : ℕ = len - 1 - i in
     let next : head + i + 1 ≡ head + (i + 1) = omega arith in
-    let behind : n ≡ length list - i = omega arith in
+    let beyond : n ≡ length list - i = omega arith in
     let long : length (moved xs (head + i) (head + i + 1) n) ≡ length xs = length-moved xs (head + i) (head + i + 1) n in
     shows_set (moved xs (head + i) (head + i + 1) n) head len i b (omega arith) (omega arith)
-    ∙ ap (λ l. set l i b) (ap (λ d. slice_range (moved xs (head + i) d n) head (head + len)) next ∙ shows_moved xs head len i (i + 1) n (omega arith) (omega arith) fits ∙ ap (λ l. moved l i (i + 1) n) pushed ∙ ap (moved (list ++ b ∷ []) i (i + 1)) behind)
+    ∙ ap (λ l. set l i b) (ap (λ d. slice_range (moved xs (head + i) d n) head (head + len)) next ∙ shows_moved xs head len i (i + 1) n (omega arith) (omega arith) fits ∙ ap (λ l. moved l i (i + 1) n) pushed ∙ ap (moved (list ++ b ∷ []) i (i + 1)) beyond)
     ∙ inserted list i b h
 
 pub removed_shows : (w : ℕ) (xs : List Bool) (head len i : ℕ) → 0 < w → i < len → head + len ≤ length xs → slice_range (sized w (moved xs (head + i + 1) (head + i) (len - 1 - i)) (head + (len - 1))) head (head + (len - 1)) ≡ remove (slice_range xs head (head + len)) i

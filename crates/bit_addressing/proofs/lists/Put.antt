@@ -34,9 +34,9 @@ pub put_inside : (xs ys : List Bool) (d j : ℕ) (b : Bool) → d ≤ length xs 
 unfolding put
 put_inside xs ys d j b h k l = grind (arith, places)
 
-pub put_behind : (xs ys : List Bool) (d j : ℕ) (b : Bool) → d + length ys ≤ length xs → d + length ys ≤ j → get_or (put xs d ys) j b ≡ get_or xs j b
+pub put_after : (xs ys : List Bool) (d j : ℕ) (b : Bool) → d + length ys ≤ length xs → d + length ys ≤ j → get_or (put xs d ys) j b ≡ get_or xs j b
 unfolding put
-put_behind xs ys d j b h k = grind (arith, places)
+put_after xs ys d j b h k = grind (arith, places)
 
 -- two runs that are put one after the other
 pub put_joined : (xs ys zs : List Bool) (d n : ℕ) → n ≡ d + length ys → n + length zs ≤ length xs → put (put xs d ys) n zs ≡ put xs d (ys ++ zs)

@@ -243,8 +243,8 @@ fn word_by_bits<T: BitStore, O: BitOrder, U: BitStore, P: BitOrder>(
     word
 }
 
-/// Like `word_behind`, out of words in an order that does not go by shifts.
-fn word_behind_by_bits<T: BitStore, O: BitOrder, U: BitStore, P: BitOrder>(
+/// Like `word_after`, out of words in an order that does not go by shifts.
+fn word_after_by_bits<T: BitStore, O: BitOrder, U: BitStore, P: BitOrder>(
     source: &[U],
     begin: usize,
     skip: u8,
@@ -268,7 +268,7 @@ fn word_behind_by_bits<T: BitStore, O: BitOrder, U: BitStore, P: BitOrder>(
 }
 
 /// How many blocks of 64 bits from word `k` on have another block after them, where there are `words` words.
-pub(crate) fn blocks_behind<T: BitStore>(words: usize, k: usize) -> usize
+pub(crate) fn followed_blocks<T: BitStore>(words: usize, k: usize) -> usize
     ensures { (t : ℕ) → t < result → (k + t * (64 / T.BITS)) * T.BITS + 128 ≤ T.BITS * words }
 {
     let each = (64 / T::BITS) as usize;
@@ -324,7 +324,7 @@ fn word_at<T: BitStore, O: BitOrder, U: BitStore, P: BitOrder>(source: &[U], at:
 /// The word of the bits of `source` that begin `t` words of type `T` after index `skip` of word `begin`.
 /// Requires that `skip` is an index of the word, and the row has one bit more.
 #[inline(always)]
-pub(crate) fn word_behind<T: BitStore, O: BitOrder, U: BitStore, P: BitOrder>(
+pub(crate) fn word_after<T: BitStore, O: BitOrder, U: BitStore, P: BitOrder>(
     source: &[U],
     begin: usize,
     skip: u8,
@@ -338,7 +338,7 @@ pub(crate) fn word_behind<T: BitStore, O: BitOrder, U: BitStore, P: BitOrder>(
         (begin * U.BITS + skip + t * T.BITS + T.BITS) }
 {
     if !P::goes_by_shifts() {
-        return word_behind_by_bits::<T, O, U, P>(source, begin, skip, t);
+        return word_after_by_bits::<T, O, U, P>(source, begin, skip, t);
     }
     if U::BITS == T::BITS {
         return word_of_window::<T, O, U, P>(source, begin + t, skip);

@@ -6,7 +6,7 @@ ghost use Rattle.bit_addressing.specs.Row.{put, row_of};
 ghost use Rattle.bit_addressing.specs.Typed.{row};
 
 use crate::bits::chunks::{
-    are_alike, block_at, blocks_behind, word_alike, word_behind, word_of_block, word_of_run,
+    are_alike, block_at, followed_blocks, word_after, word_alike, word_of_block, word_of_run,
 };
 use crate::bits::single::write_part;
 use crate::each_shift::each_shift;
@@ -115,7 +115,7 @@ fn combine_part<F: BitOperator, T: BitStore, O: BitOrder>(
 /// stands as far after index `skip` of word `begin`. Requires that the words are there, and the run lies in
 /// `source`, which has one bit more.
 #[inline(always)]
-fn combine_behind<F: BitOperator, T: BitStore, O: BitOrder, U: BitStore, P: BitOrder>(
+fn combine_after<F: BitOperator, T: BitStore, O: BitOrder, U: BitStore, P: BitOrder>(
     words: &mut [T],
     first: usize,
     last: usize,
@@ -136,12 +136,12 @@ fn combine_behind<F: BitOperator, T: BitStore, O: BitOrder, U: BitStore, P: BitO
     ensures size { length words.new ≡ length words.old }
 {
     for k in first..last {
-        let new = word_behind::<T, O, U, P>(source, begin, skip, k - first);
+        let new = word_after::<T, O, U, P>(source, begin, skip, k - first);
         words[k] = F::apply(words[k], new);
     }
 }
 
-/// Like `combine_behind`, of the 64 bits of `block`, into as many bits from word `k` on. Requires that the words are
+/// Like `combine_after`, of the 64 bits of `block`, into as many bits from word `k` on. Requires that the words are
 /// there.
 fn combine_block<F: BitOperator, T: BitStore, O: BitOrder>(words: &mut [T], k: usize, block: u64)
     requires { k + 64 / T.BITS ≤ length words.old }
@@ -158,7 +158,7 @@ fn combine_block<F: BitOperator, T: BitStore, O: BitOrder>(words: &mut [T], k: u
     }
 }
 
-/// Like `combine_behind`, of `blocks` blocks of 64 bits: each is made once, in the order of the words, and taken
+/// Like `combine_after`, of `blocks` blocks of 64 bits: each is made once, in the order of the words, and taken
 /// apart. Requires that the words are there, and each block has another after it.
 #[inline(always)]
 fn combine_blocks<F: BitOperator, T: BitStore, O: BitOrder, U: BitStore, P: BitOrder>(
@@ -187,7 +187,7 @@ fn combine_blocks<F: BitOperator, T: BitStore, O: BitOrder, U: BitStore, P: BitO
     }
 }
 
-/// Like `combine_behind`, by blocks of 64 bits, as far as they go (docs/SPEED.md, "Rows of words", u64 into u8).
+/// Like `combine_after`, by blocks of 64 bits, as far as they go (docs/SPEED.md, "Rows of words", u64 into u8).
 #[inline(always)]
 fn combine_unlike<F: BitOperator, T: BitStore, O: BitOrder, U: BitStore, P: BitOrder>(
     words: &mut [T],
@@ -210,13 +210,13 @@ fn combine_unlike<F: BitOperator, T: BitStore, O: BitOrder, U: BitStore, P: BitO
     ensures size { length words.new ≡ length words.old }
 {
     let (each, others) = ((64 / T::BITS) as usize, (64 / U::BITS) as usize);
-    let blocks = blocks_behind::<U>(source.len(), begin).min((last - first) / each);
+    let blocks = followed_blocks::<U>(source.len(), begin).min((last - first) / each);
     combine_blocks::<F, T, O, U, P>(words, first, source, begin, skip, blocks);
     let (next, from) = (first + blocks * each, begin + blocks * others);
-    combine_behind::<F, T, O, U, P>(words, next, last, source, from, skip);
+    combine_after::<F, T, O, U, P>(words, next, last, source, from, skip);
 }
 
-/// Like `combine_behind`, of the bits that stand as far after bit `from` of the row. Where that is a word's
+/// Like `combine_after`, of the bits that stand as far after bit `from` of the row. Where that is a word's
 /// first bit no word has to be shifted, so the compiler is shown this case by itself (docs/SPEED.md, "Rows of
 /// words", equal heads).
 fn combine_whole<F: BitOperator, T: BitStore, O: BitOrder, U: BitStore, P: BitOrder>(
@@ -246,15 +246,15 @@ fn combine_whole<F: BitOperator, T: BitStore, O: BitOrder, U: BitStore, P: BitOr
             combine_unlike::<F, T, O, U, P>(words, first, last, source, begin, skip);
         }
     } else if T::BITS == 8 && U::BITS == 8 && P::goes_by_shifts() {
-        each_shift!(skip, by => combine_behind::<F, T, O, U, P>(words, first, last, source, begin, by));
+        each_shift!(skip, by => combine_after::<F, T, O, U, P>(words, first, last, source, begin, by));
     } else if skip == 0 {
-        combine_behind::<F, T, O, U, P>(words, first, last, source, begin, 0);
+        combine_after::<F, T, O, U, P>(words, first, last, source, begin, 0);
     } else {
-        combine_behind::<F, T, O, U, P>(words, first, last, source, begin, skip);
+        combine_after::<F, T, O, U, P>(words, first, last, source, begin, skip);
     }
 }
 
-/// Like `combine_behind`, of words whose bits lie in one order: those of `source` from word `begin` on. Requires that
+/// Like `combine_after`, of words whose bits lie in one order: those of `source` from word `begin` on. Requires that
 /// both kinds of words have one width and order, and that the words are there.
 #[inline(always)]
 fn combine_alike<F: BitOperator, T: BitStore, O: BitOrder, U: BitStore, P: BitOrder>(

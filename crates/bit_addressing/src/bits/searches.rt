@@ -6,7 +6,7 @@ ghost use Rattle.bit_addressing.specs.Row.{IsFirst, IsFirstDifference};
 ghost use Rattle.bit_addressing.specs.Typed.{row};
 
 use crate::bits::chunks::{
-    are_alike, block_at, blocks_behind, read_chunk, word_alike, word_number,
+    are_alike, block_at, followed_blocks, read_chunk, word_alike, word_number,
 };
 use crate::index::{BitEnd, BitIdx};
 use crate::length::Span;
@@ -154,7 +154,7 @@ fn differ_from<T: BitStore, O: BitOrder, U: BitStore, P: BitOrder>(
     let (each, others) = ((64 / T::BITS) as usize, (64 / U::BITS) as usize);
     let i = k * T::BITS as usize + skip as usize;
     let j = l * U::BITS as usize + over as usize;
-    let room = blocks_behind::<T>(a.len(), k).min(blocks_behind::<U>(b.len(), l));
+    let room = followed_blocks::<T>(a.len(), k).min(followed_blocks::<U>(b.len(), l));
     let blocks = room.min(n / 64);
     let start = equal_blocks::<T, O, U, P>(a, k, skip, b, l, over, blocks);
     for t in start..blocks {
@@ -463,7 +463,7 @@ fn blocks_without<T: BitStore, O: BitOrder>(
     let others = if bit { 0 } else { u64::MAX };
     let run = Span::of::<T>(from, upto);
     let each = (64 / T::BITS) as usize;
-    let blocks = blocks_behind::<T>(words.len(), run.first).min((upto - from) / 64);
+    let blocks = followed_blocks::<T>(words.len(), run.first).min((upto - from) / 64);
     for t in 0..blocks {
         if block_at::<O, T, O>(words, run.first + t * each, run.low as u8) != others {
             return t;

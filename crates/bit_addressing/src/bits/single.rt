@@ -64,7 +64,7 @@ pub(crate) fn blend<T: BitStore>(old: T, new: T, mask: T) -> T
 /// and 32 bits go in two steps, of which the compiler makes a faster loop (docs/SPEED.md, "What is not fast",
 /// words of 16 bits). Requires that `count` is above 0 and below `T::BITS`.
 #[inline(always)]
-pub(crate) fn shl_behind<T: BitStore>(word: T, count: u8) -> T
+pub(crate) fn shl_by_rest<T: BitStore>(word: T, count: u8) -> T
     requires some { 0 < count }
     requires within { count < T.BITS }
     ensures low { (p : ℕ) → p < T.BITS - count → has_bit (T.value result) p ≡ false }
@@ -77,9 +77,9 @@ pub(crate) fn shl_behind<T: BitStore>(word: T, count: u8) -> T
     word.shl(T::BITS - 1 - count).shl(1)
 }
 
-/// Like `shl_behind`, downward: after a word that was moved up by `count`.
+/// Like `shl_by_rest`, downward: after a word that was moved up by `count`.
 #[inline(always)]
-pub(crate) fn shr_behind<T: BitStore>(word: T, count: u8) -> T
+pub(crate) fn shr_by_rest<T: BitStore>(word: T, count: u8) -> T
     requires some { 0 < count }
     requires within { count < T.BITS }
     ensures low { (p : ℕ) → p + (T.BITS - count) < T.BITS

@@ -82,7 +82,7 @@ impl<T: BitStore, O: BitOrder> BitVec<T, O> {
     /// ```
     #[tactic(auto, using(bit_slice::proofs::Parts::shown_length))]
     pub fn pop(&mut self) -> Option<bool>
-        ensures answer { MatchOption result (length self.old.list ≡ 0)
+        ensures popped { MatchOption result (length self.old.list ≡ 0)
             (λ bit. self.old.list ≡ self.new.list ++ bit ∷ []) }
         ensures value { result ≡ slice_get self.old.list (length self.old.list - 1) }
         ensures list { self.new.list ≡ take (length self.old.list - 1) self.old.list }
@@ -138,8 +138,8 @@ impl<T: BitStore, O: BitOrder> BitVec<T, O> {
     {
         self.push(bit)?;
         let at = self.head + i;
-        let behind = self.len - 1 - i;
-        insert_bit_in_vec::<T, O>(&mut self.words, at, behind, bit);
+        let tail = self.len - 1 - i;
+        insert_bit_in_vec::<T, O>(&mut self.words, at, tail, bit);
         Ok(())
     }
 
@@ -152,7 +152,7 @@ impl<T: BitStore, O: BitOrder> BitVec<T, O> {
     #[tactic(auto, using(bit_slice::proofs::Parts::shown_length))]
     pub fn remove(&mut self, i: usize) -> bool
         requires { i < length self.old.list }
-        ensures answer { slice_get self.old.list i ≡ Some result }
+        ensures removed { slice_get self.old.list i ≡ Some result }
         ensures list { self.new.list ≡ remove self.old.list i }
         ensures head { self.new.head ≡ self.old.head }
         ensures len { length self.new.list + 1 ≡ length self.old.list }
@@ -176,7 +176,7 @@ impl<T: BitStore, O: BitOrder> BitVec<T, O> {
     #[tactic(auto, using(bit_slice::proofs::Parts::shown_length))]
     pub fn swap_remove(&mut self, i: usize) -> bool
         requires { i < length self.old.list }
-        ensures answer { slice_get self.old.list i ≡ Some result }
+        ensures removed { slice_get self.old.list i ≡ Some result }
         ensures list { self.new.list ≡ swap_remove self.old.list i false }
         ensures head { self.new.head ≡ self.old.head }
         ensures len { length self.new.list + 1 ≡ length self.old.list }

@@ -3,7 +3,7 @@ ghost use Rattle.std.specs.Prelude.{◌≡◌, ◌+◌, ◌-◌, ◌%◌, ◌<�
 ghost use Rattle.bit_addressing.specs.Row.{number_bits, put};
 ghost use Rattle.bit_addressing.specs.declared.length.TheConstants.{MAX_BITS};
 ghost use Rattle.bit_containers.specs.BitVec.{Grew, Shrank, Stayed, RefusesOnly};
-ghost use Rattle.bit_containers.specs.Closures.{AnswersFrom, AnswersAtEach, kept};
+ghost use Rattle.bit_containers.specs.Closures.{ResultsFrom, ResultsAtEach, kept};
 
 use crate::vec::BitVec;
 use crate::vec::collect::with_next;
@@ -27,9 +27,9 @@ impl<T: BitStore, O: BitOrder> BitVec<T, O> {
         ensures cut { n ≤ length self.old.list → OnOk result (self.new.list ≡ take n self.old.list) }
         ensures shrank { n ≤ length self.old.list → Shrank T.BITS self.old self.new n }
         ensures filled { length self.old.list < n
-            → OnOk result ((answers : List Bool) × (last : F)
-            × AnswersFrom F.step f (length self.old.list) answers last
-            × (self.new.list ≡ self.old.list ++ answers) × Grew T.BITS self.old self.new answers) }
+            → OnOk result ((results : List Bool) × (last : F)
+            × ResultsFrom F.step f (length self.old.list) results last
+            × (self.new.list ≡ self.old.list ++ results) × Grew T.BITS self.old self.new results) }
         ensures len { OnOk result (length self.new.list ≡ n) }
         ensures succeeds { n ≤ length self.old.list → IsOk result }
         ensures refusal { RefusesOnly result n self.old self.new }
@@ -53,9 +53,9 @@ impl<T: BitStore, O: BitOrder> BitVec<T, O> {
         ensures cut { n ≤ length self.old.list → OnOk result (self.new.list ≡ take n self.old.list) }
         ensures shrank { n ≤ length self.old.list → Shrank T.BITS self.old self.new n }
         ensures filled { length self.old.list < n
-            → OnOk result ((answers : List Bool)
-            × AnswersFrom F.step f.old (length self.old.list) answers f.new
-            × (self.new.list ≡ self.old.list ++ answers) × Grew T.BITS self.old self.new answers) }
+            → OnOk result ((results : List Bool)
+            × ResultsFrom F.step f.old (length self.old.list) results f.new
+            × (self.new.list ≡ self.old.list ++ results) × Grew T.BITS self.old self.new results) }
         ensures uncalled_shrinking { n ≤ length self.old.list → f.new ≡ f.old }
         ensures uncalled_refused { OnErr result (f.new ≡ f.old) }
         ensures len { OnOk result (length self.new.list ≡ n) }
@@ -97,9 +97,9 @@ impl<T: BitStore, O: BitOrder> BitVec<T, O> {
     /// ```
     pub fn retain<F: FnMut(usize, &bool) -> bool>(&mut self, mut f: F)
         requires { F.IsAlwaysCallable f }
-        ensures list { (answers : List Bool) × (last : F)
-            × AnswersAtEach F.step f 0 self.old.list answers last
-            × (self.new.list ≡ kept self.old.list answers) }
+        ensures list { (results : List Bool) × (last : F)
+            × ResultsAtEach F.step f 0 self.old.list results last
+            × (self.new.list ≡ kept self.old.list results) }
         ensures head { self.new.head ≡ self.old.head }
         ensures capacity { self.new.capacity ≡ self.old.capacity }
     {
@@ -114,8 +114,8 @@ impl<T: BitStore, O: BitOrder> BitVec<T, O> {
     /// ```
     pub fn retain_by<F: FnMut(usize, &bool) -> bool>(&mut self, f: &mut F)
         requires { F.IsAlwaysCallable f.old }
-        ensures list { (answers : List Bool) × AnswersAtEach F.step f.old 0 self.old.list answers f.new
-            × (self.new.list ≡ kept self.old.list answers) }
+        ensures list { (results : List Bool) × ResultsAtEach F.step f.old 0 self.old.list results f.new
+            × (self.new.list ≡ kept self.old.list results) }
         ensures head { self.new.head ≡ self.old.head }
         ensures capacity { self.new.capacity ≡ self.old.capacity }
     {

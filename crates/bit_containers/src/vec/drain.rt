@@ -158,10 +158,10 @@ impl<T: BitStore, O: BitOrder> BitVec<T, O> {
         ensures capacity { self.new.capacity ≡ self.old.capacity }
     {
         let (from, to) = (self.head + end, self.head + start);
-        let behind = self.len - end;
-        move_bits_in_vec::<T, O>(&mut self.words, from, to, behind);
-        cut_words_in_vec::<T, O>(&mut self.words, to + behind);
-        self.len = start + behind;
+        let tail = self.len - end;
+        move_bits_in_vec::<T, O>(&mut self.words, from, to, tail);
+        cut_words_in_vec::<T, O>(&mut self.words, to + tail);
+        self.len = start + tail;
     }
 
     // Like `remove_range`, for as much of the range as lies in the length.

@@ -294,7 +294,7 @@ impl<'a, T: BitStore, O: BitOrder, I: Iterator<Item = bool>> Splice<'a, T, O, I>
     /// then none is left.
     pub fn nth(&mut self, n: usize) -> Option<bool>
         requires { SpliceIsReady self.old }
-        ensures answer { result ≡ slice_get (splice_rest self.old) n }
+        ensures item { result ≡ slice_get (splice_rest self.old) n }
         ensures rest { splice_rest self.new ≡ drop (n + 1) (splice_rest self.old) }
         ensures keeps { SpliceKeeps self.old self.new }
         ensures ready { SpliceIsReady self.new }
@@ -312,7 +312,7 @@ impl<'a, T: BitStore, O: BitOrder, I: Iterator<Item = bool>> Splice<'a, T, O, I>
     /// there are no more than `n`; then none is left.
     pub fn nth_back(&mut self, n: usize) -> Option<bool>
         requires { SpliceIsReady self.old }
-        ensures answer { result ≡ slice_get (reverse (splice_rest self.old)) n }
+        ensures item { result ≡ slice_get (reverse (splice_rest self.old)) n }
         ensures rest { splice_rest self.new ≡ take (length (splice_rest self.old) - (n + 1)) (splice_rest self.old) }
         ensures keeps { SpliceKeeps self.old self.new }
         ensures ready { SpliceIsReady self.new }

@@ -13,10 +13,10 @@ use std::test::Fail;
 /// That a result is the box of these digits, or that memory was refused.
 fn made<T: BitStore, O: BitOrder>(
     rt: &impl Abort,
-    answer: Result<BitBox<T, O>, AllocError>,
+    result: Result<BitBox<T, O>, AllocError>,
     digits: &[u8],
 ) {
-    if let Ok(b) = answer {
+    if let Ok(b) = result {
         holds(rt, &b, digits);
     }
 }

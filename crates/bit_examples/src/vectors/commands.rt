@@ -3,7 +3,7 @@ use bit_containers::{BitOrder, BitStore, BitVec, Command, GrowError, Msb0, Reply
 use std::process::Abort;
 
 /// That a run of these commands goes to its end, and gives these replies.
-fn answers<T: BitStore, O: BitOrder>(
+fn results<T: BitStore, O: BitOrder>(
     rt: &(impl Abort + AllocGlobal),
     v: &mut BitVec<T, O>,
     commands: &[Command],
@@ -47,8 +47,8 @@ fn runs_of_commands(rt: HostRuntime) {
         Reply::Done,
         Reply::Nothing,
     ];
-    answers(&rt, &mut v, &commands, &want);
+    results(&rt, &mut v, &commands, &want);
     assert!(rt; v.is_empty());
-    answers(&rt, &mut v, &[], &[]);
+    results(&rt, &mut v, &[], &[]);
     assert_ne!(rt; GrowError::TooLong, GrowError::OutOfMemory);
 }

@@ -36,7 +36,7 @@ fn copies_of_views(rt: HostRuntime) {
 
 /// No bit at a head of 5, in a word of its own.
 #[test]
-fn empty_behind_a_head(rt: HostRuntime) {
+fn empty_after_a_head(rt: HostRuntime) {
     let words = [0xff];
     let view = BitSlice::<u8, Lsb0>::from_slice(&words).get_range(5..5);
     let mut v = ok(&rt, BitVec::from_bitslice_headed(rt.alloc(), view));

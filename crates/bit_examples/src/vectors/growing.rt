@@ -35,7 +35,7 @@ fn pulled(rt: HostRuntime) {
 }
 
 #[test]
-fn filled_by_answers(rt: HostRuntime) {
+fn filled_by_results(rt: HostRuntime) {
     let mut v = of::<u8, Lsb0>(&rt, b"11");
     ok(&rt, v.resize_with(5, |i| i % 2 == 1));
     holds(&rt, &v, b"11010");
@@ -55,7 +55,7 @@ fn appended(rt: HostRuntime) {
 
 /// A vector with a head that shows a word has room in it.
 #[test]
-fn room_behind_a_head(rt: HostRuntime) {
+fn room_after_a_head(rt: HostRuntime) {
     let words = [0xff];
     let view = BitSlice::<u8, Lsb0>::from_slice(&words);
     let mut v = ok(

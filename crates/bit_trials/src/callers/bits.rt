@@ -18,7 +18,7 @@ pub fn push_then_pop<T: BitStore, O: BitOrder>(
     v: &mut BitVec<T, O>,
     bit: bool,
 ) -> Result<Option<bool>, GrowError>
-    ensures answer { IfOk result (λ r. r ≡ Some bit) }
+    ensures value { IfOk result (λ r. r ≡ Some bit) }
     ensures list { OnOk result (v.new.list ≡ v.old.list) }
 {
     v.push(bit)?;
@@ -64,7 +64,7 @@ pub fn insert_in_the_middle<T: BitStore, O: BitOrder>(v: &mut BitVec<T, O>) -> R
 
 pub fn remove_of_known<T: BitStore, O: BitOrder>(v: &mut BitVec<T, O>) -> bool
     requires { v.old.list ≡ true ∷ false ∷ true ∷ [] }
-    ensures answer { result ≡ false }
+    ensures value { result ≡ false }
     ensures list { v.new.list ≡ true ∷ true ∷ [] }
 {
     v.remove(1)

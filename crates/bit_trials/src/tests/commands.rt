@@ -4,7 +4,7 @@ use bit_containers::{BitOrder, BitStore, BitVec, Command, GrowError, Msb0, Reply
 use std::process::Abort;
 
 /// That a run of these commands goes to its end, and gives these replies.
-fn answers<T: BitStore, O: BitOrder>(
+fn results<T: BitStore, O: BitOrder>(
     rt: &(impl Abort + AllocGlobal),
     v: &mut BitVec<T, O>,
     commands: &[Command],
@@ -46,7 +46,7 @@ fn growing_commands(rt: HostRuntime) {
         Reply::Done,
         Reply::Number(4),
     ];
-    answers(&rt, &mut v, &commands, &want);
+    results(&rt, &mut v, &commands, &want);
     let commands = [
         Command::Push(true),
         Command::Reserve(usize::MAX),
@@ -75,7 +75,7 @@ fn commands_on_words(rt: HostRuntime) {
         Reply::Bit(false),
         Reply::Bit(true),
     ];
-    answers(&rt, &mut v, &commands, &want);
+    results(&rt, &mut v, &commands, &want);
     shows(&rt, &v, &[0x40]);
 }
 
@@ -102,7 +102,7 @@ fn removing_commands(rt: HostRuntime) {
         Reply::Done,
         Reply::Number(0),
     ];
-    answers(&rt, &mut v, &commands, &want);
+    results(&rt, &mut v, &commands, &want);
     let commands = [
         Command::Push(true),
         Command::Splice(0, 1, false, usize::MAX),

@@ -99,7 +99,7 @@ fn replaced(
 }
 
 /// A vector of `len` mixed bits that begin at this head. Its dead bits are mixed too.
-fn behind<T: BitStore, O: BitOrder>(
+fn at_head<T: BitStore, O: BitOrder>(
     rt: &(impl Abort + AllocGlobal),
     seed: u64,
     head: usize,

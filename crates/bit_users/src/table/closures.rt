@@ -2,7 +2,7 @@
 ghost use Rattle.std.specs.Prelude.{◌≡◌, Bool, List, length};
 ghost use Rattle.std.specs.List.{items_where_true};
 ghost use Rattle.bit_slice.specs.Places.{ones_of};
-ghost use Rattle.bit_users.specs.InTurn.{AnswersInTurn};
+ghost use Rattle.bit_users.specs.InTurn.{ResultsInTurn};
 
 use crate::table::NumberSet;
 
@@ -16,8 +16,8 @@ impl NumberSet {
     pub fn retain<F: FnMut(usize) -> bool>(&mut self, mut f: F)
         requires { F.IsAlwaysCallable f }
         ensures bound { length self.new ≡ length self.old }
-        ensures numbers { (answers : List Bool) × (last : F) × AnswersInTurn F.step f (ones_of self.old) answers last
-            × (ones_of self.new ≡ items_where_true answers (ones_of self.old)) }
+        ensures numbers { (results : List Bool) × (last : F) × ResultsInTurn F.step f (ones_of self.old) results last
+            × (ones_of self.new ≡ items_where_true results (ones_of self.old)) }
     {
         self.retain_by(&mut f)
     }
@@ -31,8 +31,8 @@ impl NumberSet {
     pub fn retain_by<F: FnMut(usize) -> bool>(&mut self, f: &mut F)
         requires { F.IsAlwaysCallable f.old }
         ensures bound { length self.new ≡ length self.old }
-        ensures numbers { (answers : List Bool) × AnswersInTurn F.step f.old (ones_of self.old) answers f.new
-            × (ones_of self.new ≡ items_where_true answers (ones_of self.old)) }
+        ensures numbers { (results : List Bool) × ResultsInTurn F.step f.old (ones_of self.old) results f.new
+            × (ones_of self.new ≡ items_where_true results (ones_of self.old)) }
     {
         let mut from = 0;
         while let Some(number) = self.next_from(from) {

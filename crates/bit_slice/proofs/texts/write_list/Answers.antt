@@ -24,7 +24,7 @@ loop-t-preserved g c flush =
     let size = c.len.ensures.list in
     let next : 1 + t * 64 + 64 ≡ 1 + (t + 1) * 64 = omega arith in
     has_written_styled_of_eq _ _ _ _ _
-    (spaced_runs list 1 (1 + t * 64) (1 + t * 64 + 64) (omega arith) (omega arith) (omega (arith, c.loop-t-test.true, c.loop-t.auto.t-end, c.len-behind.ensures.list)) ∙ ap (λ n. spaced (slice_range list 1 n)) next)
+    (spaced_runs list 1 (1 + t * 64) (1 + t * 64 + 64) (omega arith) (omega arith) (omega (arith, c.loop-t-test.true, c.loop-t.auto.t-end, c.len-more.ensures.list)) ∙ ap (λ n. spaced (slice_range list 1 n)) next)
     (has_written_styled_append _ _ _ _ _ _ so_far more)
 
 pub returns : goal.returns
@@ -40,5 +40,5 @@ returns g c flush ok =
     has_written_styled_of_eq _ _ _ _ _
     (text_whole list c.if-bit.write_str.now (1 + c.loop-t.t * 64) _ _ (omega (arith, c.len.ensures.list, c.if-len-eq0.false)) digit
     (omega (arith, c.loop-t-test.false, c.loop-t.auto.t-end)) (omega arith)
-    (omega (arith, c.loop-t-test.false, c.loop-t.auto.t-end)) (omega (arith, c.len.ensures.list, c.len-behind.ensures.list, c.if-len-eq0.false)))
+    (omega (arith, c.loop-t-test.false, c.loop-t.auto.t-end)) (omega (arith, c.len.ensures.list, c.len-more.ensures.list, c.if-len-eq0.false)))
     (has_written_styled_append _ _ _ _ _ _ (has_written_styled_append _ _ _ _ _ _ (has_written_styled_append _ _ _ _ _ _ (has_written_styled_append _ _ _ _ _ _ start first) middle) rest) end)

@@ -3,7 +3,7 @@ ghost use Rattle.std.specs.Prelude.{◌<◌};
 
 use crate::tests::ok;
 use crate::tests::orders::{Scramble, Xor4};
-use crate::tests::sweeps::{Case, behind, replaced, same, shows};
+use crate::tests::sweeps::{Case, at_head, replaced, same, shows};
 use bit_containers::{BitOrder, BitStore, Lsb0, Msb0};
 use std::process::Abort;
 
@@ -15,12 +15,12 @@ fn joined<T: BitStore, O: BitOrder>(rt: &(impl Abort + AllocGlobal), head: usize
     requires len { len < 18 }
 {
     for bit in [false, true] {
-        let Case { mut v, list, row } = behind::<T, O>(rt, SEED, head, len);
+        let Case { mut v, list, row } = at_head::<T, O>(rt, SEED, head, len);
         ok(rt, v.push(bit));
         let wanted = replaced(rt, &list, len, len, &[bit]);
         assert!(rt; shows(rt, &v, head, &wanted, &row));
         for at in 0..len + 1 {
-            let Case { mut v, list, .. } = behind::<T, O>(rt, SEED, head, len);
+            let Case { mut v, list, .. } = at_head::<T, O>(rt, SEED, head, len);
             assert!(rt; at <= v.len());
             ok(rt, v.insert(at, bit));
             let wanted = replaced(rt, &list, at, at, &[bit]);
@@ -34,19 +34,19 @@ fn taken<T: BitStore, O: BitOrder>(rt: &(impl Abort + AllocGlobal), head: usize,
     requires head { head < 8 }
     requires len { len < 18 }
 {
-    let Case { mut v, list, row } = behind::<T, O>(rt, SEED, head, len);
+    let Case { mut v, list, row } = at_head::<T, O>(rt, SEED, head, len);
     let last = list.last().copied();
     assert!(rt; v.pop() == last);
     let front = len.saturating_sub(1);
     let wanted = replaced(rt, &list, front, len, &[]);
     assert!(rt; shows(rt, &v, head, &wanted, &row));
     for at in 0..len {
-        let Case { mut v, list, .. } = behind::<T, O>(rt, SEED, head, len);
+        let Case { mut v, list, .. } = at_head::<T, O>(rt, SEED, head, len);
         assert!(rt; at < v.len());
         assert!(rt; Some(v.remove(at)) == list.get(at).copied());
         let wanted = replaced(rt, &list, at, at + 1, &[]);
         assert!(rt; same(&v, head, &wanted));
-        let Case { mut v, list, .. } = behind::<T, O>(rt, SEED, head, len);
+        let Case { mut v, list, .. } = at_head::<T, O>(rt, SEED, head, len);
         assert!(rt; at < v.len());
         assert!(rt; Some(v.swap_remove(at)) == list.get(at).copied());
         let wanted = replaced(rt, &list, at, at + 1, &[last.unwrap_or(false)]);
@@ -61,13 +61,13 @@ fn cut<T: BitStore, O: BitOrder>(rt: &(impl Abort + AllocGlobal), head: usize, l
     requires len { len < 18 }
 {
     for n in 0..len + 3 {
-        let Case { mut v, list, row } = behind::<T, O>(rt, SEED, head, len);
+        let Case { mut v, list, row } = at_head::<T, O>(rt, SEED, head, len);
         let room = v.capacity();
         v.truncate(n);
         let wanted = replaced(rt, &list, n, len, &[]);
         assert!(rt; shows(rt, &v, head, &wanted, &row) && v.capacity() == room);
     }
-    let Case { mut v, row, .. } = behind::<T, O>(rt, SEED, head, len);
+    let Case { mut v, row, .. } = at_head::<T, O>(rt, SEED, head, len);
     v.clear();
     assert!(rt; shows(rt, &v, head, &[], &row) && v.is_empty());
 }
@@ -77,7 +77,7 @@ fn written<T: BitStore, O: BitOrder>(rt: &(impl Abort + AllocGlobal), head: usiz
     requires head { head < 8 }
     requires len { len < 18 }
 {
-    let Case { mut v, list, row } = behind::<T, O>(rt, SEED, head, len);
+    let Case { mut v, list, row } = at_head::<T, O>(rt, SEED, head, len);
     let mut now = list;
     for at in 0..len {
         for bit in [true, false] {
@@ -100,7 +100,7 @@ fn exchanged<T: BitStore, O: BitOrder>(rt: &(impl Abort + AllocGlobal), head: us
 {
     for i in 0..len {
         for j in 0..len {
-            let Case { mut v, list, row } = behind::<T, O>(rt, SEED, head, len);
+            let Case { mut v, list, row } = at_head::<T, O>(rt, SEED, head, len);
             assert!(rt; i < v.len() && j < v.len());
             v.swap(i, j);
             let (first, second) = (list.get(i).copied(), list.get(j).copied());
@@ -124,7 +124,7 @@ fn edited<T: BitStore, O: BitOrder>(rt: &(impl Abort + AllocGlobal), head: usize
 }
 
 #[test]
-fn edits_behind_each_head(rt: HostRuntime) {
+fn edits_at_each_head(rt: HostRuntime) {
     for head in 0..8usize {
         for len in 0..18usize {
             edited::<u8, Lsb0>(&rt, head, len);

@@ -3,7 +3,7 @@ ghost use Rattle.std.specs.Prelude.{◌<◌};
 
 use crate::tests::ok;
 use crate::tests::orders::{Scramble, Xor4};
-use crate::tests::sweeps::{Case, behind, part, replaced, row_of, shows, words_of};
+use crate::tests::sweeps::{Case, at_head, part, replaced, row_of, shows, words_of};
 use bit_containers::{BitOrder, BitStore, Lsb0, Msb0};
 use std::process::Abort;
 
@@ -17,9 +17,9 @@ fn extended<T: BitStore, O: BitOrder>(rt: &(impl Abort + AllocGlobal), head: usi
     requires len { len < 18 }
 {
     for more in 0..18usize {
-        let mut other = behind::<u16, Msb0>(rt, OTHER, (5 * head + more) % 16, more);
+        let mut other = at_head::<u16, Msb0>(rt, OTHER, (5 * head + more) % 16, more);
         for way in 0..4u8 {
-            let Case { mut v, list, row } = behind::<T, O>(rt, SEED, head, len);
+            let Case { mut v, list, row } = at_head::<T, O>(rt, SEED, head, len);
             match way {
                 0 => ok(rt, v.extend(part(rt, &other.list, 0, more))),
                 1 => ok(rt, v.extend_from_bitslice(other.v.as_bitslice())),
@@ -46,18 +46,18 @@ fn resized<T: BitStore, O: BitOrder>(rt: &(impl Abort + AllocGlobal), head: usiz
             ok(rt, thirds.push(i % 3 == 0));
             ok(rt, ones.push(true));
         }
-        let Case { mut v, list, row } = behind::<T, O>(rt, SEED, head, len);
+        let Case { mut v, list, row } = at_head::<T, O>(rt, SEED, head, len);
         let (mut next, mut ordered) = (len, true);
-        let answer = v.resize_with(n, |i| {
+        let result = v.resize_with(n, |i| {
             ordered = ordered && i == next;
             next = next.wrapping_add(1);
             i % 3 == 0
         });
-        ok(rt, answer);
+        ok(rt, result);
         assert!(rt; ordered && next == len.max(n));
         let wanted = replaced(rt, &list, n, len, &thirds);
         assert!(rt; shows(rt, &v, head, &wanted, &row));
-        let Case { mut v, list, row } = behind::<T, O>(rt, SEED, head, len);
+        let Case { mut v, list, row } = at_head::<T, O>(rt, SEED, head, len);
         ok(rt, v.resize(n, true));
         let wanted = replaced(rt, &list, n, len, &ones);
         assert!(rt; shows(rt, &v, head, &wanted, &row));
@@ -76,11 +76,11 @@ fn extended_by_words<T: BitStore, O: BitOrder>(
     let mut words = words_of::<T>(rt, OTHER);
     for _ in 0..5u8 {
         let more = row_of::<T, O>(rt, words.as_slice());
-        let Case { mut v, list, row } = behind::<T, O>(rt, SEED, head, len);
+        let Case { mut v, list, row } = at_head::<T, O>(rt, SEED, head, len);
         ok(rt, v.extend_from_raw_slice(words.as_slice()));
         let wanted = replaced(rt, &list, len, len, &more);
         assert!(rt; shows(rt, &v, head, &wanted, &row));
-        let Case { mut v, row, .. } = behind::<T, O>(rt, SEED, head, len);
+        let Case { mut v, row, .. } = at_head::<T, O>(rt, SEED, head, len);
         ok(
             rt,
             v.extend_words(ok(rt, Vec::from_slice(rt.alloc(), words.as_slice()))),
@@ -101,7 +101,7 @@ fn extended_within<T: BitStore, O: BitOrder>(
 {
     for from in 0..len + 1 {
         for upto in from..len + 1 {
-            let Case { mut v, list, row } = behind::<T, O>(rt, SEED, head, len);
+            let Case { mut v, list, row } = at_head::<T, O>(rt, SEED, head, len);
             assert!(rt; upto <= v.len());
             ok(rt, v.extend_from_within(from..upto));
             let more = part(rt, &list, from, upto);
@@ -117,7 +117,7 @@ fn roomy<T: BitStore, O: BitOrder>(rt: &(impl Abort + AllocGlobal), head: usize,
     requires len { len < 18 }
 {
     for more in 0..40usize {
-        let Case { mut v, list, row } = behind::<T, O>(rt, SEED, head, len);
+        let Case { mut v, list, row } = at_head::<T, O>(rt, SEED, head, len);
         ok(rt, v.reserve(more));
         assert!(rt; v.capacity() >= len + more);
         ok(rt, v.reserve_exact(2 * more));
@@ -142,7 +142,7 @@ fn grown<T: BitStore, O: BitOrder>(rt: &(impl Abort + AllocGlobal), head: usize,
 }
 
 #[test]
-fn growth_behind_each_head(rt: HostRuntime) {
+fn growth_at_each_head(rt: HostRuntime) {
     for head in 0..8usize {
         for len in 0..18usize {
             grown::<u8, Lsb0>(&rt, head, len);

@@ -3,7 +3,7 @@ ghost use Rattle.std.specs.Prelude.{◌<◌};
 
 use crate::tests::ok;
 use crate::tests::orders::{Scramble, Xor4};
-use crate::tests::sweeps::{Case, behind, part, row_of, shows, words_of};
+use crate::tests::sweeps::{Case, at_head, part, row_of, shows, words_of};
 use bit_containers::array::BitArray;
 use bit_containers::{BitOrder, BitStore, BitVec, Lsb0, Msb0};
 use std::process::Abort;
@@ -15,7 +15,7 @@ fn copied<T: BitStore, O: BitOrder>(rt: &(impl Abort + AllocGlobal), head: usize
     requires head { head < 8 }
     requires len { len < 18 }
 {
-    let Case { v, list, row } = behind::<T, O>(rt, SEED, head, len);
+    let Case { v, list, row } = at_head::<T, O>(rt, SEED, head, len);
     let bits = part(rt, &list, 0, len);
     for copy in [
         ok(rt, v.clone()),
@@ -86,7 +86,7 @@ fn of_arrays<O: BitOrder>(rt: &(impl Abort + AllocGlobal)) {
 }
 
 #[test]
-fn copies_behind_each_head(rt: HostRuntime) {
+fn copies_at_each_head(rt: HostRuntime) {
     for len in 0..18usize {
         for head in 0..8usize {
             copied::<u8, Lsb0>(&rt, head, len);

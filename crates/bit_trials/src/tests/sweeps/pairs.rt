@@ -3,7 +3,7 @@ ghost use Rattle.std.specs.Prelude.{◌<◌};
 
 use crate::tests::ok;
 use crate::tests::orders::{Scramble, Xor4};
-use crate::tests::sweeps::{Case, behind, part, replaced, shows};
+use crate::tests::sweeps::{Case, at_head, part, replaced, shows};
 use bit_containers::{BitOrder, BitStore, BitVec, Lsb0, Msb0};
 use std::cmp::Ordering;
 use std::hash::{DefaultHasher, Hash, Hasher};
@@ -47,8 +47,8 @@ fn operated<T: BitStore, O: BitOrder>(rt: &(impl Abort + AllocGlobal), head: usi
         for by in [By::And, By::Or, By::Xor] {
             let other = (3 * head + size) % 8;
             for way in 0..3u8 {
-                let Case { mut v, list, row } = behind::<T, O>(rt, SEED, head, len);
-                let right = behind::<T, O>(rt, OTHER, other, size);
+                let Case { mut v, list, row } = at_head::<T, O>(rt, SEED, head, len);
+                let right = at_head::<T, O>(rt, OTHER, other, size);
                 let wanted = combined(rt, &list, &right.list, by);
                 let view = right.v.as_bitslice();
                 match (way, by) {
@@ -74,9 +74,9 @@ fn crossed<T: BitStore, O: BitOrder>(rt: &(impl Abort + AllocGlobal), head: usiz
     requires len { len < 18 }
 {
     for size in 0..18usize {
-        let right = behind::<u16, Msb0>(rt, OTHER, (5 * head + size) % 16, size);
+        let right = at_head::<u16, Msb0>(rt, OTHER, (5 * head + size) % 16, size);
         for by in [By::And, By::Or, By::Xor] {
-            let Case { mut v, list, row } = behind::<T, O>(rt, SEED, head, len);
+            let Case { mut v, list, row } = at_head::<T, O>(rt, SEED, head, len);
             match by {
                 By::And => v.and_bits(right.v.as_bitslice()),
                 By::Or => v.or_bits(right.v.as_bitslice()),
@@ -85,7 +85,7 @@ fn crossed<T: BitStore, O: BitOrder>(rt: &(impl Abort + AllocGlobal), head: usiz
             let wanted = combined(rt, &list, &right.list, by);
             assert!(rt; shows(rt, &v, head, &wanted, &row));
         }
-        let Case { mut v, list, row } = behind::<T, O>(rt, SEED, head, len);
+        let Case { mut v, list, row } = at_head::<T, O>(rt, SEED, head, len);
         let order = order_of(&list, &right.list);
         assert!(rt; v.cmp_bits(right.v.as_bitslice()) == order);
         assert!(rt; v.eq_bits(right.v.as_bitslice()) == (order == Ordering::Equal));
@@ -145,9 +145,9 @@ fn ordered<T: BitStore, O: BitOrder>(rt: &(impl Abort + AllocGlobal), head: usiz
     requires head { head < 8 }
     requires len { len < 18 }
 {
-    let a = behind::<T, O>(rt, SEED, head, len);
+    let a = at_head::<T, O>(rt, SEED, head, len);
     for size in 0..18usize {
-        let b = behind::<T, O>(rt, OTHER, (3 * head + size) % 8, size);
+        let b = at_head::<T, O>(rt, OTHER, (3 * head + size) % 8, size);
         assert!(rt;
             compared(&a.v, &b.v, &a.list, &b.list) && compared(&b.v, &a.v, &b.list, &a.list)
         );
@@ -174,7 +174,7 @@ fn ordered<T: BitStore, O: BitOrder>(rt: &(impl Abort + AllocGlobal), head: usiz
 }
 
 #[test]
-fn operators_behind_each_head(rt: HostRuntime) {
+fn operators_at_each_head(rt: HostRuntime) {
     for head in 0..8usize {
         for len in 0..18usize {
             operated::<u8, Lsb0>(&rt, head, len);
@@ -188,7 +188,7 @@ fn operators_behind_each_head(rt: HostRuntime) {
 }
 
 #[test]
-fn orders_behind_each_head(rt: HostRuntime) {
+fn orders_at_each_head(rt: HostRuntime) {
     for head in 0..8usize {
         for len in 0..18usize {
             ordered::<u8, Lsb0>(&rt, head, len);

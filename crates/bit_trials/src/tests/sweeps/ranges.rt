@@ -3,7 +3,7 @@ ghost use Rattle.std.specs.Prelude.{◌<◌, ◌≤◌, length};
 
 use crate::tests::ok;
 use crate::tests::orders::{Scramble, Xor4};
-use crate::tests::sweeps::{Case, again, behind, part, replaced, same, shows};
+use crate::tests::sweeps::{Case, again, at_head, part, replaced, same, shows};
 use bit_containers::{BitOrder, BitStore, BitVec, Lsb0, Msb0};
 use std::process::Abort;
 
@@ -76,7 +76,7 @@ fn drained<T: BitStore, O: BitOrder>(rt: &(impl Abort + AllocGlobal), head: usiz
     requires head { head < 8 }
     requires len { len < 18 }
 {
-    let Case { v: first, list, .. } = behind::<T, O>(rt, SEED, head, len);
+    let Case { v: first, list, .. } = at_head::<T, O>(rt, SEED, head, len);
     for from in 0..len + 1 {
         for upto in from..len + 1 {
             let bits = part(rt, &list, from, upto);
@@ -98,9 +98,9 @@ fn spliced<T: BitStore, O: BitOrder>(rt: &(impl Abort + AllocGlobal), head: usiz
     requires head { head < 8 }
     requires len { len < 18 }
 {
-    let Case { v: first, list, .. } = behind::<T, O>(rt, SEED, head, len);
+    let Case { v: first, list, .. } = at_head::<T, O>(rt, SEED, head, len);
     for more in [0usize, 1, 2, 7, 17] {
-        let other = behind::<u16, Msb0>(rt, OTHER, head, more).list;
+        let other = at_head::<u16, Msb0>(rt, OTHER, head, more).list;
         for from in 0..len + 1 {
             for upto in from..len + 1 {
                 let mut v = again(rt, &first);
@@ -119,7 +119,7 @@ fn split<T: BitStore, O: BitOrder>(rt: &(impl Abort + AllocGlobal), head: usize,
     requires len { len < 18 }
 {
     for at in 0..len + 1 {
-        let Case { mut v, list, row } = behind::<T, O>(rt, SEED, head, len);
+        let Case { mut v, list, row } = at_head::<T, O>(rt, SEED, head, len);
         assert!(rt; at <= v.len());
         let rest = ok(rt, v.split_off(at));
         let wanted = part(rt, &list, at, len);
@@ -134,7 +134,7 @@ fn moved<T: BitStore, O: BitOrder>(rt: &(impl Abort + AllocGlobal), head: usize,
     requires head { head < 8 }
     requires len { len < 18 }
 {
-    let Case { v: first, list, .. } = behind::<T, O>(rt, SEED, head, len);
+    let Case { v: first, list, .. } = at_head::<T, O>(rt, SEED, head, len);
     for from in 0..len + 1 {
         for upto in from..len + 1 {
             let bits = part(rt, &list, from, upto);
@@ -162,7 +162,7 @@ fn retained<T: BitStore, O: BitOrder>(rt: &(impl Abort + AllocGlobal), head: usi
         0x0000_ff0f,
         0x9249_2492,
     ] {
-        let Case { mut v, list, .. } = behind::<T, O>(rt, SEED, head, len);
+        let Case { mut v, list, .. } = at_head::<T, O>(rt, SEED, head, len);
         let mut wanted = Vec::new(rt.alloc());
         for (i, bit) in list.iter().enumerate() {
             if *bit == (pattern.wrapping_shr((i % 32) as u32) % 2 == 1) {
@@ -180,7 +180,7 @@ fn retained<T: BitStore, O: BitOrder>(rt: &(impl Abort + AllocGlobal), head: usi
 }
 
 #[test]
-fn ranges_behind_each_head(rt: HostRuntime) {
+fn ranges_at_each_head(rt: HostRuntime) {
     for head in 0..8usize {
         for len in 0..18usize {
             drained::<u8, Lsb0>(&rt, head, len);
@@ -196,7 +196,7 @@ fn ranges_behind_each_head(rt: HostRuntime) {
 }
 
 #[test]
-fn moves_behind_each_head(rt: HostRuntime) {
+fn moves_at_each_head(rt: HostRuntime) {
     for head in 0..8usize {
         for len in 0..18usize {
             moved::<u8, Lsb0>(&rt, head, len);

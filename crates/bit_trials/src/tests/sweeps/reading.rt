@@ -4,7 +4,7 @@ ghost use Rattle.std.specs.Prelude.{◌<◌};
 use crate::tests::ok;
 use crate::tests::orders::{Scramble, Xor4};
 use crate::tests::radix::{In, Radix};
-use crate::tests::sweeps::{Case, behind, part};
+use crate::tests::sweeps::{Case, at_head, part};
 use bit_containers::{BitOrder, BitStore, BitVec, Lsb0, Msb0};
 use std::process::Abort;
 
@@ -43,7 +43,7 @@ fn passed_over<T: BitStore, O: BitOrder>(rt: &(impl Abort + AllocGlobal), head: 
 {
     for front in 0..len + 2 {
         for back in 0..len + 2 {
-            let Case { v, list, .. } = behind::<T, O>(rt, SEED, head, len);
+            let Case { v, list, .. } = at_head::<T, O>(rt, SEED, head, len);
             let rest = part(rt, &list, front + 1, len);
             let first = list.get(front).copied();
             let at = rest.len().checked_sub(back + 1);
@@ -68,7 +68,7 @@ fn parts<T: BitStore, O: BitOrder>(rt: &(impl Abort + AllocGlobal), head: usize,
     requires head { head < 8 }
     requires len { len < 18 }
 {
-    let Case { v, list, .. } = behind::<T, O>(rt, SEED, head, len);
+    let Case { v, list, .. } = at_head::<T, O>(rt, SEED, head, len);
     assert!(rt; told(&v, &list));
     for from in 0..len + 1 {
         for upto in from..len + 1 {
@@ -115,7 +115,7 @@ fn written<T: BitStore, O: BitOrder>(rt: &(impl Abort + AllocGlobal), head: usiz
     requires head { head < 8 }
     requires len { len < 18 }
 {
-    let Case { v, list, .. } = behind::<T, O>(rt, SEED, head, len);
+    let Case { v, list, .. } = at_head::<T, O>(rt, SEED, head, len);
     let mut wanted = String::new(rt.alloc());
     ok(rt, wanted.push_str("["));
     for (i, bit) in list.iter().enumerate() {
@@ -139,7 +139,7 @@ fn written<T: BitStore, O: BitOrder>(rt: &(impl Abort + AllocGlobal), head: usiz
 }
 
 #[test]
-fn reading_behind_each_head(rt: HostRuntime) {
+fn reading_at_each_head(rt: HostRuntime) {
     for head in 0..8usize {
         for len in 0..18usize {
             parts::<u8, Lsb0>(&rt, head, len);

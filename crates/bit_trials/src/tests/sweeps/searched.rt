@@ -26,12 +26,12 @@ fn found<O: BitOrder>(rt: &impl Abort, head: usize, len: usize, bit: bool)
         if view[back] == bit {
             last = Some(back);
         }
-        let answer = if bit {
+        let result = if bit {
             view.next_one(at)
         } else {
             view.next_zero(at)
         };
-        assert_eq!(rt; answer, next);
+        assert_eq!(rt; result, next);
     }
     let ends = if bit {
         (view.first_one(), view.last_one())

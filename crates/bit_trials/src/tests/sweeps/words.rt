@@ -3,7 +3,7 @@ ghost use Rattle.std.specs.Prelude.{◌<◌};
 
 use crate::tests::ok;
 use crate::tests::orders::{Scramble, Xor4};
-use crate::tests::sweeps::{Case, behind, part, row_of, shows};
+use crate::tests::sweeps::{Case, at_head, part, row_of, shows};
 use bit_containers::{BitOrder, BitStore, BitVec, IntoBitVec, Lsb0, Msb0};
 use std::process::Abort;
 
@@ -16,7 +16,7 @@ fn flipped<T: BitStore, O: BitOrder>(rt: &(impl Abort + AllocGlobal), head: usiz
     requires head { head < 8 }
     requires len { len < 18 }
 {
-    let Case { mut v, list, row } = behind::<T, O>(rt, SEED, head, len);
+    let Case { mut v, list, row } = at_head::<T, O>(rt, SEED, head, len);
     let mut other = Vec::new(rt.alloc());
     for bit in &row {
         ok(rt, other.push(!*bit));
@@ -34,7 +34,7 @@ fn filled<T: BitStore, O: BitOrder>(rt: &(impl Abort + AllocGlobal), head: usize
     requires len { len < 18 }
 {
     for bit in [true, false] {
-        let Case { mut v, list, row } = behind::<T, O>(rt, SEED, head, len);
+        let Case { mut v, list, row } = at_head::<T, O>(rt, SEED, head, len);
         let mut all = Vec::new(rt.alloc());
         for _ in &row {
             ok(rt, all.push(bit));
@@ -60,7 +60,7 @@ fn aligned<T: BitStore, O: BitOrder>(rt: &(impl Abort + AllocGlobal), head: usiz
     requires head { head < 8 }
     requires len { len < 18 }
 {
-    let Case { mut v, list, row } = behind::<T, O>(rt, SEED, head, len);
+    let Case { mut v, list, row } = at_head::<T, O>(rt, SEED, head, len);
     v.force_align();
     assert!(rt; shows(rt, &v, 0, &list, &row));
     v.set_uninitialized(false);
@@ -74,11 +74,11 @@ fn measured<T: BitStore, O: BitOrder>(rt: &(impl Abort + AllocGlobal), head: usi
     requires head { head < 8 }
     requires len { len < 18 }
 {
-    let Case { row, .. } = behind::<T, O>(rt, SEED, head, len);
+    let Case { row, .. } = at_head::<T, O>(rt, SEED, head, len);
     assert!(rt; row.len() < 100);
     for n in 0..row.len() + 1 {
         if head + n <= row.len() {
-            let Case { mut v, row, .. } = behind::<T, O>(rt, SEED, head, len);
+            let Case { mut v, row, .. } = at_head::<T, O>(rt, SEED, head, len);
             let words = v.as_raw_slice().len();
             assert!(rt; v.head() == head && words < 100);
             assert!(rt; head + n <= T::BITS as usize * words);
@@ -101,10 +101,10 @@ fn stamped<T: BitStore, O: BitOrder>(rt: &(impl Abort + AllocGlobal), head: usiz
     }
     let all = row_of::<T, O>(rt, words.as_slice());
     let list = part(rt, &all, head, head + len);
-    let mut v = behind::<T, O>(rt, SEED, head, len).v;
+    let mut v = at_head::<T, O>(rt, SEED, head, len).v;
     v.set_elements(word);
     assert!(rt; shows(rt, &v, head, &list, &all));
-    let mut v = behind::<T, O>(rt, SEED, head, len).v;
+    let mut v = at_head::<T, O>(rt, SEED, head, len).v;
     for slot in v.as_raw_mut_slice() {
         *slot = word;
     }
@@ -116,7 +116,7 @@ fn given_up<T: BitStore, O: BitOrder>(rt: &(impl Abort + AllocGlobal), head: usi
     requires head { head < 8 }
     requires len { len < 18 }
 {
-    let Case { v, list, row } = behind::<T, O>(rt, SEED, head, len);
+    let Case { v, list, row } = at_head::<T, O>(rt, SEED, head, len);
     let boxed = ok(rt, v.into_boxed_bitslice());
     assert!(rt; boxed.head() == head && boxed.len() == len);
     let v = ok(rt, boxed.into_bitvec());
@@ -141,7 +141,7 @@ fn worked<T: BitStore, O: BitOrder>(rt: &(impl Abort + AllocGlobal), head: usize
 }
 
 #[test]
-fn words_behind_each_head(rt: HostRuntime) {
+fn words_at_each_head(rt: HostRuntime) {
     for head in 0..8usize {
         for len in 0..18usize {
             worked::<u8, Lsb0>(&rt, head, len);

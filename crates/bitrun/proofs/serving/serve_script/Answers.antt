@@ -5,7 +5,7 @@ use Rattle.std.specs.Io.KnownBytes.{Appends, Consumes}
 use Rattle.bitrun.specs.declared.replying.Ending.TheVariants.{ReadFailed}
 use Rattle.bitrun.specs.Script.{ending_text, with_line_feed}
 use Rattle.bitrun.specs.Served.{IsServed}
-use Rattle.bitrun.proofs.Written.{appends_none, appends_more, going_start, read_start, served_cut, served_here, served_within, concluded, going_more, read_more, read_within, end_apart, end_answered}
+use Rattle.bitrun.proofs.Written.{appends_none, appends_more, going_start, read_start, served_cut, served_here, served_within, concluded, going_more, read_more, read_within, end_apart, end_of_result}
 use Rattle.bitrun.proofs.serving.serve_script.Goals as goal
 
 pub loop-init : goal.loop-init
@@ -49,7 +49,7 @@ returns-then-count-eq0-clause-served g c =
 
 pub returns-then-count-eq0-clause-read : goal.returns-then-count-eq0-clause-read
 returns-then-count-eq0-clause-read g c = λ ready short.
-    end_answered c.conclude-then-count-eq0.result c.finish-ending.result c.conclude-then-count-eq0.ensures.ending
+    end_of_result c.conclude-then-count-eq0.result c.finish-ending.result c.conclude-then-count-eq0.ensures.ending
     (end_apart c.finish-ending.result _ _ _ c.finish-ending.ensures.2)
 
 pub returns-then-count-total-clause-served : goal.returns-then-count-total-clause-served

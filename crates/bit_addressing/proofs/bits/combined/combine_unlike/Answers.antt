@@ -27,14 +27,14 @@ returns-clause-bits g c =
     let blocks = c.min-blocks.result in
     let each : ℕ = 64 / c.BITS.result in
     let next : ℕ = first + blocks * each in
-    let behind : ℕ = begin + blocks * (64 / c.BITS-2.result) in
+    let beyond : ℕ = begin + blocks * (64 / c.BITS-2.result) in
     let at : ℕ = first * w in
     let from : ℕ = begin * u + skip in
     let p : ℕ = at + blocks * 64 in
     let a : ℕ = from + blocks * 64 in
     let upto : ℕ = from + (last - first) * w in
     let begins : next * w ≡ p = (let d = stands w c.BITS.result first 0 blocks g.met.T.BitStore.width c.BITS.ensures in omega arith) in
-    let stood : behind * u + skip ≡ a = stands u c.BITS-2.result begin skip blocks g.met.U.BitStore.width c.BITS-2.ensures in
+    let stood : beyond * u + skip ≡ a = stands u c.BITS-2.result begin skip blocks g.met.U.BitStore.width c.BITS-2.ensures in
     let few : blocks ≤ (last - first) / each = omega arith in
     let most = mul_mono blocks ((last - first) / each) each few in
     let split = div-add-mod' (last - first) each in
@@ -46,11 +46,11 @@ returns-clause-bits g c =
     let long : length zs ≡ u * length source = length_row g.U.BitStore.value g.P.BitOrder.place u source in
     let fit = mul_mono last (length words) w c.requires.target in
     let turned = mul_comm (length words) w in
-    let one : List Bool = zip2 f (slice_range cur (next * w) (last * w)) (slice_range zs (behind * u + skip) (behind * u + skip + (last - next) * w)) in
+    let one : List Bool = zip2 f (slice_range cur (next * w) (last * w)) (slice_range zs (beyond * u + skip) (beyond * u + skip + (last - next) * w)) in
     let is : one ≡ zip2 f (slice_range cur p (last * w)) (slice_range zs a upto) =
-    ap (λ n. zip2 f (slice_range cur n (last * w)) (slice_range zs (behind * u + skip) (behind * u + skip + (last - next) * w))) begins
+    ap (λ n. zip2 f (slice_range cur n (last * w)) (slice_range zs (beyond * u + skip) (beyond * u + skip + (last - next) * w))) begins
     ∙ ap (λ n. zip2 f (slice_range cur p (last * w)) (slice_range zs n (n + (last - next) * w))) stood
     ∙ ap (λ n. zip2 f (slice_range cur p (last * w)) (slice_range zs a n)) end in
-    c.combine_behind.ensures.bits
+    c.combine_after.ensures.bits
     ∙ ap (λ d. put cur d one) begins
     ∙ combined_next f old cur zs one at p (last * w) from a upto (omega arith) (omega arith) (omega arith) (omega arith) (omega arith) (omega arith) c.combine_blocks.ensures.bits is

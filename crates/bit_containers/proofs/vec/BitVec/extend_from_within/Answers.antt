@@ -48,11 +48,11 @@ returns-clause-list g c =
     let start : from ≡ g.R.RangeExt.start_of c.args.range = c.normalize-range.ensures.start in
     let o = c.requires.lies.0 in
     let h = c.requires.lies.1 in
-    let behind : from + (upto - from) ≡ upto = omega arith in
+    let beyond : from + (upto - from) ≡ upto = omega arith in
     ap (λ r. slice_range r i.head (i.head + (i.len + (upto - from)))) (c.move_bits_in_vec.ensures.bits ∙ ap (λ r. moved r (i.head + from) (i.head + i.len) (upto - from)) c.in_ok-resize_words_in_vec.ensures.bits)
     ∙ part_joined w bits i.head i.len from (upto - from) (width_positive w g.met.T.BitStore.width) (omega arith) fits
     ∙ ap (λ v. v.list ++ slice_range v.list from (from + (upto - from))) c.self.view_is
-    ∙ ap (λ n. now.list ++ slice_range now.list from n) (behind ∙ end) ∙ ap (λ n. now.list ++ slice_range now.list n (g.R.RangeExt.end_of c.args.range (length now.list))) start
+    ∙ ap (λ n. now.list ++ slice_range now.list from n) (beyond ∙ end) ∙ ap (λ n. now.list ++ slice_range now.list n (g.R.RangeExt.end_of c.args.range (length now.list))) start
 
 pub returns-clause-row : goal.returns-clause-row
 returns-clause-row g c =
@@ -68,7 +68,7 @@ returns-clause-row g c =
     let start : from ≡ g.R.RangeExt.start_of c.args.range = c.normalize-range.ensures.start in
     let o = c.requires.lies.0 in
     let h = c.requires.lies.1 in
-    let behind : from + (upto - from) ≡ upto = omega arith in
+    let beyond : from + (upto - from) ≡ upto = omega arith in
     let size : length (slice_range now.list (g.R.RangeExt.start_of c.args.range) (g.R.RangeExt.end_of c.args.range (length now.list))) ≡ upto - from =
     length-between now.list (g.R.RangeExt.start_of c.args.range) (g.R.RangeExt.end_of c.args.range (length now.list)) h ∙ (omega arith) in
     grew_by w now _ (slice_range now.list (g.R.RangeExt.start_of c.args.range) (g.R.RangeExt.end_of c.args.range (length now.list))) (ap (λ v. v.head) c.self.view_is) (returns-clause-list g c)
@@ -77,7 +77,7 @@ returns-clause-row g c =
     ∙ ap (λ v. put (sized w v.row (v.head + i.len + (upto - from))) (v.head + i.len) (slice_range v.list from (from + (upto - from)))) c.self.view_is
     ∙ ap (λ n. put (sized w now.row (now.head + n + (upto - from))) (now.head + n) (slice_range now.list from (from + (upto - from)))) len
     ∙ ap (λ n. put (sized w now.row (now.head + length now.list + n)) (now.head + length now.list) (slice_range now.list from (from + (upto - from)))) (sym size)
-    ∙ ap (λ n. put (sized w now.row (now.head + length now.list + length (slice_range now.list (g.R.RangeExt.start_of c.args.range) (g.R.RangeExt.end_of c.args.range (length now.list))))) (now.head + length now.list) (slice_range now.list from n)) (behind ∙ end)
+    ∙ ap (λ n. put (sized w now.row (now.head + length now.list + length (slice_range now.list (g.R.RangeExt.start_of c.args.range) (g.R.RangeExt.end_of c.args.range (length now.list))))) (now.head + length now.list) (slice_range now.list from n)) (beyond ∙ end)
     ∙ ap (λ n. put (sized w now.row (now.head + length now.list + length (slice_range now.list (g.R.RangeExt.start_of c.args.range) (g.R.RangeExt.end_of c.args.range (length now.list))))) (now.head + length now.list) (slice_range now.list n (g.R.RangeExt.end_of c.args.range (length now.list)))) start)
 
 pub returns-clause-clean : goal.returns-clause-clean

@@ -28,9 +28,9 @@ returns-clause-clean g c clean =
     let w = g.T.BitStore.BITS in
     let at = c.args.i in
     let pushed : slice_range (row g.T.BitStore g.O.BitOrder i.words.items) i.head (i.head + i.len) ≡ now.list ++ c.args.bit ∷ [] = ap (λ v. v.list) c.self.view_is ∙ c.in_ok-push.ensures.list in
-    let behind : i.len - 1 - at ≡ length now.list - at = omega (arith, c.self.invariant.shows, ap length pushed, length_push now.list c.args.bit) in
+    let beyond : i.len - 1 - at ≡ length now.list - at = omega (arith, c.self.invariant.shows, ap length pushed, length_push now.list c.args.bit) in
     clean_inserted w now c.push.new.self _ at c.args.bit (width_positive w g.met.T.BitStore.width) c.requires c.in_ok-push.ensures.list (ap (λ v. v.head) c.self.view_is) (returns-clause-list g c)
     (c.insert_bit_in_vec.ensures.bits
     ∙ ap (λ v. set (moved v.row (v.head + at) (v.head + at + 1) (i.len - 1 - at)) (v.head + at) c.args.bit) c.self.view_is
-    ∙ ap (λ n. set (moved c.push.new.self.row (c.push.new.self.head + at) (c.push.new.self.head + at + 1) n) (c.push.new.self.head + at) c.args.bit) behind)
+    ∙ ap (λ n. set (moved c.push.new.self.row (c.push.new.self.head + at) (c.push.new.self.head + at + 1) n) (c.push.new.self.head + at) c.args.bit) beyond)
     (c.in_ok-push.ensures.clean clean)

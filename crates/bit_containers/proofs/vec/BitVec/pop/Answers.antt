@@ -23,8 +23,8 @@ returns-then-self-eq0-clause-row g c =
       row = sym (sized_same w (row g.T.BitStore g.O.BitOrder i.words.items) (i.head + i.len) (length_row g.T.BitStore.value g.O.BitOrder.place w i.words.items ∙ ap (λ n. w * n) c.self.invariant.count));
     })
 
-pub returns-clause-answer : goal.returns-clause-answer
-returns-clause-answer g c =
+pub returns-clause-popped : goal.returns-clause-popped
+returns-clause-popped g c =
     let i = c.self.inside in
     let w = g.T.BitStore.BITS in
     let bits = row g.T.BitStore g.O.BitOrder i.words.items in
@@ -51,5 +51,5 @@ returns-clause-clean g c other =
     let now = c.args.self.now in
     let w = g.T.BitStore.BITS in
     let len : i.len ≡ length now.list = sym c.self.invariant.shows ∙ ap (λ v. length v.list) c.self.view_is in
-    clean_popped w now _ c.read_bit-bit.result (width_positive w g.met.T.BitStore.width) other (ap (λ v. v.head) c.self.view_is) (returns-clause-answer g c)
+    clean_popped w now _ c.read_bit-bit.result (width_positive w g.met.T.BitStore.width) other (ap (λ v. v.head) c.self.view_is) (returns-clause-popped g c)
     (c.cut_words_in_vec.ensures.bits ∙ ap (λ v. sized w v.row (v.head + (i.len - 1))) c.self.view_is ∙ ap (λ n. sized w now.row (now.head + (n - 1))) len)

@@ -11,8 +11,8 @@ use Rattle.bit_containers.proofs.vec.BitVec.remove.Goals as goal
 pub remove_bit_in_vec-requires-clause-room : goal.remove_bit_in_vec-requires-clause-room
 remove_bit_in_vec-requires-clause-room g c = few_words g.T.BitStore.BITS (length c.self.inside.words.items) c.self.inside.head c.self.inside.len (width_positive _ g.met.T.BitStore.width) c.self.invariant
 
-pub returns-clause-answer : goal.returns-clause-answer
-returns-clause-answer g c =
+pub returns-clause-removed : goal.returns-clause-removed
+returns-clause-removed g c =
     let i = c.self.inside in
     let fits = shown g.T.BitStore g.O.BitOrder i.words.items i.head i.len g.met.T.BitStore.width c.self.invariant in
     let len : i.len ≡ length c.args.self.now.list = sym c.self.invariant.shows ∙ ap (λ v. length v.list) c.self.view_is in

@@ -16,10 +16,10 @@ returns-clause-list g c =
     let w = g.T.BitStore.BITS in
     let start = c.args.start in
     let end = c.args.end in
-    let behind = i.len - end in
+    let beyond = i.len - end in
     let bits = row g.T.BitStore g.O.BitOrder i.words.items in
     let fits = shown g.T.BitStore g.O.BitOrder i.words.items i.head i.len g.met.T.BitStore.width c.self.invariant in
     let len : i.len ≡ length c.args.self.now.list = sym c.self.invariant.shows ∙ ap (λ v. length v.list) c.self.view_is in
-    ap (λ r. slice_range r i.head (i.head + (start + behind))) (c.cut_words_in_vec.ensures.bits ∙ ap (λ r. sized w r (i.head + start + behind)) c.move_bits_in_vec.ensures.bits)
+    ap (λ r. slice_range r i.head (i.head + (start + beyond))) (c.cut_words_in_vec.ensures.bits ∙ ap (λ r. sized w r (i.head + start + beyond)) c.move_bits_in_vec.ensures.bits)
     ∙ removed_range_shows w bits i.head i.len start end (width_positive w g.met.T.BitStore.width) c.requires.ordered (omega (arith, c.requires.within)) fits
     ∙ ap (λ v. splice v.list start end []) c.self.view_is

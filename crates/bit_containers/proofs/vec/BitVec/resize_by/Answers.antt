@@ -1,7 +1,7 @@
 use Rattle.std.proofs.Common.{◌∷◌, [], ◌++◌, length, refl, sym, ap, ◌∙◌, arith, append_assoc, length-append, append-nil, of_calls}
 use Rattle.std.proofs.lemmas.List.{length_push}
 use Rattle.bit_addressing.proofs.Rows.{width_positive}
-use Rattle.bit_containers.proofs.Calling.{answers_more, grew_kept}
+use Rattle.bit_containers.proofs.Calling.{results_more, grew_kept}
 use Rattle.bit_containers.proofs.Growing.{grew_twice}
 use Rattle.bit_containers.proofs.vec.BitVec.resize_by.Goals as goal
 
@@ -37,7 +37,7 @@ loop-index-preserved g c =
       capacity = omega (arith, at.invariant.capacity, put.capacity);
       joined = (
         run.0 ++ bit ∷ [],
-        answers_more (goal.F-step g) _ _ run.0 at.f at.index bit _ run.1 c.f-bit.ensures (omega (arith, at.invariant.size)),
+        results_more (goal.F-step g) _ _ run.0 at.f at.index bit _ run.1 c.f-bit.ensures (omega (arith, at.invariant.size)),
         put.list ∙ ap (λ l. l ++ bit ∷ []) run.2 ∙ append_assoc now.list run.0 (bit ∷ []),
         grew_twice w now at.self c.push_reserved.new.self run.0 (bit ∷ []) (width_positive w g.met.T.BitStore.width) c.in_words.ensures.size run.3 put.row,
       );

@@ -32,8 +32,8 @@ loop-index-preserved g c =
     ] in
     let takes : TakesIf c.f.result bit at.index now at.count at.number c.if-f.self.list c.if-f.count c.if-f.number =
     elim c.if-f.branch [
-      | then-f w ↦ rw (w.if-f.true, w.self-is, w.count-is, w.number-is) (takes_one bit at.index now at.count at.number w.keep-number.new.self.list w.keep-number.result was.behind w.keep-number.ensures.stayed.len w.keep-number.ensures.rest w.keep-number.ensures.front)
-      | else-f w ↦ rw (w.if-f.false, w.self-is, w.count-is, w.number-is) (takes_not bit at.index now at.count at.number was.behind)
+      | then-f w ↦ rw (w.if-f.true, w.self-is, w.count-is, w.number-is) (takes_one bit at.index now at.count at.number w.keep-number.new.self.list w.keep-number.result was.beyond w.keep-number.ensures.stayed.len w.keep-number.ensures.rest w.keep-number.ensures.front)
+      | else-f w ↦ rw (w.if-f.false, w.self-is, w.count-is, w.number-is) (takes_not bit at.index now at.count at.number was.beyond)
     ] in
     record {
       callable = search of_calls;
@@ -50,7 +50,7 @@ returns-clause-list g c =
     let bits = number_bits at.number (count % 64) in
     let size = length-number_bits at.number (count % 64) in
     let whole = retains_all (goal.F-step g) c.args.f.now c.args.self.now.list at.f at.self.list count at.number at.index (omega (arith, c.loop-index-test.false, c.len-index-end.ensures.value)) was in
-    let short : count ≤ length at.self.list = omega (arith, was.behind, was.size, c.loop-index-test.false, c.len-index-end.ensures.value) in (
+    let short : count ≤ length at.self.list = omega (arith, was.beyond, was.size, c.loop-index-test.false, c.len-index-end.ensures.value) in (
       whole.0,
       whole.1,
       c.truncate.ensures.list ∙ ap (take count) c.write_number.ensures.list ∙ take_put at.self.list bits (count - count % 64) count (omega arith) short ∙ whole.2,

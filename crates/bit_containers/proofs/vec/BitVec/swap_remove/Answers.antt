@@ -8,8 +8,8 @@ use Rattle.bit_addressing.proofs.lists.Moved.{swap_removed_shows}
 use Rattle.bit_containers.proofs.Vectors.{shown}
 use Rattle.bit_containers.proofs.vec.BitVec.swap_remove.Goals as goal
 
-pub returns-clause-answer : goal.returns-clause-answer
-returns-clause-answer g c =
+pub returns-clause-removed : goal.returns-clause-removed
+returns-clause-removed g c =
     let i = c.self.inside in
     let fits = shown g.T.BitStore g.O.BitOrder i.words.items i.head i.len g.met.T.BitStore.width c.self.invariant in
     let len : i.len ≡ length c.args.self.now.list = sym c.self.invariant.shows ∙ ap (λ v. length v.list) c.self.view_is in

@@ -11,9 +11,9 @@ returns-in_default-clause-ended g c =
 pub returns-in-Ok-clause-ok : goal.returns-in-Ok-clause-ok
 returns-in-Ok-clause-ok g c =
     let some = rw c.line.ensures.value at c.in-Some.ensures in
-    line_advances c.args.self.now c.next_line.new.self c.line.ensures.part c.in-Some.line c.answer.new.self some c.in-Ok.ensures.ok c.next_line.ensures
+    line_advances c.args.self.now c.next_line.new.self c.line.ensures.part c.in-Some.line c.reply.new.self some c.in-Ok.ensures.ok c.next_line.ensures
 
 pub returns-in-Err-clause-ended : goal.returns-in-Err-clause-ended
 returns-in-Err-clause-ended g c =
     let some = rw c.line.ensures.value at c.in-Some.ensures in
-    refused_stops c.args.self.now c.answer.new.self c.line.ensures.part c.in-Some.line c.in-Err.ending some c.in-Err.ensures.err c.in-Err.ensures.out
+    refused_stops c.args.self.now c.reply.new.self c.line.ensures.part c.in-Some.line c.in-Err.ending some c.in-Err.ensures.err c.in-Err.ensures.out

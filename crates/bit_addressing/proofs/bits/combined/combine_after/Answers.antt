@@ -6,7 +6,7 @@ use Rattle.bit_addressing.proofs.Runs.{mul_mono}
 use Rattle.bit_addressing.proofs.lists.Sized.{one_more_word}
 use Rattle.bit_addressing.proofs.Rows.{width_positive}
 use Rattle.bit_addressing.proofs.Typed.{length_row, row_replaced, row_whole}
-use Rattle.bit_addressing.proofs.bits.combined.combine_behind.Goals as goal
+use Rattle.bit_addressing.proofs.bits.combined.combine_after.Goals as goal
 
 pub loop-k-init : goal.loop-k-init
 loop-k-init g c = record { bits = combined_whole_none g.F.BitOperator.made (row g.T.BitStore g.O.BitOrder c.args.words.now) (row g.U.BitStore g.P.BitOrder c.args.source.now) g.T.BitStore.BITS (c.args.begin * g.U.BitStore.BITS + c.args.skip) c.args.first; size = refl }
@@ -30,14 +30,14 @@ loop-k-preserved g c =
     let size : length old ≡ w * length words = length_row value place w words in
     let long : length zs ≡ u * length source = length_row g.U.BitStore.value g.P.BitOrder.place u source in
     let inside = mul_mono (k + 1) (length words) w (omega arith) in
-    let behind = mul_mono (k + 1 - first) (c.args.last - first) w (omega arith) in
+    let beyond = mul_mono (k + 1 - first) (c.args.last - first) w (omega arith) in
     let more = one_more_word k w in
     let a : ℕ = from + (k - first) * w in
     record {
       bits = row_replaced value place w c.loop-k.words k c.apply.result positive (omega arith)
           ∙ combined_more f old cur zs (row g.T.BitStore g.O.BitOrder (c.apply.result ∷ [])) w first k from a (from + (k + 1 - first) * w) c.loop-k.auto.k (omega arith) refl refl (omega arith) c.loop-k.invariant.bits
-          (word_combined f place w (value c.index-words-k.result) (value c.word_behind-new.result) (value c.apply.result) positive (g.met.O.BitOrder.lawful w g.met.T.BitStore.width) c.apply.ensures
-          ∙ ap (λ l. zip2 f l (row g.T.BitStore g.O.BitOrder (c.word_behind-new.result ∷ []))) (row_whole value place w c.loop-k.words k (k * w) (k * w + w) c.index-words-k.result positive (omega arith) c.index-words-k.is refl refl)
-          ∙ ap (zip2 f (slice_range cur (k * w) (k * w + w))) c.word_behind-new.ensures);
+          (word_combined f place w (value c.index-words-k.result) (value c.word_after-new.result) (value c.apply.result) positive (g.met.O.BitOrder.lawful w g.met.T.BitStore.width) c.apply.ensures
+          ∙ ap (λ l. zip2 f l (row g.T.BitStore g.O.BitOrder (c.word_after-new.result ∷ []))) (row_whole value place w c.loop-k.words k (k * w) (k * w + w) c.index-words-k.result positive (omega arith) c.index-words-k.is refl refl)
+          ∙ ap (zip2 f (slice_range cur (k * w) (k * w + w))) c.word_after-new.ensures);
       size = search rules;
     }

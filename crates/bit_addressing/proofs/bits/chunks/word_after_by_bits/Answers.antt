@@ -1,7 +1,7 @@
 use Rattle.std.proofs.Common.{◌≡◌, ℕ, ◌+◌, ◌*◌, sym, ◌∙◌, ap}
 use Rattle.bit_addressing.specs.Typed.{row}
 use Rattle.bit_addressing.proofs.Chunks.{whole_is}
-use Rattle.bit_addressing.proofs.bits.chunks.word_behind_by_bits.Goals as goal
+use Rattle.bit_addressing.proofs.bits.chunks.word_after_by_bits.Goals as goal
 
 pub returns : goal.returns
 returns g c =

@@ -3,11 +3,11 @@ use Rattle.bit_addressing.specs.Typed.{row}
 use Rattle.bit_addressing.proofs.Blocks.{block_as_word}
 use Rattle.bit_addressing.proofs.Packs.{pack_fills}
 use Rattle.bit_addressing.proofs.lists.Sized.{right_sum}
-use Rattle.bit_addressing.proofs.bits.chunks.word_behind.Goals as goal
+use Rattle.bit_addressing.proofs.bits.chunks.word_after.Goals as goal
 
 -- where a block begins, some blocks after a word
-behind : (begin t each u skip w : ℕ) → each * u ≡ 64 → w ≡ 64 → (begin + t * each) * u + skip ≡ begin * u + skip + t * w
-behind begin t each u skip w fills wide =
+beyond : (begin t each u skip w : ℕ) → each * u ≡ 64 → w ≡ 64 → (begin + t * each) * u + skip ≡ begin * u + skip + t * w
+beyond begin t each u skip w fills wide =
     let split : (t * each) * u ≡ t * (each * u) = grind arith in
     let sum : (begin + t * each) * u ≡ begin * u + (t * each) * u = right_sum begin (t * each) u in
     let whole : t * (each * u) ≡ t * w = ap (λ n. t * n) (fills ∙ sym wide) in
@@ -24,7 +24,7 @@ returns-then-k-each g c =
     let zs = row g.U.BitStore g.P.BitOrder c.args.source.now in
     let wide : w ≡ 64 = sym c.BITS-3.ensures ∙ c.if-BITS-eq64.true in
     let each : 64 / c.BITS-then-BITS-eq64.result ≡ 64 / u = ap (λ n. 64 / n) c.BITS-then-BITS-eq64.ensures in
-    let from : (begin + t * (64 / c.BITS-then-BITS-eq64.result)) * u + skip ≡ begin * u + skip + t * w = ap (λ n. (begin + t * n) * u + skip) each ∙ behind begin t (64 / u) u skip w (pack_fills u g.met.U.BitStore.width) wide in
+    let from : (begin + t * (64 / c.BITS-then-BITS-eq64.result)) * u + skip ≡ begin * u + skip + t * w = ap (λ n. (begin + t * n) * u + skip) each ∙ beyond begin t (64 / u) u skip w (pack_fills u g.met.U.BitStore.width) wide in
     block_as_word place w (g.T.BitStore.value c.from_u64.result) c.block_at.result wide c.from_u64.ensures (g.met.O.BitOrder.lawful w g.met.T.BitStore.width).in_range
     ∙ c.block_at.ensures
     ∙ ap (λ n. slice_range zs n (n + 64)) from

@@ -1,6 +1,6 @@
 use Rattle.std.proofs.Common.{◌≡◌, ◌-◌, ◌∙◌, ap, arith}
 use Rattle.bit_addressing.specs.Bits.{has_bit}
-use Rattle.bit_addressing.proofs.bits.single.shl_behind.Goals as goal
+use Rattle.bit_addressing.proofs.bits.single.shl_by_rest.Goals as goal
 
 pub returns-clause-high : goal.returns-clause-high
 returns-clause-high g c p h k =

@@ -1,6 +1,6 @@
 use Rattle.std.proofs.Common.{◌≡◌, ◌+◌, ◌-◌, ◌∙◌, ap, arith}
 use Rattle.bit_addressing.specs.Bits.{has_bit}
-use Rattle.bit_addressing.proofs.bits.single.shr_behind.Goals as goal
+use Rattle.bit_addressing.proofs.bits.single.shr_by_rest.Goals as goal
 
 pub returns-clause-low : goal.returns-clause-low
 returns-clause-low g c p h =

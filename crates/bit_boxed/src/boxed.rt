@@ -147,6 +147,10 @@ impl<T: BitStore, O: BitOrder> BitBox<T, O> {
     /// These words with a head and a length. Memory that no word takes is given back, and it always succeeds.
     /// Requires that the head is in the first word, the words are exactly as many as it takes, and the bits
     /// at most `MAX_BITS`.
+    ///
+    /// ```text
+    /// BitBox::<u8, Lsb0>::from_parts(vec![in alloc; 6]?, 1, 3)? holds 110
+    /// ```
     pub fn from_parts(words: Vec<T>, head: usize, len: usize) -> Result<Self, AllocError>
         requires in_word { head < T.BITS }
         requires few { len ≤ MAX_BITS }
@@ -164,6 +168,10 @@ impl<T: BitStore, O: BitOrder> BitBox<T, O> {
 
     /// All bits of these words, which are kept: head 0. Takes no memory. Requires that they are at most
     /// `MAX_BITS` bits.
+    ///
+    /// ```text
+    /// BitBox::<u8, Lsb0>::from_boxed_slice(vec![in alloc; 6]?.into_boxed_slice()) holds 01100000
+    /// ```
     pub fn from_boxed_slice(words: BoxedSlice<T>) -> Self
         requires { T.BITS * length (boxed_slice_items words) ≤ MAX_BITS }
         ensures words { result.words ≡ boxed_slice_items words }
@@ -178,6 +186,10 @@ impl<T: BitStore, O: BitOrder> BitBox<T, O> {
 
     /// Like `from_boxed_slice`, with no condition: it hands the words back exactly where they have more
     /// than `MAX_BITS` bits. Takes no memory.
+    ///
+    /// ```text
+    /// BitBox::<u8, Lsb0>::try_from_boxed_slice(vec![in alloc; 6]?.into_boxed_slice())? holds 01100000
+    /// ```
     pub fn try_from_boxed_slice(words: BoxedSlice<T>) -> Result<Self, BoxedSlice<T>>
         ensures words { IfOk result (λ b. b.words ≡ boxed_slice_items words) }
         ensures row { IfOk result (λ b. b.row ≡ row T.BitStore O.BitOrder (boxed_slice_items words)) }
@@ -196,6 +208,10 @@ impl<T: BitStore, O: BitOrder> BitBox<T, O> {
     }
 
     /// All bits of a boxed word, which is placed in a new box: head 0. Takes memory.
+    ///
+    /// ```text
+    /// BitBox::<u8, Lsb0>::from_box(alloc, Box::new(alloc, 6)?)? holds 01100000
+    /// ```
     pub fn from_box(alloc: Global, word: Box<T>) -> Result<Self, AllocError>
         ensures words { IfOk result (λ b. b.words ≡ word.value ∷ []) }
         ensures head { IfOk result (λ b. b.head ≡ 0) }
@@ -355,6 +371,10 @@ impl<T: BitStore, O: BitOrder> BitBox<T, O> {
     }
 
     /// The allocator that the words came from.
+    ///
+    /// ```text
+    /// of 0110: BitVec::<u8, Lsb0>::new(bits.allocator()).len() == 0
+    /// ```
     pub fn allocator(&self) -> Global {
         *self.words.allocator()
     }

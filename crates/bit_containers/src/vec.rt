@@ -278,6 +278,10 @@ impl<T: BitStore, O: BitOrder> BitVec<T, O> {
 
     /// All bits of these words, as `from_vec`, with no condition: it hands the words back exactly where they
     /// don't fit. Takes no memory.
+    ///
+    /// ```text
+    /// BitVec::<u8, Lsb0>::try_from_vec(vec![in alloc; 6]?)? holds 01100000
+    /// ```
     pub fn try_from_vec(words: Vec<T>) -> Result<Self, Vec<T>>
         ensures words { IfOk result (λ v. v.words ≡ words.items) }
         ensures head { IfOk result (λ v. v.head ≡ 0) }

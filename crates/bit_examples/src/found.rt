@@ -2,8 +2,8 @@
 use std::process::Abort;
 
 /// What a call returns that found memory.
-pub(crate) fn ok<V, E>(rt: &impl Abort, result: Result<V, E>) -> V {
-    match result {
+pub(crate) fn ok<V, E>(rt: &impl Abort, outcome: Result<V, E>) -> V {
+    match outcome {
         Ok(value) => value,
         Err(_) => panic!(rt; "memory is wanting"),
     }

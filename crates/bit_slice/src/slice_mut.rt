@@ -52,6 +52,10 @@ impl<'a, T: BitStore, O: BitOrder> BitSliceMut<'a, T, O> {
     ghost use Rattle.bit_slice.specs.CountedMut.{list_of as list_counted};
 
     /// All bits of the words, with the head 0. Requires that they are at most `MAX_BITS` bits.
+    ///
+    /// ```text
+    /// BitSliceMut::<u8, Lsb0>::from_slice_mut(&mut [6]).as_bitslice() shows 01100000
+    /// ```
     pub fn from_slice_mut(words: &'a mut [T]) -> Self
         requires { T.BITS * length words.old ≤ MAX_BITS }
         ensures same_words { loan_of result ≡ words.entry.ghost_name }
@@ -71,6 +75,10 @@ impl<'a, T: BitStore, O: BitOrder> BitSliceMut<'a, T, O> {
 
     /// The view of `len` bits that begins at the place `head` of the words' row. Requires that the
     /// head is in the first word, the words are as many as it takes, and the bits at most `MAX_BITS`.
+    ///
+    /// ```text
+    /// BitSliceMut::<u8, Lsb0>::from_parts_mut(&mut [6], 1, 3).as_bitslice() shows 110
+    /// ```
     pub fn from_parts_mut(words: &'a mut [T], head: usize, len: usize) -> Self
         requires in_word { head < T.BITS }
         requires few { len ≤ MAX_BITS }
@@ -131,6 +139,10 @@ impl<'a, T: BitStore, O: BitOrder> BitSliceMut<'a, T, O> {
 
     /// The view with a meter at 0, for moves whose word reads and writes are counted. What is moved
     /// through it stands in the view when it ends.
+    ///
+    /// ```text
+    /// of 0110: bits.counted_mut().copy_within_counted(0..2, 2) leaves 0101
+    /// ```
     pub fn counted_mut(&mut self) -> CountedMut<'_, T, O>
         ensures* writes_back { sem 𝓛 (lends_words T.row O.row T.BitStore O.BitOrder self.entry
             result.row.words.ghost_name) }

@@ -88,6 +88,10 @@ impl<T: BitStore, O: BitOrder> BitVec<T, O> {
     }
 
     /// The allocator that the vector was made with.
+    ///
+    /// ```text
+    /// of 0110: BitVec::<u8, Lsb0>::new(bits.allocator()).len() == 0
+    /// ```
     pub fn allocator(&self) -> Global {
         *self.words.allocator()
     }

@@ -70,6 +70,10 @@ impl<T: BitStore, O: BitOrder> BitVec<T, O> {
     }
 
     /// Like `into_boxed_bitslice`.
+    ///
+    /// ```text
+    /// of 0110: bits.into_boxed_slice()?.len() == 4
+    /// ```
     pub fn into_boxed_slice(self) -> Result<BitBox<T, O>, AllocError>
         ensures words { IfOk result (λ b. b.words ≡ self.words) }
         ensures row { IfOk result (λ b. b.row ≡ self.row) }

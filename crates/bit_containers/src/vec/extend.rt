@@ -64,6 +64,10 @@ impl<T: BitStore, O: BitOrder> BitVec<T, O> {
 
     /// Appends the list of another vector, of any word type and order, by whole words, and empties that
     /// one. It is refused like `extend_from_bitslice`, and a refusal leaves both.
+    ///
+    /// ```text
+    /// of 01 and 101: bits.append(&mut others)? leaves 01101
+    /// ```
     pub fn append<U: BitStore, P: BitOrder>(
         &mut self,
         other: &mut BitVec<U, P>,

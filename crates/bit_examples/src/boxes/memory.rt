@@ -13,10 +13,10 @@ use std::test::Fail;
 /// That a result is the box of these digits, or that memory was refused.
 fn made<T: BitStore, O: BitOrder>(
     rt: &impl Abort,
-    result: Result<BitBox<T, O>, AllocError>,
+    outcome: Result<BitBox<T, O>, AllocError>,
     digits: &[u8],
 ) {
-    if let Ok(b) = result {
+    if let Ok(b) = outcome {
         holds(rt, &b, digits);
     }
 }

@@ -93,8 +93,8 @@ fn read_from_text(rt: HostRuntime) {
         (" 1", 0),
     ];
     for (text, at) in wrong {
-        let result = BitVec::<u8, Lsb0>::from_text(rt.alloc(), text);
-        assert!(rt; result.is_err_and(|why| why == ParseBitsError::Wrong(at)));
+        let outcome = BitVec::<u8, Lsb0>::from_text(rt.alloc(), text);
+        assert!(rt; outcome.is_err_and(|why| why == ParseBitsError::Wrong(at)));
     }
 }
 
@@ -121,6 +121,6 @@ fn boxes_made(rt: HostRuntime) {
     let b = ok(&rt, BitBox::<u8, Msb0>::from_text(rt.alloc(), "[0, 1, 1]"));
     assert!(rt; b.len() == 3);
     assert_eq!(rt; b.as_raw_slice(), [0x60].as_slice());
-    let result = BitBox::<u8, Lsb0>::from_text(rt.alloc(), "012");
-    assert!(rt; result.is_err_and(|why| why == ParseBitsError::Wrong(2)));
+    let outcome = BitBox::<u8, Lsb0>::from_text(rt.alloc(), "012");
+    assert!(rt; outcome.is_err_and(|why| why == ParseBitsError::Wrong(2)));
 }

@@ -11,15 +11,15 @@ fn reserving_at_the_limit(rt: HostRuntime) {
     let mut v = of::<u8, Lsb0>(&rt, b"1");
     for (more, too_long) in [(LIMIT - 1, false), (LIMIT, true), (usize::MAX, true)] {
         let results = [v.reserve(more), v.reserve_exact(more)];
-        for result in results {
-            assert_eq!(rt; result == Err(GrowError::TooLong), too_long, "for {more}");
+        for outcome in results {
+            assert_eq!(rt; outcome == Err(GrowError::TooLong), too_long, "for {more}");
         }
         holds(&rt, &v, b"1");
     }
     for n in [PAST, usize::MAX] {
         let results = [v.resize(n, true), v.resize_with(n, |_| true)];
-        for result in results {
-            assert_eq!(rt; result, Err(GrowError::TooLong));
+        for outcome in results {
+            assert_eq!(rt; outcome, Err(GrowError::TooLong));
         }
         holds(&rt, &v, b"1");
     }

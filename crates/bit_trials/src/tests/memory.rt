@@ -13,10 +13,10 @@ use std::process::Abort;
 /// That a result is the vector of these digits, or that memory was refused.
 fn made<T: BitStore, O: BitOrder>(
     rt: &impl Abort,
-    result: Result<BitVec<T, O>, AllocError>,
+    outcome: Result<BitVec<T, O>, AllocError>,
     digits: &[u8],
 ) {
-    if let Ok(v) = result {
+    if let Ok(v) = outcome {
         holds(rt, &v, digits);
     }
 }
@@ -24,10 +24,10 @@ fn made<T: BitStore, O: BitOrder>(
 /// That a result is the vector of these digits, or that memory was refused, and never that it would be too long.
 fn grown<T: BitStore, O: BitOrder>(
     rt: &impl Abort,
-    result: Result<BitVec<T, O>, GrowError>,
+    outcome: Result<BitVec<T, O>, GrowError>,
     digits: &[u8],
 ) {
-    match result {
+    match outcome {
         Ok(v) => holds(rt, &v, digits),
         Err(why) => assert!(rt; why == GrowError::OutOfMemory),
     }
@@ -90,8 +90,8 @@ fn makers_that_take_none(rt: HostRuntime) {
 }
 
 /// That a vector has 96 ones after its eight bits, or, where it was refused, those bits alone.
-fn stands(rt: &impl Abort, v: &BitVec<u8, Lsb0>, result: Result<(), GrowError>) {
-    match result {
+fn stands(rt: &impl Abort, v: &BitVec<u8, Lsb0>, outcome: Result<(), GrowError>) {
+    match outcome {
         Ok(()) => {
             assert!(rt; v.len() == 104 && v.count_ones() == 102);
             assert!(rt; v.get(1) == Some(false) && v.get(3) == Some(false));
@@ -115,7 +115,7 @@ fn growing_refused(rt: HostRuntime) {
         };
         assert!(rt; v.len() == 8 && v.head() == 3);
         let mut calls = 0_u8;
-        let result = match way {
+        let outcome = match way {
             0 => v.resize(104, true),
             1 => v.resize_with(104, |_| {
                 calls = calls.wrapping_add(1);
@@ -129,9 +129,9 @@ fn growing_refused(rt: HostRuntime) {
             7 => v.splice(8..8, [true; 96]).finish(),
             _ => v.splice(5..6, [true; 97]).finish(),
         };
-        let called = if way == 1 && result.is_ok() { 96 } else { 0 };
+        let called = if way == 1 && outcome.is_ok() { 96 } else { 0 };
         assert_eq!(rt; calls, called);
-        stands(&rt, &v, result);
+        stands(&rt, &v, outcome);
         assert_eq!(rt; v.head(), 3);
     }
 }
@@ -150,12 +150,12 @@ fn combined_with_longer_refused(rt: HostRuntime) {
         assert!(rt; v.xor_growing(more.get_range(..8)).is_ok());
         holds(&rt, &v, b"01010000");
         assert!(rt; v.xor_growing(more.get_range(..8)).is_ok());
-        let result = if xor {
+        let outcome = if xor {
             v.xor_growing(more)
         } else {
             v.or_growing(more)
         };
-        match result {
+        match outcome {
             Ok(()) => assert!(rt; v.len() == 96 && v.count_ones() == if xor { 90 } else { 96 }),
             Err(why) => {
                 assert!(rt; why == GrowError::OutOfMemory);
@@ -207,10 +207,10 @@ fn appending_refused(rt: HostRuntime) {
     let Ok(mut other) = BitVec::<u32, Msb0>::repeat(rt.alloc(), true, 96) else {
         return;
     };
-    let result = v.append(&mut other);
-    assert!(rt; other.len() == if result.is_ok() { 0 } else { 96 });
+    let outcome = v.append(&mut other);
+    assert!(rt; other.len() == if outcome.is_ok() { 0 } else { 96 });
     assert!(rt; other.count_ones() == other.len());
-    stands(&rt, &v, result);
+    stands(&rt, &v, outcome);
 }
 
 /// Bits one by one, room, and a range appended once more: each refusal leaves what stood before it.
@@ -220,14 +220,14 @@ fn one_by_one_refused(rt: HostRuntime) {
     for turn in 0..70usize {
         let (len, ones, first) = (v.len(), v.count_ones(), v.first());
         assert!(rt; len < 1000);
-        let (result, more) = match turn % 5 {
+        let (outcome, more) = match turn % 5 {
             0 => (v.push(true), 1),
             1 => (v.insert(0, true), 1),
             2 => (v.extend_from_within(..), len),
             3 => (v.reserve(100), 0),
             _ => (v.reserve_exact(200), 0),
         };
-        match result {
+        match outcome {
             Ok(()) => assert!(rt; v.len() == len + more && v.count_ones() == v.len()),
             Err(why) => {
                 assert!(rt; why == GrowError::OutOfMemory);

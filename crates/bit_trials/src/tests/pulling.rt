@@ -188,7 +188,7 @@ fn pulled_until_refused(rt: HostRuntime) {
         let Ok(mut v) = BitVec::<u8, Lsb0>::from_bits(rt.alloc(), [false, true]) else {
             return;
         };
-        let result = match way {
+        let outcome = match way {
             0 => v.extend(bits.by_ref()),
             1 => v.extend_words(words.by_ref()),
             2 => BitVec::<u8, Msb0>::from_bits(rt.alloc(), bits.by_ref()).map(|_| ()),
@@ -200,7 +200,7 @@ fn pulled_until_refused(rt: HostRuntime) {
         } else {
             (bits.calls, bits.nones)
         };
-        match result {
+        match outcome {
             Ok(()) => assert!(rt; nones == 1 && calls == 1001),
             Err(why) => {
                 assert!(rt; why == GrowError::OutOfMemory && nones == 0 && calls < 1000);

@@ -48,12 +48,12 @@ fn resized<T: BitStore, O: BitOrder>(rt: &(impl Abort + AllocGlobal), head: usiz
         }
         let Case { mut v, list, row } = at_head::<T, O>(rt, SEED, head, len);
         let (mut next, mut ordered) = (len, true);
-        let result = v.resize_with(n, |i| {
+        let outcome = v.resize_with(n, |i| {
             ordered = ordered && i == next;
             next = next.wrapping_add(1);
             i % 3 == 0
         });
-        ok(rt, result);
+        ok(rt, outcome);
         assert!(rt; ordered && next == len.max(n));
         let wanted = replaced(rt, &list, n, len, &thirds);
         assert!(rt; shows(rt, &v, head, &wanted, &row));

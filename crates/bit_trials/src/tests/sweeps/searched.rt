@@ -26,12 +26,12 @@ fn found<O: BitOrder>(rt: &impl Abort, head: usize, len: usize, bit: bool)
         if view[back] == bit {
             last = Some(back);
         }
-        let result = if bit {
+        let outcome = if bit {
             view.next_one(at)
         } else {
             view.next_zero(at)
         };
-        assert_eq!(rt; result, next);
+        assert_eq!(rt; outcome, next);
     }
     let ends = if bit {
         (view.first_one(), view.last_one())

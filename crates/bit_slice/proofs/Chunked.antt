@@ -1,10 +1,10 @@
 -- Items of a list read as a number: whether one of them is true, and its lowest bits cleared one by one.
-use Rattle.std.proofs.Common.{◌≡◌, ◌≢◌, ℕ, ◌+◌, ◌-◌, ◌*◌, ◌/◌, ◌%◌, ◌^◌, ◌<◌, ◌≤◌, min, Bool, true, false, List, length, get_or, slice_range, w64, refl, sym, ◌∙◌, ap, inl, inr, arith, bit_and}
+use Rattle.std.proofs.Common.{◌≡◌, ◌≢◌, ℕ, ◌+◌, ◌-◌, ◌*◌, ◌/◌, ◌%◌, ◌^◌, ◌<◌, ◌≤◌, min, Bool, true, false, List, length, get_or, slice_range, w64, refl, sym, ◌∙◌, ap, inl, inr, mod-lt, arith, bit_and}
 use Rattle.std.specs.Int.{trailing_zeros}
 use Rattle.std.specs.Int.Count.{trailing_of_zero}
 use Rattle.std.proofs.lemmas.Bool.{cases_lt, true≢false}
 use Rattle.std.proofs.lemmas.List.{get_or_past, length-take, length-drop}
-use Rattle.std.proofs.Math.Nat.{add-mul-mod_self_right, mul-mod_left}
+use Rattle.std.proofs.Math.Nat.{add-mod_right, add-mul-mod_self_right, mul-mod_left}
 use Rattle.std.proofs.lemmas.Nat.{and_le_l, div-add-mod'}
 use Rattle.bit_addressing.specs.Bits.{IsWidth, has_bit}
 use Rattle.bit_addressing.specs.Row.{number_of}
@@ -140,45 +140,58 @@ module _ (xs : List Bool) (lo hi chunk : ℕ) (is : IsChunkLeft xs lo hi chunk) 
           ap (λ n. get_or xs n false) (sym e) ∙ sym (after_first (j - lo) (omega arith) (omega arith)) ∙ has_below_lowest w64 rest small (j - lo) (omega arith);
     }
 
--- a word that begins at an index begins 64 bits later too
-word_later : (w at : ℕ) → IsWidth w → at % w ≡ 0 → (at + 64) % w ≡ 0
-word_later w at wide begins =
+-- where a block of 64 bits begins, a word does
+pub word_begins : (w at : ℕ) → IsWidth w → at % 64 ≡ 0 → at % w ≡ 0
+word_begins w at wide begins =
     let whole : 64 / w * w ≡ 64 = elim wide [
       | inl e ↦ rw e refl
       | inr (inl e) ↦ rw e refl
       | inr (inr (inl e)) ↦ rw e refl
       | inr (inr (inr e)) ↦ rw e refl
     ] in
-    ap (λ n. (at + n) % w) (sym whole) ∙ add-mul-mod_self_right at (64 / w) w ∙ begins
+    let split = div-add-mod' at 64 in
+    let blocks : at ≡ at / 64 * 64 = omega (arith, split, begins) in
+    let words : at / 64 * 64 ≡ at / 64 * (64 / w) * w = ap (λ n. at / 64 * n) (sym whole) ∙ grind arith in
+    ap (λ n. n % w) (blocks ∙ words) ∙ mul-mod_left (at / 64 * (64 / w)) w
 
-module _ (w head lo hi end : ℕ) (fit : BlocksFit w head lo hi end) (more : lo < end) where
-  counted : end - lo ≡ (end - lo) / 64 * 64
-  counted = let split = div-add-mod' (end - lo) 64 in let none = (fit.blocks more).0 in omega (arith, split, none)
+-- the next index at which a block begins
+pub next_edge : (head at : ℕ) → (head + (at + (64 - (head + at) % 64))) % 64 ≡ 0
+next_edge head at =
+    let split = div-add-mod' (head + at) 64 in
+    let under : (head + at) % 64 < 64 = mod-lt (head + at) (omega arith) in
+    let edge : head + (at + (64 - (head + at) % 64)) ≡ ((head + at) / 64 + 1) * 64 = omega (arith, split, under) in
+    ap (λ n. n % 64) edge ∙ mul-mod_left ((head + at) / 64 + 1) 64
 
+-- the index after a block
+pub edge_later : (head at : ℕ) → (head + at) % 64 ≡ 0 → (head + (at + 64)) % 64 ≡ 0
+edge_later head at begins =
+    let next : head + (at + 64) ≡ head + at + 64 = omega arith in
+    ap (λ n. n % 64) next ∙ add-mod_right (head + at) 64 ∙ begins
+
+module _ (head lo hi end : ℕ) (fit : BlocksFit head lo hi end) where
   -- a block is whole
-  pub block_ends : lo + 64 ≤ end
-  block_ends = omega (arith, counted, more)
+  pub block_ends : lo < end → lo + 64 ≤ end
+  block_ends more =
+      let edges = fit.blocks more in
+      let first = div-add-mod' (head + lo) 64 in
+      let last = div-add-mod' (head + end) 64 in
+      omega (arith, first, last, edges.0, edges.1, more)
 
-  -- the blocks after one
-  pub blocks_after : IsWidth w → BlocksFit w head (lo + 64) hi end
-  blocks_after wide = record {
+  -- the blocks after a later index
+  pub blocks_after : (at : ℕ) → lo ≤ at → (at < hi → (head + at) % 64 ≡ 0) → BlocksFit head at hi end
+  blocks_after at later edge = record {
     inside = fit.inside;
-    blocks = λ again.
-    let fewer : end - (lo + 64) ≡ ((end - lo) / 64 - 1) * 64 = omega (arith, counted, more) in
-    let next : head + (lo + 64) ≡ head + lo + 64 = omega arith in
-    (ap (λ n. n % 64) fewer ∙ mul-mod_left ((end - lo) / 64 - 1) 64, ap (λ n. n % w) next ∙ word_later w (head + lo) wide (fit.blocks more).1);
+    blocks = λ more.
+        let inside = fit.inside in
+        (edge (omega (arith, inside, more)), (fit.blocks (omega (arith, later, more))).1);
   }
 
--- the blocks between two indices, where a word begins at the first
-pub blocks_between : (w head lo hi : ℕ) → lo ≤ hi → (head + lo) % w ≡ 0 → BlocksFit w head lo hi (lo + (hi - lo) / 64 * 64)
-blocks_between w head lo hi ordered begins =
-    let split = div-add-mod' (hi - lo) 64 in
-    let size : lo + (hi - lo) / 64 * 64 - lo ≡ (hi - lo) / 64 * 64 = omega arith in
+-- the blocks of a list that begins with one
+pub all_blocks : (head len : ℕ) → head % 64 ≡ 0 → BlocksFit head 0 len (len / 64 * 64)
+all_blocks head len begins =
+    let split = div-add-mod' len 64 in
+    let first : head + 0 ≡ head = omega arith in
     record {
       inside = omega (arith, split);
-      blocks = λ more. (ap (λ n. n % 64) size ∙ mul-mod_left ((hi - lo) / 64) 64, begins);
+      blocks = λ more. (ap (λ n. n % 64) first ∙ begins, add-mul-mod_self_right head (len / 64) 64 ∙ begins);
     }
-
--- no block
-pub blocks_none : (w head lo hi end : ℕ) → end ≤ hi → end ≤ lo → BlocksFit w head lo hi end
-blocks_none w head lo hi end inside none = record { inside = inside; blocks = λ more. absurd (omega arith) }

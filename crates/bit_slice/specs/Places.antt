@@ -36,10 +36,10 @@ pub record IsChunkLeft (xs : List Bool) (lo hi chunk : ℕ) : Type 0 where
   pub same : (k j : ℕ) → has_bit chunk k ≡ true → k ≤ j → lo + j < hi → has_bit chunk j ≡ slice_index_or xs (lo + j) false
   pub past : (j : ℕ) → hi ≤ lo + j → has_bit chunk j ≡ false
 
--- blocks of 64 bits lie from lo up to end, which is at most hi, and a word of this width begins at lo; or there is none
-pub record BlocksFit (width head lo hi end : ℕ) : Type 0 where
+-- whole blocks of 64 bits lie from lo up to end, which is at most hi, or none does
+pub record BlocksFit (head lo hi end : ℕ) : Type 0 where
   pub inside : end ≤ hi
-  pub blocks : lo < end → ((end - lo) % 64 ≡ 0) × ((head + lo) % width ≡ 0)
+  pub blocks : lo < end → ((head + lo) % 64 ≡ 0) × ((head + end) % 64 ≡ 0)
 
 -- the indices from lo up to hi whose items pass a test, ascending
 abbrev pub places_between : (Bool → Bool) → List Bool → ℕ → ℕ → List ℕ

@@ -22,12 +22,12 @@ pub struct IterOnes<'a, T: BitStore, O: BitOrder> {
     chunk: u64,
     base: usize,
     end: usize,
-    // The end of the blocks of 64 bits from `end` on, where a word begins at `end`. They are read without a test of the
-    // length (docs/SPEED.md, "The bench", ones 67th).
+    // The end of the whole blocks of 64 bits from `end` on. They are read without a test of the length (docs/SPEED.md,
+    // "The bench", ones 67th).
     whole: usize,
     ghost fits: { (end ≤ upto) × (upto ≤ len_of view) },
     ghost read: { IsChunkLeft (list_of view) base end chunk },
-    ghost blocks: { BlocksFit T.BITS (head_of view) end upto whole },
+    ghost blocks: { BlocksFit (head_of view) end upto whole },
 }
 
 impl<'a, T: BitStore, O: BitOrder> BitSlice<'a, T, O> {
@@ -54,7 +54,7 @@ impl<'a, T: BitStore, O: BitOrder> BitSlice<'a, T, O> {
             chunk: 0,
             base: 0,
             end: 0,
-            whole: self.blocks_end(0, self.len),
+            whole: self.blocks_end(),
         }
     }
 }
@@ -103,7 +103,6 @@ impl<'a, T: BitStore, O: BitOrder> IterOnes<'a, T, O> {
         self.base = from;
         self.end = end;
         self.chunk = chunk;
-        self.whole = self.view.blocks_end(end, self.upto);
     }
 
     // The first index that is left, whose bit is cleared in the chunk. Requires that the chunk has a bit.

@@ -31,23 +31,22 @@ impl<'a, T: BitStore, O: BitOrder> BitSlice<'a, T, O> {
         read_chunk::<T, O>(self.words, self.head + at, n as u8)
     }
 
-    // The end of the blocks of 64 bits from index `at` on that end by `upto`, where a word begins at `at`; else `at`.
+    // The end of the whole blocks of 64 bits, where the list begins with one. Else 0.
     #[inline(always)]
-    pub(crate) fn blocks_end(self, at: usize, upto: usize) -> usize
-        requires ordered { at ≤ upto }
-        requires inside { upto ≤ len_of self }
-        ensures { BlocksFit T.BITS (head_of self.entry) at upto result }
+    pub(crate) fn blocks_end(self) -> usize
+        ensures { BlocksFit (head_of self.entry) 0 (len_of self.entry) result }
     {
-        if (self.head + at) % T::BITS as usize != 0 {
-            return at;
+        if self.head % 64 == 0 {
+            self.len / 64 * 64
+        } else {
+            0
         }
-        at + (upto - at) / 64 * 64
     }
 
-    // The block of 64 bits from index `at` on, where a word begins, as a number.
+    // The block of 64 bits from index `at` on as a number. Requires that a block begins there.
     #[inline(always)]
     pub(crate) fn block_at(self, at: usize) -> u64
-        requires begins { (head_of self + at) % T.BITS ≡ 0 }
+        requires begins { (head_of self + at) % 64 ≡ 0 }
         requires inside { at + 64 ≤ len_of self }
         ensures { IsChunk (list_of self.entry) at (at + 64) result }
     {
@@ -64,6 +63,7 @@ impl<'a, T: BitStore, O: BitOrder> BitSlice<'a, T, O> {
         ensures before { IsAbsent true (list_of self.entry) at result.0 }
         ensures chunk { IsChunk (list_of self.entry) result.0 result.1 result.2 }
         ensures none { result.2 ≡ 0 → result.0 ≡ upto }
+        ensures edge { result.1 < upto → (head_of self.entry + result.1) % 64 ≡ 0 }
     {
         match self.find_next(at, upto, true) {
             None => (upto, upto, 0),
@@ -81,11 +81,13 @@ impl<'a, T: BitStore, O: BitOrder> BitSlice<'a, T, O> {
         requires few { n ≤ 64 }
         requires ordered { at + n ≤ upto }
         requires inside { upto ≤ len_of self }
+        requires edge { at + n < upto → (head_of self + (at + n)) % 64 ≡ 0 }
         ensures begins { at ≤ result.0 }
         ensures ends { result.1 ≤ upto }
         ensures before { IsAbsent true (list_of self.entry) at result.0 }
         ensures chunk { IsChunk (list_of self.entry) result.0 result.1 result.2 }
         ensures none { result.2 ≡ 0 → result.0 ≡ upto }
+        ensures edge { result.1 < upto → (head_of self.entry + result.1) % 64 ≡ 0 }
     {
         let chunk = self.chunk_at(at, n);
         if chunk != 0 {
@@ -107,6 +109,7 @@ impl<'a, T: BitStore, O: BitOrder> BitSlice<'a, T, O> {
         ensures before { IsAbsent true (list_of self.entry) at result.0 }
         ensures chunk { IsChunk (list_of self.entry) result.0 result.1 result.2 }
         ensures none { result.2 ≡ 0 → result.0 ≡ upto }
+        ensures edge { result.1 < upto → (head_of self.entry + result.1) % 64 ≡ 0 }
     {
         if (self.head + at) % 64 == 0 && upto - at >= 64 {
             return self.chunk_from(at, 64, upto);

@@ -1,5 +1,6 @@
-use Rattle.std.proofs.Common.{◌∙◌, ap, arith}
+use Rattle.std.proofs.Common.{◌+◌, ◌∙◌, ap, arith}
 use Rattle.bit_addressing.specs.Row.{number_of}
+use Rattle.bit_slice.proofs.Chunked.{word_begins}
 use Rattle.bit_slice.proofs.Writing.{chunk_of_list}
 use Rattle.bit_slice.proofs.slice.BitSlice.block_at.Goals as goal
 
@@ -9,3 +10,6 @@ returns g c = record {
   few = omega arith;
   number = c.read_block.ensures ∙ ap number_of (chunk_of_list g.T.BitStore g.O.BitOrder c.args.self c.args.at 64 c.requires.inside);
 }
+
+pub read_block-requires-clause-begins : goal.read_block-requires-clause-begins
+read_block-requires-clause-begins g c = word_begins g.T.BitStore.BITS (c.args.self.head + c.args.at) g.met.T.BitStore.width c.requires.begins

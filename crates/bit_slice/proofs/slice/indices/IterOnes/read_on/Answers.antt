@@ -1,9 +1,9 @@
 use Rattle.std.proofs.Common.{◌+◌, min, w64, true, refl, sym, subst, arith}
 use Rattle.std.specs.Int.{trailing_zeros}
-use Rattle.bit_slice.specs.BitSlice.{list_of}
+use Rattle.bit_slice.specs.BitSlice.{head_of, list_of}
 use Rattle.bit_slice.specs.Indices.{next_of}
 use Rattle.bit_slice.specs.Places.{IsAbsent}
-use Rattle.bit_slice.proofs.Chunked.{absent_joined, chunk_left, next_at_end, none_before}
+use Rattle.bit_slice.proofs.Chunked.{absent_joined, blocks_after, chunk_left, next_at_end, none_before}
 use Rattle.bit_slice.proofs.Places.{places_empty, places_later}
 use Rattle.bit_slice.proofs.slice.indices.IterOnes.read_on.Goals as goal
 
@@ -37,5 +37,5 @@ invariant_of-self g c =
     record {
       fits = (r.ends, s.fits.1);
       read = chunk_left (list_of s.view) c.chunk_with_one-from.result.0 c.chunk_with_one-from.result.1 c.chunk_with_one-from.result.2 r.chunk;
-      blocks = c.blocks_end-self.ensures;
+      blocks = blocks_after (head_of s.view) s.end s.upto s.whole s.blocks c.chunk_with_one-from.result.1 (omega (arith, r.begins, r.chunk.ordered)) r.edge;
     }

@@ -1,4 +1,4 @@
-//! What the program's words ask for.
+//! The program's arguments.
 use crate::serving::serve;
 use bit_containers::{Lsb0, Msb0};
 use std::alloc::Global;

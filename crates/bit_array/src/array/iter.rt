@@ -1,4 +1,4 @@
-//! The bits of the array, one after another: lent, and given up with the array.
+//! Iterators over the bits of the array: a borrowed one and an owned one.
 ghost use Rattle.std.specs.Prelude.{◌≡◌, ℕ, ◌+◌, ◌*◌, ◌≤◌, length, slice_range, IfSome, Some};
 ghost use Rattle.std.specs.Iterator.{YieldsFirst, YieldsLast};
 ghost use Rattle.std.specs.Iterator.Runs.{YieldsInOrder, YieldsInReverse};
@@ -97,8 +97,8 @@ impl<A: BitWords, O: BitOrder> IntoIter<A, O> {
 }
 
 impl<A: BitViewSized, O: BitOrder> IntoIter<A, O> {
-    /// The view of the bits that are left, for writing: what is written stands in the bits that are still to
-    /// come.
+    /// The view of the bits that are left, for writing. That what is written lands in the bits that are
+    /// still to come, no clause says.
     pub fn as_mut_bitslice(&mut self) -> BitSliceMut<'_, A::Store, O>
         ensures list { lent_list result ≡ self.old }
         ensures len { lent_len result ≡ length self.old }

@@ -269,7 +269,7 @@ impl<A: BitViewSized, O: BitOrder> BitArray<A, O> {
         move_bits_counted::<A::Store, O>(words, range.start, dest, count)
     }
 
-    /// Writes the bits of a view, by whatever words and order, over those of the array. Requires that the view
+    /// Writes the bits of a view, of any word type and order, over those of the array. Requires that the view
     /// has as many bits as the array.
     ///
     /// ```text

@@ -210,7 +210,7 @@ impl<T: BitStore, O: BitOrder> BitBox<T, O> {
         self.as_bitslice().some()
     }
 
-    /// The indices of the bits that are true, ascending, from both ends. A step reads 64 bits at a time.
+    /// The indices of the bits that are true, ascending, from both ends. Bits are read 64 at a time.
     ///
     /// ```text
     /// of 01101001: bits.iter_ones() gives 1, 2, 4, 7
@@ -229,7 +229,7 @@ impl<T: BitStore, O: BitOrder> BitBox<T, O> {
         self.as_bitslice().iter_ones()
     }
 
-    /// The indices of the bits that are false, ascending, from both ends. A step reads 64 bits at a time.
+    /// The indices of the bits that are false, ascending, from both ends. Each step is a search.
     ///
     /// ```text
     /// of 01101001: bits.iter_zeros() gives 0, 3, 5, 6
@@ -248,8 +248,8 @@ impl<T: BitStore, O: BitOrder> BitBox<T, O> {
         self.as_bitslice().iter_zeros()
     }
 
-    /// The first index from which on the bits of `other` stand, of any word type and order. None exactly where
-    /// they stand nowhere. Each index is tried, 64 bits at a time, up to the first that differs.
+    /// The first index at which the bits of `other`, of any word type and order, begin in the list. None
+    /// exactly where they begin nowhere. Each index is tried in turn.
     ///
     /// ```text
     /// of 01101001 and 001: bits.find(other) == Some(5)
@@ -266,7 +266,7 @@ impl<T: BitStore, O: BitOrder> BitBox<T, O> {
         self.as_bitslice().find(other)
     }
 
-    /// Whether the bits of `other` stand somewhere in the box.
+    /// Whether the bits of `other` begin somewhere in the box.
     ///
     /// ```text
     /// of 01101001 and 001: bits.contains(other) == true

@@ -14,8 +14,8 @@ use std::iter::FusedIterator;
 
 /// The bits of a range of a vector, from both ends, each once, and then None for good.
 ///
-/// Its end takes the whole range out of the vector, also where some of it was never asked for: the bits after
-/// the range move down by one move of whole words. No call takes memory.
+/// When the iterator ends, the whole range is removed from the vector, also the bits that were not taken: the
+/// bits after the range move down by one move. No call takes memory.
 ///
 /// ```text
 /// let first = v.drain(1..4).next();     // afterwards v has lost three bits
@@ -148,7 +148,7 @@ impl<T: BitStore, O: BitOrder> BitVec<T, O> {
         self[i]
     }
 
-    // Takes the bits from `start` up to `end` out, by one move of what follows them.
+    // Removes the bits from `start` up to `end`, by one move of what follows them.
     #[tactic(auto, using(bit_slice::proofs::Parts::shown_length))]
     pub(crate) fn remove_range(&mut self, start: usize, end: usize)
         requires ordered { start ≤ end }
@@ -177,8 +177,8 @@ impl<T: BitStore, O: BitOrder> BitVec<T, O> {
         }
     }
 
-    /// Takes the bits at a range of indices out: the iterator gives them, and when it ends they are gone, whatever it
-    /// gave. What becomes of dead bits is open. Requires that the range lies in the length.
+    /// Removes the bits at a range of indices: the iterator gives them, and when it ends all of them are gone,
+    /// however many it gave. What becomes of dead bits is open. Requires that the range lies in the length.
     ///
     /// ```text
     /// of 01101001: bits.drain(1..3) gives true, true

@@ -230,7 +230,7 @@ impl<T: BitStore, O: BitOrder> BitVec<T, O> {
         move_bits_counted_in_vec::<T, O>(&mut self.words, from, to, range.end - range.start)
     }
 
-    /// Writes the bits of a view, by whatever words and order, over those of the list. No dead bit changes.
+    /// Writes the bits of a view, of any word type and order, over those of the list. No dead bit changes.
     /// Takes no memory. Requires that the view has as many bits as the vector.
     ///
     /// ```text

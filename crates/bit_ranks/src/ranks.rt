@@ -16,10 +16,11 @@ use std::marker::Model;
 // How many bits one count is for.
 const BLOCK: usize = 512;
 
-/// A boxed list of bits that knows how many ones stand before any index, and where the one with a given number stands.
+/// A boxed list of bits with counts of its ones: it tells how many ones or zeros are before an index, and at which
+/// index the `k`-th one or zero is.
 ///
-/// Beside the box it keeps one count for each whole block of 512 bits, at most an eighth of the bits' memory. The bits
-/// can't be written while they are counted: `into_bits` gives the box back.
+/// Beside the box it keeps one count for each whole block of 512 bits, at most an eighth of the bits' memory. The
+/// bits can't be written meanwhile: `into_bits` gives the box back.
 ///
 /// In contracts ranks `r` are the box: all its words `r.words`, their row `r.row`, the head `r.head` and the
 /// list `r.list`.
@@ -27,7 +28,7 @@ const BLOCK: usize = 512;
 /// ```text
 /// let ranks = Ranks::new(alloc, bits)?;   // of the bits 0110100
 /// ranks.rank1(4)                          // 2: of the ones before index 4
-/// ranks.select1(2)                        // Some(4): of the one number 2, from 0
+/// ranks.select1(2)                        // Some(4): of the ones at 1, 2 and 4, counted from 0
 /// ranks.select0(1)                        // Some(3)
 /// ```
 #[derive(Drop)]

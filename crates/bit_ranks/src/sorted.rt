@@ -18,8 +18,8 @@ use std::marker::Model;
 /// An ascending list of numbers, equal ones allowed. It takes about two bits for each number more than the
 /// logarithm of their mean gap.
 ///
-/// Each number is in two parts: its low bits are in binary in one list; for its high bits there is a one
-/// in another list, with as many zeros before it as their number says. The numbers can't be changed.
+/// Each number is in two parts: its low bits are in binary in one list; its high bits are a one in
+/// another list, and their value is the number of zeros before it. The numbers can't be changed.
 ///
 /// In contracts sorted numbers are the list of the numbers.
 ///

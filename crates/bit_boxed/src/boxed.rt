@@ -184,8 +184,8 @@ impl<T: BitStore, O: BitOrder> BitBox<T, O> {
         Self::of_words(words.into_vec())
     }
 
-    /// Like `from_boxed_slice`, for any number of words: returns them as the error exactly where they
-    /// have more than `MAX_BITS` bits. Takes no memory.
+    /// Like `from_boxed_slice`, for any number of words: returns the words as the error exactly where
+    /// they have more than `MAX_BITS` bits. Takes no memory.
     ///
     /// ```text
     /// BitBox::<u8, Lsb0>::try_from_boxed_slice(vec![in alloc; 6]?.into_boxed_slice())? holds 01100000

@@ -39,7 +39,7 @@ pub enum Command {
     Splice(usize, usize, bool, usize),
     /// Drops the bits from an index on, and asks how many they are.
     SplitOff(usize),
-    /// Copies the bits from the first index up to the second to the third index.
+    /// Copies the bits from the first index up to the second to the indices from the third on.
     CopyWithin(usize, usize, usize),
     /// Flips every bit.
     Not,

@@ -275,8 +275,8 @@ impl<T: BitStore, O: BitOrder> BitVec<T, O> {
         Ok(Self::from_slice(alloc, words)?)
     }
 
-    /// Like `from_vec`, for any number of words: returns them as the error exactly where they don't fit.
-    /// Takes no memory.
+    /// Like `from_vec`, for any number of words: returns the words as the error exactly where they don't
+    /// fit. Takes no memory.
     ///
     /// ```text
     /// BitVec::<u8, Lsb0>::try_from_vec(vec![in alloc; 6]?)? holds 01100000

@@ -18,7 +18,7 @@ pub enum FixedCommand {
     Fill(bool),
     /// Flips every bit.
     Flip,
-    /// Copies the bits from the first index up to the second to the third index.
+    /// Copies the bits from the first index up to the second to the indices from the third on.
     CopyWithin(usize, usize, usize),
     /// Asks for the length.
     Len,

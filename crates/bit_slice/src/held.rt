@@ -56,8 +56,8 @@ pub fn flip_range_in_vec<T: BitStore, O: BitOrder, R: RangeExt>(
     flip_words::<T, O>(words.as_mut_slice(), head + range.start, head + range.end);
 }
 
-/// Writes the bits of a view, of any word type and order, at the indices of a range of the list. Requires that
-/// the range lies in the list, and is as long as the view.
+/// Writes the bits of a view, with any word type and order, at the indices of a range of the list.
+/// Requires that the range lies in the list, and is as long as the view.
 pub fn copy_into_in_vec<T: BitStore, O: BitOrder, R: RangeExt, U: BitStore, P: BitOrder>(
     words: &mut Vec<T>,
     head: usize,

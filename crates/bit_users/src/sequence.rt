@@ -45,8 +45,8 @@ pub fn to_bytes<T: BitStore, O: BitOrder>(
     Ok(bytes)
 }
 
-/// Whether the bytes of two lists are those of one list: equal bytes are the bytes of equal lists. So a
-/// list's bytes can stand for it, as in a key. Takes no memory.
+/// Whether two lists are equal, by their bytes alone: lists are equal exactly where their bytes are. So
+/// a list's bytes can be used as a key for it. Takes no memory.
 ///
 /// ```text
 /// are_of_one_list(&to_bytes(alloc, &a)?, &to_bytes(alloc, &b)?)    // a.eq_bits(b.as_bitslice())

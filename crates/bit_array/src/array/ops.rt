@@ -12,8 +12,8 @@ use std::cmp::Ordering;
 use std::ops::{BitAnd, BitAndAssign, BitOr, BitOrAssign, BitXor, BitXorAssign, Index, Not};
 
 impl<A: BitWords, O: BitOrder> BitArray<A, O> {
-    /// Whether the array and a view, of any word type and order, have the same bits. The view's head doesn't
-    /// count.
+    /// Whether the array and a view, with any word type and order, have the same bits. The view's head
+    /// doesn't count.
     ///
     /// ```text
     /// of 01101001 and 01101001: bits.eq_bits(other) == true

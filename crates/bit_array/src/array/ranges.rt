@@ -78,8 +78,8 @@ impl<A: BitViewSized, O: BitOrder> BitArray<A, O> {
         self.combine::<AndNot, U, P>(other);
     }
 
-    /// Writes the bits of a view, of any word type and order, at the indices of a range, and no other bit. Requires
-    /// that the range lies in the length, and is as long as the view.
+    /// Writes the bits of a view, with any word type and order, at the indices of a range, and no other bit.
+    /// Requires that the range lies in the length, and is as long as the view.
     ///
     /// ```text
     /// of 01101001 and 0101: bits.copy_into(1..5, other) leaves 00101001

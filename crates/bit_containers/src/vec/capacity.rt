@@ -10,7 +10,7 @@ use std::alloc::{AllocError, Global};
 
 impl<T: BitStore, O: BitOrder> BitVec<T, O> {
     /// How many bits the vector has room for without new memory: as many as the words in its memory have,
-    /// at most `usize::MAX`, less the head.
+    /// or `usize::MAX` where that is less, minus the head.
     ///
     /// ```text
     /// of 0110: bits.capacity() % 8 == 0
@@ -23,7 +23,7 @@ impl<T: BitStore, O: BitOrder> BitVec<T, O> {
         all - self.head
     }
 
-    // How many more words it takes for `more` more bits.
+    // How many further words it takes for `more` further bits.
     fn words_to_add(&self, more: usize) -> Result<usize, GrowError>
         ensures words { IfOk result (λ n. n
             ≡ words_for T.BITS (self.now.head + (length self.now.list + more)) - length self.now.words) }
@@ -37,9 +37,9 @@ impl<T: BitStore, O: BitOrder> BitVec<T, O> {
         Ok(wanted.saturating_sub(self.words.len()))
     }
 
-    /// Makes room for `more` more bits, and for some beyond them where memory is taken. Words and list stay.
-    /// Returns `TooLong` exactly where the length would pass `MAX_BITS`, and `OutOfMemory` only where it
-    /// would pass the capacity.
+    /// Makes room for `more` further bits, and for some beyond them where memory is taken. Words and list
+    /// stay. Returns `TooLong` exactly where the length would pass `MAX_BITS`, and `OutOfMemory` only where
+    /// it would pass the capacity.
     ///
     /// ```text
     /// of 0110: bits.reserve(100)? leaves 0110

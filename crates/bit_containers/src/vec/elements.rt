@@ -7,7 +7,7 @@ ghost use Rattle.bit_containers.specs.BitVec.{Stayed, Shrank};
 use crate::vec::BitVec;
 use bit_addressing::{BitOrder, BitStore, cut_words_in_vec};
 
-/// Writes one word over each of the words.
+/// Writes `word` over each of the words.
 fn set_words<T: BitStore>(words: &mut [T], word: T)
     ensures { words.new ≡ replicate (length words.old) word }
 {
@@ -43,9 +43,9 @@ impl<T: BitStore, O: BitOrder> BitVec<T, O> {
         set_words_in_vec(&mut self.words, word);
     }
 
-    /// Makes the length `n`, and writes nothing: a dead bit that the list comes to reach is a bit of the list
-    /// as it is. Takes no memory. Requires that the visible words have `n` bits from the head on, and that `n`
-    /// is at most `MAX_BITS`.
+    /// Makes the length `n`, and writes nothing: where the list grows, it gets the dead bits after it as they
+    /// are. Takes no memory. Requires that the visible words have `n` bits from the head on, and that `n` is
+    /// at most `MAX_BITS`.
     ///
     /// ```text
     /// of 0110: bits.set_len(2) leaves 01

@@ -14,8 +14,8 @@ use bit_addressing::{
 use bit_slice::BitSlice;
 
 impl<T: BitStore, O: BitOrder> BitVec<T, O> {
-    /// Appends the bits of a view, of any word type and order, by whole words. Words of zero are appended first, as
-    /// many as the bits take beside the visible ones. Returns `TooLong` exactly where the length would pass
+    /// Appends the bits of a view, with any word type and order, by whole words. Words of zero are appended
+    /// first, as many as the bits take beside the visible ones. Returns `TooLong` exactly where the length would pass
     /// `MAX_BITS`, and `OutOfMemory` only where it would pass the capacity. A refusal changes nothing but perhaps the
     /// capacity.
     ///

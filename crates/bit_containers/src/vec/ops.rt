@@ -13,8 +13,8 @@ use std::cmp::Ordering;
 use std::ops::{BitAnd, BitAndAssign, BitOr, BitOrAssign, BitXor, BitXorAssign, Index, Not};
 
 impl<T: BitStore, O: BitOrder> BitVec<T, O> {
-    /// Whether the vector and a view, of any word type and order, have the same bits. Heads and dead bits
-    /// don't count.
+    /// Whether the vector and a view, with any word type and order, have the same bits. Heads and
+    /// dead bits don't count.
     ///
     /// ```text
     /// of 01101001 and 01101001: bits.eq_bits(other) == true

@@ -106,9 +106,9 @@ impl<T: BitStore, O: BitOrder> BitVec<T, O> {
         }
     }
 
-    /// Replaces the bits at a range of indices by those of a view, of any word type and order: what follows moves
-    /// once. Takes memory only where the list grows, and is refused like `resize` to the new length. What becomes of
-    /// dead bits is open. Requires that the range lies in the length.
+    /// Replaces the bits at a range of indices by those of a view, with any word type and order: what follows
+    /// moves once. Takes memory only where the list grows, and is refused like `resize` to the new length. What
+    /// becomes of dead bits is open. Requires that the range lies in the length.
     ///
     /// ```text
     /// of 0110 and 101: bits.replace_range(1..2, other)? leaves 010110

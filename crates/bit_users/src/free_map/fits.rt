@@ -1,5 +1,4 @@
-//! Runs of frames that begin at a multiple of a number, and runs in the shortest run of free frames
-//! that is long enough.
+//! Calls that take frames from a multiple of a number on, or where they fit best.
 ghost use Rattle.std.specs.Prelude.{◌≡◌, ◌%◌, ◌<◌, ◌≤◌, ℕ, true, IfNone, IfSome, MatchOption, Some, length, replicate};
 ghost use Rattle.bit_addressing.specs.Row.{put};
 ghost use Rattle.bit_users.specs.FreeMap.{AreFree, IsBestBelow, IsBestFit, IsFirstAligned};

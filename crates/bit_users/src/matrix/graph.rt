@@ -112,8 +112,8 @@ impl Matrix {
 
     // For each node from `start` up to `end`, at most 64, to which an edge leads from `row`, adds an edge from `row`
     // to each node to which an edge leads from it. Nodes whose bits in `leading` are not set have no edge, and are
-    // skipped. Requires that these nodes are closed: the edges of a node include those of each of the nodes to which
-    // it has an edge, so these are skipped after it.
+    // skipped. Requires that these nodes are closed: the edges of one of them include those of each other one to
+    // which it has an edge, so these others are skipped after it.
     fn lead_row(&mut self, row: usize, start: usize, end: usize, leading: u64)
         requires square { self.old.rows ≡ self.old.columns }
         requires row { row < self.old.rows }

@@ -8,8 +8,9 @@ use crate::matrix::Matrix;
 use std::alloc::{AllocError, Global};
 
 impl Matrix {
-    /// The rank mod 2: the number of rows in a set of independent rows of which each row is a sum mod 2. It reduces
-    /// each row of a copy by the rows before it. Takes memory where there is a bit, and is refused only then.
+    /// The rank mod 2: the number of rows in a set of independent rows such that each row is a sum mod 2 of some of
+    /// them. It reduces each row of a copy by the rows before it. Takes memory where there is a bit, and is refused
+    /// only then.
     ///
     /// ```text
     /// of the rows 110, 011 and 101: m.rank_mod_2(alloc)? == 2

@@ -12,8 +12,8 @@ use std::alloc::{AllocError, Global};
 
 impl Matrix {
     /// The matrix whose rows are the columns of this one, by squares of 64 x 64 bits. Takes memory where there is a
-    /// bit, and is refused only then; also where the bits of the result, with the padding of each row, would pass
-    /// `MAX_BITS`.
+    /// bit, and is refused only then. It is refused too where the bits of the result, with the padding of each row,
+    /// would pass `MAX_BITS`.
     ///
     /// ```text
     /// of the rows 110 and 001: m.transpose(alloc)? has the rows 10, 10 and 01
@@ -70,7 +70,7 @@ impl Matrix {
         square
     }
 
-    // Writes such a square, without the rows and columns that the matrix has not.
+    // Writes such a square, in the rows and columns that the matrix has.
     fn write_square(&mut self, top: usize, left: usize, square: &[u64; 64])
         requires top { top < self.old.rows }
         requires left { left < self.old.columns }

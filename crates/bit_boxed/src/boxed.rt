@@ -291,7 +291,7 @@ impl<T: BitStore, O: BitOrder> BitBox<T, O> {
     /// The bits that an iterator gives before its first None, from head 0 on: the words are canonical. It pulls
     /// nothing after that None. Returns `TooLong` at the first bit with which the length would pass `MAX_BITS`, and
     /// `OutOfMemory` only where at least one bit and at most `MAX_BITS` were pulled. A refusal pulls no more. Items
-    /// that were pulled are lost.
+    /// that were pulled are lost. Requires that the iterator ends.
     ///
     /// ```text
     /// BitBox::<u8, Lsb0>::from_bits(alloc, Some(true))? holds 1

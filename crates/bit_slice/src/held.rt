@@ -1,5 +1,5 @@
 //! Calls that write the list that a container keeps in the words of a vector. Each takes the words, the head
-//! and the length of the list, and keeps the capacity.
+//! and the length of the list, requires that the list lies in the words, and keeps the capacity.
 ghost use Rattle.std.specs.Prelude.{◌≡◌, ◌+◌, ◌-◌, ◌*◌, ◌^◌, ◌<◌, ◌≤◌, ◌++◌, drop, false, length, map, not, replicate, reverse, slice_range, take, vec_capacity};
 ghost use Rattle.bit_addressing.specs.declared.length.TheConstants.{MAX_BITS};
 ghost use Rattle.bit_addressing.specs.Range.{LiesIn};

@@ -111,7 +111,8 @@ impl<T: BitStore, O: BitOrder> Session<T, O> {
         Ending::BadCommand(self.number)
     }
 
-    /// Appends a byte to the line.
+    /// Appends a byte to the line. Requires that the line has room, and that the byte is no line
+    /// feed.
     fn push_byte(&mut self, byte: u8) -> Result<(), AllocError>
         requires room { length self.old.line < MAX_LINE }
         requires other { byte ≢ 10 }

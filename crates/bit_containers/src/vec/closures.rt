@@ -13,7 +13,7 @@ impl<T: BitStore, O: BitOrder> BitVec<T, O> {
     /// Keeps the first `n` bits, or appends what `f` returns at each new index until there are `n`. Memory is taken
     /// first; then `f` is called once for each new index, in order. Where it grows it is refused like `push`, and a
     /// refusal makes no call and changes nothing but perhaps the capacity. Where it shrinks it is like `truncate`,
-    /// and makes no call.
+    /// and makes no call. Requires that `f` can always be called.
     ///
     /// ```text
     /// of 0110: bits.resize_with(6, |i| i == 5)? leaves 011001
@@ -90,7 +90,7 @@ impl<T: BitStore, O: BitOrder> BitVec<T, O> {
 
     /// Keeps the bits at which `f` returns true, in order. `f` is called once for each bit, with its index and the
     /// bit, by ascending index. The bits that stay are gathered in words, and each word is stored once. Takes no
-    /// memory. What becomes of dead bits is open.
+    /// memory. What becomes of dead bits is open. Requires that `f` can always be called.
     ///
     /// ```text
     /// of 0110: bits.retain(|i, bit| *bit || i == 0) leaves 011

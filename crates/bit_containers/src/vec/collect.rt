@@ -39,7 +39,7 @@ impl<T: BitStore, O: BitOrder> BitVec<T, O> {
     /// Appends what an iterator gives before its first None, 64 bits at a time, and pulls nothing after that None.
     /// Returns `TooLong` at the first bit with which the length would pass `MAX_BITS`, and `OutOfMemory` only where
     /// the length would pass the capacity and not `MAX_BITS`. A refusal pulls no more, and leaves the list. Items
-    /// that were pulled are lost.
+    /// that were pulled are lost. Requires that the iterator ends.
     ///
     /// A caller's proof knows the new list where it knows what the source gives, as of a `Vec<bool>`, an
     /// `Option<bool>`, or the bits of another vector by `into_iter` or `iter`, mapped or not. Views and words
@@ -168,7 +168,7 @@ impl<T: BitStore, O: BitOrder> BitVec<T, O> {
     }
 
     /// The bits that an iterator gives before its first None, from head 0 on: the words are canonical. It is refused
-    /// like `extend`.
+    /// like `extend`. Requires that the iterator ends.
     ///
     /// ```text
     /// BitVec::<u8, Lsb0>::from_bits(alloc, Some(true))? holds 1
@@ -198,8 +198,8 @@ impl<T: BitStore, O: BitOrder> BitVec<T, O> {
     }
 
     /// Appends all bits of the words that an iterator gives before its first None, and pulls nothing after that
-    /// None. Returns `TooLong` at the first word with which the length would pass `MAX_BITS`; otherwise as
-    /// `extend`.
+    /// None. Returns `TooLong` at the first word with which the length would pass `MAX_BITS`; otherwise it is
+    /// refused like `extend`. Requires that the iterator ends.
     ///
     /// ```text
     /// of 01: bits.extend_words(Some(3))? leaves 0111000000
@@ -269,6 +269,7 @@ impl<T: BitStore, O: BitOrder> BitVec<T, O> {
 
     /// The words that an iterator gives before its first None, as they are: head 0. Returns `TooLong` at the
     /// first word with which the length would pass `MAX_BITS`; otherwise it is refused like `from_bits`.
+    /// Requires that the iterator ends.
     ///
     /// ```text
     /// BitVec::<u8, Lsb0>::from_words(alloc, Some(3))? holds 11000000

@@ -108,7 +108,8 @@ impl<'a, T: BitStore, O: BitOrder> FusedIterator for Drain<'a, T, O> {}
 impl<'a, T: BitStore, O: BitOrder> Drain<'a, T, O> {
     ghost use Rattle.bit_containers.specs.Drain.{drain_rest, DrainCanStep};
 
-    /// The bits that are still to come.
+    /// The bits that are still to come. Requires that the range still lies in the vector, which
+    /// `drain` ensures and each step keeps.
     pub fn as_bitslice(&self) -> BitSlice<'_, T, O>
         requires { DrainCanStep self.now }
         ensures { list_of result ≡ drain_rest self.now }

@@ -16,7 +16,8 @@ use std::alloc::{AllocError, Global};
 /// The bits of a range of a vector, from both ends, and what is to replace them.
 ///
 /// It has to be spent by `finish`, which puts the replacement in place of the range: before that nothing is pulled,
-/// and the vector stays.
+/// and the vector stays. Its calls require that the range still lies in the vector, which `splice` ensures and each
+/// call keeps.
 ///
 /// ```text
 /// v.splice(1..4, bits).finish()?;
@@ -355,7 +356,7 @@ impl<'a, T: BitStore, O: BitOrder, I: Iterator<Item = bool>> Splice<'a, T, O, I>
     /// Pulls the whole replacement, and puts it in place of the range: what follows moves once. Returns `TooLong` at
     /// the first bit with which the length would pass `MAX_BITS`, and `OutOfMemory` only where a bit was pulled and
     /// the length would not pass `MAX_BITS`. A refusal pulls no more, and leaves the list. What becomes of dead bits
-    /// is open.
+    /// is open. Requires that the replacement ends.
     pub fn finish(self) -> Result<(), GrowError>
         requires ready { SpliceIsReady self }
         requires ends { I.can_next self.replacement × IsFinite (I.remaining self.replacement) }

@@ -1,4 +1,4 @@
-//! The box: what it is, and how it is made and taken apart.
+//! The box, what makes one, and what gives back its words.
 ghost use Rattle.std.specs.Prelude.{◌≡◌, ◌+◌, ◌*◌, ◌<◌, ◌≤◌, ◌↔◌, false, [], ◌∷◌, Err, IfOk, IfErr, IsOk, OnErr, length, slice_range};
 ghost use Rattle.std.specs.Box.{boxed_slice_items};
 ghost use Rattle.std.specs.Iterator.{IsFiniteIterable};

@@ -1,4 +1,4 @@
-//! The vector: what it is, and how it is made and taken apart.
+//! The vector, what makes one, and what gives back its words.
 ghost use Rattle.std.specs.Prelude.{◌≡◌, ◌+◌, ◌*◌, ◌<◌, ◌≤◌, ◌↔◌, false, [], IsTrue, IfOk, IfErr, IsOk, OnErr, Err, ◌∷◌, length, replicate, slice_range, vec_capacity};
 ghost use Rattle.bit_addressing.specs.declared.length.TheConstants.{MAX_BITS};
 ghost use Rattle.bit_addressing.specs.Row.{filled, moved, sized, words_for};

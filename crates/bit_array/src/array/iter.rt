@@ -40,7 +40,7 @@ impl<A: BitWords, O: BitOrder> BitArray<A, O> {
     }
 }
 
-/// The bits of an array that is given up, from both ends, each once.
+/// The bits of an array that was consumed, from both ends, each once.
 ///
 /// Its length is known, and after the first None there is no more. It takes no memory. In contracts it is the
 /// list of the bits that it has left.
@@ -179,7 +179,7 @@ impl<A: BitWords, O: BitOrder> IntoIterator for BitArray<A, O> {
     ghost into_iter_gives = { λ a r. (r ≡ row A.Store.BitStore O.BitOrder (A.words a))
         × (length r ≤ MAX_BITS) × GivesInOrder rest_of × GivesInReverse rest_of };
 
-    /// The bits in order, from both ends; the array is given up.
+    /// The bits in order, from both ends; the array is consumed.
     fn into_iter(self) -> IntoIter<A, O> {
         IntoIter::new(self)
     }

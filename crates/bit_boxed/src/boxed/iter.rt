@@ -1,4 +1,4 @@
-//! The bits of the box, one after another: lent, and given up with the box.
+//! Iterators over the bits of the box: a borrowed one and an owned one.
 ghost use Rattle.std.specs.Prelude.{◌≡◌, ℕ, ◌+◌, ◌*◌, ◌/◌, ◌%◌, ◌<◌, ◌≤◌, [], length, slice_range, IfSome, Some};
 ghost use Rattle.std.specs.Iterator.{YieldsFirst, YieldsLast};
 ghost use Rattle.std.specs.Iterator.Runs.{YieldsInOrder, YieldsInReverse};
@@ -56,7 +56,7 @@ impl<'a, T: BitStore, O: BitOrder> IntoIterator for &'a BitBox<T, O> {
     }
 }
 
-/// The bits of a box that is given up, from both ends, each once.
+/// The bits of a box that was consumed, from both ends, each once.
 ///
 /// Its length is known, and after the first None there is no more. In contracts an iterator `r` is all its words
 /// `r.words`, the index `r.head` of their row at which the bits that are left begin, and the list `r.list` of
@@ -243,7 +243,7 @@ impl<T: BitStore, O: BitOrder> IntoIterator for BitBox<T, O> {
     ghost into_iter_gives = { λ b r. (r.words ≡ b.words) × (r.head ≡ b.head) × (r.list ≡ b.list)
         × (length r.list ≤ MAX_BITS) × GivesInOrder (rest_of {X = T}) × GivesInReverse (rest_of {X = T}) };
 
-    /// The bits in order, from both ends; the box is given up, and its words are kept.
+    /// The bits in order, from both ends; the box is consumed, and its words are kept.
     fn into_iter(self) -> IntoIter<T, O> {
         IntoIter::of(self)
     }

@@ -1,4 +1,4 @@
-//! Parts of the box as views, what it begins and ends with, and its bits as a number.
+//! Parts of the box as views, its beginning and end compared, and its bits as a number.
 ghost use Rattle.std.specs.Iterator.{YieldsFirstBy, YieldsLastBy};
 ghost use Rattle.std.specs.Iterator.Runs.{EveryRun, ItemsMapTo, ItemsMapToReversed};
 ghost use Rattle.std.specs.Prelude.{◌≡◌, ◌+◌, ◌-◌, ◌<◌, ◌≤◌, ◌↔◌, ◌++◌, ◌∷◌, [], IfSome, IsTrue, IsNone, drop, length, take, ◌*◌, ◌/◌, ◌^◌};

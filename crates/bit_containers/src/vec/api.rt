@@ -1,4 +1,4 @@
-//! The size of the vector, its ends, and bits put in and taken out.
+//! The length of the vector, and calls that append, insert and remove single bits.
 ghost use Rattle.std.specs.Prelude.{◌≡◌, ◌≢◌, ◌+◌, ◌-◌, ◌*◌, ◌<◌, ◌≤◌, false, true, [], ◌∷◌, ◌++◌, length, min, take, insert, remove, OnOk, MatchOption, Some, slice_get, IsTrue, IsSome, ◌↔◌};
 ghost use Rattle.std.specs.List.{swap_remove};
 ghost use Rattle.bit_addressing.specs.declared.length.TheConstants.{MAX_BITS};

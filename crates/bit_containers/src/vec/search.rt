@@ -1,4 +1,5 @@
-//! Where bits of the vector stand: the first, the last, the next, all of them, and those of a view.
+//! Searches of the vector: the first, the last and the next bit of a kind, all of them, and the
+//! bits of a view.
 ghost use Rattle.std.specs.Iterator.{YieldsFirst, YieldsLast};
 ghost use Rattle.std.specs.Iterator.Runs.{YieldsInOrder, YieldsInReverse};
 ghost use Rattle.std.specs.List.{list_any, list_all, position, prefix_len, suffix_len, All};

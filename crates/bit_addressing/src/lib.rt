@@ -15,7 +15,7 @@ mod store;
 mod word_read;
 mod word_row;
 
-pub use bits::chunks::{read_binary, read_chunk, write_binary, write_chunk};
+pub use bits::chunks::{read_binary, read_block, read_chunk, write_binary, write_chunk};
 pub use bits::combined::{And, BitOperator, Or, Xor, combine_bits};
 pub use bits::copies::copy_bits;
 pub use bits::growth::{

@@ -1,17 +1,18 @@
 -- Items of a list read as a number: whether one of them is true, and its lowest bits cleared one by one.
-use Rattle.std.proofs.Common.{◌≡◌, ◌≢◌, ℕ, ◌+◌, ◌-◌, ◌^◌, ◌<◌, ◌≤◌, min, Bool, true, false, List, length, get_or, slice_range, w64, refl, sym, ◌∙◌, ap, inl, inr, arith, bit_and}
+use Rattle.std.proofs.Common.{◌≡◌, ◌≢◌, ℕ, ◌+◌, ◌-◌, ◌*◌, ◌/◌, ◌%◌, ◌^◌, ◌<◌, ◌≤◌, min, Bool, true, false, List, length, get_or, slice_range, w64, refl, sym, ◌∙◌, ap, inl, inr, arith, bit_and}
 use Rattle.std.specs.Int.{trailing_zeros}
 use Rattle.std.specs.Int.Count.{trailing_of_zero}
 use Rattle.std.proofs.lemmas.Bool.{cases_lt, true≢false}
 use Rattle.std.proofs.lemmas.List.{get_or_past, length-take, length-drop}
-use Rattle.std.proofs.lemmas.Nat.{and_le_l}
-use Rattle.bit_addressing.specs.Bits.{has_bit}
+use Rattle.std.proofs.Math.Nat.{add-mul-mod_self_right, mul-mod_left}
+use Rattle.std.proofs.lemmas.Nat.{and_le_l, div-add-mod'}
+use Rattle.bit_addressing.specs.Bits.{IsWidth, has_bit}
 use Rattle.bit_addressing.specs.Row.{number_of}
 use Rattle.bit_addressing.proofs.Chunks.{has_number, no_bits}
 use Rattle.bit_addressing.proofs.Lowest.{has_lowest, has_below_lowest, cleared_lowest, cleared_other}
 use Rattle.bit_addressing.proofs.Words.{has_none}
 use Rattle.bit_slice.proofs.Found.{item_of_part}
-use Rattle.bit_slice.specs.Places.{IsAbsent, IsChunk, IsChunkLeft}
+use Rattle.bit_slice.specs.Places.{BlocksFit, IsAbsent, IsChunk, IsChunkLeft}
 
 -- two runs without a bit, one after the other
 pub absent_joined : (bit : Bool) (xs : List Bool) (lo middle hi : ℕ) → IsAbsent bit xs lo middle → IsAbsent bit xs middle hi → IsAbsent bit xs lo hi
@@ -138,3 +139,46 @@ module _ (xs : List Bool) (lo hi chunk : ℕ) (is : IsChunkLeft xs lo hi chunk) 
           let e : lo + (j - lo) ≡ j = omega arith in
           ap (λ n. get_or xs n false) (sym e) ∙ sym (after_first (j - lo) (omega arith) (omega arith)) ∙ has_below_lowest w64 rest small (j - lo) (omega arith);
     }
+
+-- a word that begins at an index begins 64 bits later too
+word_later : (w at : ℕ) → IsWidth w → at % w ≡ 0 → (at + 64) % w ≡ 0
+word_later w at wide begins =
+    let whole : 64 / w * w ≡ 64 = elim wide [
+      | inl e ↦ rw e refl
+      | inr (inl e) ↦ rw e refl
+      | inr (inr (inl e)) ↦ rw e refl
+      | inr (inr (inr e)) ↦ rw e refl
+    ] in
+    ap (λ n. (at + n) % w) (sym whole) ∙ add-mul-mod_self_right at (64 / w) w ∙ begins
+
+module _ (w head lo hi end : ℕ) (fit : BlocksFit w head lo hi end) (more : lo < end) where
+  counted : end - lo ≡ (end - lo) / 64 * 64
+  counted = let split = div-add-mod' (end - lo) 64 in let none = (fit.blocks more).0 in omega (arith, split, none)
+
+  -- a block is whole
+  pub block_ends : lo + 64 ≤ end
+  block_ends = omega (arith, counted, more)
+
+  -- the blocks after one
+  pub blocks_after : IsWidth w → BlocksFit w head (lo + 64) hi end
+  blocks_after wide = record {
+    inside = fit.inside;
+    blocks = λ again.
+        let fewer : end - (lo + 64) ≡ ((end - lo) / 64 - 1) * 64 = omega (arith, counted, more) in
+        let next : head + (lo + 64) ≡ head + lo + 64 = omega arith in
+        (ap (λ n. n % 64) fewer ∙ mul-mod_left ((end - lo) / 64 - 1) 64, ap (λ n. n % w) next ∙ word_later w (head + lo) wide (fit.blocks more).1);
+  }
+
+-- the blocks between two indices, where a word begins at the first
+pub blocks_between : (w head lo hi : ℕ) → lo ≤ hi → (head + lo) % w ≡ 0 → BlocksFit w head lo hi (lo + (hi - lo) / 64 * 64)
+blocks_between w head lo hi ordered begins =
+    let split = div-add-mod' (hi - lo) 64 in
+    let size : lo + (hi - lo) / 64 * 64 - lo ≡ (hi - lo) / 64 * 64 = omega arith in
+    record {
+      inside = omega (arith, split);
+      blocks = λ more. (ap (λ n. n % 64) size ∙ mul-mod_left ((hi - lo) / 64) 64, begins);
+    }
+
+-- no block
+pub blocks_none : (w head lo hi end : ℕ) → end ≤ hi → end ≤ lo → BlocksFit w head lo hi end
+blocks_none w head lo hi end inside none = record { inside = inside; blocks = λ more. absurd (omega arith) }

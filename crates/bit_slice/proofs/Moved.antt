@@ -50,8 +50,8 @@ module _ (xs : List Bool) (n by : ℕ) (size : length xs ≡ n) (inside : by ≤
       ap (slice_get (drop by xs ++ replicate by false)) e ∙ read_joined xs (replicate by false) n by size inside (j - (n - by)) (omega (arith, size_of, below))
       ∙ slice_get-get_or (replicate by false) (j - (n - by)) false (omega (arith, size_of, below)) ∙ ap Some (get_or-replicate by (j - (n - by)) false false below)
 
-  pub read_later : (j : ℕ) → j + by < n → slice_get (replicate by false ++ take (n - by) xs) (j + by) ≡ slice_get xs j
-  read_later j h =
+  pub read_shifted : (j : ℕ) → j + by < n → slice_get (replicate by false ++ take (n - by) xs) (j + by) ≡ slice_get xs j
+  read_shifted j h =
       let e : j + by ≡ by + j = omega arith in
       ap (slice_get (replicate by false ++ take (n - by) xs)) e
       ∙ read_second (replicate by false) (take (n - by) xs) by j (length-replicate by false) (omega (arith, length-take (n - by) xs, size, h))
@@ -90,7 +90,7 @@ module _ (xs ys : List Bool) where
   shifted_left_end by j is inside a b = rw is (read_emptied xs (length xs) by refl inside j a b)
 
   pub shifted_right_at : (by j : ℕ) → ys ≡ replicate by false ++ take (length xs - by) xs → by ≤ length xs → j + by < length xs → slice_get ys (j + by) ≡ slice_get xs j
-  shifted_right_at by j is inside h = rw is (read_later xs (length xs) by refl inside j h)
+  shifted_right_at by j is inside h = rw is (read_shifted xs (length xs) by refl inside j h)
 
   pub shifted_right_front : (by j : ℕ) → ys ≡ replicate by false ++ take (length xs - by) xs → by ≤ length xs → j < by → slice_get ys j ≡ Some false
   shifted_right_front by j is inside h = rw is (read_cleared xs (length xs) by refl inside (take (length xs - by) xs) j h)

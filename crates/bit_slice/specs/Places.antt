@@ -1,5 +1,5 @@
 -- Where a bit stands in a list, and the indices of the items that are true or false.
-use Rattle.std.specs.Prelude.{◌≡◌, ℕ, ◌+◌, ◌-◌, ◌<◌, ◌≤◌, Bool, false, true, not, List, [], ◌∷◌, length, slice_index_or, slice_range, refl}
+use Rattle.std.specs.Prelude.{◌≡◌, ℕ, ◌+◌, ◌-◌, ◌%◌, ◌<◌, ◌≤◌, Bool, false, true, not, List, [], ◌∷◌, length, slice_index_or, slice_range, refl}
 use Rattle.std.specs.List.{filter, range_with_len}
 use Rattle.bit_addressing.specs.Bits.{has_bit}
 use Rattle.bit_addressing.specs.Row.{number_of}
@@ -34,6 +34,11 @@ pub record IsChunkLeft (xs : List Bool) (lo hi chunk : ℕ) : Type 0 where
   pub few : hi ≤ lo + 64
   pub same : (k j : ℕ) → has_bit chunk k ≡ true → k ≤ j → lo + j < hi → has_bit chunk j ≡ slice_index_or xs (lo + j) false
   pub past : (j : ℕ) → hi ≤ lo + j → has_bit chunk j ≡ false
+
+-- blocks of 64 bits lie from lo up to end, which is at most hi, and a word of this width begins at lo; or there is none
+pub record BlocksFit (width head lo hi end : ℕ) : Type 0 where
+  pub inside : end ≤ hi
+  pub blocks : lo < end → ((end - lo) % 64 ≡ 0) × ((head + lo) % width ≡ 0)
 
 -- the indices from lo up to hi whose items pass a test, ascending
 abbrev pub places_between : (Bool → Bool) → List Bool → ℕ → ℕ → List ℕ

@@ -1,7 +1,7 @@
 //! Runs of up to 64 bits as numbers, whatever the words and the order that they lie in.
 //!
 //! Calls between words of two types or orders go through these numbers, 64 bits at a time.
-ghost use Rattle.std.specs.Prelude.{◌≡◌, ℕ, true, ◌+◌, ◌*◌, ◌/◌, ◌^◌, ◌<◌, ◌≤◌, [], ◌∷◌, length, slice_range};
+ghost use Rattle.std.specs.Prelude.{◌≡◌, ℕ, true, ◌+◌, ◌*◌, ◌/◌, ◌%◌, ◌^◌, ◌<◌, ◌≤◌, [], ◌∷◌, length, slice_range};
 ghost use Rattle.bit_addressing.specs.Binary.{value};
 ghost use Rattle.bit_addressing.specs.Row.{binary, number_bits, number_of, put, row_of};
 ghost use Rattle.bit_addressing.specs.Typed.{row};
@@ -75,6 +75,21 @@ pub(crate) fn word_alike<T: BitStore, O: BitOrder, U: BitStore, P: BitOrder>(wor
     T::from_u64(word.to_u64())
 }
 
+/// The 64 bits of the row from `at` on as a number, the first at place 0. Requires that a word begins at `at`, and that
+/// the words have them.
+///
+/// ```text
+/// of the words 01 02 03 04 05 06 07 08 by u8 and Lsb0: read_block(words, 0) == 0x0807060504030201
+/// ```
+#[inline(always)]
+pub fn read_block<T: BitStore, O: BitOrder>(words: &[T], at: usize) -> u64
+    requires begins { at % T.BITS ≡ 0 }
+    requires within { at + 64 ≤ T.BITS * length words.now }
+    ensures { result ≡ number_of (slice_range (row T.BitStore O.BitOrder words.now) at (at + 64)) }
+{
+    word_number::<u64, O>(O::pack(words, at / T::BITS as usize))
+}
+
 /// The `n` bits of the row from `at` on as a number, the first at place 0. Requires that `n` is at most 64, and the
 /// run lies in the words.
 #[inline(always)]
@@ -90,7 +105,7 @@ pub fn read_chunk<T: BitStore, O: BitOrder>(words: &[T], at: usize, n: u8) -> u6
     let skip = (at % width) as u8;
     // 64 bits that begin with a narrow word are one load, without a call (docs/SPEED.md, "The bench", ones).
     if T::BITS < 64 && n == 64 && skip == 0 {
-        return word_number::<u64, O>(O::pack(words, at / width));
+        return read_block::<T, O>(words, at);
     }
     if T::BITS - skip < n {
         return read_over::<T, O>(words, at, n);

@@ -341,20 +341,14 @@ fn differ_alike<T: BitStore, O: BitOrder, U: BitStore, P: BitOrder>(
         }
     }
     let rest = (n % width) as u8;
-    if T::BITS < 64 && rest > 0 {
-        let apart = first_bits_apart::<T, O, U, P>(a[k + whole], b[l + whole], rest);
-        if apart.to_u64() == 0 {
-            return None;
-        }
-        return Some(whole * width + word_number::<T, O>(apart).trailing_zeros() as usize);
-    }
-    let left = read_chunk::<T, O>(a, (k + whole) * width, rest);
-    let right = read_chunk::<U, P>(b, (l + whole) * width, rest);
-    let apart = left ^ right;
-    if apart == 0 {
+    if rest == 0 {
         return None;
     }
-    Some(whole * width + apart.trailing_zeros() as usize)
+    let apart = first_bits_apart::<T, O, U, P>(a[k + whole], b[l + whole], rest);
+    if apart.to_u64() == 0 {
+        return None;
+    }
+    Some(whole * width + word_number::<T, O>(apart).trailing_zeros() as usize)
 }
 
 /// Like `differ_alike`, of a long run.

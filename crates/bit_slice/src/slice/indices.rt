@@ -3,8 +3,8 @@ ghost use Rattle.std.specs.Iterator.{YieldsFirst, YieldsLast};
 ghost use Rattle.std.specs.Iterator.Runs.{YieldsInOrder, YieldsInReverse};
 ghost use Rattle.std.specs.Prelude.{◌≡◌, ◌≢◌, ℕ, ◌+◌, ◌-◌, ◌*◌, ◌<◌, ◌≤◌, [], ◌∷◌, IfSome, Some, count_by, false, length, not, slice_get, true};
 ghost use Rattle.std.specs.List.{All};
-ghost use Rattle.bit_slice.specs.BitSlice.{len_of, list_of};
-ghost use Rattle.bit_slice.specs.Places.{IsChunkLeft, ones_of, places_between, zeros_of};
+ghost use Rattle.bit_slice.specs.BitSlice.{head_of, len_of, list_of};
+ghost use Rattle.bit_slice.specs.Places.{BlocksFit, IsChunkLeft, ones_of, places_between, zeros_of};
 
 use crate::slice::BitSlice;
 use bit_addressing::{BitOrder, BitStore};
@@ -22,8 +22,12 @@ pub struct IterOnes<'a, T: BitStore, O: BitOrder> {
     chunk: u64,
     base: usize,
     end: usize,
+    // The end of the blocks of 64 bits from `end` on, where a word begins at `end`. They are read without a test of the
+    // length (docs/SPEED.md, "The bench", ones 67th).
+    whole: usize,
     ghost fits: { (end ≤ upto) × (upto ≤ len_of view) },
     ghost read: { IsChunkLeft (list_of view) base end chunk },
+    ghost blocks: { BlocksFit T.BITS (head_of view) end upto whole },
 }
 
 impl<'a, T: BitStore, O: BitOrder> BitSlice<'a, T, O> {
@@ -50,6 +54,7 @@ impl<'a, T: BitStore, O: BitOrder> BitSlice<'a, T, O> {
             chunk: 0,
             base: 0,
             end: 0,
+            whole: self.blocks_end(0, self.len),
         }
     }
 }
@@ -73,6 +78,20 @@ impl<'a, T: BitStore, O: BitOrder> IterOnes<'a, T, O> {
         self.view.get_range(self.next_at()..self.upto).count_ones()
     }
 
+    // Reads the next block, if there is one, whatever its bits. Requires that none is left of those that were read.
+    #[inline(always)]
+    fn read_block(&mut self)
+        requires { self.old.chunk ≡ 0 }
+        ensures { ones_left self.new ≡ ones_left self.old }
+    {
+        if self.end < self.whole {
+            let at = self.end;
+            self.chunk = self.view.block_at(at);
+            self.base = at;
+            self.end = at + 64;
+        }
+    }
+
     // Reads bits up to one that is true, or all of them. Requires that none is left of those that were read.
     #[inline(always)]
     fn read_on(&mut self)
@@ -84,6 +103,7 @@ impl<'a, T: BitStore, O: BitOrder> IterOnes<'a, T, O> {
         self.base = from;
         self.end = end;
         self.chunk = chunk;
+        self.whole = self.view.blocks_end(end, self.upto);
     }
 
     // Returns the first index that is left, and clears its bit in the chunk. Requires that the chunk has
@@ -111,6 +131,7 @@ impl<'a, T: BitStore, O: BitOrder> IterOnes<'a, T, O> {
             self.end = from;
         }
         self.upto = upto;
+        self.whole = 0;
     }
 }
 
@@ -129,9 +150,12 @@ impl<'a, T: BitStore, O: BitOrder> Iterator for IterOnes<'a, T, O> {
     #[inline(always)]
     fn next(&mut self) -> Option<usize> {
         if self.chunk == 0 {
-            self.read_on();
+            self.read_block();
             if self.chunk == 0 {
-                return None;
+                self.read_on();
+                if self.chunk == 0 {
+                    return None;
+                }
             }
         }
         Some(self.take_first())

@@ -1,11 +1,11 @@
 //! Searches of views: the first and the last bit of a kind, and how many of a kind are at an end.
-ghost use Rattle.std.specs.Prelude.{◌≡◌, ℕ, ◌+◌, ◌-◌, ◌*◌, ◌<◌, ◌≤◌, ◌&&◌, ◌↔◌, Bool, IsTrue, IfNone, IfSome, EachIndex, SomeIndex, MatchOption, Some, false, length, not, replicate, slice_get, slice_range, true};
+ghost use Rattle.std.specs.Prelude.{◌≡◌, ℕ, ◌+◌, ◌-◌, ◌*◌, ◌%◌, ◌<◌, ◌≤◌, ◌&&◌, ◌↔◌, Bool, IsTrue, IfNone, IfSome, EachIndex, SomeIndex, MatchOption, Some, false, length, not, replicate, slice_get, slice_range, true};
 ghost use Rattle.std.specs.List.{list_any, list_all, position, prefix_len, suffix_len};
 ghost use Rattle.bit_slice.specs.BitSlice.{head_of, len_of, list_of, words_of};
-ghost use Rattle.bit_slice.specs.Places.{IsAbsent, IsChunk, IsLast, IsNext};
+ghost use Rattle.bit_slice.specs.Places.{BlocksFit, IsAbsent, IsChunk, IsLast, IsNext};
 
 use crate::slice::BitSlice;
-use bit_addressing::{BitOrder, BitStore, find_bit, read_chunk};
+use bit_addressing::{BitOrder, BitStore, find_bit, read_block, read_chunk};
 
 impl<'a, T: BitStore, O: BitOrder> BitSlice<'a, T, O> {
     // The first index from `from` up to `upto` with this bit.
@@ -29,6 +29,29 @@ impl<'a, T: BitStore, O: BitOrder> BitSlice<'a, T, O> {
         ensures { IsChunk (list_of self.entry) at (at + n) result }
     {
         read_chunk::<T, O>(self.words, self.head + at, n as u8)
+    }
+
+    // The end of the blocks of 64 bits from index `at` on that end by `upto`, where a word begins at `at`; else `at`.
+    #[inline(always)]
+    pub(crate) fn blocks_end(self, at: usize, upto: usize) -> usize
+        requires ordered { at ≤ upto }
+        requires inside { upto ≤ len_of self }
+        ensures { BlocksFit T.BITS (head_of self.entry) at upto result }
+    {
+        if (self.head + at) % T::BITS as usize != 0 {
+            return at;
+        }
+        at + (upto - at) / 64 * 64
+    }
+
+    // The block of 64 bits from index `at` on, where a word begins, as a number.
+    #[inline(always)]
+    pub(crate) fn block_at(self, at: usize) -> u64
+        requires begins { (head_of self + at) % T.BITS ≡ 0 }
+        requires inside { at + 64 ≤ len_of self }
+        ensures { IsChunk (list_of self.entry) at (at + 64) result }
+    {
+        read_block::<T, O>(self.words, self.head + at)
     }
 
     // Like `chunk_with_one`, where the first bits are searched by the call that finds a bit.

@@ -19,6 +19,6 @@ returns g c =
     let word : at / width ≡ at / w = ap (λ n. at / n) c.BITS-width.ensures in
     let zs = row g.T.BitStore g.O.BitOrder c.args.words.now in
     let size : length zs ≡ w * length c.args.words.now = length_row g.T.BitStore.value g.O.BitOrder.place w c.args.words.now in
-    read_done zs at c.args.n (w - at % width) (c.word_number-2.result / 2 ^ (at % width))
-    (read_first g.T.BitStore.value g.O.BitOrder.place w positive c.args.words.now at (at / width) (at % width) c.word_number-2.result c.index-words-at.result (omega arith) word rest c.index-words-at.is c.word_number-2.ensures)
+    read_done zs at c.args.n (w - at % width) (c.word_number.result / 2 ^ (at % width))
+    (read_first g.T.BitStore.value g.O.BitOrder.place w positive c.args.words.now at (at / width) (at % width) c.word_number.result c.index-words-at.result (omega arith) word rest c.index-words-at.is c.word_number.ensures)
     (omega arith) (omega arith) c.requires.few (omega arith)

@@ -98,62 +98,21 @@ loop-t-preserved g c =
     ] in
     record { alike = subst (AreAlike xs ys i j) next alike }
 
-pub returns-then-apart-eq0 : goal.returns-then-apart-eq0
-returns-then-apart-eq0 g c =
+pub returns-then-rest-eq0 : goal.returns-then-rest-eq0
+returns-then-rest-eq0 g c =
     let w = g.T.BitStore.BITS in
     let u = g.U.BitStore.BITS in
     let d = c.BITS-width.result in
-    let e = c.BITS-width.ensures in
     let n = c.args.n in
     let xs = row g.T.BitStore g.O.BitOrder c.args.a.now in
     let ys = row g.U.BitStore g.P.BitOrder c.args.b.now in
     let first : length xs ≡ w * length c.args.a.now = length_row g.T.BitStore.value g.O.BitOrder.place w c.args.a.now in
     let second : length ys ≡ w * length c.args.b.now = length_row g.U.BitStore.value g.P.BitOrder.place u c.args.b.now ∙ ap (λ m. m * length c.args.b.now) c.requires.width in
-    let i : ℕ = c.args.k * w in
-    let j : ℕ = c.args.l * w in
-    let whole : ℕ = n / d in
     let split = div-add-mod' n d in
-    let wide : whole * d ≡ whole * w = ap (λ m. whole * m) e in
-    let all : c.loop-t.t ≡ whole = omega arith in
-    alike_all xs ys i j n (whole * w + n % d) (omega arith) (omega arith) (omega arith)
-    (alike_more xs ys i j (whole * w) (n % d) c.read_chunk-left.result c.read_chunk-right.result ((c.args.k + whole) * d) ((c.args.l + whole) * d) (word_begins c.args.k whole d w e) (word_begins c.args.l whole d w e) c.read_chunk-left.ensures c.read_chunk-right.ensures c.if-apart-eq0.true
-    (subst (λ m. AreAlike xs ys i j (m * w)) all c.loop-t.invariant.alike))
-
-last_in : (g : given.Over) (c : goal.Else-apart-eq0 g) → IsFirstDifference (slice_range (row g.T.BitStore g.O.BitOrder c.args.a.now) (c.args.k * g.T.BitStore.BITS) (c.args.k * g.T.BitStore.BITS + c.args.n)) (slice_range (row g.U.BitStore g.P.BitOrder c.args.b.now) (c.args.l * g.T.BitStore.BITS) (c.args.l * g.T.BitStore.BITS + c.args.n)) (c.args.n / c.BITS-width.result * c.BITS-width.result + trailing_zeros w64 (bit_xor c.read_chunk-left.result c.read_chunk-right.result))
-last_in g c =
-    let w = g.T.BitStore.BITS in
-    let u = g.U.BitStore.BITS in
-    let d = c.BITS-width.result in
-    let e = c.BITS-width.ensures in
-    let n = c.args.n in
-    let xs = row g.T.BitStore g.O.BitOrder c.args.a.now in
-    let ys = row g.U.BitStore g.P.BitOrder c.args.b.now in
-    let first : length xs ≡ w * length c.args.a.now = length_row g.T.BitStore.value g.O.BitOrder.place w c.args.a.now in
-    let second : length ys ≡ w * length c.args.b.now = length_row g.U.BitStore.value g.P.BitOrder.place u c.args.b.now ∙ ap (λ m. m * length c.args.b.now) c.requires.width in
-    let i : ℕ = c.args.k * w in
-    let j : ℕ = c.args.l * w in
-    let x = c.read_chunk-left.result in
-    let y = c.read_chunk-right.result in
-    let whole : ℕ = n / d in
-    let split = div-add-mod' n d in
-    let wide : whole * d ≡ whole * w = ap (λ m. whole * m) e in
-    let all : c.loop-t.t ≡ whole = omega arith in
-    subst (λ m. IsFirstDifference (slice_range xs i (i + n)) (slice_range ys j (j + n)) (m + trailing_zeros w64 (bit_xor x y))) (sym wide)
-    (differ_here xs ys i j (whole * w) (n % d) x y ((c.args.k + whole) * d) ((c.args.l + whole) * d) (word_begins c.args.k whole d w e) (word_begins c.args.l whole d w e) c.read_chunk-left.ensures c.read_chunk-right.ensures
-    n c.if-apart-eq0.false (xor_lt 64 x y c.read_chunk-left.type_inv c.read_chunk-right.type_inv) (omega arith) (omega arith) (omega arith)
-    (subst (λ m. AreAlike xs ys i j (m * w)) all c.loop-t.invariant.alike))
-
-pub overflow_add-result-2 : goal.overflow_add-result-2
-overflow_add-result-2 g c =
-    let xs = row g.T.BitStore g.O.BitOrder c.args.a.now in
-    let i : ℕ = c.args.k * g.T.BitStore.BITS in
-    let first : length xs ≡ g.T.BitStore.BITS * length c.args.a.now = length_row g.T.BitStore.value g.O.BitOrder.place g.T.BitStore.BITS c.args.a.now in
-    let size = length-run xs i c.args.n (omega arith) in
-    let inside = (last_in g c).within in
-    omega arith
-
-pub returns : goal.returns
-returns g c = last_in g c
+    let wide : n / d * d ≡ n / d * w = ap (λ m. n / d * m) c.BITS-width.ensures in
+    let all : c.loop-t.t ≡ n / d = omega arith in
+    alike_all xs ys (c.args.k * w) (c.args.l * w) n (n / d * w) (omega arith) (omega arith) (omega arith)
+    (subst (λ m. AreAlike xs ys (c.args.k * w) (c.args.l * w) (m * w)) all c.loop-t.invariant.alike)
 
 and_true : (b : Bool) → (b && true) ≡ b
 and_true true = refl
@@ -207,17 +166,17 @@ returns-then-to_u64-eq0 g c =
     let here : k + whole < length a = inside_words w (k + whole) (length a) (k * w + whole * w) (sym (right_sum k whole w)) (omega arith) in
     let there : l + whole < length b = inside_words w (l + whole) (length b) (l * w + whole * w) (sym (right_sum l whole w)) (omega arith) in
     let v = g.T.BitStore.value c.first_bits_apart-apart.result in
-    let tells = tells_apart g.T.BitStore.value g.U.BitStore.value place g.P.BitOrder.place w u a b k l whole rest v c.index-a-k-then-rest-gt0.result c.index-b-l-then-rest-gt0.result positive c.requires.width few c.first_bits_apart-apart.ensures here there c.index-a-k-then-rest-gt0.is c.index-b-l-then-rest-gt0.is in
+    let tells = tells_apart g.T.BitStore.value g.U.BitStore.value place g.P.BitOrder.place w u a b k l whole rest v c.index-a-k-2.result c.index-b-l-2.result positive c.requires.width few c.first_bits_apart-apart.ensures here there c.index-a-k-2.is c.index-b-l-2.is in
     let clear : (q : ℕ) → q < rest → has_bit v (place w q) ≡ false = λ q h.
     let p : ℕ = place w q in
     let below = (g.met.O.BitOrder.lawful w g.met.T.BitStore.width).in_range q (omega arith) in
-    sym (c.to_u64-then-rest-gt0.ensures.low p below) ∙ ap (λ m. has_bit m p) c.if-to_u64-eq0.true ∙ has_none p in
+    sym (c.to_u64-2.ensures.low p below) ∙ ap (λ m. has_bit m p) c.if-to_u64-eq0.true ∙ has_none p in
     alike_all xs ys (k * w) (l * w) n (whole * w + rest) (omega arith) (omega arith) (omega arith)
     (alike_each xs ys (k * w) (l * w) (whole * w) rest (λ q h. same_if (get_or xs (k * w + (whole * w + q)) false) (get_or ys (l * w + (whole * w + q)) false) (sym (tells q h) ∙ clear q h))
     (subst (λ m. AreAlike xs ys (k * w) (l * w) (m * w)) all c.loop-t.invariant.alike))
 
-pub returns-then-rest-gt0 : goal.returns-then-rest-gt0
-returns-then-rest-gt0 g c =
+pub returns : goal.returns
+returns g c =
     let w = g.T.BitStore.BITS in
     let u = g.U.BitStore.BITS in
     let d = c.BITS-width.result in
@@ -244,26 +203,26 @@ returns-then-rest-gt0 g c =
     let here : k + whole < length a = inside_words w (k + whole) (length a) (k * w + whole * w) (sym (right_sum k whole w)) (omega arith) in
     let there : l + whole < length b = inside_words w (l + whole) (length b) (l * w + whole * w) (sym (right_sum l whole w)) (omega arith) in
     let v = g.T.BitStore.value c.first_bits_apart-apart.result in
-    let z = c.word_number-then-rest-gt0.result in
+    let z = c.word_number-2.result in
     let one : List Bool = row g.T.BitStore g.O.BitOrder (c.first_bits_apart-apart.result ∷ []) in
     let size : length one ≡ w * 1 = length_row g.T.BitStore.value place w (c.first_bits_apart-apart.result ∷ []) in
-    let number : (q : ℕ) → has_bit z q ≡ get_or one q false = λ q. ap (λ m. has_bit m q) c.word_number-then-rest-gt0.ensures ∙ has_number one q in
+    let number : (q : ℕ) → has_bit z q ≡ get_or one q false = λ q. ap (λ m. has_bit m q) c.word_number-2.ensures ∙ has_number one q in
     let turned : (q : ℕ) → q < w → has_bit z q ≡ has_bit v (place w q) = λ q h. number q ∙ get_or-row_one place w v q positive h in
-    let tells = tells_apart g.T.BitStore.value g.U.BitStore.value place g.P.BitOrder.place w u a b k l whole rest v c.index-a-k-then-rest-gt0.result c.index-b-l-then-rest-gt0.result positive c.requires.width few c.first_bits_apart-apart.ensures here there c.index-a-k-then-rest-gt0.is c.index-b-l-then-rest-gt0.is in
+    let tells = tells_apart g.T.BitStore.value g.U.BitStore.value place g.P.BitOrder.place w u a b k l whole rest v c.index-a-k-2.result c.index-b-l-2.result positive c.requires.width few c.first_bits_apart-apart.ensures here there c.index-a-k-2.is c.index-b-l-2.is in
     let past : (q : ℕ) → rest ≤ q → has_bit z q ≡ false = λ q h. elim (cases_lt q w) [
-      | inl m ↦ turned q m ∙ apart_past g.T.BitStore.value g.U.BitStore.value place g.P.BitOrder.place w u a b k l whole rest v c.index-a-k-then-rest-gt0.result c.index-b-l-then-rest-gt0.result positive c.requires.width few c.first_bits_apart-apart.ensures q m h
+      | inl m ↦ turned q m ∙ apart_past g.T.BitStore.value g.U.BitStore.value place g.P.BitOrder.place w u a b k l whole rest v c.index-a-k-2.result c.index-b-l-2.result positive c.requires.width few c.first_bits_apart-apart.ensures q m h
       | inr m ↦ number q ∙ get_or_past one q false (omega arith)
     ] in
-    let some : z ≢ 0 = λ none. c.if-to_u64-eq0.false (turned_none w (place w) v z c.to_u64-then-rest-gt0.result lawful turned c.to_u64-then-rest-gt0.ensures.low c.to_u64-then-rest-gt0.ensures.high c.to_u64-then-rest-gt0.type_inv none) in
+    let some : z ≢ 0 = λ none. c.if-to_u64-eq0.false (turned_none w (place w) v z c.to_u64-2.result lawful turned c.to_u64-2.ensures.low c.to_u64-2.ensures.high c.to_u64-2.type_inv none) in
     subst (λ m. IsFirstDifference (slice_range xs (k * w) (k * w + n)) (slice_range ys (l * w) (l * w + n)) (m + trailing_zeros w64 z)) (sym wide)
-    (differ_by xs ys (k * w) (l * w) (whole * w) rest z (λ q h. turned q (omega arith) ∙ tells q h) past n some c.word_number-then-rest-gt0.type_inv (omega arith) (omega arith) (omega arith)
+    (differ_by xs ys (k * w) (l * w) (whole * w) rest z (λ q h. turned q (omega arith) ∙ tells q h) past n some c.word_number-2.type_inv (omega arith) (omega arith) (omega arith)
     (subst (λ m. AreAlike xs ys (k * w) (l * w) (m * w)) all c.loop-t.invariant.alike))
 
-pub overflow_add-result-then-rest-gt0 : goal.overflow_add-result-then-rest-gt0
-overflow_add-result-then-rest-gt0 g c =
+pub overflow_add-result-2 : goal.overflow_add-result-2
+overflow_add-result-2 g c =
     let xs = row g.T.BitStore g.O.BitOrder c.args.a.now in
     let i : ℕ = c.args.k * g.T.BitStore.BITS in
     let first : length xs ≡ g.T.BitStore.BITS * length c.args.a.now = length_row g.T.BitStore.value g.O.BitOrder.place g.T.BitStore.BITS c.args.a.now in
     let size = length-run xs i c.args.n (omega arith) in
-    let inside = (returns-then-rest-gt0 g c).within in
+    let inside = (returns g c).within in
     omega arith

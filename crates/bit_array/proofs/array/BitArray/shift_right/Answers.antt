@@ -3,7 +3,7 @@ use Rattle.std.proofs.lemmas.List.{length-append, length-take, length-replicate}
 use Rattle.bit_array.proofs.Arrays.{row_rewritten}
 use Rattle.bit_addressing.specs.Typed.{row}
 use Rattle.bit_addressing.proofs.Typed.{length_row}
-use Rattle.bit_slice.proofs.Moved.{read_later, read_cleared}
+use Rattle.bit_slice.proofs.Moved.{read_shifted, read_cleared}
 use Rattle.bit_array.proofs.array.BitArray.shift_right.Goals as goal
 
 pub returns-clause-list : goal.returns-clause-list
@@ -29,7 +29,7 @@ returns-clause-kept g c j h =
     let old = row W P (g.A.BitWords.words c.args.self.now) in
     let n = W.BITS * g.A.BitWords.count in
     let size : length old ≡ n = length_row W.value P.place W.BITS (g.A.BitWords.words c.args.self.now) ∙ ap (λ m. W.BITS * m) (ap length (sym (c.as_raw_mut_slice-words.ensures.value ∙ ap g.A.BitWords.words c.self.view_is)) ∙ c.as_raw_mut_slice-words.ensures.len) in
-    ap (λ l. slice_get l (j + c.args.by)) (returns-clause-list g c) ∙ read_later old n c.args.by size c.requires j h
+    ap (λ l. slice_get l (j + c.args.by)) (returns-clause-list g c) ∙ read_shifted old n c.args.by size c.requires j h
 
 pub returns-clause-cleared : goal.returns-clause-cleared
 returns-clause-cleared g c j h =

@@ -34,4 +34,4 @@ pub returns-clause-runs_back : goal.returns-clause-runs_back
 returns-clause-runs_back g c = ones_runs_back g.T.BitStore g.O.BitOrder
 
 pub invariant_of-result : goal.invariant_of-result
-invariant_of-result g c = record { fits = omega arith; read = none_left (list_of c.args.self) 0 }
+invariant_of-result g c = record { fits = omega arith; read = none_left (list_of c.args.self) 0; blocks = c.blocks_end.ensures }

@@ -4,7 +4,7 @@ use Rattle.bit_addressing.specs.Typed.{row}
 use Rattle.bit_slice.proofs.Parts.{in_row, shown_length}
 use Rattle.bit_slice.proofs.Shown.{shown_filled}
 use Rattle.bit_slice.specs.BitSliceMut.{list_of}
-use Rattle.bit_slice.proofs.Moved.{read_later, read_cleared}
+use Rattle.bit_slice.proofs.Moved.{read_shifted, read_cleared}
 use Rattle.bit_slice.proofs.slice_mut.BitSliceMut.shift_right.Goals as goal
 
 pub returns-clause-list : goal.returns-clause-list
@@ -21,7 +21,7 @@ pub returns-clause-kept : goal.returns-clause-kept
 returns-clause-kept g c j h =
     let v = c.args.self.now in
     let size = shown_length g.T.BitStore g.O.BitOrder v.words.now v.head v.len v.fits.room in
-    ap (λ l. slice_get l (j + c.args.by)) (returns-clause-list g c) ∙ read_later (list_of v) v.len c.args.by size c.requires j h
+    ap (λ l. slice_get l (j + c.args.by)) (returns-clause-list g c) ∙ read_shifted (list_of v) v.len c.args.by size c.requires j h
 
 pub returns-clause-cleared : goal.returns-clause-cleared
 returns-clause-cleared g c j h =

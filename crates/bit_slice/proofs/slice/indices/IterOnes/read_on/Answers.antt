@@ -37,4 +37,5 @@ invariant_of-self g c =
     record {
       fits = (r.ends, s.fits.1);
       read = chunk_left (list_of s.view) c.chunk_with_one-from.result.0 c.chunk_with_one-from.result.1 c.chunk_with_one-from.result.2 r.chunk;
+      blocks = c.blocks_end-self.ensures;
     }

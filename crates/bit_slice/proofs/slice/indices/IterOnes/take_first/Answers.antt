@@ -9,7 +9,7 @@ use Rattle.bit_slice.proofs.slice.indices.IterOnes.take_first.Goals as goal
 pub invariant_of-self : goal.invariant_of-self
 invariant_of-self g c =
     let s = c.args.self.now in
-    record { fits = s.fits; read = chunk_after (list_of s.view) s.base s.end s.chunk s.read c.requires (omega arith) }
+    record { fits = s.fits; read = chunk_after (list_of s.view) s.base s.end s.chunk s.read c.requires (omega arith); blocks = s.blocks }
 
 pub returns : goal.returns
 returns g c =

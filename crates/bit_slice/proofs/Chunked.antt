@@ -164,9 +164,9 @@ module _ (w head lo hi end : ℕ) (fit : BlocksFit w head lo hi end) (more : lo 
   blocks_after wide = record {
     inside = fit.inside;
     blocks = λ again.
-        let fewer : end - (lo + 64) ≡ ((end - lo) / 64 - 1) * 64 = omega (arith, counted, more) in
-        let next : head + (lo + 64) ≡ head + lo + 64 = omega arith in
-        (ap (λ n. n % 64) fewer ∙ mul-mod_left ((end - lo) / 64 - 1) 64, ap (λ n. n % w) next ∙ word_later w (head + lo) wide (fit.blocks more).1);
+    let fewer : end - (lo + 64) ≡ ((end - lo) / 64 - 1) * 64 = omega (arith, counted, more) in
+    let next : head + (lo + 64) ≡ head + lo + 64 = omega arith in
+    (ap (λ n. n % 64) fewer ∙ mul-mod_left ((end - lo) / 64 - 1) 64, ap (λ n. n % w) next ∙ word_later w (head + lo) wide (fit.blocks more).1);
   }
 
 -- the blocks between two indices, where a word begins at the first

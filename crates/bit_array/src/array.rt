@@ -1,4 +1,4 @@
-//! The array: what it is, and how it is made and taken apart.
+//! The array, what makes one, and what gives back its words.
 ghost use Rattle.std.specs.Prelude.{◌≡◌, ℕ, ◌*◌, ◌≤◌, ◌↔◌, false, length, replicate, IsTrue};
 ghost use Rattle.bit_addressing.specs.declared.length.TheConstants.{MAX_BITS};
 ghost use Rattle.bit_addressing.specs.Typed.{row, words_for_list};

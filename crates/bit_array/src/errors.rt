@@ -1,4 +1,4 @@
-//! Why a view is no array.
+//! Why a view can't become an array.
 ghost use Rattle.std.specs.Prelude.{Some};
 ghost use Rattle.bit_array.specs.Errors.{text_of};
 
@@ -6,7 +6,7 @@ use std::cmp::Ordering;
 use std::error::Error;
 use std::fmt;
 
-// Why: the actual length and the one that is wanted, or the head.
+// Why: the actual length and the expected one, or the head.
 #[derive(Clone, Copy, PartialEq, Eq, PartialOrd, Ord, Drop)]
 pub(crate) enum Reason {
     UnequalLen(usize, usize),
@@ -76,7 +76,7 @@ impl fmt::Display for TryFromBitSliceError {
     }
 }
 
-/// The type's name, the kind of the fault, and at a fault of the length both lengths.
+/// The type's name, the kind of the fault, and for a fault of the length both lengths.
 impl fmt::Debug for TryFromBitSliceError {
     fn fmt<W: fmt::Write>(&self, f: &mut fmt::Formatter<W>) -> fmt::Result {
         match self.reason {

@@ -1,4 +1,4 @@
-//! Arrays of words as bits: `BitArray`, the words that one is made of, and the iterator that owns one.
+//! Arrays of words as bits: `BitArray`, the words that one is made of, and its owned iterator.
 #![tactic(auto)]
 
 mod array;

@@ -37,7 +37,7 @@ pub trait BitWords: Copy {
 
 /// Words that are lent for writing as a slice.
 ///
-/// It is implemented by each word, as the one word of itself, and by `[T; N]`.
+/// Each word implements it, as the one word of itself, and so does `[T; N]`.
 pub trait BitViewSized: BitWords {
     // What it becomes when its words are these.
     ghost refilled: { Self → List Self.Store → Self };

@@ -1,4 +1,4 @@
-//! The box: what it is, and how it is made and taken apart.
+//! The box, what makes one, and what gives back its words.
 ghost use Rattle.std.specs.Prelude.{◌≡◌, ◌+◌, ◌*◌, ◌<◌, ◌≤◌, ◌↔◌, false, [], ◌∷◌, Err, IfOk, IfErr, IsOk, OnErr, length, slice_range};
 ghost use Rattle.std.specs.Box.{boxed_slice_items};
 ghost use Rattle.std.specs.Iterator.{IsFiniteIterable};
@@ -35,8 +35,8 @@ pub use iter::IntoIter;
 /// A fixed number of truth values, one bit each, in words of type `T` that it owns, in the order `O` of the
 /// bits in a word.
 ///
-/// Its bits begin at the head, an index below the bits of a word, and lie one after another. The first words
-/// that they take are the visible ones; it may own words after them, and all its other bits are dead.
+/// Its bits begin at the head, an index in the first word, and lie one after another. The words that they
+/// take are the visible words. The box may own words after them, and all its other bits are dead.
 ///
 /// In contracts a box `b` is all its words `b.words`, their bits in a row `b.row`, the head `b.head` and the
 /// list `b.list`.
@@ -144,9 +144,9 @@ impl<T: BitStore, O: BitOrder> BitBox<T, O> {
         Ok(Self::of_words(Vec::new(alloc)))
     }
 
-    /// These words with a head and a length. Memory that no word takes is given back, and it always succeeds.
-    /// Requires that the head is in the first word, the words are exactly as many as it takes, and the bits
-    /// at most `MAX_BITS`.
+    /// These words with a head and a length. Gives back memory that no word takes. It always succeeds.
+    /// Requires that the head is in the first word, that there are exactly as many words as the bits take,
+    /// and that there are at most `MAX_BITS` bits.
     ///
     /// ```text
     /// BitBox::<u8, Lsb0>::from_parts(vec![in alloc; 6]?, 1, 3)? holds 110
@@ -184,8 +184,8 @@ impl<T: BitStore, O: BitOrder> BitBox<T, O> {
         Self::of_words(words.into_vec())
     }
 
-    /// Like `from_boxed_slice`, with no condition: it hands the words back exactly where they have more
-    /// than `MAX_BITS` bits. Takes no memory.
+    /// Like `from_boxed_slice`, for any number of words: returns the words as the error exactly where
+    /// they have more than `MAX_BITS` bits. Takes no memory.
     ///
     /// ```text
     /// BitBox::<u8, Lsb0>::try_from_boxed_slice(vec![in alloc; 6]?.into_boxed_slice())? holds 01100000
@@ -290,8 +290,8 @@ impl<T: BitStore, O: BitOrder> BitBox<T, O> {
 
     /// The bits that an iterator gives before its first None, from head 0 on: the words are canonical. It pulls
     /// nothing after that None. Returns `TooLong` at the first bit with which the length would pass `MAX_BITS`, and
-    /// `OutOfMemory` only where there is a bit, and no more than `MAX_BITS` were pulled; then it pulls no more.
-    /// What was pulled is gone.
+    /// `OutOfMemory` only where at least one bit and at most `MAX_BITS` were pulled. A refusal pulls no more. Items
+    /// that were pulled are lost. Requires that the iterator ends.
     ///
     /// ```text
     /// BitBox::<u8, Lsb0>::from_bits(alloc, Some(true))? holds 1
@@ -338,8 +338,8 @@ impl<T: BitStore, O: BitOrder> BitBox<T, O> {
         self.words.into_boxed_slice()
     }
 
-    /// Makes the head 0: the list moves to the beginning of the words, by one counted move. The words stay as
-    /// many. Takes no memory.
+    /// Makes the head 0: the list moves to the beginning of the words, by one counted move. The number of
+    /// words stays. Takes no memory.
     ///
     /// ```text
     /// of 0110: bits.force_align() leaves 0110

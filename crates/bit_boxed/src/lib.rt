@@ -1,4 +1,4 @@
-//! Boxed slices of words as bits: `BitBox`, and the iterator that owns one.
+//! Boxed slices of words as bits: `BitBox`, and its owned iterator.
 #![tactic(auto)]
 
 mod boxed;

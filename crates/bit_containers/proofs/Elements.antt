@@ -20,7 +20,7 @@ exactly W P ws head len width low small count =
     let fits : head + len ≤ W.BITS * length ws = subst (λ n. head + len ≤ W.BITS * n) (sym count) r in
     record { head_below = low; len_small = small; count = count; fits = fits; shows = shown_length W P ws head len fits }
 
--- words cut to the places up to the end of a run show the run
+-- words cut to the indices up to the end of a run show the run
 pub run_kept : {X Y : Type 0} (W : store.Ghosts X) (P : order.Ghosts Y) (old new : List X) (head n : ℕ) → IsWidth W.BITS → head + n ≤ W.BITS * length old → row W P new ≡ sized W.BITS (row W P old) (head + n) → slice_range (row W P new) head (head + n) ≡ slice_range (row W P old) head (head + n)
 run_kept W P old new head n width h is =
     let long : head + n ≤ length (row W P old) = rw (length_row W.value P.place W.BITS old) h in

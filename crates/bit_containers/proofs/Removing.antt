@@ -1,4 +1,4 @@
--- Bits taken out of a vector, and others put in their place.
+-- Bits removed from a vector, or replaced by others.
 use Rattle.std.proofs.Common.{◌≡◌, ℕ, ◌+◌, ◌-◌, ◌<◌, ◌≤◌, refl, sym, subst, ap, ◌∙◌, Bool, false, List, [], ◌∷◌, ◌++◌, length, replicate, get_or, take, drop, slice_range, arith, rules}
 use Rattle.std.proofs.lemmas.List.{same_lists, places, length-append, length-replicate, take_all}
 use Rattle.std.specs.List.{splice}
@@ -16,7 +16,7 @@ use Rattle.std.specs.Iterator.{YieldsFirst, YieldsLast}
 use Rattle.bit_containers.specs.Items.{items_rest}
 use Rattle.bit_containers.specs.Drain.{drain_rest, DrainSteps, DrainStepsBack, DrainKeeps, DrainKeepsAlong}
 
--- ---- a range that is taken out
+-- ---- a range that is removed
 
 -- what is after a range moved over it
 closed_up : (xs : List Bool) (s e : ℕ) → s ≤ e → e ≤ length xs → take (s + (length xs - e)) (put xs s (slice_range xs e (e + (length xs - e)))) ≡ splice xs s e []
@@ -90,9 +90,9 @@ pub take_before_put : (xs ys : List Bool) (d : ℕ) → d + length ys ≤ length
 unfolding put
 take_before_put xs ys d h = same_lists _ _ (search (rules, places)) (λ i e below. grind (arith, places))
 
--- ---- bits put in place of others
+-- ---- bits replaced by others
 
--- fewer bits than they replace are written over them, and what is left of the range is taken out
+-- fewer bits than they replace are written over them, and the rest of the range is removed
 pub spliced_short : (xs ys : List Bool) (s e n : ℕ) → n ≡ length ys → s + n ≤ e → e ≤ length xs → splice (put xs s ys) (s + n) e [] ≡ splice xs s e ys
 unfolding put
 spliced_short xs ys s e n is h k = same_lists _ _ (search (rules, places)) (λ i d below. grind (arith, places))

@@ -1,4 +1,4 @@
--- Runs of commands, one after another.
+-- Executions of commands, one after another.
 use Rattle.std.proofs.Common.{◌≡◌, ℕ, ◌+◌, ◌<◌, ◌≤◌, List, Bool, [], ◌∷◌, ◌++◌, refl, ap, sym, subst, ◌∙◌, length, take, get_or}
 use Rattle.std.proofs.Common.{inl, inr, arith}
 use Rattle.std.proofs.lemmas.Option.{slice_get-get_or}
@@ -8,7 +8,7 @@ use Rattle.bit_addressing.specs.declared.length.TheConstants.{MAX_BITS}
 use Rattle.bit_containers.specs.declared.machine.Command.{Command}
 use Rattle.bit_containers.specs.Machine.{list_after_one, reply_to, list_after, replies_of, head_after_one, head_after, AllFit, new_length, IsRefusal, IsStopReason, CanWantMemory}
 
--- a run goes on where another ended
+-- an execution goes on where another ended
 pub list_after-append : (list : List Bool) (xs ys : List Command) → list_after list (xs ++ ys) ≡ list_after (list_after list xs) ys
 list_after-append list [] ys = refl
 list_after-append list (x ∷ xs) ys = list_after-append (list_after_one list x) xs ys
@@ -39,7 +39,7 @@ module _ (list : List Bool) (cs : List Command) (i : ℕ) (d : Command) (h : i <
   pub AllFit-next : AllFit list (take i cs) → new_length (list_after list (take i cs)) (get_or cs i d) ≤ MAX_BITS → AllFit list (take (i + 1) cs)
   AllFit-next f n = subst (λ xs. AllFit list xs) (sym (take_more cs i d h)) (AllFit-append list (take i cs) (get_or cs i d ∷ []) f (n, tt))
 
--- a run stopped before a command that was refused, with the list as it was before it
+-- an execution stopped before a command that was refused, with the list as it was before it
 pub stopped_at : (old new : List Bool) (cs : List Command) (i : ℕ) (d : Command) (why : GrowError) → i < length cs → new ≡ old → IsRefusal old (get_or cs i d) why → IsStopReason new cs i why
 stopped_at old new cs i d why h same r = inl (get_or cs i d, slice_get-get_or cs i d h, subst (λ list. IsRefusal list (get_or cs i d) why) (sym same) r)
 

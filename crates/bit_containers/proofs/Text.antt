@@ -107,7 +107,7 @@ wrong_here text part at h read wrong =
 
 -- ---- what is read is the text of what was read
 
--- what stands before a place, by what was read there
+-- the characters before an index, by what was read there
 abbrev IsRead : Part → List ℕ → List Bool → Type 0
 IsRead Start text bits = (text ≡ []) × (bits ≡ [])
 IsRead Digits text bits = text ≡ map digit_of bits

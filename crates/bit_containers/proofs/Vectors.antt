@@ -24,7 +24,7 @@ use Rattle.std.specs.List.{refill}
 mul_one_more : (w n : ℕ) → w * (n + 1) ≡ w * n + w
 mul_one_more w n = grind arith
 
--- the places up to the list's end are in the words
+-- the indices up to the list's end are in the words
 pub in_words : (w n head len size : ℕ) → IsWidth w → IsVector w n head len size → head + len ≤ w * n
 in_words w n head len size width v = v.fits
 

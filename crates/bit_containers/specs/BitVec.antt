@@ -62,7 +62,7 @@ pub record IsKept {X : Type 0} (old new : Held X) : Type 0 where
   pub head : new.head ≡ old.head
   pub list : new.list ≡ old.list
 
--- A call that asks for `wanted` bits is refused in two ways: `TooLong` exactly past `MAX_BITS`, `OutOfMemory` only past the old capacity, and a refusal leaves the vector.
+-- A call that asks for `wanted` bits is refused in two ways: `TooLong` exactly past `MAX_BITS`, `OutOfMemory` only past the old capacity. A refusal changes nothing but perhaps the capacity.
 pub record RefusesOnly {X A : Type 0} (result : Result A GrowError) (wanted : ℕ) (old new : Held X) : Type 0 where
   pub too_long : (result ≡ Err TooLong) ↔ (MAX_BITS < wanted)
   pub memory : result ≡ Err OutOfMemory → old.capacity < wanted

@@ -25,7 +25,7 @@ room_of_all = refl
 unfoldable three : Held ℕ
 three = record { words = 10 ∷ []; row = false ∷ true ∷ false ∷ true ∷ []; head = 1; list = true ∷ false ∷ true ∷ []; capacity = 11 }
 
--- the same and 1, 1: a word of zero is added, and the bits stand in the row
+-- the same with 1, 1 appended: a word of zero is added, and the bits are in the row
 unfoldable five : Held ℕ
 five = record { words = 10 ∷ 3 ∷ []; row = false ∷ true ∷ false ∷ true ∷ true ∷ true ∷ false ∷ false ∷ []; head = 1; list = true ∷ false ∷ true ∷ true ∷ true ∷ []; capacity = 11 }
 
@@ -158,9 +158,9 @@ clean = (refl, refl, refl)
 len : (list_after_one pair Len ≡ pair) × (reply_to pair Len ≡ Number 2) × (head_after_one 3 Len ≡ 3)
 len = (refl, refl, refl)
 
--- ---- runs
+-- ---- executions
 
--- the second push of this run is refused for memory: one bit was appended, one reply given
+-- the second push of this execution is refused for memory: one bit was appended, one reply given
 abbrev refused : List Command
 refused = Push true ∷ Push false ∷ Align ∷ []
 
@@ -181,7 +181,7 @@ wanted (Some command) = new_length (true ∷ []) command
 wanted_twice : (command : Command) → slice_get refused 1 ≡ Some command → 2 ≡ new_length (true ∷ []) command
 wanted_twice command is = ap wanted is
 
--- so short a list is not too long
+-- a list as short as this is not too long
 no_such_stop : IsStopReason (true ∷ []) refused 1 TooLong → ⊥
 no_such_stop reason = elim reason [ inl stop ↦ absurd (omega (arith, stop.2, wanted_twice stop.0 stop.1)) | inr stop ↦ absurd (omega (arith, stop.1)) ]
 
@@ -189,6 +189,6 @@ no_such_stop reason = elim reason [ inl stop ↦ absurd (omega (arith, stop.2, w
 no_refusal_of_a_pop : IsRefusal pair Pop OutOfMemory → ⊥
 no_refusal_of_a_pop refusal = elim refusal.0 [ inl longer ↦ absurd (omega (arith, longer)) | inr none ↦ none ]
 
--- a full list is refused one bit more
+-- a list of `MAX_BITS` bits is refused one bit more
 too_long : (list : List Bool) → length list ≡ MAX_BITS → IsRefusal list (Push true) TooLong
 too_long list full = omega arith

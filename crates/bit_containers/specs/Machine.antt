@@ -1,4 +1,4 @@
--- What commands, and runs of them, do to a list of bits and reply.
+-- What commands, and executions of them, do to a list of bits and reply.
 use Rattle.std.specs.Prelude.{◌≡◌, ℕ, ◌+◌, ◌-◌, ◌<◌, ◌≤◌, ◌⊎◌, ◌&&◌, not, map, Option, List, Bool, false, [], ◌∷◌, ◌++◌, length, take, replicate, slice_range, slice_set, slice_get, insert, remove, nat_lt, nat_le, if◌then◌else◌, Some, None, count_by}
 use Rattle.std.specs.List.{swap_remove, splice}
 use Rattle.bit_addressing.specs.Row.{moved}
@@ -10,7 +10,7 @@ use Rattle.bit_containers.specs.declared.machine.Command.TheVariants.{Push, Pop,
 use Rattle.bit_containers.specs.declared.machine.Reply.{Reply}
 use Rattle.bit_containers.specs.declared.machine.Reply.TheVariants.{Done, Bit, Nothing, Number, OutOfRange}
 
--- whether `from..upto` is a range of the list, and what stands in it has room from `dest` on
+-- whether `from..upto` is a range of the list, and its bits have room from `dest` on
 abbrev pub can_copy : List Bool → ℕ → ℕ → ℕ → Bool
 can_copy list from upto dest = nat_le from upto && (nat_le upto (length list) && nat_le (dest + (upto - from)) (length list))
 
@@ -41,7 +41,7 @@ list_after_one list Align = list
 list_after_one list Clean = list
 list_after_one list Len = list
 
--- the reply that tells a bit, or this one where there is no bit
+-- the reply that is a bit, or this one where there is no bit
 abbrev pub bit_or : Reply → Option Bool → Reply
 bit_or reply None = reply
 bit_or reply (Some b) = Bit b
@@ -141,7 +141,7 @@ IsRefusal list command OutOfMemory = ((length list < new_length list command) �
 abbrev pub CanWantMemory : ℕ → List Bool → Command → Type 0
 CanWantMemory capacity list command = (capacity < new_length list command) ⊎ TakesMore list command
 
--- a run stopped before the command at `done`, with this list: the command was refused, or at the very beginning there was no memory for the replies
+-- an execution stopped before the command at `done`, with this list: the command was refused, or at the very beginning there was no memory for the replies
 abbrev pub IsStopReason : List Bool → List Command → ℕ → GrowError → Type 0
 IsStopReason list commands done why =
     ((command : Command) × (slice_get commands done ≡ Some command) × IsRefusal list command why)

@@ -18,16 +18,16 @@ module _ {X Y I : Type 0} where
   abbrev pub splice_lender : Splice X Y I → GName
   splice_lender s = s.vec.ghost_name
 
-  -- the range lies in the vector, and what is to come lies in the range
+  -- the range lies in the vector, and the bits that are still to come lie in the range
   abbrev pub SpliceIsReady : Splice X Y I → Type 0
   SpliceIsReady s = (s.start ≤ s.front) × (s.front ≤ s.back) × (s.back ≤ s.end) × (s.end ≤ length s.vec.now.list)
 
-  -- both replace the same bits of the same vector by the same
+  -- both replace the same bits of the same vector by the same replacement
   abbrev pub SpliceKeeps : Splice X Y I → Splice X Y I → Type 0
   SpliceKeeps old new = (splice_lender new ≡ splice_lender old) × (splice_vector new ≡ splice_vector old)
       × (new.start ≡ old.start) × (new.end ≡ old.end) × (new.replacement ≡ old.replacement)
 
-  -- it replaces the same, and no replaced bit is left to come
+  -- it replaces the same bits by the same replacement, and no replaced bit is left to come
   abbrev pub SpliceIsEmptied : Splice X Y I → Splice X Y I → Type 0
   SpliceIsEmptied old new = SpliceKeeps old new × (new.front ≡ new.back) × SpliceIsReady new
 

@@ -27,7 +27,7 @@ IsTextOf text bits = (text ≡ map digit_of bits) ⊎ (text ≡ list_text bits)
 abbrev pub is_digit : ℕ → Bool
 is_digit c = eqb c 48 || eqb c 49
 
--- what was read after a digit more
+-- what was read with one digit more
 abbrev pub after_digit : Part → Option Part
 after_digit Start = Some Digits
 after_digit Digits = Some Digits
@@ -37,7 +37,7 @@ after_digit Digit = None
 after_digit Comma = None
 after_digit Closed = None
 
--- what was read after a closing bracket more
+-- what was read with a closing bracket more
 abbrev pub after_closing : Part → Option Part
 after_closing Opened = Some Closed
 after_closing Digit = Some Closed
@@ -47,7 +47,7 @@ after_closing Comma = None
 after_closing Space = None
 after_closing Closed = None
 
--- what was read after an opening bracket more
+-- what was read with an opening bracket more
 abbrev pub after_opening : Part → Option Part
 after_opening Start = Some Opened
 after_opening Digits = None
@@ -57,7 +57,7 @@ after_opening Comma = None
 after_opening Space = None
 after_opening Closed = None
 
--- what was read after a comma more
+-- what was read with one comma more
 abbrev pub after_comma : Part → Option Part
 after_comma Digit = Some Comma
 after_comma Start = None
@@ -67,7 +67,7 @@ after_comma Comma = None
 after_comma Space = None
 after_comma Closed = None
 
--- what was read after a space more
+-- what was read with one space more
 abbrev pub after_space : Part → Option Part
 after_space Comma = Some Space
 after_space Start = None
@@ -77,7 +77,7 @@ after_space Digit = None
 after_space Space = None
 after_space Closed = None
 
--- what was read after a character more, or None where it is wrong there
+-- what was read with one character more, or None where the text is wrong at it
 abbrev pub part_after : Part → ℕ → Option Part
 part_after part c = if is_digit c then after_digit part else if eqb c 91 then after_opening part else if eqb c 44 then after_comma part else if eqb c 32 then after_space part else if eqb c 93 then after_closing part else None
 
@@ -100,7 +100,7 @@ then_after (Some part) c = part_after part c
 abbrev pub part_of : List ℕ → Option Part
 part_of text = fold then_after (Some Start) text
 
--- the bits read so far, with the one that a character says, if it is a digit
+-- the bits read so far, and the one that a character says where it is a digit
 abbrev pub with_digit : List Bool → ℕ → List Bool
 with_digit bits c = if is_digit c then bits ++ eqb c 49 ∷ [] else bits
 
@@ -108,7 +108,7 @@ with_digit bits c = if is_digit c then bits ++ eqb c 49 ∷ [] else bits
 abbrev pub digits_in : List ℕ → List Bool
 digits_in text = fold with_digit [] text
 
--- bits that were read whole
+-- the bits of a text that may end there
 abbrev pub said_at : Option Part → List Bool → Option (List Bool)
 said_at None bits = None
 said_at (Some part) bits = if may_end part then Some bits else None
@@ -117,7 +117,7 @@ said_at (Some part) bits = if may_end part then Some bits else None
 abbrev pub bits_said : List ℕ → Option (List Bool)
 bits_said text = said_at (part_of text) (digits_in text)
 
--- A text is wrong first at this place: what stands before it could go on, and it can't with the character there, or there is none.
+-- A text is wrong first at this index: the characters before it can begin a text of bits, and with the character there they can't, or there is none.
 pub record IsFirstWrong (text : List ℕ) (at : ℕ) : Type 0 where
   pub within : at ≤ length text
   pub before : part_of (take at text) ≢ None
@@ -125,7 +125,7 @@ pub record IsFirstWrong (text : List ℕ) (at : ℕ) : Type 0 where
   pub none : bits_said text ≡ None
   pub no_text : (bits : List Bool) → IsTextOf text bits → ⊥
 
--- an error that names a place names the first wrong one
+-- an error that names an index names the first wrong one
 abbrev pub IsWrongAt : List ℕ → ParseBitsError → Type 0
 IsWrongAt text why = (at : ℕ) → why ≡ Wrong at → IsFirstWrong text at
 

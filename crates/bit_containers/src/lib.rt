@@ -1,5 +1,5 @@
-//! A vector of bits, and runs of commands over it. The crates of arrays and boxes are here as `array` and
-//! `boxed`.
+//! A vector of bits, and executions of commands over it. The crates of arrays and boxes are here as
+//! `array` and `boxed`.
 #![tactic(auto)]
 
 mod machine;

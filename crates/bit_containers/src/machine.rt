@@ -1,4 +1,4 @@
-//! Runs of commands.
+//! Executions of commands.
 ghost use Rattle.std.specs.Prelude.{◌⊎◌, Err, Some, slice_get, ◌≡◌, ◌≢◌, ◌+◌, ◌-◌, ◌<◌, ◌≤◌, ◌++◌, length, take, vec_capacity, OnOk, OnErr, IfOk, IfErr};
 ghost use Rattle.bit_addressing.specs.declared.length.TheConstants.{MAX_BITS};
 ghost use Rattle.bit_containers.specs.Machine.{list_after_one, reply_to, list_after, replies_of, head_after_one, head_after, AllFit, IsRefusal, IsStopReason, new_length, CanWantMemory};
@@ -17,33 +17,33 @@ pub enum Command {
     Get(usize),
     /// Writes a bit at an index.
     Set(usize, bool),
-    /// Puts a bit before the item at an index, or at the end.
+    /// Inserts a bit before the one at an index, or at the end.
     Insert(usize, bool),
-    /// Takes the bit at an index, and closes up.
+    /// Takes the bit at an index; the bits after it move down.
     Remove(usize),
     /// Takes the bit at an index, and puts the last one in its place.
     SwapRemove(usize),
-    /// Keeps the first items.
+    /// Keeps the first bits, as many as the number says.
     Truncate(usize),
-    /// Drops all items.
+    /// Drops all bits.
     Clear,
-    /// Keeps the first items, or fills the list up to a length with a bit.
+    /// Keeps the first bits, or appends a bit until the list has this length.
     Resize(usize, bool),
-    /// Makes room for this number of bits more.
+    /// Makes room for this many more bits.
     Reserve(usize),
-    /// Appends the range from the first index to the second once more.
+    /// Appends the bits from the first index up to the second once more.
     ExtendWithin(usize, usize),
-    /// Takes out the range from the first index to the second, and asks how many of its bits are true.
+    /// Removes the bits from the first index up to the second, and asks how many of them are true.
     Drain(usize, usize),
-    /// Puts a bit, as often as the last number says, in place of the range from the first index to the second.
+    /// Replaces the bits from the first index up to the second by a bit, as often as the last number says.
     Splice(usize, usize, bool, usize),
-    /// Drops the items from an index on, and asks how many they are.
+    /// Drops the bits from an index on, and asks how many they are.
     SplitOff(usize),
-    /// Copies the range from the first index to the second to the place from the third on.
+    /// Copies the bits from the first index up to the second to the indices from the third on.
     CopyWithin(usize, usize, usize),
     /// Flips every bit.
     Not,
-    /// Moves the bits to the beginning of their words; the list stays.
+    /// Makes the head 0; the list stays.
     Align,
     /// Makes every dead bit of the words false; the list stays.
     Clean,
@@ -54,24 +54,24 @@ pub enum Command {
 /// What a command replies.
 #[derive(Clone, Copy, PartialEq, Eq, Debug)]
 pub enum Reply {
-    /// It is done.
+    /// The command is done.
     Done,
-    /// The bit that it asked for or took.
+    /// The bit that the command asked for or took.
     Bit(bool),
     /// There was no bit to take.
     Nothing,
-    /// The number that it asked for.
+    /// The number that the command asked for.
     Number(usize),
-    /// Its index or range is out of range, and the list stayed.
+    /// The command's index or range is out of range, and the list stayed.
     OutOfRange,
 }
 
-/// How far a run came, and why it stopped.
+/// How many commands an execution did, and why it stopped.
 #[derive(Clone, Copy, PartialEq, Eq, Debug)]
 pub struct Stop {
     /// How many commands were done.
     pub done: usize,
-    /// Why the next one was not.
+    /// Why the next command was refused.
     pub why: GrowError,
 }
 
@@ -91,7 +91,7 @@ fn set_at<T: BitStore, O: BitOrder>(v: &mut BitVec<T, O>, i: usize, b: bool) -> 
     }
 }
 
-/// Puts a bit before an item, where the index is at most the length.
+/// Inserts a bit before an item, where the index is at most the length.
 fn insert_at<T: BitStore, O: BitOrder>(
     v: &mut BitVec<T, O>,
     i: usize,
@@ -114,7 +114,7 @@ fn insert_at<T: BitStore, O: BitOrder>(
     }
 }
 
-/// Takes a bit and closes up, where the index is below the length.
+/// Takes a bit, where the index is below the length; the bits after it move down.
 fn remove_at<T: BitStore, O: BitOrder>(v: &mut BitVec<T, O>, i: usize) -> Reply
     ensures reply { result ≡ reply_to v.old.list (Command.Remove i) }
     ensures head { v.new.head ≡ v.old.head }
@@ -129,7 +129,7 @@ fn remove_at<T: BitStore, O: BitOrder>(v: &mut BitVec<T, O>, i: usize) -> Reply
     }
 }
 
-/// Takes a bit and puts the last in its place, where the index is below the length.
+/// Takes a bit and puts the last one in its place, where the index is below the length.
 fn swap_remove_at<T: BitStore, O: BitOrder>(v: &mut BitVec<T, O>, i: usize) -> Reply
     ensures reply { result ≡ reply_to v.old.list (Command.SwapRemove i) }
     ensures head { v.new.head ≡ v.old.head }
@@ -144,7 +144,7 @@ fn swap_remove_at<T: BitStore, O: BitOrder>(v: &mut BitVec<T, O>, i: usize) -> R
     }
 }
 
-/// Takes a range out, where it is one of the list.
+/// Removes a range, where it is one of the list.
 fn drain_at<T: BitStore, O: BitOrder>(v: &mut BitVec<T, O>, from: usize, upto: usize) -> Reply
     ensures reply { result ≡ reply_to v.old.list (Command.Drain from upto) }
     ensures head { v.new.head ≡ v.old.head }
@@ -161,7 +161,7 @@ fn drain_at<T: BitStore, O: BitOrder>(v: &mut BitVec<T, O>, from: usize, upto: u
     }
 }
 
-/// Puts a bit `n` times in place of a range, where it is one of the list.
+/// Replaces a range by a bit, `n` times, where it is one of the list.
 fn splice_at<T: BitStore, O: BitOrder>(
     v: &mut BitVec<T, O>,
     from: usize,
@@ -188,7 +188,7 @@ fn splice_at<T: BitStore, O: BitOrder>(
     }
 }
 
-/// Drops what follows an index, where it is at most the length.
+/// Drops the bits from an index on, where it is at most the length.
 fn split_at<T: BitStore, O: BitOrder>(v: &mut BitVec<T, O>, at: usize) -> Result<Reply, GrowError>
     ensures reply { IfOk result (λ reply. reply ≡ reply_to v.old.list (Command.SplitOff at)) }
     ensures head { v.new.head ≡ v.old.head }
@@ -351,11 +351,12 @@ fn step<T: BitStore, O: BitOrder>(
     }
 }
 
-/// Does the commands in order, and appends a reply for each.
+/// Does the commands in order, and appends the reply to each.
 ///
-/// Memory for all replies is taken first: where it is refused, the run stops with `done` 0 and `OutOfMemory`,
-/// and the vector is as it was, dead bits too. A command whose index or range is out of range replies
-/// `OutOfRange`, and the run goes on. A command that would grow the vector and is refused stops it.
+/// Memory for all replies is taken first: where it is refused, the execution stops with `done` 0 and
+/// `OutOfMemory`, and the vector is as it was, dead bits too. A command whose index or range is out of range
+/// replies `OutOfRange`, and the execution goes on. It stops at the first command that is refused, for its
+/// length or for memory.
 pub fn run<T: BitStore, O: BitOrder>(
     v: &mut BitVec<T, O>,
     commands: &[Command],

@@ -1,4 +1,4 @@
-//! The vector: what it is, and how it is made and taken apart.
+//! The vector, what makes one, and what gives back its words.
 ghost use Rattle.std.specs.Prelude.{◌≡◌, ◌+◌, ◌*◌, ◌<◌, ◌≤◌, ◌↔◌, false, [], IsTrue, IfOk, IfErr, IsOk, OnErr, Err, ◌∷◌, length, replicate, slice_range, vec_capacity};
 ghost use Rattle.bit_addressing.specs.declared.length.TheConstants.{MAX_BITS};
 ghost use Rattle.bit_addressing.specs.Row.{filled, moved, sized, words_for};
@@ -51,9 +51,9 @@ pub use to_bits::ToBits;
 
 /// A vector of truth values, one bit each, in words of type `T`, in the order `O` of the bits in a word.
 ///
-/// It grows and shrinks like a `Vec<bool>`. Its bits begin at the head, an index below the bits of a
-/// word, and lie one after another in exactly the words that it takes for them: the visible words.
-/// The other bits of those words are dead.
+/// It grows and shrinks like a `Vec<bool>`. Its bits begin at the head, an index in the first word,
+/// and lie one after another in the visible words, which are exactly those that they take. The other
+/// bits of these words are dead.
 ///
 /// In contracts a vector `v` is its visible words `v.words`, their bits in a row `v.row`, the head
 /// `v.head`, the list `v.list` and the capacity in bits `v.capacity`.
@@ -131,8 +131,8 @@ impl<T: BitStore, O: BitOrder> BitVec<T, O> {
         Self::new(alloc)
     }
 
-    /// The empty vector, with room for `n` bits. Returns `TooLong` exactly where they pass `MAX_BITS`,
-    /// and takes no memory for no bit.
+    /// The empty vector, with room for `n` bits. Returns `TooLong` exactly where `n` passes
+    /// `MAX_BITS`. Takes no memory where `n` is 0.
     ///
     /// ```text
     /// BitVec::<u8, Lsb0>::with_capacity(alloc, 100)? holds nothing
@@ -152,7 +152,7 @@ impl<T: BitStore, O: BitOrder> BitVec<T, O> {
     }
 
     /// The list of `n` times `bit`, from head 0 on: all bits of the words are `bit`, dead ones too. Returns
-    /// `TooLong` exactly where they pass `MAX_BITS`, and takes no memory for no bit.
+    /// `TooLong` exactly where `n` passes `MAX_BITS`. Takes no memory where `n` is 0.
     ///
     /// ```text
     /// BitVec::<u8, Lsb0>::repeat(alloc, true, 3)? holds 111
@@ -254,8 +254,7 @@ impl<T: BitStore, O: BitOrder> BitVec<T, O> {
         Ok(Self::from_vec(copied))
     }
 
-    /// Like `from_slice`, with no condition: it returns `TooLong` exactly where the words don't
-    /// fit.
+    /// Like `from_slice`, for any number of words: returns `TooLong` exactly where they don't fit.
     ///
     /// ```text
     /// BitVec::<u8, Lsb0>::try_from_slice(alloc, &[6])? holds 01100000
@@ -276,8 +275,8 @@ impl<T: BitStore, O: BitOrder> BitVec<T, O> {
         Ok(Self::from_slice(alloc, words)?)
     }
 
-    /// All bits of these words, as `from_vec`, with no condition: it hands the words back exactly where they
-    /// don't fit. Takes no memory.
+    /// Like `from_vec`, for any number of words: returns the words as the error exactly where they don't
+    /// fit. Takes no memory.
     ///
     /// ```text
     /// BitVec::<u8, Lsb0>::try_from_vec(vec![in alloc; 6]?)? holds 01100000

@@ -1,10 +1,10 @@
--- Runs of commands, one command more.
+-- Executions of commands, one command more.
 use Rattle.std.proofs.Common.{◌≡◌, ℕ, ◌+◌, ◌<◌, List, Bool, [], ◌∷◌, ◌++◌, refl, ap, ◌∙◌, length, take, get_or}
 use Rattle.std.proofs.lemmas.List.{take_more}
 use Rattle.bit_fixed.specs.declared.machine.FixedCommand.{FixedCommand}
 use Rattle.bit_fixed.specs.Machine.{list_after_one, reply_to, list_after, replies_of}
 
--- a run goes on where another ended
+-- an execution goes on where another ended
 list_after-append : (list : List Bool) (xs ys : List FixedCommand) → list_after list (xs ++ ys) ≡ list_after (list_after list xs) ys
 list_after-append list [] ys = refl
 list_after-append list (x ∷ xs) ys = list_after-append (list_after_one list x) xs ys

@@ -1,4 +1,4 @@
--- What commands that keep the length, and runs of them, do to a list of bits and reply.
+-- What commands that keep the length, and executions of them, do to a list of bits and reply.
 use Rattle.std.specs.Prelude.{◌-◌, List, Bool, [], ◌∷◌, length, map, not, replicate, slice_set, slice_get, nat_lt, if◌then◌else◌}
 use Rattle.bit_addressing.specs.Row.{moved}
 use Rattle.bit_containers.specs.Machine.{can_copy, bit_or, done_if}

@@ -1,4 +1,4 @@
-//! The trait, and the three containers that have it.
+//! The trait, and its impls for the three containers.
 ghost use Rattle.std.specs.Prelude.{◌≡◌, ◌+◌, ◌-◌, ◌<◌, ◌≤◌, ℕ, Bool, List, length, map, not, replicate, set, slice_get};
 ghost use Rattle.bit_addressing.specs.Row.{moved};
 ghost use Rattle.bit_addressing.specs.Typed.{row};
@@ -8,15 +8,16 @@ use bit_array::{BitArray, BitViewSized};
 use bit_boxed::BitBox;
 use bit_containers::BitVec;
 
-/// Bits that are read and written over, and stay as many.
+/// Bits that are read and written, and whose number stays.
 ///
-/// In contracts a value is the list of its bits, and how many bits it has room for; words, order and head are its
-/// own affair. No call takes memory, and none changes the room.
+/// In contracts a value is the list of its bits and its capacity; words, order and head are not named. No call
+/// takes memory, and none changes the capacity.
 pub trait Bits {
     // The bits, the first first.
     ghost list: { Self → List Bool };
 
-    // How many bits fit without new memory: of a container that never grows, as many as it has.
+    // How many bits the container has room for without new memory. For one that never grows, that
+    // is its length.
     ghost capacity: { Self → ℕ };
 
     /// How many bits there are.

@@ -1,4 +1,4 @@
-//! One trait for arrays, boxes and vectors of bits, and runs of commands over any of them.
+//! One trait for arrays, boxes and vectors of bits, and executions of commands over any of them.
 #![tactic(auto)]
 
 mod bits;

@@ -1,4 +1,4 @@
-//! Runs of commands over any container.
+//! Executions of commands over any container.
 ghost use Rattle.std.specs.Prelude.{◌≡◌, ◌+◌, ◌<◌, ◌++◌, length, IfErr, OnErr, OnOk};
 ghost use Rattle.std.specs.Vec.{vec_capacity, vec_len};
 ghost use Rattle.bit_fixed.specs.Machine.{list_after_one, reply_to, list_after, replies_of};
@@ -7,18 +7,18 @@ use crate::bits::Bits;
 use bit_addressing::GrowError;
 use bit_containers::{Reply, Stop};
 
-/// What to do to a list of bits that stays as long.
+/// What to do to a list of bits whose length stays.
 #[derive(Clone, Copy, PartialEq, Eq, Debug)]
 pub enum FixedCommand {
     /// Asks for the bit at an index.
     Get(usize),
     /// Writes a bit at an index.
     Set(usize, bool),
-    /// Makes every bit the same.
+    /// Writes a bit at every index.
     Fill(bool),
     /// Flips every bit.
     Flip,
-    /// Copies the range from the first index to the second to the place from the third on.
+    /// Copies the bits from the first index up to the second to the indices from the third on.
     CopyWithin(usize, usize, usize),
     /// Asks for the length.
     Len,
@@ -75,11 +75,12 @@ fn step<B: Bits>(bits: &mut B, command: FixedCommand) -> Reply
     }
 }
 
-/// Does the commands in order, and appends a reply for each.
+/// Does the commands in order, and appends the reply to each.
 ///
-/// Memory for all replies is taken first: where it is refused the run stops with `done` 0 and `OutOfMemory`,
-/// and nothing is done. No command stops it: one whose index or range is out of range replies `OutOfRange`,
-/// and the list stays. A run without commands takes no memory and is Ok. The room of the container stays.
+/// Memory for all replies is taken first: where it is refused, the execution stops with `done` 0 and
+/// `OutOfMemory`, and nothing is done. No command stops it: one whose index or range is out of range replies
+/// `OutOfRange`, and the list stays. Without commands no memory is taken, and the result is Ok. The capacity
+/// stays.
 pub fn run_fixed<B: Bits>(
     bits: &mut B,
     commands: &[FixedCommand],

@@ -11,7 +11,7 @@ use Rattle.bit_ranks.specs.Sorted.{IsNextFrom, low_part, number_at, numbers_of}
 use Rattle.bit_ranks.proofs.Numbered.{as_many, before_end, index_numbered, one_more, parted}
 use Rattle.bit_ranks.proofs.Packed.{length_numbers, low_inside, number_fits, number_is, one_at, shifted}
 
--- no one stands between two indices
+-- no one is between two indices
 none_between : (xs : List Bool) (from upto : ℕ) → from ≤ upto → upto ≤ length xs → ((j : ℕ) → from ≤ j → j < upto → slice_get xs j ≡ Some false) → ones_before xs upto ≡ ones_before xs from
 none_between xs from upto h l clear =
     let none = places_none (λ b. b) true refl refl xs from upto (record { each = λ j a b. get_or_from_slice_get xs j false false (clear j a b) }) in

@@ -93,7 +93,7 @@ marked_more w xs k list up h inside marked =
 
 -- ---- the digits
 
--- what stands before a place
+-- what is before an index
 part_before : (xs : List Bool) (at a b : ℕ) → b ≤ at → slice_range (take at xs) a b ≡ slice_range xs a b
 part_before xs at a b h = same_lists _ _ (search (rules, places)) (λ i d below. grind (arith, places))
 

@@ -1,4 +1,4 @@
--- The bits of a list before an index, counted, and the bit with a number.
+-- How many bits of a kind are before an index, and the index of the k-th of them.
 use Rattle.std.proofs.Common.{◌≡◌, ◌↔◌, ℕ, suc, ◌+◌, ◌-◌, ◌*◌, ◌/◌, ◌%◌, ◌^◌, ◌<◌, ◌≤◌, Bool, true, false, not, cond, List, [], ◌∷◌, ◌++◌, map, length, take, drop, get_or, count_by, slice_get, slice_range, Some, None, Option, IfSome, IfNone, refl, sym, ◌∙◌, ap, inl, inr, arith}
 use Rattle.std.specs.Prelude.{count_ones, bit_and}
 use Rattle.std.specs.List.{filter, range_with_len}

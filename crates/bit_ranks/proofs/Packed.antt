@@ -96,7 +96,7 @@ low_inside k n w h = let m : (k + 1) * w ≤ n * w = mul-le-mul_right w (omega a
 pub number_fits : (n w : ℕ) (high low : List Bool) (k : ℕ) → IsPacked n w high low → k < n → number_at w high low k < 2 ^ 64
 number_fits n w high low k packed h = omega (arith, number_is n w high low k 0 h, packed.fits k 0 (omega (arith, length_numbers n w high low)))
 
--- the one that stands at a number's place
+-- the one of a number, by its index
 pub one_at : (xs : List Bool) (k place : ℕ) → Some place ≡ slice_get (ones_of xs) k → (k < length (ones_of xs)) × (place - k ≡ high_part xs k)
 one_at xs k place is = (slice_get_within (ones_of xs) k place (sym is), let e = get_or_from_slice_get (ones_of xs) k place 0 (sym is) in omega arith)
 

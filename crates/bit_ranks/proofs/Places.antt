@@ -1,4 +1,4 @@
--- The places of the ones of a list, by number, and the zeros between them.
+-- The indices of the ones of a list, by number, and the zeros between them.
 use Rattle.std.proofs.Common.{◌≡◌, ℕ, zero, suc, ◌+◌, ◌-◌, ◌<◌, ◌≤◌, Bool, true, false, not, cond, List, [], ◌∷◌, ◌++◌, length, take, set, get_or, count_by, slice_get, Some, refl, sym, ◌∙◌, ap, inl, inr, arith}
 use Rattle.std.specs.List.{filter, range_with_len}
 use Rattle.std.specs.List.Sorted.{IsStrictlyIncreasing}
@@ -20,7 +20,7 @@ range_increases a n k h =
     let size = length-range_with_len a n in
     omega (arith, get_or-range_with_len a n k 0 (omega arith), get_or-range_with_len a n (k + 1) 0 (omega arith))
 
--- the one number k stands after k ones
+-- before the k-th one there are k ones
 pub record IsOne (xs : List Bool) (k i : ℕ) : Type 0 where
   pub inside : i < length xs
   pub here : get_or xs i false ≡ true
@@ -50,11 +50,11 @@ one_numbered xs k h =
       ];
     }
 
--- before an index stand zeros and ones
+-- the bits before an index are zeros and ones
 pub parts_before : (xs : List Bool) (i : ℕ) → i ≤ length xs → zeros_before xs i + ones_before xs i ≡ i
 parts_before xs i h = omega (arith, zeros_and_ones (take i xs), length-take i xs)
 
--- the high part of a number is how many zeros stand before its one
+-- the high part of a number is how many zeros are before its one
 pub high_is_zeros : (xs : List Bool) (k : ℕ) → k < length (ones_of xs) → high_part xs k ≡ zeros_before xs (get_or (ones_of xs) k 0)
 high_is_zeros xs k h =
     let one = one_numbered xs k h in
@@ -120,7 +120,7 @@ no_later xs high k few below =
 
 -- ---- the first zero from an index on
 
--- where no zero stands between two indices, as many stand before both
+-- where no zero is between two indices, as many are before both
 zeros_kept : (xs : List Bool) (from upto : ℕ) → from ≤ upto → upto ≤ length xs → ((j : ℕ) → from ≤ j → j < upto → slice_get xs j ≡ Some true) → zeros_before xs upto ≡ zeros_before xs from
 zeros_kept xs from upto h l set =
     let none = places_none not false refl refl xs from upto (record { each = λ j a b. get_or_from_slice_get xs j true false (set j a b) }) in
@@ -143,7 +143,7 @@ whole_count xs =
 pub ones_at_end : (xs : List Bool) (n : ℕ) → n ≡ length xs → ones_before xs n ≡ length (ones_of xs)
 ones_at_end xs n is = ap (ones_before xs) is ∙ sym (as_many (λ b. b) xs (length xs) (omega arith))
 
--- before the one of a number with these high bits stand as many ones as its place says
+-- before the one of a number with these high bits there are as many ones as its index says
 pub ones_of_same : (xs : List Bool) (k high : ℕ) → k < length (ones_of xs) → high_part xs k ≡ high → (ones_before xs (k + high) ≡ k) × (k + high ≤ length xs)
 ones_of_same xs k high h part =
     let one = one_numbered xs k h in
@@ -194,7 +194,7 @@ same_from xs h place end some found zeros upto begins =
 pub zeros_after : (xs : List Bool) (place h : ℕ) → slice_get xs place ≡ Some false → zeros_before xs place ≡ h → zeros_before xs (place + 1) ≡ h + 1
 zeros_after xs place h found zeros = one_more not xs place (slice_get_within xs place false found) (ap not (get_or_from_slice_get xs place false false found)) ∙ ap (λ n. n + 1) zeros
 
--- before each of them, and the first after them, stand as many ones as its place says
+-- before each of them, and the first after them, there are as many ones as its index says
 pub next_stands : (xs : List Bool) (h start end k : ℕ) → AreSameHigh xs h start end → start ≤ k → k ≤ end → (ones_before xs (k + h) ≡ k) × (k + h ≤ length xs)
 next_stands xs h start end k same a b = elim (cases_lt k end) [
   | inl l ↦ let within = same.upto.within in ones_of_same xs k h (omega arith) (same.same k a l)

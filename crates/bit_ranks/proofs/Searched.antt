@@ -69,7 +69,7 @@ module _ (n w : ℕ) (high low : List Bool) (packed : IsPacked n w high low) (x 
       let hj = ap (λ p. p * 2 ^ w) (same j (omega arith) h) in
       omega (arith, number_is n w high low i 0 (omega arith), number_is n w high low j 0 (omega arith))
 
-  -- the place at which the low bits reach those of x
+  -- the index at which the low bits reach those of x
   found_at : (k : ℕ) → start ≤ k → k ≤ end → ((j : ℕ) → start ≤ j → j < k → low_part w low j < x % 2 ^ w) → ((j : ℕ) → k ≤ j → j < end → x % 2 ^ w ≤ low_part w low j) → IsBound (numbers_of n w high low) x k
   found_at k a b less more =
       let size = length_numbers n w high low in
@@ -99,7 +99,7 @@ module _ (n w : ℕ) (high low : List Bool) (packed : IsPacked n w high low) (x 
   pub bound_found : (xs : List ℕ) (rest k : ℕ) → numbers_of n w high low ≡ xs → rest ≡ x % 2 ^ w → start ≤ k → k ≤ end → ((j : ℕ) → start ≤ j → j < k → low_part w low j < rest) → ((j : ℕ) → k ≤ j → j < end → rest ≤ low_part w low j) → IsBound xs x k
   bound_found xs rest k view is a b less more = subst (λ l. IsBound l x k) view (found_at k a b (λ j c d. omega (arith, is, less j c d)) (λ j c d. omega (arith, is, more j c d)))
 
-  -- from there on the number at that place is found
+  -- from there on the number at that index is found
   pub next_from : (k : ℕ) → start ≤ k → k ≤ end → IsNextFrom n w high low k (k + x / 2 ^ w)
   next_from k a b =
       let stands = next_stands high (x / 2 ^ w) start end k same_high a b in

@@ -1,4 +1,4 @@
--- Counts of the bits before an index, the bit with a number, and the index of counts that finds both.
+-- How many bits of a kind are before an index, where the k-th of them is, and the counts that find both.
 use Rattle.std.specs.Prelude.{◌≡◌, ℕ, ◌+◌, ◌*◌, ◌/◌, ◌^◌, ◌<◌, ◌≤◌, Bool, true, false, not, List, [], ◌∷◌, Some, count_by, length, slice_get, slice_index_or, take, refl}
 use Rattle.bit_addressing.specs.declared.length.TheConstants.{MAX_BITS}
 use Rattle.bit_slice.specs.Places.{ones_of}
@@ -20,13 +20,13 @@ ones_before xs i = count_by (λ b. b) (take i xs)
 abbrev pub zeros_before : List Bool → ℕ → ℕ
 zeros_before xs i = count_by not (take i xs)
 
--- i is the index of the item number k of those that are this bit
+-- i is the index of the k-th item, from 0, of those that are this bit
 pub record IsNumbered (bit : Bool) (xs : List Bool) (k i : ℕ) : Type 0 where
   pub inside : i < length xs
   pub here : slice_index_or xs i false ≡ bit
   pub before : count_before bit xs i ≡ k
 
--- how many items are true before the end of each whole block of 512; as many items as a box may have
+-- how many items are true before the end of each whole block of 512; and there are at most as many items as a box may have
 pub record IsIndex (xs : List Bool) (counts : List ℕ) : Type 0 where
   pub few : length xs ≤ MAX_BITS
   pub size : length counts ≡ length xs / 512

@@ -1,4 +1,4 @@
--- Ascending numbers in two lists: ones whose places say the high bits of each, and its low bits in binary.
+-- Ascending numbers in two lists: ones whose indices say the high bits of each, and the low bits of each in binary.
 use Rattle.std.specs.Prelude.{◌≡◌, ℕ, ◌+◌, ◌-◌, ◌*◌, ◌/◌, ◌^◌, ◌<◌, ◌≤◌, leb, Bool, true, false, List, [], ◌∷◌, All, count_by, length, map, max, slice_index_or, slice_range, take, refl}
 use Rattle.std.specs.List.{range_with_len}
 use Rattle.std.specs.List.Sorted.{IsNonDecreasing}
@@ -7,7 +7,7 @@ use Rattle.bit_addressing.specs.declared.length.TheConstants.{MAX_BITS}
 use Rattle.bit_slice.specs.Places.{ones_of}
 use Rattle.bit_ranks.specs.Ranks.{ones_before}
 
--- the high bits of number k: how many zeros stand before the one number k
+-- the high bits of number k: how many zeros are before the k-th one
 abbrev pub high_part : List Bool → ℕ → ℕ
 high_part high k = slice_index_or (ones_of high) k 0 - k
 
@@ -47,11 +47,11 @@ low_len xs = length xs * low_width xs
 abbrev pub IsTooLong : List ℕ → Type 0
 IsTooLong xs = MAX_BITS < max (high_len xs) (low_len xs)
 
--- the places of the ones of the first n numbers, of which w bits are low
+-- the indices of the ones of the first n numbers, of which w bits are low
 unfoldable pub high_places : ℕ → List ℕ → ℕ → List ℕ
 high_places w xs n = map (λ k. slice_index_or xs k 0 / 2 ^ w + k) (range_with_len 0 n)
 
--- i is the first place whose number is below the one before
+-- i is the index of the first number that is below the one before
 pub record IsFirstDescent (xs : List ℕ) (i : ℕ) : Type 0 where
   pub after_one : 0 < i
   pub inside : i < length xs
@@ -70,7 +70,7 @@ pub record IsPacked (n w : ℕ) (high low : List Bool) : Type 0 where
   pub width : w ≡ low_width (numbers_of n w high low)
   pub size : length high ≡ high_len (numbers_of n w high low)
 
--- r numbers have high bits of at most h, and the first after them has its one at index r + h or after it
+-- r numbers have high bits of at most h, and the next number has its one at index r + h or after it
 pub record IsUptoHigh (high : List Bool) (h r : ℕ) : Type 0 where
   pub within : r ≤ length (ones_of high)
   pub before : (k : ℕ) → k < r → high_part high k ≤ h
@@ -85,7 +85,7 @@ pub record AreSameHigh (high : List Bool) (h start end : ℕ) : Type 0 where
   pub same : (k : ℕ) → start ≤ k → k < end → high_part high k ≡ h
   pub upto : IsUptoHigh high h end
 
--- number `at` is the first whose one stands at `place` or after it
+-- number `at` is the first whose one is at index `place` or after it
 pub record IsNextFrom (n w : ℕ) (high low : List Bool) (at place : ℕ) : Type 0 where
   pub packed : IsPacked n w high low
   pub inside : at ≤ n

@@ -1,4 +1,5 @@
-//! Boxed lists of bits whose bits are counted before any index, and found by number.
+//! Boxed lists of bits in which ones and zeros are counted before any index and found by number,
+//! and sorted numbers.
 #![tactic(auto)]
 
 mod ones;

@@ -1,4 +1,4 @@
-//! The indices of the ones of a list, from a given one on.
+//! The indices of the ones of a list, from a given number on.
 ghost use Rattle.std.specs.Iterator.{YieldsFirst};
 ghost use Rattle.std.specs.Iterator.Runs.{YieldsInOrder};
 ghost use Rattle.std.specs.Prelude.{◌≡◌, ◌≤◌, drop, length};
@@ -10,7 +10,7 @@ use bit_containers::{BitOrder, BitStore};
 use bit_slice::BitSlice;
 use std::iter::{FusedIterator, Iterator};
 
-/// The indices of the ones of a list from a given number on, ascending. It takes no memory.
+/// The indices of the ones of a list, ascending, without the first `k` of them. It takes no memory.
 #[derive(Drop)]
 pub struct OnesFrom<'a, T: BitStore, O: BitOrder> {
     view: BitSlice<'a, T, O>,
@@ -21,7 +21,7 @@ pub struct OnesFrom<'a, T: BitStore, O: BitOrder> {
 impl<T: BitStore, O: BitOrder> Ranks<T, O> {
     ghost use Rattle.bit_ranks.specs.Ones.{ones_from};
 
-    /// The indices of the ones from number `k` on, ascending.
+    /// The indices of the ones, ascending, without the first `k` of them.
     pub fn iter_ones_from(&self, k: usize) -> OnesFrom<'_, T, O>
         ensures list { ones_from result ≡ drop k (ones_of self.now.list) }
         ensures runs { YieldsInOrder
@@ -33,7 +33,7 @@ impl<T: BitStore, O: BitOrder> Ranks<T, O> {
         }
     }
 
-    // The index of the one number `k`, or the length where there is none.
+    // The index of the `k`-th one, counted from 0, or the length where there is none.
     fn index_from(&self, k: usize) -> usize
         ensures list { places_between (λ b. b) self.now.list result (length self.now.list)
             ≡ drop k (ones_of self.now.list) }

@@ -13,13 +13,14 @@ use bit_slice::BitSlice;
 use std::alloc::{AllocError, Global};
 use std::marker::Model;
 
-// The bits that one count is for.
+// How many bits one count is for.
 const BLOCK: usize = 512;
 
-/// A boxed list of bits that knows how many ones stand before any index, and where the one with a given number stands.
+/// A boxed list of bits with counts of its ones: it tells how many ones or zeros are before an index, and at which
+/// index the `k`-th one or zero is.
 ///
-/// Beside the box it keeps one count for each whole block of 512 bits, at most an eighth of the bits' memory. The bits
-/// can't be written while they are counted: `into_bits` gives the box back.
+/// Beside the box it keeps one count for each whole block of 512 bits, at most an eighth of the bits' memory. The
+/// bits can't be written meanwhile: `into_bits` gives the box back.
 ///
 /// In contracts ranks `r` are the box: all its words `r.words`, their row `r.row`, the head `r.head` and the
 /// list `r.list`.
@@ -27,7 +28,7 @@ const BLOCK: usize = 512;
 /// ```text
 /// let ranks = Ranks::new(alloc, bits)?;   // of the bits 0110100
 /// ranks.rank1(4)                          // 2: of the ones before index 4
-/// ranks.select1(2)                        // Some(4): of the one number 2, from 0
+/// ranks.select1(2)                        // Some(4): of the ones at 1, 2 and 4, counted from 0
 /// ranks.select0(1)                        // Some(3)
 /// ```
 #[derive(Drop)]
@@ -50,8 +51,8 @@ impl<T: BitStore, O: BitOrder> Model for Ranks<T, O> {
 }
 
 impl<T: BitStore, O: BitOrder> Ranks<T, O> {
-    /// Counts the ones of a box, by words. Takes memory for the counts where there are at least 512 bits; where it is
-    /// refused, the error is the box.
+    /// Counts the ones of a box. Takes memory for the counts where there are at least 512 bits; where it is refused,
+    /// the error is the box.
     pub fn new(alloc: Global, bits: BitBox<T, O>) -> Result<Self, BitBox<T, O>>
         ensures bits { IfOk result (λ r. r ≡ bits) }
         ensures back { IfErr result (λ back. back ≡ bits) }
@@ -96,7 +97,8 @@ impl<T: BitStore, O: BitOrder> Ranks<T, O> {
         self.len() == 0
     }
 
-    /// How many counts of 64 bits are kept beside the bits: one for each whole block of 512 of them.
+    /// How many counts of 64 bits each are kept beside the bits: one for each whole block of 512
+    /// bits.
     pub fn index_len(&self) -> usize
         ensures value { result ≡ length self.now.list / 512 }
         ensures bound { 8 * (64 * result) ≤ length self.now.list }
@@ -104,7 +106,7 @@ impl<T: BitStore, O: BitOrder> Ranks<T, O> {
         self.counts.len()
     }
 
-    /// The bit at `i`. None exactly where `i` is at or past the length.
+    /// The bit at `i`. None exactly where `i` is the length or more.
     pub fn get(&self, i: usize) -> Option<bool>
         ensures { result ≡ slice_get self.now.list i }
     {
@@ -127,8 +129,8 @@ impl<T: BitStore, O: BitOrder> Ranks<T, O> {
         self.rank0(self.len())
     }
 
-    /// How many ones stand before index `i`: one count is read, and fewer than 512 bits are counted by words. Requires
-    /// that `i` is at most the length.
+    /// How many ones are before index `i`: one count is read, and fewer than 512 bits are counted. Requires that `i`
+    /// is at most the length.
     pub fn rank1(&self, i: usize) -> usize
         requires { i ≤ length self.now.list }
         ensures value { result ≡ ones_before self.now.list i }
@@ -138,7 +140,7 @@ impl<T: BitStore, O: BitOrder> Ranks<T, O> {
         self.ones_to(block) + self.bits.get_range(block * BLOCK..i).count_ones()
     }
 
-    /// How many zeros stand before index `i`. Like `rank1`.
+    /// How many zeros are before index `i`. Otherwise like `rank1`.
     pub fn rank0(&self, i: usize) -> usize
         requires { i ≤ length self.now.list }
         ensures value { result ≡ zeros_before self.now.list i }
@@ -147,8 +149,8 @@ impl<T: BitStore, O: BitOrder> Ranks<T, O> {
         i - self.rank1(i)
     }
 
-    /// The index of the one number `k`, from 0. None exactly where there are at most `k` ones. A binary search over
-    /// the counts, then at most eight words of 64 bits, then six steps in one of them.
+    /// The index of the `k`-th one, counted from 0. None exactly where there are at most `k` ones. It is a binary
+    /// search over the counts, then a search of at most eight words of 64 bits, then six steps in one of them.
     pub fn select1(&self, k: usize) -> Option<usize>
         ensures value { result ≡ slice_get (ones_of self.now.list) k }
         ensures found { IfSome result (λ i. slice_get self.now.list i ≡ Some true) }
@@ -162,7 +164,8 @@ impl<T: BitStore, O: BitOrder> Ranks<T, O> {
         self.select(true, k)
     }
 
-    /// The index of the zero number `k`, from 0. None exactly where there are at most `k` zeros. Like `select1`.
+    /// The index of the `k`-th zero, counted from 0. None exactly where there are at most `k` zeros. Otherwise
+    /// like `select1`.
     pub fn select0(&self, k: usize) -> Option<usize>
         ensures value { result ≡ slice_get (zeros_of self.now.list) k }
         ensures found { IfSome result (λ i. slice_get self.now.list i ≡ Some false) }
@@ -176,7 +179,7 @@ impl<T: BitStore, O: BitOrder> Ranks<T, O> {
         self.select(false, k)
     }
 
-    // The index of the bit number `k` of those that are `bit`.
+    // The index of the `k`-th bit, counted from 0, of those that are `bit`.
     #[inline(always)]
     fn select(&self, bit: bool, k: usize) -> Option<usize>
         ensures some { IfSome result (λ i. IsNumbered bit self.now.list k i) }
@@ -230,7 +233,7 @@ impl<T: BitStore, O: BitOrder> Ranks<T, O> {
         if bit { ones } else { block * BLOCK - ones }
     }
 
-    // How many ones stand before a block.
+    // How many ones are before a block.
     #[inline(always)]
     fn ones_to(&self, block: usize) -> usize
         requires { block * 512 ≤ length self.now.list }
@@ -245,7 +248,7 @@ impl<T: BitStore, O: BitOrder> Ranks<T, O> {
     }
 }
 
-// How many ones stand before the end of each whole block, counted in one pass.
+// How many ones are before the end of each whole block, counted in one pass.
 fn counted<T: BitStore, O: BitOrder>(
     alloc: Global,
     view: BitSlice<'_, T, O>,

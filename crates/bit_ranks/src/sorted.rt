@@ -15,11 +15,11 @@ pub use errors::SortedError;
 pub use iter::Numbers;
 use std::marker::Model;
 
-/// An ascending list of numbers, equal ones allowed, in about two bits a number more than the logarithm of
-/// their mean gap.
+/// An ascending list of numbers, equal ones allowed. It takes about two bits for each number more than the
+/// logarithm of their mean gap.
 ///
-/// Each number is in two parts: its low bits stand in binary in one list, and its high bits are a one in
-/// another, which has as many zeros before it as they say. The numbers can't be changed.
+/// Each number is in two parts: its low bits are in binary in one list; its high bits are a one in
+/// another list, and their value is the number of zeros before it. The numbers can't be changed.
 ///
 /// In contracts sorted numbers are the list of the numbers.
 ///
@@ -67,7 +67,7 @@ impl SortedNumbers {
     }
 
     /// How many bits the two lists take, without the counts of the ones: at most `w + 2` for each number, where
-    /// none is larger than `len` times 2 to the `w`.
+    /// no number is larger than `len` times 2 to the power `w`.
     ///
     /// ```text
     /// of 2, 3, 9, 9:  numbers.size_in_bits() == 12    // 8 bits for the high parts, 4 for the low ones
@@ -81,8 +81,8 @@ impl SortedNumbers {
         self.high.len() + self.low.len()
     }
 
-    /// The number at `k`. None exactly where `k` is at or past the length. One `select1`, and then its low bits
-    /// are read at once.
+    /// The number at index `k`. None exactly where `k` is the length or more. It is one `select1`, and one read
+    /// of the low bits.
     ///
     /// ```text
     /// of 2, 3, 9, 9:  numbers.get(2) == Some(9)

@@ -8,7 +8,8 @@ ghost use Rattle.bit_ranks.specs.Ranks.{is_bit};
 use bit_containers::{BitOrder, BitStore};
 use bit_slice::BitSlice;
 
-// The place of the set bit number `k` of a number, from the lowest on: the part that has it is halved six times.
+// The place of the `k`-th set bit of a number, counted from 0 and from the lowest on: the part that has it is
+// halved six times.
 #[inline(always)]
 pub(crate) fn place_of(number: u64, k: u32) -> u32
     requires { k < count_ones number }

@@ -61,7 +61,7 @@ pub number_at : (w : ℕ) (xs : List Bool) (i : ℕ) → i < length xs / w → g
 unfolding numbers_in
 number_at w xs i h = get_or-map-range_with_len (λ i. written (slice_range xs (i * w) (i * w + w))) 0 (length xs / w) i i 0 h (omega arith)
 
--- numbers, each written at its place
+-- numbers, each written at its index
 pub same_numbers : (w : ℕ) (xs : List Bool) (ns : List ℕ) → 0 < w → w ≤ 64 → length xs ≡ length ns * w → ((i : ℕ) → i < length ns → (slice_range xs (i * w) (i * w + w) ≡ binary w (get_or ns i 0)) × (get_or ns i 0 < 2 ^ w)) → numbers_in w xs ≡ ns
 same_numbers w xs ns positive few size each =
     let count : length xs / w ≡ length ns = ap (λ k. k / w) (size ∙ omega arith) ∙ div-mul-add (length ns) w 0 positive in
@@ -151,7 +151,7 @@ number_set w n i v xs positive few size inside fits =
       ]
     ])
 
--- the number at a place, by its digits
+-- the number at an index, by its digits
 pub number_is : (w n i r : ℕ) (xs : List Bool) → 0 < w → w ≤ 64 → length xs ≡ n * w → i < n → binary w r ≡ slice_range xs (i * w) (i * w + w) → r < 2 ^ w → slice_get (numbers_in w xs) i ≡ Some r
 number_is w n i r xs positive few size inside is below =
     let count = count_of w n xs positive size in
@@ -187,7 +187,7 @@ joined_numbers w n xs positive size =
     ap (λ m. joined w (map (λ i. written (slice_range xs (i * w) (i * w + w))) (range_with_len 0 m))) count
     ∙ joined_from w 0 n xs positive (size ∙ ap (λ m. m * w) (omega arith)) ∙ ap (λ m. drop m xs) none
 
--- a number's place lies in the bits
+-- the digits of a number lie in the bits
 pub place_inside : (w n i : ℕ) → i < n → i * w + w ≤ n * w
 place_inside w n i h =
     let more = one_more_word i w in

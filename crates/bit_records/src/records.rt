@@ -41,7 +41,8 @@ impl<T: BitStore, O: BitOrder> Model for Records<T, O> {
 }
 
 impl<T: BitStore, O: BitOrder> Records<T, O> {
-    /// No number, of `width` digits each. None exactly where the width is 0 or above 64. Takes no memory.
+    /// Records of `width` digits each, with no number yet. None exactly where `width` is 0 or above 64.
+    /// Takes no memory.
     pub fn new(alloc: Global, width: u8) -> Option<Self>
         ensures made { MatchOption result (IsTrue (eqb width 0 || ltb 64 width))
             (λ r. (r.width ≡ width) × ((r.list ≡ []) × (r.bits.capacity ≡ 0))) }
@@ -57,7 +58,7 @@ impl<T: BitStore, O: BitOrder> Records<T, O> {
         })
     }
 
-    /// How many numbers there are: their digits are at most `MAX_BITS`.
+    /// How many numbers there are; their digits together are at most `MAX_BITS`.
     pub fn len(&self) -> usize
         ensures value { result ≡ length self.now.list }
         ensures digits { result * self.now.width ≤ MAX_BITS }
@@ -82,7 +83,7 @@ impl<T: BitStore, O: BitOrder> Records<T, O> {
         self.width
     }
 
-    /// The number at `i`. None exactly where `i` is at or past the length.
+    /// The number at `i`. None exactly where `i` is the length or more.
     pub fn get(&self, i: usize) -> Option<u64>
         ensures value { result ≡ slice_get self.now.list i }
         ensures below { IfSome result (λ number. number < 2 ^ self.now.width) }
@@ -109,8 +110,8 @@ impl<T: BitStore, O: BitOrder> Records<T, O> {
     }
 
     /// Appends a number. Returns `TooLong` exactly where the bits with it would pass `MAX_BITS`, and
-    /// `OutOfMemory` only where they would pass the capacity. A refusal leaves the records. Requires that the
-    /// number has at most as many digits as the width.
+    /// `OutOfMemory` only where they would pass the capacity. A refusal changes nothing but perhaps the
+    /// capacity. Requires that the number has at most as many digits as the width.
     #[inline(always)]
     pub fn push(&mut self, number: u64) -> Result<(), GrowError>
         requires { number < 2 ^ self.old.width }
@@ -134,7 +135,7 @@ impl<T: BitStore, O: BitOrder> Records<T, O> {
     }
 
     /// The bits of the numbers, one after another, each from its most significant digit on: they begin at head 0, and
-    /// leave no dead bit true. Takes no memory.
+    /// every dead bit is false. Takes no memory.
     pub fn into_bits(self) -> BitVec<T, O>
         ensures bits { result ≡ self.bits }
         ensures list { result.list ≡ joined self.width self.list }
@@ -153,7 +154,7 @@ impl<T: BitStore, O: BitOrder> Clone for Records<T, O> {
 
     ghost is_infallible = { λ r. r.list ≡ [] };
 
-    /// A copy, whose bits begin at head 0 and leave no dead bit true. Takes memory where there is a number.
+    /// A copy, whose bits begin at head 0, with every dead bit false. Takes memory where there is a number.
     fn clone(&self) -> Result<Self, AllocError> {
         match self.bits.clone() {
             Ok(bits) => Ok(Records {

@@ -1,4 +1,4 @@
--- Which writes leave a clean row clean: the list stands in it from its beginning, and then comes false.
+-- Which writes leave a clean row clean: it is the list and then false.
 use Rattle.std.proofs.Common.{[], ◌∷◌, true, false, leb, ltb, ◌&&◌, if◌then◌else◌, subst, get_or, set, swap, slice_range, ◌≡◌, ℕ, ◌+◌, ◌-◌, ◌*◌, ◌<◌, ◌≤◌, List, Bool, length, sym, ◌∙◌, ap, refl, arith, rules}
 use Rattle.std.proofs.lemmas.List.{same_lists, places, length-set, ext_get_or}
 use Rattle.std.proofs.lemmas.List.Edits.{swap_is}

@@ -14,7 +14,7 @@ use Rattle.bit_slice.proofs.Parts.{run_in_run}
 pub one_number : (xs ys : List Bool) → length xs ≡ length ys → number_of xs ≡ number_of ys → xs ≡ ys
 one_number xs ys size same = ext_get_or false xs ys size (λ i h. sym (has_number xs i) ∙ ap (λ n. has_bit n i) same ∙ has_number ys i)
 
--- the first place of head .. end in word k or after it
+-- the first index of head .. end that is in word k or after it
 abbrev pub begin : ℕ → ℕ → ℕ → ℕ → ℕ
 begin w head end k = min end (max head (w * k))
 

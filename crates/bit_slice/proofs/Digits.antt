@@ -75,7 +75,7 @@ group_cut ms at s upto h is = elim (cases_lt (length ms) (at + s)) [
   | inr g ↦ ap (λ n. take n (drop at ms)) (omega arith)
 ]
 
--- the place where a group begins
+-- the index at which a group begins
 pub group_begins : (s n i : ℕ) → 0 < s → i < words_for s n → i * s < n
 group_begins s n i positive h =
     let r = (room s n positive).1 in

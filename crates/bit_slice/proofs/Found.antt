@@ -22,7 +22,7 @@ use Rattle.bit_addressing.proofs.Words.{has_none, has_xor, has_above}
 use Rattle.bit_addressing.proofs.Chunks.{has_number}
 use Rattle.bit_slice.specs.Places.{IsAbsent, IsNext, IsLast}
 
--- t is the last of the first n places with this bit
+-- t is the last of the first n indices with this bit
 pub record IsTop (ms : List Bool) (bit : Bool) (n t : ℕ) : Type 0 where
   pub within : t < n
   pub here : get_or ms t false ≡ bit

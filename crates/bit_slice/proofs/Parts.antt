@@ -94,7 +94,7 @@ module _ {X Y : Type 0} (W : store.Ghosts X) (P : order.Ghosts Y) where
   pub row_size : (ws : List X) → length (row W P ws) ≡ W.BITS * length ws
   row_size ws = length_row W.value P.place W.BITS ws
 
-  -- a place in the words is in their row
+  -- an index in the words is in their row
   pub in_row : (ws : List X) (n : ℕ) → n ≤ W.BITS * length ws → n ≤ length (row W P ws)
   in_row ws n h = let e = row_size ws in omega arith
 
@@ -106,7 +106,7 @@ module _ {X Y : Type 0} (W : store.Ghosts X) (P : order.Ghosts Y) where
 pub refilled : {X : Type 0} (n : ℕ) (xs ws : List X) → length ws ≡ n → refill n xs ws ≡ ws
 refilled n xs ws e = ap (λ (k : ℕ). take k (ws ++ drop (length ws) xs)) (sym e) ∙ take-append_seam ws (drop (length ws) xs)
 
--- what comes after a front that is written over stays, said or unsaid
+-- what comes after a front that is written over stays, whether that is said or not
 pub refilled_front : {X : Type 0} (n : ℕ) (xs ws : List X) → n ≡ length xs → refill n xs (ws ++ drop (length ws) xs) ≡ refill n xs ws
 refilled_front {X = X} n xs ws e =
     let front : List X = ws ++ drop (length ws) xs in

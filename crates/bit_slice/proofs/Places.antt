@@ -83,7 +83,7 @@ module _ (p : Bool → Bool) where
     pub places_none : (xs : List Bool) (lo hi : ℕ) → IsAbsent bit xs lo hi → places_between p xs lo hi ≡ []
     places_none xs lo hi h = none_pass xs lo (hi - lo) (λ j a b. ap p (h.each j a (omega arith)) ∙ fails)
 
-    -- none stands before an index, so the places are those from it on
+    -- none is before an index, so the indices are those from it on
     pub places_later : (xs : List Bool) (lo middle hi : ℕ) → lo ≤ middle → middle ≤ hi → IsAbsent bit xs lo middle → places_between p xs middle hi ≡ places_between p xs lo hi
     places_later xs lo middle hi a b h = sym (places_split xs lo hi middle a b ∙ ap (λ l. l ++ places_between p xs middle hi) (places_none xs lo middle h))
 

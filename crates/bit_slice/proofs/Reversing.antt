@@ -1,4 +1,4 @@
--- Words and rows that are reversed from both ends, and a run of them that is moved to its place.
+-- Words and rows that are reversed from both ends, and a run of them that is moved to its head.
 use Rattle.std.proofs.Common.{◌≡◌, ℕ, ◌+◌, ◌-◌, ◌*◌, ◌/◌, ◌%◌, ◌<◌, ◌≤◌, Bool, false, List, ◌++◌, map, set, length, get_or, reverse, slice_range, refl, sym, ◌∙◌, ap, inl, inr, arith}
 use Rattle.std.proofs.lemmas.Bool.{cases_lt}
 use Rattle.std.proofs.lemmas.Bool.Decides.{eqb_tells}
@@ -20,7 +20,7 @@ use Rattle.bit_slice.proofs.Halves.{row_halves, run_of_front, run_of_back, put_f
 use Rattle.bit_slice.proofs.Turned.{reversed_item}
 use Rattle.bit_slice.proofs.Writing.{bits_of_number}
 
--- the place as far from the end of n words as j is from their beginning
+-- the index as far from the end of the row of n words as index j is from its beginning
 across : (w n j : ℕ) → 0 < w → j < w * n → w * n - 1 - j ≡ (n - 1 - j / w) * w + (w - 1 - j % w)
 across w n j positive below =
     let d = div-add-mod' j w in
@@ -140,7 +140,7 @@ reversed_run xs before len after whole =
     get_or-run (reverse xs) after len i (omega (arith, a, h)) ∙ get_or-reverse xs (after + i) false (omega (arith, whole, a, h)) ∙ ap (λ k. get_or xs k false) at
     ∙ sym (reversed_item xs before len i (omega (arith, whole)) (omega (arith, a, h))))
 
--- a list is reversed, a run is moved to its place, and what stood around it is put back
+-- a list is reversed, a run is moved to its head, and the bits around it are put back
 module _ (xs : List Bool) (before len after : ℕ) (whole : before + len + after ≡ length xs) where
   abbrev front : List Bool
   front = slice_range xs 0 (0 + before)

@@ -30,7 +30,7 @@ list_of {X} {Y} {W} {P} v = slice_range (row W P v.words.now) v.head (v.head + v
 abbrev pub loan_of : {X Y : Type 0} {W : store.Ghosts X} {P : order.Ghosts Y} → BitSliceMut X Y W P → GName
 loan_of v = v.words.ghost_name
 
--- what each write keeps: where the view writes to, its head and its length
+-- what each write keeps: the words that the view writes to, its head and its length
 pub record Stays {X Y : Type 0} {W : store.Ghosts X} {P : order.Ghosts Y} (old new : BitSliceMut X Y W P) : Type 0 where
   pub same_words : loan_of new ≡ loan_of old
   pub head : head_of new ≡ head_of old

@@ -2,7 +2,7 @@
 use Rattle.std.specs.Prelude.{◌≡◌, ℕ, Bool, List, length}
 use Rattle.bit_addressing.specs.Row.{sized}
 
--- a list stands in its row from `start` on: that is 0, and each dead bit is false, so the row is the list and then false
+-- a list begins in its row at `start`: that is 0, and each dead bit is false, so the row is the list and then false
 pub record IsCleanRow (w start : ℕ) (bits list : List Bool) : Type 0 where
   pub head : start ≡ 0
   pub row : bits ≡ sized w list (length list)

@@ -3,7 +3,7 @@ use Rattle.std.specs.Prelude.{◌≡◌, ℕ, ◌+◌, ◌*◌, ◌<◌, ◌≤�
 use Rattle.bit_addressing.specs.Row.{words_for}
 use Rattle.bit_addressing.specs.declared.length.TheConstants.{MAX_BITS}
 
--- `words` words of w bits are those of a view with this head and length: the head is in the first word, and no word is to spare
+-- `words` words of w bits are those of a view with this head and length: the head is in the first word, and there are exactly as many words as head and length take
 pub record IsView (w words head len : ℕ) : Type 0 where
   pub in_word : head < w
   pub few : len ≤ MAX_BITS

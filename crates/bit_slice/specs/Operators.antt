@@ -1,11 +1,11 @@
--- What is made of two lists of bits: of their items at each place, and their order.
+-- Two lists of bits combined item by item, and the order of lists.
 use Rattle.std.specs.Prelude.{◌≡◌, ◌↔◌, ℕ, ◌+◌, ◌-◌, Bool, true, false, ◌&&◌, ◌||◌, not, if◌then◌else◌, List, [], ◌∷◌, ◌++◌, Some, refl, slice_get, slice_range}
 use Rattle.std.specs.Ordering.{bool_cmp, ordering_reverse}
 use Rattle.std.specs.declared.cmp.Ordering.{Ordering}
 use Rattle.std.specs.declared.cmp.Ordering.TheVariants.{Less, Equal}
 use Rattle.std.specs.Cmp.Lexicographic.{slice_cmp}
 
--- what f makes of each item on the left and of the one at its place on the right, which is false where the right has none
+-- f of each item on the left and the item at its index on the right, or false where the right has none
 abbrev pub combined : (Bool → Bool → Bool) → List Bool → List Bool → List Bool
 combined f [] ys = []
 combined f (x ∷ xs) [] = f x false ∷ combined f xs []
@@ -27,7 +27,7 @@ or_of = combined (λ x y. x || y)
 abbrev pub xor_of : List Bool → List Bool → List Bool
 xor_of = combined (λ x y. if x then not y else y)
 
--- what f makes of the items from index dest on and of those of a range of the same list
+-- f of each item from index dest on and the item of a range of the same list for it
 abbrev pub part_onto : (List Bool → List Bool → List Bool) → List Bool → ℕ → ℕ → ℕ → List Bool
 part_onto f xs start end dest = f (slice_range xs dest (dest + (end - start))) (slice_range xs start end)
 

@@ -6,7 +6,7 @@ use Rattle.bit_addressing.specs.Row.{put}
 use Rattle.bit_addressing.specs.Typed.{row as row_of}
 use Rattle.bit_slice.specs.Clean.{IsCleanRow}
 
--- the list of that many bits that stands in the words' row from a head on
+-- the list of that many bits that begins at a head in the words' row
 abbrev pub list_in : {X Y : Type 0} → store.Ghosts X → order.Ghosts Y → List X → ℕ → ℕ → List Bool
 list_in W P ws head len = slice_range (row_of W P ws) head (head + len)
 

@@ -1,4 +1,4 @@
--- The parts of a list by their number: side by side from the front or from the end, and each n neighbours.
+-- The parts of a list by their number: side by side from the front or from the end, and each run of n items.
 use Rattle.std.specs.Prelude.{◌≡◌, ℕ, ◌+◌, ◌-◌, ◌*◌, ◌/◌, ◌%◌, min, Bool, true, false, List, [], ◌∷◌, map, take, drop, length, slice_range, refl}
 use Rattle.std.specs.List.{range_with_len}
 
@@ -26,7 +26,7 @@ exact_chunks_of n xs = map (λ k. part n xs (k * n)) (range_with_len 0 (length x
 abbrev pub back_chunks_of : ℕ → List Bool → List (List Bool)
 back_chunks_of n xs = map (λ k. part_back n xs (k * n)) (range_with_len 0 (chunk_count (length xs) n))
 
--- each n neighbours
+-- each run of n items, one for each index at which one begins
 abbrev pub windows_of : ℕ → List Bool → List (List Bool)
 windows_of n xs = map (λ k. part n xs k) (range_with_len 0 (length xs + 1 - n))
 

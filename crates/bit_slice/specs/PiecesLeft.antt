@@ -14,7 +14,7 @@ use Rattle.bit_slice.specs.declared.slice.chunks.Windows.{Windows}
 abbrev pub chunks_left : {X Y : Type 0} {W : store.Ghosts X} {P : order.Ghosts Y} → Chunks X Y W P → List (List Bool)
 chunks_left s = map (λ k. part s.size (list_of s.view) (k * s.size)) (range_with_len s.from (s.upto - s.from))
 
--- the lists of the chunks that are exact that are left
+-- the lists of the exact chunks that are left
 abbrev pub exact_chunks_left : {X Y : Type 0} {W : store.Ghosts X} {P : order.Ghosts Y} → ChunksExact X Y W P → List (List Bool)
 exact_chunks_left s = map (λ k. part s.size (list_of s.view) (k * s.size)) (range_with_len s.from (s.upto - s.from))
 

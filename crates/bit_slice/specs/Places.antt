@@ -28,8 +28,7 @@ pub record IsChunk (xs : List Bool) (lo hi chunk : ℕ) : Type 0 where
   pub few : hi ≤ lo + 64
   pub number : chunk ≡ number_of (slice_range xs lo hi)
 
--- from its lowest bit that is set on, a number has the bits of the items from lo up to hi, which are at most 64, and none
--- after them
+-- from its lowest set bit on, a number has the bits of the items from lo up to hi, which are at most 64; it has no bit after them
 pub record IsChunkLeft (xs : List Bool) (lo hi chunk : ℕ) : Type 0 where
   pub ordered : lo ≤ hi
   pub few : hi ≤ lo + 64

@@ -1,4 +1,4 @@
-//! A view whose comparisons and counts are counted.
+//! A view that counts the words that its comparisons and counts read.
 ghost use Rattle.std.specs.Prelude.{◌≡◌, ℕ, ◌+◌, ◌-◌, ◌*◌, ◌%◌, ◌^◌, ◌<◌, ◌≤◌, ◌↔◌, IsTrue, [], ◌∷◌, count_by, length, slice_range, min, max};
 ghost use Rattle.bit_addressing.specs.Row.{words_for, number_of};
 ghost use Rattle.bit_addressing.specs.Typed.{row};
@@ -8,7 +8,7 @@ ghost use Rattle.bit_slice.specs.Fits.{IsView};
 use bit_addressing::{BitOrder, BitStore, WordRead, elts};
 use std::marker::PhantomData;
 
-/// A run of bits in borrowed words, for reading, whose reads of words are counted.
+/// A run of bits in borrowed words, for reading, that counts the words that its calls read.
 ///
 /// Its words are reached through a `WordRead` alone, so the meter counts every word that a call reads.
 /// It is not `Clone`. In contracts the words are in `row.words`, and the count is `row.meter.reads`.
@@ -97,7 +97,7 @@ impl<'a, T: BitStore, O: BitOrder> Counted<'a, T, O> {
     }
 }
 
-// The first place of `head..end` in word `k` or after it.
+// The first index of `head..end` that is in word `k` or after it.
 fn begin_of<T: BitStore>(head: usize, end: usize, k: usize) -> usize
     requires { T.BITS * k < 2 ^ 64 }
     ensures { result ≡ min end (max head (T.BITS * k)) }
@@ -112,8 +112,8 @@ fn number_of_word<T: BitStore, O: BitOrder>(word: T) -> u64
     O::to_lsb0(word).to_u64()
 }
 
-// The `n` bits of the row from `at` on as a number, the first at place 0. A word is read once, and none
-// but those that have one of these bits.
+// The `n` bits of the row from `at` on as a number, the first at place 0. Only words that have one of
+// these bits are read, each of them once.
 fn load_chunk<T: BitStore, O: BitOrder>(words: &mut WordRead<'_, T>, at: usize, n: usize) -> u64
     requires few { n ≤ T.BITS }
     requires within { at + n ≤ T.BITS * length words.old.words.now }
@@ -150,7 +150,8 @@ fn ones_of_run<T: BitStore, O: BitOrder>(words: &mut WordRead<'_, T>, at: usize,
     load_chunk::<T, O>(words, at, n).count_ones() as usize
 }
 
-// Whether the `n` bits of one row from `from` on are those of another from `at` on.
+// Whether the `n` bits of one row from `from` on are equal to the `n` bits of another row from `at`
+// on.
 fn same_run<T: BitStore, O: BitOrder>(
     left: &mut WordRead<'_, T>,
     from: usize,
@@ -176,7 +177,7 @@ fn same_run<T: BitStore, O: BitOrder>(
     ours == theirs
 }
 
-// How many of the bits at the places `head..end` are true.
+// How many bits of the row at the indices `head..end` are true.
 fn ones_between<T: BitStore, O: BitOrder>(
     words: &mut WordRead<'_, T>,
     head: usize,
@@ -200,7 +201,8 @@ fn ones_between<T: BitStore, O: BitOrder>(
     count
 }
 
-// Whether the bits of one row at the places `head..end` are those of another from `begin` on, as many.
+// Whether the bits of one row at the indices `head..end` are equal to as many bits of another row from
+// `begin` on.
 fn same_bits<T: BitStore, O: BitOrder>(
     left: &mut WordRead<'_, T>,
     head: usize,

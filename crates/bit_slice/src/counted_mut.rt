@@ -1,4 +1,4 @@
-//! A view whose moves are counted.
+//! A view that counts the words that its moves read and write.
 ghost use Rattle.std.specs.Prelude.{◌≡◌, ℕ, ◌+◌, ◌-◌, ◌*◌, ◌<◌, ◌≤◌, ◌↔◌, IsTrue, length, slice_range};
 ghost use Rattle.bit_addressing.specs.Range.{LiesIn};
 ghost use Rattle.bit_addressing.specs.Row.{moved, touched, words_for};
@@ -9,7 +9,7 @@ ghost use Rattle.bit_slice.specs.Fits.{IsView};
 use bit_addressing::{BitOrder, BitStore, RangeExt, WordRow};
 use std::marker::PhantomData;
 
-/// A run of bits in borrowed words, whose moves are counted.
+/// A run of bits in borrowed words that counts the words that its moves read and write.
 ///
 /// Its words are reached through a `WordRow` alone, so the meter counts every word that a call reads
 /// or writes. In contracts the words are `row.words`, and the counts `row.meter.reads` and
@@ -84,9 +84,9 @@ impl<'a, T: BitStore, O: BitOrder> CountedMut<'a, T, O> {
         self.head
     }
 
-    /// Copies the bits at a range of indices on to the indices from `dest` on, as if they were copied out first: the
-    /// two runs may overlap. No other bit changes, no more words are written than have a bit of the target, and at
-    /// most three times as many are read. Requires that both runs lie in the view's length.
+    /// Copies the bits at a range of indices to the indices from `dest` on, as if they were copied out first. The
+    /// two runs may overlap. No other bit changes. At most one write is counted for each word that has a bit of the
+    /// target, and at most three reads. Requires that both runs lie in the view's length.
     pub fn copy_within_counted<R: RangeExt>(&mut self, range: R, dest: usize)
         requires lies { LiesIn (R.start_of range) (R.end_of range (len_of self.old)) (len_of self.old) }
         requires target { dest + (R.end_of range (len_of self.old) - R.start_of range) ≤ len_of self.old }

@@ -1,5 +1,5 @@
-//! Runs of bits in words that are changed: flipped, reversed, rotated, and combined
-//! with another run of the same words.
+//! Changes of runs of bits in words: they are flipped, reversed, rotated, and combined with another
+//! run of the same words.
 ghost use Rattle.std.specs.Prelude.{◌≡◌, ◌+◌, ◌-◌, ◌*◌, ◌/◌, ◌^◌, ◌<◌, ◌≤◌, ◌++◌, drop, false, length, map, not, replicate, slice_range, take, vec_capacity};
 ghost use Rattle.bit_addressing.specs.declared.length.TheConstants.{MAX_BITS};
 ghost use Rattle.bit_addressing.specs.Row.{put};
@@ -63,7 +63,7 @@ pub fn flip_in_vec<T: BitStore, O: BitOrder>(words: &mut Vec<T>, from: usize, up
     flip_words::<T, O>(words.as_mut_slice(), from, upto);
 }
 
-// The bits that a call keeps beside the words, at most: 16 words of 64.
+// How many bits a call keeps beside the words at most: 16 words of 64 bits.
 const KEPT: usize = 1024;
 
 // Like `rotate_words`, of at most 1024 bits that move after the others: they are kept while the others move.
@@ -121,9 +121,9 @@ fn rotate_by_reversals<T: BitStore, O: BitOrder>(
     reverse_words::<T, O>(words, head, len);
 }
 
-/// Moves the first `by` of the `len` bits of the words' row from `head` on after the others: in one pass where at most
-/// 1024 bits stand on one side, else by three reversals. No other bit changes. Requires that the run lies in the words,
-/// and `by` is at most its length.
+/// Moves the first `by` of the `len` bits of the words' row from `head` on after the others: by one move where at
+/// most 1024 bits are on one side, else by three reversals. No other bit changes. Requires that the run lies in the
+/// words, and `by` is at most its length.
 pub fn rotate_words<T: BitStore, O: BitOrder>(words: &mut [T], head: usize, len: usize, by: usize)
     requires room { T.BITS * length words.old ≤ MAX_BITS + 2 * T.BITS }
     requires within { head + len ≤ T.BITS * length words.old }
@@ -142,8 +142,9 @@ pub fn rotate_words<T: BitStore, O: BitOrder>(words: &mut [T], head: usize, len:
     }
 }
 
-/// Moves the `len` bits of the words' row from `head` on `by` places towards the front: the first `by` go, and the last
-/// `by` are false. No other bit changes. Requires that the run lies in the words, and `by` is at most its length.
+/// Moves the `len` bits of the words' row from `head` on by `by` indices towards the front. The first `by` bits are
+/// dropped, and the last `by` become false. No other bit changes. Requires that the run lies in the words, and `by`
+/// is at most its length.
 pub fn shift_words_left<T: BitStore, O: BitOrder>(
     words: &mut [T],
     head: usize,
@@ -162,8 +163,9 @@ pub fn shift_words_left<T: BitStore, O: BitOrder>(
     fill_bits::<T, O>(words, head + (len - by), head + len, false);
 }
 
-/// Moves the `len` bits of the words' row from `head` on `by` places towards the end: the last `by` go, and the first
-/// `by` are false. No other bit changes. Requires that the run lies in the words, and `by` is at most its length.
+/// Moves the `len` bits of the words' row from `head` on by `by` indices towards the end. The last `by` bits are
+/// dropped, and the first `by` become false. No other bit changes. Requires that the run lies in the words, and `by`
+/// is at most its length.
 pub fn shift_words_right<T: BitStore, O: BitOrder>(
     words: &mut [T],
     head: usize,
@@ -206,7 +208,7 @@ fn combine_piece<F: BitOperator, T: BitStore, O: BitOrder>(
     combine_bits::<F, T, O, u64, Lsb0>(words, at, &kept, 0, n);
 }
 
-// Like `combine_within`, from the front on. Requires that the bits are not combined with such as stand before them.
+// Like `combine_within`, from the front on. Requires that `at` is not after `from`.
 fn combine_upward<F: BitOperator, T: BitStore, O: BitOrder>(
     words: &mut [T],
     from: usize,
@@ -232,7 +234,7 @@ fn combine_upward<F: BitOperator, T: BitStore, O: BitOrder>(
     }
 }
 
-// Like `combine_within`, from the end on. Requires that the bits are not combined with such as stand after them.
+// Like `combine_within`, from the end on. Requires that `at` is not before `from`.
 fn combine_downward<F: BitOperator, T: BitStore, O: BitOrder>(
     words: &mut [T],
     from: usize,
@@ -259,7 +261,7 @@ fn combine_downward<F: BitOperator, T: BitStore, O: BitOrder>(
 }
 
 // Like `combine_within`, where the bits at `from` end at or before the word in which those at `at` begin: no word is
-// read and written, so nothing is kept.
+// both read and written, so no bits are kept.
 #[inline(always)]
 fn combine_back<F: BitOperator, T: BitStore, O: BitOrder>(
     words: &mut [T],

@@ -1,5 +1,5 @@
-//! The list that a container keeps in the words of a vector, written: each call takes the words, the index at
-//! which the list begins in them and its length, and keeps the capacity.
+//! Calls that write the list that a container keeps in the words of a vector. Each takes the words, the head
+//! and the length of the list, requires that the list lies in the words, and keeps the capacity.
 ghost use Rattle.std.specs.Prelude.{◌≡◌, ◌+◌, ◌-◌, ◌*◌, ◌^◌, ◌<◌, ◌≤◌, ◌++◌, drop, false, length, map, not, replicate, reverse, slice_range, take, vec_capacity};
 ghost use Rattle.bit_addressing.specs.declared.length.TheConstants.{MAX_BITS};
 ghost use Rattle.bit_addressing.specs.Range.{LiesIn};
@@ -56,8 +56,8 @@ pub fn flip_range_in_vec<T: BitStore, O: BitOrder, R: RangeExt>(
     flip_words::<T, O>(words.as_mut_slice(), head + range.start, head + range.end);
 }
 
-/// Writes the bits of a view, by whatever words and order, at the indices of a range of the list. Requires that
-/// the range lies in the list, and is as long as the view.
+/// Writes the bits of a view, with any word type and order, at the indices of a range of the list.
+/// Requires that the range lies in the list, and is as long as the view.
 pub fn copy_into_in_vec<T: BitStore, O: BitOrder, R: RangeExt, U: BitStore, P: BitOrder>(
     words: &mut Vec<T>,
     head: usize,
@@ -79,8 +79,9 @@ pub fn copy_into_in_vec<T: BitStore, O: BitOrder, R: RangeExt, U: BitStore, P: B
     copy_bits::<T, O, U, P>(words.as_mut_slice(), at, source.as_raw_slice(), from, count);
 }
 
-/// Makes each bit at the indices of a range of the list into the one that `F` makes of it and of the one in
-/// `other`, or of false past its end. Requires that the range lies in the list.
+/// Combines each bit at the indices of a range of the list, by `F`, with the bit of `other` for it, or with
+/// false past the end of `other`. The first bit of `other` is for the first of the range. Requires that the
+/// range lies in the list.
 pub fn combine_range_in_vec<
     F: BitOperator,
     T: BitStore,
@@ -131,8 +132,8 @@ pub fn rotate_in_vec<T: BitStore, O: BitOrder>(
     rotate_words::<T, O>(words.as_mut_slice(), head, len, by);
 }
 
-/// Moves each bit of the list `by` indices towards the front: the first `by` go, and the last `by` are false.
-/// Requires that `by` is at most the length.
+/// Moves each bit of the list by `by` indices towards the front. The first `by` bits are dropped, and the
+/// last `by` become false. Requires that `by` is at most the length.
 pub fn shift_left_in_vec<T: BitStore, O: BitOrder>(
     words: &mut Vec<T>,
     head: usize,
@@ -149,8 +150,8 @@ pub fn shift_left_in_vec<T: BitStore, O: BitOrder>(
     shift_words_left::<T, O>(words.as_mut_slice(), head, len, by);
 }
 
-/// Moves each bit of the list `by` indices towards the end: the last `by` go, and the first `by` are false.
-/// Requires that `by` is at most the length.
+/// Moves each bit of the list by `by` indices towards the end. The last `by` bits are dropped, and the
+/// first `by` become false. Requires that `by` is at most the length.
 pub fn shift_right_in_vec<T: BitStore, O: BitOrder>(
     words: &mut Vec<T>,
     head: usize,
@@ -167,9 +168,9 @@ pub fn shift_right_in_vec<T: BitStore, O: BitOrder>(
     shift_words_right::<T, O>(words.as_mut_slice(), head, len, by);
 }
 
-/// Makes each bit of the list from `dest` on into the one that `F` makes of it and of the one at its index of a
-/// range of the list, as if the range was read before any bit is written. The two may overlap. Requires that
-/// the range lies in the list, and as many bits from `dest` on.
+/// Combines each bit of the list at `dest + k`, by `F`, with bit `k` of a range of the list, as if the range
+/// was read before any bit is written. The two runs may overlap. Requires that the range lies in the list, and
+/// that its bits have room from `dest` on.
 pub fn combine_within_in_vec<F: BitOperator, T: BitStore, O: BitOrder, R: RangeExt>(
     words: &mut Vec<T>,
     head: usize,
@@ -191,7 +192,8 @@ pub fn combine_within_in_vec<F: BitOperator, T: BitStore, O: BitOrder, R: RangeE
     combine_within::<F, T, O>(words.as_mut_slice(), from, to, range.end - range.start);
 }
 
-/// Writes the lowest bits of a number over the list, the least significant first. Requires at most 64 bits.
+/// Writes the lowest bits of a number over the list, the least significant first. Requires that the list
+/// has at most 64 bits.
 pub fn store_le_in_vec<T: BitStore, O: BitOrder>(
     words: &mut Vec<T>,
     head: usize,
@@ -208,7 +210,8 @@ pub fn store_le_in_vec<T: BitStore, O: BitOrder>(
     write_chunk::<T, O>(words.as_mut_slice(), head, len as u8, number);
 }
 
-/// Writes the lowest bits of a number over the list, the most significant first. Requires at most 64 bits.
+/// Writes the lowest bits of a number over the list, the most significant first. Requires that the list
+/// has at most 64 bits.
 pub fn store_be_in_vec<T: BitStore, O: BitOrder>(
     words: &mut Vec<T>,
     head: usize,

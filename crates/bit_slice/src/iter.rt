@@ -23,7 +23,7 @@ pub struct Iter<'a, T: BitStore, O: BitOrder> {
 impl<'a, T: BitStore, O: BitOrder> Iter<'a, T, O> {
     ghost use Rattle.bit_slice.specs.Iter.{rest_of};
 
-    // The bits at the places `from..upto` of the row of the words.
+    // The bits at the indices `from..upto` of the words' row.
     pub(crate) fn new(words: &'a [T], from: usize, upto: usize) -> Self
         requires { IsRun T.BITS (length words.now) from upto }
         ensures { rest_of result ≡ slice_range (row T.BitStore O.BitOrder words.now) from upto }

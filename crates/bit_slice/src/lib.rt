@@ -1,6 +1,6 @@
-//! Views of bits in borrowed words: `BitSlice` for reading and `BitSliceMut` for writing, `Counted` for
-//! comparisons and counts whose reads of words are counted, and `CountedMut` for moves whose reads and
-//! writes are.
+//! Views of bits in borrowed words: `BitSlice` for reading, `BitSliceMut` for writing, `Counted` for
+//! comparisons and counts that count their reads, and `CountedMut` for moves that count their reads and
+//! writes.
 #![tactic(auto)]
 
 mod counted;

@@ -14,7 +14,7 @@ use bit_addressing::{
 use std::cmp::Ordering;
 
 impl<'a, T: BitStore, O: BitOrder> BitSlice<'a, T, O> {
-    /// Whether both views have the same bits, 64 at a time.
+    /// Whether both views have the same bits. Many bits are compared at a time.
     ///
     /// ```text
     /// of 01101001 and 01101001: bits.eq_bits(other) == true
@@ -26,8 +26,8 @@ impl<'a, T: BitStore, O: BitOrder> BitSlice<'a, T, O> {
         len == other.len() && first_difference(self, other, len).is_none()
     }
 
-    /// How the bits of both views are ordered, 64 at a time: the first that differ decide, false before
-    /// true, and where none do the shorter view comes first.
+    /// How the bits of both views are ordered: the first that differ decide, false before true, and
+    /// where none differ the shorter view comes first. Many bits are compared at a time.
     ///
     /// ```text
     /// of 01101001 and 0111: bits.cmp_bits(other) == Ordering::Less
@@ -63,9 +63,9 @@ fn first_difference<T: BitStore, O: BitOrder, U: BitStore, P: BitOrder>(
     differ_at::<T, O, U, P>(left.as_raw_slice(), from, right.as_raw_slice(), begin, n)
 }
 
-/// Does nothing: the laws of the order of lists of bits. It is the same from either side, and total
-/// with it; two lists are `Equal` exactly where they are one list; false comes before true at the first
-/// items that differ, and a list before each that goes on after it.
+/// Does nothing: its clauses are the laws of the order of lists of bits. The order is total, and the
+/// same from either side. Two lists are `Equal` exactly where they are equal. At the first items that
+/// differ, false comes before true, and a list comes before each longer list that begins with it.
 pub fn order_of_bits()
     ensures sides { SameFromEitherSide }
     ensures equal { EqualWhereEqual }
@@ -74,9 +74,9 @@ pub fn order_of_bits()
     ensures prefix_first { PrefixFirst }
 {}
 
-/// Makes each of the `len` bits of the words' row from `head` on into the bit that `F` makes of it and of the one
-/// at its place in `other`, or of false where `other` is too short. No other bit changes.
-/// Requires that the run lies in the words.
+/// Combines each of the `len` bits of the words' row from `head` on, by `F`, with the bit of `other` for it, or
+/// with false past the end of `other`. The first bit of `other` is for the first of the run. No other bit
+/// changes. Requires that the run lies in the words.
 pub fn combine_words<F: BitOperator, T: BitStore, O: BitOrder, U: BitStore, P: BitOrder>(
     words: &mut [T],
     head: usize,
@@ -124,8 +124,7 @@ impl<'a, T: BitStore, O: BitOrder> BitSliceMut<'a, T, O> {
         self.as_bitslice().cmp_bits(other)
     }
 
-    /// Makes each bit into the one that `F` makes of it and of the one at its index in `other`, or of false past its
-    /// end.
+    /// Combines each bit, by `F`, with the bit at its index in `other`, or with false past the end of `other`.
     pub(crate) fn combine<F: BitOperator, U: BitStore, P: BitOrder>(
         &mut self,
         other: BitSlice<'_, U, P>,
@@ -141,7 +140,7 @@ impl<'a, T: BitStore, O: BitOrder> BitSliceMut<'a, T, O> {
         combine_words::<F, T, O, U, P>(self.words, self.head, self.len, other);
     }
 
-    /// Clears each bit that is false in `other`, or that `other` is too short for.
+    /// Clears each bit that is false in `other`, and each past the end of `other`.
     ///
     /// ```text
     /// of 01101001 and 01010101: bits.and_bits(other) leaves 01000001

@@ -33,12 +33,12 @@ pub fn run_mut<T: BitStore, O: BitOrder>(
     BitSliceMut::from_parts_mut(&mut words[run.first..run.end], run.head, run.len)
 }
 
-/// Two views of words, for writing: the bits from `from` up to `at`, and those from there up to `upto`. Requires that
-/// `at` is the first bit of a word, so that no word is in both, and that the bits lie in the words and both parts
-/// together have at most `MAX_BITS` bits.
+/// Two views of words, for writing: one of the bits from `from` up to `at`, and one of those from `at` up to `upto`.
+/// Requires that `at` is the index of a word's first bit, so that no word is in both, that the bits lie in the words,
+/// and that both views together have at most `MAX_BITS` bits.
 ///
-/// The clauses say of each part its list, head and length. What is written through them is in the words afterwards, and
-/// the other bits stay, which no clause says: a caller whose own proof needs it writes one run after the other, by
+/// The clauses say the list, head and length of each view. That what is written through them lands in the words, and
+/// that the other bits stay, no clause says. Where a caller's own proof needs it, write one run after the other, by
 /// `run_mut` or the calls that take a range.
 ///
 /// ```text
@@ -68,7 +68,8 @@ pub fn split_run_mut<T: BitStore, O: BitOrder>(
     (run_mut(left, from, at), run_mut(right, 0, upto - at))
 }
 
-// Where a run of bits lies in words: the words that have it, the place where it begins in them, and its length.
+// Where a run of bits lies in words: the words that have its bits, the index of its first bit in the first of
+// them, and its length.
 #[derive(Drop)]
 struct Run {
     first: usize,

@@ -28,11 +28,11 @@ use std::alloc::AllocError;
 use std::marker::PhantomData;
 use std::ops::Index;
 
-/// A run of bits in borrowed words, for reading: it is passed by value, and copied freely.
+/// A run of bits in borrowed words, for reading. It is `Copy`, and passed by value.
 ///
 /// It has words of type `T`, a head and a length, both in bits. Its list is the run of that length
 /// that begins at the head, in the row of its words by the order `O`. The head is in the first word,
-/// and no word is to spare. No call takes memory.
+/// and the words are exactly those that the head and the length take. No call takes memory.
 ///
 /// ```text
 /// let view = BitSlice::<u16, Msb0>::from_slice(&[0x1234]);
@@ -105,7 +105,8 @@ impl<'a, T: BitStore, O: BitOrder> BitSlice<'a, T, O> {
     }
 
     /// The view of `len` bits that begins at the index `head` of the words' row. Requires that the
-    /// head is in the first word, the words are as many as it takes, and the bits at most `MAX_BITS`.
+    /// head is in the first word, that there are exactly as many words as the bits take, and that
+    /// there are at most `MAX_BITS` bits.
     ///
     /// ```text
     /// BitSlice::<u8, Lsb0>::from_parts(&[6], 1, 3) shows 110
@@ -141,7 +142,8 @@ impl<'a, T: BitStore, O: BitOrder> BitSlice<'a, T, O> {
         self.words
     }
 
-    /// The view with a meter at 0, for comparisons and counts whose word reads are counted.
+    /// The same bits with a meter at 0, for comparisons and counts that count the words that they
+    /// read.
     ///
     /// ```text
     /// of 01101001: bits.counted().count_ones_counted() == 4
@@ -305,7 +307,7 @@ impl<'a, T: BitStore, O: BitOrder> BitSlice<'a, T, O> {
         self.len - self.count_ones()
     }
 
-    /// Whether some bit is true, 64 at a time. Of an empty view it is false.
+    /// Whether some bit is true. Of an empty view it is false.
     ///
     /// ```text
     /// of 01101001: bits.any() == true
@@ -318,7 +320,7 @@ impl<'a, T: BitStore, O: BitOrder> BitSlice<'a, T, O> {
         find_bit::<T, O>(self.words, self.head, self.head + self.len, true).is_some()
     }
 
-    /// Whether every bit is true, 64 at a time. Of an empty view it is true.
+    /// Whether every bit is true. Of an empty view it is true.
     ///
     /// ```text
     /// of 01101001: bits.all() == false

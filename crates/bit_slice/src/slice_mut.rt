@@ -27,8 +27,9 @@ use std::ops::Index;
 
 /// A run of bits in borrowed words, for writing.
 ///
-/// It is as a `BitSlice`, and what is written through it lands in the words that it borrows. A call
-/// that writes changes no bit outside the run, and keeps the head and the length. No call takes memory.
+/// It has words, a head, a length and a list like a `BitSlice`. What is written through it lands in the
+/// words that it borrows. A call that writes changes no bit outside the run, and keeps the head and the
+/// length. No call takes memory.
 ///
 /// ```text
 /// let mut words = [0x1234_u16];
@@ -73,8 +74,9 @@ impl<'a, T: BitStore, O: BitOrder> BitSliceMut<'a, T, O> {
         }
     }
 
-    /// The view of `len` bits that begins at the place `head` of the words' row. Requires that the
-    /// head is in the first word, the words are as many as it takes, and the bits at most `MAX_BITS`.
+    /// The view of `len` bits that begins at the index `head` of the words' row. Requires that the
+    /// head is in the first word, that there are exactly as many words as the bits take, and that
+    /// there are at most `MAX_BITS` bits.
     ///
     /// ```text
     /// BitSliceMut::<u8, Lsb0>::from_parts_mut(&mut [6], 1, 3).as_bitslice() shows 110
@@ -125,7 +127,7 @@ impl<'a, T: BitStore, O: BitOrder> BitSliceMut<'a, T, O> {
         self.words
     }
 
-    /// The words that the view borrows, for writing: what is written into them stands in the view.
+    /// The words that the view borrows, for writing: what is written into them lands in the view.
     ///
     /// ```text
     /// of 01101001: bits.as_raw_mut_slice()[0] = 3 leaves 11000000
@@ -137,8 +139,8 @@ impl<'a, T: BitStore, O: BitOrder> BitSliceMut<'a, T, O> {
         &mut *self.words
     }
 
-    /// The view with a meter at 0, for moves whose word reads and writes are counted. What is moved
-    /// through it stands in the view when it ends.
+    /// The same bits with a meter at 0, for moves that count the words that they read and write.
+    /// What is moved through it lands in the view.
     ///
     /// ```text
     /// of 0110: bits.counted_mut().copy_within_counted(0..2, 2) leaves 0101
@@ -372,8 +374,9 @@ impl<'a, T: BitStore, O: BitOrder> BitSliceMut<'a, T, O> {
         fill_bits::<T, O>(self.words, self.head, self.head + self.len, b);
     }
 
-    /// Copies the bits at a range of indices to the places from `dest` on, as if they were read before
-    /// any is written. The runs may overlap. Requires that the range and the places lie in the view.
+    /// Copies the bits at a range of indices to the indices from `dest` on, as if they were read
+    /// before any is written. The runs may overlap. Requires that the range lies in the view's length,
+    /// and that its bits have room from `dest` on.
     ///
     /// ```text
     /// of 01101001: bits.copy_within(2..5, 0) leaves 10101001
@@ -393,8 +396,8 @@ impl<'a, T: BitStore, O: BitOrder> BitSliceMut<'a, T, O> {
         move_bits::<T, O>(self.words, from, to, range.end - range.start);
     }
 
-    /// Writes the bits of another view, of any word type and order, in its order. Each word of it is
-    /// read once. Requires equal lengths.
+    /// Writes the bits of another view, of any word type and order. Requires that the other view has
+    /// as many bits.
     ///
     /// ```text
     /// of 01101001 and 01010101: bits.clone_from_bitslice(other) leaves 01010101

@@ -1,4 +1,4 @@
-//! The texts of a list of bits, written many digits at a time, and what a hasher is fed of it.
+//! The texts of a list of bits, written many digits at a time, and its hash.
 ghost use Rattle.std.specs.Prelude.{◌≡◌, ℕ, ◌+◌, ◌*◌, ◌<◌, ◌≤◌, [], ◌∷◌, ◌++◌, length, take, slice_range};
 ghost use Rattle.std.specs.Fmt.{WritesStyledOnOk, digit_glyph};
 ghost use Rattle.std.specs.List.{fold};
@@ -71,7 +71,7 @@ fn write_more<T: BitStore, O: BitOrder, W: fmt::Write>(
 }
 
 /// Writes the list of a view: `[`, its digits joined by `, `, and `]`, 64 bits at each call of the writer.
-/// Flags and widths have no effect. It takes no memory.
+/// Flags and widths have no effect. Takes no memory.
 pub fn write_list<T: BitStore, O: BitOrder, W: fmt::Write>(
     view: BitSlice<'_, T, O>,
     f: &mut fmt::Formatter<W>,
@@ -91,7 +91,8 @@ pub fn write_list<T: BitStore, O: BitOrder, W: fmt::Write>(
     f.write_str("]")
 }
 
-// The number that the bits `from..upto` are in binary, of those of a number's `n` lowest bits in binary.
+// Of the `n` lowest bits of a number, written in binary with the most significant first, the digits
+// `from..upto` as a number.
 #[inline(always)]
 fn value_of_bits(number: u64, n: u8, from: u8, upto: u8) -> u8
     requires some { from < upto }
@@ -263,10 +264,10 @@ fn write_sixty<T: BitStore, O: BitOrder, W: fmt::Write>(
     }
 }
 
-/// Writes the list of a view as digits between brackets: each stands for the next `size` bits from the front on,
-/// its highest bit first, and what is left for the last may be fewer. It goes 240 bits at each call of the
-/// writer, and 60 at the end. Flags and widths have no effect. It takes no memory. Requires that a digit has 1, 3 or 4 bits, for
-/// binary, octal and hexadecimal ones, these in upper case where `upper`.
+/// Writes the list of a view as digits between brackets. Each digit stands for the next `size` bits, its most
+/// significant bit first, and the last for those that are left. Hexadecimal digits are in upper case where `upper` is
+/// true. Each call of the writer takes the digits of up to 240 bits. Flags and widths have no effect. Takes no
+/// memory. Requires that `size` is 1, 3 or 4.
 pub fn write_digits<T: BitStore, O: BitOrder, W: fmt::Write>(
     view: BitSlice<'_, T, O>,
     size: u8,
@@ -289,7 +290,7 @@ pub fn write_digits<T: BitStore, O: BitOrder, W: fmt::Write>(
     f.write_str("]")
 }
 
-/// Feeds a hasher the hash of each bit of a view as a truth value, in order, and nothing else. It takes no
+/// Feeds a hasher the hash of each bit of a view as a truth value, in order, and nothing else. Takes no
 /// memory.
 pub fn hash_bits<T: BitStore, O: BitOrder, H: Hasher>(view: BitSlice<'_, T, O>, state: &mut H)
     ensures { state.new ≡ fold H.write state.old (bits_fed (list_of view.entry)) }

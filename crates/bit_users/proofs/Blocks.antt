@@ -1,4 +1,4 @@
--- Longest runs of free frames, and the best of them.
+-- Whole runs of free frames, and the best of them.
 use Rattle.std.proofs.Common.{◌≡◌, ◌≢◌, ℕ, zero, suc, ◌+◌, ◌-◌, ◌<◌, ◌≤◌, Bool, true, false, List, length, Option, Some, None, slice_get, refl, sym, subst, inl, inr, arith}
 use Rattle.std.specs.Prelude.{◌⊎◌}
 use Rattle.std.specs.Option.{IfNone, IfSome}
@@ -103,7 +103,7 @@ free_or_not map k = tell (slice_get map k)
     tell (Some true) = inr (λ e. cc)
     tell (Some false) = inl refl
 
--- where the longest run around a free frame begins
+-- where the whole run around a free frame begins
 begin_of : (map : List Bool) (k : ℕ) → IsFree map k → (s : ℕ) × ((s ≤ k) × ((j : ℕ) → s ≤ j → j ≤ k → IsFree map j) × ((j : ℕ) → j + 1 ≡ s → IsFree map j → ⊥))
 begin_of map zero here = (0, (omega arith, (λ j low high. (let at : 0 ≡ j = omega arith in subst (λ x. IsFree map x) at here)), λ j next. absurd (omega arith)))
 begin_of map (suc k) here = elim (free_or_not map k) [
@@ -126,7 +126,7 @@ end_of map first e (suc fuel) past from free = elim (free_or_not map e) [
   | inr none ↦ (e, (omega arith, free, none))
 ]
 
--- where no longest run is long enough, that many free frames in a row are nowhere
+-- where no whole run is long enough, there are nowhere that many free frames in a row
 pub none_free : (map : List Bool) (count : ℕ) → 0 < count → IsBestBelow map count (length map) None → (k : ℕ) → AreFree map count k → ⊥
 none_free map count some none k free =
     let start : k + 0 ≡ k = omega arith in

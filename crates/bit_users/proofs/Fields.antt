@@ -78,7 +78,7 @@ abbrev pub digits : List (ℕ × ℕ) → ℕ
 digits [] = 0
 digits (f ∷ fs) = f.0 + digits fs
 
--- fields stand one after the other in a list, from a place on
+-- fields are one after the other in a list, from an index on
 abbrev pub StandAt : List Bool → ℕ → List (ℕ × ℕ) → Type 0
 StandAt xs at [] = ⊤
 StandAt xs at (f ∷ fs) = (binary f.0 f.1 ≡ slice_range xs at (at + f.0)) × StandAt xs (at + f.0) fs

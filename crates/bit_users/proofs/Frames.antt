@@ -98,7 +98,7 @@ marked_taken map now first count free marked i h =
 
 -- ---- runs at multiples
 
--- how far it is to the next multiple
+-- the distance to the next multiple
 gap_is : (align first : ℕ) → 0 < align → ((first % align ≡ 0) × ((align - first % align) % align ≡ 0)) ⊎ ((0 < first % align) × ((align - first % align) % align ≡ align - first % align))
 gap_is align first some = elim (cases_lt 0 (first % align)) [
   | inl up ↦

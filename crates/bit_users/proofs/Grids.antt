@@ -39,7 +39,7 @@ rows_apart i a columns differ = elim (cases_lt i a) [
   | inr up ↦ inr (row_ends a i columns (omega arith))
 ]
 
--- another row or another column is another place
+-- another row or another column is another index
 pub other_place : (i j a b columns : ℕ) → j < columns → b < columns → (i ≢ a) ⊎ (j ≢ b) → i * columns + j ≢ a * columns + b
 other_place i j a b columns inside within differ same = elim (cases_lt i a) [
   | inl less ↦ (let up = row_ends i a columns less in absurd (omega arith))
@@ -59,7 +59,7 @@ source_out s d n j out = grind (arith, nat_tests)
 pub bit_left : (xs : List Bool) (s d n j : ℕ) → j < length xs → (j < d) ⊎ (d + n ≤ j) → get_or (moved xs s d n) j false ≡ get_or xs j false
 bit_left xs s d n j inside out = get_or-moved xs s d n j inside ∙ ap (λ k. get_or xs k false) (source_out s d n j out)
 
--- a place in another row lies before or after a row
+-- an index in another row is before or after a row
 pub place_apart : (i j a columns : ℕ) → j < columns → i ≢ a → (i * columns + j < a * columns) ⊎ (a * columns + columns ≤ i * columns + j)
 place_apart i j a columns inside differ = elim (rows_apart i a columns differ) [ inl low ↦ inl (omega arith) | inr high ↦ inr (omega arith) ]
 
@@ -97,7 +97,7 @@ row_sets old new into from inside within alike row others i j =
       ],
     )
 
--- a row that has an edge to a node, and to which the edges from there were added; and one that has none
+-- a row that has an edge to a node, and to which the edges from there were added, and a row that has none
 pub row_leads : (old new : Grid) (row k : ℕ) → row < old.rows → k < old.rows → IsSet old row k → AreAlike new old → ((j : ℕ) → j < old.columns → item new row j ≡ (item old row j || item old k j)) → ((i j : ℕ) → i < old.rows → j < old.columns → i ≢ row → item new i j ≡ item old i j)
     → (i j : ℕ) → IsSet new i j ↔ (IsSet old i j ⊎ ((i ≡ row) × IsSet old row k × IsSet old k j))
 row_leads old new row k inside node leads alike ored others i j =

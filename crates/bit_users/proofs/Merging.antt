@@ -24,7 +24,7 @@ length_merged merging xs ys =
     let more = length-replicate (length ys - length xs) false in
     length-combined (made_by merging) (filled_up xs (length ys)) ys ∙ omega arith
 
--- a number is meant by whether it is in each set
+-- a number is given by whether it is in each set
 merged_bit : (merging : Merging) (xs ys : List Bool) (k : ℕ) → k < max (length xs) (length ys) → get_or (merged_list merging xs ys) k false ≡ made_by merging (get_or xs k false) (get_or ys k false)
 merged_bit merging xs ys k inside =
     let size = length_merged merging xs ys in
@@ -43,7 +43,7 @@ not_in xs k out = clear (get_or xs k false) (λ e. out ((in_bit xs k).1 e))
     clear true h = absurd (h refl)
     clear false h = refl
 
--- a number in neither set is not meant
+-- a number in neither set is not given
 neither : (merging : Merging) (xs ys : List Bool) (k : ℕ) → ((IsIn xs k ⊎ IsIn ys k) → ⊥) → get_or (merged_list merging xs ys) k false ≡ false
 neither merging xs ys k out = elim (cases_lt k (max (length xs) (length ys))) [
   | inl inside ↦
@@ -55,13 +55,13 @@ neither merging xs ys k out = elim (cases_lt k (max (length xs) (length ys))) [
 pub below_bounds : (xs ys : List Bool) (k : ℕ) → (IsIn xs k ⊎ IsIn ys k) → k < max (length xs) (length ys)
 below_bounds xs ys k here = elim here [ inl l ↦ (let low = slice_get_within xs k true l in omega arith) | inr r ↦ (let low = slice_get_within ys k true r in omega arith) ]
 
--- no number is meant up to one that is in neither set from `at` on
+-- no number is given up to one before which, from `at` on, no number is in either set
 pub none_more : (merging : Merging) (xs ys : List Bool) (from at upto : ℕ) → IsAbsent true (merged_list merging xs ys) from at → ((k : ℕ) → at ≤ k → k < upto → (IsIn xs k ⊎ IsIn ys k) → ⊥) → IsAbsent true (merged_list merging xs ys) from upto
 none_more merging xs ys from at upto absent out = record {
   each = λ k low high. elim (cases_lt k at) [ inl before ↦ absent.each k low before | inr after ↦ neither merging xs ys k (out k after high) ];
 }
 
--- a number that is in a set and not meant is passed
+-- a number that is in a set and not to be given is skipped
 pub passed : (merging : Merging) (xs ys : List Bool) (from at number : ℕ) → IsAbsent true (merged_list merging xs ys) from at → ((k : ℕ) → at ≤ k → k < number → (IsIn xs k ⊎ IsIn ys k) → ⊥)
     → (IsIn xs number ⊎ IsIn ys number) → made_by merging (get_or xs number false) (get_or ys number false) ≡ false → IsAbsent true (merged_list merging xs ys) from (number + 1)
 passed merging xs ys from at number absent out here not_meant =

@@ -136,7 +136,7 @@ same_rows xs ys rows columns long as_long items =
 
 -- ---- what calls make of it
 
--- one place among rows of one width is one among those of another
+-- an index among rows of one width is one among rows of another width
 same_place : (a b i j columns stride : ℕ) → b < columns → j < columns → a * columns + b ≡ i * columns + j → a * stride + b ≡ i * stride + j
 same_place a b i j columns stride inside within same = elim (cases_eq a i) [
   | inl is ↦

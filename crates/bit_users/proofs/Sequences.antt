@@ -99,14 +99,14 @@ read_is bytes front list len end enough low is_front is_len count at clear is_li
       rest = sym seen ∙ is ∙ ap (sized 8 list) (sym size);
     }
 
--- the longest list is far from the largest number
+-- `MAX_BITS` is small beside the largest number
 pub small : (n : ℕ) → n ≤ 2305843009213693951 → n < 2 ^ 64
 small n few = omega arith
 
 pub not_longer : (n k : ℕ) → n ≡ k → k ≤ 2305843009213693951 → 2305843009213693951 < n → ⊥
 not_longer n k same few past = absurd (omega arith)
 
--- as many places as the other bytes have
+-- as many bits as the other bytes have
 pub row_end : (bytes : List ℕ) → length (take (length bytes - 8) (drop 8 bytes)) * 8 ≤ length (row_of (λ w i. w - 1 - i) 8 (map (λ x. x) (take (length bytes - 8) (drop 8 bytes))))
 row_end bytes =
     let long = length-row_of (λ w i. w - 1 - i) 8 (map (λ x. x) (take (length bytes - 8) (drop 8 bytes))) in

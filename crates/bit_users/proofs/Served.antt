@@ -1,4 +1,4 @@
--- What lists of requests leave of a map of frames, and that no frame is handed out twice.
+-- What lists of requests leave of a map of frames, and that no frame is taken twice.
 use Rattle.std.proofs.Common.{◌≡◌, ℕ, zero, suc, ◌+◌, ◌-◌, ◌<◌, ◌≤◌, Bool, true, false, List, [], ◌∷◌, ◌++◌, Some, get_or, replicate, length, set, slice_get, take, refl, sym, ◌∙◌, ap, subst, inl, inr, arith}
 use Rattle.std.specs.Prelude.{◌⊎◌}
 use Rattle.std.proofs.lemmas.List.{take_all, take_more, take_more_set}
@@ -39,7 +39,7 @@ kept map new (GiveBack first count) GivenBack frame step here stays =
     ((filled_out map first (first + count) (omega arith) step.0 frame).1 (elim (in_range frame first (first + count)) [ inl l ↦ absurd (stays l) | inr out ↦ out ], here))
 kept map new (GiveBack first count) Refused frame step here stays = subst (λ l. IsIn l frame) (sym step.1) here
 
--- a frame that is handed out was free, and is taken then
+-- a frame that a request takes was free, and is taken afterwards
 was_free : (map new : List Bool) (q : Request) (r : Reply) (frame : ℕ) → IsServed map q r new → HandsOut q r frame → slice_get map frame ≡ Some false
 was_free map new (Take count) (Taken first) frame step out =
     let at : first + (frame - first) ≡ frame = (let l = out.0 in omega arith) in
@@ -61,7 +61,7 @@ first_does does q p r s frame e d h =
     let b : s ≡ r = cc in
     subst (λ x. does x r frame) a (subst (λ y. does p y frame) b h)
 
--- a frame that is taken is not handed out by a later request, unless one before that gives it back
+-- a frame that is taken is not taken by a later request, unless one before that gives it back
 not_again : (qs : List Request) (rs : List Reply) (map last : List Bool) (frame : ℕ) → HaveServed map qs rs last → IsIn map frame → (j : ℕ) → At HandsOut qs rs j frame → ((k : ℕ) → k < j → At TakesBack qs rs k frame → ⊥) → ⊥
 unfolding HaveServed
 not_again [] rs map last frame served here j at stays = let e = at.1.1.0 in cc

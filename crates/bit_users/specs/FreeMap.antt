@@ -32,18 +32,18 @@ pub record IsFirstAligned (map : List Bool) (count align first : ℕ) : Type 0 w
   pub free : AreFree map count first
   pub before : (i : ℕ) → i < first → i % align ≡ 0 → AreFree map count i → ⊥
 
--- a longest run of free frames: no free frame comes before or after it
+-- a whole run of free frames: the frames right before and right after it are not free
 pub record IsBlock (map : List Bool) (first n : ℕ) : Type 0 where
   pub some : 0 < n
   pub free : AreFree map n first
   pub before : (k : ℕ) → k + 1 ≡ first → IsFree map k → ⊥
   pub after : IsFree map (first + n) → ⊥
 
--- such a run of n frames is long enough, and each other that is long enough is longer, or as long and higher
+-- a whole run of n free frames is long enough, and each other that is long enough is longer, or as long and higher
 abbrev pub IsShortest : List Bool → ℕ → ℕ → ℕ → Type 0
 IsShortest map count first n = IsBlock map first n × (count ≤ n) × ((k m : ℕ) → IsBlock map k m → count ≤ m → (n < m) ⊎ ((n ≡ m) × (first ≤ k)))
 
--- the lowest of the shortest such runs begins at this frame
+-- the lowest of the shortest whole runs that are long enough begins at this frame
 pub record IsBestFit (map : List Bool) (count first : ℕ) : Type 0 where
   pub inside : first + count ≤ length map
   pub free : AreFree map count first

@@ -7,14 +7,14 @@ use Rattle.bit_users.specs.declared.table.merged.Merging.{Merging}
 use Rattle.bit_users.specs.declared.table.merged.Merging.TheVariants.{Either, Both, LeftAlone, OneAlone}
 use Rattle.bit_users.specs.declared.table.merged.Merged.{Merged}
 
--- whether a number is meant that is in the left set, and in the right one
+-- whether a number is given, by whether it is in the left set and in the right one
 abbrev pub made_by : Merging → Bool → Bool → Bool
 made_by Either x y = x || y
 made_by Both x y = x && y
 made_by LeftAlone x y = x && not y
 made_by OneAlone x y = if x then not y else y
 
--- the set of the numbers that are meant
+-- the set of the numbers that are to be given
 abbrev pub merged_list : Merging → List Bool → List Bool → List Bool
 merged_list merging xs ys = combined (made_by merging) (filled_up xs (length ys)) ys
 

@@ -23,24 +23,24 @@ HaveServed old [] (r ∷ rs) new = ⊥
 HaveServed old (q ∷ qs) [] new = ⊥
 HaveServed old (q ∷ qs) (r ∷ rs) new = (next : List Bool) × IsServed old q r next × HaveServed next qs rs new
 
--- a request was served by handing this frame out
+-- a request was served by taking this frame
 abbrev pub HandsOut : Request → Reply → ℕ → Type 0
 HandsOut (Take count) (Taken first) frame = (first ≤ frame) × (frame < first + count)
 HandsOut (Take count) GivenBack frame = ⊥
 HandsOut (Take count) Refused frame = ⊥
 HandsOut (GiveBack first count) r frame = ⊥
 
--- a request was served by taking this frame back
+-- a request was served by giving this frame back
 abbrev pub TakesBack : Request → Reply → ℕ → Type 0
 TakesBack (Take count) r frame = ⊥
 TakesBack (GiveBack first count) (Taken k) frame = ⊥
 TakesBack (GiveBack first count) GivenBack frame = (first ≤ frame) × (frame < first + count)
 TakesBack (GiveBack first count) Refused frame = ⊥
 
--- request number i was served in this way, as far as a frame goes
+-- request number i was served in this way, with regard to a frame
 abbrev pub At : (Request → Reply → ℕ → Type 0) → List Request → List Reply → ℕ → ℕ → Type 0
 At does requests replies i frame = (q : Request) × ((r : Reply) × ((slice_get requests i ≡ Some q) × (slice_get replies i ≡ Some r) × does q r frame))
 
--- where two requests hand out one frame, a request between them takes it back: it cannot be that none does
+-- where two requests take one frame, a request between them gives it back: it cannot be that none does
 abbrev pub IsNeverTwice : List Request → List Reply → Type 0
 IsNeverTwice requests replies = (i j frame : ℕ) → i < j → At HandsOut requests replies i frame → At HandsOut requests replies j frame → ((k : ℕ) → i < k → k < j → At TakesBack requests replies k frame → ⊥) → ⊥

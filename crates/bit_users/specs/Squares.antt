@@ -12,7 +12,7 @@ pub record IsLower (step mask : ℕ) : Type 0 where
   pub few : step < 64
   pub places : (p : ℕ) → p < 64 → has_bit mask p ≡ eqb (p / step % 2) 0
 
--- a step of turning a square weaves the rows of its two halves, and then digit `step` of a column and the lowest digit of a row change places: the row and the column that a bit comes from
+-- a step of turning a square interleaves the rows of its two halves, and then digit `step` of a column and the lowest digit of a row are swapped: the row and the column that a bit comes from
 abbrev pub source_row : ℕ → ℕ → ℕ → ℕ
 source_row step i j = i / 2 + 32 * (j / step % 2)
 

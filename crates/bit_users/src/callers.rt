@@ -1,4 +1,4 @@
-//! What the authors of such things rely on, as callers that need no proof of their own.
+//! Callers that need no proof of their own: each has one fact that a user of these types relies on.
 ghost use Rattle.std.specs.Prelude.{◌≡◌, ◌≢◌, ◌==◌, ◌%◌, ◌<◌, ◌≤◌, ◌⊎◌, ◌↔◌, ℕ, false, IfOk, IfSome, IsTrue, Some, length, Contains};
 ghost use Rattle.std.specs.List.{filter};
 ghost use Rattle.bit_containers.specs.Making.{filled_up};
@@ -37,7 +37,7 @@ pub fn inserted(set: &mut NumberSet, number: usize) -> bool
     set.contains(number)
 }
 
-/// A number that was put into a set that grows is in it, and was not in it before where the result says so.
+/// A number that was put into a set that grows is in it; the result says whether it was new.
 pub fn inserted_anywhere(set: &mut NumberSet, number: usize) -> Result<bool, GrowError>
     ensures { IfOk result (λ there. IsTrue there) }
 {
@@ -45,7 +45,7 @@ pub fn inserted_anywhere(set: &mut NumberSet, number: usize) -> Result<bool, Gro
     Ok(set.contains(number))
 }
 
-/// What was put in again was there.
+/// A number that is put in a second time was there.
 pub fn twice(set: &mut NumberSet, number: usize) -> bool
     requires { number < length set.old }
     ensures { IsTrue result }
@@ -54,7 +54,7 @@ pub fn twice(set: &mut NumberSet, number: usize) -> bool
     !set.insert(number)
 }
 
-/// A set has all numbers of one that was united with it.
+/// A set has all numbers of another that was united with it.
 pub fn united(set: &mut NumberSet, other: &NumberSet) -> Result<bool, GrowError>
     ensures { IfOk result (λ all. IsTrue all) }
 {
@@ -62,7 +62,7 @@ pub fn united(set: &mut NumberSet, other: &NumberSet) -> Result<bool, GrowError>
     Ok(other.is_subset(set))
 }
 
-/// What two sets share is nothing once one was taken out of the other.
+/// Two sets share no number once one was taken out of the other.
 pub fn parted(set: &mut NumberSet, other: &NumberSet) -> bool
     ensures { IsTrue result }
 {
@@ -70,7 +70,7 @@ pub fn parted(set: &mut NumberSet, other: &NumberSet) -> bool
     set.is_disjoint(other)
 }
 
-/// Another number is in a set exactly where it was.
+/// Putting a number into a set changes nothing for another number.
 pub fn others_stay(set: &mut NumberSet, number: usize, other: usize) -> bool
     requires below { number < length set.old }
     requires apart { other ≢ number }
@@ -89,7 +89,7 @@ pub fn is_prime(alloc: Global, number: usize) -> Result<bool, GrowError>
     Ok(primes.contains(number))
 }
 
-/// A run of frames that is given back at once leaves the map as it was.
+/// Frames that are taken and given back at once leave the map as it was.
 pub fn given_back(frames: &mut FreeMap, count: usize) -> Option<usize>
     requires { 0 < count }
     ensures { frames.new ≡ frames.old }
@@ -101,7 +101,7 @@ pub fn given_back(frames: &mut FreeMap, count: usize) -> Option<usize>
     }
 }
 
-/// A run that was taken is given back without a refusal.
+/// Frames that were taken are given back without a refusal.
 pub fn never_refused(frames: &mut FreeMap, count: usize) -> bool
     requires { 0 < count }
     ensures { IsTrue result }
@@ -149,7 +149,7 @@ pub fn path_leads(graph: &mut Matrix, from: usize, to: usize) -> bool
     graph.get(from, to)
 }
 
-/// A matrix that is turned twice has its bits again.
+/// A matrix that is transposed twice has its bits again.
 pub fn turned_twice(alloc: Global, matrix: &Matrix) -> Result<Matrix, AllocError>
     ensures { IfOk result (λ again. (i j : ℕ) → i < matrix.now.rows → j < matrix.now.columns
         → item again i j ≡ item matrix.now i j) }
@@ -158,7 +158,7 @@ pub fn turned_twice(alloc: Global, matrix: &Matrix) -> Result<Matrix, AllocError
     turned.transpose(alloc)
 }
 
-/// What is or-ed into a row is set in it, and what was set there stays set.
+/// A bit that is or-ed into a row is set in it, and a bit that was set there stays set.
 pub fn joined(matrix: &mut Matrix, into: usize, from: usize, column: usize) -> bool
     requires into { into < matrix.old.rows }
     requires from { from < matrix.old.rows }
@@ -188,7 +188,7 @@ pub fn undone(
     Ok(Some(product.get(row, column)))
 }
 
-/// Where paths of two edges lead.
+/// Whether a path of two edges leads from one node to another.
 pub fn two_edges(graph: &Matrix, alloc: Global, from: usize, to: usize) -> Result<bool, GrowError>
     requires square { graph.now.rows ≡ graph.now.columns }
     requires from { from < graph.now.rows }
@@ -210,7 +210,7 @@ pub fn swapped_twice(matrix: &mut Matrix, a: usize, b: usize, column: usize) -> 
     matrix.get(a, column)
 }
 
-/// A bit of a row's view is the one of the matrix.
+/// A bit of a row's view is that of the matrix.
 pub fn in_a_row(matrix: &Matrix, row: usize, column: usize) -> Option<bool>
     requires row { row < matrix.now.rows }
     requires column { column < matrix.now.columns }
@@ -242,7 +242,7 @@ pub fn inserted_range(set: &mut NumberSet, start: usize, end: usize, number: usi
     set.contains(number)
 }
 
-/// A number that is in both sets is in neither's alone.
+/// A number that is in both sets is not in their symmetric difference.
 pub fn toggled(set: &mut NumberSet, other: &NumberSet, number: usize) -> Result<bool, GrowError>
     requires set { IsIn set.old number }
     requires other { IsIn other.now number }
@@ -269,7 +269,7 @@ pub fn taken_at_a_multiple(frames: &mut FreeMap, count: usize, align: usize) -> 
     frames.take_aligned(count, align)
 }
 
-/// A run that was taken where it fits best is given back.
+/// Frames that were taken where they fit best are given back.
 pub fn fitted_and_given_back(frames: &mut FreeMap, count: usize) -> Option<usize>
     requires { 0 < count }
     ensures { frames.new ≡ frames.old }
@@ -281,7 +281,7 @@ pub fn fitted_and_given_back(frames: &mut FreeMap, count: usize) -> Option<usize
     }
 }
 
-/// No frame is handed out twice, whatever is asked.
+/// No frame is taken twice, whatever the requests are.
 pub fn served(
     frames: &mut FreeMap,
     alloc: Global,
@@ -307,7 +307,7 @@ pub fn collected(alloc: Global, numbers: Vec<usize>) -> Result<NumberSet, GrowEr
     NumberSet::from_iter(alloc, numbers)
 }
 
-/// No matrix has a rank above the smaller of its sizes.
+/// A matrix has no rank above the smaller of its two sizes.
 pub fn rank_within_sizes(matrix: &Matrix, alloc: Global) -> Result<usize, AllocError>
     ensures rows { IfOk result (λ rank. rank ≤ matrix.now.rows) }
     ensures columns { IfOk result (λ rank. rank ≤ matrix.now.columns) }
@@ -341,7 +341,7 @@ pub fn column_collected(
     matrix.column(column).collect(alloc)
 }
 
-/// An iterator gives each row.
+/// The iterator over rows gives each row.
 pub fn rows_counted(matrix: &Matrix) -> usize
     ensures { result ≡ matrix.now.rows }
 {

@@ -51,8 +51,8 @@ impl Model for FreeMap {
 }
 
 impl FreeMap {
-    /// A map of `frames` frames, all free. `TooLong` exactly where they pass `MAX_BITS`; takes no memory for no
-    /// frame.
+    /// A map of `frames` frames, all free. Returns `TooLong` exactly where `frames` passes `MAX_BITS`. Takes no
+    /// memory where `frames` is 0.
     pub fn new(alloc: Global, frames: usize) -> Result<Self, GrowError>
         ensures free { IfOk result (λ m. m ≡ replicate frames false) }
         ensures too_long { (result ≡ Err errors.TooLong) ↔ (MAX_BITS < frames) }
@@ -87,8 +87,8 @@ impl FreeMap {
         self.free
     }
 
-    /// Takes the lowest free frame, which is found by words. None exactly where no frame is free, and then
-    /// nothing changes.
+    /// Takes the lowest free frame, which is searched by whole words. None exactly where no frame is free,
+    /// and then nothing changes.
     pub fn take(&mut self) -> Option<usize>
         ensures taken { IfSome result (λ frame. self.new ≡ set self.old frame true) }
         ensures free { IfSome result (λ frame. slice_get self.old frame ≡ Some false) }
@@ -106,8 +106,8 @@ impl FreeMap {
         }
     }
 
-    /// Takes the lowest `count` free frames in a row, which are found by words. None exactly where there is
-    /// no such run, and then nothing changes. Requires that `count` is at least 1.
+    /// Takes the lowest `count` free frames in a row, which are searched by whole words. None exactly where
+    /// there is no such run, and then nothing changes. Requires that `count` is at least 1.
     #[tactic(auto, using(crate::proofs::Frames::marked_length))]
     pub fn take_run(&mut self, count: usize) -> Option<usize>
         requires { 0 < count }
@@ -152,9 +152,9 @@ impl FreeMap {
         None
     }
 
-    /// Makes the map one of `frames` frames; those that are added are free. `TooLong` exactly where they pass
-    /// `MAX_BITS`, and memory is taken only where a frame is added; refused, nothing changes. Requires that there are
-    /// not fewer than now.
+    /// Makes the map one of `frames` frames; those that are added are free. Returns `TooLong` exactly where `frames`
+    /// passes `MAX_BITS`. Takes memory only where a frame is added; a refusal changes nothing. Requires that `frames`
+    /// is not less than it is now.
     pub fn grow(&mut self, frames: usize) -> Result<(), GrowError>
         requires { length self.old ≤ frames }
         ensures list { OnOk result (self.new ≡ self.old ++ replicate (frames - length self.old) false) }
@@ -168,9 +168,9 @@ impl FreeMap {
         Ok(())
     }
 
-    /// Gives `count` frames from `first` on back: they are free then, and no other frame changes. Refused where one of
-    /// them is free already, and then nothing changes. Where they were taken out of a map in which they were
-    /// free, that map is there again. Requires that they are frames of the map.
+    /// Gives back `count` frames from `first` on: they are free afterwards, and no other frame changes. It is refused
+    /// where one of them is free already, and then nothing changes. Giving back frames that were taken makes the map
+    /// what it was before they were taken. Requires that they are frames of the map.
     #[tactic(auto, using(crate::proofs::Frames::marked_length))]
     pub fn give_back(&mut self, first: usize, count: usize) -> Result<(), NotTaken>
         requires { first + count ≤ length self.old }

@@ -1,6 +1,5 @@
-//! Users of bit containers, each with the one fact that its author relies on: a wire format, a set of
-//! numbers, an allocator's map of frames, a list as bytes, and a matrix, whose set bits are the edges of a
-//! graph.
+//! Users of the containers: a wire format, a set of numbers, an allocator's map of frames, a list as
+//! bytes, and a matrix, whose set bits are also the edges of a graph.
 #![tactic(auto)]
 
 mod callers;

@@ -63,8 +63,8 @@ impl Model for Matrix {
 }
 
 impl Matrix {
-    /// A matrix of false bits. Returns `TooLong` where with the padding of each row there would be more than `MAX_BITS`
-    /// of them, and only there; takes no memory for no bit.
+    /// A matrix of false bits. Returns `TooLong` exactly where its bits, with the padding of each row, pass
+    /// `MAX_BITS`. Takes no memory where it has no bit.
     pub fn new(alloc: Global, rows: usize, columns: usize) -> Result<Self, GrowError>
         ensures zeros { IfOk result (λ m. m ≡ zeros rows columns) }
         ensures too_long { (result ≡ Err errors.TooLong) ↔ (MAX_BITS < rows * padded columns) }
@@ -83,8 +83,8 @@ impl Matrix {
         })
     }
 
-    /// The identity matrix of `size` rows and columns: true on the diagonal alone. `TooLong` exactly where its bits,
-    /// with the padding of each row, pass `MAX_BITS`; takes no memory for size 0.
+    /// The identity matrix of `size` rows and columns: true on the diagonal alone. Returns `TooLong` exactly where
+    /// its bits, with the padding of each row, pass `MAX_BITS`. Takes no memory where `size` is 0.
     ///
     /// ```text
     /// Matrix::identity(alloc, 3)?      // 100, 010, 001
@@ -142,7 +142,7 @@ impl Matrix {
         self.bits.set(row * self.stride + column, bit);
     }
 
-    /// The bits of a row, as a view that begins with a word. Requires that the matrix has it.
+    /// The bits of a row, as a view that begins with a word. Requires that the matrix has the row.
     pub fn row(&self, row: usize) -> BitSlice<'_, usize, Lsb0>
         requires { row < self.now.rows }
         ensures list { list_of result ≡ row_bits self.now row }
@@ -164,7 +164,7 @@ impl Matrix {
         self.bits.get_range(start..start + self.stride)
     }
 
-    /// Sets each bit of a row whose column has a bit set in another row, by words. Requires that the matrix has
+    /// Sets each bit of a row whose column is set in another row, by whole words. Requires that the matrix has
     /// both rows.
     pub fn or_row(&mut self, into: usize, from: usize)
         requires into { into < self.old.rows }
@@ -180,7 +180,7 @@ impl Matrix {
         self.bits.or_within(start..start + stride, into * stride);
     }
 
-    /// Flips each bit of a row whose column has a bit set in another row, by words: the row becomes the sum mod 2
+    /// Flips each bit of a row whose column is set in another row, by whole words: the row becomes the sum mod 2
     /// of both. Requires that the matrix has both rows.
     pub fn xor_row(&mut self, into: usize, from: usize)
         requires into { into < self.old.rows }
@@ -196,7 +196,8 @@ impl Matrix {
         self.bits.xor_within(start..start + stride, into * stride);
     }
 
-    /// Like `or_row`, with a row of another matrix. Requires that both matrices have as many columns, and each its row.
+    /// Like `or_row`, with a row of another matrix. Requires that both matrices have the same number of columns, and
+    /// that each has its row.
     pub fn or_row_of(&mut self, into: usize, other: &Self, from: usize)
         requires into { into < self.old.rows }
         requires from { from < other.now.rows }
@@ -212,8 +213,8 @@ impl Matrix {
             .or_range(start..start + self.stride, other.padded_row(from));
     }
 
-    /// Like `xor_row`, with a row of another matrix. Requires that both matrices have as many columns, and each its
-    /// row.
+    /// Like `xor_row`, with a row of another matrix. Requires that both matrices have the same number of columns,
+    /// and that each has its row.
     pub fn xor_row_of(&mut self, into: usize, other: &Self, from: usize)
         requires into { into < self.old.rows }
         requires from { from < other.now.rows }
@@ -229,7 +230,7 @@ impl Matrix {
             .xor_range(start..start + self.stride, other.padded_row(from));
     }
 
-    /// Writes a row over another, by one move of the words. Requires that the matrix has both rows.
+    /// Writes a row over another, by one move. Requires that the matrix has both rows.
     #[tactic(auto, using(crate::proofs::Grids::row_inside))]
     pub fn copy_row(&mut self, from: usize, to: usize)
         requires from { from < self.old.rows }
@@ -244,7 +245,7 @@ impl Matrix {
         self.bits.copy_within(start..start + stride, to * stride);
     }
 
-    /// Swaps two rows, by words. Takes no memory. Requires that the matrix has both rows.
+    /// Swaps two rows, by whole words. Takes no memory. Requires that the matrix has both rows.
     pub fn swap_rows(&mut self, a: usize, b: usize)
         requires a { a < self.old.rows }
         requires b { b < self.old.rows }
@@ -262,8 +263,8 @@ impl Matrix {
     }
 }
 
-// How many bits a row of `columns` columns takes with its padding; where that passes the largest usize, more than any
-// matrix has.
+// How many bits a row of `columns` columns takes with its padding. Where that passes the largest usize, the result is
+// more than any matrix has.
 fn stride_of(columns: usize) -> usize
     ensures exact { columns ≤ MAX_BITS → result ≡ padded columns }
     ensures past { MAX_BITS < columns → MAX_BITS < result }

@@ -20,8 +20,8 @@ pub enum Fault {
     OutOfMemory,
 }
 
-/// The bytes of a list: its length in eight, and then its bits, eight in a byte. Equal lists have equal
-/// bytes, and no others have, whatever words and heads they stand in. Takes memory, and is refused only where that is.
+/// The bytes of a list: eight with its length, then its bits, eight in a byte. Two lists have equal bytes exactly
+/// where they are equal, whatever their words and heads. Takes memory, and is refused only where memory is.
 ///
 /// ```text
 /// let bytes = to_bytes(alloc, &bits)?;
@@ -45,8 +45,8 @@ pub fn to_bytes<T: BitStore, O: BitOrder>(
     Ok(bytes)
 }
 
-/// Whether two lists are equal, by their bytes alone: they are exactly where the bytes are. So a list's bytes
-/// can stand for it, as in a key. Takes no memory.
+/// Whether two lists are equal, by their bytes alone: lists are equal exactly where their bytes are. So
+/// a list's bytes can be used as a key for it. Takes no memory.
 ///
 /// ```text
 /// are_of_one_list(&to_bytes(alloc, &a)?, &to_bytes(alloc, &b)?)    // a.eq_bits(b.as_bitslice())
@@ -60,9 +60,9 @@ pub fn are_of_one_list(left: &[u8], right: &[u8]) -> bool
     left == right
 }
 
-/// The list whose bytes these are. They are `Broken` exactly where they are those of no list of at most `MAX_BITS`
-/// bits, so memory is refused only for a list that is there, whose bits are no more than those of the bytes after the
-/// first eight: a wrong length asks for no memory. Takes memory.
+/// The list whose bytes these are. Returns `Broken` exactly where they are the bytes of no list of at most `MAX_BITS`
+/// bits. Memory is refused only where they are those of a list, which has at most as many bits as the bytes after the
+/// first eight: a wrong length asks for no memory.
 pub fn from_bytes(alloc: Global, bytes: &[u8]) -> Result<BitVec<u8, Msb0>, Fault>
     ensures read { IfOk result (λ bits. AreBytesOf bits.list bytes.now) }
     ensures list { IfOk result (λ read. (bits : List Bool) → length bits ≤ MAX_BITS → AreBytesOf bits bytes.now

@@ -62,7 +62,7 @@ pub struct Header {
 }
 
 impl Header {
-    /// The header's 160 bits. Takes memory, and is refused only where that is.
+    /// The header's 160 bits. Takes memory, and is refused only where memory is.
     pub fn to_bits(self, alloc: Global) -> Result<BitVec<u8, Msb0>, GrowError>
         ensures bits { IfOk result (λ v. v.list ≡ bits_of self) }
         ensures clean { IfOk result (λ v. IsClean 8 v) }
@@ -74,8 +74,8 @@ impl Header {
         }
     }
 
-    /// The header's 20 bytes. Requires that each field has room for its number. Takes memory, and is
-    /// refused only where that is.
+    /// The header's 20 bytes. Requires that each number fits its field. Takes memory, and is refused
+    /// only where memory is.
     pub fn to_bytes(self, alloc: Global) -> Result<Vec<u8>, GrowError>
         requires fits { Fits self }
         ensures bytes { IfOk result (λ bytes. bytes.items ≡ bytes_of self) }
@@ -108,8 +108,8 @@ impl Header {
         })
     }
 
-    /// Like `read`, but a header whose reserved values differ from those of a packet without options is refused, and by
-    /// the first that does: the version has to be 4, the header 5 words, and the reserved flag false.
+    /// Like `read`, but checks what is fixed in a packet without options, in this order: the version is 4, the header
+    /// has 5 words, and the reserved flag is false. The first that differs is the error.
     ///
     /// ```text
     /// Header::read_checked(&bytes)     // Err(HeaderFault::Version) for a packet of version 6
@@ -141,7 +141,7 @@ impl Header {
         Ok(header)
     }
 
-    // The fields' bits, one after another.
+    // The bits of the fields, one after another.
     fn join_fields(self, alloc: Global) -> Result<BitVec<u8, Msb0>, GrowError>
         ensures bits { IfOk result (λ v. v.list ≡ bits_of self) }
         ensures clean { IfOk result (λ v. IsClean 8 v) }

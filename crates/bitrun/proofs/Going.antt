@@ -1,4 +1,4 @@
--- Scripts on their way.
+-- Scripts that are being run.
 use Rattle.std.proofs.Common.{◌≡◌, ℕ, ◌+◌, ◌<◌, ◌≤◌, List, false, [], ◌∷◌, ◌++◌, refl, ap, sym, subst, ◌∙◌, length, arith, ◌==◌, Some, None, append_assoc, append-nil, take, drop, get_or}
 use Rattle.std.specs.Prelude.{flat_map}
 use Rattle.std.specs.List.{All}

@@ -128,7 +128,7 @@ module _ (list : List Bool) (bytes : List ℕ) (lines : List (List ℕ)) (a b : 
             ∙ sym (next_replies 0 list bytes lines l e h b)
       ]
 
--- where no line shows the words, what it would be is no matter
+-- where no line shows the words, the texts that would show them don't matter
 pub replies_alike : (list : List Bool) (lines : List (List ℕ)) (a b : List (List ℕ)) → All (λ bytes. line_of bytes ≢ Some ShowWords) lines → replies_from list lines a ≡ replies_from list lines b
 replies_alike list [] a b h = refl
 replies_alike list (bytes ∷ lines) a b h =

@@ -77,7 +77,7 @@ outcome TooLong given all last h = h
 outcome NoMemory given all last h = h
 outcome ReadFailed given all last h = absurd h
 
--- a script doesn't end for the failure of its source
+-- a script doesn't end for a failure of its source
 pub end_apart : (e : Ending) (given all : List (List ℕ)) (last : Ending) → IsEnd e given all last → e ≡ ReadFailed → ⊥
 end_apart e given all last h is = subst (λ x. IsEnd x given all last) is h
 
@@ -166,7 +166,7 @@ read_more (Some text) None next n count bs h k e = absurd h
 read_more (Some text) (Some rest) None n count bs h k e = absurd k
 read_more (Some text) (Some rest) (Some left) n count bs h k e = let both : length rest ≡ length bs + length left = ap length k ∙ length-append bs left in omega arith
 
--- a source with so few bytes doesn't reach the limit
+-- a source with fewer bytes than the limit doesn't reach it
 pub read_within : (from now next : Option (List ℕ)) (n count : ℕ) (bs : List ℕ) → IsShort from → IsRead from now n → Consumes now next bs → count ≡ length bs → n + count < 2 ^ 64 - 1
 read_within None now next n count bs s h k e = absurd h
 read_within (Some text) None next n count bs s h k e = absurd h

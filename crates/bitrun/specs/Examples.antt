@@ -40,7 +40,7 @@ edits : transcript (codes "push 1" ++ 10 ∷ codes "insert 1 0" ++ 10 ∷ codes 
     ≡ codes "ok" ++ 10 ∷ codes "ok" ++ 10 ∷ codes "1" ++ 10 ∷ codes "range" ++ 10 ∷ codes "[0]" ++ 10 ∷ []
 edits = refl
 
--- what it is to show the words is handed in
+-- the text that shows the words is an argument
 shown_words : script_replies (codes "push 1" ++ 10 ∷ codes "raw") ([] ∷ codes "80" ∷ []) ≡ codes "ok" ∷ codes "80" ∷ []
 shown_words = refl
 
@@ -65,7 +65,7 @@ two_spaces = refl
 space_before : line_of (codes " pop") ≡ None
 space_before = refl
 
--- what each ending tells
+-- the text of each ending
 text_of_the_end : ending_text Finished ≡ []
 text_of_the_end = refl
 

@@ -46,7 +46,7 @@ with_numbers command (Some i) (Some j) None = None
 with_numbers command (Some i) None k = None
 with_numbers command None j k = None
 
--- the line that puts a bit in place of a range, where its two ends, the bit and how many times are there
+-- the line that replaces a range by a bit, where its two ends, the bit and the number of times are there
 abbrev pub with_splice : Option ℕ → Option ℕ → Option Bool → Option ℕ → Option Line
 with_splice (Some i) (Some j) (Some b) (Some n) = Some (Run (Splice i j b n))
 with_splice (Some i) (Some j) (Some b) None = None

@@ -1,4 +1,4 @@
--- A script on its way.
+-- A script that is being run.
 use Rattle.std.specs.Prelude.{◌≡◌, ℕ, ◌≤◌, ◌==◌, Bool, false, List, [], ◌++◌, length, flat_map, refl}
 use Rattle.std.specs.Coded.{Coded, code_by, coded×, coded_list, coded_ℕ, coded_bool}
 use Rattle.std.specs.List.{All}
@@ -30,11 +30,11 @@ IsPart bytes = (length bytes ≤ MAX_LINE) × All (λ b. (b == 10) ≡ false) by
 abbrev pub replies_left : Progress → List ℕ → List (List ℕ) → List (List ℕ)
 replies_left s rest words = replies_from s.list (lines_of (s.line ++ rest)) words
 
--- how it ends then
+-- how a script ends where these bytes follow those that were read
 abbrev pub ending_left : Progress → List ℕ → Ending
 ending_left s rest = ending_from s.number s.list (lines_of (s.line ++ rest))
 
--- these replies were given, and a script ended so, where those are to be given and it is to end so; memory may be refused on the way
+-- `given` are the replies and this is the ending of a script whose replies are to be `all` and whose ending `last`; memory may be refused on the way
 abbrev pub IsEnd : Ending → List (List ℕ) → List (List ℕ) → Ending → Type 0
 IsEnd NoMemory given all last = (more : List (List ℕ)) × (all ≡ given ++ more)
 IsEnd Finished given all last = (all ≡ given) × (last ≡ Finished)

@@ -35,13 +35,13 @@ reply_text Nothing = codes "none"
 reply_text (Number n) = decimal n
 reply_text OutOfRange = codes "range"
 
--- the text of the reply to a line at this list; the list doesn't determine the words, and to show them is this text
+-- the text of the reply to a line at this list; `words` is the text that shows the words, which the list doesn't determine
 abbrev pub line_text : List Bool → Line → List ℕ → List ℕ
 line_text list (Run command) words = reply_text (reply_to list command)
 line_text list ShowList words = list_text list
 line_text list ShowWords words = words
 
--- a line can be refused so at this list
+-- a line can be refused in this way at this list
 abbrev pub CanRefuse : List Bool → Line → Ending → Type 0
 CanRefuse list line NoMemory = Unit {0}
 CanRefuse list line TooLong = MAX_BITS < length_wanted list line
@@ -51,14 +51,14 @@ CanRefuse list line ReadFailed = ⊥
 
 -- ---- whole scripts
 
--- a split that ends in nothing, without that
+-- the parts of a split, without an empty last one
 abbrev pub drop_empty_last : List (List ℕ) → List (List ℕ)
 drop_empty_last [] = []
 drop_empty_last ([] ∷ []) = []
 drop_empty_last ((b ∷ bytes) ∷ []) = (b ∷ bytes) ∷ []
 drop_empty_last (line ∷ next ∷ more) = line ∷ drop_empty_last (next ∷ more)
 
--- the lines of a text, without their line feeds; one one at the end of the text begins none after it
+-- the lines of a text, without their line feeds; no line begins after a line feed that ends the text
 abbrev pub lines_of : List ℕ → List (List ℕ)
 lines_of text = drop_empty_last (slice_split (λ b. b == 10) text)
 
@@ -67,7 +67,7 @@ abbrev pub first_and : Option Line → List Line → List Line
 first_and None lines = []
 first_and (Some line) lines = line ∷ lines
 
--- the lines before the first that is none
+-- the lines before the first that is no line
 abbrev pub leading_lines : List (List ℕ) → List Line
 leading_lines [] = []
 leading_lines (bytes ∷ more) = first_and (line_of bytes) (leading_lines more)
@@ -77,17 +77,17 @@ abbrev pub fitting : List Bool → List Line → List Line
 fitting list [] = []
 fitting list (line ∷ lines) = if nat_le (length_wanted list line) MAX_BITS then line ∷ fitting (list_after_line list line) lines else []
 
--- the first of these texts, and those after it
+-- the first of these texts
 abbrev pub first_text : List (List ℕ) → List ℕ
 first_text [] = []
 first_text (text ∷ texts) = text
 
--- the texts of the lines after the first
+-- these texts without the first
 abbrev pub later_texts : List (List ℕ) → List (List ℕ)
 later_texts [] = []
 later_texts (text ∷ texts) = texts
 
--- the texts of the replies to these lines from this list on, where `words` has for each line what it is to show the words there
+-- the texts of the replies to these lines from this list on; `words` has for each line the text that shows the words there
 abbrev pub texts_of : List Bool → List Line → List (List ℕ) → List (List ℕ)
 texts_of list [] words = []
 texts_of list (line ∷ lines) words = line_text list line (first_text words) ∷ texts_of (list_after_line list line) lines (later_texts words)
@@ -122,7 +122,7 @@ ShowsNoWords text = All (λ bytes. line_of bytes ≢ Some ShowWords) (lines_of t
 abbrev pub with_line_feed : List ℕ → List ℕ
 with_line_feed text = text ++ 10 ∷ []
 
--- what is written for an ending
+-- the text of an ending
 abbrev pub ending_text : Ending → List ℕ
 ending_text Finished = []
 ending_text (BadCommand n) = codes "line " ++ decimal n ++ with_line_feed (codes ": bad command")

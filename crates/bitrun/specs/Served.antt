@@ -21,8 +21,8 @@ IsGoing (Some text) None given s = ⊥
 IsGoing (Some text) (Some rest) given s =
     ((words : List (List ℕ)) → script_replies text (given ++ words) ≡ given ++ replies_left s rest words) × (script_ending text ≡ ending_left s rest)
 
--- These replies were given, and a run ended so, where those are to be given and it is to end so: all of them and that
--- ending; or, where memory was refused or the source failed, the first of them.
+-- `given` are the replies and this is the ending of a run whose replies are to be `all` and whose ending `last`: all of them and that
+-- ending, or the first of them where memory was refused or the source failed.
 abbrev pub IsOutcome : Ending → List (List ℕ) → List (List ℕ) → Ending → Type 0
 IsOutcome Finished given all last = (all ≡ given) × (last ≡ Finished)
 IsOutcome (BadCommand n) given all last = (all ≡ given) × (last ≡ BadCommand n)
@@ -30,8 +30,8 @@ IsOutcome TooLong given all last = (all ≡ given) × (last ≡ TooLong)
 IsOutcome NoMemory given all last = (more : List (List ℕ)) × (all ≡ given ++ more)
 IsOutcome ReadFailed given all last = (more : List (List ℕ)) × (all ≡ given ++ more)
 
--- What was written for a script whose bytes are known as `from`, and that ended so: replies and the ending. Where a
--- line shows the words, the list doesn't determine the reply, and what was written there counts as it.
+-- What was written for a script whose bytes are known as `from`, and that ended in this way: the replies and the text of the ending. Where
+-- a line shows the words, the list doesn't determine the reply, and any text counts as it.
 abbrev pub IsServed : Option (List ℕ) → Option (List ℕ) → Option (List ℕ) → Ending → Type 0
 IsServed from wrote writes ending = (given : List (List ℕ))
     × Appends wrote writes (flat_map with_line_feed given ++ ending_text ending)

@@ -13,7 +13,7 @@ mod tests;
 use std::process::ExitCode;
 use std::{env, io};
 
-/// The words after the program's name.
+/// The program's arguments.
 fn words(rt: &HostRuntime) -> io::Result<Vec<String>> {
     let mut words = Vec::new(rt.alloc());
     for word in env::args(rt)?.skip(1) {

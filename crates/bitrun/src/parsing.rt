@@ -5,10 +5,10 @@ ghost use Rattle.bitrun.specs.Line.{number_of, bit_of, of_fields, fields_of, lin
 
 use bit_containers::Command;
 
-/// The most bytes of a line, without its line feed.
+/// How many bytes a line has at most, without its line feed.
 pub const MAX_LINE: usize = 100;
 
-/// The most digits of a number.
+/// How many digits a number has at most.
 const MAX_DIGITS: usize = 20;
 
 /// What a line asks for.
@@ -32,7 +32,7 @@ fn has_plus(field: &[u8]) -> bool
     }
 }
 
-/// The number that a field writes.
+/// The number that a field writes. None where it writes none.
 fn number(field: &[u8]) -> Option<usize>
     ensures { result ≡ number_of field.now }
 {
@@ -58,7 +58,7 @@ fn bit(field: &[u8]) -> Option<bool>
     }
 }
 
-/// Where the first space is.
+/// The index of the first space.
 fn first_space(line: &[u8]) -> Option<usize>
     ensures { result ≡ position (λ b. b == 32) line.now }
 {
@@ -205,7 +205,7 @@ fn with_arguments(word: &[u8], rest: &[u8]) -> Option<Line>
     }
 }
 
-/// What these bytes ask for, if they are a line.
+/// What these bytes ask for. None where they are no line.
 pub fn parse_line(line: &[u8]) -> Option<Line>
     ensures { result ≡ line_of line.now }
 {

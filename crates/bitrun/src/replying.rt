@@ -78,7 +78,7 @@ pub fn append_reply(out: &mut Vec<u8>, reply: Reply) -> Result<(), AllocError>
     }
 }
 
-/// A hexadecimal digit in lower case.
+/// A hexadecimal digit in lower case. Requires that it is below 16.
 fn hex_digit(digit: u64) -> u8
     requires { digit < 16 }
     ensures { result ≡ digit_glyph false digit }

@@ -15,7 +15,7 @@ use std::io::{Read, Write};
 /// How many bytes are read at once.
 const CHUNK: usize = 8192;
 
-/// Writes what waits.
+/// Writes the bytes that wait.
 fn send<T: BitStore, O: BitOrder, K: Sink>(
     session: &mut Session<T, O>,
     output: &mut K,
@@ -41,7 +41,7 @@ fn put_number<K: Sink>(output: &mut K, number: u64) -> io::Result<()>
     output.put(&[b'0' + (number % 10) as u8])
 }
 
-/// Writes the line that tells of a bad command.
+/// Writes the line for a bad command.
 fn put_bad_command<K: Sink>(output: &mut K, number: u64) -> io::Result<()>
     ensures held { OnOk result
         (Appends (K.held output.old) (K.held output.new) (ending_text (Ending.BadCommand number))) }
@@ -52,7 +52,7 @@ fn put_bad_command<K: Sink>(output: &mut K, number: u64) -> io::Result<()>
     output.put(b": bad command\n")
 }
 
-/// Writes what an ending tells.
+/// Writes the text of an ending.
 fn put_ending<K: Sink>(output: &mut K, ending: Ending) -> io::Result<()>
     ensures held { OnOk result (Appends (K.held output.old) (K.held output.new) (ending_text ending)) }
     ensures sure { K.is_sure output.old → IsOk result × K.is_sure output.new }
@@ -66,7 +66,7 @@ fn put_ending<K: Sink>(output: &mut K, ending: Ending) -> io::Result<()>
     }
 }
 
-/// Writes what waits, and what an ending tells.
+/// Writes the bytes that wait, and the text of an ending.
 fn conclude<T: BitStore, O: BitOrder, K: Sink>(
     session: &mut Session<T, O>,
     output: &mut K,
@@ -158,9 +158,10 @@ fn serve_script<T: BitStore, O: BitOrder, S: Source, K: Sink>(
 
 /// Runs the lines of a script over an empty vector, writes their replies, and returns how it ended.
 ///
-/// Each line is replied to with one line, up to the end of the script, or to its first line that is
-/// no command, and the ending is told last. Where memory is refused, or the source fails, that is
-/// told after the replies so far. An error is that of a failing write, and nothing more is written.
+/// Each line is replied to with one line, up to the end of the script or its first line that is no
+/// command, and then the text of the ending is written. Where memory is refused, or the source
+/// fails, that text follows the replies so far. An error is that of a failing write, after which
+/// nothing more is written.
 pub fn serve_lines<T: BitStore, O: BitOrder, S: Source, K: Sink>(
     alloc: Global,
     input: &mut S,
@@ -177,7 +178,7 @@ pub fn serve_lines<T: BitStore, O: BitOrder, S: Source, K: Sink>(
     // A source that doesn't fail is read to the end of the script.
     ensures read { S.is_sure input.old → IsShort (S.left input.old) → result ≢ Ok Ending.ReadFailed }
 
-    // To a sink that doesn't fail all of it is written.
+    // A sink that doesn't fail is written to without an error.
     ensures written { K.is_sure output.old → IsOk result }
 {
     serve_script::<T, O, S, K>(alloc, input, output)

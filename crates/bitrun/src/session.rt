@@ -1,4 +1,4 @@
-//! A script on its way, byte by byte.
+//! A script that is run byte by byte.
 ghost use Rattle.std.specs.Prelude.{◌≡◌, ◌≢◌, ℕ, ◌+◌, ◌-◌, ◌<◌, ◌≤◌, ◌^◌, List, [], ◌∷◌, ◌++◌, length, take, OnOk, OnErr, IfOk, IfErr};
 ghost use Rattle.bit_addressing.specs.declared.length.TheConstants.{MAX_BITS};
 ghost use Rattle.bit_containers.specs.Machine.{list_after_one, reply_to, new_length};
@@ -16,7 +16,8 @@ use std::marker::Model;
 /// How many bytes may wait before they are written.
 pub const FULL: usize = 65536;
 
-/// A script on its way: its vector, the line that has begun, and what waits to be written.
+/// A script that is being run: its vector, the line that has begun, and the bytes that wait to be
+/// written.
 #[derive(Drop)]
 pub struct Session<T: BitStore, O: BitOrder> {
     vector: BitVec<T, O>,
@@ -78,7 +79,7 @@ fn append_list<T: BitStore, O: BitOrder>(
 }
 
 impl<T: BitStore, O: BitOrder> Session<T, O> {
-    /// A script at its beginning, with an empty vector.
+    /// A script of which nothing was read yet, with an empty vector.
     pub fn new(alloc: Global) -> Self
         ensures list { result.list ≡ [] }
         ensures line { result.line ≡ [] }
@@ -110,7 +111,8 @@ impl<T: BitStore, O: BitOrder> Session<T, O> {
         Ending::BadCommand(self.number)
     }
 
-    /// Appends a byte to the line.
+    /// Appends a byte to the line. Requires that the line has room, and that the byte is no line
+    /// feed.
     fn push_byte(&mut self, byte: u8) -> Result<(), AllocError>
         requires room { length self.old.line < MAX_LINE }
         requires other { byte ≢ 10 }
@@ -222,7 +224,8 @@ impl<T: BitStore, O: BitOrder> Session<T, O> {
         }
     }
 
-    /// Takes bytes, all of them or as many as make much wait to be written, and returns how many.
+    /// Takes bytes, and returns how many: all of them, or fewer where `FULL` bytes wait to be
+    /// written before.
     pub fn take_bytes(&mut self, bytes: &[u8]) -> Result<usize, Ending>
         requires { self.old.number + length self.old.line + length bytes.now < 2 ^ 64 }
         ensures count { IfOk result (λ count. count ≤ length bytes.now) }
@@ -257,14 +260,14 @@ impl<T: BitStore, O: BitOrder> Session<T, O> {
         }
     }
 
-    /// What waits to be written.
+    /// The bytes that wait to be written.
     pub fn waiting(&self) -> &[u8]
         ensures { result.now ≡ self.now.out }
     {
         self.out.as_slice()
     }
 
-    /// Forgets what waited, since it was written.
+    /// Forgets the bytes that waited, since they were written.
     pub fn clear_waiting(&mut self)
         ensures { self.new ≡ record self.old { out = [] } }
     {

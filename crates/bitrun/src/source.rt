@@ -6,7 +6,7 @@ ghost use Rattle.std.specs.Io.{ReadsAtMost};
 use std::io;
 use std::io::{Read, Write};
 
-/// What gives bytes. Of a source it may be known that it does not fail.
+/// A source of bytes. It may be known not to fail.
 pub trait Source {
     // The bytes that are left, where they are known.
     ghost left: { Self → Option (List ℕ) };
@@ -14,14 +14,14 @@ pub trait Source {
     // That no read fails from here on.
     ghost is_sure: { Self → Type 0 };
 
-    /// Fills the front of `buffer`, and returns how much of it. It is 0 at the end.
+    /// Fills the front of `buffer`, and returns how many bytes it wrote there: 0 at the end.
     fn give(&mut self, buffer: &mut [u8]) -> io::Result<usize>
         ensures bound { ReadsAtMost result buffer.new }
         ensures bytes { ReadConsumes (left self.old) (left self.new) result buffer.new }
         ensures sure { is_sure self.old → IsOk result × is_sure self.new };
 }
 
-/// What takes bytes. Of a sink it may be known that it does not fail.
+/// A sink for bytes. It may be known not to fail.
 pub trait Sink {
     // The bytes that it holds, where they are known.
     ghost held: { Self → Option (List ℕ) };
@@ -51,7 +51,7 @@ impl<R: Read> Source for Reader<R> {
     }
 }
 
-/// Bytes in memory. To read them does not fail.
+/// Bytes in memory, which are read without failing.
 impl Source for &[u8] {
     ghost left = { λ s. Some s.now };
 
@@ -79,7 +79,7 @@ impl<W: Write> Sink for Writer<W> {
     }
 }
 
-/// Nothing keeps the bytes. To let them go does not fail.
+/// A sink that keeps no byte, and does not fail.
 impl Sink for io::Sink {
     ghost held = { λ _. None };
 

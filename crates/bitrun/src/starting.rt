@@ -1,13 +1,13 @@
-//! What the program's words ask for.
+//! The program's arguments.
 use crate::serving::serve;
 use bit_containers::{Lsb0, Msb0};
 use std::alloc::Global;
 use std::io::{Read, Write};
 
-/// Runs what the words after the program's name ask for, and returns the status.
+/// Runs the program with these arguments, and returns its status.
 ///
-/// They are the type of the words, `u8` to `u64` or `usize`, and their order, `lsb0` or `msb0`. With other words
-/// the usage is written, and the status is 2.
+/// They are the type of the words, `u8`, `u16`, `u32`, `u64` or `usize`, and the order, `lsb0` or `msb0`. With
+/// others it writes how the program is called, and the status is 2.
 pub fn start<R: Read + Drop, W: Write + Drop>(
     alloc: Global,
     words: &[String],

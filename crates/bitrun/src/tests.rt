@@ -9,7 +9,7 @@ use std::alloc::Global;
 use std::process::Abort;
 use std::test::Fail;
 
-/// The words of a call.
+/// The program's arguments.
 fn words_of(alloc: Global, call: &str) -> Result<Vec<String>, Fail> {
     let mut list = Vec::new(alloc);
     for word in call.split_whitespace() {

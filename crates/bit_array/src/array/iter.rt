@@ -1,4 +1,4 @@
-//! The bits of the array, one after another: lent, and given up with the array.
+//! Iterators over the bits of the array: a borrowed one and an owned one.
 ghost use Rattle.std.specs.Prelude.{◌≡◌, ℕ, ◌+◌, ◌*◌, ◌≤◌, length, slice_range, IfSome, Some};
 ghost use Rattle.std.specs.Iterator.{YieldsFirst, YieldsLast};
 ghost use Rattle.std.specs.Iterator.Runs.{YieldsInOrder, YieldsInReverse};
@@ -40,7 +40,7 @@ impl<A: BitWords, O: BitOrder> BitArray<A, O> {
     }
 }
 
-/// The bits of an array that is given up, from both ends, each once.
+/// The bits of an array that was consumed, from both ends, each once.
 ///
 /// Its length is known, and after the first None there is no more. It takes no memory. In contracts it is the
 /// list of the bits that it has left.
@@ -97,8 +97,8 @@ impl<A: BitWords, O: BitOrder> IntoIter<A, O> {
 }
 
 impl<A: BitViewSized, O: BitOrder> IntoIter<A, O> {
-    /// The view of the bits that are left, for writing: what is written stands in the bits that are still to
-    /// come.
+    /// The view of the bits that are left, for writing. That what is written lands in the bits that are
+    /// still to come, no clause says.
     pub fn as_mut_bitslice(&mut self) -> BitSliceMut<'_, A::Store, O>
         ensures list { lent_list result ≡ self.old }
         ensures len { lent_len result ≡ length self.old }
@@ -179,7 +179,7 @@ impl<A: BitWords, O: BitOrder> IntoIterator for BitArray<A, O> {
     ghost into_iter_gives = { λ a r. (r ≡ row A.Store.BitStore O.BitOrder (A.words a))
         × (length r ≤ MAX_BITS) × GivesInOrder rest_of × GivesInReverse rest_of };
 
-    /// The bits in order, from both ends; the array is given up.
+    /// The bits in order, from both ends; the array is consumed.
     fn into_iter(self) -> IntoIter<A, O> {
         IntoIter::new(self)
     }

@@ -12,7 +12,7 @@ use std::cmp::Ordering;
 use std::ops::{BitAnd, BitAndAssign, BitOr, BitOrAssign, BitXor, BitXorAssign, Index, Not};
 
 impl<A: BitWords, O: BitOrder> BitArray<A, O> {
-    /// Whether the array and a view, whose words and order may be others, have the same bits. The view's head
+    /// Whether the array and a view, with any word type and order, have the same bits. The view's head
     /// doesn't count.
     ///
     /// ```text
@@ -38,8 +38,7 @@ impl<A: BitWords, O: BitOrder> BitArray<A, O> {
 }
 
 impl<A: BitViewSized, O: BitOrder> BitArray<A, O> {
-    /// Makes each bit into the one that `F` makes of it and of the one at its index in a view, or of false past
-    /// its end.
+    /// Combines each bit, by `F`, with the bit at its index in a view, or with false past the view's end.
     pub(crate) fn combine<F: BitOperator, U: BitStore, P: BitOrder>(
         &mut self,
         other: BitSlice<'_, U, P>,
@@ -53,7 +52,7 @@ impl<A: BitViewSized, O: BitOrder> BitArray<A, O> {
         combine_words::<F, A::Store, O, U, P>(self.inner.as_raw_mut_slice(), 0, len, other);
     }
 
-    /// Clears each bit that is false in a view, or that the view is too short for.
+    /// Clears each bit that is false in a view, and each past the view's end.
     ///
     /// ```text
     /// of 01101001 and 01010101: bits.and_bits(other) leaves 01000001

@@ -78,8 +78,8 @@ impl<A: BitViewSized, O: BitOrder> BitArray<A, O> {
         self.combine::<AndNot, U, P>(other);
     }
 
-    /// Writes the bits of a view, by whatever words and order, at the indices of a range, and no other bit. Requires
-    /// that the range lies in the length, and is as long as the view.
+    /// Writes the bits of a view, with any word type and order, at the indices of a range, and no other bit.
+    /// Requires that the range lies in the length, and is as long as the view.
     ///
     /// ```text
     /// of 01101001 and 0101: bits.copy_into(1..5, other) leaves 00101001
@@ -101,8 +101,8 @@ impl<A: BitViewSized, O: BitOrder> BitArray<A, O> {
         copy_bits::<A::Store, O, U, P>(words, range.start, source.as_raw_slice(), from, count);
     }
 
-    // Makes each bit at the indices of a range into the one that `F` makes of it and of the one in a view, or of false
-    // past its end. Requires that the range lies in the length.
+    // Combines each bit at the indices of a range, by `F`, with the bit of a view for it, or with false past the
+    // view's end. Requires that the range lies in the length.
     fn combine_range<F: BitOperator, R: RangeExt, U: BitStore, P: BitOrder>(
         &mut self,
         range: R,
@@ -120,7 +120,7 @@ impl<A: BitViewSized, O: BitOrder> BitArray<A, O> {
         combine_words::<F, A::Store, O, U, P>(words, range.start, count, other);
     }
 
-    /// Clears each bit at the indices of a range that is false in a view, or that the view is too short for: the
+    /// Clears each bit at the indices of a range that is false in a view, and each past the view's end. The
     /// first bit of the view is for the first of the range. Requires that the range lies in the length.
     ///
     /// ```text
@@ -140,7 +140,7 @@ impl<A: BitViewSized, O: BitOrder> BitArray<A, O> {
         self.combine_range::<And, R, U, P>(range, other);
     }
 
-    /// Sets each bit at the indices of a range that is true in a view: the first bit of the view is for the first
+    /// Sets each bit at the indices of a range that is true in a view. The first bit of the view is for the first
     /// of the range. Requires that the range lies in the length.
     ///
     /// ```text
@@ -160,7 +160,7 @@ impl<A: BitViewSized, O: BitOrder> BitArray<A, O> {
         self.combine_range::<Or, R, U, P>(range, other);
     }
 
-    /// Flips each bit at the indices of a range that is true in a view: the first bit of the view is for the first
+    /// Flips each bit at the indices of a range that is true in a view. The first bit of the view is for the first
     /// of the range. Requires that the range lies in the length.
     ///
     /// ```text
@@ -180,7 +180,8 @@ impl<A: BitViewSized, O: BitOrder> BitArray<A, O> {
         self.combine_range::<Xor, R, U, P>(range, other);
     }
 
-    /// Writes the lowest bits of a number over all bits, the least significant first. Requires at most 64 bits.
+    /// Writes the lowest bits of a number over all bits, the least significant first. Requires that the array
+    /// has at most 64 bits.
     ///
     /// ```text
     /// of 01101001: bits.store_le(5) leaves 10100000
@@ -194,7 +195,8 @@ impl<A: BitViewSized, O: BitOrder> BitArray<A, O> {
         write_chunk::<A::Store, O>(words, 0, len as u8, number);
     }
 
-    /// Writes the lowest bits of a number over all bits, the most significant first. Requires at most 64 bits.
+    /// Writes the lowest bits of a number over all bits, the most significant first. Requires that the array
+    /// has at most 64 bits.
     ///
     /// ```text
     /// of 01101001: bits.store_be(5) leaves 00000101

@@ -269,8 +269,8 @@ impl<A: BitViewSized, O: BitOrder> BitArray<A, O> {
         move_bits_counted::<A::Store, O>(words, range.start, dest, count)
     }
 
-    /// Writes the bits of a view, by whatever words and order, over those of the array. Requires that the view
-    /// has as many bits as the array.
+    /// Writes the bits of a view, with any word type and order, over those of the array. Requires that
+    /// the view has as many bits as the array.
     ///
     /// ```text
     /// of 01101001 and 01010101: bits.clone_from_bitslice(other) leaves 01010101

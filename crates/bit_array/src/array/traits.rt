@@ -1,4 +1,4 @@
-//! What the array has of std's traits.
+//! The impls of std's traits for the array.
 ghost use Rattle.std.specs.Prelude.{◌≡◌, ◌↔◌, IsTrue, map, refl, Some};
 ghost use Rattle.std.specs.Cmp.{on_equiv, on_total, on_po, on_per, partial_equiv_from_equiv};
 ghost use Rattle.std.specs.Hash.{on_Alike};
@@ -192,8 +192,8 @@ impl<'a, A: BitViewSized, O: BitOrder> TryFrom<BitSlice<'a, A::Store, O>> for Bi
         × (row A.Store.BitStore O.BitOrder (A.words a) ≡ list_of v))
         (Refuses (len_of v) (head_of v) (min (A.Store.BITS * A.count) (2 ^ 64 - 1))) };
 
-    /// The array of the view's bits. A length other than the array's is refused first, then a head other
-    /// than 0. Takes no memory.
+    /// The array of the view's bits. Refused where the length is not the array's, and else where the
+    /// head is not 0. Takes no memory.
     fn try_from(view: BitSlice<'a, A::Store, O>) -> Result<Self, TryFromBitSliceError> {
         let expected = A::count().saturating_mul(A::Store::BITS as usize);
         if view.len() != expected {

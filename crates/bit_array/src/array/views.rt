@@ -101,8 +101,8 @@ impl<A: BitViewSized, O: BitOrder> BitArray<A, O> {
     /// The part of the array from index `from` up to index `upto`, for writing. Requires that `from..upto` is a
     /// range of the length.
     ///
-    /// The clauses say of the part its list, head and words. What is written through it is in the array
-    /// afterwards, and the other bits stay, which no clause says: a caller whose own proof needs it calls
+    /// The clauses say the list, head and words of the part. That what is written through it lands in the
+    /// array, and that the other bits stay, no clause says. Where a caller's own proof needs it, call
     /// `fill_range`, `flip_range`, `copy_into` or `or_range`.
     ///
     /// ```text

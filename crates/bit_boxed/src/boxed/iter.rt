@@ -1,4 +1,4 @@
-//! The bits of the box, one after another: lent, and given up with the box.
+//! Iterators over the bits of the box: a borrowed one and an owned one.
 ghost use Rattle.std.specs.Prelude.{◌≡◌, ℕ, ◌+◌, ◌*◌, ◌/◌, ◌%◌, ◌<◌, ◌≤◌, [], length, slice_range, IfSome, Some};
 ghost use Rattle.std.specs.Iterator.{YieldsFirst, YieldsLast};
 ghost use Rattle.std.specs.Iterator.Runs.{YieldsInOrder, YieldsInReverse};
@@ -56,11 +56,11 @@ impl<'a, T: BitStore, O: BitOrder> IntoIterator for &'a BitBox<T, O> {
     }
 }
 
-/// The bits of a box that is given up, from both ends, each once.
+/// The bits of a box that was consumed, from both ends, each once.
 ///
 /// Its length is known, and after the first None there is no more. In contracts an iterator `r` is all its words
-/// `r.words`, the place `r.head` in their row where the bits that are left begin, and the list `r.list` of those
-/// bits.
+/// `r.words`, the index `r.head` of their row at which the bits that are left begin, and the list `r.list` of
+/// those bits.
 #[derive(Drop)]
 pub struct IntoIter<T: BitStore = usize, O: BitOrder = Lsb0> {
     inner: BitBox<T, O>,
@@ -101,8 +101,8 @@ impl<T: BitStore, O: BitOrder> IntoIter<T, O> {
     }
 
     /// The bits of these words with a head and a length. The vector is kept, and no memory is taken.
-    /// Requires that the head is in the first word, the words are exactly as many as it takes, and the bits
-    /// at most `MAX_BITS`.
+    /// Requires that the head is in the first word, that there are exactly as many words as the bits take,
+    /// and that there are at most `MAX_BITS` bits.
     pub fn from_parts(words: Vec<T>, head: usize, len: usize) -> Self
         requires in_word { head < T.BITS }
         requires few { len ≤ MAX_BITS }
@@ -139,7 +139,7 @@ impl<T: BitStore, O: BitOrder> IntoIter<T, O> {
         self.as_bitslice()
     }
 
-    /// The view of the bits that are left, for writing: what is written stands in the bits that are still to
+    /// The view of the bits that are left, for writing: what is written lands in the bits that are still to
     /// come.
     pub fn as_mut_bitslice(&mut self) -> BitSliceMut<'_, T, O>
         ensures* writes_back { sem 𝓛 (lends_left T.row O.row T.BitStore O.BitOrder self.entry (loan_of result)) }
@@ -243,7 +243,7 @@ impl<T: BitStore, O: BitOrder> IntoIterator for BitBox<T, O> {
     ghost into_iter_gives = { λ b r. (r.words ≡ b.words) × (r.head ≡ b.head) × (r.list ≡ b.list)
         × (length r.list ≤ MAX_BITS) × GivesInOrder (rest_of {X = T}) × GivesInReverse (rest_of {X = T}) };
 
-    /// The bits in order, from both ends; the box is given up, and its words are kept.
+    /// The bits in order, from both ends; the box is consumed, and its words are kept.
     fn into_iter(self) -> IntoIter<T, O> {
         IntoIter::of(self)
     }

@@ -12,8 +12,8 @@ use std::cmp::Ordering;
 use std::ops::{BitAnd, BitAndAssign, BitOr, BitOrAssign, BitXor, BitXorAssign, Index, Not};
 
 impl<T: BitStore, O: BitOrder> BitBox<T, O> {
-    /// Whether the box and a view, whose words and order may be others, have the same bits. Heads and dead
-    /// bits don't count.
+    /// Whether the box and a view, with any word type and order, have the same bits. Heads and
+    /// dead bits don't count.
     ///
     /// ```text
     /// of 01101001 and 01101001: bits.eq_bits(other) == true
@@ -36,8 +36,7 @@ impl<T: BitStore, O: BitOrder> BitBox<T, O> {
         self.as_bitslice().cmp_bits(other)
     }
 
-    /// Makes each bit into the one that `F` makes of it and of the one at its index in a view, or of false past
-    /// its end.
+    /// Combines each bit, by `F`, with the bit at its index in a view, or with false past the view's end.
     #[tactic(auto, using(bit_slice::proofs::Parts::shown_length))]
     pub(crate) fn combine<F: BitOperator, U: BitStore, P: BitOrder>(
         &mut self,
@@ -54,8 +53,8 @@ impl<T: BitStore, O: BitOrder> BitBox<T, O> {
         combine_in_vec::<F, T, O, U, P>(&mut self.words, head, len, other);
     }
 
-    /// Clears each bit that is false in a view, or that the view is too short for. No dead bit changes. Takes
-    /// no memory.
+    /// Clears each bit that is false in a view, and each past the view's end. No dead bit changes. Takes no
+    /// memory.
     ///
     /// ```text
     /// of 01101001 and 01010101: bits.and_bits(other) leaves 01000001
@@ -151,7 +150,7 @@ impl<T: BitStore, O: BitOrder> BitAndAssign for BitBox<T, O> {
         × (c.row ≡ put a.row a.head (and_of a.list b.list)) × Stayed a c
         × (IsClean T.BITS a → IsClean T.BITS c) };
 
-    /// Clears each bit that is false in the right side, or that it is too short for. No dead bit changes.
+    /// Clears each bit that is false in the right side, and each past its end. No dead bit changes.
     fn bitand_assign(&mut self, rhs: Self) {
         self.and_bits(rhs.as_bitslice());
     }

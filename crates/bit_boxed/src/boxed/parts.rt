@@ -1,4 +1,4 @@
-//! Parts of the box as views, what it begins and ends with, and its bits as a number.
+//! Parts of the box as views, its beginning and end compared, and its bits as a number.
 ghost use Rattle.std.specs.Iterator.{YieldsFirstBy, YieldsLastBy};
 ghost use Rattle.std.specs.Iterator.Runs.{EveryRun, ItemsMapTo, ItemsMapToReversed};
 ghost use Rattle.std.specs.Prelude.{◌≡◌, ◌+◌, ◌-◌, ◌<◌, ◌≤◌, ◌↔◌, ◌++◌, ◌∷◌, [], IfSome, IsTrue, IsNone, drop, length, take, ◌*◌, ◌/◌, ◌^◌};
@@ -80,8 +80,8 @@ impl<T: BitStore, O: BitOrder> BitBox<T, O> {
         self.as_bitslice().ends_with(other)
     }
 
-    /// The view of the chunk of number `k`, of `size` bits: that which `chunks(size)` gives after `k` others.
-    /// Requires that it begins before the end.
+    /// The chunk of number `k`: the view that `chunks(size)` gives after `k` others. Requires that `size` is
+    /// not 0, and that the chunk begins before the end.
     ///
     /// ```text
     /// of 01101001: bits.chunk(3, 1) shows 010
@@ -116,8 +116,8 @@ impl<T: BitStore, O: BitOrder> BitBox<T, O> {
         self.as_bitslice().chunks(size)
     }
 
-    /// Views of the parts of `size` bits side by side, from the front and from the end, as many as have that
-    /// many bits. Those that are left are the iterator's `remainder`. Requires that `size` is not 0.
+    /// Views of the parts of `size` bits side by side, from the front and from the end, as long as there are
+    /// that many bits. The bits that are left are the iterator's `remainder`. Requires that `size` is not 0.
     ///
     /// ```text
     /// of 01101001: bits.chunks_exact(3).len() == 2
@@ -158,8 +158,8 @@ impl<T: BitStore, O: BitOrder> BitBox<T, O> {
         self.as_bitslice().rchunks(size)
     }
 
-    /// Views of each `size` neighbouring bits. There are none where the box is shorter. Requires that `size` is
-    /// not 0.
+    /// Views of each run of `size` bits, one for each index at which one begins. There are none where the box
+    /// is shorter. Requires that `size` is not 0.
     ///
     /// ```text
     /// of 01101001: bits.windows(3).len() == 6
@@ -179,8 +179,8 @@ impl<T: BitStore, O: BitOrder> BitBox<T, O> {
         self.as_bitslice().windows(size)
     }
 
-    /// The number whose least significant bit is the first of the list, and whose next bits are the next of it,
-    /// whatever the order of bits in a word. Requires at most 64 bits.
+    /// The list as a number, the first bit the least significant, whatever the order of bits in a word.
+    /// Requires that the list has at most 64 bits.
     ///
     /// ```text
     /// of 01101001: bits.load_le() == 150
@@ -193,8 +193,8 @@ impl<T: BitStore, O: BitOrder> BitBox<T, O> {
         self.as_bitslice().load_le()
     }
 
-    /// The number that the bits of the list write in binary, the first the most significant, whatever the order
-    /// of bits in a word. Requires at most 64 bits.
+    /// The list as a number, the first bit the most significant, whatever the order of bits in a word. Requires
+    /// that the list has at most 64 bits.
     ///
     /// ```text
     /// of 01101001: bits.load_be() == 105

@@ -92,8 +92,8 @@ impl<T: BitStore, O: BitOrder> BitBox<T, O> {
         self.combine::<AndNot, U, P>(other);
     }
 
-    /// Writes the bits of a view, by whatever words and order, at the indices of a range, and no other bit. Takes
-    /// no memory. Requires that the range lies in the length, and is as long as the view.
+    /// Writes the bits of a view, with any word type and order, at the indices of a range, and no other bit.
+    /// Takes no memory. Requires that the range lies in the length, and is as long as the view.
     ///
     /// ```text
     /// of 01101001 and 0101: bits.copy_into(1..5, other) leaves 00101001
@@ -115,8 +115,8 @@ impl<T: BitStore, O: BitOrder> BitBox<T, O> {
         copy_into_in_vec::<T, O, R, U, P>(&mut self.words, head, len, range, source);
     }
 
-    // Makes each bit at the indices of a range into the one that `F` makes of it and of the one in a view, or of false
-    // past its end. Requires that the range lies in the length.
+    // Combines each bit at the indices of a range, by `F`, with the bit of a view for it, or with false past the
+    // view's end. Requires that the range lies in the length.
     #[tactic(auto, using(bit_slice::proofs::Parts::shown_length))]
     fn combine_range<F: BitOperator, R: RangeExt, U: BitStore, P: BitOrder>(
         &mut self,
@@ -140,7 +140,7 @@ impl<T: BitStore, O: BitOrder> BitBox<T, O> {
         combine_range_in_vec::<F, T, O, R, U, P>(&mut self.words, head, len, range, other);
     }
 
-    /// Clears each bit at the indices of a range that is false in a view, or that the view is too short for: the
+    /// Clears each bit at the indices of a range that is false in a view, and each past the view's end. The
     /// first bit of the view is for the first of the range. Takes no memory. Requires that the range lies in the
     /// length.
     ///
@@ -167,7 +167,7 @@ impl<T: BitStore, O: BitOrder> BitBox<T, O> {
         self.combine_range::<And, R, U, P>(range, other);
     }
 
-    /// Sets each bit at the indices of a range that is true in a view: the first bit of the view is for the first
+    /// Sets each bit at the indices of a range that is true in a view. The first bit of the view is for the first
     /// of the range. Takes no memory. Requires that the range lies in the length.
     ///
     /// ```text
@@ -193,7 +193,7 @@ impl<T: BitStore, O: BitOrder> BitBox<T, O> {
         self.combine_range::<Or, R, U, P>(range, other);
     }
 
-    /// Flips each bit at the indices of a range that is true in a view: the first bit of the view is for the first
+    /// Flips each bit at the indices of a range that is true in a view. The first bit of the view is for the first
     /// of the range. Takes no memory. Requires that the range lies in the length.
     ///
     /// ```text
@@ -220,7 +220,7 @@ impl<T: BitStore, O: BitOrder> BitBox<T, O> {
     }
 
     /// Writes the lowest bits of a number over the list, the least significant first. No dead bit changes. Takes
-    /// no memory. Requires at most 64 bits.
+    /// no memory. Requires that the list has at most 64 bits.
     ///
     /// ```text
     /// of 01101001: bits.store_le(5) leaves 10100000
@@ -238,7 +238,7 @@ impl<T: BitStore, O: BitOrder> BitBox<T, O> {
     }
 
     /// Writes the lowest bits of a number over the list, the most significant first. No dead bit changes. Takes
-    /// no memory. Requires at most 64 bits.
+    /// no memory. Requires that the list has at most 64 bits.
     ///
     /// ```text
     /// of 01101001: bits.store_be(5) leaves 00000101

@@ -279,8 +279,8 @@ impl<T: BitStore, O: BitOrder> BitBox<T, O> {
         move_bits_counted_in_vec::<T, O>(&mut self.words, from, to, range.end - range.start)
     }
 
-    /// Writes the bits of a view, by whatever words and order, over those of the list. No dead bit changes.
-    /// Takes no memory. Requires that the view has as many bits as the box.
+    /// Writes the bits of a view, with any word type and order, over those of the list. No dead bit
+    /// changes. Takes no memory. Requires that the view has as many bits as the box.
     ///
     /// ```text
     /// of 01101001 and 01010101: bits.clone_from_bitslice(other) leaves 01010101

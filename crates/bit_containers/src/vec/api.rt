@@ -1,4 +1,4 @@
-//! The size of the vector, its ends, and bits put in and taken out.
+//! The length of the vector, and calls that append, insert and remove single bits.
 ghost use Rattle.std.specs.Prelude.{◌≡◌, ◌≢◌, ◌+◌, ◌-◌, ◌*◌, ◌<◌, ◌≤◌, false, true, [], ◌∷◌, ◌++◌, length, min, take, insert, remove, OnOk, MatchOption, Some, slice_get, IsTrue, IsSome, ◌↔◌};
 ghost use Rattle.std.specs.List.{swap_remove};
 ghost use Rattle.bit_addressing.specs.declared.length.TheConstants.{MAX_BITS};
@@ -47,9 +47,10 @@ impl<T: BitStore, O: BitOrder> BitVec<T, O> {
         self.len == 0
     }
 
-    /// Appends a bit at the end. Where the visible words are full a word of zero comes first, and no
-    /// other dead bit changes. Returns `TooLong` exactly where the length would pass `MAX_BITS`, and
-    /// `OutOfMemory` only where it would pass the capacity. A refusal leaves the vector.
+    /// Appends a bit. Where the visible words are full, a word of zero is appended first; no other
+    /// dead bit changes. Returns `TooLong` exactly where the length would pass `MAX_BITS`, and
+    /// `OutOfMemory` only where it would pass the capacity. A refusal changes nothing but perhaps
+    /// the capacity.
     ///
     /// ```text
     /// of 011: bits.push(true)? leaves 0111
@@ -73,9 +74,8 @@ impl<T: BitStore, O: BitOrder> BitVec<T, O> {
         Ok(())
     }
 
-    /// Takes the last bit. None exactly where the vector is empty. A word that is left with no bit of the
-    /// vector is dropped, and nothing is written. Takes no memory. The bit can be put back: as many bits as
-    /// before fit, with no new memory.
+    /// Removes the last bit and returns it. None exactly where the vector is empty. A word that is left
+    /// with no bit of the list is dropped, and nothing is written. Takes no memory, and the capacity stays.
     ///
     /// ```text
     /// of 0111: bits.pop() == Some(true)
@@ -119,9 +119,9 @@ impl<T: BitStore, O: BitOrder> BitVec<T, O> {
         }
     }
 
-    /// Puts a bit before the one at `i`, or at the end where `i` is the length; the rest moves up after it,
-    /// by one move. It is refused like `push`, and a refusal leaves the vector. Requires that `i`
-    /// is at most the length. What becomes of dead bits is open.
+    /// Inserts a bit before the one at `i`, or at the end where `i` is the length; the bits from `i` on
+    /// move up, by one move. It is refused like `push`, and a refusal changes nothing but perhaps the
+    /// capacity. Requires that `i` is at most the length. What becomes of dead bits is open.
     ///
     /// ```text
     /// of 011: bits.insert(1, false)? leaves 0011
@@ -143,8 +143,8 @@ impl<T: BitStore, O: BitOrder> BitVec<T, O> {
         Ok(())
     }
 
-    /// Takes the bit at `i`; those after it move down, by one move. Takes no memory. Requires that `i` is
-    /// below the length. What becomes of dead bits is open.
+    /// Removes the bit at `i` and returns it; the bits after it move down, by one move. Takes no memory.
+    /// Requires that `i` is below the length. What becomes of dead bits is open.
     ///
     /// ```text
     /// of 011: bits.remove(1) == true
@@ -167,8 +167,8 @@ impl<T: BitStore, O: BitOrder> BitVec<T, O> {
         bit
     }
 
-    /// Takes the bit at `i`, and puts the last one in its place. Nothing moves, and no memory is taken.
-    /// Requires that `i` is below the length. What becomes of dead bits is open.
+    /// Removes the bit at `i` and returns it; the last bit takes its place. No other bit moves. Takes
+    /// no memory. Requires that `i` is below the length. What becomes of dead bits is open.
     ///
     /// ```text
     /// of 0111: bits.swap_remove(0) == false

@@ -15,7 +15,7 @@ use bit_boxed::BitBox;
 use bit_slice::BitSlice;
 use std::alloc::{AllocError, Global};
 
-/// What is made of bytes, of indices or of a text, as a vector is.
+/// Containers that are made of bytes, of indices or of a text, like a vector.
 ///
 /// ```text
 /// let b = BitBox::<u16, Lsb0>::from_text(alloc, "0110")?;
@@ -56,8 +56,8 @@ impl<T: BitStore, O: BitOrder> FromBits for BitBox<T, O> {
         Ok(v.into_boxed_bitslice()?)
     }
 
-    /// The list of `len` bits that are true exactly at these indices, from head 0 on; an index may come twice. Returns
-    /// `TooLong` exactly where `len` passes `MAX_BITS`, and takes no memory for no bit. Requires that each
+    /// The list of `len` bits that are true exactly at these indices, from head 0 on; an index may come twice.
+    /// Returns `TooLong` exactly where `len` passes `MAX_BITS`. Takes no memory where `len` is 0. Requires that each
     /// index is below `len`.
     fn from_indices(alloc: Global, len: usize, indices: &[usize]) -> Result<BitBox<T, O>, GrowError>
         requires { All (λ i. i < len) indices.now }
@@ -73,9 +73,9 @@ impl<T: BitStore, O: BitOrder> FromBits for BitBox<T, O> {
         Ok(v.into_boxed_bitslice()?)
     }
 
-    /// The bits that a text says, from head 0 on: digits alone, or what `Display` writes of a list. It returns
-    /// the place of the first wrong byte, or the text's length where it ends too early; `TooLong` only where
-    /// the text has more than `MAX_BITS` bytes. Takes memory where there is a digit.
+    /// The bits that a text says, from head 0 on: digits alone, or what `Display` writes of a list. Returns
+    /// `Wrong` with the index of the first wrong byte, or with the text's length where it ends too early, and
+    /// `TooLong` only where the text has more than `MAX_BITS` bytes. Takes memory where there is a digit.
     fn from_text(alloc: Global, text: &str) -> Result<BitBox<T, O>, ParseBitsError>
         ensures head { IfOk result (λ b. b.head ≡ 0) }
         ensures list { IfOk result (λ b. bits_said text.now ≡ Some b.list) }
@@ -94,7 +94,7 @@ impl<T: BitStore, O: BitOrder> FromBits for BitBox<T, O> {
     }
 }
 
-/// What is written as bytes.
+/// Values whose bits are written as bytes.
 ///
 /// ```text
 /// let bytes = b.to_bytes::<Msb0>(alloc)?;     // eight bits a byte, the first the most significant

@@ -9,8 +9,8 @@ use bit_addressing::{BitOrder, BitStore, GrowError, MAX_BITS, elts};
 use std::alloc::{AllocError, Global};
 
 impl<T: BitStore, O: BitOrder> BitVec<T, O> {
-    /// How many bits the vector has room for without new memory: those of the words that its memory holds,
-    /// or `usize::MAX` if they are more, and of these all from the head on.
+    /// How many bits the vector has room for without new memory: as many as the words in its memory have,
+    /// or `usize::MAX` where that is less, minus the head.
     ///
     /// ```text
     /// of 0110: bits.capacity() % 8 == 0
@@ -23,7 +23,7 @@ impl<T: BitStore, O: BitOrder> BitVec<T, O> {
         all - self.head
     }
 
-    // How many words more it takes to hold `more` bits more.
+    // How many further words it takes for `more` further bits.
     fn words_to_add(&self, more: usize) -> Result<usize, GrowError>
         ensures words { IfOk result (λ n. n
             ≡ words_for T.BITS (self.now.head + (length self.now.list + more)) - length self.now.words) }
@@ -37,9 +37,9 @@ impl<T: BitStore, O: BitOrder> BitVec<T, O> {
         Ok(wanted.saturating_sub(self.words.len()))
     }
 
-    /// Makes room for `more` bits more, and for some beyond them where memory is taken. Words and list stay.
-    /// Returns `TooLong` exactly where the length would pass `MAX_BITS`, and `OutOfMemory` only where it
-    /// would pass the capacity.
+    /// Makes room for `more` further bits, and for some beyond them where memory is taken. Words and list
+    /// stay. Returns `TooLong` exactly where the length would pass `MAX_BITS`, and `OutOfMemory` only where
+    /// it would pass the capacity.
     ///
     /// ```text
     /// of 0110: bits.reserve(100)? leaves 0110
@@ -56,7 +56,7 @@ impl<T: BitStore, O: BitOrder> BitVec<T, O> {
         Ok(())
     }
 
-    /// Makes room for `more` bits more, and takes memory for no word beyond them. Otherwise as `reserve`.
+    /// Like `reserve`, but takes memory for no word beyond those that the bits take.
     ///
     /// ```text
     /// of 0110: bits.reserve_exact(100)? leaves 0110

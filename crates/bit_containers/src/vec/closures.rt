@@ -10,10 +10,10 @@ use crate::vec::collect::with_next;
 use bit_addressing::{BitOrder, BitStore, GrowError, write_chunk_in_vec};
 
 impl<T: BitStore, O: BitOrder> BitVec<T, O> {
-    /// Keeps the first `n` bits, or fills the list up to `n` with what `f` returns at each new index: memory comes
-    /// first, and then the calls, once for each index and in their order. Where it grows it is refused like `push`,
-    /// and a refusal leaves the vector, with no call made. Where it shrinks it is like `truncate`, and makes no
-    /// call.
+    /// Keeps the first `n` bits, or appends what `f` returns at each new index until there are `n`. Memory is taken
+    /// first; then `f` is called once for each new index, in order. Where it grows it is refused like `push`, and a
+    /// refusal makes no call and changes nothing but perhaps the capacity. Where it shrinks it is like `truncate`,
+    /// and makes no call. Requires that `f` can always be called.
     ///
     /// ```text
     /// of 0110: bits.resize_with(6, |i| i == 5)? leaves 011001
@@ -77,7 +77,7 @@ impl<T: BitStore, O: BitOrder> BitVec<T, O> {
         Ok(())
     }
 
-    // Like `push`, which finds room.
+    // Like `push`, where there is room.
     fn push_reserved(&mut self, bit: bool)
         requires room { length self.old.list < self.old.capacity }
         requires few { length self.old.list < MAX_BITS }
@@ -90,7 +90,7 @@ impl<T: BitStore, O: BitOrder> BitVec<T, O> {
 
     /// Keeps the bits at which `f` returns true, in order. `f` is called once for each bit, with its index and the
     /// bit, by ascending index. The bits that stay are gathered in words, and each word is stored once. Takes no
-    /// memory. What becomes of dead bits is open.
+    /// memory. What becomes of dead bits is open. Requires that `f` can always be called.
     ///
     /// ```text
     /// of 0110: bits.retain(|i, bit| *bit || i == 0) leaves 011
@@ -145,8 +145,9 @@ impl<T: BitStore, O: BitOrder> BitVec<T, O> {
         write_chunk_in_vec::<T, O>(&mut self.words, from, n, number);
     }
 
-    // One bit more is kept, as item `count` of those that stay: the number has those after the last multiple of 64,
-    // and where it has 64 they are written. Returns the number then. Requires that `count` is below the length.
+    // Keeps one bit more, as item `count` of those that stay. The number has the kept bits that are not written
+    // yet; where they are 64 they are written. Returns the number after that. Requires that `count` is below the
+    // length.
     fn keep(&mut self, count: usize, number: u64, bit: bool) -> u64
         requires { count < length self.old.list }
         ensures front { take (count + 1 - (count + 1) % 64) self.new.list

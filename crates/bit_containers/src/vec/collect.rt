@@ -1,4 +1,4 @@
-//! Bits and words that an iterator gives.
+//! Growth by the bits or words that an iterator gives.
 ghost use Rattle.std.specs.Prelude.{◌≡◌, ℕ, ◌+◌, ◌*◌, ◌<◌, ◌≤◌, Bool, false, List, [], ◌∷◌, ◌++◌, length, Err, IfOk, IsOk, OnOk, OnErr};
 ghost use Rattle.std.specs.Iterator.{IsFiniteIterable};
 ghost use Rattle.std.specs.Iterator.Runs.{EachRunFrom};
@@ -13,7 +13,8 @@ use crate::vec::BitVec;
 use bit_addressing::{BitOrder, BitStore, GrowError, MAX_BITS};
 use std::alloc::Global;
 
-/// The number with a bit written at place `got`: one bit more is gathered in it. Requires that `got` is below 64.
+/// The number with a bit written at place `got`, so that it has one gathered bit more. Requires that `got` is
+/// below 64.
 #[inline(always)]
 pub(crate) fn with_next(number: u64, got: u8, bit: bool) -> u64
     requires { got < 64 }
@@ -22,7 +23,7 @@ pub(crate) fn with_next(number: u64, got: u8, bit: bool) -> u64
     number.with_bit(got, bit)
 }
 
-// Like `with_next`, of a number with no bit from place `got` on: nothing has to be cleared, which takes half as long
+// Like `with_next`, of a number with no bit from place `got` on. Nothing has to be cleared, so it takes half as long
 // (docs/SPEED.md, collect).
 #[inline(always)]
 fn with_last(number: u64, got: u8, bit: bool) -> u64
@@ -35,14 +36,14 @@ fn with_last(number: u64, got: u8, bit: bool) -> u64
 }
 
 impl<T: BitStore, O: BitOrder> BitVec<T, O> {
-    /// Appends what an iterator gives before its first None, a word at a time, and pulls nothing after that None.
+    /// Appends what an iterator gives before its first None, 64 bits at a time, and pulls nothing after that None.
     /// Returns `TooLong` at the first bit with which the length would pass `MAX_BITS`, and `OutOfMemory` only where
-    /// the length would pass the capacity and not `MAX_BITS`; then it pulls no more, and leaves the list. What was
-    /// pulled is gone.
+    /// the length would pass the capacity and not `MAX_BITS`. A refusal pulls no more, and leaves the list. Items
+    /// that were pulled are lost. Requires that the iterator ends.
     ///
-    /// The list is known of every source whose runs are: a `Vec<bool>`, an `Option<bool>`, the bits of another
-    /// vector by `into_iter` or `iter`, mapped or not. For a view or for words there are calls that copy by
-    /// whole words.
+    /// A caller's proof knows the new list where it knows what the source gives, as of a `Vec<bool>`, an
+    /// `Option<bool>`, or the bits of another vector by `into_iter` or `iter`, mapped or not. Views and words
+    /// have calls of their own, which copy whole words.
     ///
     /// ```text
     /// of 01: bits.extend(Some(true))? leaves 011
@@ -109,7 +110,8 @@ impl<T: BitStore, O: BitOrder> BitVec<T, O> {
         Ok(())
     }
 
-    // Does nothing: the row is that of the words for head and list, and the capacity has room for the list.
+    // Does nothing: its clauses say that the row has exactly the words that head and list take, and that
+    // the capacity has room for the list.
     pub(crate) fn in_words(&self)
         ensures size { length self.now.row ≡ T.BITS * words_for T.BITS (self.now.head + length self.now.list) }
         ensures few { length self.now.list ≤ MAX_BITS }
@@ -130,9 +132,9 @@ impl<T: BitStore, O: BitOrder> BitVec<T, O> {
         (MAX_BITS - self.len()).min(64) as u8
     }
 
-    // One bit more after the `got` lowest bits of a number, which are to be appended. Where they are as many as
-    // may be gathered, they are appended first. Returns the number, how many of its bits are to be appended
-    // then, and how many may be gathered.
+    // Gathers one bit more after the `got` lowest bits of a number, which are to be appended. Where they are as
+    // many as may be gathered, they are appended first. Returns the number after that, how many of its bits are
+    // to be appended, and how many may be gathered.
     #[inline(always)]
     pub(crate) fn gather(
         &mut self,
@@ -166,7 +168,7 @@ impl<T: BitStore, O: BitOrder> BitVec<T, O> {
     }
 
     /// The bits that an iterator gives before its first None, from head 0 on: the words are canonical. It is refused
-    /// like `extend`.
+    /// like `extend`. Requires that the iterator ends.
     ///
     /// ```text
     /// BitVec::<u8, Lsb0>::from_bits(alloc, Some(true))? holds 1
@@ -196,8 +198,8 @@ impl<T: BitStore, O: BitOrder> BitVec<T, O> {
     }
 
     /// Appends all bits of the words that an iterator gives before its first None, and pulls nothing after that
-    /// None. Returns `TooLong` at the first word with which the length would pass `MAX_BITS`; otherwise as
-    /// `extend`.
+    /// None. Returns `TooLong` at the first word with which the length would pass `MAX_BITS`; otherwise it is
+    /// refused like `extend`. Requires that the iterator ends.
     ///
     /// ```text
     /// of 01: bits.extend_words(Some(3))? leaves 0111000000
@@ -267,6 +269,7 @@ impl<T: BitStore, O: BitOrder> BitVec<T, O> {
 
     /// The words that an iterator gives before its first None, as they are: head 0. Returns `TooLong` at the
     /// first word with which the length would pass `MAX_BITS`; otherwise it is refused like `from_bits`.
+    /// Requires that the iterator ends.
     ///
     /// ```text
     /// BitVec::<u8, Lsb0>::from_words(alloc, Some(3))? holds 11000000

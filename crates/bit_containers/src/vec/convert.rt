@@ -35,7 +35,8 @@ impl<T: BitStore, O: BitOrder> BitVec<T, O> {
     }
 
     // These words with a head and a length. The vector is kept, and no memory is taken. Requires that the head
-    // is in the first word, the words are exactly as many as it takes, and the bits at most `MAX_BITS`.
+    // is in the first word, that there are exactly as many words as the bits take, and that there are at most
+    // `MAX_BITS` bits.
     fn of_parts(words: Vec<T>, head: usize, len: usize) -> Self
         requires in_word { head < T.BITS }
         requires few { len ≤ MAX_BITS }
@@ -53,7 +54,7 @@ impl<T: BitStore, O: BitOrder> BitVec<T, O> {
         }
     }
 
-    /// The box of the same words, head and list. Memory that no word takes is given back, and it always
+    /// The box of the same words, head and list. Gives back memory that no word takes. It always
     /// succeeds.
     ///
     /// ```text
@@ -85,7 +86,7 @@ impl<T: BitStore, O: BitOrder> BitVec<T, O> {
     }
 }
 
-/// What becomes a vector of its bits.
+/// Values that become a vector of their bits.
 ///
 /// ```text
 /// let b = v.into_boxed_bitslice()?;

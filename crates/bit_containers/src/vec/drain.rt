@@ -1,4 +1,4 @@
-//! A range of bits taken out of a vector.
+//! Removal of a range of bits, which an iterator gives.
 ghost use Rattle.std.specs.Prelude.{◌≡◌, ◌+◌, ◌-◌, ◌≤◌, [], length, slice_range};
 ghost use Rattle.std.specs.Iterator.{at_most};
 ghost use Rattle.std.specs.Iterator.Runs.{YieldsInOrder, YieldsInReverse};
@@ -14,8 +14,8 @@ use std::iter::FusedIterator;
 
 /// The bits of a range of a vector, from both ends, each once, and then None for good.
 ///
-/// Its end takes the whole range out of the vector, also where some of it was never asked for: the bits after
-/// the range move down by one move of whole words. No call takes memory.
+/// When the iterator ends, the whole range is removed from the vector, also the bits that were not taken: the
+/// bits after the range move down by one move. No call takes memory.
 ///
 /// ```text
 /// let first = v.drain(1..4).next();     // afterwards v has lost three bits
@@ -108,7 +108,8 @@ impl<'a, T: BitStore, O: BitOrder> FusedIterator for Drain<'a, T, O> {}
 impl<'a, T: BitStore, O: BitOrder> Drain<'a, T, O> {
     ghost use Rattle.bit_containers.specs.Drain.{drain_rest, DrainCanStep};
 
-    /// The bits that are still to come.
+    /// The bits that are still to come. Requires that the range still lies in the vector, which
+    /// `drain` ensures and each step keeps.
     pub fn as_bitslice(&self) -> BitSlice<'_, T, O>
         requires { DrainCanStep self.now }
         ensures { list_of result ≡ drain_rest self.now }
@@ -148,7 +149,7 @@ impl<T: BitStore, O: BitOrder> BitVec<T, O> {
         self[i]
     }
 
-    // Takes the bits from `start` up to `end` out, by one move of what follows them.
+    // Removes the bits from `start` up to `end`, by one move of what follows them.
     #[tactic(auto, using(bit_slice::proofs::Parts::shown_length))]
     pub(crate) fn remove_range(&mut self, start: usize, end: usize)
         requires ordered { start ≤ end }
@@ -177,8 +178,8 @@ impl<T: BitStore, O: BitOrder> BitVec<T, O> {
         }
     }
 
-    /// Takes the bits at a range of indices out: the iterator gives them, and when it ends they are gone, whatever it
-    /// gave. What becomes of dead bits is open. Requires that the range lies in the length.
+    /// Removes the bits at a range of indices: the iterator gives them, and when it ends all of them are gone,
+    /// however many it gave. What becomes of dead bits is open. Requires that the range lies in the length.
     ///
     /// ```text
     /// of 01101001: bits.drain(1..3) gives true, true

@@ -1,4 +1,4 @@
-//! The words written whole, and the length set inside them.
+//! Calls that write all words, and that set the length within them.
 ghost use Rattle.std.specs.Prelude.{◌≡◌, ◌+◌, ◌*◌, ◌≤◌, length, replicate, slice_range, vec_capacity};
 ghost use Rattle.bit_addressing.specs.declared.length.TheConstants.{MAX_BITS};
 ghost use Rattle.bit_addressing.specs.Typed.{row};
@@ -7,7 +7,7 @@ ghost use Rattle.bit_containers.specs.BitVec.{Stayed, Shrank};
 use crate::vec::BitVec;
 use bit_addressing::{BitOrder, BitStore, cut_words_in_vec};
 
-/// Writes one word over each of these.
+/// Writes `word` over each of the words.
 fn set_words<T: BitStore>(words: &mut [T], word: T)
     ensures { words.new ≡ replicate (length words.old) word }
 {
@@ -26,7 +26,7 @@ fn set_words_in_vec<T: BitStore>(words: &mut Vec<T>, word: T)
 }
 
 impl<T: BitStore, O: BitOrder> BitVec<T, O> {
-    /// Makes every visible word `word`: live bits are written too, and dead ones. Takes no memory.
+    /// Makes every visible word `word`, bits of the list and dead bits alike. Takes no memory.
     ///
     /// ```text
     /// of 0110: bits.set_elements(3) leaves 1100
@@ -43,9 +43,9 @@ impl<T: BitStore, O: BitOrder> BitVec<T, O> {
         set_words_in_vec(&mut self.words, word);
     }
 
-    /// Makes the length `n`: bits of the visible words that become live are those that stood there, and nothing
-    /// is written. Takes no memory. Requires that the visible words have `n` bits from the head on, and they
-    /// are at most `MAX_BITS`.
+    /// Makes the length `n`, and writes nothing: where the list grows, it gets the dead bits after it as they
+    /// are. Takes no memory. Requires that the visible words have `n` bits from the head on, and that `n` is
+    /// at most `MAX_BITS`.
     ///
     /// ```text
     /// of 0110: bits.set_len(2) leaves 01

@@ -14,9 +14,10 @@ use bit_addressing::{
 use bit_slice::BitSlice;
 
 impl<T: BitStore, O: BitOrder> BitVec<T, O> {
-    /// Appends the bits of a view at the end, by whole words; the view may be by other words and another order. Words
-    /// of zero come first, as many as the visible ones lack. Returns `TooLong` exactly where the length would pass
-    /// `MAX_BITS`, and `OutOfMemory` only where it would pass the capacity. A refusal leaves the vector.
+    /// Appends the bits of a view, with any word type and order, by whole words. Words of zero are appended
+    /// first, as many as the bits take beside the visible ones. Returns `TooLong` exactly where the length would pass
+    /// `MAX_BITS`, and `OutOfMemory` only where it would pass the capacity. A refusal changes nothing but perhaps the
+    /// capacity.
     ///
     /// ```text
     /// of 01 and 10: bits.extend_from_bitslice(other)? leaves 0110
@@ -63,7 +64,7 @@ impl<T: BitStore, O: BitOrder> BitVec<T, O> {
     }
 
     /// Appends the list of another vector, of any word type and order, by whole words, and empties that
-    /// one. It is refused like `extend_from_bitslice`, and a refusal leaves both.
+    /// one. It is refused like `extend_from_bitslice`, and a refusal leaves both vectors.
     ///
     /// ```text
     /// of 01 and 101: bits.append(&mut others)? leaves 01101
@@ -86,8 +87,9 @@ impl<T: BitStore, O: BitOrder> BitVec<T, O> {
         Ok(())
     }
 
-    /// Keeps the first `n` bits, or fills the list up to `n` with `bit`, by whole words. Where it grows it is
-    /// refused like `push`, and a refusal leaves the vector. Where it shrinks it is like `truncate`.
+    /// Keeps the first `n` bits, or appends `bit` until there are `n`, by whole words. Where it grows it is
+    /// refused like `push`, and a refusal changes nothing but perhaps the capacity. Where it shrinks it is
+    /// like `truncate`.
     ///
     /// ```text
     /// of 0110: bits.resize(6, true)? leaves 011011
@@ -145,8 +147,8 @@ impl<T: BitStore, O: BitOrder> BitVec<T, O> {
         Ok(())
     }
 
-    /// Appends the bits at a range of indices once more, by one move of whole words. It is refused
-    /// like `extend_from_bitslice`. Requires that the range lies in the length.
+    /// Appends the bits at a range of indices once more, by one move. It is refused like
+    /// `extend_from_bitslice`. Requires that the range lies in the length.
     ///
     /// ```text
     /// of 0110: bits.extend_from_within(1..3)? leaves 011011
@@ -177,7 +179,7 @@ impl<T: BitStore, O: BitOrder> BitVec<T, O> {
         Ok(())
     }
 
-    /// Appends the `n` lowest bits of a number, that of place 0 first. It is refused like
+    /// Appends the `n` lowest bits of a number, the one at place 0 first. It is refused like
     /// `extend_from_bitslice`. Requires that `n` is at most 64.
     #[tactic(auto, using(bit_slice::proofs::Parts::shown_length))]
     pub(crate) fn extend_from_number(&mut self, number: u64, n: u8) -> Result<(), GrowError>

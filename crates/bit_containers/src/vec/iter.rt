@@ -1,4 +1,4 @@
-//! The bits of the vector, one after another: lent, and given up with the vector.
+//! Iterators over the bits of the vector: a borrowed one and an owned one.
 ghost use Rattle.std.specs.Prelude.{◌≡◌, ◌≤◌, length};
 ghost use Rattle.std.specs.Iterator.{YieldsFirst, YieldsLast};
 ghost use Rattle.std.specs.Iterator.Runs.{YieldsInOrder, YieldsInReverse};
@@ -54,7 +54,7 @@ impl<T: BitStore, O: BitOrder> IntoIterator for BitVec<T, O> {
         × (length r.list ≤ MAX_BITS) × GivesInOrder (rest_owned {X = T})
         × GivesInReverse (rest_owned {X = T}) };
 
-    /// The bits in order, from both ends; the vector is given up, and its words are kept. Takes no memory.
+    /// The bits in order, from both ends; the vector is consumed, and its words are kept. Takes no memory.
     fn into_iter(self) -> IntoIter<T, O> {
         IntoIter::from_parts(self.words, self.head, self.len)
     }

@@ -13,9 +13,9 @@ use bit_slice::BitSlice;
 use std::alloc::{AllocError, Global};
 
 impl<T: BitStore, O: BitOrder> BitVec<T, O> {
-    /// All bits of these bytes, each byte in the order `P`, from head 0 on, by whole words: eight bits a byte,
-    /// whatever words the vector has. Returns `TooLong` exactly where they pass `MAX_BITS`. Takes memory where
-    /// there is a byte.
+    /// All bits of these bytes, each byte in the order `P`, from head 0 on, by whole words: eight bits for
+    /// each byte, whatever words the vector has. Returns `TooLong` exactly where they pass `MAX_BITS`. Takes
+    /// memory where there is a byte.
     ///
     /// ```text
     /// BitVec::<u16, Lsb0>::from_bytes::<Msb0>(alloc, &[0xa0])?     // 1, 0, 1, 0, 0, 0, 0, 0
@@ -51,8 +51,8 @@ impl<T: BitStore, O: BitOrder> BitVec<T, O> {
         bytes_of::<P, T, O>(self.as_bitslice(), alloc)
     }
 
-    /// The list of `len` bits that are true exactly at these indices, from head 0 on; an index may come twice. Returns
-    /// `TooLong` exactly where `len` passes `MAX_BITS`, and takes no memory for no bit. Requires that each
+    /// The list of `len` bits that are true exactly at these indices, from head 0 on; an index may come twice.
+    /// Returns `TooLong` exactly where `len` passes `MAX_BITS`. Takes no memory where `len` is 0. Requires that each
     /// index is below `len`.
     ///
     /// ```text

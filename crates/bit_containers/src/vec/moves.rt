@@ -1,4 +1,4 @@
-//! The bits of the vector in another order, reversed, rotated and shifted, and combined with others of it.
+//! The bits of the vector reversed, rotated and shifted, and combined with other bits of the same list.
 ghost use Rattle.std.specs.Prelude.{◌≡◌, ℕ, ◌+◌, ◌-◌, ◌<◌, ◌≤◌, ◌++◌, Some, drop, false, length, replicate, reverse, slice_get, take};
 ghost use Rattle.bit_addressing.specs.Range.{LiesIn};
 ghost use Rattle.bit_addressing.specs.Row.{put};
@@ -78,8 +78,8 @@ impl<T: BitStore, O: BitOrder> BitVec<T, O> {
         rotate_in_vec::<T, O>(&mut self.words, head, len, len - by);
     }
 
-    /// Moves each bit `by` indices towards the front: the first `by` go, and the last `by` are false. No dead bit
-    /// changes. Takes no memory. Requires that `by` is at most the length.
+    /// Moves each bit by `by` indices towards the front. The first `by` bits are dropped, and the last `by`
+    /// become false. No dead bit changes. Takes no memory. Requires that `by` is at most the length.
     ///
     /// ```text
     /// of 01101001: bits.shift_left(2) leaves 10100100
@@ -100,8 +100,8 @@ impl<T: BitStore, O: BitOrder> BitVec<T, O> {
         shift_left_in_vec::<T, O>(&mut self.words, head, len, by);
     }
 
-    /// Moves each bit `by` indices towards the end: the last `by` go, and the first `by` are false. No dead bit
-    /// changes. Takes no memory. Requires that `by` is at most the length.
+    /// Moves each bit by `by` indices towards the end. The last `by` bits are dropped, and the first `by`
+    /// become false. No dead bit changes. Takes no memory. Requires that `by` is at most the length.
     ///
     /// ```text
     /// of 01101001: bits.shift_right(2) leaves 00011010
@@ -123,9 +123,8 @@ impl<T: BitStore, O: BitOrder> BitVec<T, O> {
         shift_right_in_vec::<T, O>(&mut self.words, head, len, by);
     }
 
-    // Makes each bit from `dest` on into the one that `F` makes of it and of the one at its index of a range,
-    // as if the range was read before any bit is written. Requires that the range lies in the length, and as
-    // many bits from `dest` on.
+    // Combines each bit at `dest + k`, by `F`, with bit `k` of a range, as if the range was read before any
+    // bit is written. Requires that the range lies in the length, and that its bits have room from `dest` on.
     #[tactic(auto, using(bit_slice::proofs::Parts::shown_length))]
     fn combine_within<F: BitOperator, R: RangeExt>(&mut self, range: R, dest: usize)
         requires lies { LiesIn (R.start_of range) (R.end_of range (length self.old.list)) (length self.old.list) }
@@ -144,9 +143,9 @@ impl<T: BitStore, O: BitOrder> BitVec<T, O> {
         combine_within_in_vec::<F, T, O, R>(&mut self.words, head, len, range, dest);
     }
 
-    /// Clears each of the bits from `dest` on that is false at its index of a range, as if the range was
-    /// read before any bit is written. The two may overlap. Takes no memory. Requires that the range lies in the
-    /// length, and as many bits from `dest` on.
+    /// Clears each bit at `dest + k` where bit `k` of a range is false, as if the range was read before any bit
+    /// is written. The two runs may overlap. Takes no memory. Requires that the range lies in the length, and
+    /// that its bits have room from `dest` on.
     ///
     /// ```text
     /// of 01101001: bits.and_within(4..8, 0) leaves 00001001
@@ -167,9 +166,9 @@ impl<T: BitStore, O: BitOrder> BitVec<T, O> {
         self.combine_within::<And, R>(range, dest);
     }
 
-    /// Sets each of the bits from `dest` on that is true at its index of a range, as if the range was
-    /// read before any bit is written. The two may overlap. Takes no memory. Requires that the range lies in the
-    /// length, and as many bits from `dest` on.
+    /// Sets each bit at `dest + k` where bit `k` of a range is true, as if the range was read before any bit is
+    /// written. The two runs may overlap. Takes no memory. Requires that the range lies in the length, and that
+    /// its bits have room from `dest` on.
     ///
     /// ```text
     /// of 01101001: bits.or_within(4..8, 0) leaves 11111001
@@ -190,9 +189,9 @@ impl<T: BitStore, O: BitOrder> BitVec<T, O> {
         self.combine_within::<Or, R>(range, dest);
     }
 
-    /// Flips each of the bits from `dest` on that is true at its index of a range, as if the range was
-    /// read before any bit is written. The two may overlap. Takes no memory. Requires that the range lies in the
-    /// length, and as many bits from `dest` on.
+    /// Flips each bit at `dest + k` where bit `k` of a range is true, as if the range was read before any bit is
+    /// written. The two runs may overlap. Takes no memory. Requires that the range lies in the length, and that
+    /// its bits have room from `dest` on.
     ///
     /// ```text
     /// of 01101001: bits.xor_within(4..8, 0) leaves 11111001

@@ -12,7 +12,7 @@ use bit_addressing::{
 
 impl<T: BitStore, O: BitOrder> BitVec<T, O> {
     /// Returns the number that the `n` bits from `at` on write in binary, the most significant digit first.
-    /// Each word is read once. Requires that `n` is at most 64 and that the bits lie in the length.
+    /// Requires that `n` is at most 64 and that the bits lie in the length.
     ///
     /// ```text
     /// of the bits 0, 1, 1, 0:  v.read_binary(1, 3) == 6
@@ -28,9 +28,9 @@ impl<T: BitStore, O: BitOrder> BitVec<T, O> {
         read_binary::<T, O>(self.words.as_slice(), self.head + at, n)
     }
 
-    /// Writes a number in binary over the `n` bits from `at` on, the most significant digit first, and changes
-    /// no other bit; digits above the `n` lowest are left out. Takes no memory. Requires that `n` is at most 64
-    /// and that the bits lie in the length.
+    /// Writes the `n` lowest binary digits of a number over the `n` bits from `at` on, the most significant
+    /// first, and changes no other bit. Takes no memory. Requires that `n` is at most 64 and that the bits lie
+    /// in the length.
     ///
     /// ```text
     /// of 0000: bits.write_binary(1, 3, 5) leaves 0101
@@ -51,9 +51,9 @@ impl<T: BitStore, O: BitOrder> BitVec<T, O> {
         write_binary_in_vec::<T, O>(&mut self.words, self.head + at, n, number);
     }
 
-    /// Appends a number in binary by `n` digits, the most significant first; digits above the `n` lowest are
-    /// left out. Returns `TooLong` exactly where the length would pass `MAX_BITS`, and `OutOfMemory` only where
-    /// it would pass the capacity; the vector is as it was then. Requires that `n` is at most 64.
+    /// Appends the `n` lowest binary digits of a number, the most significant first. Returns `TooLong` exactly
+    /// where the length would pass `MAX_BITS`, and `OutOfMemory` only where it would pass the capacity. A
+    /// refusal changes nothing but perhaps the capacity. Requires that `n` is at most 64.
     ///
     /// ```text
     /// of 01: bits.push_binary(3, 5)? leaves 01101

@@ -13,8 +13,8 @@ use std::cmp::Ordering;
 use std::ops::{BitAnd, BitAndAssign, BitOr, BitOrAssign, BitXor, BitXorAssign, Index, Not};
 
 impl<T: BitStore, O: BitOrder> BitVec<T, O> {
-    /// Whether the vector and a view, whose words and order may be others, have the same bits. Heads and dead
-    /// bits don't count.
+    /// Whether the vector and a view, with any word type and order, have the same bits. Heads and
+    /// dead bits don't count.
     ///
     /// ```text
     /// of 01101001 and 01101001: bits.eq_bits(other) == true
@@ -37,8 +37,7 @@ impl<T: BitStore, O: BitOrder> BitVec<T, O> {
         self.as_bitslice().cmp_bits(other)
     }
 
-    /// Makes each bit into the one that `F` makes of it and of the one at its index in a view, or of false past
-    /// its end.
+    /// Combines each bit, by `F`, with the bit at its index in a view, or with false past the view's end.
     #[tactic(auto, using(bit_slice::proofs::Parts::shown_length))]
     pub(crate) fn combine<F: BitOperator, U: BitStore, P: BitOrder>(
         &mut self,
@@ -55,8 +54,8 @@ impl<T: BitStore, O: BitOrder> BitVec<T, O> {
         combine_in_vec::<F, T, O, U, P>(&mut self.words, head, len, other);
     }
 
-    /// Clears each bit that is false in a view, or that the view is too short for. No dead bit changes. Takes
-    /// no memory.
+    /// Clears each bit that is false in a view, and each past the view's end. No dead bit changes. Takes no
+    /// memory.
     ///
     /// ```text
     /// of 01101001 and 01010101: bits.and_bits(other) leaves 01000001
@@ -71,7 +70,7 @@ impl<T: BitStore, O: BitOrder> BitVec<T, O> {
         self.combine::<And, U, P>(other);
     }
 
-    /// Sets each bit that is true in a view; what the view has after the length doesn't count. No dead bit
+    /// Sets each bit that is true in a view; bits of the view past the length don't count. No dead bit
     /// changes. Takes no memory.
     ///
     /// ```text
@@ -87,7 +86,7 @@ impl<T: BitStore, O: BitOrder> BitVec<T, O> {
         self.combine::<Or, U, P>(other);
     }
 
-    /// Flips each bit that is true in a view; what the view has after the length doesn't count. No dead bit
+    /// Flips each bit that is true in a view; bits of the view past the length don't count. No dead bit
     /// changes. Takes no memory.
     ///
     /// ```text
@@ -103,7 +102,7 @@ impl<T: BitStore, O: BitOrder> BitVec<T, O> {
         self.combine::<Xor, U, P>(other);
     }
 
-    // Appends false up to `n` bits where there are fewer.
+    // Appends false until there are `n` bits.
     #[tactic(auto, using(crate::proofs::Making::not_filled))]
     fn fill_up(&mut self, n: usize) -> Result<(), GrowError>
         ensures list { OnOk result (self.new.list ≡ filled_up self.old.list n) }
@@ -124,8 +123,8 @@ impl<T: BitStore, O: BitOrder> BitVec<T, O> {
         Ok(())
     }
 
-    // Makes each bit into the one that `F` makes of it and of the one at its index in a view. The shorter side
-    // counts as filled up with false, and the vector becomes as long as the longer one.
+    // Combines each bit, by `F`, with the bit at its index in a view. The shorter side counts as filled up
+    // with false, and the vector becomes as long as the longer one.
     fn combine_growing<F: BitOperator, U: BitStore, P: BitOrder>(
         &mut self,
         other: BitSlice<'_, U, P>,
@@ -150,9 +149,9 @@ impl<T: BitStore, O: BitOrder> BitVec<T, O> {
     }
 
     /// Sets each bit that is true in a view, which may be longer: the vector becomes as long as the longer of
-    /// both, and the shorter counts as filled up with false. It returns `TooLong` exactly where the view has
-    /// more than `MAX_BITS` bits, and `OutOfMemory` only where it has more than the capacity; a refusal leaves
-    /// the vector. Where the view is not longer it takes no memory and always succeeds.
+    /// both, and the shorter counts as filled up with false. Where the view is not longer, it takes no memory
+    /// and always succeeds. It is refused like `resize` to the view's length, and a refusal changes nothing
+    /// but perhaps the capacity.
     ///
     /// ```text
     /// of the bits 1, 0 and a view of 0, 0, 0, 1:  v.or_growing(view)?     // 1, 0, 0, 1
@@ -179,8 +178,7 @@ impl<T: BitStore, O: BitOrder> BitVec<T, O> {
     }
 
     /// Flips each bit that is true in a view, which may be longer: the vector becomes as long as the longer of
-    /// both, and the shorter counts as filled up with false. It is refused like `or_growing`, and takes memory
-    /// where that does.
+    /// both, and the shorter counts as filled up with false. It takes memory and is refused like `or_growing`.
     ///
     /// ```text
     /// of the bits 1, 1 and a view of 1, 0, 1:  v.xor_growing(view)?      // 0, 1, 1
@@ -260,7 +258,7 @@ impl<T: BitStore, O: BitOrder> BitAndAssign for BitVec<T, O> {
         × (c.row ≡ put a.row a.head (and_of a.list b.list)) × Stayed a c
         × (IsClean T.BITS a → IsClean T.BITS c) };
 
-    /// Clears each bit that is false in the right side, or that it is too short for. No dead bit changes.
+    /// Clears each bit that is false in the right side, and each past its end. No dead bit changes.
     fn bitand_assign(&mut self, rhs: Self) {
         self.and_bits(rhs.as_bitslice());
     }

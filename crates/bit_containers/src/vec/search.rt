@@ -1,4 +1,5 @@
-//! Where bits of the vector stand: the first, the last, the next, all of them, and those of a view.
+//! Searches of the vector: the first, the last and the next bit of a kind, all of them, and the
+//! bits of a view.
 ghost use Rattle.std.specs.Iterator.{YieldsFirst, YieldsLast};
 ghost use Rattle.std.specs.Iterator.Runs.{YieldsInOrder, YieldsInReverse};
 ghost use Rattle.std.specs.List.{list_any, list_all, position, prefix_len, suffix_len, All};
@@ -210,7 +211,7 @@ impl<T: BitStore, O: BitOrder> BitVec<T, O> {
         self.as_bitslice().some()
     }
 
-    /// The indices of the bits that are true, ascending, from both ends. A step reads 64 bits at a time.
+    /// The indices of the bits that are true, ascending, from both ends. Bits are read 64 at a time.
     ///
     /// ```text
     /// of 01101001: bits.iter_ones() gives 1, 2, 4, 7
@@ -229,7 +230,7 @@ impl<T: BitStore, O: BitOrder> BitVec<T, O> {
         self.as_bitslice().iter_ones()
     }
 
-    /// The indices of the bits that are false, ascending, from both ends. A step reads 64 bits at a time.
+    /// The indices of the bits that are false, ascending, from both ends. Each step is a search.
     ///
     /// ```text
     /// of 01101001: bits.iter_zeros() gives 0, 3, 5, 6
@@ -248,8 +249,8 @@ impl<T: BitStore, O: BitOrder> BitVec<T, O> {
         self.as_bitslice().iter_zeros()
     }
 
-    /// The first index from which on the bits of `other` stand, of any word type and order. None exactly where
-    /// they stand nowhere. Each index is tried, 64 bits at a time, up to the first that differs.
+    /// The first index at which the bits of `other`, of any word type and order, begin in the list. None
+    /// exactly where they begin nowhere. Each index is tried in turn.
     ///
     /// ```text
     /// of 01101001 and 001: bits.find(other) == Some(5)
@@ -266,7 +267,7 @@ impl<T: BitStore, O: BitOrder> BitVec<T, O> {
         self.as_bitslice().find(other)
     }
 
-    /// Whether the bits of `other` stand somewhere in the vector.
+    /// Whether the bits of `other` begin somewhere in the vector.
     ///
     /// ```text
     /// of 01101001 and 001: bits.contains(other) == true

@@ -9,8 +9,8 @@ use bit_addressing::{BitOrder, BitStore};
 use bit_slice::BitSlice;
 
 impl<T: BitStore, O: BitOrder> BitVec<T, O> {
-    /// Whether each index that is true is true in `other`, 64 at a time. An index that `other` is too short for
-    /// is false there.
+    /// Whether each index that is true is true in `other`. An index past the end of `other` counts as false
+    /// there.
     ///
     /// ```text
     /// of 01101001 and 01101111: bits.is_subset(other) == true
@@ -25,7 +25,7 @@ impl<T: BitStore, O: BitOrder> BitVec<T, O> {
         self.as_bitslice().is_subset(other)
     }
 
-    /// Whether each index that is true in `other` is true, 64 at a time.
+    /// Whether each index that is true in `other` is true.
     ///
     /// ```text
     /// of 01101001 and 01000001: bits.is_superset(other) == true
@@ -40,7 +40,7 @@ impl<T: BitStore, O: BitOrder> BitVec<T, O> {
         self.as_bitslice().is_superset(other)
     }
 
-    /// Whether no index is true both here and in `other`, 64 at a time.
+    /// Whether no index is true both here and in `other`.
     ///
     /// ```text
     /// of 01101001 and 10010110: bits.is_disjoint(other) == true
@@ -54,7 +54,7 @@ impl<T: BitStore, O: BitOrder> BitVec<T, O> {
         self.as_bitslice().is_disjoint(other)
     }
 
-    /// Whether an index is true both here and in `other`, 64 at a time.
+    /// Whether an index is true both here and in `other`.
     ///
     /// ```text
     /// of 01101001 and 11110000: bits.intersects(other) == true
@@ -68,7 +68,7 @@ impl<T: BitStore, O: BitOrder> BitVec<T, O> {
         self.as_bitslice().intersects(other)
     }
 
-    /// How many indices are true both here and in `other`, 64 at a time.
+    /// How many indices are true both here and in `other`.
     ///
     /// ```text
     /// of 01101001 and 11110000: bits.count_and(other) == 2
@@ -80,8 +80,7 @@ impl<T: BitStore, O: BitOrder> BitVec<T, O> {
         self.as_bitslice().count_and(other)
     }
 
-    /// How many indices are true here or in `other`, 64 at a time. The shorter list counts as filled up with
-    /// false.
+    /// How many indices are true here or in `other`. The shorter list counts as filled up with false.
     ///
     /// ```text
     /// of 01101001 and 11110000: bits.count_or(other) == 6
@@ -96,8 +95,7 @@ impl<T: BitStore, O: BitOrder> BitVec<T, O> {
         self.as_bitslice().count_or(other)
     }
 
-    /// How many indices differ from those of `other`, 64 at a time. The shorter list counts as filled up with
-    /// false.
+    /// How many indices differ from those of `other`. The shorter list counts as filled up with false.
     ///
     /// ```text
     /// of 01101001 and 11110000: bits.count_xor(other) == 4

@@ -1,4 +1,4 @@
-//! A range of bits replaced by others, and a vector cut in two.
+//! Calls that replace a range of bits, and that cut a vector in two.
 ghost use Rattle.std.specs.Prelude.{◌≡◌, ◌≢◌, ◌+◌, ◌-◌, ◌<◌, ◌≤◌, Bool, List, [], length, take, drop, replicate, reverse, slice_get, slice_range, Err, IfOk, OnOk, OnErr};
 ghost use Rattle.std.specs.Iterator.{IsFinite, Drains, Yields, YieldsFirst, YieldsLast};
 ghost use Rattle.std.specs.Iterator.Runs.{WholeRun, YieldsInOrder, YieldsInReverse};
@@ -16,7 +16,8 @@ use std::alloc::{AllocError, Global};
 /// The bits of a range of a vector, from both ends, and what is to replace them.
 ///
 /// It has to be spent by `finish`, which puts the replacement in place of the range: before that nothing is pulled,
-/// and the vector stays.
+/// and the vector stays. Its calls require that the range still lies in the vector, which `splice` ensures and each
+/// call keeps.
 ///
 /// ```text
 /// v.splice(1..4, bits).finish()?;
@@ -45,8 +46,8 @@ impl<T: BitStore, O: BitOrder> BitVec<T, O> {
         self.truncate(0);
     }
 
-    /// Cuts the vector at `at`, and returns what was after: a clean vector, which begins at head 0. Takes memory
-    /// where a bit is after, and is refused only then; a refusal leaves the vector. Requires that `at` is at most
+    /// Cuts the vector at `at`, and returns the bits from there on as a clean vector. Takes memory where there is
+    /// a bit from `at` on, and is refused only then; a refusal leaves the vector. Requires that `at` is at most
     /// the length.
     ///
     /// ```text
@@ -71,8 +72,8 @@ impl<T: BitStore, O: BitOrder> BitVec<T, O> {
     /// Replaces the bits at a range of indices by what an iterator gives, once the splice is finished; until then it
     /// gives the bits of the range. Requires that the range lies in the length.
     ///
-    /// The list is known where the source owns what it gives: a `Vec<bool>`, an `Option<bool>`, a vector's
-    /// `into_iter`, mapped or not. Of a source that borrows, as `iter()` or `by_ref()`, it can't be proved:
+    /// A caller's proof covers sources that own what they give: a `Vec<bool>`, an `Option<bool>`, a
+    /// vector's `into_iter`, mapped or not. It covers no source that borrows, as `iter()` or `by_ref()`:
     /// collect it first.
     ///
     /// ```text
@@ -106,9 +107,9 @@ impl<T: BitStore, O: BitOrder> BitVec<T, O> {
         }
     }
 
-    /// Replaces the bits at a range of indices by those of a view, by whatever words and order: what follows moves once.
-    /// Takes memory only where the list grows, and is refused like `resize` to the new length. What becomes of dead bits
-    /// is open. Requires that the range lies in the length.
+    /// Replaces the bits at a range of indices by those of a view, with any word type and order: what follows
+    /// moves once. Takes memory only where the list grows, and is refused like `resize` to the new length. What
+    /// becomes of dead bits is open. Requires that the range lies in the length.
     ///
     /// ```text
     /// of 0110 and 101: bits.replace_range(1..2, other)? leaves 010110
@@ -135,7 +136,7 @@ impl<T: BitStore, O: BitOrder> BitVec<T, O> {
         self.put_range(start, end, view)
     }
 
-    // Puts the bits of a view in place of those from `start` up to `end`: what follows moves once.
+    // Replaces the bits from `start` up to `end` by those of a view: what follows moves once.
     fn put_range<U: BitStore, P: BitOrder>(
         &mut self,
         start: usize,
@@ -167,7 +168,7 @@ impl<T: BitStore, O: BitOrder> BitVec<T, O> {
         Ok(())
     }
 
-    // Puts a bit `n` times in place of those from `start` up to `end`. Requires that the range lies in the length.
+    // Replaces the bits from `start` up to `end` by a bit, `n` times. Requires that the range lies in the length.
     pub(crate) fn replace_by(
         &mut self,
         start: usize,
@@ -225,7 +226,7 @@ impl<T: BitStore, O: BitOrder> BitVec<T, O> {
         Ok(v)
     }
 
-    // Puts what an iterator gives in place of the bits from `start` up to `end`.
+    // Replaces the bits from `start` up to `end` by what an iterator gives.
     fn replace_by_items<I: Iterator<Item = bool>>(
         &mut self,
         start: usize,
@@ -290,8 +291,8 @@ impl<'a, T: BitStore, O: BitOrder, I: Iterator<Item = bool>> Splice<'a, T, O, I>
         Some(self.vec.bit(self.back))
     }
 
-    /// The replaced bit after the next `n`, which are passed over. None exactly where there are no more than `n`;
-    /// then none is left.
+    /// The replaced bit after the next `n`, which are skipped. None exactly where at most `n` are left; then none
+    /// is left.
     pub fn nth(&mut self, n: usize) -> Option<bool>
         requires { SpliceIsReady self.old }
         ensures item { result ≡ slice_get (splice_rest self.old) n }
@@ -308,8 +309,8 @@ impl<'a, T: BitStore, O: BitOrder, I: Iterator<Item = bool>> Splice<'a, T, O, I>
         Some(self.vec.bit(at))
     }
 
-    /// The replaced bit before the last `n` that are still to come, which are passed over. None exactly where
-    /// there are no more than `n`; then none is left.
+    /// The replaced bit before the last `n` that are still to come, which are skipped. None exactly where at
+    /// most `n` are left; then none is left.
     pub fn nth_back(&mut self, n: usize) -> Option<bool>
         requires { SpliceIsReady self.old }
         ensures item { result ≡ slice_get (reverse (splice_rest self.old)) n }
@@ -325,7 +326,7 @@ impl<'a, T: BitStore, O: BitOrder, I: Iterator<Item = bool>> Splice<'a, T, O, I>
         Some(self.vec.bit(self.back))
     }
 
-    /// An iterator over the replaced bits that are still to come, from both ends: it takes them all, and the
+    /// An iterator over the replaced bits that are still to come, from both ends. It takes all of them: the
     /// splice has none left.
     pub fn items(&mut self) -> Items<'_, T, O>
         requires { SpliceIsReady self.old }
@@ -353,8 +354,9 @@ impl<'a, T: BitStore, O: BitOrder, I: Iterator<Item = bool>> Splice<'a, T, O, I>
     }
 
     /// Pulls the whole replacement, and puts it in place of the range: what follows moves once. Returns `TooLong` at
-    /// the first bit with which the length would pass `MAX_BITS`, and `OutOfMemory` only where there is a bit to put
-    /// and the length would not; a refusal pulls no more, and leaves the vector. What becomes of dead bits is open.
+    /// the first bit with which the length would pass `MAX_BITS`, and `OutOfMemory` only where a bit was pulled and
+    /// the length would not pass `MAX_BITS`. A refusal pulls no more, and leaves the list. What becomes of dead bits
+    /// is open. Requires that the replacement ends.
     pub fn finish(self) -> Result<(), GrowError>
         requires ready { SpliceIsReady self }
         requires ends { I.can_next self.replacement × IsFinite (I.remaining self.replacement) }

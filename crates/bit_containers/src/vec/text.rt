@@ -16,9 +16,10 @@ use std::fmt;
 /// widths.
 #[derive(Clone, Copy, PartialEq, Eq, Debug)]
 pub enum ParseBitsError {
-    /// The first byte at which it is no text of bits: where the text ends too early, its length.
+    /// The index of the first byte at which it is no text of bits, or the text's length where it
+    /// ends too early.
     Wrong(usize),
-    /// It says more than `MAX_BITS` bits.
+    /// It would say more than `MAX_BITS` bits.
     TooLong,
     /// Memory was refused.
     OutOfMemory,
@@ -40,7 +41,7 @@ impl fmt::Display for ParseBitsError {
 
 impl Error for ParseBitsError {}
 
-/// A refused growth is `TooLong` or `OutOfMemory`, as it was.
+/// `TooLong` and `OutOfMemory`, as in `GrowError`.
 impl From<GrowError> for ParseBitsError {
     ghost use Rattle.std.specs.Prelude.{◌≡◌};
     ghost use Rattle.bit_containers.specs.Text.{refused};
@@ -55,7 +56,7 @@ impl From<GrowError> for ParseBitsError {
     }
 }
 
-/// What was read of a text of bits.
+/// What was read of a text of bits so far.
 #[derive(Clone, Copy, PartialEq, Eq, Debug)]
 pub(crate) enum Part {
     /// Nothing.
@@ -74,7 +75,7 @@ pub(crate) enum Part {
     Closed,
 }
 
-// What was read after one byte more, or None where it is wrong there.
+// What was read with one byte more, or None where the text is wrong at it.
 fn after(part: Part, byte: u8) -> Option<Part>
     ensures { result ≡ part_after part byte }
 {
@@ -116,8 +117,9 @@ fn ends(part: Part) -> bool
 
 impl<T: BitStore, O: BitOrder> BitVec<T, O> {
     /// The bits that a text says, from head 0 on: digits alone, as `0110`, or what `Display` writes of a list, as
-    /// `[0, 1, 1, 0]`. It returns the place of the first wrong byte, or the text's length where it ends too early;
-    /// `TooLong` only where the text has more than `MAX_BITS` bytes. Takes memory where there is a digit.
+    /// `[0, 1, 1, 0]`. Returns `Wrong` with the index of the first wrong byte, or with the text's length where it
+    /// ends too early, and `TooLong` only where the text has more than `MAX_BITS` bytes. Takes memory where there
+    /// is a digit.
     ///
     /// ```text
     /// BitVec::<u8, Msb0>::from_text(alloc, "[1, 0]")?      // 1, 0

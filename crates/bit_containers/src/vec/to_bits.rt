@@ -10,7 +10,7 @@ use bit_boxed::BitBox;
 use bit_slice::BitSlice;
 use std::alloc::{AllocError, Global};
 
-/// What can be copied into a vector or a box of its bits.
+/// Values that can be copied into a vector or a box of their bits.
 ///
 /// ```text
 /// let v = view.get_range(2..5).to_bitvec(alloc)?;     // three bits, from head 0 on

@@ -1,4 +1,4 @@
-//! What the vector has of std's traits.
+//! The impls of std's traits for the vector.
 ghost use Rattle.std.specs.Prelude.{◌≡◌, ◌↔◌, IsTrue, refl, Some};
 ghost use Rattle.std.specs.Cmp.{on_equiv, on_total, on_po, on_per, partial_equiv_from_equiv};
 ghost use Rattle.std.specs.Hash.{on_Alike};

@@ -82,8 +82,8 @@ impl<T: BitStore, O: BitOrder> BitVec<T, O> {
     /// vector, and the words around the part stay. Takes no memory. Requires that `from..upto` is a range of
     /// the length.
     ///
-    /// The clauses say of the part its list, head and words. What a caller's own proof has to know of the whole vector
-    /// after a write is said by the calls that take a range: `fill_range`, `flip_range`, `copy_into` and `or_range`.
+    /// The clauses say the list, head and words of the part. Where a caller's own proof needs the whole vector after
+    /// a write, call one that takes a range: `fill_range`, `flip_range`, `copy_into` or `or_range`.
     ///
     /// ```text
     /// of 01101001: bits.part_mut(1, 4).fill(false) leaves 00001001

@@ -5,13 +5,13 @@ ghost use Rattle.bit_ranks.specs.SortedErrors.{sorted_error_text};
 use std::error::Error;
 use std::fmt;
 
-/// Why numbers are not packed.
+/// Why sorted numbers are not made.
 ///
 /// Its text is `numbers that descend`, `more bits than a container holds` or `memory was refused`, whatever the
 /// flags and widths.
 #[derive(Clone, Copy, PartialEq, Eq, Debug)]
 pub enum SortedError {
-    /// The place of the first number that is below the one before.
+    /// The index of the first number that is below the one before.
     Descends(usize),
     /// One of the two lists would have more than `MAX_BITS` bits.
     TooLong,

@@ -18,9 +18,9 @@ pub struct Numbers<'a> {
     low: BitSlice<'a, u64, Lsb0>,
     width: u8,
     len: usize,
-    // The place of the first number that is left.
+    // The index of the first number that is left.
     at: usize,
-    // The index in `high` from which on its one stands.
+    // An index in `high` from which on the first one is that of this number.
     place: usize,
     ghost left: { IsNextFrom len width (list_of high) (list_of low) at place },
     ghost whole: { (len_of high ≡ length (list_of high)) × (len_of low ≡ length (list_of low)) },
@@ -29,7 +29,7 @@ pub struct Numbers<'a> {
 impl SortedNumbers {
     ghost use Rattle.bit_ranks.specs.Numbers.{numbers_left};
 
-    /// The numbers, ascending. Each is found by words from the one before.
+    /// The numbers, ascending. Each is searched from the one before on.
     pub fn iter(&self) -> Numbers<'_>
         ensures list { numbers_left result ≡ self.now }
         ensures runs { YieldsInOrder (YieldsFirst numbers_left) numbers_left }

@@ -15,8 +15,9 @@ use bit_containers::{BitVec, GrowError, Lsb0, MAX_BITS};
 use std::alloc::Global;
 
 impl SortedNumbers {
-    /// The numbers of a slice. `Descends` at the first that is below the one before, `TooLong` where one of the
-    /// two lists would pass `MAX_BITS`. Takes no memory where there is no number.
+    /// The numbers of a slice. Returns `Descends` with the index of the first number that is below the one
+    /// before, and `TooLong` where one of the two lists would pass `MAX_BITS`. Takes no memory where there is
+    /// no number.
     ///
     /// ```text
     /// SortedNumbers::from_slice(alloc, &[2, 9, 3, 1])    // Err(Descends(2))
@@ -34,8 +35,8 @@ impl SortedNumbers {
         }
     }
 
-    /// The numbers that an iterator gives before its first None. Like `from_slice`, and nothing is pulled after
-    /// a number that is below the one before. Takes memory for all numbers, 64 bits each, until it returns.
+    /// Like `from_slice`, of the numbers that an iterator gives before its first None. Nothing is pulled after
+    /// a number that is below the one before. All numbers are kept, 64 bits each, until the call returns.
     pub fn from_numbers<I: IntoIterator<Item = u64>>(
         alloc: Global,
         iter: I,
@@ -63,7 +64,7 @@ impl SortedNumbers {
     }
 }
 
-// The place of the first number that is below the one before.
+// The index of the first number that is below the one before.
 fn first_descent(numbers: &[u64]) -> Option<usize>
     ensures some { IfSome result (λ i. IsFirstDescent numbers.now i) }
     ensures none { IfNone result (IsNonDecreasing numbers.now) }

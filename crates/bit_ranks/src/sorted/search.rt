@@ -12,9 +12,8 @@ use bit_containers::{BitVec, Lsb0};
 use std::ops::Range;
 
 impl SortedNumbers {
-    /// The first number that is at least `x`, after its place. None exactly where all numbers are below `x`.
-    /// One zero is selected, and the numbers with the high bits of `x`, whose ones stand from it on, are
-    /// searched by halves.
+    /// The index of the first number that is at least `x`, and that number. None exactly where all numbers
+    /// are below `x`. It is one `select0`, and a binary search among the numbers with the high bits of `x`.
     ///
     /// ```text
     /// of 2, 3, 9, 9:  numbers.next_at_least(4) == Some((2, 9))
@@ -43,7 +42,7 @@ impl SortedNumbers {
         }
     }
 
-    /// Whether `x` is one of the numbers. Like `next_at_least`.
+    /// Whether `x` is one of the numbers. It searches like `next_at_least`.
     pub fn contains(&self, x: u64) -> bool
         ensures { IsTrue result ↔ Contains self.now x }
     {
@@ -54,7 +53,7 @@ impl SortedNumbers {
     }
 }
 
-// The places of the numbers with these high bits: their ones stand between two zeros. None where there are too
+// The indices of the numbers with these high bits, whose ones are between two zeros. None where there are too
 // few zeros for such numbers, or for larger ones.
 #[inline(always)]
 fn same_high(ones: &Ranks<u64, Lsb0>, len: usize, high: usize) -> Option<Range<usize>>
@@ -74,8 +73,8 @@ fn same_high(ones: &Ranks<u64, Lsb0>, len: usize, high: usize) -> Option<Range<u
     }
 }
 
-// How many numbers have at most these high bits: how many ones stand before the first zero from an index on,
-// before which as many zeros stand as the high bits say.
+// How many numbers have at most these high bits: how many ones are before the first zero at `from` or after
+// it. Requires that as many zeros are before `from` as the high bits say.
 #[inline(always)]
 fn upto_zero(ones: &Ranks<u64, Lsb0>, len: usize, from: usize, high: usize) -> usize
     requires count { length (ones_of ones.now.list) ≡ len }
@@ -90,7 +89,8 @@ fn upto_zero(ones: &Ranks<u64, Lsb0>, len: usize, from: usize, high: usize) -> u
     }
 }
 
-// The first of the numbers `first..end` whose low bits are at least `rest`, or `end`. Theirs ascend.
+// The index of the first of the numbers `first..end` whose low bits are at least `rest`, or `end`.
+// Requires that the low bits of these numbers ascend.
 fn first_low(low: &BitVec<u64, Lsb0>, width: u8, first: usize, end: usize, rest: u64) -> usize
     requires narrow { width < 64 }
     requires ordered { first ≤ end }

@@ -1,4 +1,4 @@
-//! Runs of bits that are reversed.
+//! Reverses runs of bits.
 ghost use Rattle.std.specs.Prelude.{◌≡◌, ◌+◌, ◌*◌, ◌^◌, ◌<◌, ◌≤◌, length, reverse, slice_range, true};
 ghost use Rattle.bit_addressing.specs.declared.length.TheConstants.{MAX_BITS};
 ghost use Rattle.bit_addressing.specs.Row.{moved, put};
@@ -63,9 +63,9 @@ fn is_mirrored<T: BitStore, O: BitOrder>() -> bool
     true
 }
 
-// Swaps the words of two slices, the first with the last, each reversed. Requires that the slices have one length. They
-// are two slices, in a function that stays one, since the compiler takes the words side by side only where it knows
-// that no word is in both (docs/SPEED.md, "The bench", reverse).
+// Swaps the words of two slices, the first with the last, each reversed. Requires that the slices have one length.
+// They are two slices, in a function that is not inlined, since the compiler takes several words at once only where
+// it knows that no word is in both (docs/SPEED.md, "The bench", reverse).
 #[inline(never)]
 fn swap_words<T: BitStore, O: BitOrder>(low: &mut [T], high: &mut [T])
     requires mirrored { IsMirrored T.BITS (O.place T.BITS) }
@@ -110,7 +110,7 @@ fn reverse_all<T: BitStore, O: BitOrder>(words: &mut [T])
     reverse_middle::<T, O>(middle);
 }
 
-// Like `move_bits`, but does nothing where the run is in its place.
+// Like `move_bits`, but does nothing where source and target are the same.
 fn move_to<T: BitStore, O: BitOrder>(words: &mut [T], from: usize, at: usize, n: usize)
     requires room { T.BITS * length words.old ≤ MAX_BITS + 2 * T.BITS }
     requires source { from + n ≤ T.BITS * length words.old }
@@ -123,8 +123,8 @@ fn move_to<T: BitStore, O: BitOrder>(words: &mut [T], from: usize, at: usize, n:
     }
 }
 
-// Like `reverse_long`, of a run that begins in the first of the words and ends in the last: all bits are reversed, the
-// run is moved to its place, and the bits before and after it are written back.
+// Like `reverse_long`, of a run that begins in the first of the words and ends in the last: it reverses all bits,
+// moves the run to its head, and writes back the bits before and after it.
 fn reverse_touched<T: BitStore, O: BitOrder>(words: &mut [T], head: usize, len: usize)
     requires mirrored { IsMirrored T.BITS (O.place T.BITS) }
     requires begins { head < T.BITS }

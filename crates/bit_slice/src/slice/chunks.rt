@@ -12,8 +12,8 @@ use std::iter::{DoubleEndedIterator, ExactSizeIterator, FusedIterator, Iterator}
 impl<'a, T: BitStore, O: BitOrder> BitSlice<'a, T, O> {
     ghost use Rattle.bit_slice.specs.PiecesLeft.{chunks_left, exact_chunks_left, back_chunks_left, windows_left};
 
-    /// The chunk of number `k`, of `size` bits: that which `chunks(size)` gives after `k` others. Requires
-    /// that it begins before the end.
+    /// The chunk of number `k`: the one that `chunks(size)` gives after `k` others. Requires that `size`
+    /// is not 0, and that the chunk begins before the end.
     ///
     /// ```text
     /// of 01101001: bits.chunk(3, 1) shows 010
@@ -54,8 +54,8 @@ impl<'a, T: BitStore, O: BitOrder> BitSlice<'a, T, O> {
         }
     }
 
-    /// The parts of `size` bits side by side, from the front and from the end, as many as have that many
-    /// bits. Those that are left are the iterator's `remainder`. Requires that `size` is not 0.
+    /// The parts of `size` bits side by side, from the front and from the end, as long as there are that
+    /// many bits. The bits that are left are the iterator's `remainder`. Requires that `size` is not 0.
     ///
     /// ```text
     /// of 01101001: bits.chunks_exact(3).len() == 2
@@ -104,7 +104,8 @@ impl<'a, T: BitStore, O: BitOrder> BitSlice<'a, T, O> {
         }
     }
 
-    /// Each `size` neighbouring bits. There are none where the view is shorter. Requires that `size` is not 0.
+    /// Each run of `size` bits, one for each index at which one begins. There are none where the view is
+    /// shorter. Requires that `size` is not 0.
     ///
     /// ```text
     /// of 01101001: bits.windows(3).len() == 6
@@ -418,7 +419,8 @@ impl<'a, T: BitStore, O: BitOrder> ExactSizeIterator for RChunks<'a, T, O> {
 
 impl<'a, T: BitStore, O: BitOrder> FusedIterator for RChunks<'a, T, O> {}
 
-/// The runs of `size` neighbouring bits: views, from both ends, each once.
+/// The runs of `size` bits, one for each index at which one begins: views, from both ends, each
+/// once.
 ///
 /// Its length is known, and after the first None there is no more. It takes no memory.
 #[derive(Drop)]
@@ -509,7 +511,7 @@ impl<'a, T: BitStore, O: BitOrder> ExactSizeIterator for Windows<'a, T, O> {
 
 impl<'a, T: BitStore, O: BitOrder> FusedIterator for Windows<'a, T, O> {}
 
-// How many chunks of `size` bits a length has, where one may be shorter.
+// How many chunks of `size` bits a length has; the last may be shorter.
 fn count_chunks(len: usize, size: usize) -> usize
     requires { 0 < size }
     ensures { result ≡ chunk_count len size }

@@ -8,8 +8,8 @@ use crate::slice::BitSlice;
 use bit_addressing::{BitOrder, BitStore, read_binary, read_chunk};
 
 impl<'a, T: BitStore, O: BitOrder> BitSlice<'a, T, O> {
-    /// The number whose least significant bit is the first of the view, and whose next bits are the next of
-    /// it, whatever the order of bits in a word. Requires at most 64 bits.
+    /// The bits of the view as a number, the first the least significant, whatever the order of bits in a
+    /// word. Requires that the view has at most 64 bits.
     ///
     /// ```text
     /// of 01101001: bits.load_le() == 150
@@ -22,8 +22,8 @@ impl<'a, T: BitStore, O: BitOrder> BitSlice<'a, T, O> {
         read_chunk::<T, O>(self.words, self.head, self.len as u8)
     }
 
-    /// The number that the bits of the view write in binary, the first the most significant, whatever the
-    /// order of bits in a word. Requires at most 64 bits.
+    /// The bits of the view as a number, the first the most significant, whatever the order of bits in a
+    /// word. Requires that the view has at most 64 bits.
     ///
     /// ```text
     /// of 01101001: bits.load_be() == 105

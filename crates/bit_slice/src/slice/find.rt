@@ -1,4 +1,4 @@
-//! Where the bits of one view stand in another.
+//! Where the bits of one view begin in another.
 ghost use Rattle.std.specs.Prelude.{◌≡◌, ◌≢◌, ℕ, ◌+◌, ◌-◌, ◌<◌, ◌≤◌, ◌↔◌, IfNone, IfSome, IsTrue, length};
 ghost use Rattle.bit_slice.specs.BitSlice.{len_of, list_of};
 ghost use Rattle.bit_slice.specs.Pieces.{part};
@@ -7,8 +7,8 @@ use crate::slice::BitSlice;
 use bit_addressing::{BitOrder, BitStore};
 
 impl<'a, T: BitStore, O: BitOrder> BitSlice<'a, T, O> {
-    /// The first index from which on the bits of `other` stand, of any word type and order. None exactly
-    /// where they stand nowhere. Each index is tried, 64 bits at a time, up to the first that differs.
+    /// The first index at which the bits of `other`, of any word type and order, begin in the view. None
+    /// exactly where they begin nowhere. Each index is tried in turn.
     ///
     /// ```text
     /// of 01101001 and 001: bits.find(other) == Some(5)
@@ -35,7 +35,7 @@ impl<'a, T: BitStore, O: BitOrder> BitSlice<'a, T, O> {
         None
     }
 
-    /// Whether the bits of `other` stand somewhere in the view.
+    /// Whether the bits of `other` begin somewhere in the view.
     ///
     /// ```text
     /// of 01101001 and 001: bits.contains(other) == true

@@ -105,7 +105,8 @@ impl<'a, T: BitStore, O: BitOrder> IterOnes<'a, T, O> {
         self.chunk = chunk;
     }
 
-    // The first index that is left, whose bit is cleared in the chunk. Requires that the chunk has a bit.
+    // Returns the first index that is left, and clears its bit in the chunk. Requires that the chunk has
+    // a bit.
     #[inline(always)]
     fn take_first(&mut self) -> usize
         requires { self.old.chunk ≢ 0 }
@@ -116,7 +117,7 @@ impl<'a, T: BitStore, O: BitOrder> IterOnes<'a, T, O> {
         first
     }
 
-    // Leaves the indices below `upto`. A chunk that has bits from there on is dropped, and read again later.
+    // Keeps the indices below `upto`. A chunk that has bits from there on is dropped, and read again later.
     fn cut(&mut self, upto: usize)
         requires ordered { next_of self.old ≤ upto }
         requires inside { upto ≤ self.old.upto }
@@ -215,7 +216,7 @@ pub struct IterZeros<'a, T: BitStore, O: BitOrder> {
 impl<'a, T: BitStore, O: BitOrder> BitSlice<'a, T, O> {
     ghost use Rattle.bit_slice.specs.Indices.{zeros_left};
 
-    /// The indices of the bits that are false, ascending, from both ends. A step reads 64 bits at a time.
+    /// The indices of the bits that are false, ascending, from both ends. Each step is a search.
     ///
     /// ```text
     /// of 01101001: bits.iter_zeros() gives 0, 3, 5, 6

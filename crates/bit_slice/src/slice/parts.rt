@@ -1,4 +1,4 @@
-//! Views cut in two, and what they begin and end with.
+//! Views cut in two, and their beginnings and ends compared.
 ghost use Rattle.std.specs.Prelude.{◌≡◌, ◌+◌, ◌-◌, ◌<◌, ◌≤◌, ◌↔◌, ◌++◌, ◌∷◌, [], IfSome, IsTrue, IsNone, drop, length, take};
 ghost use Rattle.bit_slice.specs.BitSlice.{len_of, list_of};
 

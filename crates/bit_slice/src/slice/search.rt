@@ -1,4 +1,4 @@
-//! Searches of views: the first and the last bit of a kind, and how many stand at an end.
+//! Searches of views: the first and the last bit of a kind, and how many of a kind are at an end.
 ghost use Rattle.std.specs.Prelude.{◌≡◌, ℕ, ◌+◌, ◌-◌, ◌*◌, ◌%◌, ◌<◌, ◌≤◌, ◌&&◌, ◌↔◌, Bool, IsTrue, IfNone, IfSome, EachIndex, SomeIndex, MatchOption, Some, false, length, not, replicate, slice_get, slice_range, true};
 ghost use Rattle.std.specs.List.{list_any, list_all, position, prefix_len, suffix_len};
 ghost use Rattle.bit_slice.specs.BitSlice.{head_of, len_of, list_of, words_of};
@@ -8,7 +8,7 @@ use crate::slice::BitSlice;
 use bit_addressing::{BitOrder, BitStore, find_bit, read_block, read_chunk};
 
 impl<'a, T: BitStore, O: BitOrder> BitSlice<'a, T, O> {
-    // The first index from `from` up to `upto` with this bit, 64 at a time.
+    // The first index from `from` up to `upto` with this bit.
     pub(crate) fn find_next(self, from: usize, upto: usize, bit: bool) -> Option<usize>
         requires ordered { from ≤ upto }
         requires inside { upto ≤ len_of self }
@@ -96,10 +96,10 @@ impl<'a, T: BitStore, O: BitOrder> BitSlice<'a, T, O> {
         self.chunk_found(at + n, upto)
     }
 
-    // The first bits from index `at` on, up to 64 that end with a word, of which one is true: where they begin, where
-    // they end, and they as a number. `upto` twice and 0 where none is true up to there. The bits up to the next word's
-    // end are read without a call, since most searches end there, and 64 at once apart from fewer, which takes no
-    // length (docs/SPEED.md, "The bench", ones 67th).
+    // Searches a chunk that has a true bit, from index `at` on: up to 64 bits that end with a word. Returns where it
+    // begins, where it ends, and its bits as a number, or `upto` twice and 0 where no bit up to there is true. The
+    // bits up to the next word's end are read without a call, since most searches end there. 64 bits are read apart
+    // from fewer, since that takes no length (docs/SPEED.md, "The bench", ones 67th).
     #[inline(always)]
     pub(crate) fn chunk_with_one(self, at: usize, upto: usize) -> (usize, usize, u64)
         requires ordered { at ≤ upto }
@@ -203,8 +203,8 @@ impl<'a, T: BitStore, O: BitOrder> BitSlice<'a, T, O> {
         self.find_last(0, self.len, false)
     }
 
-    /// The index of the first bit from index `from` on that is true. None exactly where none is, as
-    /// where `from` is the length or more.
+    /// The index of the first bit from index `from` on that is true. None exactly where there is
+    /// none, as where `from` is the length or more.
     ///
     /// ```text
     /// of 01101001: bits.next_one(3) == Some(4)
@@ -221,8 +221,8 @@ impl<'a, T: BitStore, O: BitOrder> BitSlice<'a, T, O> {
         self.find_next(from.min(self.len), self.len, true)
     }
 
-    /// The index of the first bit from index `from` on that is false. None exactly where none is, as
-    /// where `from` is the length or more.
+    /// The index of the first bit from index `from` on that is false. None exactly where there is
+    /// none, as where `from` is the length or more.
     ///
     /// ```text
     /// of 01101001: bits.next_zero(1) == Some(3)

@@ -11,7 +11,8 @@ use bit_addressing::{
     And, BitOperator, BitOrder, BitStore, Or, Xor, count_blocks, false_blocks, read_chunk,
 };
 
-// The `n` bits from index `at` on that the operator makes of two views, as a number.
+// The `n` bits from index `at` on that the operator makes of two views, as a number, the first at
+// place 0.
 #[inline(always)]
 fn pair_chunk<F: BitOperator, T: BitStore, O: BitOrder, U: BitStore, P: BitOrder>(
     left: BitSlice<'_, T, O>,
@@ -31,8 +32,8 @@ fn pair_chunk<F: BitOperator, T: BitStore, O: BitOrder, U: BitStore, P: BitOrder
     F::apply::<u64>(old, new)
 }
 
-// How many of the first `upto` bits are true that the operator makes of two views: those of whole words that lie alike
-// first, and the others 64 at a time.
+// Of the first `upto` bits that the operator makes of two views, how many are true: first those of words that lie
+// alike, then the others 64 at a time.
 fn count_pairs<F: BitOperator, T: BitStore, O: BitOrder, U: BitStore, P: BitOrder>(
     left: BitSlice<'_, T, O>,
     right: BitSlice<'_, U, P>,
@@ -56,8 +57,8 @@ fn count_pairs<F: BitOperator, T: BitStore, O: BitOrder, U: BitStore, P: BitOrde
     count + rest.count_ones() as usize
 }
 
-// Whether one of the first `upto` bits is true that the operator makes of two views: by many words at a time up to the
-// first that has one, and then 64 at a time.
+// Of the first `upto` bits that the operator makes of two views, whether one is true: first by many words at a time,
+// up to words that have one, then 64 bits at a time.
 fn any_pair<F: BitOperator, T: BitStore, O: BitOrder, U: BitStore, P: BitOrder>(
     left: BitSlice<'_, T, O>,
     right: BitSlice<'_, U, P>,
@@ -81,7 +82,7 @@ fn any_pair<F: BitOperator, T: BitStore, O: BitOrder, U: BitStore, P: BitOrder>(
 }
 
 impl<'a, T: BitStore, O: BitOrder> BitSlice<'a, T, O> {
-    /// How many indices are true in both views, 64 at a time.
+    /// How many indices are true in both views.
     ///
     /// ```text
     /// of 01101001 and 11110000: bits.count_and(other) == 2
@@ -93,8 +94,8 @@ impl<'a, T: BitStore, O: BitOrder> BitSlice<'a, T, O> {
         count_pairs::<And, T, O, U, P>(self, other, self.len.min(other.len))
     }
 
-    /// How many indices are true in one of the views or in both, 64 at a time. The shorter view counts as
-    /// filled up with false.
+    /// How many indices are true in one of the views or in both. The shorter view counts as filled up
+    /// with false.
     ///
     /// ```text
     /// of 01101001 and 11110000: bits.count_or(other) == 6
@@ -112,7 +113,7 @@ impl<'a, T: BitStore, O: BitOrder> BitSlice<'a, T, O> {
         shared + left + right
     }
 
-    /// How many indices differ, 64 at a time. The shorter view counts as filled up with false.
+    /// How many indices differ. The shorter view counts as filled up with false.
     ///
     /// ```text
     /// of 01101001 and 11110000: bits.count_xor(other) == 4
@@ -130,7 +131,7 @@ impl<'a, T: BitStore, O: BitOrder> BitSlice<'a, T, O> {
         shared + left + right
     }
 
-    // Whether an index is true that is false in `other`, or that `other` is too short for.
+    // Whether an index is true that is false in `other` or past its end.
     fn exceeds<U: BitStore, P: BitOrder>(self, other: BitSlice<'_, U, P>) -> bool
         ensures { result ≡ list_any (λ b. b) (and_not_of (list_of self.entry) (list_of other.entry)) }
     {
@@ -141,8 +142,8 @@ impl<'a, T: BitStore, O: BitOrder> BitSlice<'a, T, O> {
         self.get_range(both..self.len).any()
     }
 
-    /// Whether each index that is true is true in `other`, 64 at a time. An index that `other` is too
-    /// short for is false there.
+    /// Whether each index that is true is true in `other`. An index past the end of `other` counts as
+    /// false there.
     ///
     /// ```text
     /// of 01101001 and 01101111: bits.is_subset(other) == true
@@ -156,7 +157,7 @@ impl<'a, T: BitStore, O: BitOrder> BitSlice<'a, T, O> {
         !self.exceeds(other)
     }
 
-    /// Whether each index that is true in `other` is true, 64 at a time.
+    /// Whether each index that is true in `other` is true.
     ///
     /// ```text
     /// of 01101001 and 01000001: bits.is_superset(other) == true
@@ -170,7 +171,7 @@ impl<'a, T: BitStore, O: BitOrder> BitSlice<'a, T, O> {
         other.is_subset(self)
     }
 
-    /// Whether an index is true in both views, 64 at a time.
+    /// Whether an index is true in both views.
     ///
     /// ```text
     /// of 01101001 and 11110000: bits.intersects(other) == true
@@ -183,7 +184,7 @@ impl<'a, T: BitStore, O: BitOrder> BitSlice<'a, T, O> {
         any_pair::<And, T, O, U, P>(self, other, self.len.min(other.len))
     }
 
-    /// Whether no index is true in both views, 64 at a time.
+    /// Whether no index is true in both views.
     ///
     /// ```text
     /// of 01101001 and 10010110: bits.is_disjoint(other) == true

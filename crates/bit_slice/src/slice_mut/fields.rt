@@ -7,8 +7,8 @@ use crate::slice_mut::BitSliceMut;
 use bit_addressing::{BitOrder, BitStore, write_binary, write_chunk};
 
 impl<'a, T: BitStore, O: BitOrder> BitSliceMut<'a, T, O> {
-    /// Writes the lowest bits of a number, the least significant first: what `load_le` reads. Requires at
-    /// most 64 bits.
+    /// Writes the lowest bits of a number, the least significant first: what `load_le` reads. Requires
+    /// that the view has at most 64 bits.
     ///
     /// ```text
     /// of 01101001: bits.store_le(5) leaves 10100000
@@ -23,8 +23,8 @@ impl<'a, T: BitStore, O: BitOrder> BitSliceMut<'a, T, O> {
         write_chunk::<T, O>(self.words, self.head, self.len as u8, number);
     }
 
-    /// Writes the lowest bits of a number, the most significant first: what `load_be` reads. Requires at
-    /// most 64 bits.
+    /// Writes the lowest bits of a number, the most significant first: what `load_be` reads. Requires
+    /// that the view has at most 64 bits.
     ///
     /// ```text
     /// of 01101001: bits.store_be(5) leaves 00000101

@@ -1,4 +1,4 @@
-//! The bits of a view in another order, reversed, rotated and shifted, and combined with others of the view.
+//! Calls that reverse, rotate and shift a view, and that combine bits of it with other bits of it.
 ghost use Rattle.std.specs.Prelude.{◌≡◌, ℕ, ◌+◌, ◌-◌, ◌*◌, ◌<◌, ◌≤◌, ◌++◌, Some, drop, false, length, replicate, reverse, slice_get, slice_range, take};
 ghost use Rattle.bit_addressing.specs.Range.{LiesIn};
 ghost use Rattle.bit_addressing.specs.Row.{put};
@@ -12,7 +12,7 @@ use crate::slice_mut::BitSliceMut;
 use bit_addressing::{And, BitOrder, BitStore, Or, RangeExt, Xor};
 
 impl<'a, T: BitStore, O: BitOrder> BitSliceMut<'a, T, O> {
-    /// Reverses the bits of the view, up to 64 from each end at a time.
+    /// Reverses the bits of the view, by whole words where it can.
     ///
     /// ```text
     /// of 01101001: bits.reverse() leaves 10010110
@@ -71,8 +71,8 @@ impl<'a, T: BitStore, O: BitOrder> BitSliceMut<'a, T, O> {
         rotate_words::<T, O>(self.words, self.head, self.len, front);
     }
 
-    /// Moves each bit `by` indices towards the front, by whole words where it can: the first `by` go, and
-    /// the last `by` are false. Requires that `by` is at most the length.
+    /// Moves each bit by `by` indices towards the front, by whole words where it can. The first `by` bits
+    /// are dropped, and the last `by` become false. Requires that `by` is at most the length.
     ///
     /// ```text
     /// of 01101001: bits.shift_left(2) leaves 10100100
@@ -92,8 +92,8 @@ impl<'a, T: BitStore, O: BitOrder> BitSliceMut<'a, T, O> {
         shift_words_left::<T, O>(self.words, self.head, self.len, by);
     }
 
-    /// Moves each bit `by` indices towards the end, by whole words where it can: the last `by` go, and the
-    /// first `by` are false. Requires that `by` is at most the length.
+    /// Moves each bit by `by` indices towards the end, by whole words where it can. The last `by` bits are
+    /// dropped, and the first `by` become false. Requires that `by` is at most the length.
     ///
     /// ```text
     /// of 01101001: bits.shift_right(2) leaves 00011010
@@ -112,9 +112,9 @@ impl<'a, T: BitStore, O: BitOrder> BitSliceMut<'a, T, O> {
         shift_words_right::<T, O>(self.words, self.head, self.len, by);
     }
 
-    /// Clears each of the bits from `dest` on that is false at its index of a range of the same
-    /// view, as if the range was read before any bit is written. The two may overlap. Requires that the
-    /// range lies in the view, and as many bits from `dest` on.
+    /// Clears each bit at `dest + k` where bit `k` of a range of the view is false, as if the range was
+    /// read before any bit is written. The two runs may overlap. Requires that the range lies in the
+    /// view's length, and that its bits have room from `dest` on.
     ///
     /// ```text
     /// of 01101001: bits.and_within(4..8, 0) leaves 00001001
@@ -134,9 +134,9 @@ impl<'a, T: BitStore, O: BitOrder> BitSliceMut<'a, T, O> {
         combine_within::<And, T, O>(self.words, from, to, range.end - range.start);
     }
 
-    /// Sets each of the bits from `dest` on that is true at its index of a range of the same
-    /// view, as if the range was read before any bit is written. The two may overlap. Requires that the
-    /// range lies in the view, and as many bits from `dest` on.
+    /// Sets each bit at `dest + k` where bit `k` of a range of the view is true, as if the range was
+    /// read before any bit is written. The two runs may overlap. Requires that the range lies in the
+    /// view's length, and that its bits have room from `dest` on.
     ///
     /// ```text
     /// of 01101001: bits.or_within(4..8, 0) leaves 11111001
@@ -156,9 +156,9 @@ impl<'a, T: BitStore, O: BitOrder> BitSliceMut<'a, T, O> {
         combine_within::<Or, T, O>(self.words, from, to, range.end - range.start);
     }
 
-    /// Flips each of the bits from `dest` on that is true at its index of a range of the same
-    /// view, as if the range was read before any bit is written. The two may overlap. Requires that the
-    /// range lies in the view, and as many bits from `dest` on.
+    /// Flips each bit at `dest + k` where bit `k` of a range of the view is true, as if the range was
+    /// read before any bit is written. The two runs may overlap. Requires that the range lies in the
+    /// view's length, and that its bits have room from `dest` on.
     ///
     /// ```text
     /// of 01101001: bits.xor_within(4..8, 0) leaves 11111001

@@ -13,8 +13,8 @@ impl<'a, T: BitStore, O: BitOrder> BitSliceMut<'a, T, O> {
     /// The part of the view from index `from` up to index `upto`, for writing: what is written lands in the view,
     /// and the words around the part stay. Requires that `from..upto` is a range of the view's length.
     ///
-    /// The clauses say of the part its list, head and words. What a caller's own proof has to know of the whole view
-    /// after a write is said by the calls that take a range: `fill_range`, `flip_range`, `copy_into` and `or_range`.
+    /// The clauses say the list, head and words of the part. Where a caller's own proof needs the whole view after a
+    /// write, call one that takes a range: `fill_range`, `flip_range`, `copy_into` or `or_range`.
     ///
     /// ```text
     /// view.part_mut(8, 24).reverse();

@@ -155,8 +155,8 @@ impl<'a, T: BitStore, O: BitOrder> BitSliceMut<'a, T, O> {
         );
     }
 
-    // Makes each bit at the indices of a range into the one that `F` makes of it and of the one in `other`, or of false
-    // past its end. Requires that the range lies in the view's length.
+    // Combines each bit at the indices of a range, by `F`, with the bit of `other` for it, or with false past the end
+    // of `other`. Requires that the range lies in the view's length.
     fn combine_range<F: BitOperator, R: RangeExt, U: BitStore, P: BitOrder>(
         &mut self,
         range: R,
@@ -181,8 +181,8 @@ impl<'a, T: BitStore, O: BitOrder> BitSliceMut<'a, T, O> {
         combine_words::<F, T, O, U, P>(self.words, self.head + range.start, count, other);
     }
 
-    /// Clears each bit at the indices of a range that is false in `other`, or that `other` is too short
-    /// for: the first bit of `other` is for the first of the range. Requires that the range lies in the view's length.
+    /// Clears each bit at the indices of a range that is false in `other`, and each past the end of `other`. The
+    /// first bit of `other` is for the first of the range. Requires that the range lies in the view's length.
     ///
     /// ```text
     /// of 01101001 and 0101: bits.and_range(1..5, other) leaves 00101001
@@ -209,7 +209,7 @@ impl<'a, T: BitStore, O: BitOrder> BitSliceMut<'a, T, O> {
         self.combine_range::<And, R, U, P>(range, other);
     }
 
-    /// Sets each bit at the indices of a range that is true in `other`: the first bit of `other` is for
+    /// Sets each bit at the indices of a range that is true in `other`. The first bit of `other` is for
     /// the first of the range. Requires that the range lies in the view's length.
     ///
     /// ```text
@@ -237,7 +237,7 @@ impl<'a, T: BitStore, O: BitOrder> BitSliceMut<'a, T, O> {
         self.combine_range::<Or, R, U, P>(range, other);
     }
 
-    /// Flips each bit at the indices of a range that is true in `other`: the first bit of `other` is for
+    /// Flips each bit at the indices of a range that is true in `other`. The first bit of `other` is for
     /// the first of the range. Requires that the range lies in the view's length.
     ///
     /// ```text

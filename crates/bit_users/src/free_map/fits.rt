@@ -1,4 +1,4 @@
-//! Runs of frames at a multiple of a number, and in the shortest place that is long enough.
+//! Calls that take frames from a multiple of a number on, or where they fit best.
 ghost use Rattle.std.specs.Prelude.{◌≡◌, ◌%◌, ◌<◌, ◌≤◌, ℕ, true, IfNone, IfSome, MatchOption, Some, length, replicate};
 ghost use Rattle.bit_addressing.specs.Row.{put};
 ghost use Rattle.bit_users.specs.FreeMap.{AreFree, IsBestBelow, IsBestFit, IsFirstAligned};
@@ -49,9 +49,9 @@ impl FreeMap {
         None
     }
 
-    /// Takes `count` free frames in a row where they fit best: the first of a run of free frames that is shortest among
-    /// those that are long enough, and of such the lowest. None exactly where no run is long enough, and then nothing
-    /// changes. Requires that `count` is at least 1.
+    /// Takes `count` free frames in a row where they fit best: the first of the shortest run of free frames that is
+    /// long enough, or of the lowest such run where several are as short. None exactly where no run is long enough,
+    /// and then nothing changes. Requires that `count` is at least 1.
     ///
     /// ```text
     /// frames.take_best_fit(2)         // Some(9), where frames 4 to 7 and 9 to 10 are free
@@ -84,7 +84,7 @@ impl FreeMap {
         }
     }
 
-    // The first frame and the length of the best of all runs of free frames.
+    // The first frame and the length of the run of free frames in which `count` frames fit best.
     fn best_run(&self, count: usize) -> Option<(usize, usize)>
         requires { 0 < count }
         ensures { IsBestBelow self.now count (length self.now) result }
@@ -99,7 +99,7 @@ impl FreeMap {
     }
 }
 
-// The best run so far and one more that lies higher: the shorter that is long enough.
+// Of the best run so far and one that is higher, the shorter that is long enough.
 fn better(
     best: Option<(usize, usize)>,
     first: usize,

@@ -9,16 +9,16 @@ use std::alloc::{AllocError, Global};
 /// What is asked of a map of frames.
 #[derive(Debug, Clone, Copy, PartialEq, Eq)]
 pub enum Request {
-    /// The lowest run of this many free frames.
+    /// Takes the lowest run of this many free frames.
     Take(usize),
-    /// Frames are given back: the first, and how many.
+    /// Gives frames back: the first, and how many.
     GiveBack(usize, usize),
 }
 
 /// What became of a request.
 #[derive(Debug, Clone, Copy, PartialEq, Eq)]
 pub enum Reply {
-    /// The frames from this one on were handed out, as many as were asked for.
+    /// The frames from this one on were taken, as many as were asked for.
     Taken(usize),
     /// The frames are free again.
     GivenBack,
@@ -28,9 +28,9 @@ pub enum Reply {
 }
 
 impl FreeMap {
-    /// Serves requests one after another, and returns the reply to each. No frame is handed out twice, unless a request
-    /// between gave it back. Takes memory for the replies alone, and first: refused, there is a request, and nothing
-    /// changes.
+    /// Serves requests one after another, and returns the reply to each. No frame is taken twice, unless a request in
+    /// between gave it back. Memory is taken first, and for the replies alone; it is refused only where there is a
+    /// request, and then nothing changes.
     ///
     /// ```text
     /// frames.serve(alloc, &[Request::Take(4), Request::GiveBack(0, 2), Request::Take(1)])?

@@ -8,9 +8,10 @@ use crate::matrix::Matrix;
 use std::alloc::{AllocError, Global};
 
 impl Matrix {
-    /// The inverse mod 2, by Gauss-Jordan elimination over whole rows: the products with it are the identity from both
-    /// sides. None exactly where no matrix is the inverse, which is where the rank is less than the number of rows.
-    /// Takes memory where there is a bit, and is refused only then. Requires that the matrix is square.
+    /// The inverse mod 2, by Gauss-Jordan elimination over whole rows: its products with this matrix, from both
+    /// sides, are the identity. None exactly where there is no inverse, which is where the rank is less than the
+    /// number of rows. Takes memory where there is a bit, and is refused only then. Requires that the matrix is
+    /// square.
     ///
     /// ```text
     /// let undo = scramble.inverse_mod_2(alloc)?;
@@ -34,9 +35,9 @@ impl Matrix {
         Ok(Some(made))
     }
 
-    // Makes a column that of the identity, by rows that are added to others here and in `made`. False where the column
-    // has no bit from its own row on, and then nothing changes. Requires that the columns before it are those of the
-    // identity.
+    // Makes a column that of the identity, by adding rows to others here and in `made`. Returns false where the
+    // column has no bit from its own row on, and then nothing changes. Requires that the columns before it are those
+    // of the identity.
     fn reduce_column(&mut self, made: &mut Self, column: usize) -> bool
         requires square { self.old.rows ≡ self.old.columns }
         requires alike { AreAlike made.old self.old }
@@ -58,8 +59,8 @@ impl Matrix {
         true
     }
 
-    // Makes a row have a bit in the column of its index, by a later row that has one. Requires that the columns
-    // before it are those of the identity.
+    // Makes a row have a bit in the column of its index, by adding a later row that has one. Requires that the
+    // columns before it are those of the identity.
     fn set_pivot(&mut self, made: &mut Self, column: usize, pivot: usize)
         requires square { self.old.rows ≡ self.old.columns }
         requires alike { AreAlike made.old self.old }
@@ -113,7 +114,7 @@ impl Matrix {
         }
     }
 
-    // The same for one row alone.
+    // Like `clear_column`, for one row alone.
     fn clear_bit(&mut self, made: &mut Self, row: usize, column: usize)
         requires square { self.old.rows ≡ self.old.columns }
         requires alike { AreAlike made.old self.old }

@@ -6,9 +6,9 @@ ghost use Rattle.bit_users.specs.Matrix.{AreAlike, IsClosed, IsPath, IsPathOver,
 use crate::matrix::Matrix;
 
 impl Matrix {
-    /// The transitive closure of a graph, by Warshall's algorithm: afterwards an edge leads from `i` to `j`
-    /// exactly where a path of at least one edge led there before. Takes no memory. Requires that the matrix
-    /// is square.
+    /// Makes the graph its transitive closure, by Warshall's algorithm: afterwards an edge leads from `i` to
+    /// `j` exactly where a path of at least one edge led there before. Takes no memory. Requires that the
+    /// matrix is square.
     pub fn close(&mut self)
         requires { self.old.rows ≡ self.old.columns }
         ensures alike { AreAlike self.new self.old }
@@ -22,7 +22,8 @@ impl Matrix {
         }
     }
 
-    // Adds an edge from each node to each to which a path over the nodes from `start` up to `end`, at most 64, leads.
+    // Adds an edge from each node to each node to which a path leads whose inner nodes are those from `start` up to
+    // `end`, at most 64.
     fn lead_over(&mut self, start: usize, end: usize)
         requires square { self.old.rows ≡ self.old.columns }
         requires order { start ≤ end }
@@ -38,7 +39,8 @@ impl Matrix {
         }
     }
 
-    // The same for the nodes from `start` up to `end` alone, node by node.
+    // Like `lead_over`, for paths that begin at the nodes from `start` up to `end`: it goes through
+    // these nodes one by one.
     fn close_block(&mut self, start: usize, end: usize)
         requires square { self.old.rows ≡ self.old.columns }
         requires order { start ≤ end }
@@ -53,8 +55,8 @@ impl Matrix {
         }
     }
 
-    // Adds an edge from each node from `start` up to `end` with an edge to `middle` to each node to which an edge
-    // leads from `middle`.
+    // For each node from `start` up to `end` with an edge to `middle`, adds an edge from it to each node to which
+    // an edge leads from `middle`.
     fn lead_through(&mut self, middle: usize, start: usize, end: usize)
         requires square { self.old.rows ≡ self.old.columns }
         requires order { start ≤ end }
@@ -69,7 +71,7 @@ impl Matrix {
         }
     }
 
-    // The same for one node alone.
+    // Like `lead_through`, for one node alone.
     #[tactic(auto, using(crate::proofs::Grids::row_leads, crate::proofs::Grids::row_leads_not))]
     fn lead_row_through(&mut self, row: usize, middle: usize)
         requires square { self.old.rows ≡ self.old.columns }
@@ -108,10 +110,10 @@ impl Matrix {
         self.row(row).any()
     }
 
-    // Adds an edge from `row` to each node to which an edge leads from one of the nodes from `start` up to `end`, at
-    // most 64, to which an edge leads from `row`. Nodes whose bits in `leading` are not set have no edge, and are
-    // passed over. Requires that the nodes are closed: then those to which an edge leads from one of them are not
-    // followed too.
+    // For each node from `start` up to `end`, at most 64, to which an edge leads from `row`, adds an edge from `row`
+    // to each node to which an edge leads from it. Nodes whose bits in `leading` are not set have no edge, and are
+    // skipped. Requires that these nodes are closed: the edges of one of them include those of each other one to
+    // which it has an edge, so these others are skipped after it.
     fn lead_row(&mut self, row: usize, start: usize, end: usize, leading: u64)
         requires square { self.old.rows ≡ self.old.columns }
         requires row { row < self.old.rows }
@@ -136,7 +138,7 @@ impl Matrix {
     }
 }
 
-// The set bits of a number but the one at `place` and those that are set in `covered`.
+// The set bits of a number without the one at `place` and those that are set in `covered`.
 fn left_of(chunk: u64, place: u32, covered: u64) -> u64
     requires { place < 64 }
     ensures bits { (p : ℕ) → has_bit result p ≡ (has_bit chunk p && not (eqb p place || has_bit covered p)) }

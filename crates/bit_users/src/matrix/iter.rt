@@ -36,7 +36,7 @@ pub struct Column<'a> {
 impl Matrix {
     ghost use Rattle.bit_users.specs.MatrixLeft.{column_left, rows_left};
 
-    /// The rows as views, each of which begins with a word, from both ends.
+    /// The rows as views, from both ends. Each view begins with a word.
     ///
     /// ```text
     /// Matrix::identity(alloc, 2)?.iter_rows()      // 10, 01
@@ -58,7 +58,7 @@ impl Matrix {
         }
     }
 
-    /// The bits of a column, from both ends. Requires that the matrix has it.
+    /// The bits of a column, from both ends. Requires that the matrix has the column.
     ///
     /// ```text
     /// Matrix::identity(alloc, 2)?.column(1)        // false, true

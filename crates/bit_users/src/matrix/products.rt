@@ -9,10 +9,10 @@ use bit_addressing::GrowError;
 use std::alloc::Global;
 
 impl Matrix {
-    /// The product over or and and: a bit is set where a middle index has a bit in its row here, and in its column in
-    /// the other matrix. Each bit set here costs an `or_row_of`. `TooLong` exactly where the bits of the product, with
-    /// the padding of each row, pass `MAX_BITS`; takes no memory for no bit. Requires that there are as many rows in
-    /// the other matrix as columns here.
+    /// The product by `or` and `and`: bit `i, j` is set where for some `k` bit `i, k` is set here and bit `k, j` in
+    /// the other matrix. Each bit that is set here costs one `or_row_of`. Returns `TooLong` exactly where the bits of
+    /// the product, with the padding of each row, pass `MAX_BITS`. Takes no memory where the product has no bit.
+    /// Requires that the other matrix has as many rows as this one has columns.
     ///
     /// ```text
     /// let two_steps = graph.times(&graph, alloc)?;     // where paths of two edges lead
@@ -33,10 +33,10 @@ impl Matrix {
         Ok(made)
     }
 
-    /// The product mod 2: a bit is set where an odd number of middle indices have a bit in its row here, and in its
-    /// column in the other matrix. Each bit set here costs an `xor_row_of`. `TooLong` exactly where the bits of the
-    /// product, with the padding of each row, pass `MAX_BITS`; takes no memory for no bit. Requires that there are as
-    /// many rows in the other matrix as columns here.
+    /// The product mod 2: bit `i, j` is set where for an odd number of `k` bit `i, k` is set here and bit `k, j` in
+    /// the other matrix. Each bit that is set here costs one `xor_row_of`. Returns `TooLong` exactly where the bits
+    /// of the product, with the padding of each row, pass `MAX_BITS`. Takes no memory where the product has no bit.
+    /// Requires that the other matrix has as many rows as this one has columns.
     pub fn times_mod_2(&self, other: &Self, alloc: Global) -> Result<Self, GrowError>
         requires { other.now.rows ≡ self.now.columns }
         ensures rows { IfOk result (λ m. m.rows ≡ self.now.rows) }
@@ -53,7 +53,7 @@ impl Matrix {
         Ok(made)
     }
 
-    // Or-s each row of `right` into a row whose index is set in that row of `left`.
+    // Ors into a row each row of `right` whose index is set in that row of `left`.
     fn or_product_row(&mut self, row: usize, left: &Self, right: &Self)
         requires row { row < self.old.rows }
         requires rows { left.now.rows ≡ self.old.rows }
@@ -73,7 +73,7 @@ impl Matrix {
         }
     }
 
-    // Xors each row of `right` into a row whose index is set in that row of `left`.
+    // Xors into a row each row of `right` whose index is set in that row of `left`.
     fn xor_product_row(&mut self, row: usize, left: &Self, right: &Self)
         requires row { row < self.old.rows }
         requires rows { left.now.rows ≡ self.old.rows }

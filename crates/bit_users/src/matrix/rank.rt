@@ -8,8 +8,9 @@ use crate::matrix::Matrix;
 use std::alloc::{AllocError, Global};
 
 impl Matrix {
-    /// The rank mod 2: how many rows are independent, so that each row is a sum mod 2 of some of them. Each row of a
-    /// copy is reduced by those before it, as a whole. Takes memory where there is a bit, and is refused only then.
+    /// The rank mod 2: the number of rows in a set of independent rows such that each row is a sum mod 2 of some of
+    /// them. It reduces each row of a copy by the rows before it. Takes memory where there is a bit, and is refused
+    /// only then.
     ///
     /// ```text
     /// of the rows 110, 011 and 101: m.rank_mod_2(alloc)? == 2
@@ -35,8 +36,8 @@ impl Matrix {
         Ok(rank)
     }
 
-    // Adds rows before it to a row, each where the row has a bit in the column of that row's first bit. Requires that
-    // those rows are reduced.
+    // Reduces a row by the rows before it: each is added where the row has a bit in the column of that one's first
+    // bit. Requires that the rows before it are reduced.
     fn reduce_row(&mut self, row: usize)
         requires { row < self.old.rows }
         ensures alike { AreAlike self.new self.old }
@@ -48,7 +49,7 @@ impl Matrix {
         }
     }
 
-    // The same with one row before it.
+    // Like `reduce_row`, by one of the rows before it.
     fn reduce_row_by(&mut self, row: usize, before: usize)
         requires row { row < self.old.rows }
         requires before { before < row }

@@ -2,9 +2,9 @@
 ghost use Rattle.std.specs.Prelude.{◌≡◌, ◌<◌, ℕ};
 ghost use Rattle.bit_users.specs.Squares.{IsLower, source_column, source_row, square_bit};
 
-// Makes the rows of a square its columns, by six steps. Each weaves the words of the two halves: of a word of the upper
-// half and its partner in the lower half one takes the bits of the even columns, and the next those of the odd ones,
-// where a column is even by one digit of its index.
+// Makes the rows of a square its columns, in six steps. Each step takes a word of the upper half and the one 32 words
+// after it, and makes two neighbouring words of them: the first has their bits in columns whose digit `step` is 0,
+// the second those in the other columns.
 pub fn turn(square: &mut [u64; 64])
     ensures { (i j : ℕ) → i < 64 → j < 64 → square_bit square.new i j ≡ square_bit square.old j i }
 {
@@ -17,7 +17,7 @@ pub fn turn(square: &mut [u64; 64])
     weave(&other, square, 1, 0x5555_5555_5555_5555);
 }
 
-// One of the steps: `lower` has the columns whose digit `step` is 0.
+// One of the steps. The set bits of `lower` are the columns whose digit `step` is 0.
 #[inline(always)]
 fn weave(from: &[u64; 64], to: &mut [u64; 64], step: u8, lower: u64)
     requires { IsLower step lower }

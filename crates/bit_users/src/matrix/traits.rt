@@ -1,4 +1,4 @@
-//! What the matrix has of std's traits.
+//! The impls of std's traits for the matrix.
 ghost use Rattle.std.specs.Prelude.{◌≡◌, ◌<◌, ◌↔◌, IsTrue, Some};
 ghost use Rattle.std.specs.Cmp.{partial_equiv_from_equiv};
 ghost use Rattle.std.specs.Fmt.{WritesStyledOnOk};
@@ -48,7 +48,7 @@ impl Eq for Matrix {
     ghost laws = { grid_equiv };
 }
 
-/// A line for each row: its digits, 0 or 1, and the end of the line. Flags and widths have no effect.
+/// A line for each row: its digits, 0 or 1, and a line feed. Flags and widths have no effect.
 ///
 /// ```text
 /// println!(rt; "{}", Matrix::identity(alloc, 2)?)?;
@@ -69,7 +69,7 @@ impl fmt::Display for Matrix {
 }
 
 impl Matrix {
-    // Whether each row is that of another matrix of the same size.
+    // Whether each row is equal to that of another matrix of the same size.
     fn has_rows_of(&self, other: &Self) -> bool
         requires { AreAlike other.now self.now }
         ensures { result ≡ bits_equal self.now.bits other.now.bits }

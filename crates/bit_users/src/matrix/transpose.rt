@@ -12,7 +12,8 @@ use std::alloc::{AllocError, Global};
 
 impl Matrix {
     /// The matrix whose rows are the columns of this one, by squares of 64 x 64 bits. Takes memory where there is a
-    /// bit, and is refused only then, also where its bits, with the padding of each row, pass `MAX_BITS`.
+    /// bit, and is refused only then. It is refused too where the bits of the result, with the padding of each row,
+    /// would pass `MAX_BITS`.
     ///
     /// ```text
     /// of the rows 110 and 001: m.transpose(alloc)? has the rows 10, 10 and 01
@@ -36,7 +37,7 @@ impl Matrix {
         Ok(turned)
     }
 
-    // Writes up to 64 columns, from `left` on, as rows of their indices into a matrix that is turned against this one.
+    // Writes up to 64 columns, from `left` on, into the rows with the same indices of the transpose.
     fn turn_band(&self, left: usize, turned: &mut Self)
         requires left { left < self.now.columns }
         requires rows { turned.old.rows ≡ self.now.columns }
@@ -54,7 +55,7 @@ impl Matrix {
         }
     }
 
-    // Up to 64 rows from `top` on, and of each up to 64 columns from `left` on.
+    // The square of up to 64 rows from `top` on and up to 64 columns from `left` on.
     fn read_square(&self, top: usize, left: usize) -> [u64; 64]
         requires top { top < self.now.rows }
         requires left { left < self.now.columns }
@@ -69,7 +70,7 @@ impl Matrix {
         square
     }
 
-    // Writes such a square, as far as there are rows and columns.
+    // Writes such a square, in the rows and columns that the matrix has.
     fn write_square(&mut self, top: usize, left: usize, square: &[u64; 64])
         requires top { top < self.old.rows }
         requires left { left < self.old.columns }
@@ -97,7 +98,8 @@ impl Matrix {
         self.bits.get_range(start..start + count).load_le()
     }
 
-    // Writes such a number.
+    // Writes up to 64 bits of a row, from a column on: bit `j` of the number in column `column +
+    // j`.
     fn write_part(&mut self, row: usize, column: usize, count: usize, number: u64)
         requires row { row < self.old.rows }
         requires few { count ≤ 64 }

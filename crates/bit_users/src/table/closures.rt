@@ -7,8 +7,8 @@ ghost use Rattle.bit_users.specs.InTurn.{ResultsInTurn};
 use crate::table::NumberSet;
 
 impl NumberSet {
-    /// Keeps the numbers at which `f` returns true. `f` is called once for each number of the set, ascending. The bound
-    /// stays. Takes no memory.
+    /// Keeps the numbers for which `f` returns true. `f` is called once for each number of the set, ascending. The
+    /// bound stays. Takes no memory. Requires that `f` can always be called.
     ///
     /// ```text
     /// of 2, 3, 5, 8: seen.retain(|number| number % 2 == 1) leaves 3, 5

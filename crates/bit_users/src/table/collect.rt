@@ -13,8 +13,8 @@ use std::alloc::Global;
 impl NumberSet {
     /// Puts the numbers that an iterator gives before its first None into the set, each like `insert_growing`: the
     /// bound grows to reach them. Returns `TooLong` at the first number that is not below the bound and `MAX_BITS` or
-    /// more, and `OutOfMemory` only at a number that is not below the bound; then it pulls no more, and the set has the
-    /// numbers before that one.
+    /// more, and `OutOfMemory` only at a number that is not below the bound; then it pulls no more, and the set has
+    /// the numbers before that one. Requires that the iterator ends.
     ///
     /// ```text
     /// of 2, 3: seen.extend(Some(41))? leaves 2, 3, 41
@@ -38,7 +38,7 @@ impl NumberSet {
     }
 
     /// The set of the numbers that an iterator gives before its first None, with the least bound above them. It is
-    /// refused like `extend`.
+    /// refused like `extend`. Requires that the iterator ends.
     ///
     /// ```text
     /// NumberSet::from_iter(alloc, numbers)?    // of the `Vec` 3, 1, 3: the set of 1 and 3, of bound 4

@@ -9,7 +9,7 @@ ghost use Rattle.bit_users.specs.Table.{IsIn};
 use crate::table::NumberSet;
 use std::iter::{FusedIterator, Iterator};
 
-/// Which numbers of two sets are meant.
+/// Which numbers of two sets an iterator gives.
 #[derive(Clone, Copy)]
 enum Merging {
     Either,
@@ -21,7 +21,7 @@ enum Merging {
 impl Merging {
     ghost use Rattle.bit_users.specs.Merged.{made_by};
 
-    // Whether a number is meant, by whether it is in each set.
+    // Whether a number is given, by whether it is in each set.
     fn keeps(self, left: bool, right: bool) -> bool
         ensures { result ≡ made_by self left right }
     {
@@ -34,7 +34,8 @@ impl Merging {
     }
 }
 
-/// The numbers of two sets, ascending, each once: of both, of either, or of one alone. It takes no memory.
+/// The numbers of two sets, ascending, each once: those in both, in either, or in one alone. It takes no
+/// memory.
 #[derive(Drop)]
 pub struct Merged<'a> {
     left: &'a NumberSet,
@@ -66,7 +67,7 @@ impl NumberSet {
         self.merge(other, Merging::Both)
     }
 
-    /// The numbers of this set that the other has not, ascending. Takes no memory.
+    /// The numbers of this set that are not in the other, ascending. Takes no memory.
     pub fn iter_difference<'a>(&'a self, other: &'a Self) -> Merged<'a>
         ensures list { merged_left result ≡ ones_of (and_not_of (filled_up self.now (length other.now)) other.now) }
         ensures runs { YieldsInOrder (YieldsFirst merged_left) merged_left }
@@ -74,7 +75,7 @@ impl NumberSet {
         self.merge(other, Merging::LeftAlone)
     }
 
-    /// The numbers of one set alone, ascending. Takes no memory.
+    /// The numbers of exactly one of the sets, ascending. Takes no memory.
     pub fn iter_symmetric_difference<'a>(&'a self, other: &'a Self) -> Merged<'a>
         ensures list { merged_left result ≡ ones_of (xor_of (filled_up self.now (length other.now)) other.now) }
         ensures runs { YieldsInOrder (YieldsFirst merged_left) merged_left }
@@ -82,7 +83,7 @@ impl NumberSet {
         self.merge(other, Merging::OneAlone)
     }
 
-    // The numbers of two sets that are meant.
+    // The numbers of two sets that are to be given.
     fn merge<'a>(&'a self, other: &'a Self, merging: Merging) -> Merged<'a>
         ensures { merged_left result ≡ ones_of (merged_list merging self.now other.now) }
     {
@@ -99,7 +100,7 @@ impl NumberSet {
 impl<'a> Merged<'a> {
     ghost use Rattle.bit_users.specs.Merged.{merged_list};
 
-    // The least number of either set at or above `from`.
+    // The least number of either set that is at least `from`.
     fn least_from(&self, from: usize) -> Option<usize>
         ensures least { MatchOption result
             ((k : ℕ) → from ≤ k → (IsIn self.now.left.now k ⊎ IsIn self.now.right.now k) → ⊥)

@@ -1,4 +1,4 @@
-//! What the set has of std's traits.
+//! The impls of std's traits for the set.
 ghost use Rattle.std.specs.Prelude.{◌≡◌, ◌↔◌, IsTrue, refl, Some};
 ghost use Rattle.std.specs.Cmp.{partial_equiv_from_equiv};
 ghost use Rattle.bit_slice.specs.Operators.{bits_cmp};
@@ -64,8 +64,8 @@ impl Ord for NumberSet {
 
     ghost matches_eq = { bits_tie };
 
-    /// The least number that is in one set alone decides, if it is below both bounds: the set that has it is the
-    /// greater. Where there is none the set with the lower bound is the smaller.
+    /// The least number that is in exactly one of the sets decides, if it is below both bounds: the set that has
+    /// it is the greater. Where there is none, the set with the lower bound is the smaller.
     fn cmp(&self, other: &Self) -> Ordering {
         self.bits.cmp(&other.bits)
     }

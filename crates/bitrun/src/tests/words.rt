@@ -1,4 +1,4 @@
-//! The words of a call.
+//! The program's arguments.
 use crate::starting::start;
 use crate::tests::{FIRST_RUN, check, words_of};
 use std::test::Fail;

@@ -10,7 +10,7 @@ use Rattle.bit_addressing.proofs.Typed.{length_row}
 use Rattle.bit_slice.proofs.Parts.{row_drop}
 use Rattle.bit_slice.proofs.run.split_run_mut.Goals as goal
 
--- a run of a front, and one from a place on
+-- a run of a front, and one from an index on
 run_of_front : (xs : List Bool) (n from at : ℕ) → from ≤ at → at ≤ n → n ≤ length xs → slice_range (take n xs) from at ≡ slice_range xs from at
 run_of_front xs n from at a b c = same_lists _ _ (search (rules, places)) (λ i d below. grind (arith, places))
 

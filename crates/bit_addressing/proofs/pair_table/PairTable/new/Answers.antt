@@ -1,0 +1,15 @@
+use Rattle.std.proofs.Common.{◌≡◌, ℕ, ◌+◌, ◌/◌, ◌%◌, ◌<◌, eqb, arith}
+use Rattle.bit_addressing.proofs.Rows.{width_small, width_positive}
+use Rattle.bit_addressing.proofs.Tables.{entries_taken}
+use Rattle.bit_addressing.proofs.pair_table.PairTable.new.Goals as goal
+
+pub returns : goal.returns
+returns g c =
+    let w = g.T.BitStore.BITS in
+    let at = c.args.at in
+    λ i h.
+    let source : ℕ = g.P.BitOrder.place w ((at + i) % w) in
+    let q : ℕ = g.O.BitOrder.place w i in (
+      entries_taken c.columns.result c.entries.result source q (eqb ((at + i) / w) 0) c.entries.ensures (λ p k. c.columns.ensures i p h k),
+      entries_taken c.columns-2.result c.entries-2.result source q (eqb ((at + i) / w) 1) c.entries-2.ensures (λ p k. c.columns-2.ensures i p h k),
+    )

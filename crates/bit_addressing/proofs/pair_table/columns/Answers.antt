@@ -1,4 +1,4 @@
-use Rattle.std.proofs.Common.{◌≡◌, ℕ, ◌+◌, ◌/◌, ◌%◌, ◌<◌, ◌≤◌, eqb, refl, ◌∙◌, ap, arith, rules}
+use Rattle.std.proofs.Common.{◌+◌, ◌/◌, ◌%◌, eqb, refl, ◌∙◌, ap, arith, rules}
 use Rattle.std.proofs.lemmas.List.{get_or-replicate}
 use Rattle.std.proofs.lemmas.Bool.{le-ltb}
 use Rattle.bit_addressing.specs.Bits.{has_bit}

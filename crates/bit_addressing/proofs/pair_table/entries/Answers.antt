@@ -1,5 +1,4 @@
-use Rattle.std.proofs.Common.{◌≡◌, ℕ, ◌+◌, ◌*◌, ◌<◌, refl, arith, rules, bit_or}
-use Rattle.bit_addressing.specs.Bits.{has_bit}
+use Rattle.std.proofs.Common.{ℕ, ◌+◌, ◌*◌, refl, arith, rules, bit_or}
 use Rattle.bit_addressing.specs.Table.{IsEntry}
 use Rattle.bit_addressing.proofs.Tables.{entry_more}
 use Rattle.bit_addressing.proofs.Words.{has_or}

@@ -1,5 +1,4 @@
-use Rattle.std.proofs.Common.{◌≡◌, ℕ, ◌+◌, ◌*◌, ◌<◌, ◌&&◌, ◌||◌, length, slice_index_or}
-use Rattle.bit_addressing.specs.Bits.{has_bit}
+use Rattle.std.proofs.Common.{◌≡◌, ℕ, ◌+◌, ◌*◌, ◌<◌, length, slice_index_or}
 use Rattle.bit_addressing.specs.Table.{IsEntry}
 use Rattle.bit_addressing.proofs.pair_table.entries.Given as goal
 

@@ -1,5 +1,4 @@
-use Rattle.std.proofs.Common.{◌≡◌, ℕ, ◌+◌, ◌/◌, ◌%◌, ◌<◌, eqb, arith}
-use Rattle.bit_addressing.proofs.Rows.{width_small, width_positive}
+use Rattle.std.proofs.Common.{ℕ, ◌+◌, ◌/◌, ◌%◌, eqb}
 use Rattle.bit_addressing.proofs.Tables.{entries_taken}
 use Rattle.bit_addressing.proofs.pair_table.PairTable.new.Goals as goal
 

@@ -37,13 +37,13 @@ fn column_if(column: u64, v: u8, b: u8) -> u64
     if v >> b & 1 == 1 { column } else { 0 }
 }
 
-/// The words that four places at once become: entry `k * 16 + v` is for the places from `4 * k` on, where `v` has
-/// their bits. The compiler writes the inner loop out, so that no bit of `v` is tested.
+/// Writes the words that four places at once become: entry `k * 16 + v` is for the places from `4 * k` on, where
+/// `v` has their bits. The compiler writes the inner loop out, so that no bit of `v` is tested.
 #[inline(always)]
-fn entries(columns: &[u64; 64]) -> [u64; 256]
-    ensures { (k v : ℕ) → k < 16 → v < 16 → IsEntry columns.now k v (slice_index_or result (k * 16 + v) 0) }
+fn fill_entries(entries: &mut [u64; 256], columns: &[u64; 64])
+    ensures { (k v : ℕ) → k < 16 → v < 16
+        → IsEntry columns.now k v (slice_index_or entries.new (k * 16 + v) 0) }
 {
-    let mut entries = [0u64; 256];
     for k in 0..16usize {
         for v in 0..16u8 {
             entries[k * 16 + v as usize] = column_if(columns[k * 4], v, 0)
@@ -52,7 +52,6 @@ fn entries(columns: &[u64; 64]) -> [u64; 256]
                 | column_if(columns[k * 4 + 3], v, 3);
         }
     }
-    entries
 }
 
 /// The entries of the `count` lowest groups of four bits of a word, put together.
@@ -93,10 +92,13 @@ impl PairTable {
         requires within { at < T.BITS }
         ensures { IsPairTable (O.place T.BITS) (P.place T.BITS) T.BITS at result.low result.high }
     {
-        PairTable {
-            low: entries(&columns::<T, O, U, P>(at, 0)),
-            high: entries(&columns::<T, O, U, P>(at, 1)),
-        }
+        let mut table = PairTable {
+            low: [0; 256],
+            high: [0; 256],
+        };
+        fill_entries(&mut table.low, &columns::<T, O, U, P>(at, 0));
+        fill_entries(&mut table.high, &columns::<T, O, U, P>(at, 1));
+        table
     }
 
     /// The word whose bit at index `i` is bit `at + i` of the two words one after the other, of a table that was

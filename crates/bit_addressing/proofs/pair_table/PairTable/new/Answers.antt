@@ -9,6 +9,6 @@ returns g c =
     λ i h.
     let source : ℕ = g.P.BitOrder.place w ((at + i) % w) in
     let q : ℕ = g.O.BitOrder.place w i in (
-      entries_taken c.columns.result c.entries.result source q (eqb ((at + i) / w) 0) c.entries.ensures (λ p k. c.columns.ensures i p h k),
-      entries_taken c.columns-2.result c.entries-2.result source q (eqb ((at + i) / w) 1) c.entries-2.ensures (λ p k. c.columns-2.ensures i p h k),
+      entries_taken c.columns.result c.fill_entries.new.entries source q (eqb ((at + i) / w) 0) c.fill_entries.ensures (λ p k. c.columns.ensures i p h k),
+      entries_taken c.columns-2.result c.fill_entries-2.new.entries source q (eqb ((at + i) / w) 1) c.fill_entries-2.ensures (λ p k. c.columns-2.ensures i p h k),
     )

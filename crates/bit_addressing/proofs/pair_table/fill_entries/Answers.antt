@@ -2,7 +2,7 @@ use Rattle.std.proofs.Common.{ℕ, ◌+◌, ◌*◌, refl, arith, rules, bit_or}
 use Rattle.bit_addressing.specs.Table.{IsEntry}
 use Rattle.bit_addressing.proofs.Tables.{entry_more}
 use Rattle.bit_addressing.proofs.Words.{has_or}
-use Rattle.bit_addressing.proofs.pair_table.entries.Goals as goal
+use Rattle.bit_addressing.proofs.pair_table.fill_entries.Goals as goal
 
 pub loop-v-preserved : goal.loop-v-preserved
 loop-v-preserved c =

@@ -1,6 +1,6 @@
 use Rattle.std.proofs.Common.{◌≡◌, ℕ, ◌+◌, ◌*◌, ◌<◌, length, slice_index_or}
 use Rattle.bit_addressing.specs.Table.{IsEntry}
-use Rattle.bit_addressing.proofs.pair_table.entries.Given as goal
+use Rattle.bit_addressing.proofs.pair_table.fill_entries.Given as goal
 
 -- the entries of the groups before `k` are made
 abbrev pub invariant-loop-k : goal.invariant-loop-k

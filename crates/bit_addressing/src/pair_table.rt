@@ -78,11 +78,11 @@ pub(crate) struct PairTable {
 }
 
 impl PairTable {
-    /// Whether this many words are made faster with a table than without: to make it takes as long as about a
-    /// thousand bits one by one.
+    /// Whether this many words are made faster with a table than without: to make it takes as long as 400 to 700 bits
+    /// one by one.
     #[inline(always)]
     pub(crate) fn pays<T: BitStore>(words: usize) -> bool {
-        1024 / T::BITS as usize <= words
+        768 / T::BITS as usize <= words
     }
 
     /// The table of the words that begin with bit `at` of two words one after the other.

@@ -13,8 +13,8 @@ use bit_containers::{BitOrder, BitStore, BitVec};
 use std::process::Abort;
 
 /// What a call returns that found memory.
-fn ok<V, E>(rt: &impl Abort, result: Result<V, E>) -> V {
-    match result {
+fn ok<V, E>(rt: &impl Abort, res: Result<V, E>) -> V {
+    match res {
         Ok(value) => value,
         Err(_) => panic!(rt; "memory is wanting"),
     }

@@ -13,10 +13,10 @@ use std::process::Abort;
 /// That a result is the vector of these digits, or that memory was refused.
 fn made<T: BitStore, O: BitOrder>(
     rt: &impl Abort,
-    result: Result<BitVec<T, O>, AllocError>,
+    res: Result<BitVec<T, O>, AllocError>,
     digits: &[u8],
 ) {
-    if let Ok(v) = result {
+    if let Ok(v) = res {
         holds(rt, &v, digits);
     }
 }
@@ -24,10 +24,10 @@ fn made<T: BitStore, O: BitOrder>(
 /// That a result is the vector of these digits, or that memory was refused, and never that it would be too long.
 fn grown<T: BitStore, O: BitOrder>(
     rt: &impl Abort,
-    result: Result<BitVec<T, O>, GrowError>,
+    res: Result<BitVec<T, O>, GrowError>,
     digits: &[u8],
 ) {
-    match result {
+    match res {
         Ok(v) => holds(rt, &v, digits),
         Err(why) => assert!(rt; why == GrowError::OutOfMemory),
     }
@@ -90,8 +90,8 @@ fn makers_that_take_none(rt: HostRuntime) {
 }
 
 /// That a vector has 96 ones after its eight bits, or, where it was refused, those bits alone.
-fn stands(rt: &impl Abort, v: &BitVec<u8, Lsb0>, result: Result<(), GrowError>) {
-    match result {
+fn stands(rt: &impl Abort, v: &BitVec<u8, Lsb0>, res: Result<(), GrowError>) {
+    match res {
         Ok(()) => {
             assert!(rt; v.len() == 104 && v.count_ones() == 102);
             assert!(rt; v.get(1) == Some(false) && v.get(3) == Some(false));

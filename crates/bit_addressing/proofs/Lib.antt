@@ -20,5 +20,6 @@ pub mod Pairs
 pub mod Blocks
 pub mod Shifts
 pub mod Counts
+pub mod Tables
 pub mod Growth
 pub mod Inserted

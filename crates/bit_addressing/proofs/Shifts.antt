@@ -1,6 +1,6 @@
 -- Moves of a run by words: parts of words, and whole words upward or downward.
-use Rattle.std.proofs.Common.{◌≡◌, ◌≢◌, ℕ, ◌+◌, ◌-◌, ◌*◌, ◌%◌, ◌<◌, ◌≤◌, Bool, false, ◌⊎◌, if◌then◌else◌, leb, ltb, ◌&&◌, List, [], ◌∷◌, length, drop, set, get_or, slice_range, refl, sym, ◌∙◌, ap, subst, inl, inr, arith, mul_comm}
-use Rattle.std.proofs.lemmas.List.{ext_get_or, get_or-take, get_or-drop, length-take, length-drop, take_all}
+use Rattle.std.proofs.Common.{◌≡◌, ◌≢◌, ℕ, ◌+◌, ◌-◌, ◌*◌, ◌%◌, ◌<◌, ◌≤◌, Bool, false, ◌⊎◌, if◌then◌else◌, leb, ltb, ◌&&◌, List, [], ◌∷◌, length, map, drop, set, get_or, slice_range, refl, sym, ◌∙◌, ap, subst, inl, inr, arith, mul_comm}
+use Rattle.std.proofs.lemmas.List.{ext_get_or, get_or-take, get_or-drop, length-take, length-drop, take_all, length-map, get_or-map}
 use Rattle.std.proofs.lemmas.Nat.{div-mul-add, mod-mul-add}
 use Rattle.std.proofs.lemmas.Bool.{cases_lt, lt-leb, le-leb, lt-ltb, le-ltb}
 use Rattle.std.proofs.lemmas.Bool.Decides.{nat_tests}
@@ -10,6 +10,7 @@ use Rattle.bit_addressing.proofs.lists.Put.{length-put, put_before, put_inside, 
 use Rattle.bit_addressing.proofs.lists.Shown.{get_or-run, length-run}
 use Rattle.bit_addressing.proofs.Runs.{inner, mul_mono}
 use Rattle.bit_addressing.proofs.lists.Sized.{one_more_word}
+use Rattle.bit_addressing.proofs.Packs.{row_from}
 use Rattle.bit_addressing.proofs.Windows.{first_of_two, second_of_two}
 use Rattle.bit_addressing.proofs.Rows.{length-row_of, get_or-row_of, get_or-row_one, row_part}
 use Rattle.bit_addressing.proofs.Moves.{source_below, source_none}
@@ -255,6 +256,31 @@ run_moved_back {w} {dst} {first} {low} {last} {high} xs ys zs us src n a run apa
     ∙ moved_thrice_back xs src dst a b high h (omega arith) ∙ ap (moved xs src dst) sum
 
 -- ---- runs copied from another row
+
+-- a word that has the bits from an index on of two words in a row has that part of the row
+pub pair_row : {X : Type 0} (value : X → ℕ) (place given : ℕ → ℕ → ℕ) (w u v k skip : ℕ) (source : List X) (low high : X) → 0 < w → u ≡ w → k + 1 < length source → skip < u → low ≡ get_or source k low → high ≡ get_or source (k + 1) high
+    → ((i : ℕ) → i < w → has_bit v (place w i) ≡ row_bit given u (value low ∷ value high ∷ []) (skip + i)) → row_of place w (v ∷ []) ≡ slice_range (row_of given u (map value source)) (k * u + skip) (k * u + skip + u)
+pair_row value place given w u v k skip source low high positive same there within first second bits =
+    let words = map value source in
+    let zs = row_of given u words in
+    let size : length words ≡ length source = length-map source value in
+    let long : length zs ≡ u * length words = length-row_of given u words in
+    let more = one_more_word k u in
+    let next = one_more_word (k + 1) u in
+    let room = mul_mono (k + 1 + 1) (length words) u (omega arith) in
+    let turned = mul_comm u (length words) in
+    let a : ℕ = k * u + skip in
+    let inside : a + w ≤ length zs = omega arith in
+    let read_low : value low ≡ get_or words k 0 = ap value first ∙ sym (get_or-map value source k low 0 (omega arith)) in
+    let read_high : value high ≡ get_or words (k + 1) 0 = ap value second ∙ sym (get_or-map value source (k + 1) high 0 there) in
+    row_from place w v a zs positive inside
+    (λ i h.
+    let below : i < u = omega arith in
+    let within_row : a + i < u * length words = omega arith in
+    bits i h
+    ∙ pair_bit given u words k (value low) (value high) skip i within below read_low (λ past. read_high)
+    ∙ sym (get_or-row_of given u words (a + i) within_row))
+    ∙ ap (λ n. slice_range zs a (a + n)) (sym same)
 
 -- two runs of one row that are put one after the other
 module _ (place : ℕ → ℕ → ℕ) (w : ℕ) where

@@ -7,3 +7,4 @@ pub mod Typed
 pub mod Text
 pub mod Examples
 pub mod Errors
+pub mod Table

@@ -10,6 +10,7 @@ mod length;
 mod meter;
 mod move_run;
 mod order;
+mod pair_table;
 mod range;
 mod store;
 mod word_read;

@@ -1,7 +1,8 @@
 //! Moves of runs of bits in a row, a word at a time: two neighbours, shifted, give a word of the target.
-ghost use Rattle.std.specs.Prelude.{◌≡◌, ℕ, ◌+◌, ◌-◌, ◌*◌, ◌<◌, ◌≤◌, [], ◌∷◌, map, length};
+ghost use Rattle.std.specs.Prelude.{◌≡◌, ℕ, ◌+◌, ◌-◌, ◌*◌, ◌<◌, ◌≤◌, [], ◌∷◌, map, length, IfSome};
 ghost use Rattle.bit_addressing.specs.Bits.{has_bit};
 ghost use Rattle.bit_addressing.specs.Row.{row_bit, row_of, moved, touched};
+ghost use Rattle.bit_addressing.specs.Table.{IsPairTable};
 ghost use Rattle.bit_addressing.specs.declared.length.TheConstants.{MAX_BITS};
 ghost use Rattle.bit_addressing.specs.Typed.{row};
 
@@ -9,6 +10,7 @@ use crate::each_shift::each_shift;
 use crate::index::{BitEnd, BitIdx};
 use crate::meter::Meter;
 use crate::order::BitOrder;
+use crate::pair_table::PairTable;
 use crate::store::BitStore;
 use crate::word_row::WordRow;
 
@@ -77,6 +79,26 @@ pub(crate) fn move_part<T: BitStore, O: BitOrder>(
     row.store(k, O::with_run(old, word, next, begin, start, end));
 }
 
+/// Like `BitOrder::window`, by a table where there is one.
+#[inline(always)]
+fn window_by<T: BitStore, O: BitOrder>(
+    table: Option<&PairTable>,
+    low: T,
+    high: T,
+    at: BitIdx<T>,
+) -> T
+    requires { IfSome table
+        (λ t. IsPairTable (O.place T.BITS) (O.place T.BITS) T.BITS at t.now.low t.now.high) }
+    ensures { (i : ℕ) → i < T.BITS
+        → has_bit (T.value result) (O.place T.BITS i)
+        ≡ row_bit O.place T.BITS (T.value low ∷ T.value high ∷ []) (at + i) }
+{
+    match table {
+        Some(table) => table.window::<T, O, T, O>(low, high),
+        None => O::window(low, high, at),
+    }
+}
+
 /// Moves the bits from index `at` of word `begin` on to the `count` whole words from word `first` on, which
 /// lie no higher.
 #[inline(always)]
@@ -86,7 +108,10 @@ fn shift_down<T: BitStore, O: BitOrder>(
     at: BitIdx<T>,
     first: usize,
     count: usize,
+    table: Option<&PairTable>,
 )
+    requires table { IfSome table
+        (λ t. IsPairTable (O.place T.BITS) (O.place T.BITS) T.BITS at t.now.low t.now.high) }
     requires within { at < T.BITS }
     requires down { first ≤ begin }
     requires source { begin + count < length row.old.words.now }
@@ -101,7 +126,7 @@ fn shift_down<T: BitStore, O: BitOrder>(
     for t in 0..count {
         let low = row.load(begin + t);
         let high = row.load(begin + t + 1);
-        row.store(first + t, O::window(low, high, at));
+        row.store(first + t, window_by::<T, O>(table, low, high, at));
     }
 }
 
@@ -113,7 +138,10 @@ fn shift_up<T: BitStore, O: BitOrder>(
     at: BitIdx<T>,
     first: usize,
     count: usize,
+    table: Option<&PairTable>,
 )
+    requires table { IfSome table
+        (λ t. IsPairTable (O.place T.BITS) (O.place T.BITS) T.BITS at t.now.low t.now.high) }
     requires within { at < T.BITS }
     requires up { begin < first }
     requires target { first + count ≤ length row.old.words.now }
@@ -129,7 +157,7 @@ fn shift_up<T: BitStore, O: BitOrder>(
         let k = count - 1 - t;
         let low = row.load(begin + k);
         let high = row.load(begin + k + 1);
-        row.store(first + k, O::window(low, high, at));
+        row.store(first + k, window_by::<T, O>(table, low, high, at));
     }
 }
 
@@ -137,6 +165,41 @@ fn shift_up<T: BitStore, O: BitOrder>(
 /// inlined and compiled for its case: words that are neighbours, and words that are not.
 #[inline(always)]
 fn shift_words<T: BitStore, O: BitOrder>(
+    row: &mut WordRow<T>,
+    begin: usize,
+    at: u8,
+    first: usize,
+    count: usize,
+    table: Option<&PairTable>,
+)
+    requires table { IfSome table
+        (λ t. IsPairTable (O.place T.BITS) (O.place T.BITS) T.BITS at t.now.low t.now.high) }
+    requires within { at < T.BITS }
+    requires target { first + count ≤ length row.old.words.now }
+    requires source { begin + count < length row.old.words.now }
+    ensures same_words { row.new.words.ghost_name ≡ row.old.words.ghost_name }
+    ensures size { length row.new.words.now ≡ length row.old.words.now }
+    ensures bits { row_of O.place T.BITS (map T.value row.new.words.now)
+        ≡ moved (row_of O.place T.BITS (map T.value row.old.words.now)) (begin * T.BITS + at)
+        (first * T.BITS) (count * T.BITS) }
+    ensures reads { row.new.meter.reads ≡ row.old.meter.reads + 2 * count }
+    ensures writes { row.new.meter.writes ≡ row.old.meter.writes + count }
+{
+    let index = BitIdx::<T>::new_unchecked(at);
+    if first < begin {
+        shift_down::<T, O>(row, begin, index, first, count, table);
+    } else if first == begin {
+        shift_down::<T, O>(row, first, index, first, count, table);
+    } else if begin + 1 < first {
+        shift_up::<T, O>(row, begin, index, first, count, table);
+    } else {
+        shift_up::<T, O>(row, first - 1, index, first, count, table);
+    }
+}
+
+/// Like `shift_words`, by a table that is made here (docs/SPEED.md, "An order that a user writes", the moves).
+#[inline(never)]
+fn shift_by_table<T: BitStore, O: BitOrder>(
     row: &mut WordRow<T>,
     begin: usize,
     at: u8,
@@ -154,16 +217,8 @@ fn shift_words<T: BitStore, O: BitOrder>(
     ensures reads { row.new.meter.reads ≡ row.old.meter.reads + 2 * count }
     ensures writes { row.new.meter.writes ≡ row.old.meter.writes + count }
 {
-    let index = BitIdx::<T>::new_unchecked(at);
-    if first < begin {
-        shift_down::<T, O>(row, begin, index, first, count);
-    } else if first == begin {
-        shift_down::<T, O>(row, first, index, first, count);
-    } else if begin + 1 < first {
-        shift_up::<T, O>(row, begin, index, first, count);
-    } else {
-        shift_up::<T, O>(row, first - 1, index, first, count);
-    }
+    let table = PairTable::new::<T, O, T, O>(at);
+    shift_words::<T, O>(row, begin, at, first, count, Some(&table));
 }
 
 /// Moves the bits from `from` on to the `count` whole words from word `first` on. Requires that the row
@@ -190,11 +245,13 @@ pub(crate) fn move_words<T: BitStore, O: BitOrder>(
     let begin = from / width;
     let at = (from % width) as u8;
     if T::BITS == 8 && O::goes_by_shifts() {
-        each_shift!(at, by => shift_words::<T, O>(row, begin, by, first, count));
+        each_shift!(at, by => shift_words::<T, O>(row, begin, by, first, count, None));
     } else if at == 0 {
-        shift_words::<T, O>(row, begin, 0, first, count);
+        shift_words::<T, O>(row, begin, 0, first, count, None);
+    } else if O::goes_by_shifts() || !PairTable::pays::<T>(count) {
+        shift_words::<T, O>(row, begin, at, first, count, None);
     } else {
-        shift_words::<T, O>(row, begin, at, first, count);
+        shift_by_table::<T, O>(row, begin, at, first, count);
     }
 }
 

@@ -16,7 +16,7 @@ use std::process::Abort;
 fn ok<V, E>(rt: &impl Abort, outcome: Result<V, E>) -> V {
     match outcome {
         Ok(value) => value,
-        Err(_) => panic!(rt; "memory is wanting"),
+        Err(_) => panic!(rt; "memory was refused"),
     }
 }
 

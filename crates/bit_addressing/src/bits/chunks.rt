@@ -4,6 +4,7 @@
 ghost use Rattle.std.specs.Prelude.{◌≡◌, ℕ, true, ◌+◌, ◌*◌, ◌/◌, ◌%◌, ◌^◌, ◌<◌, ◌≤◌, [], ◌∷◌, length, slice_range};
 ghost use Rattle.bit_addressing.specs.Binary.{value};
 ghost use Rattle.bit_addressing.specs.Row.{binary, number_bits, number_of, put, row_of};
+ghost use Rattle.bit_addressing.specs.Table.{IsPairTable};
 ghost use Rattle.bit_addressing.specs.Typed.{row};
 
 use crate::bits::copies::copy_bits;
@@ -11,6 +12,7 @@ use crate::bits::single::write_part;
 use crate::index::BitIdx;
 use crate::length::Span;
 use crate::order::{BitOrder, Lsb0};
+use crate::pair_table::PairTable;
 use crate::store::BitStore;
 
 /// The bits of a word as a number: the bit at index `i` is at place `i`.
@@ -256,6 +258,25 @@ fn word_by_bits<T: BitStore, O: BitOrder, U: BitStore, P: BitOrder>(
         word = word.with_bit(place, P::bit_of_pair(low, high, skip + i));
     }
     word
+}
+
+/// Like `word_of_window`, by a table that was made for `skip`.
+#[inline(always)]
+pub(crate) fn word_by_table<T: BitStore, O: BitOrder, U: BitStore, P: BitOrder>(
+    table: &PairTable,
+    source: &[U],
+    k: usize,
+    skip: u8,
+) -> T
+    requires width { U.BITS ≡ T.BITS }
+    requires word { k + 1 < length source.now }
+    requires within { skip < U.BITS }
+    requires table { IsPairTable (O.place T.BITS) (P.place T.BITS) T.BITS skip table.now.low table.now.high }
+    ensures { row T.BitStore O.BitOrder (result ∷ [])
+        ≡ slice_range (row U.BitStore P.BitOrder source.now) (k * U.BITS + skip)
+        (k * U.BITS + skip + U.BITS) }
+{
+    table.window::<T, O, U, P>(source[k], source[k + 1])
 }
 
 /// Like `word_after`, out of words in an order that does not go by shifts.

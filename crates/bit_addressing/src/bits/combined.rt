@@ -1,17 +1,19 @@
 //! Runs of bits combined with those of another row, by whole words of the target.
-ghost use Rattle.std.specs.Prelude.{◌≡◌, ℕ, ◌+◌, ◌-◌, ◌*◌, ◌/◌, ◌^◌, ◌<◌, ◌≤◌, if◌then◌else◌, ◌&&◌, ◌||◌, Bool, false, not, [], ◌∷◌, length, slice_range};
+ghost use Rattle.std.specs.Prelude.{◌≡◌, ℕ, ◌+◌, ◌-◌, ◌*◌, ◌/◌, ◌^◌, ◌<◌, ◌≤◌, if◌then◌else◌, ◌&&◌, ◌||◌, Bool, false, true, not, [], ◌∷◌, length, slice_range};
 ghost use Rattle.std.specs.Simd.Lanes.{zip2};
 ghost use Rattle.bit_addressing.specs.Bits.{has_bit};
 ghost use Rattle.bit_addressing.specs.Row.{put, row_of};
 ghost use Rattle.bit_addressing.specs.Typed.{row};
 
 use crate::bits::chunks::{
-    are_alike, block_at, followed_blocks, word_after, word_alike, word_of_block, word_of_run,
+    are_alike, block_at, followed_blocks, word_after, word_alike, word_by_table, word_of_block,
+    word_of_run,
 };
 use crate::bits::single::write_part;
 use crate::each_shift::each_shift;
 use crate::length::Span;
 use crate::order::BitOrder;
+use crate::pair_table::PairTable;
 use crate::store::BitStore;
 
 /// What two bits are made into.
@@ -141,6 +143,37 @@ fn combine_after<F: BitOperator, T: BitStore, O: BitOrder, U: BitStore, P: BitOr
     }
 }
 
+/// Like `combine_after`, by a table that is made here, in words of one width (docs/SPEED.md, "An order that a user
+/// writes", the copies).
+#[inline(never)]
+fn combine_by_table<F: BitOperator, T: BitStore, O: BitOrder, U: BitStore, P: BitOrder>(
+    words: &mut [T],
+    first: usize,
+    last: usize,
+    source: &[U],
+    begin: usize,
+    skip: u8,
+)
+    requires width { U.BITS ≡ T.BITS }
+    requires ordered { first ≤ last }
+    requires target { last ≤ length words.old }
+    requires within { skip < U.BITS }
+    requires source { begin * U.BITS + skip + (last - first) * T.BITS < U.BITS * length source.now }
+    ensures bits { row T.BitStore O.BitOrder words.new
+        ≡ put (row T.BitStore O.BitOrder words.old) (first * T.BITS)
+        (zip2 F.made (slice_range (row T.BitStore O.BitOrder words.old) (first * T.BITS) (last * T.BITS))
+        (slice_range (row U.BitStore P.BitOrder source.now) (begin * U.BITS + skip)
+        (begin * U.BITS + skip + (last - first) * T.BITS))) }
+    ensures size { length words.new ≡ length words.old }
+{
+    let table = PairTable::new::<T, O, U, P>(skip);
+    for k in first..last {
+        let from = begin + (k - first);
+        let new = word_by_table::<T, O, U, P>(&table, source, from, skip);
+        words[k] = F::apply(words[k], new);
+    }
+}
+
 /// Like `combine_after`, of the 64 bits of `block`, into as many bits from word `k` on. Requires that the words are
 /// there.
 fn combine_block<F: BitOperator, T: BitStore, O: BitOrder>(words: &mut [T], k: usize, block: u64)
@@ -216,6 +249,21 @@ fn combine_unlike<F: BitOperator, T: BitStore, O: BitOrder, U: BitStore, P: BitO
     combine_after::<F, T, O, U, P>(words, next, last, source, from, skip);
 }
 
+/// Whether this many words are made faster by a table: words of one width, in an order that does not go by shifts.
+/// Of narrow words the compiler makes several at once, but for those that are shifted out of such an order.
+#[inline(always)]
+fn goes_by_table<T: BitStore, O: BitOrder, U: BitStore, P: BitOrder>(skip: u8, words: usize) -> bool
+    ensures { result ≡ true → U.BITS ≡ T.BITS }
+{
+    if T::BITS != U::BITS || T::BITS == 8 || !PairTable::pays::<T>(words) {
+        return false;
+    }
+    if T::BITS < 64 {
+        return skip != 0 && !P::goes_by_shifts();
+    }
+    !O::goes_by_shifts() || !P::goes_by_shifts()
+}
+
 /// Like `combine_after`, of the bits that stand as far after bit `from` of the row. Where that is a word's
 /// first bit no word has to be shifted, so the compiler is shown this case by itself (docs/SPEED.md, "Rows of
 /// words", equal heads).
@@ -247,6 +295,8 @@ fn combine_whole<F: BitOperator, T: BitStore, O: BitOrder, U: BitStore, P: BitOr
         }
     } else if T::BITS == 8 && U::BITS == 8 && P::goes_by_shifts() {
         each_shift!(skip, by => combine_after::<F, T, O, U, P>(words, first, last, source, begin, by));
+    } else if goes_by_table::<T, O, U, P>(skip, last - first) {
+        combine_by_table::<F, T, O, U, P>(words, first, last, source, begin, skip);
     } else if skip == 0 {
         combine_after::<F, T, O, U, P>(words, first, last, source, begin, 0);
     } else {

@@ -5,6 +5,7 @@ mod arrays;
 mod boxes;
 mod edits;
 mod growing;
+mod long;
 mod making;
 mod moves;
 mod pairs;

@@ -29,7 +29,7 @@ loop-t-preserved g c =
     let ws = c.loop-t.row.words.now in
     let words = map value ws in
     let old = map value c.args.row.now.words.now in
-    let v = value c.window.result in
+    let v = value c.window_by.result in
     let high = value c.load-high.result in
     let read : high ≡ get_or words (begin + t + 1) 0 = c.load-high.ensures.value ∙ ap (λ l. get_or (map value l) (begin + t + 1) 0) c.load-low.ensures.words in
     let long : length words ≡ length ws = length-map ws value in
@@ -37,7 +37,7 @@ loop-t-preserved g c =
     let size = c.loop-t.invariant.size in
     let fewer = c.loop-t-test.true in
     let source = c.requires.source in
-    let after : map value c.store.new.self.words.now ≡ set words (first + t) v = ap (map value) (c.store.ensures.words ∙ ap (λ l. set l (first + t) c.window.result) (c.load-high.ensures.words ∙ c.load-low.ensures.words)) ∙ map-set value ws (first + t) c.window.result in
+    let after : map value c.store.new.self.words.now ≡ set words (first + t) v = ap (map value) (c.store.ensures.words ∙ ap (λ l. set l (first + t) c.window_by.result) (c.load-high.ensures.words ∙ c.load-low.ensures.words)) ∙ map-set value ws (first + t) c.window_by.result in
     let expand : (begin + t) * w ≡ begin * w + t * w = grind arith in
     let two : (begin + t + 2) * w ≡ begin * w + t * w + w + w = grind arith in
     let room : (begin + t + 2) * w ≤ length words * w = mul_mono (begin + t + 2) (length words) w (omega arith) in
@@ -53,6 +53,6 @@ loop-t-preserved g c =
           ∙ next_down place w words old (begin * w + at) first t v (width_positive w g.met.T.BitStore.width) (omega arith) (omega arith) (omega arith) same
           (λ i h.
           let here : (begin + t) * w + at + i ≡ begin * w + at + t * w + i = omega arith in
-          c.window.ensures i h ∙ pair_bit place w words (begin + t) (value c.load-low.result) high at i within h c.load-low.ensures.value (λ past. read) ∙ ap (row_bit place w words) here)
+          c.window_by.ensures i h ∙ pair_bit place w words (begin + t) (value c.load-low.result) high at i within h c.load-low.ensures.value (λ past. read) ∙ ap (row_bit place w words) here)
           c.loop-t.invariant.bits;
     }

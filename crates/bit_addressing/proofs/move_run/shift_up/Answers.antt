@@ -33,7 +33,7 @@ loop-t-preserved g c =
     let words = map value ws in
     let old = map value c.args.row.now.words.now in
     let from : ℕ = begin * w + at in
-    let v = value c.window.result in
+    let v = value c.window_by.result in
     let low = value c.load-low.result in
     let high = value c.load-high.result in
     let read : high ≡ get_or words (begin + k + 1) 0 = c.load-high.ensures.value ∙ ap (λ l. get_or (map value l) (begin + k + 1) 0) c.load-low.ensures.words in
@@ -44,7 +44,7 @@ loop-t-preserved g c =
     let target = c.requires.target in
     let up = c.requires.up in
     let within = c.requires.within in
-    let after : map value c.store.new.self.words.now ≡ set words (first + k) v = ap (map value) (c.store.ensures.words ∙ ap (λ l. set l (first + k) c.window.result) (c.load-high.ensures.words ∙ c.load-low.ensures.words)) ∙ map-set value ws (first + k) c.window.result in
+    let after : map value c.store.new.self.words.now ≡ set words (first + k) v = ap (map value) (c.store.ensures.words ∙ ap (λ l. set l (first + k) c.window_by.result) (c.load-high.ensures.words ∙ c.load-low.ensures.words)) ∙ map-set value ws (first + k) c.window_by.result in
     let now : count - t ≡ k + 1 = omega arith in
     let then : k ≡ count - (t + 1) = omega arith in
     let expand : (begin + k) * w ≡ begin * w + k * w = grind arith in
@@ -62,7 +62,7 @@ loop-t-preserved g c =
           ∙ next_up place w words old from first k t v (width_positive w g.met.T.BitStore.width) (omega arith) (omega arith) (omega arith) same
           (λ i h.
           let here : (begin + k) * w + at + i ≡ from + k * w + i = omega arith in
-          c.window.ensures i h ∙ pair_bit place w words (begin + k) low high at i within h c.load-low.ensures.value (λ past. read) ∙ ap (row_bit place w words) here)
+          c.window_by.ensures i h ∙ pair_bit place w words (begin + k) low high at i within h c.load-low.ensures.value (λ past. read) ∙ ap (row_bit place w words) here)
           (c.loop-t.invariant.bits ∙ ap (λ n. moved (row_of place w old) (from + n * w) (first * w + n * w) (t * w)) now)
           ∙ ap (λ n. moved (row_of place w old) (from + n * w) (first * w + n * w) ((t + 1) * w)) then;
     }

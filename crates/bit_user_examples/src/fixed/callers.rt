@@ -28,7 +28,7 @@ pub fn alike<A: Bits, B: Bits>(
 
 /// What a run of no command at all leaves.
 pub fn idle<B: Bits>(bits: &mut B, replies: &mut Vec<Reply>) -> bool
-    ensures outcome { outcome ≡ true }
+    ensures done { result ≡ true }
     ensures list { B.list bits.new ≡ B.list bits.old }
     ensures replies { replies.new.items ≡ replies.old.items }
 {

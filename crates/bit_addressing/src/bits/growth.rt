@@ -39,6 +39,31 @@ pub fn resize_words_in_vec<T: BitStore, O: BitOrder>(
     Ok(())
 }
 
+/// Appends words whose bits are all `bit` until there are `count`. Takes memory only where the capacity is too small, and is
+/// refused only then. Requires that there are no more than `count`. Each of the two words is known to the compiler, which then fills
+/// memory by one call (docs/SPEED.md, resize).
+#[inline(always)]
+fn grow_words_by_bit<T: BitStore, O: BitOrder>(
+    words: &mut Vec<T>,
+    count: usize,
+    bit: bool,
+) -> Result<(), AllocError>
+    requires { length words.old.items ≤ count }
+    ensures bits { OnOk result (row T.BitStore O.BitOrder words.new.items
+        ≡ row T.BitStore O.BitOrder words.old.items ++ replicate (T.BITS * (count - length words.old.items)) bit) }
+    ensures size { OnOk result (length words.new.items ≡ count) }
+    ensures capacity { vec_capacity words.old ≤ vec_capacity words.new }
+    ensures full { OnErr result (vec_capacity words.old < count) }
+    ensures unchanged { OnErr result (words.new.items ≡ words.old.items) }
+{
+    if bit {
+        words.resize(count, repeated::<T>(true))?;
+    } else {
+        words.resize(count, repeated::<T>(false))?;
+    }
+    Ok(())
+}
+
 /// Appends words up to those for `upto` bits, and writes `bit` over the bits from `end` up to `upto`, each word
 /// once; the other bits of a word that is added are false. Takes memory where a word is added. Requires that
 /// `end` is at most `upto`, and that the words are those for `end` bits, and that `upto` is at most one word's
@@ -71,7 +96,7 @@ pub fn append_run_in_vec<T: BitStore, O: BitOrder>(
         return Ok(());
     }
     let width = T::BITS as usize;
-    words.resize(count, repeated::<T>(bit))?;
+    grow_words_by_bit::<T, O>(words, count, bit)?;
     fill_bits_in_vec::<T, O>(words, end, width * old, bit);
     fill_bits_in_vec::<T, O>(words, upto, width * count, false);
     Ok(())

@@ -1,5 +1,5 @@
 use Rattle.std.proofs.Common.{◌≡◌, ◌+◌, ◌-◌, ◌*◌, Bool, List, [], ◌∷◌, length, slice_range, sym, ◌∙◌, ap, arith}
-use Rattle.bit_addressing.specs.Row.{number_bits, put, row_of}
+use Rattle.bit_addressing.specs.Row.{put, row_of}
 use Rattle.bit_addressing.specs.Typed.{row}
 use Rattle.bit_addressing.proofs.lists.Put.{put_joined}
 use Rattle.bit_addressing.proofs.lists.Shown.{length-run}

@@ -1,13 +1,11 @@
-use Rattle.std.proofs.Common.{◌≡◌, ◌≢◌, ℕ, ◌+◌, ◌-◌, ◌*◌, ◌^◌, ◌<◌, ◌≤◌, ◌++◌, false, length, replicate, take, inl, inr, sym, ◌∙◌, ap, arith}
+use Rattle.std.proofs.Common.{◌≡◌, ◌≢◌, ℕ, ◌+◌, ◌-◌, ◌*◌, ◌<◌, ◌≤◌, ◌++◌, false, length, replicate, inl, inr, sym, ◌∙◌, ap, arith}
 use Rattle.std.proofs.lemmas.Bool.{cases_lt}
-use Rattle.std.proofs.lemmas.List.{take_all, length-append, length-replicate}
-use Rattle.bit_addressing.specs.Row.{put, sized, words_for}
+use Rattle.bit_addressing.specs.Row.{put, words_for}
 use Rattle.bit_addressing.specs.Typed.{row}
 use Rattle.bit_addressing.proofs.lists.Put.{run_appended}
 use Rattle.bit_addressing.proofs.lists.Sized.{room, sized_more, sized_same, words_for_le, words_for_mono}
 use Rattle.bit_addressing.proofs.Rows.{mul_add, width_positive}
-use Rattle.bit_addressing.proofs.Typed.{length_row, row_appended}
-use Rattle.bit_addressing.proofs.bits.growth.append_run_in_vec.Given as given
+use Rattle.bit_addressing.proofs.Typed.{length_row}
 use Rattle.bit_addressing.proofs.bits.growth.append_run_in_vec.Goals as goal
 
 pub returns-then-count-old-clause-bits : goal.returns-then-count-old-clause-bits
@@ -31,6 +29,13 @@ grown w n k end upto positive ordered is more apart =
     ] in
     (s, short, r.0, r.1)
 
+-- words for more bits are no fewer
+words_kept : (w n k end upto : ℕ) → 0 < w → end ≤ upto → n ≡ words_for w end → k ≡ words_for w upto → n ≤ k
+words_kept w n k end upto positive ordered is more = let a = words_for_mono w end upto positive ordered in omega arith
+
+pub grow_words_by_bit-requires : goal.grow_words_by_bit-requires
+grow_words_by_bit-requires g c = words_kept g.T.BitStore.BITS _ _ c.args.end c.args.upto (width_positive _ g.met.T.BitStore.width) c.requires.ordered c.requires.count c.elts-count.ensures.value
+
 pub overflow_mul-width : goal.overflow_mul-width
 overflow_mul-width g c =
     let f = grown g.T.BitStore.BITS c.len-old.result c.elts-count.result c.args.end c.args.upto (width_positive _ g.met.T.BitStore.width) c.requires.ordered (c.len-old.ensures ∙ c.args.words.now.ok.0 ∙ c.requires.count) c.elts-count.ensures.value c.if-count-old.false in
@@ -45,8 +50,7 @@ pub fill_bits_in_vec-requires-2-clause-within : goal.fill_bits_in_vec-requires-2
 fill_bits_in_vec-requires-2-clause-within g c =
     let w = g.T.BitStore.BITS in
     let f = grown w c.len-old.result c.elts-count.result c.args.end c.args.upto (width_positive _ g.met.T.BitStore.width) c.requires.ordered (c.len-old.ensures ∙ c.args.words.now.ok.0 ∙ c.requires.count) c.elts-count.ensures.value c.if-count-old.false in
-    let size : length c.resize.new.self.items ≡ c.elts-count.result = sym c.resize.new.self.ok.0 ∙ c.in_ok-resize.ensures.len in
-    rw (c.BITS-width.ensures, size) (omega (arith, f.1, f.2))
+    rw (c.BITS-width.ensures, c.in_ok-grow_words_by_bit.ensures.size) (omega (arith, f.1, f.2))
 
 pub overflow_mul-width-2 : goal.overflow_mul-width-2
 overflow_mul-width-2 g c =
@@ -64,15 +68,12 @@ returns-clause-bits g c =
     let k = c.elts-count.result in
     let is : c.len-old.result ≡ n = c.len-old.ensures ∙ c.args.words.now.ok.0 in
     let f = grown w n k c.args.end c.args.upto positive c.requires.ordered c.requires.count c.elts-count.ensures.value (λ e. c.if-count-old.false (e ∙ sym is)) in
-    let fewer : n ≤ k = let a = words_for_mono w c.args.end c.args.upto positive c.requires.ordered in let e = c.elts-count.ensures.value in let d = c.requires.count in omega arith in
+    let fewer : n ≤ k = words_kept w n k c.args.end c.args.upto positive c.requires.ordered c.requires.count c.elts-count.ensures.value in
     let old = row g.T.BitStore g.O.BitOrder items in
     let size : length old ≡ w * n = length_row value place w items in
     let more = w * (k - n) in
     let sum : w * n + more ≡ w * k = mul_add w n (k - n) ∙ ap (λ m. w * m) (omega arith) in
-    let word = c.repeated.result in
-    let appended : row g.T.BitStore g.O.BitOrder c.resize.new.self.items ≡ old ++ replicate more c.args.bit =
-    ap (row g.T.BitStore g.O.BitOrder) (c.in_ok-resize.ensures.items ∙ ap (λ m. take k items ++ replicate (k - m) word) c.args.words.now.ok.0 ∙ ap (λ xs. xs ++ replicate (k - n) word) (take_all k items fewer))
-    ∙ row_appended value place w items word (k - n) c.args.bit positive (λ i h. c.repeated.ensures (place w i) ((g.met.O.BitOrder.lawful w g.met.T.BitStore.width).in_range i h)) in
+    let appended : row g.T.BitStore g.O.BitOrder c.grow_words_by_bit.new.words.items ≡ old ++ replicate more c.args.bit = c.in_ok-grow_words_by_bit.ensures.bits in
     let low : c.BITS-width.result * c.len-old.result - c.args.end ≡ length old - c.args.end = ap (λ m. m - c.args.end) (rw (c.BITS-width.ensures, is) (sym size)) in
     let high : c.BITS-width.result * k - c.args.upto ≡ length old + more - c.args.upto = ap (λ m. m - c.args.upto) (rw (c.BITS-width.ensures, size) (sym sum)) in
     c.fill_bits_in_vec-3.ensures.bits

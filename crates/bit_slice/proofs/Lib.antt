@@ -24,3 +24,4 @@ pub mod Clean
 pub mod Rules
 pub mod Parting
 pub mod Overwritten
+pub mod RangeInRow

@@ -1,13 +1,12 @@
-use Rattle.std.proofs.Common.{◌≡◌, ◌+◌, ◌-◌, length, slice_range, sym, ◌∙◌, ap, arith, rules}
-use Rattle.bit_addressing.proofs.lists.Shown.{length-between}
+use Rattle.std.proofs.Common.{◌+◌, length, slice_range, ◌∙◌, ap, arith, rules}
 use Rattle.bit_slice.specs.BitSlice.{list_of}
 use Rattle.bit_slice.specs.Operators.{combined}
 use Rattle.bit_slice.proofs.Combining.{length-combined}
-use Rattle.bit_addressing.specs.Row.{put}
 use Rattle.bit_addressing.specs.Typed.{row}
 use Rattle.bit_slice.specs.Overwritten.{list_in}
-use Rattle.bit_slice.proofs.Parts.{in_row, run_in_run, shown_length}
+use Rattle.bit_slice.proofs.Parts.{in_row}
 use Rattle.bit_slice.proofs.Overwritten.{written}
+use Rattle.bit_slice.proofs.RangeInRow.{combined_range, length-range}
 use Rattle.bit_slice.proofs.held.combine_range_in_vec.Goals as goal
 
 pub returns-clause-written : goal.returns-clause-written
@@ -18,24 +17,12 @@ returns-clause-written g c =
     let same = c.as_mut_slice.ensures.value in
     let W = g.T.BitStore in
     let P = g.O.BitOrder in
-    let list = list_in W P old head len in
-    let long : length list ≡ len = shown_length W P old head len c.requires.within in
     let s = g.R.RangeExt.start_of c.args.range in
     let e = g.R.RangeExt.end_of c.args.range len in
-    let start = c.normalize-range.result.start in
-    let end = c.normalize-range.result.end in
-    let starts = c.normalize-range.ensures.start in
-    let ends = c.normalize-range.ensures.end in
-    let lies = c.requires.lies in
-    let bits = row W P old in
     let room = in_row W P old (head + len) c.requires.within in
     let f = g.F.BitOperator.made in
     let ys = list_of c.args.other in
-    let run : slice_range list s e ≡ slice_range bits (head + s) (head + e) = run_in_run bits head (head + len) s e (omega (arith, lies)) room lies.0 in
-    let size = length-between list s e (omega (arith, long, lies)) in
-    let stop : head + start + (end - start) ≡ head + e = omega (arith, starts, ends, lies) in
-    written W P old c.args.words.now.len (search rules) c.combine_words.new.words head len g.met.T.BitStore.width c.requires.within (c.combine_words.ensures.size ∙ ap length same) (s) (combined f (slice_range list s e) ys) (omega (arith, length-combined f (slice_range list s e) ys, size, lies))
-    (c.combine_words.ensures.bits ∙ ap (λ ws. put (row W P ws) (head + start) (combined f (slice_range (row W P ws) (head + start) (head + start + (end - start))) ys)) same
-    ∙ ap (λ k. put bits (head + start) (combined f (slice_range bits (head + start) k) ys)) stop
-    ∙ ap (λ k. put bits (head + k) (combined f (slice_range bits (head + k) (head + e)) ys)) starts
-    ∙ ap (λ l. put bits (head + s) (combined f l ys)) (sym run))
+    let size = length-range (row W P old) head len room s e c.requires.lies in
+    let made = length-combined f (slice_range (list_in W P old head len) s e) ys in
+    written W P old c.args.words.now.len (search rules) c.combine_words.new.words head len g.met.T.BitStore.width c.requires.within (c.combine_words.ensures.size ∙ ap length same) s (combined f (slice_range (list_in W P old head len) s e) ys) (omega (arith, made, size, c.requires.lies))
+    (rw same at c.combine_words.ensures.bits ∙ combined_range (row W P old) head len room s e _ _ c.normalize-range.ensures.start c.normalize-range.ensures.end c.requires.lies f ys)

@@ -1,10 +1,8 @@
-use Rattle.std.proofs.Common.{◌≡◌, ◌+◌, length, slice_range, ◌∙◌, ap, arith, rules}
-use Rattle.bit_addressing.proofs.lists.Shown.{length-run}
+use Rattle.std.proofs.Common.{◌+◌, length, slice_range, ◌∙◌, ap, arith, rules}
 use Rattle.bit_slice.specs.BitSlice.{list_of}
 use Rattle.bit_addressing.specs.Row.{put}
 use Rattle.bit_addressing.specs.Typed.{row}
-use Rattle.bit_slice.specs.Overwritten.{list_in}
-use Rattle.bit_slice.proofs.Parts.{in_row, shown_length}
+use Rattle.bit_slice.proofs.Parts.{shown_length}
 use Rattle.bit_slice.proofs.Overwritten.{written}
 use Rattle.bit_slice.proofs.held.copy_into_in_vec.Goals as goal
 
@@ -16,23 +14,14 @@ returns-clause-written g c =
     let same = c.as_mut_slice.ensures.value in
     let W = g.T.BitStore in
     let P = g.O.BitOrder in
-    let list = list_in W P old head len in
-    let long : length list ≡ len = shown_length W P old head len c.requires.within in
     let s = g.R.RangeExt.start_of c.args.range in
-    let e = g.R.RangeExt.end_of c.args.range len in
-    let start = c.normalize-range.result.start in
-    let end = c.normalize-range.result.end in
-    let starts = c.normalize-range.ensures.start in
-    let ends = c.normalize-range.ensures.end in
-    let lies = c.requires.lies in
     let bits = row W P old in
-    let room = in_row W P old (head + len) c.requires.within in
     let v = c.args.source in
     let seen = row g.U.BitStore g.P.BitOrder in
-    let size = length-run (seen v.words.now) v.head v.len (in_row g.U.BitStore g.P.BitOrder v.words.now (v.head + v.len) v.fits.room) in
-    written W P old c.args.words.now.len (search rules) c.copy_bits.new.words head len g.met.T.BitStore.width c.requires.within (c.copy_bits.ensures.size ∙ ap length same) (s) (list_of v) (omega (arith, size, lies, c.requires.same_len))
-    (c.copy_bits.ensures.bits ∙ ap (λ ws. put (row W P ws) (head + start) (slice_range (seen c.as_raw_slice.result.now) c.head-from.result (c.head-from.result + c.len-count.result))) same
-    ∙ ap (λ k. put bits (head + k) (slice_range (seen c.as_raw_slice.result.now) c.head-from.result (c.head-from.result + c.len-count.result))) starts
+    let size = shown_length g.U.BitStore g.P.BitOrder v.words.now v.head v.len v.fits.room in
+    written W P old c.args.words.now.len (search rules) c.copy_bits.new.words head len g.met.T.BitStore.width c.requires.within (c.copy_bits.ensures.size ∙ ap length same) s (list_of v) (omega (arith, size, c.requires.lies, c.requires.same_len))
+    (rw same at c.copy_bits.ensures.bits
+    ∙ ap (λ k. put bits (head + k) (slice_range (seen c.as_raw_slice.result.now) c.head-from.result (c.head-from.result + c.len-count.result))) c.normalize-range.ensures.start
     ∙ ap (λ ws. put bits (head + s) (slice_range (seen ws) c.head-from.result (c.head-from.result + c.len-count.result))) c.as_raw_slice.ensures.words
     ∙ ap (λ h. put bits (head + s) (slice_range (seen v.words.now) h (h + c.len-count.result))) c.head-from.ensures.value
     ∙ ap (λ l. put bits (head + s) (slice_range (seen v.words.now) v.head (v.head + l))) c.len-count.ensures.value)

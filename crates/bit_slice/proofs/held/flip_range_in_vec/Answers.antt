@@ -1,6 +1,5 @@
-use Rattle.std.proofs.Common.{◌+◌, length, map, not, slice_range, ◌∙◌, ap, arith, rules}
+use Rattle.std.proofs.Common.{length, not, slice_range, ◌∙◌, ap, arith, rules}
 use Rattle.std.proofs.lemmas.List.{length-map}
-use Rattle.bit_addressing.specs.Typed.{row}
 use Rattle.bit_slice.specs.Overwritten.{list_in}
 use Rattle.bit_slice.proofs.Parts.{in_row}
 use Rattle.bit_slice.proofs.Overwritten.{written}
@@ -9,15 +8,11 @@ use Rattle.bit_slice.proofs.held.flip_range_in_vec.Goals as goal
 
 pub returns-clause-written : goal.returns-clause-written
 returns-clause-written g c =
-    let old = c.args.words.now.items in
-    let head = c.args.head in
-    let len = c.args.len in
-    let same = c.as_mut_slice.ensures.value in
-    let W = g.T.BitStore in
-    let P = g.O.BitOrder in
     let s = g.R.RangeExt.start_of c.args.range in
-    let e = g.R.RangeExt.end_of c.args.range len in
-    let room = in_row W P old (head + len) c.requires.within in
-    let size = length-range (row W P old) head len room s e c.requires.lies in
-    written W P old c.args.words.now.len (search rules) c.flip_words.new.words head len g.met.T.BitStore.width c.requires.within (c.flip_words.ensures.size ∙ ap length same) s (map not (slice_range (list_in W P old head len) s e)) (omega (arith, length-map (slice_range (list_in W P old head len) s e) not, size, c.requires.lies))
-    (rw same at c.flip_words.ensures.bits ∙ flipped_range (row W P old) head len room s e _ _ c.normalize-range.ensures.start c.normalize-range.ensures.end c.requires.lies)
+    let e = g.R.RangeExt.end_of c.args.range c.args.len in
+    let list = list_in g.T.BitStore g.O.BitOrder c.args.words.now.items c.args.head c.args.len in
+    let same = c.as_mut_slice.ensures.value in
+    let room = in_row g.T.BitStore g.O.BitOrder c.args.words.now.items _ c.requires.within in
+    let size = length-range _ _ _ room s e c.requires.lies in
+    written _ _ _ _ (search rules) _ _ _ g.met.T.BitStore.width c.requires.within (c.flip_words.ensures.size ∙ ap length same) _ _ (omega (arith, length-map (slice_range list s e) not, size, c.requires.lies))
+    (rw same at c.flip_words.ensures.bits ∙ flipped_range _ _ _ room _ _ _ _ c.normalize-range.ensures.start c.normalize-range.ensures.end c.requires.lies)

@@ -1,11 +1,11 @@
-use Rattle.std.proofs.Common.{Bool, List, ap, arith, length, slice_get, slice_range, ℕ, ◌+◌, ◌-◌, ◌∙◌, ◌≡◌}
+use Rattle.std.proofs.Common.{ap, arith, slice_get, slice_range, ℕ, ◌+◌, ◌-◌, ◌∙◌, ◌≡◌}
 use Rattle.bit_addressing.specs.Row.{put}
 use Rattle.bit_addressing.specs.Typed.{row}
-use Rattle.bit_addressing.proofs.lists.Shown.{shown_written}
 use Rattle.bit_slice.proofs.Parts.{in_row, shown_length}
 use Rattle.bit_slice.specs.BitSliceMut.{list_of}
 use Rattle.bit_slice.specs.BitSlice.{list_of as list_seen}
-use Rattle.bit_slice.proofs.Ranges.{read_before, read_after, read_copied}
+use Rattle.bit_slice.proofs.RangeInRow.{written_list, written_before, written_after}
+use Rattle.bit_slice.proofs.Ranges.{read_copied}
 use Rattle.bit_slice.proofs.slice_mut.BitSliceMut.copy_into.Goals as goal
 
 pub returns-clause-row : goal.returns-clause-row
@@ -13,12 +13,9 @@ returns-clause-row g c =
     let v = c.args.self.now in
     let from = g.R.RangeExt.start_of c.args.range in
     let upto = g.R.RangeExt.end_of c.args.range v.len in
-    let n : ℕ = upto - from in
     let old = row g.T.BitStore g.O.BitOrder v.words.now in
-    let room = in_row g.T.BitStore g.O.BitOrder v.words.now (v.head + v.len) v.fits.room in
     let start = c.normalize-range.ensures.start in
     let end = c.normalize-range.ensures.end in
-    let lies = c.requires.lies in
     let s = c.args.source in
     let count : c.normalize-range.result.end - c.normalize-range.result.start ≡ s.len = omega (arith, start, end, c.requires.same_len) in
     c.copy_bits.ensures.bits
@@ -30,16 +27,9 @@ returns-clause-row g c =
 pub returns-clause-list : goal.returns-clause-list
 returns-clause-list g c =
     let v = c.args.self.now in
-    let from = g.R.RangeExt.start_of c.args.range in
-    let upto = g.R.RangeExt.end_of c.args.range v.len in
-    let n : ℕ = upto - from in
-    let old = row g.T.BitStore g.O.BitOrder v.words.now in
-    let room = in_row g.T.BitStore g.O.BitOrder v.words.now (v.head + v.len) v.fits.room in
-    let lies = c.requires.lies in
-    let list = shown_length g.T.BitStore g.O.BitOrder v.words.now v.head v.len v.fits.room in
-    let ys : List Bool = list_seen c.args.source in
-    let size : length ys ≡ n = shown_length g.U.BitStore g.P.BitOrder c.args.source.words.now c.args.source.head c.args.source.len c.args.source.fits.room ∙ c.requires.same_len in
-    ap (λ r. slice_range r v.head (v.head + v.len)) (returns-clause-row g c) ∙ shown_written old ys v.head v.len from (omega (arith, size, lies)) room
+    let s = c.args.source in
+    let room = in_row g.T.BitStore g.O.BitOrder v.words.now _ v.fits.room in
+    written_list _ _ _ _ _ _ _ room c.requires.lies (shown_length g.U.BitStore g.P.BitOrder s.words.now s.head s.len s.fits.room ∙ c.requires.same_len) (returns-clause-row g c)
 
 pub returns-clause-within : goal.returns-clause-within
 returns-clause-within g c k b =
@@ -55,23 +45,13 @@ returns-clause-within g c k b =
 pub returns-clause-before : goal.returns-clause-before
 returns-clause-before g c j a =
     let v = c.args.self.now in
-    let from = g.R.RangeExt.start_of c.args.range in
-    let upto = g.R.RangeExt.end_of c.args.range v.len in
-    let n : ℕ = upto - from in
-    let lies = c.requires.lies in
-    let size = shown_length g.T.BitStore g.O.BitOrder v.words.now v.head v.len v.fits.room in
-    let ys : List Bool = list_seen c.args.source in
-    let count : length ys ≡ n = shown_length g.U.BitStore g.P.BitOrder c.args.source.words.now c.args.source.head c.args.source.len c.args.source.fits.room ∙ c.requires.same_len in
-    ap (λ l. slice_get l j) (returns-clause-list g c) ∙ read_before (list_of v) ys from n count (omega (arith, size, lies)) j a
+    let s = c.args.source in
+    let room = in_row g.T.BitStore g.O.BitOrder v.words.now _ v.fits.room in
+    written_before _ _ _ _ _ _ _ room c.requires.lies (shown_length g.U.BitStore g.P.BitOrder s.words.now s.head s.len s.fits.room ∙ c.requires.same_len) (returns-clause-row g c) j a
 
 pub returns-clause-after : goal.returns-clause-after
 returns-clause-after g c j a =
     let v = c.args.self.now in
-    let from = g.R.RangeExt.start_of c.args.range in
-    let upto = g.R.RangeExt.end_of c.args.range v.len in
-    let n : ℕ = upto - from in
-    let lies = c.requires.lies in
-    let size = shown_length g.T.BitStore g.O.BitOrder v.words.now v.head v.len v.fits.room in
-    let ys : List Bool = list_seen c.args.source in
-    let count : length ys ≡ n = shown_length g.U.BitStore g.P.BitOrder c.args.source.words.now c.args.source.head c.args.source.len c.args.source.fits.room ∙ c.requires.same_len in
-    ap (λ l. slice_get l j) (returns-clause-list g c) ∙ read_after (list_of v) ys from n count (omega (arith, size, lies)) j (omega (arith, a, lies))
+    let s = c.args.source in
+    let room = in_row g.T.BitStore g.O.BitOrder v.words.now _ v.fits.room in
+    written_after _ _ _ _ _ _ _ room c.requires.lies (shown_length g.U.BitStore g.P.BitOrder s.words.now s.head s.len s.fits.room ∙ c.requires.same_len) (returns-clause-row g c) j a

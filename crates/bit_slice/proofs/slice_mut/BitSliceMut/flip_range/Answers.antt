@@ -1,42 +1,22 @@
-use Rattle.std.proofs.Common.{Bool, List, ap, arith, length, map, not, slice_get, slice_range, sym, ℕ, ◌+◌, ◌-◌, ◌∙◌, ◌≡◌}
-use Rattle.bit_addressing.specs.Row.{put}
-use Rattle.bit_addressing.specs.Typed.{row}
-use Rattle.bit_addressing.proofs.lists.Shown.{shown_written, length-between}
-use Rattle.bit_slice.proofs.Parts.{in_row, run_in_run, shown_length}
+use Rattle.std.proofs.Common.{ap, arith, not, slice_get, ℕ, ◌-◌, ◌∙◌}
+use Rattle.bit_slice.proofs.Parts.{in_row, shown_length}
 use Rattle.bit_slice.specs.BitSliceMut.{list_of}
 use Rattle.std.proofs.lemmas.List.{length-map}
-use Rattle.bit_slice.proofs.Ranges.{read_before, read_after, read_flipped}
+use Rattle.bit_slice.proofs.RangeInRow.{length-range, flipped_range, written_list, written_before, written_after}
+use Rattle.bit_slice.proofs.Ranges.{read_flipped}
 use Rattle.bit_slice.proofs.slice_mut.BitSliceMut.flip_range.Goals as goal
 
 pub returns-clause-row : goal.returns-clause-row
 returns-clause-row g c =
     let v = c.args.self.now in
-    let from = g.R.RangeExt.start_of c.args.range in
-    let upto = g.R.RangeExt.end_of c.args.range v.len in
-    let n : ℕ = upto - from in
-    let old = row g.T.BitStore g.O.BitOrder v.words.now in
-    let room = in_row g.T.BitStore g.O.BitOrder v.words.now (v.head + v.len) v.fits.room in
-    let start = c.normalize-range.ensures.start in
-    let end = c.normalize-range.ensures.end in
-    let lies = c.requires.lies in
-    c.flip_words.ensures.bits
-    ∙ ap (λ k. put old (v.head + k) (map not (slice_range old (v.head + k) (v.head + c.normalize-range.result.end)))) start
-    ∙ ap (λ k. put old (v.head + from) (map not (slice_range old (v.head + from) (v.head + k)))) end
-    ∙ ap (λ l. put old (v.head + from) (map not l)) (sym (run_in_run old v.head (v.head + v.len) from upto (omega (arith, lies)) room lies.0))
+    let room = in_row g.T.BitStore g.O.BitOrder v.words.now _ v.fits.room in
+    c.flip_words.ensures.bits ∙ flipped_range _ _ _ room _ _ _ _ c.normalize-range.ensures.start c.normalize-range.ensures.end c.requires.lies
 
 pub returns-clause-list : goal.returns-clause-list
 returns-clause-list g c =
     let v = c.args.self.now in
-    let from = g.R.RangeExt.start_of c.args.range in
-    let upto = g.R.RangeExt.end_of c.args.range v.len in
-    let n : ℕ = upto - from in
-    let old = row g.T.BitStore g.O.BitOrder v.words.now in
-    let room = in_row g.T.BitStore g.O.BitOrder v.words.now (v.head + v.len) v.fits.room in
-    let lies = c.requires.lies in
-    let list = shown_length g.T.BitStore g.O.BitOrder v.words.now v.head v.len v.fits.room in
-    let ys : List Bool = map not (slice_range (list_of v) from upto) in
-    let size : length ys ≡ n = length-map (slice_range (list_of v) from upto) not ∙ length-between (list_of v) from upto (omega (arith, list, lies)) in
-    ap (λ r. slice_range r v.head (v.head + v.len)) (returns-clause-row g c) ∙ shown_written old ys v.head v.len from (omega (arith, size, lies)) room
+    let room = in_row g.T.BitStore g.O.BitOrder v.words.now _ v.fits.room in
+    written_list _ _ _ _ _ _ _ room c.requires.lies (length-map _ not ∙ length-range _ _ _ room _ _ c.requires.lies) (returns-clause-row g c)
 
 pub returns-clause-within : goal.returns-clause-within
 returns-clause-within g c j a b =
@@ -51,23 +31,11 @@ returns-clause-within g c j a b =
 pub returns-clause-before : goal.returns-clause-before
 returns-clause-before g c j a =
     let v = c.args.self.now in
-    let from = g.R.RangeExt.start_of c.args.range in
-    let upto = g.R.RangeExt.end_of c.args.range v.len in
-    let n : ℕ = upto - from in
-    let lies = c.requires.lies in
-    let size = shown_length g.T.BitStore g.O.BitOrder v.words.now v.head v.len v.fits.room in
-    let ys : List Bool = map not (slice_range (list_of v) from upto) in
-    let count : length ys ≡ n = length-map (slice_range (list_of v) from upto) not ∙ length-between (list_of v) from upto (omega (arith, size, lies)) in
-    ap (λ l. slice_get l j) (returns-clause-list g c) ∙ read_before (list_of v) ys from n count (omega (arith, size, lies)) j a
+    let room = in_row g.T.BitStore g.O.BitOrder v.words.now _ v.fits.room in
+    written_before _ _ _ _ _ _ _ room c.requires.lies (length-map _ not ∙ length-range _ _ _ room _ _ c.requires.lies) (returns-clause-row g c) j a
 
 pub returns-clause-after : goal.returns-clause-after
 returns-clause-after g c j a =
     let v = c.args.self.now in
-    let from = g.R.RangeExt.start_of c.args.range in
-    let upto = g.R.RangeExt.end_of c.args.range v.len in
-    let n : ℕ = upto - from in
-    let lies = c.requires.lies in
-    let size = shown_length g.T.BitStore g.O.BitOrder v.words.now v.head v.len v.fits.room in
-    let ys : List Bool = map not (slice_range (list_of v) from upto) in
-    let count : length ys ≡ n = length-map (slice_range (list_of v) from upto) not ∙ length-between (list_of v) from upto (omega (arith, size, lies)) in
-    ap (λ l. slice_get l j) (returns-clause-list g c) ∙ read_after (list_of v) ys from n count (omega (arith, size, lies)) j (omega (arith, a, lies))
+    let room = in_row g.T.BitStore g.O.BitOrder v.words.now _ v.fits.room in
+    written_after _ _ _ _ _ _ _ room c.requires.lies (length-map _ not ∙ length-range _ _ _ room _ _ c.requires.lies) (returns-clause-row g c) j a

@@ -26,6 +26,12 @@ module _ (old : List Bool) (head len : ℕ) (room : head + len ≤ length old) w
       let size = length-run old head len room in
       length-combined f (slice_range list dest (dest + (upto - from))) (slice_range list from upto) ∙ length-run list dest (upto - from) (omega (arith, size, fits))
 
+  -- the list after two runs of it were combined in the row
+  pub combined_list : (new : List Bool) (f : Bool → Bool → Bool) (from upto dest : ℕ) → dest + (upto - from) ≤ len → new ≡ put old (head + dest) (part_onto (combined f) list from upto dest) → slice_range new head (head + len) ≡ put list dest (part_onto (combined f) list from upto dest)
+  combined_list new f from upto dest fits is =
+      let size = length-combined_within f from upto dest fits in
+      ap (λ r. slice_range r head (head + len)) is ∙ shown_written old (part_onto (combined f) list from upto dest) head len dest (omega (arith, size, fits)) room
+
 module _ (old : List Bool) (head len : ℕ) (room : head + len ≤ length old) (from upto first last : ℕ) (begins : first ≡ from) (ends : last ≡ upto) (lies : LiesIn from upto len) where
   abbrev within : List Bool
   within = slice_range old head (head + len)

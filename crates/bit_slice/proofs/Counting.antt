@@ -50,6 +50,18 @@ next_before w end k positive h =
     let o : w * 1 ≡ w = search rules in
     omega arith
 
+-- the first bit of a word of the run has an index that fits
+pub word_fits : (w end k n bound : ℕ) → 0 < w → k < n → n ≡ words_for w end → end + w < bound → w * k < bound
+word_fits w end k n bound positive below count fits =
+    let before = word_before w end k positive (omega (arith, below, count)) in
+    omega (arith, before, fits)
+
+-- and so has the first bit of the next word
+pub next_fits : (w end k n bound : ℕ) → 0 < w → k < n → n ≡ words_for w end → end + w < bound → w * (k + 1) < bound
+next_fits w end k n bound positive below count fits =
+    let before = next_before w end k positive (omega (arith, below, count)) in
+    omega (arith, before, fits)
+
 pub piece : (w head end k : ℕ) → 0 < w → head < w → head ≤ end → k < words_for w end → IsPiece w head end (begin w head end k) (begin w head end (k + 1))
 piece w head end zero positive low ordered inside =
     let z : w * 0 ≡ 0 = mul-zero w in

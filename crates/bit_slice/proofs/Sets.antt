@@ -8,6 +8,8 @@ use Rattle.std.proofs.lemmas.List.{ext_get_or, get_or_past, take_all, length-dro
 use Rattle.std.proofs.lemmas.List.Folds.{list_any-append}
 use Rattle.std.proofs.lemmas.List.Sums.{sum_by-cons}
 use Rattle.std.proofs.lemmas.Option.{get_or_from_slice_get}
+use Rattle.std.specs.Simd.Lanes.{zip2}
+use Rattle.std.proofs.lemmas.Simd.{get_or-zip2, length-zip2}
 use Rattle.bit_addressing.specs.Row.{number_of}
 use Rattle.bit_addressing.proofs.Chunks.{has_number, number_from_bits}
 use Rattle.bit_addressing.specs.Bits.{has_bit}
@@ -173,6 +175,14 @@ module _ (f : Bool → Bool → Bool) (xs ys : List Bool) where
       ] in
       omega (arith, split, rest, past)
 
+  -- the three counts of `count_both`, of lists whose lengths are known
+  pub counted_both : (len other n : ℕ) → length xs ≡ len → length ys ≡ other → ((x : Bool) → f x false ≡ x) → n ≡ min len other
+      → (shared left right : ℕ) → shared ≡ ones (slice_range made 0 n) → left ≡ ones (slice_range xs n len) → right ≡ ones (slice_range ys n other)
+      → (shared + left) + right ≡ ones made + ones (drop len ys)
+  counted_both len other n long wide keeps least shared left right a b d =
+      let sum = rw (long, wide) at (count_both n keeps (omega (arith, long, wide, least))) in
+      omega (arith, sum, a, b, d)
+
 -- ---- laws of the counts
 
 abbrev bit : Bool → ℕ
@@ -334,3 +344,47 @@ or_keeps false = refl
 pub xor_keeps : (x : Bool) → (if x then not false else false) ≡ x
 xor_keeps true = refl
 xor_keeps false = refl
+
+-- ---- the front of two runs that are combined
+
+module _ (f : Bool → Bool → Bool) (rows others : List Bool) (head len other count end : ℕ) (room : head + len ≤ length rows) (inside : end ≤ len) (enough : end ≤ count) where
+  abbrev both : List Bool
+  both = combined f (slice_range rows head (head + len)) (slice_range others other (other + count))
+
+  -- the front has `end` bits
+  length-front : length (slice_range both 0 end) ≡ end
+  length-front =
+      let size = length-combined f (slice_range rows head (head + len)) (slice_range others other (other + count)) ∙ length-run rows head len room in
+      let is : length (slice_range both 0 end) ≡ end - 0 = length-between both 0 end (omega (arith, size, inside)) in
+      omega (arith, is)
+
+  -- a bit of the front is made of the bits of the two rows at its place
+  item_of_front : (k : ℕ) → k < end → get_or (slice_range both 0 end) k false ≡ f (get_or rows (head + k) false) (get_or others (other + k) false)
+  item_of_front k h =
+      let at : 0 + k ≡ k = omega arith in
+      let size = length-run rows head len room in
+      item_of_part both 0 end k (omega (arith, h)) ∙ ap (λ n. get_or both n false) at
+      ∙ item_combined f (slice_range rows head (head + len)) (slice_range others other (other + count)) k (omega (arith, size, h, inside))
+      ∙ ap (λ b. f b (get_or (slice_range others other (other + count)) k false)) (get_or-run rows head len k (omega (arith, h, inside)))
+      ∙ ap (f (get_or rows (head + k) false)) (get_or-run others other count k (omega (arith, h, enough)))
+
+  -- no bit is true that the first `end` bits of the runs make
+  pub none_in_front : ((k : ℕ) → k < end → f (get_or rows (head + k) false) (get_or others (other + k) false) ≡ false) → some_true (slice_range both 0 end) ≡ false
+  none_in_front none = none_true (slice_range both 0 end) (λ k. elim (cases_lt k end) [
+    | inl h ↦ item_of_front k h ∙ none k h
+    | inr h ↦ get_or_past (slice_range both 0 end) k false (omega (arith, length-front, h))
+  ])
+
+  -- the first `end` bits of each run make the first `end` bits of the runs combined
+  pub front_of_runs : other + count ≤ length others → zip2 f (slice_range rows head (head + end)) (slice_range others other (other + end)) ≡ slice_range both 0 end
+  front_of_runs wide =
+      let xs : List Bool = slice_range rows head (head + end) in
+      let ys : List Bool = slice_range others other (other + end) in
+      let one : length xs ≡ end = length-run rows head end (omega (arith, room, inside)) in
+      let two : length ys ≡ end = length-run others other end (omega (arith, wide, enough)) in
+      let made : length (zip2 f xs ys) ≡ end = length-zip2 f xs ys (one ∙ sym two) ∙ one in
+      ext_get_or false (zip2 f xs ys) (slice_range both 0 end) (made ∙ sym length-front) (λ k h.
+      get_or-zip2 f xs ys k false false false (omega (arith, h, made, one)) (omega (arith, h, made, two))
+      ∙ ap (λ b. f b (get_or ys k false)) (get_or-run rows head end k (omega (arith, h, made)))
+      ∙ ap (f (get_or rows (head + k) false)) (get_or-run others other end k (omega (arith, h, made)))
+      ∙ sym (item_of_front k (omega (arith, h, made))))

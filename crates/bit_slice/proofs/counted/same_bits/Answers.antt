@@ -1,21 +1,15 @@
 use Rattle.std.proofs.Common.{◌≡◌, ◌+◌, ◌-◌, ◌%◌, ◌≤◌, slice_range, refl, sym, ◌∙◌, ap, subst, arith}
 use Rattle.bit_addressing.specs.Typed.{row}
 use Rattle.bit_addressing.proofs.Rows.{width_positive}
-use Rattle.bit_slice.proofs.Counting.{IsPiece, IsRunOf, piece, begin_last, word_before, next_before, same_more, same_piece, told, not_told, told_false, told_true}
+use Rattle.bit_slice.proofs.Counting.{IsPiece, IsRunOf, piece, begin_last, word_fits, next_fits, same_more, same_piece, told, not_told, told_false, told_true}
 use Rattle.bit_slice.proofs.Parts.{in_row}
 use Rattle.bit_slice.proofs.counted.same_bits.Goals as goal
 
 pub begin_of-from-requires : goal.begin_of-from-requires
-begin_of-from-requires g c =
-    let w = g.T.BitStore.BITS in
-    let before = word_before w c.args.end c.loop-k.k (width_positive w g.met.T.BitStore.width) (omega (arith, c.loop-k-test.true, c.elts-k-end.ensures.value)) in
-    omega (arith, c.requires.fits)
+begin_of-from-requires g c = word_fits _ _ _ _ _ (width_positive _ g.met.T.BitStore.width) c.loop-k-test.true c.elts-k-end.ensures.value c.requires.fits
 
 pub begin_of-upto-requires : goal.begin_of-upto-requires
-begin_of-upto-requires g c =
-    let w = g.T.BitStore.BITS in
-    let before = next_before w c.args.end c.loop-k.k (width_positive w g.met.T.BitStore.width) (omega (arith, c.loop-k-test.true, c.elts-k-end.ensures.value)) in
-    omega (arith, c.requires.fits)
+begin_of-upto-requires g c = next_fits _ _ _ _ _ (width_positive _ g.met.T.BitStore.width) c.loop-k-test.true c.elts-k-end.ensures.value c.requires.fits
 
 pub returns-then-not-same_run-clause-value : goal.returns-then-not-same_run-clause-value
 returns-then-not-same_run-clause-value g c =

@@ -1,44 +1,20 @@
-use Rattle.std.proofs.Common.{◌≡◌, ℕ, ◌+◌, ◌-◌, ◌*◌, ◌/◌, ◌%◌, ◌||◌, false, get_or, length, slice_range, inl, inr, sym, ◌∙◌, ap, arith}
-use Rattle.std.proofs.lemmas.Bool.{cases_lt}
-use Rattle.std.proofs.lemmas.List.{get_or_past}
+use Rattle.std.proofs.Common.{◌≡◌, ℕ, ◌+◌, ◌*◌, ◌/◌, ◌%◌, ◌||◌, length, slice_range, sym, ◌∙◌, ap, arith}
 use Rattle.std.specs.List.{list_any}
-use Rattle.bit_addressing.specs.Typed.{row}
-use Rattle.bit_addressing.proofs.lists.Shown.{get_or-run, length-between, length-run}
+use Rattle.bit_addressing.proofs.lists.Shown.{length-run}
 use Rattle.bit_slice.specs.BitSlice.{list_of}
 use Rattle.bit_slice.specs.Operators.{combined}
 use Rattle.bit_slice.proofs.Combining.{length-combined}
-use Rattle.bit_slice.proofs.Parts.{shown_length}
-use Rattle.bit_slice.proofs.Found.{item_of_part}
-use Rattle.bit_slice.proofs.Ranges.{item_combined}
-use Rattle.bit_slice.proofs.Sets.{none_true, number_none, number_some, number_tells, any_joined, any_up_to}
+use Rattle.bit_slice.proofs.Parts.{in_row, shown_length}
+use Rattle.bit_slice.proofs.Sets.{none_in_front, number_none, number_some, number_tells, any_joined, any_up_to}
 use Rattle.bit_slice.proofs.slice.sets.any_pair.Goals as goal
 
 pub loop-t-init : goal.loop-t-init
 loop-t-init g c =
     let v = c.args.left in
     let u = c.args.right in
-    let f = g.F.BitOperator.made in
-    let xs = list_of v in
-    let ys = list_of u in
-    let rows = row g.T.BitStore g.O.BitOrder v.words.now in
-    let others = row g.U.BitStore g.P.BitOrder u.words.now in
-    let cs = combined f xs ys in
-    let end : ℕ = c.false_blocks-start.result * 64 in
-    let long = length-combined f xs ys in
-    let left = shown_length g.T.BitStore g.O.BitOrder v.words.now v.head v.len v.fits.room in
-    let right = shown_length g.U.BitStore g.P.BitOrder u.words.now u.head u.len u.fits.room in
-    let size : length (slice_range cs 0 end) ≡ end - 0 = length-between cs 0 end (omega (arith, long, left)) in
+    let room = in_row g.T.BitStore g.O.BitOrder v.words.now _ v.fits.room in
     let few = c.false_blocks-start.ensures.few in
-    record {
-      none = none_true (slice_range cs 0 end) (λ k. elim (cases_lt k end) [
-        | inl h ↦
-            let at : 0 + k ≡ k = omega arith in
-            item_of_part cs 0 end k (omega arith) ∙ ap (λ m. get_or cs m false) at ∙ item_combined f xs ys k (omega (arith, left))
-            ∙ ap (λ b. f b (get_or ys k false)) (get_or-run rows v.head v.len k (omega arith)) ∙ ap (f (get_or rows (v.head + k) false)) (get_or-run others u.head u.len k (omega arith))
-            ∙ c.false_blocks-start.ensures.none k h
-        | inr h ↦ get_or_past (slice_range cs 0 end) k false (omega (arith, size))
-      ]);
-    }
+    record { none = none_in_front g.F.BitOperator.made _ _ _ _ u.head u.len _ room (omega arith) (omega arith) c.false_blocks-start.ensures.none }
 
 pub loop-t-preserved : goal.loop-t-preserved
 loop-t-preserved g c =

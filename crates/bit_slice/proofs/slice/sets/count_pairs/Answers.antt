@@ -1,18 +1,11 @@
-use Rattle.std.proofs.Common.{◌≡◌, ℕ, ◌+◌, ◌-◌, ◌*◌, ◌/◌, ◌%◌, Bool, false, List, count_by, get_or, length, slice_range, refl, sym, ◌∙◌, ap, arith}
-use Rattle.std.specs.Simd.Lanes.{zip2}
-use Rattle.std.proofs.lemmas.List.{ext_get_or}
-use Rattle.std.proofs.lemmas.Simd.{get_or-zip2, length-zip2}
-use Rattle.bit_addressing.specs.Typed.{row}
-use Rattle.bit_addressing.proofs.Typed.{length_row}
-use Rattle.bit_addressing.proofs.lists.Shown.{get_or-run, length-between, length-run}
+use Rattle.std.proofs.Common.{◌≡◌, ℕ, ◌+◌, ◌*◌, ◌/◌, ◌%◌, count_by, slice_range, refl, ◌∙◌, ap, arith}
 use Rattle.std.specs.Prelude.{count_ones}
 use Rattle.bit_addressing.proofs.Counts.{counted, counted_next, counted-le}
 use Rattle.bit_slice.specs.BitSlice.{list_of}
 use Rattle.bit_slice.specs.Operators.{combined}
 use Rattle.bit_slice.proofs.Combining.{length-combined}
-use Rattle.bit_slice.proofs.Parts.{shown_length}
-use Rattle.bit_slice.proofs.Found.{item_of_part}
-use Rattle.bit_slice.proofs.Ranges.{item_combined}
+use Rattle.bit_slice.proofs.Parts.{in_row, shown_length}
+use Rattle.bit_slice.proofs.Sets.{front_of_runs}
 use Rattle.bit_slice.proofs.slice.sets.count_pairs.Given as given
 use Rattle.bit_slice.proofs.slice.sets.count_pairs.Goals as goal
 use Rattle.bit_slice.proofs.slice.sets.count_pairs.Goals.{After-pair_chunk-chunk, After-pair_chunk-rest}
@@ -21,33 +14,10 @@ pub loop-t-init : goal.loop-t-init
 loop-t-init g c =
     let v = c.args.left in
     let u = c.args.right in
-    let f = g.F.BitOperator.made in
-    let xs = list_of v in
-    let ys = list_of u in
-    let rows = row g.T.BitStore g.O.BitOrder v.words.now in
-    let others = row g.U.BitStore g.P.BitOrder u.words.now in
-    let cs = combined f xs ys in
-    let m : ℕ = c.count_blocks-start.result.0 * 64 in
-    let long = length-combined f xs ys in
-    let left = shown_length g.T.BitStore g.O.BitOrder v.words.now v.head v.len v.fits.room in
-    let right = shown_length g.U.BitStore g.P.BitOrder u.words.now u.head u.len u.fits.room in
-    let first : length rows ≡ g.T.BitStore.BITS * length v.words.now = length_row g.T.BitStore.value g.O.BitOrder.place g.T.BitStore.BITS v.words.now in
-    let second : length others ≡ g.U.BitStore.BITS * length u.words.now = length_row g.U.BitStore.value g.P.BitOrder.place g.U.BitStore.BITS u.words.now in
+    let room = in_row g.T.BitStore g.O.BitOrder v.words.now _ v.fits.room in
+    let wide = in_row g.U.BitStore g.P.BitOrder u.words.now _ u.fits.room in
     let few = c.count_blocks-start.ensures.few in
-    let sx : List Bool = slice_range rows v.head (v.head + m) in
-    let sy : List Bool = slice_range others u.head (u.head + m) in
-    let one : length sx ≡ m = length-run rows v.head m (let room = v.fits.room in omega arith) in
-    let two : length sy ≡ m = length-run others u.head m (let room = u.fits.room in omega arith) in
-    let made : length (zip2 f sx sy) ≡ m = length-zip2 f sx sy (one ∙ sym two) ∙ one in
-    let size : length (slice_range cs 0 m) ≡ m - 0 = length-between cs 0 m (omega (arith, long, left)) in
-    record {
-      counted = c.count_blocks-start.ensures.count ∙ ap (count_by (λ b. b)) (ext_get_or false (zip2 f sx sy) (slice_range cs 0 m) (omega arith) (λ k h.
-          let at : 0 + k ≡ k = omega arith in
-          get_or-zip2 f sx sy k false false false (omega arith) (omega arith)
-          ∙ ap (λ b. f b (get_or sy k false)) (get_or-run rows v.head m k (omega arith) ∙ sym (get_or-run rows v.head v.len k (omega arith)))
-          ∙ ap (f (get_or xs k false)) (get_or-run others u.head m k (omega arith) ∙ sym (get_or-run others u.head u.len k (omega arith)))
-          ∙ sym (item_of_part cs 0 m k (omega arith) ∙ ap (λ n. get_or cs n false) at ∙ item_combined f xs ys k (omega (arith, left)))));
-    }
+    record { counted = c.count_blocks-start.ensures.count ∙ ap (count_by (λ b. b)) (front_of_runs g.F.BitOperator.made _ _ _ _ _ _ _ room (omega arith) (omega arith) wide) }
 
 -- 64 bits more are counted
 more : (g : given.Over) (c : After-pair_chunk-chunk g) → c.loop-t.count + count_ones c.pair_chunk-chunk.result ≡ count_by (λ b. b) (slice_range (combined g.F.BitOperator.made (list_of c.args.left) (list_of c.args.right)) 0 ((c.loop-t.t + 1) * 64))

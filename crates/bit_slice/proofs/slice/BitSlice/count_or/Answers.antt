@@ -1,8 +1,7 @@
 use Rattle.std.proofs.Common.{◌||◌, count_by, ◌∙◌, ap, arith}
 use Rattle.bit_slice.specs.BitSlice.{list_of}
-use Rattle.bit_slice.proofs.Sets.{or_keeps}
 use Rattle.bit_slice.proofs.Parts.{shown_length}
-use Rattle.bit_slice.proofs.Sets.{counted_both, or_and}
+use Rattle.bit_slice.proofs.Sets.{counted_both, or_and, or_keeps}
 use Rattle.bit_slice.proofs.slice.BitSlice.count_or.Goals as goal
 
 pub returns-clause-value : goal.returns-clause-value

@@ -1,8 +1,7 @@
 use Rattle.std.proofs.Common.{if◌then◌else◌, not, count_by, ◌∙◌, ap, arith}
 use Rattle.bit_slice.specs.BitSlice.{list_of}
-use Rattle.bit_slice.proofs.Sets.{xor_keeps}
 use Rattle.bit_slice.proofs.Parts.{shown_length}
-use Rattle.bit_slice.proofs.Sets.{counted_both, xor_and}
+use Rattle.bit_slice.proofs.Sets.{counted_both, xor_and, xor_keeps}
 use Rattle.bit_slice.proofs.slice.BitSlice.count_xor.Goals as goal
 
 pub returns-clause-value : goal.returns-clause-value

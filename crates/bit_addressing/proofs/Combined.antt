@@ -1,5 +1,5 @@
 -- Two runs of bits made into one.
-use Rattle.std.proofs.Common.{◌≡◌, ℕ, ◌+◌, ◌-◌, ◌*◌, ◌<◌, ◌≤◌, Bool, false, List, [], ◌∷◌, ◌++◌, length, get_or, drop, slice_range, refl, sym, ◌∙◌, ap, arith, rules}
+use Rattle.std.proofs.Common.{◌≡◌, ℕ, ◌+◌, ◌-◌, ◌*◌, ◌<◌, ◌≤◌, Bool, false, List, [], ◌∷◌, ◌++◌, length, map, set, get_or, drop, slice_range, refl, sym, ◌∙◌, ap, arith, rules}
 use Rattle.std.specs.Simd.Lanes.{zip2}
 use Rattle.std.proofs.lemmas.List.{ext_get_or, get_or-take, get_or-drop, take_all, places, same_lists}
 use Rattle.std.proofs.lemmas.Simd.{get_or-zip2, length-zip2}
@@ -7,7 +7,8 @@ use Rattle.bit_addressing.specs.Bits.{has_bit}
 use Rattle.bit_addressing.specs.Order.{IsPermutation}
 use Rattle.bit_addressing.specs.Row.{row_of, put}
 use Rattle.bit_addressing.proofs.lists.Put.{put_none, put_joined}
-use Rattle.bit_addressing.proofs.Runs.{slices_joined}
+use Rattle.bit_addressing.proofs.Runs.{mul_mono, slices_joined}
+use Rattle.bit_addressing.proofs.Typed.{length_row, row_replaced, row_whole}
 use Rattle.bit_addressing.proofs.lists.Sized.{one_more_word}
 use Rattle.bit_addressing.proofs.Wholes.{split_sum}
 use Rattle.bit_addressing.proofs.Rows.{length-row_of, get_or-row_one}
@@ -106,6 +107,25 @@ combined_more f xs cur zs one w first k from a upto ordered inside ea eu long so
     combined_next f xs cur zs one (first * w) (k * w) ((k + 1) * w) from a upto (omega arith) (omega arith) inside (omega arith) (omega arith) long
     (so_far ∙ ap (λ n. put xs (first * w) (zip2 f (slice_range xs (first * w) (k * w)) (slice_range zs from n))) (sym ea))
     (is ∙ ap (λ n. zip2 f (slice_range cur (k * w) n) (slice_range zs a (a + w))) (sym more) ∙ ap (λ n. zip2 f (slice_range cur (k * w) ((k + 1) * w)) (slice_range zs a n)) end)
+
+-- one word more is made of the word that stands there and of a word of other bits
+pub combined_word : {X : Type 0} (value : X → ℕ) (place : ℕ → ℕ → ℕ) (w : ℕ) (f : Bool → Bool → Bool) (ws cur : List X) (zs : List Bool) (old new made : X) (first k from : ℕ)
+    → 0 < w → IsPermutation w (place w) → length cur ≡ length ws → first ≤ k → k < length ws → from + (k + 1 - first) * w ≤ length zs → old ≡ get_or cur k old
+    → ((p : ℕ) → p < w → has_bit (value made) p ≡ f (has_bit (value old) p) (has_bit (value new) p))
+    → row_of place w (value new ∷ []) ≡ slice_range zs (from + (k - first) * w) (from + (k - first) * w + w)
+    → row_of place w (map value cur) ≡ put (row_of place w (map value ws)) (first * w) (zip2 f (slice_range (row_of place w (map value ws)) (first * w) (k * w)) (slice_range zs from (from + (k - first) * w)))
+    → row_of place w (map value (set cur k made)) ≡ put (row_of place w (map value ws)) (first * w) (zip2 f (slice_range (row_of place w (map value ws)) (first * w) ((k + 1) * w)) (slice_range zs from (from + (k + 1 - first) * w)))
+combined_word value place w f ws cur zs old new made first k from positive lawful same ordered below enough read bits word so_far =
+    let xs : List Bool = row_of place w (map value ws) in
+    let now : List Bool = row_of place w (map value cur) in
+    let size : length xs ≡ w * length ws = length_row value place w ws in
+    let inside = mul_mono (k + 1) (length ws) w (omega (arith, below)) in
+    let there : k < length cur = omega (arith, below, same) in
+    row_replaced value place w cur k made positive there
+    ∙ combined_more f xs now zs (row_of place w (value made ∷ [])) w first k from (from + (k - first) * w) (from + (k + 1 - first) * w) ordered (omega (arith, inside, size)) refl refl enough so_far
+    (word_combined f place w (value old) (value new) (value made) positive lawful bits
+    ∙ ap (λ l. zip2 f l (row_of place w (value new ∷ []))) (row_whole value place w cur k (k * w) (k * w + w) old positive there read refl refl)
+    ∙ ap (zip2 f (slice_range now (k * w) (k * w + w))) word)
 
 -- the second bits alone
 pub second_bits : (xs ys : List Bool) → length xs ≡ length ys → zip2 (λ a b. b) xs ys ≡ ys

@@ -14,6 +14,10 @@ module _ {X : Type 0} (value : X → ℕ) (place : ℕ → ℕ → ℕ) (w : ℕ
   pub length_row : (ws : List X) → length (row_of place w (map value ws)) ≡ w * length ws
   length_row ws = length-row_of place w (map value ws) ∙ ap (λ n. w * n) (length-map ws value)
 
+  -- an index in the words is in their row
+  pub index_in_row : (ws : List X) (n : ℕ) → n ≤ w * length ws → n ≤ length (row_of place w (map value ws))
+  index_in_row ws n h = let size = length_row ws in omega (arith, h, size)
+
   pub row_read : (ws : List X) (at k p : ℕ) (word : X) (b : Bool) → 0 < w → at < w * length ws → k ≡ at / w → p ≡ place w (at % w) → word ≡ get_or ws k word → b ≡ has_bit (value word) p → b ≡ get_or (row_of place w (map value ws)) at false
   row_read ws at k p word b positive below ek ep read is =
       let here : k < length ws = subst (λ n. n < length ws) (sym ek) (word_below w at (length ws) positive below) in

@@ -1,11 +1,9 @@
-use Rattle.std.proofs.Common.{◌≡◌, ℕ, ◌+◌, ◌-◌, ◌*◌, [], ◌∷◌, length, slice_range, refl, ◌∙◌, ap, arith, rules}
-use Rattle.std.specs.Simd.Lanes.{zip2}
+use Rattle.std.proofs.Common.{◌≡◌, ℕ, ◌+◌, ◌-◌, ◌*◌, length, refl, arith, rules}
 use Rattle.bit_addressing.specs.Typed.{row}
-use Rattle.bit_addressing.proofs.Combined.{word_combined, combined_whole_none, combined_more}
+use Rattle.bit_addressing.proofs.Combined.{combined_whole_none, combined_word}
 use Rattle.bit_addressing.proofs.Runs.{mul_mono}
-use Rattle.bit_addressing.proofs.lists.Sized.{one_more_word}
 use Rattle.bit_addressing.proofs.Rows.{width_positive}
-use Rattle.bit_addressing.proofs.Typed.{length_row, row_replaced, row_whole}
+use Rattle.bit_addressing.proofs.Typed.{length_row}
 use Rattle.bit_addressing.proofs.bits.combined.combine_after.Goals as goal
 
 pub loop-k-init : goal.loop-k-init
@@ -15,29 +13,12 @@ pub loop-k-preserved : goal.loop-k-preserved
 loop-k-preserved g c =
     let w = g.T.BitStore.BITS in
     let u = g.U.BitStore.BITS in
-    let value = g.T.BitStore.value in
-    let place = g.O.BitOrder.place in
-    let f = g.F.BitOperator.made in
-    let first = c.args.first in
-    let from : ℕ = c.args.begin * u + c.args.skip in
     let k = c.loop-k.k in
-    let words = c.args.words.now in
-    let source = c.args.source.now in
-    let old = row g.T.BitStore g.O.BitOrder words in
-    let cur = row g.T.BitStore g.O.BitOrder c.loop-k.words in
-    let zs = row g.U.BitStore g.P.BitOrder source in
-    let positive = width_positive w g.met.T.BitStore.width in
-    let size : length old ≡ w * length words = length_row value place w words in
-    let long : length zs ≡ u * length source = length_row g.U.BitStore.value g.P.BitOrder.place u source in
-    let inside = mul_mono (k + 1) (length words) w (omega arith) in
-    let beyond = mul_mono (k + 1 - first) (c.args.last - first) w (omega arith) in
-    let more = one_more_word k w in
-    let a : ℕ = from + (k - first) * w in
+    let from : ℕ = c.args.begin * u + c.args.skip in
+    let zs = row g.U.BitStore g.P.BitOrder c.args.source.now in
+    let long : length zs ≡ u * length c.args.source.now = length_row g.U.BitStore.value g.P.BitOrder.place u c.args.source.now in
+    let beyond = mul_mono (k + 1 - c.args.first) (c.args.last - c.args.first) w (omega arith) in
     record {
-      bits = row_replaced value place w c.loop-k.words k c.apply.result positive (omega arith)
-          ∙ combined_more f old cur zs (row g.T.BitStore g.O.BitOrder (c.apply.result ∷ [])) w first k from a (from + (k + 1 - first) * w) c.loop-k.auto.k (omega arith) refl refl (omega arith) c.loop-k.invariant.bits
-          (word_combined f place w (value c.index-words-k.result) (value c.word_after-new.result) (value c.apply.result) positive (g.met.O.BitOrder.lawful w g.met.T.BitStore.width) c.apply.ensures
-          ∙ ap (λ l. zip2 f l (row g.T.BitStore g.O.BitOrder (c.word_after-new.result ∷ []))) (row_whole value place w c.loop-k.words k (k * w) (k * w + w) c.index-words-k.result positive (omega arith) c.index-words-k.is refl refl)
-          ∙ ap (zip2 f (slice_range cur (k * w) (k * w + w))) c.word_after-new.ensures);
+      bits = combined_word g.T.BitStore.value g.O.BitOrder.place w g.F.BitOperator.made c.args.words.now c.loop-k.words zs _ _ _ c.args.first k from (width_positive w g.met.T.BitStore.width) (g.met.O.BitOrder.lawful w g.met.T.BitStore.width) c.loop-k.invariant.size c.loop-k.auto.k (omega arith) (omega arith) c.index-words-k.is c.apply.ensures c.word_after-new.ensures c.loop-k.invariant.bits;
       size = search rules;
     }

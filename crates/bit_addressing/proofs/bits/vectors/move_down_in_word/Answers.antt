@@ -1,38 +1,22 @@
-use Rattle.std.proofs.Common.{◌≡◌, ◌+◌, ◌-◌, ◌*◌, ◌/◌, ◌%◌, ◌<◌, ◌≤◌, if◌then◌else◌, ◌&&◌, leb, ltb, [], ◌∷◌, map, length, get_or, sym, ◌∙◌, ap, subst, arith}
-use Rattle.std.proofs.lemmas.List.{map-set, get_or-map, length-map}
-use Rattle.std.proofs.lemmas.Nat.{div-add-mod'}
-use Rattle.bit_addressing.specs.Bits.{has_bit}
-use Rattle.bit_addressing.specs.Row.{moved, row_bit, row_of}
-use Rattle.bit_addressing.proofs.Inserted.{bit_below}
-use Rattle.bit_addressing.proofs.Rows.{width_positive, word_below}
-use Rattle.bit_addressing.proofs.Shifts.{blended, part_moved}
+use Rattle.std.proofs.Common.{◌+◌, ◌/◌, ◌%◌, [], ◌∷◌, map, length, arith}
+use Rattle.bit_addressing.specs.Row.{row_bit}
+use Rattle.bit_addressing.proofs.Inserted.{bit_below, in_word, moved_in_word}
+use Rattle.bit_addressing.proofs.Rows.{width_positive}
 use Rattle.bit_addressing.proofs.bits.vectors.move_down_in_word.Goals as goal
 
 pub returns-clause-bits : goal.returns-clause-bits
 returns-clause-bits g c =
     let w = g.T.BitStore.BITS in
-    let value = g.T.BitStore.value in
     let place = g.O.BitOrder.place in
     let ws = c.args.words.now in
-    let words = map value ws in
     let at = c.args.at in
     let n = c.args.n in
     let k = at / c.BITS-width.result in
     let low = at % c.BITS-width.result in
-    let x = value c.index-words-k.result in
+    let old = c.index-words-k.result in
+    let x = g.T.BitStore.value old in
     let positive = width_positive w g.met.T.BitStore.width in
-    let within = c.requires.within in
-    let inside = c.requires.word in
-    let long : length words ≡ length ws = length-map ws value in
-    let rest : low ≡ at % w = ap (λ m. at % m) c.BITS-width.ensures in
-    let begins : k * w + low ≡ at = ap (λ m. at / m * w + at % m) c.BITS-width.ensures ∙ div-add-mod' at w in
-    let below : k < length ws = subst (λ m. m < length ws) (ap (λ m. at / m) (sym c.BITS-width.ensures)) (word_below w at (length ws) positive (omega arith)) in
-    let read : x ≡ get_or words k 0 = ap value c.index-words-k.is ∙ sym (get_or-map value ws k c.index-words-k.result 0 below) in
-    let fits : at + 1 + n ≤ w * length words = subst (λ m. at + 1 + n ≤ w * m) (sym long) (omega arith) in
+    let there = in_word w c.BITS-width.result (length ws) at positive c.BITS-width.ensures (omega (arith, c.requires.within)) in
     let replaced = rw (c.new_unchecked-next.ensures, c.new_unchecked-start.ensures, c.new_unchecked-end.ensures) at c.with_run.ensures in
-    rw (map-set value ws k c.with_run.result)
-    (part_moved place w words k (value c.with_run.result) (at + 1) (low) (low + n) n positive (rw long below) (omega arith) (omega arith) fits
-    (λ i h. replaced i h
-    ∙ blended (low) (low + n) i (row_bit place w (x ∷ x ∷ []) (1 + i)) (row_bit place w words (at + 1 + (i - (low)))) (has_bit x (place w i)) (λ above under. bit_below place w words k at low i x begins above (omega arith) read)
-    ∙ ap (λ m. if leb (low) i && ltb i (low + n) then row_bit place w words (at + 1 + (i - (low))) else has_bit m (place w i)) read)
-    ∙ ap (λ d. moved (row_of place w words) (at + 1) d n) begins)
+    moved_in_word g.T.BitStore.value place w ws k old c.with_run.result (λ i. row_bit place w (x ∷ x ∷ []) (1 + i)) (at + 1) low (low + n) n at positive there.below c.index-words-k.is (omega arith) (omega (arith, there.rest, c.requires.word)) (omega (arith, c.requires.within)) (omega (arith, there.begins)) replaced
+    (λ i above under read. bit_below place w (map g.T.BitStore.value ws) k at low i x there.begins above (omega (arith, under, there.rest, c.requires.word)) read)

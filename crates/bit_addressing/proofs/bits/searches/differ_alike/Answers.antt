@@ -1,4 +1,4 @@
-use Rattle.std.proofs.Common.{◌≡◌, ◌≢◌, ℕ, Bool, true, false, not, ◌&&◌, if◌then◌else◌, inl, inr, ◌+◌, ◌*◌, ◌/◌, ◌%◌, ◌≤◌, ◌<◌, [], mod-lt, ◌∷◌, List, bit_xor, length, map, slice_range, w64, refl, sym, ◌∙◌, ap, subst, get_or, arith}
+use Rattle.std.proofs.Common.{◌≡◌, ◌≢◌, ℕ, Bool, true, false, not, ◌&&◌, if◌then◌else◌, inl, inr, ◌+◌, ◌*◌, ◌^◌, ◌/◌, ◌%◌, ◌≤◌, ◌<◌, [], mod-lt, ◌∷◌, List, bit_xor, length, map, slice_range, w64, refl, sym, ◌∙◌, ap, subst, get_or, arith}
 use Rattle.std.specs.Int.{trailing_zeros}
 use Rattle.std.specs.Prelude.{ltb}
 use Rattle.std.proofs.lemmas.Bool.{cases_lt, le-ltb, lt-ltb}
@@ -16,7 +16,7 @@ use Rattle.bit_addressing.proofs.Wholes.{word_in_run}
 use Rattle.bit_addressing.proofs.Words.{has_none}
 use Rattle.bit_addressing.proofs.lists.Shown.{length-run}
 use Rattle.bit_addressing.proofs.lists.Sized.{right_sum, one_more_word}
-use Rattle.bit_addressing.proofs.Typed.{length_row}
+use Rattle.bit_addressing.proofs.Typed.{index_in_row, length_row}
 use Rattle.bit_addressing.proofs.bits.searches.differ_alike.Given as given
 use Rattle.bit_addressing.proofs.bits.searches.differ_alike.Goals as goal
 use Rattle.bit_addressing.proofs.bits.searches.differ_alike.Goals.{then-to_u64+else-apart-ne0, else-to_u64}
@@ -33,6 +33,35 @@ module _ {X : Type 0} (value : X → ℕ) (place : ℕ → ℕ → ℕ) (w : ℕ
       let at : k * w + t * w ≡ (k + t) * w = sym (right_sum k t w) in
       word_here value place w u ws k t word positive width (inside_words w (k + t) (length ws) (k * w + t * w) at (omega arith)) is
 
+-- two runs of n bits that begin with words k and l: their whole words, the bits after these, and the words and rows that they lie in
+record HasRest (w n k l size other long wide whole rest : ℕ) : Type 0 where
+  sum : whole * w + rest ≡ n
+  few : rest < w
+  here : 0 < rest → k + whole < size
+  there : 0 < rest → l + whole < other
+  inside : k * w + n ≤ long
+  beside : l * w + n ≤ wide
+
+-- what two runs have after their whole words
+module _ {X Y : Type 0} (value : X → ℕ) (other : Y → ℕ) (place order : ℕ → ℕ → ℕ) (w u d : ℕ) (a : List X) (b : List Y) (k l n : ℕ) (positive : 0 < w) (width : u ≡ w) (same : d ≡ w) (first : k * w + n ≤ w * length a) (second : l * w + n ≤ w * length b) where
+  rest_of_runs : HasRest w n k l (length a) (length b) (length (row_of place w (map value a))) (length (row_of order u (map other b))) (n / d) (n % d)
+  rest_of_runs =
+      let split = div-add-mod' n d in
+      let under : n % d < d = mod-lt n (omega (arith, positive, same)) in
+      let wide : n / d * d ≡ n / d * w = ap (λ m. n / d * m) same in
+      record {
+        sum = omega (arith, split, wide);
+        few = omega (arith, under, same);
+        here = λ some. inside_words w (k + n / d) (length a) (k * w + n / d * w) (sym (right_sum k (n / d) w)) (omega (arith, split, wide, first, some));
+        there = λ some. inside_words w (l + n / d) (length b) (l * w + n / d * w) (sym (right_sum l (n / d) w)) (omega (arith, split, wide, second, some));
+        inside = index_in_row value place w a (k * w + n) first;
+        beside = index_in_row other order u b (l * w + n) (subst (λ m. l * w + n ≤ m * length b) (sym width) second);
+      }
+
+-- the first difference of a run of n bits is below n
+below_run : (xs ys : List Bool) (i n k : ℕ) → i + n ≤ length xs → IsFirstDifference (slice_range xs i (i + n)) ys k → k < n
+below_run xs ys i n k inside is = let size = length-run xs i n inside in omega (arith, size, is.within)
+
 first_in : (g : given.Over) (c : goal.Then-apart-ne0 g) → IsFirstDifference (slice_range (row g.T.BitStore g.O.BitOrder c.args.a.now) (c.args.k * g.T.BitStore.BITS) (c.args.k * g.T.BitStore.BITS + c.args.n)) (slice_range (row g.U.BitStore g.P.BitOrder c.args.b.now) (c.args.l * g.T.BitStore.BITS) (c.args.l * g.T.BitStore.BITS + c.args.n)) (c.loop-t.t * c.BITS-width.result + trailing_zeros w64 (bit_xor c.word_number.result c.word_number-then-to_u64.result))
 first_in g c =
     let w = g.T.BitStore.BITS in
@@ -42,8 +71,7 @@ first_in g c =
     let n = c.args.n in
     let xs = row g.T.BitStore g.O.BitOrder c.args.a.now in
     let ys = row g.U.BitStore g.P.BitOrder c.args.b.now in
-    let first : length xs ≡ w * length c.args.a.now = length_row g.T.BitStore.value g.O.BitOrder.place w c.args.a.now in
-    let second : length ys ≡ w * length c.args.b.now = length_row g.U.BitStore.value g.P.BitOrder.place u c.args.b.now ∙ ap (λ m. m * length c.args.b.now) c.requires.width in
+    let r = rest_of_runs g.T.BitStore.value g.U.BitStore.value g.O.BitOrder.place g.P.BitOrder.place w g.U.BitStore.BITS c.BITS-width.result c.args.a.now c.args.b.now c.args.k c.args.l c.args.n (width_positive w g.met.T.BitStore.width) c.requires.width c.BITS-width.ensures c.requires.first c.requires.second in
     let t = c.loop-t.t in
     let i : ℕ = c.args.k * w in
     let j : ℕ = c.args.l * w in
@@ -56,18 +84,15 @@ first_in g c =
     let right = c.word_alike-right.ensures ∙ word_of_run g.U.BitStore.value g.P.BitOrder.place w positive c.args.b.now u d c.args.l n t c.index-b-l.result c.requires.width e (omega arith) (omega arith) c.index-b-l.is in
     subst (λ m. IsFirstDifference (slice_range xs i (i + n)) (slice_range ys j (j + n)) (t * m + trailing_zeros w64 (bit_xor x y))) (sym e)
     (differ_here xs ys i j k w x y (i + k) (j + k) refl refl (c.word_number.ensures ∙ ap number_of left) (c.word_number-then-to_u64.ensures ∙ ap number_of right)
-    n c.if-apart-ne0.true (xor_lt 64 x y c.word_number.type_inv c.word_number-then-to_u64.type_inv) (omega arith) (omega arith) (omega arith) c.loop-t.invariant.alike)
+    n c.if-apart-ne0.true (xor_lt 64 x y c.word_number.type_inv c.word_number-then-to_u64.type_inv) (omega arith) r.inside r.beside c.loop-t.invariant.alike)
 
 pub returns-then-apart-ne0 : goal.returns-then-apart-ne0
 returns-then-apart-ne0 g c = first_in g c
 
 pub overflow_add-result : goal.overflow_add-result
 overflow_add-result g c =
-    let xs = row g.T.BitStore g.O.BitOrder c.args.a.now in
-    let i : ℕ = c.args.k * g.T.BitStore.BITS in
-    let first : length xs ≡ g.T.BitStore.BITS * length c.args.a.now = length_row g.T.BitStore.value g.O.BitOrder.place g.T.BitStore.BITS c.args.a.now in
-    let size = length-run xs i c.args.n (omega arith) in
-    let inside = (first_in g c).within in
+    let inside = index_in_row g.T.BitStore.value g.O.BitOrder.place g.T.BitStore.BITS c.args.a.now _ c.requires.first in
+    let below = below_run _ _ _ c.args.n _ inside (first_in g c) in
     omega arith
 
 pub loop-t-preserved : goal.loop-t-preserved
@@ -101,18 +126,9 @@ loop-t-preserved g c =
 pub returns-then-rest-eq0 : goal.returns-then-rest-eq0
 returns-then-rest-eq0 g c =
     let w = g.T.BitStore.BITS in
-    let u = g.U.BitStore.BITS in
-    let d = c.BITS-width.result in
-    let n = c.args.n in
-    let xs = row g.T.BitStore g.O.BitOrder c.args.a.now in
-    let ys = row g.U.BitStore g.P.BitOrder c.args.b.now in
-    let first : length xs ≡ w * length c.args.a.now = length_row g.T.BitStore.value g.O.BitOrder.place w c.args.a.now in
-    let second : length ys ≡ w * length c.args.b.now = length_row g.U.BitStore.value g.P.BitOrder.place u c.args.b.now ∙ ap (λ m. m * length c.args.b.now) c.requires.width in
-    let split = div-add-mod' n d in
-    let wide : n / d * d ≡ n / d * w = ap (λ m. n / d * m) c.BITS-width.ensures in
-    let all : c.loop-t.t ≡ n / d = omega arith in
-    alike_all xs ys (c.args.k * w) (c.args.l * w) n (n / d * w) (omega arith) (omega arith) (omega arith)
-    (subst (λ m. AreAlike xs ys (c.args.k * w) (c.args.l * w) (m * w)) all c.loop-t.invariant.alike)
+    let r = rest_of_runs g.T.BitStore.value g.U.BitStore.value g.O.BitOrder.place g.P.BitOrder.place w g.U.BitStore.BITS c.BITS-width.result c.args.a.now c.args.b.now c.args.k c.args.l c.args.n (width_positive w g.met.T.BitStore.width) c.requires.width c.BITS-width.ensures c.requires.first c.requires.second in
+    let all : c.loop-t.t ≡ c.args.n / c.BITS-width.result = omega arith in
+    alike_all _ _ (c.args.k * w) (c.args.l * w) c.args.n (c.args.n / c.BITS-width.result * w) (omega (arith, r.sum)) r.inside r.beside (rw all at c.loop-t.invariant.alike)
 
 and_true : (b : Bool) → (b && true) ≡ b
 and_true true = refl
@@ -122,107 +138,84 @@ and_false : (b : Bool) → (b && false) ≡ false
 and_false true = refl
 and_false false = refl
 
--- the word whose bits are those that differ below index `rest`, of word s of two runs that begin with words k and l
-module _ {X Y : Type 0} (value : X → ℕ) (other : Y → ℕ) (place order : ℕ → ℕ → ℕ) (w u : ℕ) (a : List X) (b : List Y) (k l s rest v : ℕ) (x : X) (y : Y) (positive : 0 < w) (width : u ≡ w) (few : rest ≤ w)
-    (bits : (q : ℕ) → q < w → has_bit v (place w q) ≡ ((if get_or (row_of place w (value x ∷ [])) q false then not (get_or (row_of order u (other y ∷ [])) q false) else get_or (row_of order u (other y ∷ [])) q false) && ltb q rest)) where
-  apart_past : (q : ℕ) → q < w → rest ≤ q → has_bit v (place w q) ≡ false
-  apart_past q h past = bits q h ∙ ap (λ t. (if get_or (row_of place w (value x ∷ [])) q false then not (get_or (row_of order u (other y ∷ [])) q false) else get_or (row_of order u (other y ∷ [])) q false) && t) (le-ltb q rest past)
-      ∙ and_false (if get_or (row_of place w (value x ∷ [])) q false then not (get_or (row_of order u (other y ∷ [])) q false) else get_or (row_of order u (other y ∷ [])) q false)
+-- two runs of n bits with some after their whole words: words x and y have these, and v has the bits that differ of them
+module _ {X Y : Type 0} (value : X → ℕ) (other : Y → ℕ) (place order : ℕ → ℕ → ℕ) (w u d : ℕ) (a : List X) (b : List Y) (k l n : ℕ) (positive : 0 < w) (width : u ≡ w) (same : d ≡ w) (first : k * w + n ≤ w * length a) (second : l * w + n ≤ w * length b)
+    (some : 0 < n % d) (v : ℕ) (x : X) (y : Y) (is_x : x ≡ get_or a (k + n / d) x) (is_y : y ≡ get_or b (l + n / d) y)
+    (bits : (q : ℕ) → q < w → has_bit v (place w q) ≡ ((if get_or (row_of place w (value x ∷ [])) q false then not (get_or (row_of order u (other y ∷ [])) q false) else get_or (row_of order u (other y ∷ [])) q false) && ltb q (n % d))) where
+  abbrev xs : List Bool
+  xs = row_of place w (map value a)
 
-  module _ (here : k + s < length a) (there : l + s < length b) (is_x : x ≡ get_or a (k + s) x) (is_y : y ≡ get_or b (l + s) y) where
-    tells_apart : (q : ℕ) → q < rest → has_bit v (place w q) ≡ (if get_or (row_of place w (map value a)) (k * w + (s * w + q)) false then not (get_or (row_of order u (map other b)) (l * w + (s * w + q)) false) else get_or (row_of order u (map other b)) (l * w + (s * w + q)) false)
-    tells_apart q h =
-        let inside : q < w = omega arith in
-        bits q inside
-        ∙ ap (λ t. (if get_or (row_of place w (value x ∷ [])) q false then not (get_or (row_of order u (other y ∷ [])) q false) else get_or (row_of order u (other y ∷ [])) q false) && t) (lt-ltb q rest h)
-        ∙ and_true (if get_or (row_of place w (value x ∷ [])) q false then not (get_or (row_of order u (other y ∷ [])) q false) else get_or (row_of order u (other y ∷ [])) q false)
-        ∙ ap (λ t. if t then not (get_or (row_of order u (other y ∷ [])) q false) else get_or (row_of order u (other y ∷ [])) q false) (bit_here value place w w a k s x positive refl here is_x q inside)
-        ∙ ap (λ t. if get_or (row_of place w (map value a)) (k * w + (s * w + q)) false then not t else t) (bit_here other order w u b l s y positive width there is_y q inside)
+  abbrev ys : List Bool
+  ys = row_of order u (map other b)
+
+  -- how the runs lie
+  lies : HasRest w n k l (length a) (length b) (length xs) (length ys) (n / d) (n % d)
+  lies = rest_of_runs value other place order w u d a b k l n positive width same first second
+
+  -- no bit of v is true past the runs
+  apart_past : (q : ℕ) → q < w → n % d ≤ q → has_bit v (place w q) ≡ false
+  apart_past q h past = bits q h ∙ ap (λ t. (if get_or (row_of place w (value x ∷ [])) q false then not (get_or (row_of order u (other y ∷ [])) q false) else get_or (row_of order u (other y ∷ [])) q false) && t) (le-ltb q (n % d) past) ∙ and_false (if get_or (row_of place w (value x ∷ [])) q false then not (get_or (row_of order u (other y ∷ [])) q false) else get_or (row_of order u (other y ∷ [])) q false)
+
+  -- a bit of v tells whether two bits of the runs differ
+  tells_apart : (q : ℕ) → q < n % d → has_bit v (place w q) ≡ (if get_or xs (k * w + (n / d * w + q)) false then not (get_or ys (l * w + (n / d * w + q)) false) else get_or ys (l * w + (n / d * w + q)) false)
+  tells_apart q h =
+      let r = lies in
+      let inside : q < w = omega (arith, h, r.few) in
+      bits q inside
+      ∙ ap (λ t. (if get_or (row_of place w (value x ∷ [])) q false then not (get_or (row_of order u (other y ∷ [])) q false) else get_or (row_of order u (other y ∷ [])) q false) && t) (lt-ltb q (n % d) h)
+      ∙ and_true (if get_or (row_of place w (value x ∷ [])) q false then not (get_or (row_of order u (other y ∷ [])) q false) else get_or (row_of order u (other y ∷ [])) q false)
+      ∙ ap (λ t. if t then not (get_or (row_of order u (other y ∷ [])) q false) else get_or (row_of order u (other y ∷ [])) q false) (bit_here value place w w a k (n / d) x positive refl (r.here some) is_x q inside)
+      ∙ ap (λ t. if get_or xs (k * w + (n / d * w + q)) false then not t else t) (bit_here other order w u b l (n / d) y positive width (r.there some) is_y q inside)
+
+  -- v has no bit, and the runs are the same up to there: they are the same
+  equal_after : ((q : ℕ) → q < w → has_bit v (place w q) ≡ false) → AreAlike xs ys (k * w) (l * w) (n / d * w) → slice_range xs (k * w) (k * w + n) ≡ slice_range ys (l * w) (l * w + n)
+  equal_after clear alike =
+      let r = lies in
+      alike_all xs ys (k * w) (l * w) n (n / d * w + n % d) (omega (arith, r.sum)) r.inside r.beside
+      (alike_each xs ys (k * w) (l * w) (n / d * w) (n % d) (λ q h. same_if (get_or xs (k * w + (n / d * w + q)) false) (get_or ys (l * w + (n / d * w + q)) false) (sym (tells_apart q h) ∙ clear q (omega (arith, h, r.few)))) alike)
+
+  -- the lowest bit of v in the order is where the runs differ first, if they are the same up to there
+  differ_after : (z : ℕ) → ((q : ℕ) → q < w → has_bit z q ≡ has_bit v (place w q)) → ((q : ℕ) → w ≤ q → has_bit z q ≡ false) → z ≢ 0 → z < 2 ^ 64 → AreAlike xs ys (k * w) (l * w) (n / d * w)
+      → IsFirstDifference (slice_range xs (k * w) (k * w + n)) (slice_range ys (l * w) (l * w + n)) (n / d * d + trailing_zeros w64 z)
+  differ_after z turned none left fits alike =
+      let r = lies in
+      let past : (q : ℕ) → n % d ≤ q → has_bit z q ≡ false = λ q h. elim (cases_lt q w) [
+        | inl m ↦ turned q m ∙ apart_past q m h
+        | inr m ↦ none q m
+      ] in
+      subst (λ m. IsFirstDifference (slice_range xs (k * w) (k * w + n)) (slice_range ys (l * w) (l * w + n)) (n / d * m + trailing_zeros w64 z)) (sym same)
+      (differ_by xs ys (k * w) (l * w) (n / d * w) (n % d) z (λ q h. turned q (omega (arith, h, r.few)) ∙ tells_apart q h) past n left fits (omega (arith, r.sum)) r.inside r.beside alike)
 
 pub returns-then-to_u64-eq0 : goal.returns-then-to_u64-eq0
 returns-then-to_u64-eq0 g c =
     let w = g.T.BitStore.BITS in
-    let u = g.U.BitStore.BITS in
-    let d = c.BITS-width.result in
-    let e = c.BITS-width.ensures in
-    let n = c.args.n in
-    let k = c.args.k in
-    let l = c.args.l in
-    let a = c.args.a.now in
-    let b = c.args.b.now in
     let place = g.O.BitOrder.place in
-    let xs = row g.T.BitStore g.O.BitOrder a in
-    let ys = row g.U.BitStore g.P.BitOrder b in
-    let first : length xs ≡ w * length a = length_row g.T.BitStore.value place w a in
-    let second : length ys ≡ w * length b = length_row g.U.BitStore.value g.P.BitOrder.place u b ∙ ap (λ m. m * length b) c.requires.width in
-    let whole : ℕ = n / d in
-    let rest : ℕ = n % d in
-    let positive = width_positive w g.met.T.BitStore.width in
-    let split = div-add-mod' n d in
-    let under : n % d < d = mod-lt n (omega arith) in
-    let wide : whole * d ≡ whole * w = ap (λ m. whole * m) e in
-    let all : c.loop-t.t ≡ whole = omega arith in
-    let few : rest ≤ w = omega arith in
-    let here : k + whole < length a = inside_words w (k + whole) (length a) (k * w + whole * w) (sym (right_sum k whole w)) (omega arith) in
-    let there : l + whole < length b = inside_words w (l + whole) (length b) (l * w + whole * w) (sym (right_sum l whole w)) (omega arith) in
-    let v = g.T.BitStore.value c.first_bits_apart-apart.result in
-    let tells = tells_apart g.T.BitStore.value g.U.BitStore.value place g.P.BitOrder.place w u a b k l whole rest v c.index-a-k-2.result c.index-b-l-2.result positive c.requires.width few c.first_bits_apart-apart.ensures here there c.index-a-k-2.is c.index-b-l-2.is in
-    let clear : (q : ℕ) → q < rest → has_bit v (place w q) ≡ false = λ q h.
-    let p : ℕ = place w q in
-    let below = (g.met.O.BitOrder.lawful w g.met.T.BitStore.width).in_range q (omega arith) in
-    sym (c.to_u64-2.ensures.low p below) ∙ ap (λ m. has_bit m p) c.if-to_u64-eq0.true ∙ has_none p in
-    alike_all xs ys (k * w) (l * w) n (whole * w + rest) (omega arith) (omega arith) (omega arith)
-    (alike_each xs ys (k * w) (l * w) (whole * w) rest (λ q h. same_if (get_or xs (k * w + (whole * w + q)) false) (get_or ys (l * w + (whole * w + q)) false) (sym (tells q h) ∙ clear q h))
-    (subst (λ m. AreAlike xs ys (k * w) (l * w) (m * w)) all c.loop-t.invariant.alike))
+    let all : c.loop-t.t ≡ c.args.n / c.BITS-width.result = omega arith in
+    let clear : (q : ℕ) → q < w → has_bit (g.T.BitStore.value c.first_bits_apart-apart.result) (place w q) ≡ false = λ q h.
+    let below = (g.met.O.BitOrder.lawful w g.met.T.BitStore.width).in_range q h in
+    sym (c.to_u64-2.ensures.low (place w q) below) ∙ ap (λ m. has_bit m (place w q)) c.if-to_u64-eq0.true ∙ has_none (place w q) in
+    equal_after g.T.BitStore.value g.U.BitStore.value g.O.BitOrder.place g.P.BitOrder.place w g.U.BitStore.BITS c.BITS-width.result c.args.a.now c.args.b.now c.args.k c.args.l c.args.n (width_positive w g.met.T.BitStore.width) c.requires.width c.BITS-width.ensures c.requires.first c.requires.second (omega arith) _ c.index-a-k-2.result c.index-b-l-2.result c.index-a-k-2.is c.index-b-l-2.is c.first_bits_apart-apart.ensures
+    clear (rw all at c.loop-t.invariant.alike)
 
 pub returns : goal.returns
 returns g c =
     let w = g.T.BitStore.BITS in
-    let u = g.U.BitStore.BITS in
-    let d = c.BITS-width.result in
-    let e = c.BITS-width.ensures in
-    let n = c.args.n in
-    let k = c.args.k in
-    let l = c.args.l in
-    let a = c.args.a.now in
-    let b = c.args.b.now in
     let place = g.O.BitOrder.place in
-    let xs = row g.T.BitStore g.O.BitOrder a in
-    let ys = row g.U.BitStore g.P.BitOrder b in
-    let first : length xs ≡ w * length a = length_row g.T.BitStore.value place w a in
-    let second : length ys ≡ w * length b = length_row g.U.BitStore.value g.P.BitOrder.place u b ∙ ap (λ m. m * length b) c.requires.width in
-    let whole : ℕ = n / d in
-    let rest : ℕ = n % d in
     let positive = width_positive w g.met.T.BitStore.width in
     let lawful = g.met.O.BitOrder.lawful w g.met.T.BitStore.width in
-    let split = div-add-mod' n d in
-    let under : n % d < d = mod-lt n (omega arith) in
-    let wide : whole * d ≡ whole * w = ap (λ m. whole * m) e in
-    let all : c.loop-t.t ≡ whole = omega arith in
-    let few : rest ≤ w = omega arith in
-    let here : k + whole < length a = inside_words w (k + whole) (length a) (k * w + whole * w) (sym (right_sum k whole w)) (omega arith) in
-    let there : l + whole < length b = inside_words w (l + whole) (length b) (l * w + whole * w) (sym (right_sum l whole w)) (omega arith) in
+    let all : c.loop-t.t ≡ c.args.n / c.BITS-width.result = omega arith in
     let v = g.T.BitStore.value c.first_bits_apart-apart.result in
     let z = c.word_number-2.result in
     let one : List Bool = row g.T.BitStore g.O.BitOrder (c.first_bits_apart-apart.result ∷ []) in
     let size : length one ≡ w * 1 = length_row g.T.BitStore.value place w (c.first_bits_apart-apart.result ∷ []) in
     let number : (q : ℕ) → has_bit z q ≡ get_or one q false = λ q. ap (λ m. has_bit m q) c.word_number-2.ensures ∙ has_number one q in
     let turned : (q : ℕ) → q < w → has_bit z q ≡ has_bit v (place w q) = λ q h. number q ∙ get_or-row_one place w v q positive h in
-    let tells = tells_apart g.T.BitStore.value g.U.BitStore.value place g.P.BitOrder.place w u a b k l whole rest v c.index-a-k-2.result c.index-b-l-2.result positive c.requires.width few c.first_bits_apart-apart.ensures here there c.index-a-k-2.is c.index-b-l-2.is in
-    let past : (q : ℕ) → rest ≤ q → has_bit z q ≡ false = λ q h. elim (cases_lt q w) [
-      | inl m ↦ turned q m ∙ apart_past g.T.BitStore.value g.U.BitStore.value place g.P.BitOrder.place w u a b k l whole rest v c.index-a-k-2.result c.index-b-l-2.result positive c.requires.width few c.first_bits_apart-apart.ensures q m h
-      | inr m ↦ number q ∙ get_or_past one q false (omega arith)
-    ] in
-    let some : z ≢ 0 = λ none. c.if-to_u64-eq0.false (turned_none w (place w) v z c.to_u64-2.result lawful turned c.to_u64-2.ensures.low c.to_u64-2.ensures.high c.to_u64-2.type_inv none) in
-    subst (λ m. IsFirstDifference (slice_range xs (k * w) (k * w + n)) (slice_range ys (l * w) (l * w + n)) (m + trailing_zeros w64 z)) (sym wide)
-    (differ_by xs ys (k * w) (l * w) (whole * w) rest z (λ q h. turned q (omega arith) ∙ tells q h) past n some c.word_number-2.type_inv (omega arith) (omega arith) (omega arith)
-    (subst (λ m. AreAlike xs ys (k * w) (l * w) (m * w)) all c.loop-t.invariant.alike))
+    let left : z ≢ 0 = λ none. c.if-to_u64-eq0.false (turned_none w (place w) v z c.to_u64-2.result lawful turned c.to_u64-2.ensures.low c.to_u64-2.ensures.high c.to_u64-2.type_inv none) in
+    differ_after g.T.BitStore.value g.U.BitStore.value g.O.BitOrder.place g.P.BitOrder.place w g.U.BitStore.BITS c.BITS-width.result c.args.a.now c.args.b.now c.args.k c.args.l c.args.n (width_positive w g.met.T.BitStore.width) c.requires.width c.BITS-width.ensures c.requires.first c.requires.second (omega arith) v c.index-a-k-2.result c.index-b-l-2.result c.index-a-k-2.is c.index-b-l-2.is c.first_bits_apart-apart.ensures
+    z turned (λ q m. number q ∙ get_or_past one q false (omega (arith, m, size))) left c.word_number-2.type_inv (rw all at c.loop-t.invariant.alike)
 
 pub overflow_add-result-2 : goal.overflow_add-result-2
 overflow_add-result-2 g c =
-    let xs = row g.T.BitStore g.O.BitOrder c.args.a.now in
-    let i : ℕ = c.args.k * g.T.BitStore.BITS in
-    let first : length xs ≡ g.T.BitStore.BITS * length c.args.a.now = length_row g.T.BitStore.value g.O.BitOrder.place g.T.BitStore.BITS c.args.a.now in
-    let size = length-run xs i c.args.n (omega arith) in
-    let inside = (returns g c).within in
+    let inside = index_in_row g.T.BitStore.value g.O.BitOrder.place g.T.BitStore.BITS c.args.a.now _ c.requires.first in
+    let below = below_run _ _ _ c.args.n _ inside (returns g c) in
     omega arith

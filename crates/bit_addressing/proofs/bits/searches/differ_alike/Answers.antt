@@ -42,8 +42,8 @@ record HasRest (w n k l size other long wide whole rest : ℕ) : Type 0 where
   inside : k * w + n ≤ long
   beside : l * w + n ≤ wide
 
--- what two runs have after their whole words
 module _ {X Y : Type 0} (value : X → ℕ) (other : Y → ℕ) (place order : ℕ → ℕ → ℕ) (w u d : ℕ) (a : List X) (b : List Y) (k l n : ℕ) (positive : 0 < w) (width : u ≡ w) (same : d ≡ w) (first : k * w + n ≤ w * length a) (second : l * w + n ≤ w * length b) where
+  -- what two runs have after their whole words
   rest_of_runs : HasRest w n k l (length a) (length b) (length (row_of place w (map value a))) (length (row_of order u (map other b))) (n / d) (n % d)
   rest_of_runs =
       let split = div-add-mod' n d in

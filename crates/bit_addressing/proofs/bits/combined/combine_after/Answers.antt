@@ -12,11 +12,10 @@ loop-k-init g c = record { bits = combined_whole_none g.F.BitOperator.made (row 
 pub loop-k-preserved : goal.loop-k-preserved
 loop-k-preserved g c =
     let w = g.T.BitStore.BITS in
-    let u = g.U.BitStore.BITS in
     let k = c.loop-k.k in
-    let from : ℕ = c.args.begin * u + c.args.skip in
+    let from : ℕ = c.args.begin * g.U.BitStore.BITS + c.args.skip in
     let zs = row g.U.BitStore g.P.BitOrder c.args.source.now in
-    let long : length zs ≡ u * length c.args.source.now = length_row g.U.BitStore.value g.P.BitOrder.place u c.args.source.now in
+    let long : length zs ≡ g.U.BitStore.BITS * length c.args.source.now = length_row g.U.BitStore.value g.P.BitOrder.place g.U.BitStore.BITS c.args.source.now in
     let beyond = mul_mono (k + 1 - c.args.first) (c.args.last - c.args.first) w (omega arith) in
     record {
       bits = combined_word g.T.BitStore.value g.O.BitOrder.place w g.F.BitOperator.made c.args.words.now c.loop-k.words zs _ _ _ c.args.first k from (width_positive w g.met.T.BitStore.width) (g.met.O.BitOrder.lawful w g.met.T.BitStore.width) c.loop-k.invariant.size c.loop-k.auto.k (omega arith) (omega arith) c.index-words-k.is c.apply.ensures c.word_after-new.ensures c.loop-k.invariant.bits;

@@ -13,19 +13,18 @@ loop-k-init g c = record { bits = combined_whole_none g.F.BitOperator.made (row 
 pub loop-k-preserved : goal.loop-k-preserved
 loop-k-preserved g c =
     let w = g.T.BitStore.BITS in
-    let u = g.U.BitStore.BITS in
     let k = c.loop-k.k in
-    let from : ℕ = c.args.begin * u + c.args.skip in
+    let from : ℕ = c.args.begin * g.U.BitStore.BITS + c.args.skip in
     let zs = row g.U.BitStore g.P.BitOrder c.args.source.now in
-    let long : length zs ≡ u * length c.args.source.now = length_row g.U.BitStore.value g.P.BitOrder.place u c.args.source.now in
+    let long : length zs ≡ g.U.BitStore.BITS * length c.args.source.now = length_row g.U.BitStore.value g.P.BitOrder.place g.U.BitStore.BITS c.args.source.now in
     let beyond = mul_mono (k + 1 - c.args.first) (c.args.last - c.args.first) w (omega arith) in
     let a : ℕ = from + (k - c.args.first) * w in
     let j : ℕ = c.args.begin + (k - c.args.first) in
-    let same : (k - c.args.first) * u ≡ (k - c.args.first) * w = ap (λ n. (k - c.args.first) * n) c.requires.width in
-    let split : j * u ≡ c.args.begin * u + (k - c.args.first) * u = right_sum c.args.begin (k - c.args.first) u in
-    let begins : j * u + c.args.skip ≡ a = omega arith in
-    let ends : j * u + c.args.skip + u ≡ a + w = omega (arith, c.requires.width) in
-    let word : row g.T.BitStore g.O.BitOrder (c.word_by_table-new.result ∷ []) ≡ slice_range zs a (a + w) = c.word_by_table-new.ensures ∙ ap (λ n. slice_range zs n (j * u + c.args.skip + u)) begins ∙ ap (slice_range zs a) ends in
+    let same : (k - c.args.first) * g.U.BitStore.BITS ≡ (k - c.args.first) * w = ap (λ n. (k - c.args.first) * n) c.requires.width in
+    let split : j * g.U.BitStore.BITS ≡ c.args.begin * g.U.BitStore.BITS + (k - c.args.first) * g.U.BitStore.BITS = right_sum c.args.begin (k - c.args.first) g.U.BitStore.BITS in
+    let begins : j * g.U.BitStore.BITS + c.args.skip ≡ a = omega arith in
+    let ends : j * g.U.BitStore.BITS + c.args.skip + g.U.BitStore.BITS ≡ a + w = omega (arith, c.requires.width) in
+    let word : row g.T.BitStore g.O.BitOrder (c.word_by_table-new.result ∷ []) ≡ slice_range zs a (a + w) = c.word_by_table-new.ensures ∙ ap (λ n. slice_range zs n (j * g.U.BitStore.BITS + c.args.skip + g.U.BitStore.BITS)) begins ∙ ap (slice_range zs a) ends in
     record {
       bits = combined_word g.T.BitStore.value g.O.BitOrder.place w g.F.BitOperator.made c.args.words.now c.loop-k.words zs _ _ _ c.args.first k from (width_positive w g.met.T.BitStore.width) (g.met.O.BitOrder.lawful w g.met.T.BitStore.width) c.loop-k.invariant.size c.loop-k.auto.k (omega arith) (omega arith) c.index-words-k.is c.apply.ensures word c.loop-k.invariant.bits;
       size = search rules;

@@ -1,18 +1,21 @@
 -- The first and the last of the parts that are left, and how many there are.
-use Rattle.std.proofs.Common.{◌≡◌, ℕ, ◌+◌, ◌-◌, ◌<◌, [], ◌∷◌, ◌++◌, length, length-append, map, refl, sym, ◌∙◌, ap, arith}
+use Rattle.std.proofs.Common.{◌≡◌, ℕ, ◌+◌, ◌-◌, ◌<◌, [], ◌∷◌, ◌++◌, length, length-append, map, sym, ◌∙◌, ap, arith}
 use Rattle.std.specs.List.{range_with_len}
 use Rattle.std.proofs.lemmas.List.FromFn.{map-range_with_len_more}
 
 module _ {X : Type 0} (f : ℕ → X) (from upto : ℕ) (some : from < upto) where
   -- the parts that are left are those before the last, and the last
-  pub part_last : (last : X) → last ≡ f (upto - 1) → map f (range_with_len from (upto - from)) ≡ map f (range_with_len from (upto - 1 - from)) ++ last ∷ []
-  part_last last is =
+  pub part_last : map f (range_with_len from (upto - from)) ≡ map f (range_with_len from (upto - 1 - from)) ++ f (upto - 1) ∷ []
+  part_last =
       let e : upto - from ≡ upto - 1 - from + 1 = omega arith in
       ap (λ n. map f (range_with_len from n)) e ∙ map-range_with_len_more f from (upto - 1 - from) (upto - 1) (omega arith)
-      ∙ ap (λ l. map f (range_with_len from (upto - 1 - from)) ++ l ∷ []) (sym is)
+
+  -- the parts that are left end with what equals the last
+  pub part_ends : (last : X) → last ≡ f (upto - 1) → map f (range_with_len from (upto - from)) ≡ map f (range_with_len from (upto - 1 - from)) ++ last ∷ []
+  part_ends last is = part_last ∙ ap (λ l. map f (range_with_len from (upto - 1 - from)) ++ l ∷ []) (sym is)
 
   -- the parts before the last are fewer than those that are left
   pub part_fewer : length (map f (range_with_len from (upto - 1 - from))) < length (map f (range_with_len from (upto - from)))
   part_fewer =
-      let size = ap length (part_last (f (upto - 1)) refl) ∙ length-append (map f (range_with_len from (upto - 1 - from))) (f (upto - 1) ∷ []) in
+      let size = ap length part_last ∙ length-append (map f (range_with_len from (upto - 1 - from))) (f (upto - 1) ∷ []) in
       omega (arith, size)

@@ -1,13 +1,13 @@
 use Rattle.std.proofs.Common.{◌*◌, arith}
 use Rattle.bit_slice.specs.BitSlice.{list_of}
 use Rattle.bit_slice.specs.Pieces.{part}
-use Rattle.bit_slice.proofs.Pieces.{part_fewer, part_last}
+use Rattle.bit_slice.proofs.Pieces.{part_ends, part_fewer}
 use Rattle.bit_slice.proofs.slice.chunks.ChunksExactDoubleEndedIterator.next_back.Goals as goal
 
 pub returns-clause-steps : goal.returns-clause-steps
 returns-clause-steps g c =
     let s = c.args.self.now in
-    part_last _ s.from s.upto (omega (arith, s.fits.0)) _ c.part-part.ensures
+    part_ends _ s.from s.upto (omega (arith, s.fits.0)) _ c.part-part.ensures
 
 pub returns-clause-goes : goal.returns-clause-goes
 returns-clause-goes g c =

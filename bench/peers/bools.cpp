@@ -88,6 +88,7 @@ static void small(size_t n, size_t r) {
 int main(int count, char **words) {
   size_t n = count > 1 ? std::strtoull(words[1], 0, 10) : 1 << 20, r = count > 2 ? std::strtoull(words[2], 0, 10) : 7;
   large(n, r);
+  small(8, r);
   small(50, r);
   small(300, r);
 }

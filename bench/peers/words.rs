@@ -391,6 +391,7 @@ fn main() {
     large(n, r);
     views(n, r);
     ranks(n, r);
+    small(8, r);
     small(50, r);
     small(300, r);
     arrays(r);

@@ -3,6 +3,9 @@
 #![tactic(auto)]
 
 #[cfg(test)]
+use std::process::Abort;
+
+#[cfg(test)]
 mod fixed;
 #[cfg(test)]
 mod ranks;
@@ -10,3 +13,12 @@ mod ranks;
 mod records;
 #[cfg(test)]
 mod users;
+
+/// What a call returns that found memory.
+#[cfg(test)]
+fn ok<V, E>(rt: &impl Abort, outcome: Result<V, E>) -> V {
+    match outcome {
+        Ok(value) => value,
+        Err(_) => panic!(rt; "memory was refused"),
+    }
+}

@@ -1,8 +1,11 @@
 //! The users on real data, each call once.
+ghost use Rattle.std.specs.Prelude.{◌<◌};
+
 mod frames;
 mod matrices;
 mod sets;
 
+use crate::ok;
 use bit_addressing::{GrowError, Lsb0, Msb0};
 use bit_containers::BitVec;
 use bit_users::{
@@ -10,7 +13,7 @@ use bit_users::{
     to_bytes,
 };
 use std::alloc::{AllocError, Global};
-use std::test::Fail;
+use std::process::Abort;
 
 // A header of a packet with a payload of 95 bytes, sent by UDP from 192.168.0.1 to 192.168.0.199.
 const BYTES: [u8; 20] = [
@@ -21,19 +24,11 @@ const BYTES: [u8; 20] = [
 #[test]
 fn a_header_is_read(rt: HostRuntime) {
     let header = Header::read(BYTES.as_slice()).unwrap();
-    assert_eq!(rt; header.version, 4);
-    assert_eq!(rt; header.header_words, 5);
-    assert_eq!(rt; header.service, 0);
-    assert_eq!(rt; header.congestion, 0);
-    assert_eq!(rt; header.total_length, 115);
-    assert_eq!(rt; header.identification, 0);
-    assert_eq!(rt; header.flags, 2);
-    assert_eq!(rt; header.fragment_offset, 0);
-    assert_eq!(rt; header.time_to_live, 64);
-    assert_eq!(rt; header.protocol, 17);
-    assert_eq!(rt; header.checksum, 0xb861);
-    assert_eq!(rt; header.source, 0xc0a80001);
-    assert_eq!(rt; header.destination, 0xc0a800c7);
+    assert!(rt; header.version == 4 && header.header_words == 5);
+    assert!(rt; header.service == 0 && header.congestion == 0 && header.total_length == 115);
+    assert!(rt; header.identification == 0 && header.flags == 2 && header.fragment_offset == 0);
+    assert!(rt; header.time_to_live == 64 && header.protocol == 17 && header.checksum == 0xb861);
+    assert!(rt; header.source == 0xc0a80001 && header.destination == 0xc0a800c7);
     assert!(rt; Header::read(&BYTES[..19]).is_none());
 }
 
@@ -51,124 +46,146 @@ fn reserved_values_of_a_header(rt: HostRuntime) {
 }
 
 #[test]
-fn a_header_is_written(rt: HostRuntime) -> Result<(), Fail> {
+fn a_header_is_written(rt: HostRuntime) {
     let header = Header::read(BYTES.as_slice()).unwrap();
-    let bytes = header.to_bytes(rt.alloc())?;
-    assert_eq!(rt; bytes.as_slice(), BYTES.as_slice());
-    assert_eq!(rt; header.to_bits(rt.alloc())?.len(), 160);
+    let bytes = ok(&rt, header.to_bytes(rt.alloc()));
+    assert!(rt; bytes.as_slice() == BYTES.as_slice());
     assert!(rt; Header::read(&bytes) == Some(header));
-    Ok(())
 }
 
 #[test]
-fn sets_of_numbers(rt: HostRuntime) -> Result<(), Fail> {
-    let mut small = NumberSet::new(rt.alloc(), 200)?;
-    let mut even = NumberSet::new(rt.alloc(), 200)?;
+fn the_bits_of_a_header(rt: HostRuntime) {
+    let header = Header::read(BYTES.as_slice()).unwrap();
+    assert!(rt; ok(&rt, header.to_bits(rt.alloc())).len() == 160);
+}
+
+/// That a set has these numbers, in this order.
+fn has(rt: &(impl Abort + AllocGlobal), set: &NumberSet, numbers: &[usize]) {
+    let members = ok(rt, set.members(rt.alloc()));
+    assert!(rt; members.as_slice() == numbers);
+}
+
+/// A set of those of these numbers that are below a bound.
+fn set_of(rt: &(impl Abort + AllocGlobal), bound: usize, numbers: &[usize]) -> NumberSet {
+    let mut set = ok(rt, NumberSet::new(rt.alloc(), bound));
+    for number in numbers {
+        if *number < set.bound() {
+            set.insert(*number);
+        }
+    }
+    set
+}
+
+#[test]
+fn sets_of_numbers(rt: HostRuntime) {
+    let mut small = ok(&rt, NumberSet::new(rt.alloc(), 200));
+    assert!(rt; small.bound() == 200);
     small.insert(3);
     small.insert(64);
     small.insert(65);
     small.insert(199);
-    even.insert(0);
-    even.insert(64);
-    even.insert(128);
     assert!(rt; small.contains(64) && !small.contains(0) && !small.contains(200));
-    assert_eq!(rt; small.count(), 4);
-    assert_eq!(rt; small.next_from(66), Some(199));
-    assert_eq!(rt; even.next_from(129), None);
+    assert!(rt; small.count() == 4 && small.next_from(66) == Some(199));
     small.remove(3);
-    assert_eq!(rt;
-        small.members(rt.alloc())?.as_slice(),
-        [64, 65, 199].as_slice()
-    );
-    assert_eq!(rt; small.bound(), 200);
-    let both = small.union(even);
-    assert_eq!(rt;
-        both.members(rt.alloc())?.as_slice(),
-        [0, 64, 65, 128, 199].as_slice()
-    );
-    let mut few = NumberSet::new(rt.alloc(), 200)?;
-    few.insert(65);
-    few.insert(66);
-    let rest = both.difference(few);
-    assert_eq!(rt;
-        rest.members(rt.alloc())?.as_slice(),
-        [0, 64, 128, 199].as_slice()
-    );
-    let mut last = NumberSet::new(rt.alloc(), 200)?;
-    last.insert(199);
-    last.insert(1);
-    let common = rest.intersection(last);
-    assert_eq!(rt; common.members(rt.alloc())?.as_slice(), [199].as_slice());
-    Ok(())
+    has(&rt, &small, &[64, 65, 199]);
 }
 
 #[test]
-fn sets_that_grow(rt: HostRuntime) -> Result<(), Fail> {
-    let mut low = NumberSet::from_numbers(rt.alloc(), 10, &[2, 7, 2])?;
-    assert_eq!(rt; low.insert_growing(70)?, true);
-    assert_eq!(rt; low.insert_growing(7)?, false);
-    assert_eq!(rt; low.bound(), 71);
-    let numbers = low.members(rt.alloc())?;
-    assert_eq!(rt; numbers.as_slice(), [2, 7, 70].as_slice());
-    let high = NumberSet::from_numbers(rt.alloc(), 200, &[7, 150])?;
-    low.unite(&high)?;
-    assert_eq!(rt; low.bound(), 200);
-    let numbers = low.members(rt.alloc())?;
-    assert_eq!(rt; numbers.as_slice(), [2, 7, 70, 150].as_slice());
+fn unions(rt: HostRuntime) {
+    let small = set_of(&rt, 200, &[64, 65, 199]);
+    let even = set_of(&rt, 200, &[0, 64, 128]);
+    assert!(rt; small.bound() == 200 && even.bound() == 200);
+    assert!(rt; even.next_from(129) == None);
+    has(&rt, &small.union(even), &[0, 64, 65, 128, 199]);
+}
+
+#[test]
+fn differences(rt: HostRuntime) {
+    let both = set_of(&rt, 200, &[0, 64, 65, 128, 199]);
+    let few = set_of(&rt, 200, &[65, 66]);
+    assert!(rt; both.bound() == 200 && few.bound() == 200);
+    has(&rt, &both.difference(few), &[0, 64, 128, 199]);
+}
+
+#[test]
+fn intersections(rt: HostRuntime) {
+    let rest = set_of(&rt, 200, &[0, 64, 128, 199]);
+    let last = set_of(&rt, 200, &[199, 1]);
+    assert!(rt; rest.bound() == 200 && last.bound() == 200);
+    has(&rt, &rest.intersection(last), &[199]);
+}
+
+#[test]
+fn sets_that_grow(rt: HostRuntime) {
+    let mut low = ok(&rt, NumberSet::from_numbers(rt.alloc(), 10, &[2, 7, 2]));
+    assert!(rt; ok(&rt, low.insert_growing(70)));
+    assert!(rt; !ok(&rt, low.insert_growing(7)));
+    assert!(rt; low.bound() == 71);
+    has(&rt, &low, &[2, 7, 70]);
+}
+
+#[test]
+fn sets_that_are_united(rt: HostRuntime) {
+    let mut low = set_of(&rt, 71, &[2, 7, 70]);
+    let high = set_of(&rt, 200, &[7, 150]);
+    ok(&rt, low.unite(&high));
+    assert!(rt; low.bound() == 200);
+    has(&rt, &low, &[2, 7, 70, 150]);
     assert!(rt; high.is_subset(&low) && low.is_superset(&high) && !low.is_subset(&high));
-    assert_eq!(rt; low.count_intersection(&high), 2);
-    Ok(())
+    assert!(rt; low.count_intersection(&high) == 2);
 }
 
 #[test]
-fn sets_in_place(rt: HostRuntime) -> Result<(), Fail> {
-    let high = NumberSet::from_numbers(rt.alloc(), 200, &[7, 150])?;
-    let mut low = NumberSet::from_numbers(rt.alloc(), 200, &[2, 7, 70, 150])?;
+fn sets_in_place(rt: HostRuntime) {
+    let high = set_of(&rt, 200, &[7, 150]);
+    let mut low = set_of(&rt, 200, &[2, 7, 70, 150]);
     low.subtract(&high);
     assert!(rt; low.is_disjoint(&high) && low.first() == Some(2) && low.last() == Some(70));
-    assert_eq!(rt; low.iter().next_back(), Some(70));
+    assert!(rt; low.iter().next_back() == Some(70));
     low.intersect(&high);
     assert!(rt; low.is_empty() && low.first().is_none() && low.last().is_none());
+}
+
+#[test]
+fn sets_of_bits(rt: HostRuntime) {
+    let high = set_of(&rt, 200, &[7, 150]);
     let mut again = NumberSet::from_bits(high.into_bits());
     assert!(rt; again.contains(150) && again.count() == 2);
     again.clear();
     assert!(rt; again.is_empty());
-    Ok(())
 }
 
 #[test]
-fn primes(rt: HostRuntime) -> Result<(), Fail> {
-    let primes = NumberSet::primes(rt.alloc(), 30)?;
-    assert_eq!(rt;
-        primes.members(rt.alloc())?.as_slice(),
-        [2, 3, 5, 7, 11, 13, 17, 19, 23, 29].as_slice()
-    );
-    assert_eq!(rt; NumberSet::primes(rt.alloc(), 1000)?.count(), 168);
-    for bound in [0usize, 1, 2] {
-        assert_eq!(rt; NumberSet::primes(rt.alloc(), bound)?.count(), 0);
+fn primes(rt: HostRuntime) {
+    let primes = ok(&rt, NumberSet::primes(rt.alloc(), 30));
+    has(&rt, &primes, &[2, 3, 5, 7, 11, 13, 17, 19, 23, 29]);
+    for (bound, count) in [(1000, 168), (0, 0), (1, 0), (2, 0)] {
+        let primes = ok(&rt, NumberSet::primes(rt.alloc(), bound));
+        assert!(rt; primes.count() == count, "below {bound}");
     }
-    Ok(())
 }
 
 #[test]
-fn frames_of_a_map(rt: HostRuntime) -> Result<(), Fail> {
-    let mut map = FreeMap::new(rt.alloc(), 130)?;
-    assert_eq!(rt; map.frames(), 130);
-    assert_eq!(rt; map.take(), Some(0));
-    assert_eq!(rt; map.take_run(100), Some(1));
+fn frames_of_a_map(rt: HostRuntime) {
+    let mut map = ok(&rt, FreeMap::new(rt.alloc(), 130));
+    assert!(rt; map.frames() == 130 && map.take() == Some(0));
+    assert!(rt; map.take_run(100) == Some(1) && map.frames() == 130);
     assert!(rt; map.is_taken(100) && !map.is_taken(101));
-    assert_eq!(rt; map.take_run(30), None);
-    assert_eq!(rt; map.take_run(29), Some(101));
-    assert_eq!(rt; map.take(), None);
+    assert!(rt; map.take_run(30).is_none());
+    assert!(rt; map.take_run(29) == Some(101));
+    assert!(rt; map.take().is_none());
+}
+
+#[test]
+fn frames_given_back(rt: HostRuntime) {
+    let mut map = ok(&rt, FreeMap::new(rt.alloc(), 130));
+    assert!(rt; map.take_run(130) == Some(0) && map.frames() == 130);
     assert!(rt; map.give_back(60, 8).is_ok() && map.give_back(70, 5).is_ok());
     assert!(rt; map.give_back(67, 3) == Err(NotTaken) && map.is_taken(68));
-    assert_eq!(rt; map.count_free(), 13);
-    assert_eq!(rt; map.take(), Some(60));
-    assert_eq!(rt; map.take_run(8), None);
-    assert_eq!(rt; map.take_run(5), Some(61));
-    assert_eq!(rt; map.take_run(5), Some(70));
-    assert_eq!(rt; map.count_free(), 2);
-    Ok(())
+    assert!(rt; map.count_free() == 13 && map.take() == Some(60));
+    assert!(rt; map.take_run(8).is_none());
+    assert!(rt; map.take_run(5) == Some(61) && map.take_run(5) == Some(70));
+    assert!(rt; map.count_free() == 2);
 }
 
 #[test]
@@ -186,21 +203,28 @@ fn too_many(rt: HostRuntime) {
 }
 
 #[test]
-fn lists_as_bytes(rt: HostRuntime) -> Result<(), Fail> {
-    let mut bits = BitVec::<u16, Lsb0>::repeat(rt.alloc(), true, 10)?;
+fn lists_as_bytes(rt: HostRuntime) {
+    let mut bits = ok(&rt, BitVec::<u16, Lsb0>::repeat(rt.alloc(), true, 10));
+    assert!(rt; bits.len() == 10);
     bits.set(1, false);
-    let bytes = to_bytes(rt.alloc(), &bits)?;
-    assert_eq!(rt;
-        bytes.as_slice(),
-        [10, 0, 0, 0, 0, 0, 0, 0, 0xbf, 0xc0].as_slice()
-    );
-    let read = from_bytes(rt.alloc(), &bytes)?;
+    let bytes = ok(&rt, to_bytes(rt.alloc(), &bits));
+    assert!(rt; bytes.as_slice() == [10, 0, 0, 0, 0, 0, 0, 0, 0xbf, 0xc0].as_slice());
+    let read = ok(&rt, from_bytes(rt.alloc(), &bytes));
     assert!(rt; read.eq_bits(bits.as_bitslice()));
-    assert!(rt; are_of_one_list(&bytes, &to_bytes(rt.alloc(), &read)?));
-    let empty = to_bytes(rt.alloc(), &BitVec::<u8, Msb0>::new(rt.alloc()))?;
+}
+
+#[test]
+fn bytes_of_one_list(rt: HostRuntime) {
+    let bits = ok(&rt, BitVec::<u16, Lsb0>::repeat(rt.alloc(), true, 10));
+    let bytes = ok(&rt, to_bytes(rt.alloc(), &bits));
+    let again = ok(&rt, to_bytes(rt.alloc(), &bits));
+    assert!(rt; are_of_one_list(&bytes, &again));
+    let empty = ok(
+        &rt,
+        to_bytes(rt.alloc(), &BitVec::<u8, Msb0>::new(rt.alloc())),
+    );
     assert!(rt; !are_of_one_list(&bytes, &empty));
-    assert_eq!(rt; empty.as_slice(), [0; 8].as_slice());
-    Ok(())
+    assert!(rt; empty.as_slice() == [0; 8].as_slice());
 }
 
 #[test]
@@ -272,33 +296,39 @@ fn reached_from(alloc: Global, start: usize) -> Result<[bool; 10], AllocError> {
     Ok(reached)
 }
 
+/// That the edges of a closed graph from a node are those that a search in depth finds, and those found by hand.
+fn leads(rt: &(impl Abort + AllocGlobal), graph: &Matrix, from: usize)
+    requires { from < 10 }
+{
+    let reached = ok(rt, reached_from(rt.alloc(), from));
+    assert!(rt; graph.rows() == 10 && graph.columns() == 10);
+    for to in 0..10 {
+        let edge = graph.get(from, to);
+        assert!(rt;
+            edge == reached[to] && edge == (PATHS[from] >> to & 1 == 1),
+            "{from} to {to}"
+        );
+    }
+}
+
 #[test]
-fn paths_of_a_graph(rt: HostRuntime) -> Result<(), Fail> {
-    let mut graph = Matrix::new(rt.alloc(), 10, 10)?;
+fn paths_of_a_graph(rt: HostRuntime) {
+    let mut graph = ok(&rt, Matrix::new(rt.alloc(), 10, 10));
     for (from, to) in EDGES {
         assert!(rt; from < graph.rows() && to < graph.columns());
         graph.set(from, to, true);
     }
-    assert!(rt; graph.rows() == 10 && graph.columns() == 10);
+    assert!(rt; graph.rows() == graph.columns());
     graph.close();
     for from in 0..10 {
-        let reached = reached_from(rt.alloc(), from)?;
-        for to in 0..10 {
-            assert_eq!(rt; graph.get(from, to), reached[to], "{from} to {to}");
-            assert_eq!(rt;
-                graph.get(from, to),
-                PATHS[from] >> to & 1 == 1,
-                "{from} to {to}"
-            );
-        }
+        leads(&rt, &graph, from);
     }
-    Ok(())
 }
 
 // In a line of a hundred nodes, whose rows begin anywhere in a word, a path leads to each later node.
 #[test]
-fn paths_of_a_line(rt: HostRuntime) -> Result<(), Fail> {
-    let mut line = Matrix::new(rt.alloc(), 100, 100)?;
+fn paths_of_a_line(rt: HostRuntime) {
+    let mut line = ok(&rt, Matrix::new(rt.alloc(), 100, 100));
     for node in 1..100 {
         assert!(rt; node < line.rows() && node < line.columns());
         line.set(node - 1, node, true);
@@ -307,15 +337,15 @@ fn paths_of_a_line(rt: HostRuntime) -> Result<(), Fail> {
     line.close();
     for from in 0..100 {
         for to in 0..100 {
-            assert_eq!(rt; line.get(from, to), from < to, "{from} to {to}");
+            assert!(rt; line.get(from, to) == (from < to), "{from} to {to}");
         }
     }
-    Ok(())
 }
 
-#[test]
-fn rows_of_a_matrix(rt: HostRuntime) -> Result<(), Fail> {
-    let mut matrix = Matrix::new(rt.alloc(), 3, 70)?;
+/// A matrix of three rows with two bits in each, of which one row was or-ed to another, and copied.
+fn three_rows(rt: &(impl Abort + AllocGlobal)) -> Matrix {
+    let mut matrix = ok(rt, Matrix::new(rt.alloc(), 3, 70));
+    assert!(rt; matrix.rows() == 3 && matrix.columns() == 70);
     matrix.set(0, 2, true);
     matrix.set(0, 69, true);
     matrix.set(2, 0, true);
@@ -323,7 +353,12 @@ fn rows_of_a_matrix(rt: HostRuntime) -> Result<(), Fail> {
     matrix.or_row(2, 0);
     matrix.copy_row(2, 1);
     matrix.set(2, 2, false);
-    let turned = matrix.transpose(rt.alloc())?;
+    matrix
+}
+
+#[test]
+fn rows_of_a_matrix(rt: HostRuntime) {
+    let turned = ok(&rt, three_rows(&rt).transpose(rt.alloc()));
     assert!(rt; turned.rows() == 70 && turned.columns() == 3);
     for column in 0..70 {
         let expected = [
@@ -332,22 +367,19 @@ fn rows_of_a_matrix(rt: HostRuntime) -> Result<(), Fail> {
             column == 0 || column == 69,
         ];
         for row in 0..3 {
-            assert_eq!(rt;
-                turned.get(column, row),
-                expected[row],
-                "row {row}, column {column}"
-            );
+            let bit = turned.get(column, row);
+            assert!(rt; bit == expected[row], "row {row}, column {column}");
         }
     }
-    Ok(())
 }
 
 #[test]
-fn no_rows_or_columns(rt: HostRuntime) -> Result<(), Fail> {
-    let mut none = Matrix::new(rt.alloc(), 0, 0)?;
+fn no_rows_or_columns(rt: HostRuntime) {
+    let mut none = ok(&rt, Matrix::new(rt.alloc(), 0, 0));
+    assert!(rt; none.rows() == 0 && none.columns() == 0);
     none.close();
-    assert_eq!(rt; none.rows(), 0);
-    let turned = Matrix::new(rt.alloc(), 5, 0)?.transpose(rt.alloc())?;
+    assert!(rt; none.rows() == 0);
+    let wide = ok(&rt, Matrix::new(rt.alloc(), 5, 0));
+    let turned = ok(&rt, wide.transpose(rt.alloc()));
     assert!(rt; turned.rows() == 0 && turned.columns() == 5);
-    Ok(())
 }

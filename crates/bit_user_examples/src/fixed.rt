@@ -1,6 +1,7 @@
 //! Examples through the bound, at each of the containers.
 mod callers;
 
+use crate::ok;
 use bit_addressing::{BitOrder, BitStore, GrowError, Lsb0, Msb0};
 use bit_array::BitArray;
 use bit_boxed::BitBox;
@@ -8,7 +9,6 @@ use bit_containers::BitVec;
 use bit_fixed::{Bits, FixedCommand, Reply, Stop, run_fixed};
 use bit_slice::BitSlice;
 use std::process::Abort;
-use std::test::Fail;
 
 /// That these are the digits, and no more.
 fn holds<B: Bits>(rt: &impl Abort, bits: &B, digits: &[u8]) {
@@ -20,7 +20,7 @@ fn holds<B: Bits>(rt: &impl Abort, bits: &B, digits: &[u8]) {
 }
 
 /// A run over eight bits that are false: its replies, and what it leaves.
-fn worked<B: Bits>(rt: &(impl Abort + AllocGlobal), bits: &mut B) -> Result<(), Fail> {
+fn worked<B: Bits>(rt: &(impl Abort + AllocGlobal), bits: &mut B) {
     holds(rt, bits, b"00000000");
     let commands = [
         FixedCommand::Set(1, true),
@@ -41,11 +41,10 @@ fn worked<B: Bits>(rt: &(impl Abort + AllocGlobal), bits: &mut B) -> Result<(), 
     ];
     assert!(rt; replies.as_slice() == wanted.as_slice());
     holds(rt, bits, b"10111101");
-    Ok(())
 }
 
 /// Each command that was not run there, and those that are out of range.
-fn gave<B: Bits>(rt: &(impl Abort + AllocGlobal), bits: &mut B) -> Result<(), Fail> {
+fn gave<B: Bits>(rt: &(impl Abort + AllocGlobal), bits: &mut B) {
     let commands = [
         FixedCommand::Fill(true),
         FixedCommand::Get(7),
@@ -75,9 +74,7 @@ fn gave<B: Bits>(rt: &(impl Abort + AllocGlobal), bits: &mut B) -> Result<(), Fa
     ];
     assert!(rt; replies.as_slice() == wanted.as_slice());
     holds(rt, bits, b"11111110");
-    assert!(rt; run_fixed(bits, &[], &mut replies).is_ok());
-    assert_eq!(rt; replies.len(), 10);
-    Ok(())
+    assert!(rt; run_fixed(bits, &[], &mut replies).is_ok() && replies.len() == 10);
 }
 
 /// Each call of the trait once.
@@ -95,48 +92,47 @@ fn called<B: Bits>(rt: &impl Abort, bits: &mut B) {
 }
 
 /// The whole of it over eight bits that are false.
-fn run_over<B: Bits>(rt: &(impl Abort + AllocGlobal), bits: &mut B) -> Result<(), Fail> {
-    worked(rt, bits)?;
-    gave(rt, bits)?;
+fn run_over<B: Bits>(rt: &(impl Abort + AllocGlobal), bits: &mut B) {
+    worked(rt, bits);
+    gave(rt, bits);
     called(rt, bits);
-    Ok(())
 }
 
 #[test]
-fn arrays(rt: HostRuntime) -> Result<(), Fail> {
+fn arrays(rt: HostRuntime) {
     let mut word = BitArray::<u8, Lsb0>::zero();
-    run_over(&rt, &mut word)?;
+    run_over(&rt, &mut word);
     assert_eq!(rt; word.into_inner(), 0xbd);
     let mut words = BitArray::<[u8; 1], Msb0>::zero();
-    run_over(&rt, &mut words)?;
+    run_over(&rt, &mut words);
     assert_eq!(rt; words.as_raw_slice(), [0xbd].as_slice());
-    Ok(())
 }
 
 #[test]
-fn boxes(rt: HostRuntime) -> Result<(), Fail> {
-    let mut b = BitBox::<u8, Lsb0>::from_box(rt.alloc(), Box::new(rt.alloc(), 0)?)?;
-    run_over(&rt, &mut b)?;
+fn boxes(rt: HostRuntime) {
+    let word = ok(&rt, Box::new(rt.alloc(), 0));
+    let mut b = ok(&rt, BitBox::<u8, Lsb0>::from_box(rt.alloc(), word));
+    run_over(&rt, &mut b);
     assert_eq!(rt; b.as_raw_slice(), [0xbd].as_slice());
     let zeros = [0_u16];
     let view = BitSlice::<u16, Msb0>::from_slice(&zeros).get_range(5..13);
-    let mut b = BitBox::from_bitslice_headed(rt.alloc(), view)?;
-    run_over(&rt, &mut b)?;
+    let mut b = ok(&rt, BitBox::from_bitslice_headed(rt.alloc(), view));
+    run_over(&rt, &mut b);
     assert!(rt; b.head() == 5 && b.as_raw_slice() == [0x05e8].as_slice());
-    Ok(())
 }
 
 #[test]
-fn vectors(rt: HostRuntime) -> Result<(), Fail> {
-    let mut v = BitVec::<u8, Lsb0>::from_vec(vec![in rt.alloc(); 0]?);
-    run_over(&rt, &mut v)?;
+fn vectors(rt: HostRuntime) {
+    let words = ok(&rt, vec![in rt.alloc(); 0]);
+    assert!(rt; words.len() == 1);
+    let mut v = BitVec::<u8, Lsb0>::from_vec(words);
+    run_over(&rt, &mut v);
     assert_eq!(rt; v.as_raw_slice(), [0xbd].as_slice());
     let zeros = [0_u16];
     let view = BitSlice::<u16, Msb0>::from_slice(&zeros).get_range(5..13);
-    let mut v = BitVec::from_bitslice_headed(rt.alloc(), view)?;
-    run_over(&rt, &mut v)?;
+    let mut v = ok(&rt, BitVec::from_bitslice_headed(rt.alloc(), view));
+    run_over(&rt, &mut v);
     assert!(rt; v.head() == 5 && v.as_raw_slice() == [0x05e8].as_slice());
-    Ok(())
 }
 
 /// A run: where its replies find no memory, it stops before its first command, and changes nothing. It passes

@@ -1,10 +1,10 @@
 //! Records on small inputs, and each call once.
 mod callers;
 
+use crate::ok;
 use bit_containers::{GrowError, Lsb0, Msb0};
 use bit_records::Records;
 use std::alloc::AllocError;
-use std::test::Fail;
 
 #[test]
 fn widths(rt: HostRuntime) {
@@ -17,60 +17,59 @@ fn widths(rt: HostRuntime) {
 }
 
 #[test]
-fn five_digits(rt: HostRuntime) -> Result<(), Fail> {
+fn five_digits(rt: HostRuntime) {
     let mut records = Records::<u8, Msb0>::new(rt.alloc(), 5).unwrap();
     assert!(rt; records.is_empty() && records.width() == 5);
-    records.push(1)?;
-    records.push(31)?;
-    records.push(0)?;
+    ok(&rt, records.push(1));
+    ok(&rt, records.push(31));
+    ok(&rt, records.push(0));
     assert_eq!(rt; records.get(1), Some(31));
     assert_eq!(rt; records.get(3), None);
     let bits = records.into_bits();
     assert_eq!(rt; bits.len(), 15);
     assert_eq!(rt; bits.as_raw_slice(), [0x0f, 0xc0].as_slice());
-    Ok(())
 }
 
 #[test]
-fn three_digits(rt: HostRuntime) -> Result<(), Fail> {
+fn three_digits(rt: HostRuntime) {
     let mut records = Records::<u8, Lsb0>::new(rt.alloc(), 3).unwrap();
-    records.push(5)?;
-    records.push(3)?;
-    records.push(6)?;
-    let bits = records.clone()?.into_bits();
+    ok(&rt, records.push(5));
+    ok(&rt, records.push(3));
+    ok(&rt, records.push(6));
+    let bits = ok(&rt, records.clone()).into_bits();
     assert_eq!(rt; bits.len(), 9);
     assert_eq!(rt; bits.as_raw_slice(), [0xf5, 0x00].as_slice());
     assert!(rt; records.len() == 3);
     records.set(1, 0);
     assert_eq!(rt; records.into_bits().as_raw_slice(), [0xc5, 0x00].as_slice());
-    Ok(())
 }
 
 #[test]
-fn whole_words(rt: HostRuntime) -> Result<(), Fail> {
+fn whole_words(rt: HostRuntime) {
     let mut records = Records::<u8, Lsb0>::new(rt.alloc(), 64).unwrap();
-    records.push(u64::MAX)?;
+    ok(&rt, records.push(u64::MAX));
     assert_eq!(rt; records.get(0), Some(u64::MAX));
     assert_eq!(rt; records.into_bits().as_raw_slice(), [0xff; 8].as_slice());
-    Ok(())
 }
 
 #[test]
-fn equal_words(rt: HostRuntime) -> Result<(), Fail> {
+fn equal_words(rt: HostRuntime) {
     let mut records = Records::<u64, Msb0>::new(rt.alloc(), 3).unwrap();
     let mut others = Records::<u64, Msb0>::new(rt.alloc(), 3).unwrap();
-    records.push(5)?;
-    records.push(3)?;
-    records.push(6)?;
-    others.push(1)?;
-    others.push(3)?;
-    others.push(6)?;
+    ok(&rt, records.push(5));
+    ok(&rt, records.push(3));
+    ok(&rt, records.push(6));
+    ok(&rt, others.push(1));
+    ok(&rt, others.push(3));
+    ok(&rt, others.push(6));
     assert!(rt; others.len() == 3);
     others.set(0, 5);
-    let (left, right) = (records.clone()?.into_bits(), others.clone()?.into_bits());
+    let (left, right) = (
+        ok(&rt, records.clone()).into_bits(),
+        ok(&rt, others.clone()).into_bits(),
+    );
     assert_eq!(rt; left.as_raw_slice(), right.as_raw_slice());
     assert_eq!(rt; records.get(0), others.get(0));
-    Ok(())
 }
 
 // Where a request for memory is refused, the records are as they were.

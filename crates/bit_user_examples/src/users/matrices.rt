@@ -1,8 +1,9 @@
 //! Matrices beside plain loops.
+use crate::ok;
 use bit_addressing::GrowError;
 use bit_users::Matrix;
 use std::alloc::Global;
-use std::test::Fail;
+use std::process::Abort;
 
 // A matrix with bits here and there, the same at each run.
 fn scattered(
@@ -42,49 +43,54 @@ fn ways(left: &Matrix, right: &Matrix, row: usize, column: usize, middle: usize)
 }
 
 #[test]
-fn rows_and_columns(rt: HostRuntime) -> Result<(), Fail> {
-    let matrix = scattered(rt.alloc(), 5, 70, 3)?;
+fn rows_of_a_matrix(rt: HostRuntime) {
+    let matrix = ok(&rt, scattered(rt.alloc(), 5, 70, 3));
     let mut rows = matrix.iter_rows();
-    assert_eq!(rt; (rows.len(), rows.size_hint()), (5, (5, Some(5))));
+    assert!(rt; rows.len() == 5 && rows.size_hint() == (5, Some(5)));
     for row in 0..5 {
         let Some(view) = rows.next() else {
-            assert!(rt; false);
-            return Ok(());
+            panic!(rt; "no row {row}");
         };
         for column in 0..70 {
-            assert_eq!(rt; view.get(column), Some(bit(&matrix, row, column)));
+            assert!(rt; view.get(column) == Some(bit(&matrix, row, column)));
         }
     }
     assert!(rt; rows.next().is_none() && rows.next_back().is_none());
-    assert!(rt; matrix.columns() == 70);
-    for column in 0..70 {
-        let mut bits = matrix.column(column);
-        assert_eq!(rt; bits.len(), 5);
-        assert_eq!(rt; bits.next_back(), Some(bit(&matrix, 4, column)));
-        for row in 0..4 {
-            assert_eq!(rt; bits.next(), Some(bit(&matrix, row, column)));
-        }
-        assert_eq!(rt; (bits.next(), bits.next_back()), (None, None));
-    }
-    Ok(())
 }
 
 #[test]
-fn products(rt: HostRuntime) -> Result<(), Fail> {
-    let left = scattered(rt.alloc(), 9, 70, 1)?;
-    let right = scattered(rt.alloc(), 70, 67, 2)?;
+fn columns_of_a_matrix(rt: HostRuntime) {
+    let matrix = ok(&rt, scattered(rt.alloc(), 5, 70, 3));
+    assert!(rt; matrix.columns() == 70);
+    for column in 0..70 {
+        let mut bits = matrix.column(column);
+        assert!(rt; bits.len() == 5);
+        assert!(rt; bits.next_back() == Some(bit(&matrix, 4, column)));
+        for row in 0..4 {
+            assert!(rt; bits.next() == Some(bit(&matrix, row, column)));
+        }
+        assert!(rt; bits.next().is_none() && bits.next_back().is_none());
+    }
+}
+
+#[test]
+fn products(rt: HostRuntime) {
+    let left = ok(&rt, scattered(rt.alloc(), 9, 70, 1));
+    let right = ok(&rt, scattered(rt.alloc(), 70, 67, 2));
     assert!(rt; right.rows() == left.columns());
-    let any = left.times(&right, rt.alloc())?;
-    let sum = left.times_mod_2(&right, rt.alloc())?;
+    let any = ok(&rt, left.times(&right, rt.alloc()));
+    let sum = ok(&rt, left.times_mod_2(&right, rt.alloc()));
     assert!(rt; any.rows() == 9 && any.columns() == 67 && sum.rows() == 9 && sum.columns() == 67);
     for row in 0..9 {
         for column in 0..67 {
             let count = ways(&left, &right, row, column, 70);
-            assert_eq!(rt; bit(&any, row, column), count > 0, "{row}, {column}");
-            assert_eq!(rt; bit(&sum, row, column), count % 2 == 1, "{row}, {column}");
+            assert!(rt; bit(&any, row, column) == (count > 0), "{row}, {column}");
+            assert!(rt;
+                bit(&sum, row, column) == (count % 2 == 1),
+                "{row}, {column}"
+            );
         }
     }
-    Ok(())
 }
 
 // A matrix with an inverse: true on the diagonal, false below it, and then its rows in another order.
@@ -106,10 +112,10 @@ fn invertible(alloc: Global, size: usize) -> Result<Matrix, GrowError> {
 }
 
 #[test]
-fn inverses(rt: HostRuntime) -> Result<(), Fail> {
-    let matrix = invertible(rt.alloc(), 66)?;
+fn inverses(rt: HostRuntime) {
+    let matrix = ok(&rt, invertible(rt.alloc(), 66));
     assert!(rt; matrix.rows() == matrix.columns());
-    let inverse = matrix.inverse_mod_2(rt.alloc())?;
+    let inverse = ok(&rt, matrix.inverse_mod_2(rt.alloc()));
     assert!(rt; inverse.is_some());
     let inverse = inverse.unwrap();
     for row in 0..66 {
@@ -117,54 +123,53 @@ fn inverses(rt: HostRuntime) -> Result<(), Fail> {
             let one = row == column;
             let left = ways(&inverse, &matrix, row, column, 66);
             let right = ways(&matrix, &inverse, row, column, 66);
-            assert_eq!(rt; left % 2 == 1, one, "{row}, {column}");
-            assert_eq!(rt; right % 2 == 1, one, "{row}, {column}");
+            assert!(rt;
+                (left % 2 == 1) == one && (right % 2 == 1) == one,
+                "{row}, {column}"
+            );
         }
     }
-    Ok(())
 }
 
 #[test]
-fn no_inverse(rt: HostRuntime) -> Result<(), Fail> {
-    let mut matrix = invertible(rt.alloc(), 66)?;
+fn no_inverse(rt: HostRuntime) {
+    let mut matrix = ok(&rt, invertible(rt.alloc(), 66));
     assert!(rt; matrix.rows() == 66 && matrix.columns() == 66);
     matrix.copy_row(3, 40);
-    assert!(rt; matrix.inverse_mod_2(rt.alloc())?.is_none());
-    let none = Matrix::new(rt.alloc(), 0, 0)?;
-    assert!(rt; none.inverse_mod_2(rt.alloc())?.is_some());
-    Ok(())
+    assert!(rt; ok(&rt, matrix.inverse_mod_2(rt.alloc())).is_none());
+    let none = ok(&rt, Matrix::new(rt.alloc(), 0, 0));
+    assert!(rt; none.rows() == none.columns());
+    assert!(rt; ok(&rt, none.inverse_mod_2(rt.alloc())).is_some());
 }
 
 #[test]
-fn copies_and_texts(rt: HostRuntime) -> Result<(), Fail> {
-    let mut matrix = Matrix::identity(rt.alloc(), 3)?;
+fn copies_and_texts(rt: HostRuntime) {
+    let mut matrix = ok(&rt, Matrix::identity(rt.alloc(), 3));
     assert!(rt; matrix.rows() == 3 && matrix.columns() == 3);
-    let copy = matrix.clone()?;
+    let copy = ok(&rt, matrix.clone());
     assert!(rt; copy == matrix);
     matrix.xor_row(0, 2);
     assert!(rt; copy != matrix && matrix.row(0).len() == 3);
-    assert_eq!(rt; matrix.to_string(rt.alloc())?.as_str(), "101\n010\n001\n");
-    assert_eq!(rt; copy.to_string(rt.alloc())?.as_str(), "100\n010\n001\n");
-    Ok(())
+    let (text, other) = (
+        ok(&rt, matrix.to_string(rt.alloc())),
+        ok(&rt, copy.to_string(rt.alloc())),
+    );
+    assert!(rt; text.as_str() == "101\n010\n001\n" && other.as_str() == "100\n010\n001\n");
 }
 
 #[test]
-fn turned_by_squares(rt: HostRuntime) -> Result<(), Fail> {
+fn turned_by_squares(rt: HostRuntime) {
     for (rows, columns) in [(64, 64), (1, 130), (130, 1), (63, 65), (129, 70)] {
-        let matrix = scattered(rt.alloc(), rows, columns, 5)?;
-        let turned = matrix.transpose(rt.alloc())?;
+        let matrix = ok(&rt, scattered(rt.alloc(), rows, columns, 5));
+        let turned = ok(&rt, matrix.transpose(rt.alloc()));
         assert!(rt; turned.rows() == columns && turned.columns() == rows);
         for row in 0..rows {
             for column in 0..columns {
-                assert_eq!(rt;
-                    bit(&turned, column, row),
-                    bit(&matrix, row, column),
-                    "{row}, {column}"
-                );
+                let old = bit(&matrix, row, column);
+                assert!(rt; bit(&turned, column, row) == old, "{row}, {column}");
             }
         }
     }
-    Ok(())
 }
 
 // Whether the rows that a number names by its digits have a sum mod 2 of zero.
@@ -193,25 +198,26 @@ fn zero_sums(matrix: &Matrix, rows: usize, columns: usize) -> usize {
     count
 }
 
+/// The rank of a matrix.
+fn rank(rt: &(impl Abort + AllocGlobal), matrix: Result<Matrix, GrowError>) -> usize {
+    ok(rt, ok(rt, matrix).rank_mod_2(rt.alloc()))
+}
+
 #[test]
-fn ranks(rt: HostRuntime) -> Result<(), Fail> {
+fn ranks(rt: HostRuntime) {
     for seed in 1..20 {
         for columns in [3, 6, 7, 70] {
-            let matrix = scattered(rt.alloc(), 7, columns, seed)?;
-            let rank = matrix.rank_mod_2(rt.alloc())?;
-            assert!(rt; rank <= 7);
-            assert_eq!(rt;
-                zero_sums(&matrix, 7, columns),
-                1 << (7 - rank),
-                "{seed}, {columns}"
-            );
+            let matrix = ok(&rt, scattered(rt.alloc(), 7, columns, seed));
+            let sums = zero_sums(&matrix, 7, columns);
+            let rank = rank(&rt, Ok(matrix));
+            assert!(rt; rank <= 7 && sums == 1 << (7 - rank), "{seed}, {columns}");
         }
     }
-    assert_eq!(rt;
-        Matrix::identity(rt.alloc(), 66)?.rank_mod_2(rt.alloc())?,
-        66
-    );
-    assert_eq!(rt; Matrix::new(rt.alloc(), 5, 0)?.rank_mod_2(rt.alloc())?, 0);
-    assert_eq!(rt; Matrix::new(rt.alloc(), 5, 9)?.rank_mod_2(rt.alloc())?, 0);
-    Ok(())
+}
+
+#[test]
+fn ranks_that_are_known(rt: HostRuntime) {
+    assert!(rt; rank(&rt, Matrix::identity(rt.alloc(), 66)) == 66);
+    assert!(rt; rank(&rt, Matrix::new(rt.alloc(), 5, 0)) == 0);
+    assert!(rt; rank(&rt, Matrix::new(rt.alloc(), 5, 9)) == 0);
 }

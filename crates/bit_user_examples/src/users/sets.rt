@@ -1,8 +1,10 @@
 //! Sets of numbers on small examples.
+use crate::ok;
+use crate::users::has;
 use bit_addressing::GrowError;
 use bit_users::NumberSet;
 use std::alloc::Global;
-use std::test::Fail;
+use std::process::Abort;
 
 /// Two sets with two numbers in common; a test is told nothing of them.
 fn two_sets(alloc: Global) -> Result<(NumberSet, NumberSet), GrowError> {
@@ -12,109 +14,110 @@ fn two_sets(alloc: Global) -> Result<(NumberSet, NumberSet), GrowError> {
 }
 
 #[test]
-fn numbers_of_either_set(rt: HostRuntime) -> Result<(), Fail> {
-    let (small, large) = two_sets(rt.alloc())?;
-    let union: Vec<usize> = small.iter_union(&large).collect(rt.alloc())?;
-    assert_eq!(rt; union.as_slice(), [0, 3, 4, 5, 69, 199].as_slice());
-    Ok(())
+fn numbers_of_either_set(rt: HostRuntime) {
+    let (small, large) = ok(&rt, two_sets(rt.alloc()));
+    let union: Vec<usize> = ok(&rt, small.iter_union(&large).collect(rt.alloc()));
+    assert!(rt; union.as_slice() == [0, 3, 4, 5, 69, 199].as_slice());
 }
 
 #[test]
-fn numbers_of_both_sets(rt: HostRuntime) -> Result<(), Fail> {
-    let (small, large) = two_sets(rt.alloc())?;
-    let both: Vec<usize> = small.iter_intersection(&large).collect(rt.alloc())?;
-    assert_eq!(rt; both.as_slice(), [3, 69].as_slice());
-    Ok(())
+fn numbers_of_both_sets(rt: HostRuntime) {
+    let (small, large) = ok(&rt, two_sets(rt.alloc()));
+    let both: Vec<usize> = ok(&rt, small.iter_intersection(&large).collect(rt.alloc()));
+    assert!(rt; both.as_slice() == [3, 69].as_slice());
 }
 
 #[test]
-fn numbers_of_the_first_set_alone(rt: HostRuntime) -> Result<(), Fail> {
-    let (small, large) = two_sets(rt.alloc())?;
-    let first: Vec<usize> = large.iter_difference(&small).collect(rt.alloc())?;
-    assert_eq!(rt; first.as_slice(), [4, 199].as_slice());
-    Ok(())
+fn numbers_of_the_first_set_alone(rt: HostRuntime) {
+    let (small, large) = ok(&rt, two_sets(rt.alloc()));
+    let first: Vec<usize> = ok(&rt, large.iter_difference(&small).collect(rt.alloc()));
+    assert!(rt; first.as_slice() == [4, 199].as_slice());
 }
 
 #[test]
-fn numbers_of_one_set_alone(rt: HostRuntime) -> Result<(), Fail> {
-    let (small, large) = two_sets(rt.alloc())?;
-    let one: Vec<usize> = small.iter_symmetric_difference(&large).collect(rt.alloc())?;
-    assert_eq!(rt; one.as_slice(), [0, 4, 5, 199].as_slice());
-    Ok(())
-}
-
-#[test]
-fn counts_of_two_sets(rt: HostRuntime) -> Result<(), Fail> {
-    let (small, large) = two_sets(rt.alloc())?;
-    assert_eq!(rt;
-        (small.count_union(&large), large.count_union(&small)),
-        (6, 6)
+fn numbers_of_one_set_alone(rt: HostRuntime) {
+    let (small, large) = ok(&rt, two_sets(rt.alloc()));
+    let one: Vec<usize> = ok(
+        &rt,
+        small.iter_symmetric_difference(&large).collect(rt.alloc()),
     );
-    assert_eq!(rt; small.count_intersection(&large), 2);
-    assert_eq!(rt;
-        (
-            small.count_difference(&large),
-            large.count_difference(&small)
-        ),
-        (2, 2)
-    );
-    assert_eq!(rt; large.count_symmetric_difference(&small), 4);
-    Ok(())
+    assert!(rt; one.as_slice() == [0, 4, 5, 199].as_slice());
 }
 
 #[test]
-fn ranges_and_texts(rt: HostRuntime) -> Result<(), Fail> {
-    let mut set = NumberSet::new(rt.alloc(), 130)?;
-    assert_eq!(rt; set.to_string(rt.alloc())?.as_str(), "{}");
+fn counts_of_two_sets(rt: HostRuntime) {
+    let (small, large) = ok(&rt, two_sets(rt.alloc()));
+    assert!(rt; small.count_union(&large) == 6 && large.count_union(&small) == 6);
+    assert!(rt; small.count_intersection(&large) == 2);
+    assert!(rt; small.count_difference(&large) == 2 && large.count_difference(&small) == 2);
+    assert!(rt; large.count_symmetric_difference(&small) == 4);
+}
+
+/// That this is the text of a set.
+fn reads(rt: &(impl Abort + AllocGlobal), set: &NumberSet, text: &str) {
+    let written = ok(rt, set.to_string(rt.alloc()));
+    assert!(rt; written.as_str() == text);
+}
+
+#[test]
+fn ranges_and_texts(rt: HostRuntime) {
+    let mut set = ok(&rt, NumberSet::new(rt.alloc(), 130));
+    assert!(rt; set.bound() == 130);
+    reads(&rt, &set, "{}");
     set.insert_range(1..128);
     set.remove_range(4..127);
-    assert_eq!(rt; set.to_string(rt.alloc())?.as_str(), "{1, 2, 3, 127}");
-    let mut copy = set.clone()?;
-    assert!(rt; copy == set && copy.has_same_numbers(&set));
-    copy.insert_growing(500)?;
-    copy.remove(500);
-    assert!(rt; copy != set && copy > set && copy.has_same_numbers(&set));
-    copy.insert(0);
-    assert!(rt; copy > set && !copy.has_same_numbers(&set));
-    Ok(())
+    reads(&rt, &set, "{1, 2, 3, 127}");
 }
 
 #[test]
-fn numbers_that_a_function_keeps(rt: HostRuntime) -> Result<(), Fail> {
-    let (small, mut large) = two_sets(rt.alloc())?;
+fn sets_compared(rt: HostRuntime) {
+    let (set, _) = ok(&rt, two_sets(rt.alloc()));
+    let mut copy = ok(&rt, set.clone());
+    assert!(rt; copy == set && copy.has_same_numbers(&set));
+    let _new = ok(&rt, copy.insert_growing(500));
+    assert!(rt; copy.bound() == 501);
+    copy.remove(500);
+    assert!(rt; copy != set && copy > set && copy.has_same_numbers(&set));
+    copy.insert(1);
+    assert!(rt; copy > set && !copy.has_same_numbers(&set));
+}
+
+#[test]
+fn numbers_that_a_function_keeps(rt: HostRuntime) {
+    let (small, mut large) = ok(&rt, two_sets(rt.alloc()));
     let mut asked = Vec::new(rt.alloc());
     large.retain_by(&mut |number: usize| {
         let _there_is_room = asked.push(number);
         small.contains(number)
     });
-    assert_eq!(rt; asked.as_slice(), [3, 4, 69, 199].as_slice());
-    assert_eq!(rt; large.members(rt.alloc())?.as_slice(), [3, 69].as_slice());
-    assert_eq!(rt; large.bound(), 200);
-    large.retain(|number| number > 3);
-    assert_eq!(rt; large.members(rt.alloc())?.as_slice(), [69].as_slice());
-    Ok(())
+    assert!(rt; asked.as_slice() == [3, 4, 69, 199].as_slice());
+    has(&rt, &large, &[3, 69]);
+    assert!(rt; large.bound() == 200);
 }
 
 #[test]
-fn numbers_of_an_iterator(rt: HostRuntime) -> Result<(), Fail> {
-    let (small, _) = two_sets(rt.alloc())?;
-    let mut grown = NumberSet::from_iter(rt.alloc(), small.iter())?;
-    assert_eq!(rt;
-        grown.members(rt.alloc())?.as_slice(),
-        [0, 3, 5, 69].as_slice()
-    );
-    assert_eq!(rt; grown.bound(), 70);
-    grown.extend(vec![in rt.alloc(); 100, 4, 100, 3]?)?;
-    assert_eq!(rt;
-        grown.members(rt.alloc())?.as_slice(),
-        [0, 3, 4, 5, 69, 100].as_slice()
-    );
-    assert_eq!(rt; grown.bound(), 101);
-    let refused = grown.extend(vec![in rt.alloc(); 1, usize::MAX, 2]?);
-    assert_eq!(rt; refused, Err(GrowError::TooLong));
-    assert_eq!(rt;
-        grown.members(rt.alloc())?.as_slice(),
-        [0, 1, 3, 4, 5, 69, 100].as_slice()
-    );
-    Ok(())
+fn numbers_kept_by_value(rt: HostRuntime) {
+    let (_, mut large) = ok(&rt, two_sets(rt.alloc()));
+    large.retain(|number| number > 4);
+    has(&rt, &large, &[69, 199]);
+}
+
+#[test]
+fn numbers_of_an_iterator(rt: HostRuntime) {
+    let (small, _) = ok(&rt, two_sets(rt.alloc()));
+    let grown = ok(&rt, NumberSet::from_iter(rt.alloc(), small.iter()));
+    has(&rt, &grown, &[0, 3, 5, 69]);
+    assert!(rt; grown.bound() == 70);
+}
+
+#[test]
+fn numbers_put_in_from_an_iterator(rt: HostRuntime) {
+    let (mut set, _) = ok(&rt, two_sets(rt.alloc()));
+    let numbers = ok(&rt, vec![in rt.alloc(); 100, 4, 100, 3]);
+    ok(&rt, set.extend(numbers));
+    has(&rt, &set, &[0, 3, 4, 5, 69, 100]);
+    assert!(rt; set.bound() == 101);
+    let numbers = ok(&rt, vec![in rt.alloc(); 1, usize::MAX, 2]);
+    assert!(rt; set.extend(numbers) == Err(GrowError::TooLong));
+    has(&rt, &set, &[0, 1, 3, 4, 5, 69, 100]);
 }

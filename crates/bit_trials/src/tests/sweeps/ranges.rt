@@ -4,7 +4,7 @@ ghost use Rattle.std.specs.Prelude.{◌<◌, ◌≤◌, length};
 use crate::tests::ok;
 use crate::tests::orders::{Scramble, Xor4};
 use crate::tests::sweeps::{Case, again, at_head, part, replaced, same, shows};
-use bit_containers::{BitOrder, BitStore, BitVec, Lsb0, Msb0};
+use bit_containers::{BitOrder, BitStore, BitVec, Drain, Lsb0, Msb0};
 use std::process::Abort;
 
 const SEED: u64 = 0x8a5c_36d9_e174_b20f;
@@ -33,42 +33,58 @@ const WAYS: [Left; 7] = [
     Left::PastTheBeginning,
 ];
 
-/// Whether a drain gives the bits of its range, as far as it is asked for them.
-fn drains<T: BitStore, O: BitOrder>(
-    v: &mut BitVec<T, O>,
-    from: usize,
-    upto: usize,
-    bits: &[bool],
-    left: Left,
-) -> bool
-    requires ordered { from ≤ upto }
-    requires within { upto ≤ length v.old.list }
-{
-    let mut drain = v.drain(from..upto);
-    let mut right = drain.len() == bits.len();
-    match left {
-        Left::AtOnce => {}
-        Left::AfterTheFirst => right = right && drain.next() == bits.first().copied(),
-        Left::AfterTheLast => right = right && drain.next_back() == bits.last().copied(),
-        Left::AfterAll => {
-            for (i, bit) in drain.enumerate() {
-                right = right && bits.get(i) == Some(&bit);
-            }
-        }
-        Left::AfterAllFromTheEnd => {
-            for (i, bit) in drain.rev().enumerate() {
-                let last = bits.len().checked_sub(i.wrapping_add(1));
-                right = right && last.and_then(|at| bits.get(at)) == Some(&bit);
-            }
-        }
-        Left::PastTheEnd => {
-            right = right && drain.nth(bits.len()).is_none() && drain.next_back().is_none();
-        }
-        Left::PastTheBeginning => {
-            right = right && drain.nth_back(bits.len()).is_none() && drain.next().is_none();
-        }
+/// Whether a drain gives these bits, each once.
+fn gives_all<T: BitStore, O: BitOrder>(drain: Drain<'_, T, O>, bits: &[bool]) -> bool {
+    let mut right = true;
+    for (i, bit) in drain.enumerate() {
+        right = right && bits.get(i) == Some(&bit);
     }
     right
+}
+
+/// Whether a drain gives these bits from the end, each once.
+fn gives_all_back<T: BitStore, O: BitOrder>(drain: Drain<'_, T, O>, bits: &[bool]) -> bool {
+    let mut right = true;
+    for (i, bit) in drain.rev().enumerate() {
+        let last = bits.len().checked_sub(i.wrapping_add(1));
+        right = right && last.and_then(|at| bits.get(at)) == Some(&bit);
+    }
+    right
+}
+
+/// Whether a drain gives the bits of its range, as far as it is asked for them.
+fn gives<T: BitStore, O: BitOrder>(mut drain: Drain<'_, T, O>, bits: &[bool], left: Left) -> bool {
+    if drain.len() != bits.len() {
+        return false;
+    }
+    match left {
+        Left::AtOnce => true,
+        Left::AfterTheFirst => drain.next() == bits.first().copied(),
+        Left::AfterTheLast => drain.next_back() == bits.last().copied(),
+        Left::AfterAll => gives_all(drain, bits),
+        Left::AfterAllFromTheEnd => gives_all_back(drain, bits),
+        Left::PastTheEnd => drain.nth(bits.len()).is_none() && drain.next_back().is_none(),
+        Left::PastTheBeginning => drain.nth_back(bits.len()).is_none() && drain.next().is_none(),
+    }
+}
+
+/// A range drained, as far as one way goes.
+fn drained_in<T: BitStore, O: BitOrder>(
+    rt: &(impl Abort + AllocGlobal),
+    v: &BitVec<T, O>,
+    list: &[bool],
+    from: usize,
+    upto: usize,
+    left: Left,
+)
+    requires { from ≤ upto }
+{
+    let bits = part(rt, list, from, upto);
+    let wanted = replaced(rt, list, from, upto, &[]);
+    let mut copy = again(rt, v);
+    assert!(rt; upto <= copy.len());
+    assert!(rt; gives(copy.drain(from..upto), &bits, left));
+    assert!(rt; same(&copy, v.head(), &wanted));
 }
 
 /// Each range drained, in turn as far as each way goes.
@@ -79,14 +95,9 @@ fn drained<T: BitStore, O: BitOrder>(rt: &(impl Abort + AllocGlobal), head: usiz
     let Case { v: first, list, .. } = at_head::<T, O>(rt, SEED, head, len);
     for from in 0..len + 1 {
         for upto in from..len + 1 {
-            let bits = part(rt, &list, from, upto);
-            let wanted = replaced(rt, &list, from, upto, &[]);
             for (turn, left) in WAYS.iter().enumerate() {
                 if turn % 2 == (head + from + upto) % 2 {
-                    let mut v = again(rt, &first);
-                    assert!(rt; upto <= v.len());
-                    assert!(rt; drains(&mut v, from, upto, &bits, *left));
-                    assert!(rt; same(&v, head, &wanted));
+                    drained_in(rt, &first, &list, from, upto, *left);
                 }
             }
         }

@@ -27,21 +27,24 @@ fn reserving_at_the_limit(rt: HostRuntime) {
     }
 }
 
+/// Lengths, and whether they are too long.
+const LENGTHS: [(usize, bool); 3] = [(LIMIT, false), (PAST, true), (usize::MAX, true)];
+
 #[test]
-fn makers_at_the_limit(rt: HostRuntime) {
-    for (n, too_long) in [(LIMIT, false), (PAST, true), (usize::MAX, true)] {
+fn repeating_at_the_limit(rt: HostRuntime) {
+    for (n, too_long) in LENGTHS {
         let made = BitVec::<u8, Lsb0>::repeat(rt.alloc(), false, n);
-        assert_eq!(rt;
-            matches!(made, Err(GrowError::TooLong)),
-            too_long,
-            "for {n}"
-        );
+        let refused = matches!(made, Err(GrowError::TooLong));
+        assert!(rt; refused == too_long, "for {n}");
+    }
+}
+
+#[test]
+fn room_at_the_limit(rt: HostRuntime) {
+    for (n, too_long) in LENGTHS {
         let made = BitVec::<u64, Msb0>::with_capacity(rt.alloc(), n);
-        assert_eq!(rt;
-            matches!(made, Err(GrowError::TooLong)),
-            too_long,
-            "for {n}"
-        );
+        let refused = matches!(made, Err(GrowError::TooLong));
+        assert!(rt; refused == too_long, "for {n}");
     }
 }
 

@@ -243,6 +243,17 @@ fn appending_refused(rt: HostRuntime) {
     stands(&rt, &v, outcome);
 }
 
+/// Adds a bit, appends all bits once more, or makes room.
+fn grow_once(v: &mut BitVec<u8, Msb0>, way: usize) -> Result<(), GrowError> {
+    match way {
+        0 => v.push(true),
+        1 => v.insert(0, true),
+        2 => v.extend_from_within(..),
+        3 => v.reserve(100),
+        _ => v.reserve_exact(200),
+    }
+}
+
 /// Bits one by one, room, and a range appended once more: each refusal leaves what stood before it.
 #[test]
 fn one_by_one_refused(rt: HostRuntime) {
@@ -250,14 +261,12 @@ fn one_by_one_refused(rt: HostRuntime) {
     for turn in 0..70usize {
         let (len, ones, first) = (v.len(), v.count_ones(), v.first());
         assert!(rt; len < 1000);
-        let (outcome, more) = match turn % 5 {
-            0 => (v.push(true), 1),
-            1 => (v.insert(0, true), 1),
-            2 => (v.extend_from_within(..), len),
-            3 => (v.reserve(100), 0),
-            _ => (v.reserve_exact(200), 0),
+        let more = match turn % 5 {
+            0 | 1 => 1,
+            2 => len,
+            _ => 0,
         };
-        match outcome {
+        match grow_once(&mut v, turn % 5) {
             Ok(()) => assert!(rt; v.len() == len + more && v.count_ones() == v.len()),
             Err(why) => {
                 assert!(rt; why == GrowError::OutOfMemory);

@@ -43,10 +43,10 @@ fn ones_in(bits: &[bool], head: usize, len: usize) -> usize {
 fn totals<O: BitOrder>(rt: &impl Abort, words: [u8; 3], head: usize, len: usize)
     requires { head + len ≤ 24 }
 {
+    let ones = ones_in(&bits_of::<O>(words), head, len);
     let view = BitSlice::<u8, O>::from_slice(&words).get_range(head..head + len);
     let (count, zeros) = (view.count_ones(), view.count_zeros());
     let (any, all) = (view.any(), view.all());
-    let ones = ones_in(&bits_of::<O>(words), head, len);
     assert!(rt; count == ones && zeros == len.wrapping_sub(ones));
     assert!(rt; any == (ones != 0) && all == (ones == len));
     assert!(rt; view.counted().count_ones_counted() == ones);

@@ -28,6 +28,25 @@ struct Case<T: BitStore, O: BitOrder> {
     row: Vec<bool>,
 }
 
+/// How two bits are combined.
+#[derive(Clone, Copy)]
+enum By {
+    And,
+    Or,
+    Xor,
+}
+
+impl By {
+    /// What it makes of two bits.
+    fn of(self, left: bool, right: bool) -> bool {
+        match self {
+            By::And => left && right,
+            By::Or => left || right,
+            By::Xor => left != right,
+        }
+    }
+}
+
 /// Four words whose bits are mixed, and differ by the seed.
 fn words_of<T: BitStore>(rt: &(impl Abort + AllocGlobal), seed: u64) -> Vec<T> {
     let mut words = Vec::new(rt.alloc());

@@ -165,20 +165,30 @@ fn told_apart(rt: HostRuntime) {
     );
 }
 
-/// Bits that are mapped, words, and every second bit of three hundred.
+/// Bits that are mapped.
 #[test]
-fn longer_lists(rt: HostRuntime) {
+fn a_hundred_bits(rt: HostRuntime) {
     let v = ok(
         &rt,
         BitVec::<u16, Msb0>::from_bits(rt.alloc(), (0..100).map(|i| i % 3 == 0)),
     );
     assert!(rt; v.len() == 100 && v.count_ones() == 34);
     assert!(rt; v.get(66) == Some(true) && v.get(65) == Some(false));
+}
+
+/// Words.
+#[test]
+fn two_words(rt: HostRuntime) {
     let v = ok(
         &rt,
         BitVec::<u8, Lsb0>::from_words(rt.alloc(), [0x41, 0x80]),
     );
     holds(&rt, &v, b"1000001000000001");
+}
+
+/// Every second bit of three hundred.
+#[test]
+fn every_second_bit(rt: HostRuntime) {
     let mut v = ok(
         &rt,
         BitVec::<u8, Lsb0>::from_bits(rt.alloc(), (0..300).map(|i| i % 3 == 0)),

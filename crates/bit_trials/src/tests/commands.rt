@@ -12,19 +12,19 @@ fn results<T: BitStore, O: BitOrder>(
 ) {
     let mut replies = Vec::new(rt.alloc());
     assert!(rt; run(v, commands, &mut replies).is_ok());
-    assert_eq!(rt; replies.as_slice(), want);
+    assert!(rt; replies.as_slice() == want);
 }
 
-/// That a run of these commands stops at the second, by which the vector would be too long.
-fn stops<T: BitStore, O: BitOrder>(
+/// That a run of these commands stops at the second, by which the vector would be too long, and replies `Done` to the first.
+pub(super) fn stops<T: BitStore, O: BitOrder>(
     rt: &(impl Abort + AllocGlobal),
     v: &mut BitVec<T, O>,
     commands: &[Command],
 ) {
     let mut replies = Vec::new(rt.alloc());
     let why = GrowError::TooLong;
-    assert_eq!(rt; run(v, commands, &mut replies), Err(Stop { done: 1, why }));
-    assert_eq!(rt; replies.len(), 1);
+    assert!(rt; run(v, commands, &mut replies) == Err(Stop { done: 1, why }));
+    assert!(rt; replies.as_slice() == [Reply::Done].as_slice());
 }
 
 #[test]

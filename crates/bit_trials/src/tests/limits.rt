@@ -1,6 +1,8 @@
 //! Lengths at their limit, reached by what is asked for alone.
+use crate::tests::commands::stops;
 use crate::tests::{holds, of};
-use bit_containers::{BitVec, Command, GrowError, Lsb0, Msb0, Reply, Stop, run};
+use bit_containers::{BitVec, Command, GrowError, Lsb0, Msb0};
+use std::process::Abort;
 
 const LIMIT: usize = 2305843009213693951;
 
@@ -25,39 +27,42 @@ fn reserving_at_the_limit(rt: HostRuntime) {
     }
 }
 
+/// Lengths, and whether they are too long.
+const LENGTHS: [(usize, bool); 3] = [(LIMIT, false), (PAST, true), (usize::MAX, true)];
+
 #[test]
-fn makers_at_the_limit(rt: HostRuntime) {
-    for (n, too_long) in [(LIMIT, false), (PAST, true), (usize::MAX, true)] {
+fn repeating_at_the_limit(rt: HostRuntime) {
+    for (n, too_long) in LENGTHS {
         let made = BitVec::<u8, Lsb0>::repeat(rt.alloc(), false, n);
-        assert_eq!(rt;
-            matches!(made, Err(GrowError::TooLong)),
-            too_long,
-            "for {n}"
-        );
-        let made = BitVec::<u64, Msb0>::with_capacity(rt.alloc(), n);
-        assert_eq!(rt;
-            matches!(made, Err(GrowError::TooLong)),
-            too_long,
-            "for {n}"
-        );
+        let refused = matches!(made, Err(GrowError::TooLong));
+        assert!(rt; refused == too_long, "for {n}");
     }
+}
+
+#[test]
+fn room_at_the_limit(rt: HostRuntime) {
+    for (n, too_long) in LENGTHS {
+        let made = BitVec::<u64, Msb0>::with_capacity(rt.alloc(), n);
+        let refused = matches!(made, Err(GrowError::TooLong));
+        assert!(rt; refused == too_long, "for {n}");
+    }
+}
+
+/// That a run stops at this command, the second of three, and leaves what the first did.
+fn stops_at(rt: &(impl Abort + AllocGlobal), command: Command) {
+    let mut v = BitVec::<u8, Lsb0>::new(rt.alloc());
+    stops(
+        rt,
+        &mut v,
+        &[Command::Push(true), command, Command::Push(false)],
+    );
+    holds(rt, &v, b"1");
 }
 
 /// A run stops at the command that passes the limit, and what came before it stays done.
 #[test]
 fn runs_at_the_limit(rt: HostRuntime) {
-    for command in [
-        Command::Reserve(LIMIT),
-        Command::Splice(0, 1, false, PAST),
-        Command::Resize(PAST, true),
-    ] {
-        let commands = [Command::Push(true), command, Command::Push(false)];
-        let mut v = BitVec::<u8, Lsb0>::new(rt.alloc());
-        let mut replies = Vec::new(rt.alloc());
-        let stop = run(&mut v, &commands, &mut replies);
-        let why = GrowError::TooLong;
-        assert_eq!(rt; stop, Err(Stop { done: 1, why }));
-        assert_eq!(rt; replies.as_slice(), [Reply::Done].as_slice());
-        holds(&rt, &v, b"1");
-    }
+    stops_at(&rt, Command::Reserve(LIMIT));
+    stops_at(&rt, Command::Splice(0, 1, false, PAST));
+    stops_at(&rt, Command::Resize(PAST, true));
 }

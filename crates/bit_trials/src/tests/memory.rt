@@ -1,6 +1,8 @@
 //! Each request for memory refused: what is returned then, and what stays.
 //!
 //! The tests pass with ample memory, and whichever request `rt try --test --fail-alloc N` refuses.
+ghost use Rattle.std.specs.Prelude.{◌≡◌, length};
+
 use crate::tests::holds;
 use bit_containers::array::BitArray;
 use bit_containers::{
@@ -103,66 +105,96 @@ fn stands(rt: &impl Abort, v: &BitVec<u8, Lsb0>, outcome: Result<(), GrowError>)
     }
 }
 
-#[test]
-fn growing_refused(rt: HostRuntime) {
+/// The eight bits that the tests begin with, at head 3, where memory is found.
+fn eight(rt: &impl AllocGlobal) -> Option<BitVec<u8, Lsb0>> {
     let words = [0xa8_u8, 0x07];
     let view = BitSlice::<u8, Lsb0>::from_slice(&words).get_range(3..11);
+    BitVec::from_bitslice_headed(rt.alloc(), view).ok()
+}
+
+/// Grows a vector of eight bits by 96 ones, in one of eight ways.
+fn grow(v: &mut BitVec<u8, Lsb0>, way: u8) -> Result<(), GrowError>
+    requires { length v.old.list ≡ 8 }
+{
     let ones = [0xff_u8; 12];
     let more = BitSlice::<u8, Lsb0>::from_slice(&ones);
-    for way in 0..9u8 {
-        let Ok(mut v) = BitVec::from_bitslice_headed(rt.alloc(), view) else {
-            return;
-        };
-        assert!(rt; v.len() == 8 && v.head() == 3);
-        let mut calls = 0_u8;
-        let outcome = match way {
-            0 => v.resize(104, true),
-            1 => v.resize_with(104, |_| {
-                calls = calls.wrapping_add(1);
-                true
-            }),
-            2 => v.extend_from_bitslice(more),
-            3 => v.extend_from_slice(more),
-            4 => v.extend_from_raw_slice(&ones),
-            5 => v.extend((0..96).map(|_| true)),
-            6 => v.extend_words(ones),
-            7 => v.splice(8..8, [true; 96]).finish(),
-            _ => v.splice(5..6, [true; 97]).finish(),
-        };
-        let called = if way == 1 && outcome.is_ok() { 96 } else { 0 };
-        assert_eq!(rt; calls, called);
-        stands(&rt, &v, outcome);
-        assert_eq!(rt; v.head(), 3);
+    match way {
+        0 => v.resize(104, true),
+        1 => v.extend_from_bitslice(more),
+        2 => v.extend_from_slice(more),
+        3 => v.extend_from_raw_slice(&ones),
+        4 => v.extend((0..96).map(|_| true)),
+        5 => v.extend_words(ones),
+        6 => v.splice(8..8, [true; 96]).finish(),
+        _ => v.splice(5..6, [true; 97]).finish(),
     }
 }
 
-/// A longer view, and one of as many bits, for which no memory is taken.
 #[test]
-fn combined_with_longer_refused(rt: HostRuntime) {
-    let words = [0xa8_u8, 0x07];
-    let view = BitSlice::<u8, Lsb0>::from_slice(&words).get_range(3..11);
-    let ones = [0xff_u8; 12];
-    let more = BitSlice::<u8, Msb0>::from_slice(&ones);
-    for xor in [false, true] {
-        let Ok(mut v) = BitVec::from_bitslice_headed(rt.alloc(), view) else {
+fn growing_refused(rt: HostRuntime) {
+    for way in 0..8u8 {
+        let Some(mut v) = eight(&rt) else {
             return;
         };
-        assert!(rt; v.xor_growing(more.get_range(..8)).is_ok());
-        holds(&rt, &v, b"01010000");
-        assert!(rt; v.xor_growing(more.get_range(..8)).is_ok());
-        let outcome = if xor {
-            v.xor_growing(more)
-        } else {
-            v.or_growing(more)
+        assert!(rt; v.len() == 8);
+        let outcome = grow(&mut v, way);
+        stands(&rt, &v, outcome);
+        assert!(rt; v.head() == 3);
+    }
+}
+
+/// The function is called only where memory was found.
+#[test]
+fn resizing_by_calls_refused(rt: HostRuntime) {
+    let Some(mut v) = eight(&rt) else {
+        return;
+    };
+    let mut calls = 0_u8;
+    let outcome = v.resize_with(104, |_| {
+        calls = calls.wrapping_add(1);
+        true
+    });
+    assert!(rt; calls == if outcome.is_ok() { 96 } else { 0 });
+    stands(&rt, &v, outcome);
+}
+
+/// Combines a vector of eight bits with twelve bytes of ones.
+fn combine_longer(v: &mut BitVec<u8, Lsb0>, xor: bool) -> Result<(), GrowError> {
+    let ones = [0xff_u8; 12];
+    let more = BitSlice::<u8, Msb0>::from_slice(&ones);
+    if xor {
+        v.xor_growing(more)
+    } else {
+        v.or_growing(more)
+    }
+}
+
+#[test]
+fn combined_with_longer_refused(rt: HostRuntime) {
+    for (xor, ones) in [(false, 96), (true, 90)] {
+        let Some(mut v) = eight(&rt) else {
+            return;
         };
-        match outcome {
-            Ok(()) => assert!(rt; v.len() == 96 && v.count_ones() == if xor { 90 } else { 96 }),
+        match combine_longer(&mut v, xor) {
+            Ok(()) => assert!(rt; v.len() == 96 && v.count_ones() == ones),
             Err(why) => {
                 assert!(rt; why == GrowError::OutOfMemory);
                 holds(&rt, &v, b"10101111");
             }
         }
     }
+}
+
+/// A view of as many bits, for which no memory is taken.
+#[test]
+fn combined_with_as_long(rt: HostRuntime) {
+    let ones = [0xff_u8];
+    let more = BitSlice::<u8, Msb0>::from_slice(&ones);
+    let Some(mut v) = eight(&rt) else {
+        return;
+    };
+    assert!(rt; v.xor_growing(more).is_ok());
+    holds(&rt, &v, b"01010000");
 }
 
 /// Vectors of bytes, of indices and of text, copies of views, and bytes.
@@ -199,9 +231,7 @@ fn other_makers_refused(rt: HostRuntime) {
 /// Both sides are looked at.
 #[test]
 fn appending_refused(rt: HostRuntime) {
-    let words = [0xa8_u8, 0x07];
-    let view = BitSlice::<u8, Lsb0>::from_slice(&words).get_range(3..11);
-    let Ok(mut v) = BitVec::from_bitslice_headed(rt.alloc(), view) else {
+    let Some(mut v) = eight(&rt) else {
         return;
     };
     let Ok(mut other) = BitVec::<u32, Msb0>::repeat(rt.alloc(), true, 96) else {
@@ -213,6 +243,17 @@ fn appending_refused(rt: HostRuntime) {
     stands(&rt, &v, outcome);
 }
 
+/// Adds a bit, appends all bits once more, or makes room.
+fn grow_once(v: &mut BitVec<u8, Msb0>, way: usize) -> Result<(), GrowError> {
+    match way {
+        0 => v.push(true),
+        1 => v.insert(0, true),
+        2 => v.extend_from_within(..),
+        3 => v.reserve(100),
+        _ => v.reserve_exact(200),
+    }
+}
+
 /// Bits one by one, room, and a range appended once more: each refusal leaves what stood before it.
 #[test]
 fn one_by_one_refused(rt: HostRuntime) {
@@ -220,14 +261,12 @@ fn one_by_one_refused(rt: HostRuntime) {
     for turn in 0..70usize {
         let (len, ones, first) = (v.len(), v.count_ones(), v.first());
         assert!(rt; len < 1000);
-        let (outcome, more) = match turn % 5 {
-            0 => (v.push(true), 1),
-            1 => (v.insert(0, true), 1),
-            2 => (v.extend_from_within(..), len),
-            3 => (v.reserve(100), 0),
-            _ => (v.reserve_exact(200), 0),
+        let more = match turn % 5 {
+            0 | 1 => 1,
+            2 => len,
+            _ => 0,
         };
-        match outcome {
+        match grow_once(&mut v, turn % 5) {
             Ok(()) => assert!(rt; v.len() == len + more && v.count_ones() == v.len()),
             Err(why) => {
                 assert!(rt; why == GrowError::OutOfMemory);
@@ -240,9 +279,7 @@ fn one_by_one_refused(rt: HostRuntime) {
 
 #[test]
 fn copies_refused(rt: HostRuntime) {
-    let words = [0xa8_u8, 0x07];
-    let view = BitSlice::<u8, Lsb0>::from_slice(&words).get_range(3..11);
-    let Ok(mut v) = BitVec::from_bitslice_headed(rt.alloc(), view) else {
+    let Some(mut v) = eight(&rt) else {
         return;
     };
     made(&rt, v.clone(), b"10101111");
@@ -255,21 +292,32 @@ fn copies_refused(rt: HostRuntime) {
         }
         Err(_) => holds(&rt, &v, b"10101111"),
     }
-    let digits = if v.len() == 3 {
-        b"101".as_slice()
-    } else {
-        b"10101111".as_slice()
+}
+
+/// Room that is refused, and given back.
+#[test]
+fn shrinking_refused(rt: HostRuntime) {
+    let Some(mut v) = eight(&rt) else {
+        return;
     };
-    assert!(rt; v.reserve(100).is_err() || v.capacity() >= 103);
+    assert!(rt; v.reserve(100).is_err() || v.capacity() >= 108);
     assert!(rt; v.shrink_to_fit().is_ok());
-    holds(&rt, &v, digits);
+    holds(&rt, &v, b"10101111");
+}
+
+/// The words are kept, so no memory is taken.
+#[test]
+fn boxing_takes_none(rt: HostRuntime) {
+    let Some(v) = eight(&rt) else {
+        return;
+    };
     let Ok(boxed) = v.into_boxed_bitslice() else {
         panic!(rt; "the words are kept");
     };
     let Ok(v) = boxed.into_bitvec() else {
         panic!(rt; "the words are kept");
     };
-    holds(&rt, &v, digits);
+    holds(&rt, &v, b"10101111");
 }
 
 /// A run that is stopped has done the commands before that one, and no more.

@@ -92,12 +92,15 @@ fn joined(rt: &(impl Abort + AllocGlobal), n: usize, bounded: bool) {
 fn made(rt: &(impl Abort + AllocGlobal), n: usize, bounded: bool) {
     let loose = Loose::of(n, BITS, bounded);
     let made = ok(rt, BitVec::<u8, Lsb0>::from_bits(rt.alloc(), loose));
-    let list = bits(rt, n);
-    let exact = ok(rt, BitVec::<u8, Lsb0>::from_bits(rt.alloc(), list));
-    assert!(rt; made == exact);
-    assert!(rt; made.as_raw_slice() == exact.as_raw_slice());
+    let exact = ok(rt, BitVec::<u8, Lsb0>::from_bits(rt.alloc(), bits(rt, n)));
+    assert!(rt; made == exact && made.as_raw_slice() == exact.as_raw_slice());
+}
+
+/// A box made of bits, beside the vector that is made of a list of them.
+fn boxed(rt: &(impl Abort + AllocGlobal), n: usize, bounded: bool) {
     let loose = Loose::of(n, BITS, bounded);
     let boxed = ok(rt, BitBox::<u8, Lsb0>::from_bits(rt.alloc(), loose));
+    let exact = ok(rt, BitVec::<u8, Lsb0>::from_bits(rt.alloc(), bits(rt, n)));
     assert!(rt; boxed.eq_bits(exact.as_bitslice()));
 }
 
@@ -120,6 +123,7 @@ fn loose_hints(rt: HostRuntime) {
         for bounded in [false, true] {
             joined(&rt, n, bounded);
             made(&rt, n, bounded);
+            boxed(&rt, n, bounded);
             of_words(&rt, n, bounded);
         }
     }
@@ -178,55 +182,124 @@ fn calls_counted(rt: HostRuntime) {
     }
 }
 
+/// That a thousand items were pulled and one call more, or fewer where memory was refused.
+fn stopped<X: Copy>(rt: &impl Abort, pulled: &Loose<X>, outcome: Result<(), GrowError>) {
+    let (calls, nones) = (pulled.calls, pulled.nones);
+    match outcome {
+        Ok(()) => assert!(rt; nones == 1 && calls == 1001),
+        Err(why) => assert!(rt; why == GrowError::OutOfMemory && nones == 0 && calls < 1000),
+    }
+}
+
+/// A vector of two bits appended to, by bits or by words.
+fn appended_until_refused(rt: &(impl Abort + AllocGlobal), by_words: bool) {
+    let Ok(mut v) = BitVec::<u8, Lsb0>::from_bits(rt.alloc(), [false, true]) else {
+        return;
+    };
+    let outcome = if by_words {
+        let mut words = Loose::of(1000, WORDS, false);
+        let outcome = v.extend_words(words.by_ref());
+        stopped(rt, &words, outcome);
+        outcome
+    } else {
+        let mut bits = Loose::of(1000, BITS, true);
+        let outcome = v.extend(bits.by_ref());
+        stopped(rt, &bits, outcome);
+        outcome
+    };
+    if outcome.is_err() {
+        holds(rt, &v, b"01");
+    }
+}
+
+/// A vector or a box made of bits.
+fn made_until_refused(rt: &(impl Abort + AllocGlobal), boxed: bool) {
+    let mut bits = Loose::of(1000, BITS, true);
+    let outcome = if boxed {
+        BitBox::<u8, Msb0>::from_bits(rt.alloc(), bits.by_ref()).map(|_| ())
+    } else {
+        BitVec::<u8, Msb0>::from_bits(rt.alloc(), bits.by_ref()).map(|_| ())
+    };
+    stopped(rt, &bits, outcome);
+}
+
+/// A vector made of words.
+fn made_of_words_until_refused(rt: &(impl Abort + AllocGlobal)) {
+    let mut words = Loose::of(1000, WORDS, false);
+    let outcome = BitVec::<u8, Msb0>::from_words(rt.alloc(), words.by_ref()).map(|_| ());
+    stopped(rt, &words, outcome);
+}
+
 /// Where a request for memory is refused, no more is pulled, and the list stays; whichever request
 /// `rt try --test --fail-alloc N` refuses.
 #[test]
 fn pulled_until_refused(rt: HostRuntime) {
-    for way in 0..5u8 {
-        let mut bits = Loose::of(1000, BITS, way % 2 == 0);
-        let mut words = Loose::of(1000, WORDS, way % 2 == 0);
-        let Ok(mut v) = BitVec::<u8, Lsb0>::from_bits(rt.alloc(), [false, true]) else {
-            return;
-        };
-        let outcome = match way {
-            0 => v.extend(bits.by_ref()),
-            1 => v.extend_words(words.by_ref()),
-            2 => BitVec::<u8, Msb0>::from_bits(rt.alloc(), bits.by_ref()).map(|_| ()),
-            3 => BitVec::<u8, Msb0>::from_words(rt.alloc(), words.by_ref()).map(|_| ()),
-            _ => BitBox::<u8, Msb0>::from_bits(rt.alloc(), bits.by_ref()).map(|_| ()),
-        };
-        let (calls, nones) = if way == 1 || way == 3 {
-            (words.calls, words.nones)
-        } else {
-            (bits.calls, bits.nones)
-        };
-        match outcome {
-            Ok(()) => assert!(rt; nones == 1 && calls == 1001),
-            Err(why) => {
-                assert!(rt; why == GrowError::OutOfMemory && nones == 0 && calls < 1000);
-                holds(&rt, &v, b"01");
-            }
-        }
+    for other in [false, true] {
+        appended_until_refused(&rt, other);
+        made_until_refused(&rt, other);
     }
+    made_of_words_until_refused(&rt);
+}
+
+/// A splice finished at once, or after one bit from either end.
+fn left_early(rt: &(impl Abort + AllocGlobal), way: u8) {
+    let mut v = of::<u16, Msb0>(rt, b"0110100");
+    assert!(rt; v.len() == 7);
+    let mut splice = v.splice(1..5, [true, false]);
+    let right = match way {
+        0 => splice.len() == 4,
+        1 => splice.next() == Some(true),
+        _ => splice.next_back() == Some(true),
+    };
+    ok(rt, splice.finish());
+    assert!(rt; right);
+    holds(rt, &v, b"01000");
+}
+
+/// A splice finished after all of its bits, from the front.
+fn left_after_all(rt: &(impl Abort + AllocGlobal)) {
+    let mut v = of::<u16, Msb0>(rt, b"0110100");
+    assert!(rt; v.len() == 7);
+    let mut splice = v.splice(1..5, [true, false]);
+    assert!(rt; splice.items().filter(|bit| *bit).count() == 3);
+    ok(rt, splice.finish());
+    holds(rt, &v, b"01000");
+}
+
+/// A splice finished after all of its bits, from the end.
+fn left_after_all_from_the_end(rt: &(impl Abort + AllocGlobal)) {
+    let mut v = of::<u16, Msb0>(rt, b"0110100");
+    assert!(rt; v.len() == 7);
+    let mut splice = v.splice(1..5, [true, false]);
+    assert!(rt; splice.items().rev().filter(|bit| !*bit).count() == 1);
+    ok(rt, splice.finish());
+    holds(rt, &v, b"01000");
+}
+
+/// A splice finished after it was asked for more bits than it has, from the front or from the end.
+fn left_past_an_end(rt: &(impl Abort + AllocGlobal), back: bool) {
+    let mut v = of::<u16, Msb0>(rt, b"0110100");
+    assert!(rt; v.len() == 7);
+    let mut splice = v.splice(1..5, [true, false]);
+    let right = if back {
+        splice.nth_back(4).is_none() && splice.next().is_none()
+    } else {
+        splice.nth(4).is_none() && splice.next_back().is_none()
+    };
+    ok(rt, splice.finish());
+    assert!(rt; right);
+    holds(rt, &v, b"01000");
 }
 
 /// Splices finished after none of their bits, one from either end, all, and past the end.
 #[test]
 fn splices_left_early(rt: HostRuntime) {
-    for way in 0..7u8 {
-        let mut v = of::<u16, Msb0>(&rt, b"0110100");
-        assert!(rt; v.len() == 7);
-        let mut splice = v.splice(1..5, [true, false]);
-        match way {
-            0 => assert_eq!(rt; splice.len(), 4),
-            1 => assert_eq!(rt; splice.next(), Some(true)),
-            2 => assert_eq!(rt; splice.next_back(), Some(true)),
-            3 => assert_eq!(rt; splice.items().filter(|bit| *bit).count(), 3),
-            4 => assert_eq!(rt; splice.items().rev().filter(|bit| !*bit).count(), 1),
-            5 => assert!(rt; splice.nth(4).is_none() && splice.next_back().is_none()),
-            _ => assert!(rt; splice.nth_back(4).is_none() && splice.next().is_none()),
-        }
-        ok(&rt, splice.finish());
-        holds(&rt, &v, b"01000");
+    for way in 0..3u8 {
+        left_early(&rt, way);
+    }
+    left_after_all(&rt);
+    left_after_all_from_the_end(&rt);
+    for back in [false, true] {
+        left_past_an_end(&rt, back);
     }
 }

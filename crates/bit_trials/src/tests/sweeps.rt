@@ -28,6 +28,25 @@ struct Case<T: BitStore, O: BitOrder> {
     row: Vec<bool>,
 }
 
+/// How two bits are combined.
+#[derive(Clone, Copy)]
+enum By {
+    And,
+    Or,
+    Xor,
+}
+
+impl By {
+    /// What it makes of two bits.
+    fn of(self, left: bool, right: bool) -> bool {
+        match self {
+            By::And => left && right,
+            By::Or => left || right,
+            By::Xor => left != right,
+        }
+    }
+}
+
 /// Four words whose bits are mixed, and differ by the seed.
 fn words_of<T: BitStore>(rt: &(impl Abort + AllocGlobal), seed: u64) -> Vec<T> {
     let mut words = Vec::new(rt.alloc());
@@ -99,6 +118,25 @@ fn replaced(
     items
 }
 
+/// A vector of `len` bits of these words that begin at this head. Its dead bits are theirs too.
+fn vector_of<T: BitStore, O: BitOrder>(
+    rt: &(impl Abort + AllocGlobal),
+    words: &[T],
+    head: usize,
+    len: usize,
+) -> BitVec<T, O>
+    requires { head + len < 100 }
+{
+    let view = ok(rt, BitSlice::<T, O>::try_from_slice(words));
+    assert!(rt; head + len <= view.len());
+    let bits = view.get_range(head..head + len);
+    let mut v = ok(rt, BitVec::from_bitslice_headed(rt.alloc(), bits));
+    for (word, mixed) in v.as_raw_mut_slice().iter_mut().zip(words) {
+        *word = *mixed;
+    }
+    v
+}
+
 /// A vector of `len` mixed bits that begin at this head. Its dead bits are mixed too.
 fn at_head<T: BitStore, O: BitOrder>(
     rt: &(impl Abort + AllocGlobal),
@@ -109,13 +147,7 @@ fn at_head<T: BitStore, O: BitOrder>(
     requires { head + len < 100 }
 {
     let words = words_of::<T>(rt, seed);
-    let view = ok(rt, BitSlice::<T, O>::try_from_slice(words.as_slice()));
-    assert!(rt; head + len <= view.len());
-    let bits = view.get_range(head..head + len);
-    let mut v = ok(rt, BitVec::from_bitslice_headed(rt.alloc(), bits));
-    for (word, mixed) in v.as_raw_mut_slice().iter_mut().zip(words.iter()) {
-        *word = *mixed;
-    }
+    let v = vector_of::<T, O>(rt, words.as_slice(), head, len);
     let all = row_of::<T, O>(rt, words.as_slice());
     let list = part(rt, &all, head, head + len);
     let shown = (head + len).div_ceil(T::BITS as usize);

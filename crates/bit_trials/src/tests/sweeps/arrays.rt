@@ -1,7 +1,7 @@
 //! Arrays of one to three words, by four orders, beside plain loops over lists.
 use crate::tests::ok;
 use crate::tests::orders::{Scramble, Xor4};
-use crate::tests::sweeps::row_of;
+use crate::tests::sweeps::{By, row_of};
 use bit_addressing::{BitOrder, Lsb0, Msb0};
 use bit_array::{BitArray, BitViewSized};
 use std::process::Abort;
@@ -14,38 +14,69 @@ fn list_of<A: BitViewSized, O: BitOrder>(
     row_of::<A::Store, O>(rt, a.as_raw_slice())
 }
 
-/// Whether every call that reads says that the array has these bits.
-fn shows<A: BitViewSized, O: BitOrder>(a: &BitArray<A, O>, list: &[bool]) -> bool {
-    let mut same = a.len() == list.len() && a.is_empty() == list.is_empty() && a.head() == 0;
-    let (mut ones, mut left) = (0usize, a.iter());
+/// Whether the items of an array, by their index, are these bits, and none follows.
+fn holds<A: BitViewSized, O: BitOrder>(a: &BitArray<A, O>, list: &[bool]) -> bool {
+    let mut same = a.get(list.len()).is_none();
     for (i, bit) in list.iter().enumerate() {
-        ones = ones.wrapping_add(*bit as usize);
-        same = same && a.get(i) == Some(*bit) && left.next() == Some(*bit);
-        same = same && i < a.len() && a[i] == *bit;
+        same = same && a.get(i) == Some(*bit) && i < a.len() && a[i] == *bit;
     }
-    same = same && left.next().is_none() && a.get(list.len()).is_none();
-    same && a.count_ones() == ones
-        && a.first() == list.first().copied()
-        && a.last() == list.last().copied()
+    same
 }
 
-/// One bit written, all bits, and all flipped.
+/// Whether an iterator of an array gives these bits, and then none.
+fn gives<A: BitViewSized, O: BitOrder>(a: &BitArray<A, O>, list: &[bool]) -> bool {
+    let (mut same, mut left) = (true, a.iter());
+    for bit in list {
+        same = same && left.next() == Some(*bit);
+    }
+    same && left.next().is_none()
+}
+
+/// Whether every call that reads says that the array has these bits.
+fn shows<A: BitViewSized, O: BitOrder>(a: &BitArray<A, O>, list: &[bool]) -> bool {
+    let mut ones = 0usize;
+    for bit in list {
+        ones = ones.wrapping_add(*bit as usize);
+    }
+    let same = a.len() == list.len() && a.is_empty() == list.is_empty() && a.head() == 0;
+    let counted = a.count_ones() == ones;
+    let ends = a.first() == list.first().copied() && a.last() == list.last().copied();
+    same && counted && ends && holds(a, list) && gives(a, list)
+}
+
+/// One bit written, in an array and in a list.
+fn set<A: BitViewSized, O: BitOrder>(
+    rt: &(impl Abort + AllocGlobal),
+    a: &mut BitArray<A, O>,
+    list: &mut Vec<bool>,
+    i: usize,
+    bit: bool,
+) {
+    if i < a.len() {
+        a.set(i, bit);
+    }
+    if let Some(item) = list.get_mut(i) {
+        *item = bit;
+    }
+    assert!(rt; list_of(rt, a) == *list);
+}
+
+/// Each bit written.
 fn written<A: BitViewSized, O: BitOrder>(rt: &(impl Abort + AllocGlobal), a: &BitArray<A, O>) {
     let mut a = ok(rt, a.clone());
     let mut list = list_of(rt, &a);
     assert!(rt; shows(&a, &list));
     for i in 0..a.len() {
-        for bit in [false, true] {
-            if i < a.len() {
-                a.set(i, bit);
-            }
-            if let Some(item) = list.get_mut(i) {
-                *item = bit;
-            }
-            assert!(rt; list_of(rt, &a) == list);
-        }
+        set(rt, &mut a, &mut list, i, false);
+        set(rt, &mut a, &mut list, i, true);
     }
     assert!(rt; shows(&a, &list));
+}
+
+/// All bits written, and all flipped.
+fn filled<A: BitViewSized, O: BitOrder>(rt: &(impl Abort + AllocGlobal), a: &BitArray<A, O>) {
+    let mut a = ok(rt, a.clone());
+    a.fill(true);
     a.fill(false);
     assert!(rt; a.count_ones() == 0);
     a.flip_all();
@@ -83,22 +114,39 @@ fn is_moved(before: &[bool], after: &[bool], from: usize, count: usize, dest: us
     same
 }
 
-/// The operators, item by item.
-fn combined<A: BitViewSized, O: BitOrder>(
+/// Two arrays combined by an operator.
+fn operated<A: BitViewSized, O: BitOrder>(
+    a: BitArray<A, O>,
+    b: BitArray<A, O>,
+    by: By,
+) -> BitArray<A, O> {
+    match by {
+        By::And => a & b,
+        By::Or => a | b,
+        By::Xor => a ^ b,
+    }
+}
+
+/// One of the operators, item by item.
+fn combined_by<A: BitViewSized, O: BitOrder>(
     rt: &(impl Abort + AllocGlobal),
     a: &BitArray<A, O>,
     b: &BitArray<A, O>,
+    by: By,
 ) {
-    let both = list_of(rt, &(ok(rt, a.clone()) & ok(rt, b.clone())));
-    let some = list_of(rt, &(ok(rt, a.clone()) | ok(rt, b.clone())));
-    let one = list_of(rt, &(ok(rt, a.clone()) ^ ok(rt, b.clone())));
-    let none = list_of(rt, &!ok(rt, a.clone()));
+    let made = operated(ok(rt, a.clone()), ok(rt, b.clone()), by);
+    let list = list_of(rt, &made);
     for i in 0..a.len() {
-        let (x, y) = (a.get(i) == Some(true), b.get(i) == Some(true));
-        assert!(rt; both.get(i).copied() == Some(x && y));
-        assert!(rt; some.get(i).copied() == Some(x || y));
-        assert!(rt; one.get(i).copied() == Some(x != y));
-        assert!(rt; none.get(i).copied() == Some(!x));
+        let wanted = by.of(a.get(i) == Some(true), b.get(i) == Some(true));
+        assert!(rt; list.get(i).copied() == Some(wanted));
+    }
+}
+
+/// All items flipped by an operator.
+fn flipped<A: BitViewSized, O: BitOrder>(rt: &(impl Abort + AllocGlobal), a: &BitArray<A, O>) {
+    let list = list_of(rt, &!ok(rt, a.clone()));
+    for i in 0..a.len() {
+        assert!(rt; list.get(i).copied() == Some(a.get(i) != Some(true)));
     }
 }
 
@@ -109,8 +157,12 @@ fn every_call<A: BitViewSized, O: BitOrder>(
     b: &BitArray<A, O>,
 ) {
     written(rt, a);
+    filled(rt, a);
     moved(rt, b);
-    combined(rt, a, b);
+    for by in [By::And, By::Or, By::Xor] {
+        combined_by(rt, a, b, by);
+    }
+    flipped(rt, a);
 }
 
 #[test]

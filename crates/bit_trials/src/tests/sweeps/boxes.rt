@@ -5,7 +5,7 @@ mod given;
 
 use crate::tests::ok;
 use crate::tests::orders::{Scramble, Xor4};
-use crate::tests::sweeps::{row_of, words_of};
+use crate::tests::sweeps::{By, row_of, words_of};
 use bit_addressing::{BitOrder, BitStore, Lsb0, Msb0};
 use bit_boxed::BitBox;
 use bit_slice::BitSlice;
@@ -111,27 +111,60 @@ fn is_filled(before: &[bool], after: &[bool], at: usize, n: usize, bit: bool) ->
     same
 }
 
-/// One bit written, and all bits.
-fn written<T: BitStore, O: BitOrder>(rt: &(impl Abort + AllocGlobal), b: &mut BitBox<T, O>) {
+/// That a box whose bits were `before` has the same head and length, and this made of the `n` places from `at` on.
+fn stands<T: BitStore, O: BitOrder>(
+    rt: &(impl Abort + AllocGlobal),
+    b: &BitBox<T, O>,
+    before: &[bool],
+    at: usize,
+    n: usize,
+    made: Made,
+)
+    requires { at + n < 100 }
+{
+    let after = owned(rt, b);
+    assert!(rt; is_made(before, &after, at, n, made));
+    let (head, len) = (b.head(), b.len());
+    assert!(rt; head + len < 100 && shows(b, &after, head, len));
+}
+
+/// One bit written.
+fn set<T: BitStore, O: BitOrder>(
+    rt: &(impl Abort + AllocGlobal),
+    b: &mut BitBox<T, O>,
+    i: usize,
+    bit: bool,
+) {
+    let before = owned(rt, b);
+    let (head, len) = (b.head(), b.len());
+    assert!(rt; i < len && head + len < 100);
+    b.set(i, bit);
+    assert!(rt; b.head() == head && b.len() == len);
+    stands(rt, b, &before, head + i, 1, Made::Bit(bit));
+}
+
+/// All bits written.
+fn filled<T: BitStore, O: BitOrder>(
+    rt: &(impl Abort + AllocGlobal),
+    b: &mut BitBox<T, O>,
+    bit: bool,
+) {
+    let before = owned(rt, b);
     let (head, len) = (b.head(), b.len());
     assert!(rt; head + len < 100);
-    for i in 0..len {
-        for bit in [false, true] {
-            let before = owned(rt, b);
-            assert!(rt; i < b.len());
-            b.set(i, bit);
-            let after = owned(rt, b);
-            assert!(rt; is_made(&before, &after, head + i, 1, Made::Bit(bit)));
-            assert!(rt; shows(b, &after, head, len));
-        }
+    b.fill(bit);
+    assert!(rt; b.head() == head && b.len() == len);
+    stands(rt, b, &before, head, len, Made::Bit(bit));
+}
+
+/// One bit written, and all bits.
+fn written<T: BitStore, O: BitOrder>(rt: &(impl Abort + AllocGlobal), b: &mut BitBox<T, O>) {
+    for i in 0..b.len() {
+        set(rt, b, i, false);
+        set(rt, b, i, true);
     }
-    for bit in [true, false] {
-        let before = owned(rt, b);
-        b.fill(bit);
-        let after = owned(rt, b);
-        assert!(rt; is_made(&before, &after, head, len, Made::Bit(bit)));
-        assert!(rt; shows(b, &after, head, len));
-    }
+    filled(rt, b, true);
+    filled(rt, b, false);
 }
 
 /// Each range that has room at each place, copied there.
@@ -154,36 +187,54 @@ fn moved<T: BitStore, O: BitOrder>(rt: &(impl Abort + AllocGlobal), b: &mut BitB
     assert!(rt; shows(b, &row, head, len));
 }
 
+/// All bits flipped, dead ones too.
+fn flipped<T: BitStore, O: BitOrder>(rt: &(impl Abort + AllocGlobal), b: &mut BitBox<T, O>) {
+    let before = owned(rt, b);
+    let (head, len) = (b.head(), b.len());
+    assert!(rt; before.len() < 100);
+    b.flip_all();
+    assert!(rt; b.head() == head && b.len() == len);
+    stands(rt, b, &before, 0, before.len(), Made::Flipped);
+}
+
+/// All dead bits filled.
+fn dead_filled<T: BitStore, O: BitOrder>(
+    rt: &(impl Abort + AllocGlobal),
+    b: &mut BitBox<T, O>,
+    bit: bool,
+) {
+    let (head, len) = (b.head(), b.len());
+    assert!(rt; head < 8 && len < 18);
+    let before = owned(rt, b);
+    b.fill_uninitialized(bit);
+    let after = owned(rt, b);
+    assert!(rt; is_filled(&before, &after, head, len, bit));
+}
+
+/// The list moved to the beginning of the words.
+fn aligned<T: BitStore, O: BitOrder>(rt: &(impl Abort + AllocGlobal), b: &mut BitBox<T, O>) {
+    let (head, len) = (b.head(), b.len());
+    assert!(rt; head < 8 && len < 18);
+    let before = owned(rt, b);
+    b.force_align();
+    assert!(rt; b.head() == 0 && b.len() == len);
+    stands(rt, b, &before, 0, len, Made::Moved(head));
+}
+
 /// All bits flipped, twice over; dead bits filled; the list moved to the beginning of the words.
 fn worked<T: BitStore, O: BitOrder>(
     rt: &(impl Abort + AllocGlobal),
     b: BitBox<T, O>,
 ) -> BitBox<T, O> {
     let mut b = b;
-    let (head, len) = (b.head(), b.len());
-    assert!(rt; head < 8 && len < 18);
     let before = owned(rt, &b);
-    assert!(rt; before.len() < 300);
-    b.flip_all();
-    let after = owned(rt, &b);
-    assert!(rt; before.len() == after.len());
-    for (old, new) in before.iter().zip(after.iter()) {
-        assert!(rt; old != new);
-    }
-    assert!(rt; shows(&b, &after, head, len));
+    flipped(rt, &mut b);
     let mut b = !b;
     assert!(rt; owned(rt, &b) == before);
     for bit in [true, false, true] {
-        let before = owned(rt, &b);
-        b.fill_uninitialized(bit);
-        let after = owned(rt, &b);
-        assert!(rt; is_filled(&before, &after, head, len, bit));
+        dead_filled(rt, &mut b, bit);
     }
-    let before = owned(rt, &b);
-    b.force_align();
-    let after = owned(rt, &b);
-    assert!(rt; is_made(&before, &after, 0, len, Made::Moved(head)));
-    assert!(rt; shows(&b, &after, 0, len));
+    aligned(rt, &mut b);
     b
 }
 
@@ -211,24 +262,45 @@ fn lent<T: BitStore, O: BitOrder>(rt: &(impl Abort + AllocGlobal), b: &mut BitBo
     assert!(rt; shows(b, &after, head, len));
 }
 
-/// Whether the operators give, of two boxes, what they give bit by bit; each bit outside the left list stays.
+/// Two boxes combined by an operator.
+fn operated<T: BitStore, O: BitOrder>(a: BitBox<T, O>, b: BitBox<T, O>, by: By) -> BitBox<T, O> {
+    match by {
+        By::And => a & b,
+        By::Or => a | b,
+        By::Xor => a ^ b,
+    }
+}
+
+/// Whether `after` is the row `before`, with the `len` bits from `head` on combined with those of a box.
+fn is_combined<T: BitStore, O: BitOrder>(
+    before: &[bool],
+    after: &[bool],
+    head: usize,
+    len: usize,
+    b: &BitBox<T, O>,
+    by: By,
+) -> bool {
+    let mut same = true;
+    for (j, old) in before.iter().enumerate() {
+        let mut wanted = *old;
+        if head <= j && j - head < len {
+            wanted = by.of(*old, b.get(j - head).unwrap_or(false));
+        }
+        same = same && after.get(j).copied() == Some(wanted);
+    }
+    same
+}
+
+/// That the operators give, of two boxes, what they give bit by bit; each bit outside the left list stays.
 fn combined<T: BitStore, O: BitOrder>(
     rt: &(impl Abort + AllocGlobal),
     a: &BitBox<T, O>,
     b: &BitBox<T, O>,
 ) {
-    let head = a.head();
     let before = owned(rt, a);
-    let (both, some, one) = (copied(rt, a), copied(rt, a), copied(rt, a));
-    let both = owned(rt, &(both & copied(rt, b)));
-    let some = owned(rt, &(some | copied(rt, b)));
-    let one = owned(rt, &(one ^ copied(rt, b)));
-    for (j, old) in before.iter().enumerate() {
-        let inside = head <= j && j - head < a.len();
-        let new = inside && b.get(j.wrapping_sub(head)).unwrap_or(false);
-        assert!(rt; both.get(j).copied() == Some(*old && (new || !inside)));
-        assert!(rt; some.get(j).copied() == Some(*old || new));
-        assert!(rt; one.get(j).copied() == Some(*old != new));
+    for by in [By::And, By::Or, By::Xor] {
+        let after = owned(rt, &operated(copied(rt, a), copied(rt, b), by));
+        assert!(rt; is_combined(&before, &after, a.head(), a.len(), b, by));
     }
 }
 

@@ -29,30 +29,53 @@ fn joined<T: BitStore, O: BitOrder>(rt: &(impl Abort + AllocGlobal), head: usize
     }
 }
 
-/// Each item taken out, in both ways, and the last one.
-fn taken<T: BitStore, O: BitOrder>(rt: &(impl Abort + AllocGlobal), head: usize, len: usize)
+/// The last item taken out.
+fn popped<T: BitStore, O: BitOrder>(rt: &(impl Abort + AllocGlobal), head: usize, len: usize)
     requires head { head < 8 }
     requires len { len < 18 }
 {
     let Case { mut v, list, row } = at_head::<T, O>(rt, SEED, head, len);
-    let last = list.last().copied();
-    assert!(rt; v.pop() == last);
-    let front = len.saturating_sub(1);
-    let wanted = replaced(rt, &list, front, len, &[]);
+    assert!(rt; v.pop() == list.last().copied());
+    let wanted = replaced(rt, &list, len.saturating_sub(1), len, &[]);
     assert!(rt; shows(rt, &v, head, &wanted, &row));
-    for at in 0..len {
-        let Case { mut v, list, .. } = at_head::<T, O>(rt, SEED, head, len);
-        assert!(rt; at < v.len());
-        assert!(rt; Some(v.remove(at)) == list.get(at).copied());
-        let wanted = replaced(rt, &list, at, at + 1, &[]);
-        assert!(rt; same(&v, head, &wanted));
-        let Case { mut v, list, .. } = at_head::<T, O>(rt, SEED, head, len);
-        assert!(rt; at < v.len());
-        assert!(rt; Some(v.swap_remove(at)) == list.get(at).copied());
-        let wanted = replaced(rt, &list, at, at + 1, &[last.unwrap_or(false)]);
-        let wanted = replaced(rt, &wanted, front, len, &[]);
-        assert!(rt; same(&v, head, &wanted));
-    }
+}
+
+/// An item taken out.
+fn removed<T: BitStore, O: BitOrder>(
+    rt: &(impl Abort + AllocGlobal),
+    head: usize,
+    len: usize,
+    at: usize,
+)
+    requires head { head < 8 }
+    requires len { len < 18 }
+    requires at { at < len }
+{
+    let Case { mut v, list, .. } = at_head::<T, O>(rt, SEED, head, len);
+    assert!(rt; at < v.len());
+    assert!(rt; Some(v.remove(at)) == list.get(at).copied());
+    let wanted = replaced(rt, &list, at, at + 1, &[]);
+    assert!(rt; same(&v, head, &wanted));
+}
+
+/// An item taken out, and the last one put in its place.
+fn swapped_out<T: BitStore, O: BitOrder>(
+    rt: &(impl Abort + AllocGlobal),
+    head: usize,
+    len: usize,
+    at: usize,
+)
+    requires head { head < 8 }
+    requires len { len < 18 }
+    requires at { at < len }
+{
+    let Case { mut v, list, .. } = at_head::<T, O>(rt, SEED, head, len);
+    assert!(rt; at < v.len());
+    assert!(rt; Some(v.swap_remove(at)) == list.get(at).copied());
+    let last = list.last().copied().unwrap_or(false);
+    let wanted = replaced(rt, &list, at, at + 1, &[last]);
+    let wanted = replaced(rt, &wanted, len - 1, len, &[]);
+    assert!(rt; same(&v, head, &wanted));
 }
 
 /// The list cut at each place, and past its end.
@@ -72,7 +95,7 @@ fn cut<T: BitStore, O: BitOrder>(rt: &(impl Abort + AllocGlobal), head: usize, l
     assert!(rt; shows(rt, &v, head, &[], &row) && v.is_empty());
 }
 
-/// Each item written, in both ways, and exchanged with each other one.
+/// Each item written, in both ways.
 fn written<T: BitStore, O: BitOrder>(rt: &(impl Abort + AllocGlobal), head: usize, len: usize)
     requires head { head < 8 }
     requires len { len < 18 }
@@ -80,14 +103,14 @@ fn written<T: BitStore, O: BitOrder>(rt: &(impl Abort + AllocGlobal), head: usiz
     let Case { mut v, list, row } = at_head::<T, O>(rt, SEED, head, len);
     let mut now = list;
     for at in 0..len {
-        for bit in [true, false] {
-            let new = replaced(rt, &now, at, at + 1, &[bit]);
+        for (bit, replaces) in [(true, true), (false, true), (true, false), (false, false)] {
             assert!(rt; at < v.len());
-            assert!(rt; Some(v.replace(at, bit)) == now.get(at).copied());
-            assert!(rt; shows(rt, &v, head, &new, &row));
-            now = replaced(rt, &new, at, at + 1, &[!bit]);
-            assert!(rt; at < v.len());
-            v.set(at, !bit);
+            if replaces {
+                assert!(rt; Some(v.replace(at, bit)) == now.get(at).copied());
+            } else {
+                v.set(at, bit);
+            }
+            now = replaced(rt, &now, at, at + 1, &[bit]);
             assert!(rt; shows(rt, &v, head, &now, &row));
         }
     }
@@ -117,7 +140,11 @@ fn edited<T: BitStore, O: BitOrder>(rt: &(impl Abort + AllocGlobal), head: usize
     requires len { len < 18 }
 {
     joined::<T, O>(rt, head, len);
-    taken::<T, O>(rt, head, len);
+    popped::<T, O>(rt, head, len);
+    for at in 0..len {
+        removed::<T, O>(rt, head, len, at);
+        swapped_out::<T, O>(rt, head, len, at);
+    }
     cut::<T, O>(rt, head, len);
     written::<T, O>(rt, head, len);
     exchanged::<T, O>(rt, head, len);

@@ -4,63 +4,120 @@ ghost use Rattle.std.specs.Prelude.{◌<◌};
 use crate::tests::ok;
 use crate::tests::orders::{Scramble, Xor4};
 use crate::tests::sweeps::{Case, at_head, part, replaced, row_of, shows, words_of};
-use bit_containers::{BitOrder, BitStore, Lsb0, Msb0};
+use bit_containers::{BitOrder, BitStore, BitVec, Lsb0, Msb0};
 use std::process::Abort;
 
 const SEED: u64 = 0x1234_5678_9abc_def1;
 
 const OTHER: u64 = 0x0fed_cba9_8765_4321;
 
-/// Another list appended: pulled, as a view by other words and another order, and as a vector that is emptied.
+/// Appends another list: pulled, as a view by other words and another order, or as a vector that is emptied.
+fn extend<T: BitStore, O: BitOrder>(
+    rt: &(impl Abort + AllocGlobal),
+    v: &mut BitVec<T, O>,
+    other: &mut Case<u16, Msb0>,
+    way: u8,
+) {
+    match way {
+        0 => ok(rt, v.extend(part(rt, &other.list, 0, other.list.len()))),
+        1 => ok(rt, v.extend_from_bitslice(other.v.as_bitslice())),
+        2 => ok(rt, v.extend_from_slice(other.v.as_bitslice())),
+        _ => ok(rt, v.append(&mut other.v)),
+    }
+}
+
+/// Another list appended in one of four ways.
+fn extended_in<T: BitStore, O: BitOrder>(
+    rt: &(impl Abort + AllocGlobal),
+    head: usize,
+    len: usize,
+    other: &mut Case<u16, Msb0>,
+    way: u8,
+)
+    requires head { head < 8 }
+    requires len { len < 18 }
+{
+    let Case { mut v, list, row } = at_head::<T, O>(rt, SEED, head, len);
+    extend(rt, &mut v, other, way);
+    let wanted = replaced(rt, &list, len, len, &other.list);
+    assert!(rt; shows(rt, &v, head, &wanted, &row), "way {way}");
+}
+
+/// Another list appended in each way, the last of which empties it.
 fn extended<T: BitStore, O: BitOrder>(rt: &(impl Abort + AllocGlobal), head: usize, len: usize)
     requires head { head < 8 }
     requires len { len < 18 }
 {
     for more in 0..18usize {
-        let mut other = at_head::<u16, Msb0>(rt, OTHER, (5 * head + more) % 16, more);
-        for way in 0..4u8 {
-            let Case { mut v, list, row } = at_head::<T, O>(rt, SEED, head, len);
-            match way {
-                0 => ok(rt, v.extend(part(rt, &other.list, 0, more))),
-                1 => ok(rt, v.extend_from_bitslice(other.v.as_bitslice())),
-                2 => ok(rt, v.extend_from_slice(other.v.as_bitslice())),
-                _ => ok(rt, v.append(&mut other.v)),
-            }
-            let wanted = replaced(rt, &list, len, len, &other.list);
-            assert!(rt; shows(rt, &v, head, &wanted, &row), "way {way}");
-        }
         let emptied = (5 * head + more) % 16;
+        let mut other = at_head::<u16, Msb0>(rt, OTHER, emptied, more);
+        for way in 0..4u8 {
+            extended_in::<T, O>(rt, head, len, &mut other, way);
+        }
         assert!(rt; shows(rt, &other.v, emptied, &[], &other.row));
     }
 }
 
-/// The length set, by one bit and by the results of a function, which is called at each new index in turn.
+/// Whether each number from one up to another is three times one.
+fn thirds(rt: &(impl Abort + AllocGlobal), from: usize, upto: usize) -> Vec<bool> {
+    let mut items = Vec::new(rt.alloc());
+    for i in from..upto {
+        ok(rt, items.push(i % 3 == 0));
+    }
+    items
+}
+
+/// The length set, by the results of a function, which is called at each new index in turn.
+fn resized_by_calls<T: BitStore, O: BitOrder>(
+    rt: &(impl Abort + AllocGlobal),
+    head: usize,
+    len: usize,
+    n: usize,
+)
+    requires head { head < 8 }
+    requires len { len < 18 }
+{
+    let Case { mut v, list, row } = at_head::<T, O>(rt, SEED, head, len);
+    let (mut next, mut ordered) = (len, true);
+    let outcome = v.resize_with(n, |i| {
+        ordered = ordered && i == next;
+        next = next.wrapping_add(1);
+        i % 3 == 0
+    });
+    ok(rt, outcome);
+    assert!(rt; ordered && next == len.max(n));
+    let wanted = replaced(rt, &list, n, len, &thirds(rt, len, n));
+    assert!(rt; shows(rt, &v, head, &wanted, &row));
+}
+
+/// The length set, by one bit.
+fn resized_by_ones<T: BitStore, O: BitOrder>(
+    rt: &(impl Abort + AllocGlobal),
+    head: usize,
+    len: usize,
+    n: usize,
+)
+    requires head { head < 8 }
+    requires len { len < 18 }
+{
+    let mut ones = Vec::new(rt.alloc());
+    for _ in len..n {
+        ok(rt, ones.push(true));
+    }
+    let Case { mut v, list, row } = at_head::<T, O>(rt, SEED, head, len);
+    ok(rt, v.resize(n, true));
+    let wanted = replaced(rt, &list, n, len, &ones);
+    assert!(rt; shows(rt, &v, head, &wanted, &row));
+}
+
+/// The length set, to fewer bits and to more.
 fn resized<T: BitStore, O: BitOrder>(rt: &(impl Abort + AllocGlobal), head: usize, len: usize)
     requires head { head < 8 }
     requires len { len < 18 }
 {
     for n in 0..len + 19 {
-        let mut thirds = Vec::new(rt.alloc());
-        let mut ones = Vec::new(rt.alloc());
-        for i in len..n {
-            ok(rt, thirds.push(i % 3 == 0));
-            ok(rt, ones.push(true));
-        }
-        let Case { mut v, list, row } = at_head::<T, O>(rt, SEED, head, len);
-        let (mut next, mut ordered) = (len, true);
-        let outcome = v.resize_with(n, |i| {
-            ordered = ordered && i == next;
-            next = next.wrapping_add(1);
-            i % 3 == 0
-        });
-        ok(rt, outcome);
-        assert!(rt; ordered && next == len.max(n));
-        let wanted = replaced(rt, &list, n, len, &thirds);
-        assert!(rt; shows(rt, &v, head, &wanted, &row));
-        let Case { mut v, list, row } = at_head::<T, O>(rt, SEED, head, len);
-        ok(rt, v.resize(n, true));
-        let wanted = replaced(rt, &list, n, len, &ones);
-        assert!(rt; shows(rt, &v, head, &wanted, &row));
+        resized_by_calls::<T, O>(rt, head, len, n);
+        resized_by_ones::<T, O>(rt, head, len, n);
     }
 }
 

@@ -61,6 +61,29 @@ fn moved<T: BitStore, O: BitOrder>(
     assert!(rt; is_written(&before, &after, dst, &before, src, n, false));
 }
 
+/// Eighty words after a run of their bits is written over by one of others, or combined with it.
+fn written_over<T: BitStore, O: BitOrder, U: BitStore, P: BitOrder>(
+    rt: &impl Abort,
+    words: Vec<T>,
+    at: usize,
+    source: &[U],
+    from: usize,
+    n: usize,
+    flips: bool,
+) -> Vec<T>
+    requires { at + n + from < 10000 }
+{
+    let mut words = words;
+    assert!(rt; words.len() == 80 && source.len() == 80);
+    assert!(rt; at + n <= T::BITS as usize * 80 && from + n <= U::BITS as usize * 80);
+    if flips {
+        combine_bits::<Xor, T, O, U, P>(words.as_mut_slice(), at, source, from, n);
+    } else {
+        copy_bits::<T, O, U, P>(words.as_mut_slice(), at, source, from, n);
+    }
+    words
+}
+
 fn copied<T: BitStore, O: BitOrder, U: BitStore, P: BitOrder>(
     rt: &(impl Abort + AllocGlobal),
     at: usize,
@@ -71,17 +94,11 @@ fn copied<T: BitStore, O: BitOrder, U: BitStore, P: BitOrder>(
     requires { at + n + from < 10000 }
 {
     let source = many_words::<U>(rt, 0xbf58_476d_1ce4_e5b9, 80);
-    let mut words = many_words::<T>(rt, 0x94d0_49bb_1331_11eb, 80);
+    let words = many_words::<T>(rt, 0x94d0_49bb_1331_11eb, 80);
     let before = row_of::<T, O>(rt, words.as_slice());
-    let given = row_of::<U, P>(rt, source.as_slice());
-    assert!(rt; words.len() == 80 && source.len() == 80);
-    assert!(rt; at + n <= T::BITS as usize * 80 && from + n <= U::BITS as usize * 80);
-    if flips {
-        combine_bits::<Xor, T, O, U, P>(words.as_mut_slice(), at, source.as_slice(), from, n);
-    } else {
-        copy_bits::<T, O, U, P>(words.as_mut_slice(), at, source.as_slice(), from, n);
-    }
+    let words = written_over::<T, O, U, P>(rt, words, at, source.as_slice(), from, n, flips);
     let after = row_of::<T, O>(rt, words.as_slice());
+    let given = row_of::<U, P>(rt, source.as_slice());
     assert!(rt; is_written(&before, &after, at, &given, from, n, flips));
 }
 

@@ -48,24 +48,40 @@ fn repeated<T: BitStore, O: BitOrder>(rt: &(impl Abort + AllocGlobal), len: usiz
     assert!(rt; v.capacity() >= len && shows(rt, &v, 0, &[], &[]));
 }
 
+/// That a vector holds all bits of these words, and hands the words back.
+fn hands_back<T: BitStore, O: BitOrder>(
+    rt: &(impl Abort + AllocGlobal),
+    v: BitVec<T, O>,
+    words: &[T],
+) {
+    let row = row_of::<T, O>(rt, words);
+    assert!(rt; shows(rt, &v, 0, &row, &[]));
+    let back = v.into_vec();
+    assert!(rt; row_of::<T, O>(rt, back.as_slice()) == row);
+}
+
+/// All bits of some words, kept.
+fn of_kept_words<T: BitStore, O: BitOrder>(rt: &(impl Abort + AllocGlobal), words: &[T]) {
+    let owned = ok(rt, Vec::from_slice(rt.alloc(), words));
+    match BitVec::<T, O>::try_from_vec(owned) {
+        Ok(v) => hands_back(rt, v, words),
+        Err(_) => panic!(rt; "some words have few bits"),
+    }
+}
+
 /// All bits of some words: copied, kept, pulled, and handed back.
 fn of_words<T: BitStore, O: BitOrder>(rt: &(impl Abort + AllocGlobal)) {
     let mut words = words_of::<T>(rt, SEED);
     for _ in 0..5u8 {
-        let row = row_of::<T, O>(rt, words.as_slice());
-        let owned = ok(rt, Vec::from_slice(rt.alloc(), words.as_slice()));
+        let copied = ok(
+            rt,
+            BitVec::<T, O>::try_from_slice(rt.alloc(), words.as_slice()),
+        );
+        hands_back(rt, copied, words.as_slice());
         let again = ok(rt, Vec::from_slice(rt.alloc(), words.as_slice()));
-        let kept = BitVec::<T, O>::try_from_vec(owned);
-        assert!(rt; kept.is_ok());
-        for v in [
-            ok(rt, BitVec::try_from_slice(rt.alloc(), words.as_slice())),
-            ok(rt, BitVec::from_words(rt.alloc(), again)),
-            kept.unwrap_or(BitVec::new(rt.alloc())),
-        ] {
-            assert!(rt; shows(rt, &v, 0, &row, &[]));
-            let back = v.into_vec();
-            assert!(rt; row_of::<T, O>(rt, back.as_slice()) == row);
-        }
+        let pulled = ok(rt, BitVec::<T, O>::from_words(rt.alloc(), again));
+        hands_back(rt, pulled, words.as_slice());
+        of_kept_words::<T, O>(rt, words.as_slice());
         let _last = words.pop();
     }
 }

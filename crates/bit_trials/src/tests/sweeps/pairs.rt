@@ -3,8 +3,8 @@ ghost use Rattle.std.specs.Prelude.{◌<◌};
 
 use crate::tests::ok;
 use crate::tests::orders::{Scramble, Xor4};
-use crate::tests::sweeps::{Case, at_head, part, replaced, shows};
-use bit_containers::{BitOrder, BitStore, BitVec, Lsb0, Msb0};
+use crate::tests::sweeps::{By, Case, at_head, part, replaced, shows};
+use bit_containers::{BitOrder, BitSlice, BitStore, BitVec, Lsb0, Msb0};
 use std::cmp::Ordering;
 use std::hash::{DefaultHasher, Hash, Hasher};
 use std::process::Abort;
@@ -13,29 +13,71 @@ const SEED: u64 = 0x1234_5678_9abc_def1;
 
 const OTHER: u64 = 0x0fed_cba9_8765_4321;
 
-/// How two bits are combined.
-#[derive(Clone, Copy)]
-enum By {
-    And,
-    Or,
-    Xor,
-}
-
 /// The left list, with each item combined with that of the right list, or with false past its end.
 fn combined(rt: &(impl Abort + AllocGlobal), left: &[bool], right: &[bool], by: By) -> Vec<bool> {
     let mut bits = Vec::new(rt.alloc());
     for (i, bit) in left.iter().enumerate() {
         let other = right.get(i).copied().unwrap_or(false);
-        ok(
-            rt,
-            bits.push(match by {
-                By::And => *bit && other,
-                By::Or => *bit || other,
-                By::Xor => *bit != other,
-            }),
-        );
+        ok(rt, bits.push(by.of(*bit, other)));
     }
     bits
+}
+
+/// A vector combined with another by an operator that gives a new one.
+fn by_operator<T: BitStore, O: BitOrder>(
+    v: BitVec<T, O>,
+    right: BitVec<T, O>,
+    by: By,
+) -> BitVec<T, O> {
+    match by {
+        By::And => v & right,
+        By::Or => v | right,
+        By::Xor => v ^ right,
+    }
+}
+
+/// A vector combined with another by an operator that changes it.
+fn by_assignment<T: BitStore, O: BitOrder>(v: &mut BitVec<T, O>, right: BitVec<T, O>, by: By) {
+    match by {
+        By::And => *v &= right,
+        By::Or => *v |= right,
+        By::Xor => *v ^= right,
+    }
+}
+
+/// A vector combined with a view of any type.
+fn by_view<T: BitStore, O: BitOrder, U: BitStore, P: BitOrder>(
+    v: &mut BitVec<T, O>,
+    view: BitSlice<'_, U, P>,
+    by: By,
+) {
+    match by {
+        By::And => v.and_bits(view),
+        By::Or => v.or_bits(view),
+        By::Xor => v.xor_bits(view),
+    }
+}
+
+/// Two vectors combined in one of three ways: by an operator, by one that changes the left, and by a call.
+fn operated_in<T: BitStore, O: BitOrder>(
+    rt: &(impl Abort + AllocGlobal),
+    head: usize,
+    len: usize,
+    right: Case<T, O>,
+    by: By,
+    way: u8,
+)
+    requires head { head < 8 }
+    requires len { len < 18 }
+{
+    let Case { mut v, list, row } = at_head::<T, O>(rt, SEED, head, len);
+    let wanted = combined(rt, &list, &right.list, by);
+    match way {
+        0 => v = by_operator(v, right.v, by),
+        1 => by_assignment(&mut v, right.v, by),
+        _ => by_view(&mut v, right.v.as_bitslice(), by),
+    }
+    assert!(rt; shows(rt, &v, head, &wanted, &row), "way {way}");
 }
 
 /// Two vectors combined by the operators, and by the calls that take a view of any type.
@@ -45,27 +87,62 @@ fn operated<T: BitStore, O: BitOrder>(rt: &(impl Abort + AllocGlobal), head: usi
 {
     for size in 0..18usize {
         for by in [By::And, By::Or, By::Xor] {
-            let other = (3 * head + size) % 8;
             for way in 0..3u8 {
-                let Case { mut v, list, row } = at_head::<T, O>(rt, SEED, head, len);
-                let right = at_head::<T, O>(rt, OTHER, other, size);
-                let wanted = combined(rt, &list, &right.list, by);
-                let view = right.v.as_bitslice();
-                match (way, by) {
-                    (0, By::And) => v = v & right.v,
-                    (0, By::Or) => v = v | right.v,
-                    (0, By::Xor) => v = v ^ right.v,
-                    (1, By::And) => v &= right.v,
-                    (1, By::Or) => v |= right.v,
-                    (1, By::Xor) => v ^= right.v,
-                    (_, By::And) => v.and_bits(view),
-                    (_, By::Or) => v.or_bits(view),
-                    (_, By::Xor) => v.xor_bits(view),
-                }
-                assert!(rt; shows(rt, &v, head, &wanted, &row), "way {way}");
+                let right = at_head::<T, O>(rt, OTHER, (3 * head + size) % 8, size);
+                operated_in(rt, head, len, right, by, way);
             }
         }
     }
+}
+
+/// A list combined with a view by other words and another order.
+fn crossed_by<T: BitStore, O: BitOrder>(
+    rt: &(impl Abort + AllocGlobal),
+    head: usize,
+    len: usize,
+    right: &Case<u16, Msb0>,
+    by: By,
+)
+    requires head { head < 8 }
+    requires len { len < 18 }
+{
+    let Case { mut v, list, row } = at_head::<T, O>(rt, SEED, head, len);
+    by_view(&mut v, right.v.as_bitslice(), by);
+    let wanted = combined(rt, &list, &right.list, by);
+    assert!(rt; shows(rt, &v, head, &wanted, &row));
+}
+
+/// A list beside one by other words and another order.
+fn set_beside<T: BitStore, O: BitOrder>(
+    rt: &(impl Abort + AllocGlobal),
+    head: usize,
+    len: usize,
+    right: &Case<u16, Msb0>,
+)
+    requires head { head < 8 }
+    requires len { len < 18 }
+{
+    let Case { v, list, .. } = at_head::<T, O>(rt, SEED, head, len);
+    let order = order_of(&list, &right.list);
+    assert!(rt; v.cmp_bits(right.v.as_bitslice()) == order);
+    assert!(rt; v.eq_bits(right.v.as_bitslice()) == (order == Ordering::Equal));
+}
+
+/// A list written over by one as long, by other words and another order.
+fn written_over<T: BitStore, O: BitOrder>(
+    rt: &(impl Abort + AllocGlobal),
+    head: usize,
+    len: usize,
+    right: &Case<u16, Msb0>,
+)
+    requires head { head < 8 }
+    requires len { len < 18 }
+{
+    let Case { mut v, row, .. } = at_head::<T, O>(rt, SEED, head, len);
+    assert!(rt; v.len() == right.v.len());
+    v.clone_from_bitslice(right.v.as_bitslice());
+    assert!(rt; shows(rt, &v, head, &right.list, &row));
+    assert!(rt; v.eq_bits(right.v.as_bitslice()));
 }
 
 /// A list combined with, and written over by, a view by other words and another order.
@@ -76,23 +153,11 @@ fn crossed<T: BitStore, O: BitOrder>(rt: &(impl Abort + AllocGlobal), head: usiz
     for size in 0..18usize {
         let right = at_head::<u16, Msb0>(rt, OTHER, (5 * head + size) % 16, size);
         for by in [By::And, By::Or, By::Xor] {
-            let Case { mut v, list, row } = at_head::<T, O>(rt, SEED, head, len);
-            match by {
-                By::And => v.and_bits(right.v.as_bitslice()),
-                By::Or => v.or_bits(right.v.as_bitslice()),
-                By::Xor => v.xor_bits(right.v.as_bitslice()),
-            }
-            let wanted = combined(rt, &list, &right.list, by);
-            assert!(rt; shows(rt, &v, head, &wanted, &row));
+            crossed_by::<T, O>(rt, head, len, &right, by);
         }
-        let Case { mut v, list, row } = at_head::<T, O>(rt, SEED, head, len);
-        let order = order_of(&list, &right.list);
-        assert!(rt; v.cmp_bits(right.v.as_bitslice()) == order);
-        assert!(rt; v.eq_bits(right.v.as_bitslice()) == (order == Ordering::Equal));
-        if v.len() == right.v.len() {
-            v.clone_from_bitslice(right.v.as_bitslice());
-            assert!(rt; shows(rt, &v, head, &right.list, &row));
-            assert!(rt; v.eq_bits(right.v.as_bitslice()));
+        set_beside::<T, O>(rt, head, len, &right);
+        if size == len {
+            written_over::<T, O>(rt, head, len, &right);
         }
     }
 }

@@ -33,8 +33,45 @@ const WAYS: [Left; 7] = [
     Left::PastTheBeginning,
 ];
 
-/// Whether a drain gives the bits of its range, as far as it is asked for them.
-fn drains<T: BitStore, O: BitOrder>(
+/// Whether a range gives these bits, each once.
+fn gives_all<T: BitStore, O: BitOrder>(
+    v: &mut BitVec<T, O>,
+    from: usize,
+    upto: usize,
+    bits: &[bool],
+) -> bool
+    requires ordered { from ≤ upto }
+    requires within { upto ≤ length v.old.list }
+{
+    let drain = v.drain(from..upto);
+    let mut right = drain.len() == bits.len();
+    for (i, bit) in drain.enumerate() {
+        right = right && bits.get(i) == Some(&bit);
+    }
+    right
+}
+
+/// Whether a range gives these bits from the end, each once.
+fn gives_all_back<T: BitStore, O: BitOrder>(
+    v: &mut BitVec<T, O>,
+    from: usize,
+    upto: usize,
+    bits: &[bool],
+) -> bool
+    requires ordered { from ≤ upto }
+    requires within { upto ≤ length v.old.list }
+{
+    let drain = v.drain(from..upto);
+    let mut right = drain.len() == bits.len();
+    for (i, bit) in drain.rev().enumerate() {
+        let last = bits.len().checked_sub(i.wrapping_add(1));
+        right = right && last.and_then(|at| bits.get(at)) == Some(&bit);
+    }
+    right
+}
+
+/// Whether a range gives one of these bits, or none past an end.
+fn gives_some<T: BitStore, O: BitOrder>(
     v: &mut BitVec<T, O>,
     from: usize,
     upto: usize,
@@ -45,30 +82,54 @@ fn drains<T: BitStore, O: BitOrder>(
     requires within { upto ≤ length v.old.list }
 {
     let mut drain = v.drain(from..upto);
-    let mut right = drain.len() == bits.len();
-    match left {
-        Left::AtOnce => {}
-        Left::AfterTheFirst => right = right && drain.next() == bits.first().copied(),
-        Left::AfterTheLast => right = right && drain.next_back() == bits.last().copied(),
-        Left::AfterAll => {
-            for (i, bit) in drain.enumerate() {
-                right = right && bits.get(i) == Some(&bit);
-            }
-        }
-        Left::AfterAllFromTheEnd => {
-            for (i, bit) in drain.rev().enumerate() {
-                let last = bits.len().checked_sub(i.wrapping_add(1));
-                right = right && last.and_then(|at| bits.get(at)) == Some(&bit);
-            }
-        }
-        Left::PastTheEnd => {
-            right = right && drain.nth(bits.len()).is_none() && drain.next_back().is_none();
-        }
-        Left::PastTheBeginning => {
-            right = right && drain.nth_back(bits.len()).is_none() && drain.next().is_none();
-        }
+    let n = bits.len();
+    if drain.len() != n {
+        return false;
     }
-    right
+    match left {
+        Left::AfterTheFirst => drain.next() == bits.first().copied(),
+        Left::AfterTheLast => drain.next_back() == bits.last().copied(),
+        Left::PastTheEnd => drain.nth(n).is_none() && drain.next_back().is_none(),
+        Left::PastTheBeginning => drain.nth_back(n).is_none() && drain.next().is_none(),
+        _ => true,
+    }
+}
+
+/// Whether a range gives its bits, as far as it is asked for them.
+fn gives<T: BitStore, O: BitOrder>(
+    v: &mut BitVec<T, O>,
+    from: usize,
+    upto: usize,
+    bits: &[bool],
+    left: Left,
+) -> bool
+    requires ordered { from ≤ upto }
+    requires within { upto ≤ length v.old.list }
+{
+    match left {
+        Left::AfterAll => gives_all(v, from, upto, bits),
+        Left::AfterAllFromTheEnd => gives_all_back(v, from, upto, bits),
+        _ => gives_some(v, from, upto, bits, left),
+    }
+}
+
+/// A range drained, as far as one way goes.
+fn drained_in<T: BitStore, O: BitOrder>(
+    rt: &(impl Abort + AllocGlobal),
+    v: &BitVec<T, O>,
+    list: &[bool],
+    from: usize,
+    upto: usize,
+    left: Left,
+)
+    requires { from ≤ upto }
+{
+    let bits = part(rt, list, from, upto);
+    let wanted = replaced(rt, list, from, upto, &[]);
+    let mut copy = again(rt, v);
+    assert!(rt; upto <= copy.len());
+    assert!(rt; gives(&mut copy, from, upto, &bits, left));
+    assert!(rt; same(&copy, v.head(), &wanted));
 }
 
 /// Each range drained, in turn as far as each way goes.
@@ -77,20 +138,35 @@ fn drained<T: BitStore, O: BitOrder>(rt: &(impl Abort + AllocGlobal), head: usiz
     requires len { len < 18 }
 {
     let Case { v: first, list, .. } = at_head::<T, O>(rt, SEED, head, len);
+    assert!(rt; first.head() == head);
     for from in 0..len + 1 {
         for upto in from..len + 1 {
-            let bits = part(rt, &list, from, upto);
-            let wanted = replaced(rt, &list, from, upto, &[]);
             for (turn, left) in WAYS.iter().enumerate() {
                 if turn % 2 == (head + from + upto) % 2 {
-                    let mut v = again(rt, &first);
-                    assert!(rt; upto <= v.len());
-                    assert!(rt; drains(&mut v, from, upto, &bits, *left));
-                    assert!(rt; same(&v, head, &wanted));
+                    drained_in(rt, &first, &list, from, upto, *left);
                 }
             }
         }
     }
+}
+
+/// A range replaced by a list.
+fn spliced_in<T: BitStore, O: BitOrder>(
+    rt: &(impl Abort + AllocGlobal),
+    v: &BitVec<T, O>,
+    list: &[bool],
+    from: usize,
+    upto: usize,
+    by: &[bool],
+)
+    requires { from ≤ upto }
+{
+    let wanted = replaced(rt, list, from, upto, by);
+    let bits = part(rt, by, 0, by.len());
+    let mut copy = again(rt, v);
+    assert!(rt; upto <= copy.len());
+    ok(rt, copy.splice(from..upto, bits).finish());
+    assert!(rt; same(&copy, v.head(), &wanted));
 }
 
 /// Each range replaced by lists of several lengths.
@@ -99,15 +175,12 @@ fn spliced<T: BitStore, O: BitOrder>(rt: &(impl Abort + AllocGlobal), head: usiz
     requires len { len < 18 }
 {
     let Case { v: first, list, .. } = at_head::<T, O>(rt, SEED, head, len);
+    assert!(rt; first.head() == head);
     for more in [0usize, 1, 2, 7, 17] {
         let other = at_head::<u16, Msb0>(rt, OTHER, head, more).list;
         for from in 0..len + 1 {
             for upto in from..len + 1 {
-                let mut v = again(rt, &first);
-                let wanted = replaced(rt, &list, from, upto, &other);
-                assert!(rt; upto <= v.len());
-                ok(rt, v.splice(from..upto, ok(rt, other.clone())).finish());
-                assert!(rt; same(&v, head, &wanted));
+                spliced_in(rt, &first, &list, from, upto, &other);
             }
         }
     }
@@ -129,25 +202,72 @@ fn split<T: BitStore, O: BitOrder>(rt: &(impl Abort + AllocGlobal), head: usize,
     }
 }
 
+/// A range copied to a place.
+fn moved_to<T: BitStore, O: BitOrder>(
+    rt: &(impl Abort + AllocGlobal),
+    v: &BitVec<T, O>,
+    list: &[bool],
+    from: usize,
+    upto: usize,
+    dest: usize,
+)
+    requires ordered { from ≤ upto }
+    requires range { upto < 18 }
+    requires place { dest < 18 }
+{
+    let bits = part(rt, list, from, upto);
+    let wanted = replaced(rt, list, dest, dest + (upto - from), &bits);
+    let mut copy = again(rt, v);
+    assert!(rt; upto <= copy.len() && dest <= copy.len() - (upto - from));
+    copy.copy_within(from..upto, dest);
+    assert!(rt; shows(rt, &copy, v.head(), &wanted, &[true; 40]));
+}
+
 /// Each range copied to each place that has room for it.
 fn moved<T: BitStore, O: BitOrder>(rt: &(impl Abort + AllocGlobal), head: usize, len: usize)
     requires head { head < 8 }
     requires len { len < 18 }
 {
     let Case { v: first, list, .. } = at_head::<T, O>(rt, SEED, head, len);
+    assert!(rt; first.head() == head);
     for from in 0..len + 1 {
         for upto in from..len + 1 {
-            let bits = part(rt, &list, from, upto);
             for dest in 0..len - (upto - from) + 1 {
-                let mut v = again(rt, &first);
-                assert!(rt; upto <= v.len() && dest <= v.len() - (upto - from));
-                v.copy_within(from..upto, dest);
-                let end = dest + (upto - from);
-                let wanted = replaced(rt, &list, dest, end, &bits);
-                assert!(rt; shows(rt, &v, head, &wanted, &[true; 40]));
+                moved_to(rt, &first, &list, from, upto, dest);
             }
         }
     }
+}
+
+/// The items of a list that are as the digit of a pattern at their index.
+fn kept(rt: &(impl Abort + AllocGlobal), list: &[bool], pattern: u32) -> Vec<bool> {
+    let mut items = Vec::new(rt.alloc());
+    for (i, bit) in list.iter().enumerate() {
+        if *bit == (pattern.wrapping_shr((i % 32) as u32) % 2 == 1) {
+            ok(rt, items.push(*bit));
+        }
+    }
+    items
+}
+
+/// Items kept by one pattern.
+fn retained_by<T: BitStore, O: BitOrder>(
+    rt: &(impl Abort + AllocGlobal),
+    head: usize,
+    len: usize,
+    pattern: u32,
+)
+    requires head { head < 8 }
+    requires len { len < 18 }
+{
+    let Case { mut v, list, .. } = at_head::<T, O>(rt, SEED, head, len);
+    let (mut next, mut ordered) = (0usize, true);
+    v.retain(|i, bit| {
+        ordered = ordered && i == next;
+        next = next.wrapping_add(1);
+        *bit == (pattern.wrapping_shr((i % 32) as u32) % 2 == 1)
+    });
+    assert!(rt; ordered && next == len && same(&v, head, &kept(rt, &list, pattern)));
 }
 
 /// Items kept by their index and their bit; the function is called at each in turn.
@@ -162,20 +282,7 @@ fn retained<T: BitStore, O: BitOrder>(rt: &(impl Abort + AllocGlobal), head: usi
         0x0000_ff0f,
         0x9249_2492,
     ] {
-        let Case { mut v, list, .. } = at_head::<T, O>(rt, SEED, head, len);
-        let mut wanted = Vec::new(rt.alloc());
-        for (i, bit) in list.iter().enumerate() {
-            if *bit == (pattern.wrapping_shr((i % 32) as u32) % 2 == 1) {
-                ok(rt, wanted.push(*bit));
-            }
-        }
-        let (mut next, mut ordered) = (0usize, true);
-        v.retain(|i, bit| {
-            ordered = ordered && i == next;
-            next = next.wrapping_add(1);
-            *bit == (pattern.wrapping_shr((i % 32) as u32) % 2 == 1)
-        });
-        assert!(rt; ordered && next == len && same(&v, head, &wanted));
+        retained_by::<T, O>(rt, head, len, pattern);
     }
 }
 

@@ -1,5 +1,5 @@
 //! What is read of a list: items, counts, parts, iterators and texts.
-ghost use Rattle.std.specs.Prelude.{◌<◌};
+ghost use Rattle.std.specs.Prelude.{◌<◌, ◌≤◌};
 
 use crate::tests::ok;
 use crate::tests::orders::{Scramble, Xor4};
@@ -10,30 +10,44 @@ use std::process::Abort;
 
 const SEED: u64 = 0x2f81_c6b4_09e7_d35a;
 
-/// Whether the counts and the ends of a vector, its items by index, and those of its iterators are those of a list.
-fn told<T: BitStore, O: BitOrder>(v: &BitVec<T, O>, list: &[bool]) -> bool {
-    let (mut ones, mut zeros) = (0usize, 0usize);
-    let (mut forth, mut right) = (v.iter(), v.is_empty() == list.is_empty());
+/// Whether the items of a vector, by their index and of its iterator, are those of a list.
+fn gives<T: BitStore, O: BitOrder>(v: &BitVec<T, O>, list: &[bool]) -> bool {
+    let (mut forth, mut right) = (v.iter(), true);
     for (i, bit) in list.iter().enumerate() {
+        right = right && i < v.len() && v[i] == *bit && forth.next() == Some(*bit);
+    }
+    right && forth.next().is_none()
+}
+
+/// Whether the items of a vector from the end are those of a list.
+fn gives_back<T: BitStore, O: BitOrder>(v: &BitVec<T, O>, list: &[bool]) -> bool {
+    let (mut back, mut right) = (list.len(), true);
+    for bit in v.iter().rev() {
+        back = back.wrapping_sub(1);
+        right = right && list.get(back) == Some(&bit);
+    }
+    right && back == 0
+}
+
+/// Whether the counts of a vector are those of a list.
+fn counts<T: BitStore, O: BitOrder>(v: &BitVec<T, O>, list: &[bool]) -> bool {
+    let (mut ones, mut zeros) = (0usize, 0usize);
+    for bit in list {
         if *bit {
             ones = ones.wrapping_add(1);
         } else {
             zeros = zeros.wrapping_add(1);
         }
-        right = right && i < v.len() && v[i] == *bit && forth.next() == Some(*bit);
     }
-    let mut back = list.len();
-    for bit in v.iter().rev() {
-        back = back.wrapping_sub(1);
-        right = right && list.get(back) == Some(&bit);
-    }
-    right
-        && back == 0
-        && forth.next().is_none()
-        && v.first() == list.first().copied()
-        && v.last() == list.last().copied()
-        && (v.count_ones(), v.count_zeros()) == (ones, zeros)
-        && (v.any(), v.all()) == (ones > 0, zeros == 0)
+    let counted = v.count_ones() == ones && v.count_zeros() == zeros;
+    counted && v.any() == (ones > 0) && v.all() == (zeros == 0)
+}
+
+/// Whether the counts and the ends of a vector, its items by index, and those of its iterators are those of a list.
+fn told<T: BitStore, O: BitOrder>(v: &BitVec<T, O>, list: &[bool]) -> bool {
+    let ends = v.first() == list.first().copied() && v.last() == list.last().copied();
+    let empty = v.is_empty() == list.is_empty();
+    ends && empty && counts(v, list) && gives(v, list) && gives_back(v, list)
 }
 
 /// Items passed over from both ends, past the end too, of the lent iterator and of the one that keeps the words.
@@ -63,23 +77,38 @@ fn passed_over<T: BitStore, O: BitOrder>(rt: &(impl Abort + AllocGlobal), head: 
     }
 }
 
+/// A part of a list, as a view of it.
+fn part_told<T: BitStore, O: BitOrder>(
+    rt: &(impl Abort + AllocGlobal),
+    v: &BitVec<T, O>,
+    list: &[bool],
+    from: usize,
+    upto: usize,
+)
+    requires ordered { from ≤ upto }
+    requires few { upto < 18 }
+{
+    let bits = part(rt, list, from, upto);
+    let head = v.head();
+    assert!(rt; upto <= v.len() && head < 8);
+    let view = v.get_range(from..upto);
+    assert!(rt; view.len() == bits.len());
+    assert!(rt; view.head() == (head + from) % T::BITS as usize);
+    for (i, bit) in bits.iter().enumerate() {
+        assert!(rt; view.get(i) == Some(*bit));
+    }
+}
+
 /// Each part of a list, as a view of it.
 fn parts<T: BitStore, O: BitOrder>(rt: &(impl Abort + AllocGlobal), head: usize, len: usize)
     requires head { head < 8 }
     requires len { len < 18 }
 {
     let Case { v, list, .. } = at_head::<T, O>(rt, SEED, head, len);
-    assert!(rt; told(&v, &list));
+    assert!(rt; v.head() == head && told(&v, &list));
     for from in 0..len + 1 {
         for upto in from..len + 1 {
-            assert!(rt; upto <= v.len());
-            let view = v.get_range(from..upto);
-            let bits = part(rt, &list, from, upto);
-            assert!(rt; view.len() == bits.len());
-            assert!(rt; view.head() == (head + from) % T::BITS as usize);
-            for (i, bit) in bits.iter().enumerate() {
-                assert!(rt; view.get(i) == Some(*bit));
-            }
+            part_told(rt, &v, &list, from, upto);
         }
     }
 }

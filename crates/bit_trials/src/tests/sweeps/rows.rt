@@ -110,7 +110,42 @@ fn counted(bits: &[bool], from: usize, n: usize, bit: bool) -> (usize, Option<us
     (ones, first)
 }
 
-fn read<T: BitStore, O: BitOrder, U: BitStore, P: BitOrder>(
+/// The first index at which two rows differ.
+fn compared<T: BitStore, O: BitOrder, U: BitStore, P: BitOrder>(
+    rt: &(impl Abort + AllocGlobal),
+    at: usize,
+    from: usize,
+    n: usize,
+)
+    requires { at + n + from < 100 }
+{
+    let source = words_of::<U>(rt, 0x1234_5678_9abc_def1);
+    let words = words_of::<T>(rt, 0x0fed_cba9_8765_4321);
+    assert!(rt; words.len() == 4 && source.len() == 4);
+    assert!(rt; at + n <= T::BITS as usize * 4 && from + n <= U::BITS as usize * 4);
+    let apart = differ_at::<T, O, U, P>(words.as_slice(), at, source.as_slice(), from, n);
+    let given = row_of::<U, P>(rt, source.as_slice());
+    let own = row_of::<T, O>(rt, words.as_slice());
+    assert!(rt; apart == first_apart(&own, at, &given, from, n));
+}
+
+/// How many bits are true, and the first of each kind.
+fn searched<U: BitStore, P: BitOrder>(rt: &(impl Abort + AllocGlobal), from: usize, n: usize)
+    requires { n + from < 100 }
+{
+    let source = words_of::<U>(rt, 0x1234_5678_9abc_def1);
+    assert!(rt; source.len() == 4 && from + n <= U::BITS as usize * 4);
+    let total = count_bits::<U, P>(source.as_slice(), from, from + n);
+    let given = row_of::<U, P>(rt, source.as_slice());
+    for bit in [false, true] {
+        let (ones, first) = counted(&given, from, n, bit);
+        let found = find_bit::<U, P>(source.as_slice(), from, from + n, bit);
+        assert!(rt; total == ones && found == first);
+    }
+}
+
+/// A run read as a number, and written over another.
+fn chunked<T: BitStore, O: BitOrder, U: BitStore, P: BitOrder>(
     rt: &(impl Abort + AllocGlobal),
     at: usize,
     from: usize,
@@ -120,25 +155,14 @@ fn read<T: BitStore, O: BitOrder, U: BitStore, P: BitOrder>(
 {
     let source = words_of::<U>(rt, 0x1234_5678_9abc_def1);
     let mut words = words_of::<T>(rt, 0x0fed_cba9_8765_4321);
-    assert!(rt; words.len() == 4 && source.len() == 4);
-    assert!(rt; at + n <= T::BITS as usize * 4 && from + n <= U::BITS as usize * 4 && n <= 64);
-    let given = row_of::<U, P>(rt, source.as_slice());
-    let own = row_of::<T, O>(rt, words.as_slice());
-    let apart = differ_at::<T, O, U, P>(words.as_slice(), at, source.as_slice(), from, n);
-    assert!(rt; apart == first_apart(&own, at, &given, from, n));
-    let (ones, set) = counted(&given, from, n, true);
-    let (_, clear) = counted(&given, from, n, false);
-    assert!(rt; count_bits::<U, P>(source.as_slice(), from, from + n) == ones);
-    assert!(rt; find_bit::<U, P>(source.as_slice(), from, from + n, true) == set);
-    assert!(rt; find_bit::<U, P>(source.as_slice(), from, from + n, false) == clear);
+    assert!(rt; words.len() == 4 && source.len() == 4 && n <= 64);
+    assert!(rt; at + n <= T::BITS as usize * 4 && from + n <= U::BITS as usize * 4);
+    let before = row_of::<T, O>(rt, words.as_slice());
     let chunk = read_chunk::<U, P>(source.as_slice(), from, n as u8);
-    assert!(rt; chunk.count_ones() as usize == ones);
     write_chunk::<T, O>(words.as_mut_slice(), at, n as u8, chunk);
+    let given = row_of::<U, P>(rt, source.as_slice());
     let after = row_of::<T, O>(rt, words.as_slice());
-    assert!(rt; is_made(&own, &after, at, &given, from, n, 0));
-    assert!(rt;
-        differ_at::<T, O, U, P>(words.as_slice(), at, source.as_slice(), from, n).is_none()
-    );
+    assert!(rt; is_made(&before, &after, at, &given, from, n, 0));
 }
 
 fn sweep<T: BitStore, O: BitOrder, U: BitStore, P: BitOrder>(rt: &(impl Abort + AllocGlobal)) {
@@ -146,13 +170,15 @@ fn sweep<T: BitStore, O: BitOrder, U: BitStore, P: BitOrder>(rt: &(impl Abort + 
         for n in 0..18usize {
             filled::<T, O>(rt, at, n, false);
             filled::<T, O>(rt, at, n, true);
+            searched::<U, P>(rt, at, n);
         }
         for from in 0..8usize {
             for n in 0..18usize {
                 for make in 0..4u8 {
                     written::<T, O, U, P>(rt, at, from, n, make);
                 }
-                read::<T, O, U, P>(rt, at, from, n);
+                compared::<T, O, U, P>(rt, at, from, n);
+                chunked::<T, O, U, P>(rt, at, from, n);
             }
         }
     }

@@ -11,7 +11,7 @@ const WORDS: [u8; 3] = [0b1101_0010, 0b0001_0111, 0b1010_0100];
 
 const OTHERS: [u16; 2] = [0b0110_1101_0011_1010, 0b1001_0010_1110_0101];
 
-// The first index from `from` on, and the last one, that has a bit.
+/// The first index from `from` on, and the last one, that has a bit.
 fn found<O: BitOrder>(rt: &impl Abort, head: usize, len: usize, bit: bool)
     requires { head + len ≤ 24 }
 {
@@ -51,30 +51,40 @@ fn found<O: BitOrder>(rt: &impl Abort, head: usize, len: usize, bit: bool)
     assert_eq!(rt; runs, (front, back));
 }
 
-// The indices of true and of false bits, from both ends.
-fn indices<O: BitOrder>(rt: &impl Abort, head: usize, len: usize)
+/// The indices of true bits, from the front.
+fn true_indices<O: BitOrder>(rt: &impl Abort, head: usize, len: usize)
     requires { head + len ≤ 24 }
 {
     let words = WORDS;
     let view = BitSlice::<u8, O>::from_slice(&words).get_range(head..head + len);
-    let (mut ones, mut zeros) = (view.iter_ones(), view.iter_zeros());
-    assert_eq!(rt;
-        (ones.len(), zeros.len()),
-        (view.count_ones(), view.count_zeros())
-    );
+    let mut ones = view.iter_ones();
+    assert!(rt; ones.len() == view.count_ones());
     for i in 0..len {
         if view[i] {
-            assert_eq!(rt; ones.next(), Some(i));
-        }
-        if !view[len - 1 - i] {
-            assert_eq!(rt; zeros.next_back(), Some(len - 1 - i));
+            assert!(rt; ones.next() == Some(i));
         }
     }
-    assert_eq!(rt; (ones.next(), ones.next_back()), (None, None));
-    assert_eq!(rt; (zeros.next(), zeros.next_back()), (None, None));
+    assert!(rt; ones.next().is_none() && ones.next_back().is_none());
 }
 
-// Two views as sets, against a loop over the longer.
+/// The indices of false bits, from the end.
+fn false_indices<O: BitOrder>(rt: &impl Abort, head: usize, len: usize)
+    requires { head + len ≤ 24 }
+{
+    let words = WORDS;
+    let view = BitSlice::<u8, O>::from_slice(&words).get_range(head..head + len);
+    let mut zeros = view.iter_zeros();
+    assert!(rt; zeros.len() == view.count_zeros());
+    for i in 0..len {
+        let back = len - 1 - i;
+        if !view[back] {
+            assert!(rt; zeros.next_back() == Some(back));
+        }
+    }
+    assert!(rt; zeros.next().is_none() && zeros.next_back().is_none());
+}
+
+/// Two views as sets, against a loop over the longer.
 fn sets<O: BitOrder, P: BitOrder>(rt: &impl Abort, head: usize, len: usize, other_len: usize)
     requires first { head + len ≤ 24 }
     requires second { other_len ≤ 24 }
@@ -108,41 +118,48 @@ fn sets<O: BitOrder, P: BitOrder>(rt: &impl Abort, head: usize, len: usize, othe
     );
 }
 
-// Bits of a view of three words that were moved: bit `i` of the run is that of index `from(i)` before.
+/// The place in a run that a bit came from, where it is one of the run.
+fn source_of(k: usize, len: usize, by: usize, kind: u8) -> Option<usize>
+    requires run { len ≤ 24 }
+    requires few { by ≤ len }
+    requires within { k < len }
+{
+    match kind {
+        0 => Some(len - 1 - k),
+        1 => if k + by < len {
+            Some(k + by)
+        } else {
+            Some(k + by - len)
+        },
+        2 => if k >= by {
+            Some(k - by)
+        } else {
+            Some(k + len - by)
+        },
+        3 => if k + by < len { Some(k + by) } else { None },
+        _ => if k >= by { Some(k - by) } else { None },
+    }
+}
+
+/// Bits of a view of three words that were moved.
 fn moved<O: BitOrder>(rt: &impl Abort, words: [u8; 3], head: usize, len: usize, by: usize, kind: u8)
     requires run { head + len ≤ 24 }
     requires few { by ≤ len }
 {
     let (old, new) = (bits_of::<O>(WORDS), bits_of::<O>(words));
     for i in 0..24 {
-        if i < head || i >= head + len {
-            assert_eq!(rt; new[i], old[i]);
-            continue;
+        let mut expected = Some(old[i]);
+        if i >= head && i < head + len {
+            expected = match source_of(i - head, len, by, kind) {
+                Some(from) => old.get(head.wrapping_add(from)).copied(),
+                None => Some(false),
+            };
         }
-        let k = i - head;
-        let from = match kind {
-            0 => Some(len - 1 - k),
-            1 => if k + by < len {
-                Some(k + by)
-            } else {
-                Some(k + by - len)
-            },
-            2 => if k >= by {
-                Some(k - by)
-            } else {
-                Some(k + len - by)
-            },
-            3 => if k + by < len { Some(k + by) } else { None },
-            _ => if k >= by { Some(k - by) } else { None },
-        };
-        assert_eq!(rt;
-            Some(new[i]),
-            from.map_or(Some(false), |j| old.get(head + j).copied())
-        );
+        assert!(rt; Some(new[i]) == expected);
     }
 }
 
-// Each move of a view of the bits from `head` on.
+/// Each move of a view of the bits from `head` on.
 fn moves<O: BitOrder>(rt: &impl Abort, head: usize, len: usize, by: usize)
     requires run { head + len ≤ 24 }
     requires few { by ≤ len }
@@ -161,45 +178,83 @@ fn moves<O: BitOrder>(rt: &impl Abort, head: usize, len: usize, by: usize)
     }
 }
 
-// Each change of a part, and of it by another, of a view of three words.
+/// The three words after a part of them is changed by one of the calls that take a range.
+fn changed_in<O: BitOrder>(
+    head: usize,
+    len: usize,
+    right: BitSlice<'_, u16, Msb0>,
+    kind: u8,
+) -> [u8; 3]
+    requires { head + len ≤ 24 }
+{
+    let mut words = WORDS;
+    let mut view = run_mut::<u8, O>(&mut words, 0, 24);
+    let range = head..head + len;
+    match kind {
+        0 => view.fill_range(range, true),
+        1 => view.flip_range(range),
+        2 => view.and_range(range, right),
+        3 => view.or_range(range, right),
+        _ => view.xor_range(range, right),
+    }
+    words
+}
+
+/// The three words after a part of them is changed as a view of its own.
+fn changed_alone<O: BitOrder>(
+    head: usize,
+    len: usize,
+    right: BitSlice<'_, u16, Msb0>,
+    kind: u8,
+) -> [u8; 3]
+    requires { head + len ≤ 24 }
+{
+    let mut words = WORDS;
+    let mut run = run_mut::<u8, O>(&mut words, head, head + len);
+    if kind == 5 {
+        run.and_not_bits(right);
+    } else {
+        run.flip_all();
+    }
+    words
+}
+
+/// What a change makes of a bit, by another.
+fn changed_bit(old: bool, by: bool, kind: u8) -> bool {
+    match kind {
+        0 => true,
+        2 => old && by,
+        3 => old || by,
+        4 => old != by,
+        5 => old && !by,
+        _ => !old,
+    }
+}
+
+/// Each change of a part, and of it by another, of a view of three words.
 fn changes<O: BitOrder>(rt: &impl Abort, head: usize, len: usize)
     requires { head + len ≤ 24 }
 {
     let (old, others) = (bits_of::<O>(WORDS), OTHERS);
     let right = BitSlice::<u16, Msb0>::from_slice(&others).get_range(5..22);
     for kind in 0..7u8 {
-        let mut words = WORDS;
-        let mut view = run_mut::<u8, O>(&mut words, 0, 24);
-        let range = head..head + len;
-        match kind {
-            0 => view.fill_range(range, true),
-            1 => view.flip_range(range),
-            2 => view.and_range(range, right),
-            3 => view.or_range(range, right),
-            4 => view.xor_range(range, right),
-            5 => run_mut::<u8, O>(&mut words, head, head + len).and_not_bits(right),
-            _ => run_mut::<u8, O>(&mut words, head, head + len).flip_all(),
-        }
+        let words = if kind < 5 {
+            changed_in::<O>(head, len, right, kind)
+        } else {
+            changed_alone::<O>(head, len, right, kind)
+        };
         let new = bits_of::<O>(words);
         for i in 0..24 {
-            let there = i >= head && i < head + len;
-            let bit = there && right.get(i.wrapping_sub(head)) == Some(true);
-            let expected = match kind {
-                _ if !there => old[i],
-                0 => true,
-                1 => !old[i],
-                2 => old[i] && bit,
-                3 => old[i] || bit,
-                4 => old[i] != bit,
-                5 => old[i] && !bit,
-                _ => !old[i],
-            };
-            assert_eq!(rt; new[i], expected);
+            let mut expected = old[i];
+            if i >= head && i < head + len {
+                expected = changed_bit(old[i], right.get(i - head) == Some(true), kind);
+            }
+            assert!(rt; new[i] == expected);
         }
     }
 }
 
-// The parts of a view, one after another.
+/// The parts of a view, one after another.
 fn parts<O: BitOrder>(rt: &impl Abort, head: usize, len: usize, size: usize)
     requires run { head + len ≤ 24 }
     requires some { 0 < size }
@@ -235,7 +290,7 @@ fn parts<O: BitOrder>(rt: &impl Abort, head: usize, len: usize, size: usize)
     );
 }
 
-// A view as a number, in both directions.
+/// A view as a number, in both directions.
 fn numbers<O: BitOrder>(rt: &impl Abort, head: usize, len: usize)
     requires { head + len ≤ 24 }
 {
@@ -259,7 +314,7 @@ fn numbers<O: BitOrder>(rt: &impl Abort, head: usize, len: usize)
     assert!(rt; high.get_range(head..head + len) == view);
 }
 
-// Where a part of a view stands first, and a part combined with another of the same view.
+/// Where a part of a view stands first, and a part combined with another of the same view.
 fn found_in<O: BitOrder>(rt: &impl Abort, head: usize, len: usize)
     requires { head + len ≤ 24 }
 {
@@ -289,13 +344,14 @@ fn found_in<O: BitOrder>(rt: &impl Abort, head: usize, len: usize)
     }
 }
 
-// Every call at one head and one length.
+/// Every call at one head and one length.
 fn each<O: BitOrder>(rt: &impl Abort, head: usize, len: usize)
     requires { head + len ≤ 24 }
 {
     found::<O>(rt, head, len, true);
     found::<O>(rt, head, len, false);
-    indices::<O>(rt, head, len);
+    true_indices::<O>(rt, head, len);
+    false_indices::<O>(rt, head, len);
     numbers::<O>(rt, head, len);
     found_in::<O>(rt, head, len);
     for size in [1, 3, 8] {

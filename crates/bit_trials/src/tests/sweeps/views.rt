@@ -28,30 +28,43 @@ fn items<O: BitOrder>(rt: &impl Abort, words: [u8; 3], head: usize, len: usize)
     assert_eq!(rt; view.get(len), None);
 }
 
-/// The calls that read all bits at once.
+/// How many of these bits, from a place on, are true.
+fn ones_in(bits: &[bool], head: usize, len: usize) -> usize {
+    let mut ones = 0usize;
+    for (i, bit) in bits.iter().enumerate() {
+        if *bit && head <= i && i - head < len {
+            ones = ones.wrapping_add(1);
+        }
+    }
+    ones
+}
+
+/// The calls that count bits.
 fn totals<O: BitOrder>(rt: &impl Abort, words: [u8; 3], head: usize, len: usize)
     requires { head + len ≤ 24 }
 {
-    let bits = bits_of::<O>(words);
+    let ones = ones_in(&bits_of::<O>(words), head, len);
     let view = BitSlice::<u8, O>::from_slice(&words).get_range(head..head + len);
-    let (mut ones, mut zeros) = (0usize, 0usize);
-    for i in head..head + len {
-        if bits[i] {
-            ones = ones.wrapping_add(1);
-        } else {
-            zeros = zeros.wrapping_add(1);
-        }
+    let (count, zeros) = (view.count_ones(), view.count_zeros());
+    let (any, all) = (view.any(), view.all());
+    assert!(rt; count == ones && zeros == len.wrapping_sub(ones));
+    assert!(rt; any == (ones != 0) && all == (ones == len));
+    assert!(rt; view.counted().count_ones_counted() == ones);
+}
+
+/// The calls that look at one end.
+fn ends<O: BitOrder>(rt: &impl Abort, words: [u8; 3], head: usize, len: usize)
+    requires { head + len ≤ 24 }
+{
+    let view = BitSlice::<u8, O>::from_slice(&words).get_range(head..head + len);
+    let (first, last) = (view.first(), view.last());
+    assert!(rt; view.len() == len && view.is_empty() == (len == 0));
+    let bits = bits_of::<O>(words);
+    let (mut front, mut back) = (None, None);
+    if len != 0 {
+        (front, back) = (Some(bits[head]), Some(bits[head + len - 1]));
     }
-    assert_eq!(rt; (view.len(), view.is_empty()), (len, len == 0));
-    assert_eq!(rt; (view.count_ones(), view.count_zeros()), (ones, zeros));
-    assert_eq!(rt; (view.any(), view.all()), (ones != 0, zeros == 0));
-    assert_eq!(rt; view.counted().count_ones_counted(), ones);
-    let (first, last) = if len == 0 {
-        (None, None)
-    } else {
-        (Some(bits[head]), Some(bits[head + len - 1]))
-    };
-    assert_eq!(rt; (view.first(), view.last()), (first, last));
+    assert!(rt; first == front && last == back);
 }
 
 /// Two views of words of two kinds, compared as lists are.
@@ -132,6 +145,27 @@ fn copied_within<O: BitOrder>(rt: &impl Abort, words: [u8; 3], head: usize, len:
     }
 }
 
+/// The words after a run of theirs is filled, or combined with a view.
+fn combined_words<O: BitOrder, P: BitOrder>(
+    words: [u8; 3],
+    head: usize,
+    len: usize,
+    view: BitSlice<'_, u8, P>,
+    make: u8,
+) -> [u8; 3]
+    requires { head + len ≤ 24 }
+{
+    let mut now = words;
+    let mut run = run_mut::<u8, O>(&mut now, head, head + len);
+    match make {
+        0 => run.fill(true),
+        1 => run.and_bits(view),
+        2 => run.or_bits(view),
+        _ => run.xor_bits(view),
+    }
+    now
+}
+
 /// All bits written: by one bit, and by those of a view of other words, of which `n` are there.
 fn combined<O: BitOrder, P: BitOrder>(
     rt: &impl Abort,
@@ -147,26 +181,20 @@ fn combined<O: BitOrder, P: BitOrder>(
     let others = [0x6b, 0x1d, 0xa4];
     let (before, right) = (bits_of::<O>(words), bits_of::<P>(others));
     let view = BitSlice::<u8, P>::from_slice(&others).get_range(from..from + n);
-    let (mut all, mut both, mut either, mut one) = (before, before, before, before);
-    for i in 0..len {
-        let there = i < n && right[from + i];
-        all[head + i] = true;
-        both[head + i] = before[head + i] && there;
-        either[head + i] = before[head + i] || there;
-        one[head + i] = before[head + i] != there;
+    for make in 0..4 {
+        let mut wanted = before;
+        for i in 0..len {
+            let (old, there) = (before[head + i], i < n && right[from + i]);
+            wanted[head + i] = match make {
+                0 => true,
+                1 => old && there,
+                2 => old || there,
+                _ => old != there,
+            };
+        }
+        let now = combined_words::<O, P>(words, head, len, view, make);
+        assert!(rt; bits_of::<O>(now) == wanted);
     }
-    let mut now = words;
-    run_mut::<u8, O>(&mut now, head, head + len).fill(true);
-    assert!(rt; bits_of::<O>(now) == all);
-    let mut now = words;
-    run_mut::<u8, O>(&mut now, head, head + len).and_bits(view);
-    assert!(rt; bits_of::<O>(now) == both);
-    let mut now = words;
-    run_mut::<u8, O>(&mut now, head, head + len).or_bits(view);
-    assert!(rt; bits_of::<O>(now) == either);
-    let mut now = words;
-    run_mut::<u8, O>(&mut now, head, head + len).xor_bits(view);
-    assert!(rt; bits_of::<O>(now) == one);
 }
 
 /// All bits written over by those of a view of other words.
@@ -198,6 +226,7 @@ fn sweep<O: BitOrder, P: BitOrder>(rt: &impl Abort) {
         for len in 0..18 {
             items::<O>(rt, words, head, len);
             totals::<O>(rt, words, head, len);
+            ends::<O>(rt, words, head, len);
             written::<O>(rt, words, head, len);
             copied_within::<O>(rt, words, head, len);
         }

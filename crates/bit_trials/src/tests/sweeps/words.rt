@@ -89,25 +89,42 @@ fn measured<T: BitStore, O: BitOrder>(rt: &(impl Abort + AllocGlobal), head: usi
     }
 }
 
-/// One word written over all, through the vector and through its words.
+/// The bits of one word, four times.
+fn stamp<T: BitStore, O: BitOrder>(rt: &(impl Abort + AllocGlobal)) -> Vec<bool> {
+    let mut words = Vec::new(rt.alloc());
+    for _ in 0..4u8 {
+        ok(rt, words.push(T::from_u64(WORD)));
+    }
+    row_of::<T, O>(rt, words.as_slice())
+}
+
+/// One word written over all, through the vector.
 fn stamped<T: BitStore, O: BitOrder>(rt: &(impl Abort + AllocGlobal), head: usize, len: usize)
     requires head { head < 8 }
     requires len { len < 18 }
 {
-    let word = T::from_u64(WORD);
-    let mut words = Vec::new(rt.alloc());
-    for _ in 0..4u8 {
-        ok(rt, words.push(word));
-    }
-    let all = row_of::<T, O>(rt, words.as_slice());
-    let list = part(rt, &all, head, head + len);
     let mut v = at_head::<T, O>(rt, SEED, head, len).v;
-    v.set_elements(word);
+    v.set_elements(T::from_u64(WORD));
+    let all = stamp::<T, O>(rt);
+    let list = part(rt, &all, head, head + len);
     assert!(rt; shows(rt, &v, head, &list, &all));
+}
+
+/// One word written over all, through the words of the vector.
+fn stamped_by_words<T: BitStore, O: BitOrder>(
+    rt: &(impl Abort + AllocGlobal),
+    head: usize,
+    len: usize,
+)
+    requires head { head < 8 }
+    requires len { len < 18 }
+{
     let mut v = at_head::<T, O>(rt, SEED, head, len).v;
     for slot in v.as_raw_mut_slice() {
-        *slot = word;
+        *slot = T::from_u64(WORD);
     }
+    let all = stamp::<T, O>(rt);
+    let list = part(rt, &all, head, head + len);
     assert!(rt; shows(rt, &v, head, &list, &all));
 }
 
@@ -137,6 +154,7 @@ fn worked<T: BitStore, O: BitOrder>(rt: &(impl Abort + AllocGlobal), head: usize
     aligned::<T, O>(rt, head, len);
     measured::<T, O>(rt, head, len);
     stamped::<T, O>(rt, head, len);
+    stamped_by_words::<T, O>(rt, head, len);
     given_up::<T, O>(rt, head, len);
 }
 

@@ -65,8 +65,8 @@ fn digits_of<T: BitStore, O: BitOrder>(
     text
 }
 
-/// The text of a box, and its digits by one, three and four bits.
-pub(crate) fn told<T: BitStore, O: BitOrder>(rt: &(impl Abort + AllocGlobal), b: &BitBox<T, O>) {
+/// The text of a list, in brackets, with a comma between two bits.
+fn text_of<T: BitStore, O: BitOrder>(rt: &(impl Abort + AllocGlobal), b: &BitBox<T, O>) -> String {
     let mut list = String::new(rt.alloc());
     ok(rt, list.push_str("["));
     for (i, bit) in b.iter().enumerate() {
@@ -74,19 +74,31 @@ pub(crate) fn told<T: BitStore, O: BitOrder>(rt: &(impl Abort + AllocGlobal), b:
         ok(rt, list.push_str(if bit { "1" } else { "0" }));
     }
     ok(rt, list.push_str("]"));
+    list
+}
+
+/// The digits of a box by one radix.
+fn told_in<T: BitStore, O: BitOrder>(
+    rt: &(impl Abort + AllocGlobal),
+    b: &BitBox<T, O>,
+    radix: Radix,
+    width: u8,
+    digits: &[u8],
+) {
+    let wanted = digits_of(rt, b, width, digits);
+    let written = In(b, radix);
+    let text = ok(rt, format!(in rt.alloc(); "{written}"));
+    assert!(rt; text.as_bytes() == wanted.as_slice());
+}
+
+/// The text of a box, and its digits by one, three and four bits.
+pub(crate) fn told<T: BitStore, O: BitOrder>(rt: &(impl Abort + AllocGlobal), b: &BitBox<T, O>) {
     let text = ok(rt, format!(in rt.alloc(); "{b}"));
-    assert_eq!(rt; text.as_str(), list.as_str());
-    for (radix, width, digits) in [
-        (Radix::Binary, 1, b"01".as_slice()),
-        (Radix::Octal, 3, b"01234567"),
-        (Radix::LowerHex, 4, b"0123456789abcdef"),
-        (Radix::UpperHex, 4, b"0123456789ABCDEF"),
-    ] {
-        let wanted = digits_of(rt, b, width, digits);
-        let written = In(b, radix);
-        let text = ok(rt, format!(in rt.alloc(); "{written}"));
-        assert_eq!(rt; text.as_bytes(), wanted.as_slice());
-    }
+    assert!(rt; text.as_str() == text_of(rt, b).as_str());
+    told_in(rt, b, Radix::Binary, 1, b"01");
+    told_in(rt, b, Radix::Octal, 3, b"01234567");
+    told_in(rt, b, Radix::LowerHex, 4, b"0123456789abcdef");
+    told_in(rt, b, Radix::UpperHex, 4, b"0123456789ABCDEF");
 }
 
 /// What is left of a list from one place up to another: read, copied, and written through the view of it.

@@ -107,6 +107,18 @@ fn replaced_by_a_view(rt: HostRuntime) {
 /// What is replaced, taken from both ends first.
 #[test]
 fn spliced_from_both_ends(rt: HostRuntime) {
+    let mut v = of::<u8, Lsb0>(&rt, b"01110");
+    assert!(rt; v.len() == 5);
+    let mut splice = v.splice(1..4, ok(&rt, vec![in rt.alloc(); false, true, true, false]));
+    assert!(rt; splice.next() == Some(true) && splice.next_back() == Some(true));
+    assert!(rt; splice.len() == 1);
+    ok(&rt, splice.finish());
+    holds(&rt, &v, b"001100");
+}
+
+/// All that is replaced, taken first.
+#[test]
+fn spliced_after_all_was_taken(rt: HostRuntime) {
     let mut v = of::<u8, Msb0>(&rt, b"111111111110100100001");
     assert!(rt; v.len() == 21);
     let mut splice = v.splice(2..10, Some(false));
@@ -114,17 +126,9 @@ fn spliced_from_both_ends(rt: HostRuntime) {
     assert!(rt; splice.next() == Some(true) && splice.next() == Some(true));
     assert!(rt; splice.next_back() == Some(true) && splice.next_back() == Some(true));
     assert!(rt; splice.next_back() == Some(true) && splice.next() == Some(true));
-    assert_eq!(rt; splice.next(), None);
+    assert!(rt; splice.next().is_none());
     ok(&rt, splice.finish());
     holds(&rt, &v, b"11010100100001");
-    let mut v = of::<u8, Lsb0>(&rt, b"01110");
-    assert!(rt; v.len() == 5);
-    let mut splice = v.splice(1..4, ok(&rt, vec![in rt.alloc(); false, true, true, false]));
-    assert_eq!(rt; splice.next(), Some(true));
-    assert_eq!(rt; splice.next_back(), Some(true));
-    assert_eq!(rt; splice.len(), 1);
-    ok(&rt, splice.finish());
-    holds(&rt, &v, b"001100");
 }
 
 /// Shrinking keeps the capacity.

@@ -81,31 +81,43 @@ fn move_by_a_users_order(row: &mut WordRow<u8>)
 fn counted_moves(rt: HostRuntime) {
     let mut words = [0xb1, 0x6d];
     move_up(&mut WordRow::new(&mut words));
-    assert_eq!(rt; words, [0xc1, 0x76]);
+    assert!(rt; words == [0xc1, 0x76]);
     let mut words = [0xb1, 0x6d];
     move_down(&mut WordRow::new(&mut words));
-    assert_eq!(rt; words, [0x6d, 0x6b]);
+    assert!(rt; words == [0x6d, 0x6b]);
+}
+
+#[test]
+fn counted_moves_by_other_orders(rt: HostRuntime) {
     let mut words = [0xb1, 0x6d];
     move_up_from_the_highest_place(&mut WordRow::new(&mut words));
-    assert_eq!(rt; words, [0xac, 0x59]);
+    assert!(rt; words == [0xac, 0x59]);
     let mut words = [0xb1, 0x6d];
     move_down_from_the_highest_place(&mut WordRow::new(&mut words));
-    assert_eq!(rt; words, [0xc5, 0xbd]);
-    let mut words = [0x07];
-    move_in_one_word(&mut WordRow::new(&mut words));
-    assert_eq!(rt; words, [0xe7]);
-    let mut words = [0x07];
-    move_nothing(&mut WordRow::new(&mut words));
-    assert_eq!(rt; words, [0x07]);
-    let mut words = [0x01, 0x80, 0xff];
-    move_over_three_words(&mut WordRow::new(&mut words));
-    assert_eq!(rt; words, [0x11, 0x00, 0xf8]);
-    let mut words = [0x1234, 0xabcd];
-    move_into_a_whole_word(&mut WordRow::new(&mut words));
-    assert_eq!(rt; words, [0xcd12, 0xabcd]);
+    assert!(rt; words == [0xc5, 0xbd]);
     let mut words = [0xb1, 0x6d];
     move_by_a_users_order(&mut WordRow::new(&mut words));
-    assert_eq!(rt; words, [0xb6, 0x8d]);
+    assert!(rt; words == [0xb6, 0x8d]);
+}
+
+#[test]
+fn counted_moves_in_one_word(rt: HostRuntime) {
+    let mut words = [0x07];
+    move_in_one_word(&mut WordRow::new(&mut words));
+    assert!(rt; words == [0xe7]);
+    let mut words = [0x07];
+    move_nothing(&mut WordRow::new(&mut words));
+    assert!(rt; words == [0x07]);
+}
+
+#[test]
+fn counted_moves_of_whole_words(rt: HostRuntime) {
+    let mut words = [0x01, 0x80, 0xff];
+    move_over_three_words(&mut WordRow::new(&mut words));
+    assert!(rt; words == [0x11, 0x00, 0xf8]);
+    let mut words = [0x1234, 0xabcd];
+    move_into_a_whole_word(&mut WordRow::new(&mut words));
+    assert!(rt; words == [0xcd12, 0xabcd]);
 }
 
 #[test]

@@ -9,25 +9,32 @@ fn drained(rt: HostRuntime) {
     assert!(rt; v.len() == 5);
     {
         let mut drain = v.drain(1..4);
-        assert_eq!(rt; drain.next(), Some(true));
-        assert_eq!(rt; drain.next_back(), Some(true));
-        assert_eq!(rt; drain.len(), 1);
-        assert_eq!(rt; drain.size_hint(), (1, Some(1)));
+        assert!(rt; drain.next() == Some(true) && drain.next_back() == Some(true));
+        assert!(rt; drain.len() == 1 && drain.size_hint() == (1, Some(1)));
     }
     holds(&rt, &v, b"00");
+}
+
+#[test]
+fn drained_past_the_end(rt: HostRuntime) {
     let mut v = of::<u8, Msb0>(&rt, b"01110");
     assert!(rt; v.len() == 5);
     {
         let mut drain = v.drain(1..4);
-        assert!(rt; drain.as_bitslice().len() == 3 && drain.as_slice().all());
-        assert_eq!(rt;
-            ok(&rt, format!(in rt.alloc(); "{drain:?}")).as_str(),
-            "Drain([1, 1, 1])"
-        );
-        assert_eq!(rt; drain.nth(5), None);
-        assert_eq!(rt; drain.len(), 0);
+        assert!(rt; drain.nth(5).is_none() && drain.len() == 0);
     }
     holds(&rt, &v, b"00");
+}
+
+/// What a drain has yet to give, as a view and as text.
+#[test]
+fn drain_seen(rt: HostRuntime) {
+    let mut v = of::<u8, Msb0>(&rt, b"01110");
+    assert!(rt; v.len() == 5);
+    let drain = v.drain(1..4);
+    assert!(rt; drain.as_bitslice().len() == 3 && drain.as_slice().all());
+    let text = ok(&rt, format!(in rt.alloc(); "{drain:?}"));
+    assert!(rt; text.as_str() == "Drain([1, 1, 1])");
 }
 
 #[test]
@@ -35,6 +42,15 @@ fn retained(rt: HostRuntime) {
     let mut v = of::<u8, Lsb0>(&rt, b"01001");
     v.retain(|i, _| i % 2 == 0);
     holds(&rt, &v, b"001");
+    let mut v = of::<u8, Lsb0>(&rt, b"001101010001010001010");
+    assert!(rt; v.pop() == Some(false));
+    v.retain(|i, bit| *bit && i % 2 == 1);
+    holds(&rt, &v, b"1111111");
+}
+
+/// What is asked of each bit may count the bits.
+#[test]
+fn retained_by_a_count(rt: HostRuntime) {
     let mut v = of::<u8, Msb0>(&rt, b"1101");
     let mut count = 0u8;
     v.retain(|_, _| {
@@ -42,11 +58,7 @@ fn retained(rt: HostRuntime) {
         count % 2 == 0
     });
     holds(&rt, &v, b"11");
-    assert_eq!(rt; count, 4);
-    let mut v = of::<u8, Lsb0>(&rt, b"001101010001010001010");
-    assert_eq!(rt; v.pop(), Some(false));
-    v.retain(|i, bit| *bit && i % 2 == 1);
-    holds(&rt, &v, b"1111111");
+    assert!(rt; count == 4);
 }
 
 #[test]
@@ -58,7 +70,7 @@ fn split(rt: HostRuntime) {
     holds(&rt, &rest, b"001");
     shows(&rt, &v, &[0x12]);
     shows(&rt, &rest, &[0x04]);
-    assert_eq!(rt; rest.head(), 0);
+    assert!(rt; rest.head() == 0);
 }
 
 #[test]
@@ -69,6 +81,10 @@ fn spliced(rt: HostRuntime) {
     holds(&rt, &v, b"1111000000001111111111111111");
     v.set_uninitialized(false);
     shows(&rt, &v, &[0x0f, 0xf0, 0xff, 0x0f]);
+}
+
+#[test]
+fn spliced_to_the_end(rt: HostRuntime) {
     let mut v = of::<u8, Msb0>(&rt, b"01001");
     assert!(rt; v.len() == 5);
     ok(&rt, v.splice(2.., None).finish());
@@ -91,6 +107,18 @@ fn replaced_by_a_view(rt: HostRuntime) {
 /// What is replaced, taken from both ends first.
 #[test]
 fn spliced_from_both_ends(rt: HostRuntime) {
+    let mut v = of::<u8, Lsb0>(&rt, b"01110");
+    assert!(rt; v.len() == 5);
+    let mut splice = v.splice(1..4, ok(&rt, vec![in rt.alloc(); false, true, true, false]));
+    assert!(rt; splice.next() == Some(true) && splice.next_back() == Some(true));
+    assert!(rt; splice.len() == 1);
+    ok(&rt, splice.finish());
+    holds(&rt, &v, b"001100");
+}
+
+/// All that is replaced, taken first.
+#[test]
+fn spliced_after_all_was_taken(rt: HostRuntime) {
     let mut v = of::<u8, Msb0>(&rt, b"111111111110100100001");
     assert!(rt; v.len() == 21);
     let mut splice = v.splice(2..10, Some(false));
@@ -98,17 +126,9 @@ fn spliced_from_both_ends(rt: HostRuntime) {
     assert!(rt; splice.next() == Some(true) && splice.next() == Some(true));
     assert!(rt; splice.next_back() == Some(true) && splice.next_back() == Some(true));
     assert!(rt; splice.next_back() == Some(true) && splice.next() == Some(true));
-    assert_eq!(rt; splice.next(), None);
+    assert!(rt; splice.next().is_none());
     ok(&rt, splice.finish());
     holds(&rt, &v, b"11010100100001");
-    let mut v = of::<u8, Lsb0>(&rt, b"01110");
-    assert!(rt; v.len() == 5);
-    let mut splice = v.splice(1..4, ok(&rt, vec![in rt.alloc(); false, true, true, false]));
-    assert_eq!(rt; splice.next(), Some(true));
-    assert_eq!(rt; splice.next_back(), Some(true));
-    assert_eq!(rt; splice.len(), 1);
-    ok(&rt, splice.finish());
-    holds(&rt, &v, b"001100");
 }
 
 /// Shrinking keeps the capacity.

@@ -118,26 +118,26 @@ fn moved_bits(rt: HostRuntime) {
     // 0, 1, 1, 0, 0, 1, 0, 1
     let mut words = [0x65_u8];
     let mut view = BitSliceMut::<u8, Msb0>::from_slice_mut(&mut words);
-    assert_eq!(rt; turned(&mut view), Some(true));
+    assert!(rt; turned(&mut view) == Some(true));
     // 1, 0, 1, 0, 1, 1, 0, 0
-    assert_eq!(rt; reversed(&mut view), Some(true));
+    assert!(rt; reversed(&mut view) == Some(true));
     // 0, 0, 1, 1, 0, 1, 0, 1
-    assert_eq!(rt; shifted(&mut view), Some(true));
+    assert!(rt; shifted(&mut view) == Some(true));
     // 1, 0, 1, 0, 1, 0, 0, 0
-    assert_eq!(rt; emptied(&mut view), Some(false));
-    assert_eq!(rt; words[0], 0x40);
+    assert!(rt; emptied(&mut view) == Some(false));
+    assert!(rt; words[0] == 0x40);
 }
 
 #[test]
 fn part_lands(rt: HostRuntime) {
     let mut words = [0x00ff_u16, 0x0000, 0xffff];
-    assert_eq!(rt; counted_part::<u16, Lsb0>(&mut words), 4);
+    assert!(rt; counted_part::<u16, Lsb0>(&mut words) == 4);
     let mut view = BitSliceMut::<u16, Lsb0>::from_slice_mut(&mut words);
     let mut part = view.part_mut(4, 36);
     assert!(rt; part.head() == 4 && part.len() == 32);
     part.flip_all();
     part.part_mut(12, 28).fill(false);
-    assert_eq!(rt; words.as_slice(), [0xff0f, 0x0000, 0xfff0].as_slice());
+    assert!(rt; words.as_slice() == [0xff0f, 0x0000, 0xfff0].as_slice());
 }
 
 #[test]
@@ -146,20 +146,19 @@ fn two_runs_land(rt: HostRuntime) {
     let (mut left, mut right) = split_run_mut::<u8, Lsb0>(&mut words, 3, 8, 20);
     left.fill(false);
     right.flip_all();
-    assert_eq!(rt; words.as_slice(), [0x07, 0x00, 0xf0].as_slice());
+    assert!(rt; words.as_slice() == [0x07, 0x00, 0xf0].as_slice());
 }
 
 #[test]
 fn parts_of_a_word(rt: HostRuntime) -> Result<(), Fail> {
     let words = [0x1234_u16];
     let part = BitSlice::<u16, Msb0>::from_slice(&words).get_range(4..12);
-    assert_eq!(rt; part.head(), 4);
+    assert!(rt; part.head() == 4);
     let list = part.iter().collect::<Vec<bool>>(rt.alloc())?;
-    assert_eq!(rt;
-        list.as_slice(),
-        [false, false, true, false, false, false, true, true].as_slice()
+    assert!(rt;
+        list.as_slice() == [false, false, true, false, false, false, true, true].as_slice()
     );
-    assert_eq!(rt; part.count_ones(), 3);
+    assert!(rt; part.count_ones() == 3);
     Ok(())
 }
 
@@ -167,20 +166,22 @@ fn parts_of_a_word(rt: HostRuntime) -> Result<(), Fail> {
 fn writes_to_a_word(rt: HostRuntime) {
     let mut words = [0xff_u8, 0xff];
     run_mut::<u8, Lsb0>(&mut words, 3, 11).fill(false);
-    assert_eq!(rt; words.as_slice(), [0x07, 0xf8].as_slice());
+    assert!(rt; words.as_slice() == [0x07, 0xf8].as_slice());
     let mut words = [0x1234_u16];
     BitSliceMut::<u16, Msb0>::from_slice_mut(&mut words).set(4, true);
-    assert_eq!(rt; words[0], 0x1a34);
+    assert!(rt; words[0] == 0x1a34);
     let mut words = [0x1234_u16];
     BitSliceMut::<u16, Msb0>::from_slice_mut(&mut words).swap(0, 3);
-    assert_eq!(rt; words[0], 0x8234);
+    assert!(rt; words[0] == 0x8234);
+}
+
+#[test]
+fn view_copied_to_a_word(rt: HostRuntime) {
     let mut words = [0_u16];
     let bytes = [0xff_u8, 0];
-    BitSliceMut::<u16, Msb0>::from_slice_mut(&mut words).clone_from_bitslice(BitSlice::<
-        u8,
-        Lsb0,
-    >::from_slice(&bytes));
-    assert_eq!(rt; words[0], 0xff00);
+    let view = BitSlice::<u8, Lsb0>::from_slice(&bytes);
+    BitSliceMut::<u16, Msb0>::from_slice_mut(&mut words).clone_from_bitslice(view);
+    assert!(rt; words[0] == 0xff00);
 }
 
 #[test]
@@ -190,20 +191,18 @@ fn both_ends(rt: HostRuntime) {
         .get_range(1..=8)
         .iter();
     // 1, 0, 0, 1, 1, 0, 1, 1
-    assert_eq!(rt; bits.len(), 8);
-    assert_eq!(rt; bits.next(), Some(true));
-    assert_eq!(rt; bits.next_back(), Some(true));
-    assert_eq!(rt; bits.next(), Some(false));
-    assert_eq!(rt; bits.next_back(), Some(true));
-    assert_eq!(rt; bits.next_back(), Some(false));
-    assert_eq!(rt; bits.size_hint(), (3, Some(3)));
-    assert_eq!(rt; bits.next(), Some(false));
-    assert_eq!(rt; bits.next(), Some(true));
-    assert_eq!(rt; bits.next_back(), Some(true));
+    assert!(rt; bits.len() == 8);
+    assert!(rt; bits.next() == Some(true));
+    assert!(rt; bits.next_back() == Some(true));
+    assert!(rt; bits.next() == Some(false));
+    assert!(rt; bits.next_back() == Some(true));
+    assert!(rt; bits.next_back() == Some(false));
+    assert!(rt; bits.size_hint() == (3, Some(3)));
+    assert!(rt; bits.next() == Some(false));
+    assert!(rt; bits.next() == Some(true));
+    assert!(rt; bits.next_back() == Some(true));
     for _ in 0..3 {
-        assert_eq!(rt; bits.next(), None);
-        assert_eq!(rt; bits.next_back(), None);
-        assert_eq!(rt; bits.len(), 0);
+        assert!(rt; bits.next().is_none() && bits.next_back().is_none() && bits.len() == 0);
     }
 }
 
@@ -214,61 +213,99 @@ fn reads<T: BitStore, O: BitOrder>(rt: &impl Abort, words: &[T])
 {
     let count = words.len() * T::BITS as usize;
     let view = BitSlice::<T, O>::from_slice(words);
-    assert_eq!(rt; view.len(), count);
-    assert_eq!(rt; view.head(), 0);
+    assert!(rt; view.len() == count && view.head() == 0);
     assert!(rt; !view.is_empty() && view.any() && !view.all());
-    assert_eq!(rt; (view.count_ones(), view.count_zeros()), (2, count - 2));
+    assert!(rt; view.count_ones() == 2 && view.count_zeros() == count - 2);
     assert!(rt; view[3] && !view[2] && view[9]);
-    assert_eq!(rt; (view.get(9), view.get(count)), (Some(true), None));
-    assert_eq!(rt; (view.first(), view.last()), (Some(false), Some(false)));
-    assert_eq!(rt; view.as_raw_slice().len(), words.len());
-    let part = view.get_range(3..10);
-    assert_eq!(rt; (part.head(), part.len()), (3, 7));
-    assert_eq!(rt; (part.count_ones(), part.count_zeros()), (2, 5));
-    assert_eq!(rt; (part.first(), part.last()), (Some(true), Some(true)));
-    assert_eq!(rt; part.iter().position(|b| !b), Some(1));
-    let none = part.get_range(7..);
-    assert!(rt; none.is_empty() && !none.any() && none.all());
-    assert_eq!(rt; (none.first(), none.last()), (None, None));
-    assert_eq!(rt; part.clone().map(|v| v.len()), Ok(7));
-    assert_eq!(rt;
-        BitSlice::<T, O>::try_from_slice(words).map(|v| v.len()),
-        Ok(count)
-    );
+    assert!(rt; view.get(9) == Some(true) && view.get(count).is_none());
+    assert!(rt; view.first() == Some(false) && view.last() == Some(false));
+    assert!(rt; view.as_raw_slice().len() == words.len());
+    assert!(rt; BitSlice::<T, O>::try_from_slice(words).map(|v| v.len()) == Ok(count));
 }
 
-// The calls that write, and those that read through a view for writing, on words with no bit set.
+// The same of the part from bit 3 to bit 9, and of no bit after it.
+fn reads_of_a_part<T: BitStore, O: BitOrder>(rt: &impl Abort, words: &[T])
+    requires some { 16 ≤ T.BITS * length words.now }
+    requires fits { T.BITS * length words.now ≤ MAX_BITS }
+{
+    let part = BitSlice::<T, O>::from_slice(words).get_range(3..10);
+    assert!(rt; part.head() == 3 && part.len() == 7);
+    assert!(rt; part.count_ones() == 2 && part.count_zeros() == 5);
+    assert!(rt; part.first() == Some(true) && part.last() == Some(true));
+    assert!(rt; part.iter().position(|b| !b) == Some(1));
+    let none = part.get_range(7..);
+    assert!(rt; none.is_empty() && !none.any() && none.all());
+    assert!(rt; none.first().is_none() && none.last().is_none());
+    assert!(rt; part.clone().map(|v| v.len()) == Ok(7));
+}
+
+// The calls that write, on words with no bit set.
 fn writes<T: BitStore, O: BitOrder>(rt: &impl Abort, words: &mut [T])
-    requires word { 0 < length words.old }
     requires some { 16 ≤ T.BITS * length words.old }
     requires fits { T.BITS * length words.old ≤ MAX_BITS }
 {
     let count = words.len() * T::BITS as usize;
     let mut view = BitSliceMut::<T, O>::from_slice_mut(words);
-    assert_eq!(rt; (view.head(), view.len()), (0, count));
+    assert!(rt; view.head() == 0 && view.len() == count);
     assert!(rt; !view.is_empty() && !view.any() && !view.all());
     view.set(9, true);
     assert!(rt; !view.replace(2, true) && view.replace(2, true));
     view.swap(2, 3);
-    assert!(rt; view[3] && !view[2] && view[9]);
-    assert_eq!(rt; (view.count_ones(), view.count_zeros()), (2, count - 2));
-    assert_eq!(rt; (view.get(9), view.get(count)), (Some(true), None));
-    assert_eq!(rt; (view.first(), view.last()), (Some(false), Some(false)));
-    assert_eq!(rt; view.get_range(3..10).count_ones(), 2);
-    assert_eq!(rt; view.iter().len(), count);
     reads::<T, O>(rt, view.as_raw_slice());
+}
+
+// Those that read through a view for writing, after those that write.
+fn reads_while_written<T: BitStore, O: BitOrder>(rt: &impl Abort, words: &mut [T])
+    requires some { 16 ≤ T.BITS * length words.old }
+    requires fits { T.BITS * length words.old ≤ MAX_BITS }
+{
+    let count = words.len() * T::BITS as usize;
+    let view = BitSliceMut::<T, O>::from_slice_mut(words);
+    assert!(rt; view[3] && !view[2] && view[9]);
+    assert!(rt; view.count_ones() == 2 && view.count_zeros() == count - 2);
+    assert!(rt; view.get(9) == Some(true) && view.get(count).is_none());
+    assert!(rt; view.first() == Some(false) && view.last() == Some(false));
+    assert!(rt; view.get_range(3..10).count_ones() == 2);
+    assert!(rt; view.iter().len() == count);
+}
+
+fn fills<T: BitStore, O: BitOrder>(rt: &impl Abort, words: &mut [T])
+    requires word { 0 < length words.old }
+    requires fits { T.BITS * length words.old ≤ MAX_BITS }
+{
+    let mut view = BitSliceMut::<T, O>::from_slice_mut(words);
     view.fill(true);
     assert!(rt; view.as_bitslice().all());
     let raw = view.as_raw_mut_slice();
     raw[0] = T::ZERO;
-    assert_eq!(rt; view.count_zeros(), T::BITS as usize);
+    assert!(rt; view.count_zeros() == T::BITS as usize);
 }
 
 #[test]
-fn calls(rt: HostRuntime) {
-    writes::<u8, Lsb0>(&rt, &mut [0; 3]);
-    writes::<u32, Msb0>(&rt, &mut [0; 2]);
-    writes::<usize, Xor4>(&rt, &mut [0; 1]);
+fn calls_on_bytes(rt: HostRuntime) {
+    let mut words = [0; 3];
+    writes::<u8, Lsb0>(&rt, &mut words);
+    reads_of_a_part::<u8, Lsb0>(&rt, &words);
+    reads_while_written::<u8, Lsb0>(&rt, &mut words);
+    fills::<u8, Lsb0>(&rt, &mut words);
+}
+
+#[test]
+fn calls_from_the_highest_place(rt: HostRuntime) {
+    let mut words = [0; 2];
+    writes::<u32, Msb0>(&rt, &mut words);
+    reads_of_a_part::<u32, Msb0>(&rt, &words);
+    reads_while_written::<u32, Msb0>(&rt, &mut words);
+    fills::<u32, Msb0>(&rt, &mut words);
+}
+
+#[test]
+fn calls_by_a_users_order(rt: HostRuntime) {
+    let mut words = [0; 1];
+    writes::<usize, Xor4>(&rt, &mut words);
+    reads_of_a_part::<usize, Xor4>(&rt, &words);
+    reads_while_written::<usize, Xor4>(&rt, &mut words);
+    fills::<usize, Xor4>(&rt, &mut words);
 }
 
 // One move in all the words, and the same move through a view whose head is 1.
@@ -293,36 +330,49 @@ fn bits_outside(rt: HostRuntime) {
     let mut words = [0xff_u8, 0xff, 0xff];
     let mut view = BitSliceMut::<u8, Lsb0>::from_parts_mut(&mut words, 2, 19);
     view.fill(false);
-    assert_eq!(rt; words, [0x03, 0x00, 0xe0]);
+    assert!(rt; words == [0x03, 0x00, 0xe0]);
     let view = BitSlice::<u8, Msb0>::from_parts(&words, 2, 19);
-    assert_eq!(rt; (view.head(), view.len(), view.count_ones()), (2, 19, 5));
-    assert_eq!(rt; set_two::<u8, Lsb0>(&mut words), false);
+    assert!(rt; view.head() == 2 && view.len() == 19 && view.count_ones() == 5);
+}
+
+#[test]
+fn writes_in_the_callers_words(rt: HostRuntime) {
+    let mut words = [0x03_u8, 0x00, 0xe0];
+    assert!(rt; !set_two::<u8, Lsb0>(&mut words));
     set_third::<u8, Xor4>(&mut words);
-    assert_eq!(rt; words, [0x93, 0x00, 0xe0]);
+    assert!(rt; words == [0x93, 0x00, 0xe0]);
     exchange_in::<u8, Lsb0>(&mut words);
-    assert_eq!(rt; words, [0x92, 0x00, 0xe0]);
-    assert_eq!(rt; count_two(&[0x1234, 0xffff]), 21);
+    assert!(rt; words == [0x92, 0x00, 0xe0]);
+    assert!(rt; count_two(&[0x1234, 0xffff]) == 21);
 }
 
 #[test]
 fn copies_within(rt: HostRuntime) {
     let words = [0xb1_u8, 0x6d];
     let after = [0xc1, 0x76];
-    assert_eq!(rt; copied::<Lsb0>(words, 1, 12, 3), (after, after));
+    assert!(rt; copied::<Lsb0>(words, 1, 12, 3) == (after, after));
     let after = [0x6d, 0x6b];
-    assert_eq!(rt; copied::<Lsb0>(words, 3, 14, 1), (after, after));
+    assert!(rt; copied::<Lsb0>(words, 3, 14, 1) == (after, after));
     let after = [0xb6, 0x8d];
-    assert_eq!(rt; copied::<Xor4>(words, 1, 12, 3), (after, after));
+    assert!(rt; copied::<Xor4>(words, 1, 12, 3) == (after, after));
+}
+
+#[test]
+fn copies_within_one_word(rt: HostRuntime) {
     let mut word = [0x07_u8];
     let mut view = BitSliceMut::<u8, Lsb0>::from_slice_mut(&mut word);
     view.copy_within(3..3, 0);
-    assert_eq!(rt; view.as_raw_slice()[0], 0x07);
+    assert!(rt; view.as_raw_slice()[0] == 0x07);
     view.copy_within(0..3, 5);
-    assert_eq!(rt; word[0], 0xe7);
+    assert!(rt; word[0] == 0xe7);
+}
+
+#[test]
+fn copies_within_many_words(rt: HostRuntime) {
     let mut bytes = [0x01_u8, 0x80, 0xff];
     BitSliceMut::<u8, Lsb0>::from_slice_mut(&mut bytes).copy_within(..20, 4);
-    assert_eq!(rt; bytes, [0x11, 0x00, 0xf8]);
+    assert!(rt; bytes == [0x11, 0x00, 0xf8]);
     let mut words = [0x1234_u16, 0xabcd];
     BitSliceMut::<u16, Lsb0>::from_slice_mut(&mut words).copy_within(8..24, 0);
-    assert_eq!(rt; words, [0xcd12, 0xabcd]);
+    assert!(rt; words == [0xcd12, 0xabcd]);
 }

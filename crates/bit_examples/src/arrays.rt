@@ -136,26 +136,30 @@ impl<A: BitViewSized, O: BitOrder> fmt::Display for In<A, O> {
 fn texts(rt: HostRuntime) -> Result<(), Fail> {
     let a = BitArray::<u8, Lsb0>::new(5);
     let text = format!(in rt.alloc(); "{a}|{a:20}")?;
-    assert_eq!(rt;
-        text.as_str(),
-        "[1, 0, 1, 0, 0, 0, 0, 0]|[1, 0, 1, 0, 0, 0, 0, 0]"
-    );
+    assert!(rt; text.as_str() == "[1, 0, 1, 0, 0, 0, 0, 0]|[1, 0, 1, 0, 0, 0, 0, 0]");
     let text = format!(in rt.alloc(); "{a:?}")?;
-    assert_eq!(rt;
-        text.as_str(),
-        "BitArray { bits: 8 } [1, 0, 1, 0, 0, 0, 0, 0]"
-    );
-    let none = BitArray::<[u8; 0], Lsb0>::new([]);
-    let text = format!(in rt.alloc(); "{none}")?;
-    assert_eq!(rt; text.as_str(), "[]");
+    assert!(rt; text.as_str() == "BitArray { bits: 8 } [1, 0, 1, 0, 0, 0, 0, 0]");
+    Ok(())
+}
+
+#[test]
+fn texts_in_a_radix(rt: HostRuntime) -> Result<(), Fail> {
     let a = BitArray::<u8, Msb0>::new(0xd0);
     let (b, o) = (In(a, Radix::Binary), In(a, Radix::Octal));
     let (x, u) = (In(a, Radix::LowerHex), In(a, Radix::UpperHex));
     let text = format!(in rt.alloc(); "{b} {o} {x} {u}")?;
-    assert_eq!(rt; text.as_str(), "[11010000] [640] [d0] [D0]");
+    assert!(rt; text.as_str() == "[11010000] [640] [d0] [D0]");
+    Ok(())
+}
+
+#[test]
+fn texts_of_no_bits(rt: HostRuntime) -> Result<(), Fail> {
+    let none = BitArray::<[u8; 0], Lsb0>::new([]);
+    let text = format!(in rt.alloc(); "{none}")?;
+    assert!(rt; text.as_str() == "[]");
     let none = In(none, Radix::Octal);
     let text = format!(in rt.alloc(); "{none}")?;
-    assert_eq!(rt; text.as_str(), "[]");
+    assert!(rt; text.as_str() == "[]");
     Ok(())
 }
 
@@ -175,40 +179,68 @@ fn long_texts(rt: HostRuntime) -> Result<(), Fail> {
 }
 
 #[test]
-fn views_taken(rt: HostRuntime) -> Result<(), Fail> {
+fn views_of_another_length(rt: HostRuntime) -> Result<(), Fail> {
+    let words = [0xb5_u8, 0x6d];
+    let view = BitSlice::<u8, Lsb0>::from_slice(&words).get_range(1..3);
+    let Err(short) = BitArray::<u8, Lsb0>::try_from(view) else {
+        panic!(rt; "two bits are no array of eight");
+    };
+    let text = format!(in rt.alloc(); "{short:?}: {short}")?;
+    assert!(rt;
+        text.as_str()
+            == "TryFromBitSliceError::UnequalLen(2 != 8): bit-slice with length 2 cannot be viewed as bit-array with length 8"
+    );
+    Ok(())
+}
+
+#[test]
+fn views_at_another_head(rt: HostRuntime) -> Result<(), Fail> {
+    let words = [0xb5_u8, 0x6d];
+    let view = BitSlice::<u8, Lsb0>::from_slice(&words);
+    let Err(off) = BitArray::<u8, Lsb0>::try_from(view.get_range(1..9)) else {
+        panic!(rt; "eight bits from bit 1 are no array");
+    };
+    let text = format!(in rt.alloc(); "{off:?}: {off}")?;
+    assert!(rt;
+        text.as_str()
+            == "TryFromBitSliceError::Misaligned: a bit-slice must begin at the front edge of a storage element in order to be viewed as a bit-array"
+    );
+    let none = BitArray::<[u8; 0], Lsb0>::try_from(view.get_range(3..3));
+    assert!(rt; none.is_err_and(|e| e == off));
+    Ok(())
+}
+
+/// The errors are ordered: by length first, and a wrong head after each.
+#[test]
+fn errors_in_order(rt: HostRuntime) -> Result<(), Fail> {
     let words = [0xb5_u8, 0x6d];
     let view = BitSlice::<u8, Lsb0>::from_slice(&words);
     let Err(short) = BitArray::<u8, Lsb0>::try_from(view.get_range(1..3)) else {
         panic!(rt; "two bits are no array of eight");
     };
-    let text = format!(in rt.alloc(); "{short:?}: {short}")?;
-    assert_eq!(rt;
-        text.as_str(),
-        "TryFromBitSliceError::UnequalLen(2 != 8): bit-slice with length 2 cannot be viewed as bit-array with length 8"
-    );
     let Err(off) = BitArray::<u8, Lsb0>::try_from(view.get_range(1..9)) else {
         panic!(rt; "eight bits from bit 1 are no array");
     };
-    let text = format!(in rt.alloc(); "{off:?}: {off}")?;
-    assert_eq!(rt;
-        text.as_str(),
-        "TryFromBitSliceError::Misaligned: a bit-slice must begin at the front edge of a storage element in order to be viewed as a bit-array"
-    );
-    let none = BitArray::<[u8; 0], Lsb0>::try_from(view.get_range(3..3));
-    assert!(rt; none.is_err_and(|e| e == off));
-    assert!(rt; short < off && short != off && short.clone()? == short);
-    assert_eq!(rt; short.order(off), Ordering::Less);
     let Err(longer) = BitArray::<[u8; 3], Lsb0>::try_from(view.get_range(0..2)) else {
         panic!(rt; "two bits are no three bytes");
     };
+    assert!(rt; short < off && short != off && short.clone()? == short);
+    assert!(rt; short.order(off) == Ordering::Less);
     assert!(rt; short < longer && longer < off);
-    let all = BitArray::<[u8; 2], Lsb0>::try_from(view)?;
-    assert_eq!(rt; all.into_inner().as_slice(), words.as_slice());
     Ok(())
 }
 
 #[test]
-fn iterated(rt: HostRuntime) -> Result<(), Fail> {
+fn views_taken(rt: HostRuntime) -> Result<(), Fail> {
+    let words = [0xb5_u8, 0x6d];
+    let view = BitSlice::<u8, Lsb0>::from_slice(&words);
+    let all = BitArray::<[u8; 2], Lsb0>::try_from(view)?;
+    assert!(rt; all.into_inner().as_slice() == words.as_slice());
+    Ok(())
+}
+
+#[test]
+fn iterated(rt: HostRuntime) {
     let a = BitArray::<[u64; 2], Lsb0>::new([0x0123456789abcdef, 0xfedcba9876543210]);
     let mut bits = a.into_iter();
     assert!(rt; bits.next() == Some(true) && bits.next_back() == Some(true));
@@ -218,16 +250,28 @@ fn iterated(rt: HostRuntime) -> Result<(), Fail> {
         bits.as_bitslice()
             .eq_bits(a.as_bitslice().get_range(8..120))
     );
-    assert_eq!(rt; bits.as_slice().len(), 112);
+    assert!(rt; bits.as_slice().len() == 112);
+}
+
+#[test]
+fn iterated_to_the_end(rt: HostRuntime) -> Result<(), Fail> {
+    let a = BitArray::<[u64; 2], Lsb0>::new([0x0123456789abcdef, 0xfedcba9876543210]);
+    assert!(rt; (&a).into_iter().filter(|bit| *bit).count() == 64);
+    assert!(rt; a.iter().rev().filter(|bit| *bit).count() == 64);
+    let mut bits = a.into_iter();
+    assert!(rt; bits.nth(7) == Some(true) && bits.nth_back(7) == Some(false));
     let copy = bits.clone()?;
-    assert_eq!(rt; copy.count(), 112);
+    assert!(rt; copy.count() == 112);
     assert!(rt; bits.nth(200).is_none() && bits.next().is_none() && bits.next_back().is_none());
+    Ok(())
+}
+
+#[test]
+fn text_of_an_iterator(rt: HostRuntime) -> Result<(), Fail> {
     let mut few = IntoIter::new(BitArray::<u8, Msb0>::new(0x60));
     few.next();
     let text = format!(in rt.alloc(); "{few:?}")?;
-    assert_eq!(rt; text.as_str(), "IntoIter([1, 1, 0, 0, 0, 0, 0])");
-    assert_eq!(rt; (&a).into_iter().filter(|bit| *bit).count(), 64);
-    assert_eq!(rt; a.iter().rev().filter(|bit| *bit).count(), 64);
+    assert!(rt; text.as_str() == "IntoIter([1, 1, 0, 0, 0, 0, 0])");
     Ok(())
 }
 

@@ -19,17 +19,17 @@ use std::test::Fail;
 
 /// That the box holds these digits.
 fn holds<T: BitStore, O: BitOrder>(rt: &impl Abort, b: &BitBox<T, O>, digits: &[u8]) {
-    assert_eq!(rt; b.len(), digits.len());
+    assert!(rt; b.len() == digits.len());
     for (i, digit) in digits.iter().enumerate() {
         assert!(rt; b.get(i) == Some(*digit == b'1'));
     }
-    assert_eq!(rt; b.get(digits.len()), None);
+    assert!(rt; b.get(digits.len()).is_none());
 }
 
 /// That the words of the box are these.
 fn shows<T: BitStore, O: BitOrder>(rt: &impl Abort, b: &BitBox<T, O>, words: &[T]) {
     let kept = b.as_raw_slice();
-    assert_eq!(rt; kept.len(), words.len());
+    assert!(rt; kept.len() == words.len());
     for (word, want) in kept.iter().zip(words) {
         assert!(rt; word.to_u64() == want.to_u64());
     }
@@ -114,19 +114,31 @@ fn made_of_words(rt: HostRuntime) -> Result<(), Fail> {
             && b.get(14) == Some(false)
     );
     let boxed: BoxedSlice<u8> = b.into();
-    assert_eq!(rt; boxed.as_slice(), [0x80, 0x01].as_slice());
+    assert!(rt; boxed.as_slice() == [0x80, 0x01].as_slice());
     assert!(rt; BitBox::<u8, Msb0>::try_from_boxed_slice(boxed).is_ok());
+    Ok(())
+}
+
+#[test]
+#[tactic(auto, unfolding(bit_addressing::specs::Row::words_for))]
+fn made_of_one_word(rt: HostRuntime) -> Result<(), Fail> {
     let boxed: BoxedSlice<u8> = vec![in rt.alloc(); 0x05]?.into_boxed_slice();
     assert!(rt; BitBox::<u8, Lsb0>::try_from(boxed).is_ok_and(|b| b.count_ones() == 2));
     let b = BitBox::<u16, Lsb0>::from_box(rt.alloc(), Box::new(rt.alloc(), 0x8001)?)?;
     assert!(rt; b.first() == Some(true) && b.last() == Some(true) && b.len() == 16);
+    Ok(())
+}
+
+#[test]
+#[tactic(auto, unfolding(bit_addressing::specs::Row::words_for))]
+fn made_of_arrays_and_parts(rt: HostRuntime) -> Result<(), Fail> {
     let array = BitArray::<[u8; 2], Msb0>::new([0x80, 0x01]);
     let b = BitBox::from_bitarray(rt.alloc(), array)?;
     shows(&rt, &b, &[0x80, 0x01]);
-    let none = BitBox::<u64, Lsb0>::empty(rt.alloc())?;
-    assert!(rt; none.is_empty() && none.first().is_none() && none.last().is_none());
     let b = BitBox::<u8, Lsb0>::from_parts(vec![in rt.alloc(); 0xa8, 0x07]?, 3, 8)?;
     holds(&rt, &b, b"10101111");
+    let none = BitBox::<u64, Lsb0>::empty(rt.alloc())?;
+    assert!(rt; none.is_empty() && none.first().is_none() && none.last().is_none());
     Ok(())
 }
 
@@ -154,73 +166,70 @@ fn written(rt: HostRuntime) -> Result<(), Fail> {
     Ok(())
 }
 
+/// A box of the first bits of a byte.
+fn first_bits(rt: &(impl Abort + AllocGlobal), byte: u8, count: usize) -> BitBox<u8, Lsb0> {
+    assert!(rt; count <= 8);
+    let words = [byte];
+    let view = BitSlice::<u8, Lsb0>::from_slice(&words).get_range(0..count);
+    ok(rt, BitBox::from_bitslice(rt.alloc(), view))
+}
+
 #[test]
-fn combined(rt: HostRuntime) {
-    let long = [0xfc_u8, 0xff];
-    let four = BitSlice::<u8, Lsb0>::from_slice(&long).get_range(0..4);
-    let short = [0x02_u8];
-    let two = BitSlice::<u8, Lsb0>::from_slice(&short).get_range(0..2);
-    let left = ok(&rt, BitBox::from_bitslice(rt.alloc(), four));
-    let right = ok(&rt, BitBox::from_bitslice(rt.alloc(), two));
-    holds(
-        &rt,
-        &(ok(&rt, left.clone()) & ok(&rt, right.clone())),
-        b"0000",
-    );
-    holds(
-        &rt,
-        &(ok(&rt, left.clone()) | ok(&rt, right.clone())),
-        b"0111",
-    );
-    holds(
-        &rt,
-        &(ok(&rt, left.clone()) ^ ok(&rt, right.clone())),
-        b"0111",
-    );
-    let ones = [0xff_u8];
-    let ones = ok(
-        &rt,
-        BitBox::from_bitslice(
-            rt.alloc(),
-            BitSlice::<u8, Lsb0>::from_slice(&ones).get_range(3..7),
-        ),
-    );
-    let mut both = ok(&rt, right.clone());
+fn both_of_two(rt: HostRuntime) {
+    let both = first_bits(&rt, 0xfc, 4) & first_bits(&rt, 0x02, 2);
+    holds(&rt, &both, b"0000");
+}
+
+#[test]
+fn either_of_two(rt: HostRuntime) {
+    let either = first_bits(&rt, 0xfc, 4) | first_bits(&rt, 0x02, 2);
+    holds(&rt, &either, b"0111");
+    let one_alone = first_bits(&rt, 0xfc, 4) ^ first_bits(&rt, 0x02, 2);
+    holds(&rt, &one_alone, b"0111");
+}
+
+#[test]
+fn combined_in_place(rt: HostRuntime) {
+    let words = [0xff_u8];
+    let view = BitSlice::<u8, Lsb0>::from_slice(&words).get_range(3..7);
+    let ones = ok(&rt, BitBox::from_bitslice(rt.alloc(), view));
+    let mut both = first_bits(&rt, 0x02, 2);
     both &= ok(&rt, ones.clone());
     holds(&rt, &both, b"01");
     both ^= ok(&rt, ones.clone());
     holds(&rt, &both, b"10");
     both |= ones;
     holds(&rt, &both, b"11");
-    let flipped = !right;
+}
+
+#[test]
+fn flipped(rt: HostRuntime) {
+    let flipped = !first_bits(&rt, 0x02, 2);
     holds(&rt, &flipped, b"10");
     shows(&rt, &flipped, &[0xfd]);
     shows(&rt, &!flipped, &[0x02]);
 }
 
 #[test]
-fn compared(rt: HostRuntime) {
+fn compared_at_another_head(rt: HostRuntime) {
     let words = [0xa8_u8, 0x07];
-    let view = BitSlice::<u8, Lsb0>::from_slice(&words);
-    let headed = ok(
-        &rt,
-        BitBox::from_bitslice_headed(rt.alloc(), view.get_range(3..11)),
-    );
-    let aligned = ok(
-        &rt,
-        BitBox::<u8, Lsb0>::from_box(rt.alloc(), ok(&rt, Box::new(rt.alloc(), 0xf5))),
-    );
+    let view = BitSlice::<u8, Lsb0>::from_slice(&words).get_range(3..11);
+    let headed = ok(&rt, BitBox::from_bitslice_headed(rt.alloc(), view));
+    let byte = ok(&rt, Box::new(rt.alloc(), 0xf5));
+    let aligned = ok(&rt, BitBox::<u8, Lsb0>::from_box(rt.alloc(), byte));
     assert!(rt; headed == aligned && headed.cmp(&aligned) == Ordering::Equal);
     let (mut one, mut other) = (DefaultHasher::new(), DefaultHasher::new());
     headed.hash(&mut one);
     aligned.hash(&mut other);
-    assert_eq!(rt; one.finish(), other.finish());
-    let zeros = [0x00_u8];
-    let view = BitSlice::<u8, Lsb0>::from_slice(&zeros);
-    let short = ok(&rt, BitBox::from_bitslice(rt.alloc(), view.get_range(0..1)));
-    let long = ok(&rt, BitBox::from_bitslice(rt.alloc(), view.get_range(0..2)));
+    assert!(rt; one.finish() == other.finish());
+}
+
+#[test]
+fn compared_with_a_longer(rt: HostRuntime) {
+    let short = first_bits(&rt, 0x00, 1);
+    let long = first_bits(&rt, 0x00, 2);
     assert!(rt; short != long && short < long);
-    assert_eq!(rt; long.partial_cmp(&short), Some(Ordering::Greater));
+    assert!(rt; long.partial_cmp(&short) == Some(Ordering::Greater));
 }
 
 /// How a box is written in a radix.
@@ -249,47 +258,61 @@ impl<T: BitStore, O: BitOrder> fmt::Display for In<'_, T, O> {
 
 #[test]
 fn texts(rt: HostRuntime) {
+    let b = first_bits(&rt, 0x0b, 5);
+    let text = ok(&rt, format!(in rt.alloc(); "{b}"));
+    assert!(rt; text.as_str() == "[1, 1, 0, 1, 0]");
     let words = [0x0b_u8];
-    let view = BitSlice::<u8, Lsb0>::from_slice(&words).get_range(0..5);
-    let b = ok(&rt, BitBox::from_bitslice(rt.alloc(), view));
+    let view = BitSlice::<u8, Lsb0>::from_slice(&words).get_range(1..4);
+    let headed = ok(&rt, BitBox::from_bitslice_headed(rt.alloc(), view));
+    let text = ok(&rt, format!(in rt.alloc(); "{headed:?} {headed:>9}"));
+    assert!(rt; text.as_str() == "BitBox { head: 1, bits: 3 } [1, 0, 1] [1, 0, 1]");
+}
+
+#[test]
+fn texts_in_a_radix(rt: HostRuntime) {
+    let b = first_bits(&rt, 0x0b, 5);
     let (y, o, x, u) = (
         In(&b, Radix::Binary),
         In(&b, Radix::Octal),
         In(&b, Radix::LowerHex),
         In(&b, Radix::UpperHex),
     );
-    let text = ok(&rt, format!(in rt.alloc(); "{b} {y} {o} {x} {u}"));
-    assert_eq!(rt; text.as_str(), "[1, 1, 0, 1, 0] [11010] [62] [d0] [D0]");
-    let headed = ok(
-        &rt,
-        BitBox::from_bitslice_headed(rt.alloc(), view.get_range(1..4)),
-    );
-    let text = ok(&rt, format!(in rt.alloc(); "{headed:?} {headed:>9}"));
-    assert_eq!(rt;
-        text.as_str(),
-        "BitBox { head: 1, bits: 3 } [1, 0, 1] [1, 0, 1]"
-    );
+    let text = ok(&rt, format!(in rt.alloc(); "{y} {o} {x} {u}"));
+    assert!(rt; text.as_str() == "[11010] [62] [d0] [D0]");
+}
+
+#[test]
+fn iterated(rt: HostRuntime) {
+    let b = first_bits(&rt, 0x26, 6);
+    assert!(rt; b.iter().rev().filter(|bit| *bit).count() == 3);
+    assert!(rt; (&b).into_iter().len() == 6);
+}
+
+/// What an iterator has yet to give, as a view and as text.
+#[test]
+fn iterator_seen(rt: HostRuntime) {
+    let mut bits = first_bits(&rt, 0x26, 6).into_iter();
+    assert!(rt; bits.next() == Some(false) && bits.next_back() == Some(true));
+    let text = ok(&rt, format!(in rt.alloc(); "{bits:?}"));
+    assert!(rt; text.as_str() == "IntoIter([1, 1, 0, 0])");
+    assert!(rt; bits.as_bitslice().count_ones() == 2 && bits.as_slice().len() == 4);
+    let copy = ok(&rt, bits.clone());
+    assert!(rt; copy.size_hint() == (4, Some(4)));
+}
+
+#[test]
+fn iterator_emptied(rt: HostRuntime) {
+    let mut bits = first_bits(&rt, 0x26, 6).into_iter();
+    assert!(rt; bits.next() == Some(false) && bits.next_back() == Some(true));
+    assert!(rt; bits.nth(1) == Some(true) && bits.nth_back(1) == Some(false));
+    assert!(rt; bits.next().is_none() && bits.next_back().is_none() && bits.len() == 0);
 }
 
 #[test]
 #[tactic(auto, unfolding(bit_addressing::specs::Row::words_for))]
-fn iterated(rt: HostRuntime) -> Result<(), Fail> {
-    let words = [0x26_u8];
-    let view = BitSlice::<u8, Lsb0>::from_slice(&words).get_range(0..6);
-    let b = ok(&rt, BitBox::from_bitslice(rt.alloc(), view));
-    assert_eq!(rt; b.iter().rev().filter(|bit| *bit).count(), 3);
-    assert_eq!(rt; (&b).into_iter().len(), 6);
-    let mut bits = b.into_iter();
-    assert!(rt; bits.next() == Some(false) && bits.next_back() == Some(true));
-    let text = ok(&rt, format!(in rt.alloc(); "{bits:?}"));
-    assert_eq!(rt; text.as_str(), "IntoIter([1, 1, 0, 0])");
-    assert!(rt; bits.as_bitslice().count_ones() == 2 && bits.as_slice().len() == 4);
-    let copy = ok(&rt, bits.clone());
-    assert_eq!(rt; copy.size_hint(), (4, Some(4)));
-    assert!(rt; bits.nth(1) == Some(true) && bits.nth_back(1) == Some(false));
-    assert!(rt; bits.next().is_none() && bits.next_back().is_none() && bits.len() == 0);
+fn iterator_of_parts(rt: HostRuntime) -> Result<(), Fail> {
     let parts = IntoIter::<u8, Lsb0>::from_parts(vec![in rt.alloc(); 0xa8, 0x07]?, 3, 8);
-    assert_eq!(rt; parts.filter(|bit| *bit).count(), 6);
+    assert!(rt; parts.filter(|bit| *bit).count() == 6);
     Ok(())
 }
 

@@ -31,7 +31,7 @@ fn gives<T: BitStore, O: BitOrder>(rt: &impl Abort, bits: IntoIter<T, O>, digits
 }
 
 #[test]
-fn makers_refused(rt: HostRuntime) {
+fn copies_of_views_refused(rt: HostRuntime) {
     let words = [0xa8_u8, 0x07];
     let view = BitSlice::<u8, Lsb0>::from_slice(&words).get_range(3..11);
     made(&rt, BitBox::from_bitslice(rt.alloc(), view), b"10101111");
@@ -40,22 +40,30 @@ fn makers_refused(rt: HostRuntime) {
         BitBox::from_bitslice_headed(rt.alloc(), view),
         b"10101111",
     );
-    let array = BitArray::<[u8; 2], Lsb0>::new(words);
+}
+
+#[test]
+fn makers_refused(rt: HostRuntime) {
+    let array = BitArray::<[u8; 2], Lsb0>::new([0xa8, 0x07]);
     made(
         &rt,
         BitBox::from_bitarray(rt.alloc(), array),
         b"0001010111100000",
     );
+    match BitBox::<u8, Lsb0>::from_bits(rt.alloc(), [true, false, true]) {
+        Ok(b) => holds(&rt, &b, b"101"),
+        Err(why) => assert!(rt; why == GrowError::OutOfMemory),
+    }
+}
+
+#[test]
+fn box_of_a_word_refused(rt: HostRuntime) {
     if let Ok(word) = Box::new(rt.alloc(), 0x05_u8) {
         made(
             &rt,
             BitBox::<u8, Msb0>::from_box(rt.alloc(), word),
             b"00000101",
         );
-    }
-    match BitBox::<u8, Lsb0>::from_bits(rt.alloc(), [true, false, true]) {
-        Ok(b) => holds(&rt, &b, b"101"),
-        Err(why) => assert!(rt; why == GrowError::OutOfMemory),
     }
 }
 

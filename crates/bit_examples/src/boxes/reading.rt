@@ -3,27 +3,41 @@ use crate::found::ok;
 use bit_addressing::{Lsb0, Msb0};
 use bit_boxed::BitBox;
 use bit_slice::BitSlice;
+use std::process::Abort;
+
+/// A box of ten bits at head 3, of which bits 1, 2 and 4 are set.
+fn ten_bits(rt: &(impl Abort + AllocGlobal)) -> BitBox<u8, Lsb0> {
+    let words = [0xb0_u8, 0x00];
+    let view = BitSlice::<u8, Lsb0>::from_slice(&words).get_range(3..13);
+    ok(rt, BitBox::from_bitslice_headed(rt.alloc(), view))
+}
 
 #[test]
 fn searched(rt: HostRuntime) {
-    let words = [0xb0_u8, 0x00];
-    let view = BitSlice::<u8, Lsb0>::from_slice(&words).get_range(3..13);
-    let b = ok(&rt, BitBox::from_bitslice_headed(rt.alloc(), view));
-    assert_eq!(rt; (b.first_one(), b.last_one()), (Some(1), Some(4)));
-    assert_eq!(rt; (b.first_zero(), b.last_zero()), (Some(0), Some(9)));
-    assert_eq!(rt; (b.next_one(3), b.next_zero(1)), (Some(4), Some(3)));
-    assert_eq!(rt; (b.leading_zeros(), b.leading_ones()), (1, 0));
-    assert_eq!(rt; (b.trailing_zeros(), b.trailing_ones()), (5, 0));
-    assert!(rt; b.some() && b.not_all() && !b.not_any());
-    let (mut ones, mut zeros) = (b.iter_ones(), b.iter_zeros());
-    assert_eq!(rt;
-        (ones.next(), ones.next_back(), ones.len()),
-        (Some(1), Some(4), 1)
-    );
-    assert_eq!(rt; (zeros.next(), zeros.len()), (Some(0), 6));
+    let b = ten_bits(&rt);
+    assert!(rt; b.first_one() == Some(1) && b.last_one() == Some(4));
+    assert!(rt; b.first_zero() == Some(0) && b.last_zero() == Some(9));
+    assert!(rt; b.next_one(3) == Some(4) && b.next_zero(1) == Some(3));
     let words = [0xa000_u16];
     let part = BitSlice::<u16, Msb0>::from_slice(&words).get_range(0..3);
     assert!(rt; b.find(part) == Some(2) && b.contains(part));
+}
+
+#[test]
+fn bits_at_the_ends(rt: HostRuntime) {
+    let b = ten_bits(&rt);
+    assert!(rt; b.leading_zeros() == 1 && b.leading_ones() == 0);
+    assert!(rt; b.trailing_zeros() == 5 && b.trailing_ones() == 0);
+    assert!(rt; b.some() && b.not_all() && !b.not_any());
+}
+
+#[test]
+fn indices_given(rt: HostRuntime) {
+    let b = ten_bits(&rt);
+    let mut ones = b.iter_ones();
+    assert!(rt; ones.next() == Some(1) && ones.next_back() == Some(4) && ones.len() == 1);
+    let mut zeros = b.iter_zeros();
+    assert!(rt; zeros.next() == Some(0) && zeros.len() == 6);
 }
 
 #[test]
@@ -32,23 +46,25 @@ fn beside_a_view(rt: HostRuntime) {
     let view = BitSlice::<u8, Msb0>::from_slice(&words).get_range(0..5);
     let b = ok(&rt, BitBox::from_bitslice(rt.alloc(), view));
     let other = BitSlice::<u16, Lsb0>::from_slice(&others).get_range(0..7);
-    assert_eq!(rt;
-        (b.count_and(other), b.count_or(other), b.count_xor(other)),
-        (2, 5, 3)
-    );
+    assert!(rt; b.count_and(other) == 2 && b.count_or(other) == 5 && b.count_xor(other) == 3);
     assert!(rt; b.intersects(other) && !b.is_disjoint(other) && !b.is_subset(other));
     let part = other.get_range(0..3);
     assert!(rt; b.is_superset(part) && part.is_subset(b.as_bitslice()));
 }
 
-#[test]
-fn taken_apart(rt: HostRuntime) {
+/// A box of seven bits, whose second, third and fifth are set.
+fn seven_bits(rt: &(impl Abort + AllocGlobal)) -> BitBox<u8, Lsb0> {
     let words = [0x16_u8];
     let view = BitSlice::<u8, Lsb0>::from_slice(&words).get_range(0..7);
-    let b = ok(&rt, BitBox::from_bitslice(rt.alloc(), view));
+    ok(rt, BitBox::from_bitslice(rt.alloc(), view))
+}
+
+#[test]
+fn taken_apart(rt: HostRuntime) {
+    let b = seven_bits(&rt);
     assert!(rt; b.len() == 7);
     let (front, back) = b.split_at(3);
-    assert_eq!(rt; (front.len(), back.len()), (3, 4));
+    assert!(rt; front.len() == 3 && back.len() == 4);
     assert!(rt; b.starts_with(front) && b.ends_with(back) && !b.starts_with(back));
     assert!(rt;
         b.split_first()
@@ -58,8 +74,14 @@ fn taken_apart(rt: HostRuntime) {
         b.split_last()
             .is_some_and(|(bit, rest)| !bit && rest.len() == 6)
     );
-    assert_eq!(rt; b.chunk(3, 1).load_be(), 2);
-    assert_eq!(rt; (b.chunks(3).len(), b.rchunks(3).len()), (3, 3));
-    assert_eq!(rt; (b.chunks_exact(3).len(), b.windows(3).len()), (2, 5));
-    assert_eq!(rt; (b.load_be(), b.load_le()), (52, 22));
+}
+
+#[test]
+fn taken_in_chunks(rt: HostRuntime) {
+    let b = seven_bits(&rt);
+    assert!(rt; b.len() == 7);
+    assert!(rt; b.chunk(3, 1).load_be() == 2);
+    assert!(rt; b.chunks(3).len() == 3 && b.rchunks(3).len() == 3);
+    assert!(rt; b.chunks_exact(3).len() == 2 && b.windows(3).len() == 5);
+    assert!(rt; b.load_be() == 52 && b.load_le() == 22);
 }

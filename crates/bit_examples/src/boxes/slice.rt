@@ -27,15 +27,22 @@ fn bits_and_parts(rt: HostRuntime) {
 }
 
 #[test]
-fn combined_with_views(rt: HostRuntime) {
+fn copied_from_a_view(rt: HostRuntime) {
     let words = [0xa8_u8, 0x07];
     let view = BitSlice::<u8, Lsb0>::from_slice(&words).get_range(3..11);
     let mut b = ok(&rt, BitBox::from_bitslice_headed(rt.alloc(), view));
-    assert_eq!(rt; b.len(), 8);
+    assert!(rt; b.len() == 8);
     let wide = [0x1234_u16];
     b.clone_from_bitslice(BitSlice::<u16, Msb0>::from_slice(&wide).get_range(4..12));
     holds(&rt, &b, b"00100011");
     shows(&rt, &b, &[0x20, 0x06]);
+}
+
+#[test]
+fn combined_with_views(rt: HostRuntime) {
+    let words = [0x20_u8, 0x06];
+    let view = BitSlice::<u8, Lsb0>::from_slice(&words).get_range(3..11);
+    let mut b = ok(&rt, BitBox::from_bitslice_headed(rt.alloc(), view));
     let short = [0x03_u8];
     b.or_bits(BitSlice::<u8, Lsb0>::from_slice(&short).get_range(0..2));
     shows(&rt, &b, &[0x38, 0x06]);
@@ -46,6 +53,14 @@ fn combined_with_views(rt: HostRuntime) {
     b.xor_bits(BitSlice::<u16, Msb0>::from_slice(&ends).get_range(0..8));
     shows(&rt, &b, &[0x30, 0x04]);
     holds(&rt, &b, b"01100001");
+}
+
+#[test]
+fn copied_within(rt: HostRuntime) {
+    let words = [0x30_u8, 0x04];
+    let view = BitSlice::<u8, Lsb0>::from_slice(&words).get_range(3..11);
+    let mut b = ok(&rt, BitBox::from_bitslice_headed(rt.alloc(), view));
+    assert!(rt; b.len() == 8);
     let _meter = b.copy_within_counted(1..3, 4);
     shows(&rt, &b, &[0xb0, 0x05]);
 }

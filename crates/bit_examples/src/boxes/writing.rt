@@ -4,12 +4,17 @@ use crate::found::ok;
 use bit_addressing::Lsb0;
 use bit_boxed::BitBox;
 use bit_slice::BitSlice;
+use std::process::Abort;
+
+/// A box of eight bits at head 3.
+fn headed(rt: &(impl Abort + AllocGlobal), words: &[u8; 2]) -> BitBox<u8, Lsb0> {
+    let view = BitSlice::<u8, Lsb0>::from_slice(words).get_range(3..11);
+    ok(rt, BitBox::from_bitslice_headed(rt.alloc(), view))
+}
 
 #[test]
-fn parts_written(rt: HostRuntime) {
-    let words = [0xa8_u8, 0x07];
-    let view = BitSlice::<u8, Lsb0>::from_slice(&words).get_range(3..11);
-    let mut b = ok(&rt, BitBox::from_bitslice_headed(rt.alloc(), view));
+fn parts_filled_and_flipped(rt: HostRuntime) {
+    let mut b = headed(&rt, &[0xa8, 0x07]);
     holds(&rt, &b, b"10101111");
     assert!(rt; b.len() == 8);
     b.fill_range(2..5, false);
@@ -19,6 +24,11 @@ fn parts_written(rt: HostRuntime) {
     b.flip(7);
     holds(&rt, &b, b"01110110");
     shows(&rt, &b, &[0x70, 0x03]);
+}
+
+#[test]
+fn parts_written(rt: HostRuntime) {
+    let mut b = headed(&rt, &[0x70, 0x03]);
     let ends = [0x09_u8];
     assert!(rt; b.len() == 8);
     b.copy_into(4.., BitSlice::<u8, Lsb0>::from_slice(&ends).get_range(0..4));
@@ -26,6 +36,11 @@ fn parts_written(rt: HostRuntime) {
     assert!(rt; b.len() == 8);
     b.and_range(0..4, BitSlice::<u16, Lsb0>::from_slice(&first_and_third));
     shows(&rt, &b, &[0xa0, 0x04]);
+}
+
+#[test]
+fn parts_combined(rt: HostRuntime) {
+    let mut b = headed(&rt, &[0xa0, 0x04]);
     let second_and_fourth = [0x0a_u8];
     assert!(rt; b.len() == 8);
     b.or_range(2..6, BitSlice::<u8, Lsb0>::from_slice(&second_and_fourth));
@@ -39,10 +54,8 @@ fn parts_written(rt: HostRuntime) {
 }
 
 #[test]
-fn moved_about(rt: HostRuntime) {
-    let words = [0xa8_u8, 0x07];
-    let view = BitSlice::<u8, Lsb0>::from_slice(&words).get_range(3..11);
-    let mut b = ok(&rt, BitBox::from_bitslice_headed(rt.alloc(), view));
+fn turned(rt: HostRuntime) {
+    let mut b = headed(&rt, &[0xa8, 0x07]);
     b.reverse();
     shows(&rt, &b, &[0x78, 0x05]);
     holds(&rt, &b, b"11110101");
@@ -52,18 +65,35 @@ fn moved_about(rt: HostRuntime) {
     assert!(rt; b.len() == 8);
     b.rotate_right(1);
     holds(&rt, &b, b"11010111");
+}
+
+#[test]
+fn shifted(rt: HostRuntime) {
+    let mut b = headed(&rt, &[0x58, 0x07]);
+    holds(&rt, &b, b"11010111");
     assert!(rt; b.len() == 8);
     b.shift_left(1);
     assert!(rt; b.len() == 8);
     b.shift_right(2);
     holds(&rt, &b, b"00101011");
     shows(&rt, &b, &[0xa0, 0x06]);
+}
+
+#[test]
+fn combined_within(rt: HostRuntime) {
+    let mut b = headed(&rt, &[0xa0, 0x06]);
     assert!(rt; b.len() == 8);
     b.or_within(3..6, 0);
     assert!(rt; b.len() == 8);
     b.and_within(0..4, 2);
     assert!(rt; b.len() == 8);
     b.xor_within(3..7, 4);
+    holds(&rt, &b, b"01001110");
+}
+
+#[test]
+fn numbers_written(rt: HostRuntime) {
+    let mut b = headed(&rt, &[0x90, 0x03]);
     holds(&rt, &b, b"01001110");
     assert!(rt; b.len() == 8);
     b.store_le(0xc1);
@@ -77,9 +107,7 @@ fn moved_about(rt: HostRuntime) {
 /// What is written through a part lands in the box, and the bits around it stay.
 #[test]
 fn part_lands(rt: HostRuntime) {
-    let words = [0xa8_u8, 0x07];
-    let view = BitSlice::<u8, Lsb0>::from_slice(&words).get_range(3..11);
-    let mut b = ok(&rt, BitBox::from_bitslice_headed(rt.alloc(), view));
+    let mut b = headed(&rt, &[0xa8, 0x07]);
     assert!(rt; b.len() == 8);
     let mut part = b.part_mut(4, 7);
     assert!(rt; part.head() == 7 && part.len() == 3);

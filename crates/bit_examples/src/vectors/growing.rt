@@ -27,11 +27,15 @@ fn pulled(rt: HostRuntime) {
     let view = BitSlice::<u8, Lsb0>::from_slice(&words);
     ok(&rt, v.extend_from_bitslice(view.get_range(..4)));
     shows(&rt, &v, &[0x43, 0xc0]);
-    assert_eq!(rt; v.len(), 10);
+    assert!(rt; v.len() == 10);
+}
+
+#[test]
+fn words_pulled(rt: HostRuntime) {
     let mut v = of::<u8, Lsb0>(&rt, b"1");
     ok(&rt, v.extend_words([3]));
     shows(&rt, &v, &[0x07, 0x00]);
-    assert_eq!(rt; v.len(), 9);
+    assert!(rt; v.len() == 9);
 }
 
 #[test]
@@ -57,21 +61,24 @@ fn appended(rt: HostRuntime) {
 #[test]
 fn room_after_a_head(rt: HostRuntime) {
     let words = [0xff];
-    let view = BitSlice::<u8, Lsb0>::from_slice(&words);
-    let mut v = ok(
-        &rt,
-        BitVec::from_bitslice_headed(rt.alloc(), view.get_range(5..5)),
-    );
+    let view = BitSlice::<u8, Lsb0>::from_slice(&words).get_range(5..5);
+    let mut v = ok(&rt, BitVec::from_bitslice_headed(rt.alloc(), view));
     shows(&rt, &v, &[0x00]);
     assert!(rt; v.head() == 5 && v.is_empty());
     ok(&rt, v.reserve(3));
-    ok(&rt, v.push(true));
-    ok(&rt, v.push(true));
-    ok(&rt, v.push(true));
+    for _ in 0..3 {
+        ok(&rt, v.push(true));
+    }
     shows(&rt, &v, &[0xe0]);
     ok(&rt, v.push(true));
     shows(&rt, &v, &[0xe0, 0x01]);
-    let mut v = ok(&rt, BitVec::from_bitslice(rt.alloc(), view.get_range(5..5)));
+}
+
+#[test]
+fn room_at_head_0(rt: HostRuntime) {
+    let words = [0xff];
+    let view = BitSlice::<u8, Lsb0>::from_slice(&words).get_range(5..5);
+    let mut v = ok(&rt, BitVec::from_bitslice(rt.alloc(), view));
     assert!(rt; v.head() == 0 && v.as_raw_slice().is_empty());
     ok(&rt, v.reserve(3));
     ok(&rt, v.extend([true; 3]));

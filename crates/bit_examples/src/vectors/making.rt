@@ -40,12 +40,16 @@ fn bytes_there_and_back(rt: HostRuntime) {
     holds(&rt, &v, b"1010000000000001");
     shows(&rt, &v, &[0x8005]);
     let back = ok(&rt, v.to_bytes::<Msb0>(rt.alloc()));
-    assert_eq!(rt; back.as_slice(), bytes.as_slice());
+    assert!(rt; back.as_slice() == bytes.as_slice());
+}
+
+#[test]
+fn bytes_of_a_part(rt: HostRuntime) {
     let v = of::<u64, Lsb0>(&rt, b"1010000011");
     let short = ok(&rt, v.to_bytes::<Msb0>(rt.alloc()));
-    assert_eq!(rt; short.as_slice(), [0xa0, 0xc0].as_slice());
+    assert!(rt; short.as_slice() == [0xa0, 0xc0].as_slice());
     let short = ok(&rt, v.to_bytes::<Lsb0>(rt.alloc()));
-    assert_eq!(rt; short.as_slice(), [0x05, 0x03].as_slice());
+    assert!(rt; short.as_slice() == [0x05, 0x03].as_slice());
 }
 
 #[test]
@@ -78,10 +82,14 @@ fn read_from_text(rt: HostRuntime) {
     shows(&rt, &v, &[0x60]);
     let v = ok(&rt, BitVec::<u8, Lsb0>::from_text(rt.alloc(), "[1, 0, 1]"));
     holds(&rt, &v, b"101");
-    let v = ok(&rt, BitVec::<u8, Lsb0>::from_text(rt.alloc(), "[]"));
-    assert!(rt; v.is_empty());
-    let v = ok(&rt, BitVec::<u8, Lsb0>::from_text(rt.alloc(), ""));
-    assert!(rt; v.is_empty());
+    for empty in ["[]", ""] {
+        let v = ok(&rt, BitVec::<u8, Lsb0>::from_text(rt.alloc(), empty));
+        assert!(rt; v.is_empty());
+    }
+}
+
+#[test]
+fn wrong_texts(rt: HostRuntime) {
     let wrong = [
         ("012", 2),
         ("[1,0]", 3),
@@ -100,27 +108,35 @@ fn read_from_text(rt: HostRuntime) {
 
 /// A box is made as a vector is, and its bytes are those of its list.
 #[test]
-fn boxes_made(rt: HostRuntime) {
+fn boxes_made_of_bytes(rt: HostRuntime) {
     let bytes = [0xa0, 0x01];
     let b = ok(
         &rt,
         BitBox::<u16, Lsb0>::from_bytes::<Msb0>(rt.alloc(), &bytes),
     );
-    assert_eq!(rt; b.as_raw_slice(), [0x8005].as_slice());
+    assert!(rt; b.as_raw_slice() == [0x8005].as_slice());
     assert!(rt; b.len() == 16);
     let back = ok(&rt, b.to_bytes::<Msb0>(rt.alloc()));
-    assert_eq!(rt; back.as_slice(), bytes.as_slice());
+    assert!(rt; back.as_slice() == bytes.as_slice());
     let part = ok(&rt, b.get_range(0..3).to_bytes::<Lsb0>(rt.alloc()));
-    assert_eq!(rt; part.as_slice(), [0x05].as_slice());
+    assert!(rt; part.as_slice() == [0x05].as_slice());
+}
+
+#[test]
+fn boxes_made_of_indices(rt: HostRuntime) {
     let b = ok(
         &rt,
         BitBox::<u8, Msb0>::from_indices(rt.alloc(), 5, &[3, 0]),
     );
     assert!(rt; b.len() == 5);
-    assert_eq!(rt; b.as_raw_slice(), [0x90].as_slice());
+    assert!(rt; b.as_raw_slice() == [0x90].as_slice());
+}
+
+#[test]
+fn boxes_read_from_text(rt: HostRuntime) {
     let b = ok(&rt, BitBox::<u8, Msb0>::from_text(rt.alloc(), "[0, 1, 1]"));
     assert!(rt; b.len() == 3);
-    assert_eq!(rt; b.as_raw_slice(), [0x60].as_slice());
+    assert!(rt; b.as_raw_slice() == [0x60].as_slice());
     let outcome = BitBox::<u8, Lsb0>::from_text(rt.alloc(), "012");
     assert!(rt; outcome.is_err_and(|why| why == ParseBitsError::Wrong(2)));
 }

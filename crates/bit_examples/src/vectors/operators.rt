@@ -7,21 +7,18 @@ use std::hash::{DefaultHasher, Hash, Hasher};
 
 #[test]
 fn combined(rt: HostRuntime) {
-    let left = of::<u8, Lsb0>(&rt, b"0011");
-    let right = of::<u8, Lsb0>(&rt, b"01");
-    holds(
-        &rt,
-        &(ok(&rt, left.clone()) & ok(&rt, right.clone())),
-        b"0000",
-    );
-    holds(
-        &rt,
-        &(ok(&rt, left.clone()) | ok(&rt, right.clone())),
-        b"0111",
-    );
-    holds(&rt, &(left ^ ok(&rt, right.clone())), b"0111");
+    let both = of::<u8, Lsb0>(&rt, b"0011") & of::<u8, Lsb0>(&rt, b"01");
+    holds(&rt, &both, b"0000");
+    let either = of::<u8, Lsb0>(&rt, b"0011") | of::<u8, Lsb0>(&rt, b"01");
+    holds(&rt, &either, b"0111");
+    let one_alone = of::<u8, Lsb0>(&rt, b"0011") ^ of::<u8, Lsb0>(&rt, b"01");
+    holds(&rt, &one_alone, b"0111");
+}
+
+#[test]
+fn combined_in_place(rt: HostRuntime) {
     let ones = of::<u8, Lsb0>(&rt, b"1111");
-    let mut both = right;
+    let mut both = of::<u8, Lsb0>(&rt, b"01");
     both &= ok(&rt, ones.clone());
     holds(&rt, &both, b"01");
     both ^= ok(&rt, ones.clone());
@@ -43,7 +40,7 @@ fn flipped(rt: HostRuntime) {
 }
 
 #[test]
-fn compared(rt: HostRuntime) {
+fn compared_at_another_head(rt: HostRuntime) {
     let words = [0xa8, 0x07];
     let view = BitSlice::<u8, Lsb0>::from_slice(&words).get_range(3..11);
     let mut headed = ok(&rt, BitVec::from_bitslice_headed(rt.alloc(), view));
@@ -52,15 +49,23 @@ fn compared(rt: HostRuntime) {
     let (mut one, mut other) = (DefaultHasher::new(), DefaultHasher::new());
     headed.hash(&mut one);
     aligned.hash(&mut other);
-    assert_eq!(rt; one.finish(), other.finish());
+    assert!(rt; one.finish() == other.finish());
     headed.force_align();
     headed.set_uninitialized(false);
     shows(&rt, &headed, &[0xf5]);
+}
+
+#[test]
+fn compared_with_a_longer(rt: HostRuntime) {
     let short = of::<u8, Lsb0>(&rt, b"0");
     let long = of::<u8, Lsb0>(&rt, b"00");
-    assert_eq!(rt; short.as_raw_slice(), long.as_raw_slice());
+    assert!(rt; short.as_raw_slice() == long.as_raw_slice());
     assert!(rt; short != long && short < long);
+}
+
+#[test]
+fn compared_by_the_first_bit(rt: HostRuntime) {
     let (low, high) = (of::<u8, Msb0>(&rt, b"01"), of(&rt, b"1"));
     assert!(rt; low < high);
-    assert_eq!(rt; high.partial_cmp(&low), Some(Ordering::Greater));
+    assert!(rt; high.partial_cmp(&low) == Some(Ordering::Greater));
 }

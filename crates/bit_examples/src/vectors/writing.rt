@@ -4,7 +4,7 @@ use bit_containers::{BitVec, Lsb0};
 use bit_slice::BitSlice;
 
 #[test]
-fn parts_written(rt: HostRuntime) {
+fn parts_filled_and_flipped(rt: HostRuntime) {
     let mut v: BitVec<u8, Lsb0> = of(&rt, b"101100101101");
     assert!(rt; v.len() == 12);
     v.fill_range(2..5, false);
@@ -13,6 +13,11 @@ fn parts_written(rt: HostRuntime) {
     assert!(rt; v.len() == 12);
     v.flip(11);
     holds(&rt, &v, b"011100101100");
+}
+
+#[test]
+fn parts_written(rt: HostRuntime) {
+    let mut v: BitVec<u8, Lsb0> = of(&rt, b"011100101100");
     let ones = [0x0f_u8];
     assert!(rt; v.len() == 12);
     v.copy_into(
@@ -23,6 +28,12 @@ fn parts_written(rt: HostRuntime) {
     let first_and_third = [0x05_u16];
     assert!(rt; v.len() == 12);
     v.and_range(0..4, BitSlice::<u16, Lsb0>::from_slice(&first_and_third));
+    holds(&rt, &v, b"001011111100");
+}
+
+#[test]
+fn parts_combined(rt: HostRuntime) {
+    let mut v: BitVec<u8, Lsb0> = of(&rt, b"001011111100");
     let last_two = [0x0c_u8];
     assert!(rt; v.len() == 12);
     v.or_range(
@@ -43,7 +54,7 @@ fn parts_written(rt: HostRuntime) {
 }
 
 #[test]
-fn moved_about(rt: HostRuntime) {
+fn turned(rt: HostRuntime) {
     let mut v: BitVec<u8, Lsb0> = of(&rt, b"110100011000");
     v.reverse();
     assert!(rt; v.len() == 12);
@@ -51,11 +62,21 @@ fn moved_about(rt: HostRuntime) {
     assert!(rt; v.len() == 12);
     v.rotate_right(2);
     holds(&rt, &v, b"110001011000");
+}
+
+#[test]
+fn shifted(rt: HostRuntime) {
+    let mut v: BitVec<u8, Lsb0> = of(&rt, b"110001011000");
     assert!(rt; v.len() == 12);
     v.shift_left(3);
     assert!(rt; v.len() == 12);
     v.shift_right(1);
     holds(&rt, &v, b"000101100000");
+}
+
+#[test]
+fn combined_within(rt: HostRuntime) {
+    let mut v: BitVec<u8, Lsb0> = of(&rt, b"000101100000");
     assert!(rt; v.len() == 12);
     v.or_within(3..6, 9);
     assert!(rt; v.len() == 12);

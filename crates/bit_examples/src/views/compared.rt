@@ -2,6 +2,7 @@
 ghost use Rattle.std.specs.Prelude.{◌≡◌, ◌+◌, ◌*◌, ◌≤◌, length};
 ghost use Rattle.bit_addressing.specs.Row.{words_for};
 ghost use Rattle.bit_slice.specs.BitSlice.{len_of as len_seen};
+ghost use Rattle.bit_slice.specs.BitSliceMut.{len_of};
 ghost use Rattle.bit_addressing.specs.declared.length.TheConstants.{MAX_BITS};
 
 use crate::rows::orders::Xor4;
@@ -57,6 +58,42 @@ fn operators(rt: HostRuntime) {
     assert_eq!(rt; made(0xa2, 2, first_bits(&[0x0f], 4)), (0xa2, 0xa3, 0xa1));
 }
 
+// Views that hold the same bits from bit 3 and from bit 5 on.
+fn ordered<T: BitStore, O: BitOrder, U: BitStore, P: BitOrder>(
+    rt: &impl Abort,
+    left: &BitSliceMut<'_, T, O>,
+    right: &BitSliceMut<'_, U, P>,
+)
+    requires left { 24 ≤ len_of left.now }
+    requires right { 24 ≤ len_of right.now }
+{
+    let part = left.get_range(3..20);
+    assert!(rt; part.eq_bits(right.get_range(5..22)));
+    assert!(rt; part.cmp_bits(right.get_range(5..22)) == Ordering::Equal);
+    assert!(rt; !part.eq_bits(right.get_range(5..21)));
+    assert!(rt; part.cmp_bits(right.get_range(5..21)) == Ordering::Greater);
+    assert!(rt; part.cmp_bits(right.get_range(5..23)) == Ordering::Less);
+    assert!(rt; part.cmp_bits(right.get_range(4..22)) == Ordering::Greater);
+    assert!(rt; !left.eq_bits(right.as_bitslice()));
+    assert!(rt; right.cmp_bits(left.as_bitslice()) == Ordering::Less);
+}
+
+fn combined<T: BitStore, O: BitOrder, U: BitStore, P: BitOrder>(
+    rt: &impl Abort,
+    left: &mut BitSliceMut<'_, T, O>,
+    right: &BitSliceMut<'_, U, P>,
+)
+    requires left { 24 ≤ len_of left.old }
+    requires right { 24 ≤ len_of right.now }
+{
+    left.xor_bits(right.get_range(2..));
+    assert!(rt; !left.any());
+    left.or_bits(right.get_range(2..));
+    assert!(rt; left.count_ones() == 2);
+    left.and_bits(right.get_range(2..19));
+    assert!(rt; left[3] && left.count_ones() == 1);
+}
+
 // Two views of the same bits in words of two kinds, at heads 3 and 5.
 fn compared<T: BitStore, O: BitOrder, U: BitStore, P: BitOrder>(
     rt: &impl Abort,
@@ -76,21 +113,8 @@ fn compared<T: BitStore, O: BitOrder, U: BitStore, P: BitOrder>(
     left.set(19, true);
     right.set(5, true);
     right.set(21, true);
-    let part = left.get_range(3..20);
-    assert!(rt; part.eq_bits(right.get_range(5..22)));
-    assert_eq!(rt; part.cmp_bits(right.get_range(5..22)), Ordering::Equal);
-    assert!(rt; !part.eq_bits(right.get_range(5..21)));
-    assert_eq!(rt; part.cmp_bits(right.get_range(5..21)), Ordering::Greater);
-    assert_eq!(rt; part.cmp_bits(right.get_range(5..23)), Ordering::Less);
-    assert_eq!(rt; part.cmp_bits(right.get_range(4..22)), Ordering::Greater);
-    assert!(rt; !left.eq_bits(right.as_bitslice()));
-    assert_eq!(rt; right.cmp_bits(left.as_bitslice()), Ordering::Less);
-    left.xor_bits(right.get_range(2..));
-    assert!(rt; !left.any());
-    left.or_bits(right.get_range(2..));
-    assert_eq!(rt; left.count_ones(), 2);
-    left.and_bits(right.get_range(2..19));
-    assert!(rt; left[3] && left.count_ones() == 1);
+    ordered(rt, &left, &right);
+    combined(rt, &mut left, &right);
 }
 
 // Views of one kind of word with each kind.

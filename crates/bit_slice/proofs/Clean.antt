@@ -2,13 +2,19 @@
 use Rattle.std.proofs.Common.{[], ◌∷◌, true, false, leb, ltb, ◌&&◌, if◌then◌else◌, subst, get_or, set, swap, slice_range, ◌≡◌, ℕ, ◌+◌, ◌-◌, ◌*◌, ◌<◌, ◌≤◌, List, Bool, length, sym, ◌∙◌, ap, refl, arith, rules}
 use Rattle.std.proofs.lemmas.List.{same_lists, places, length-set, ext_get_or}
 use Rattle.std.proofs.lemmas.List.Edits.{swap_is}
+use Rattle.bit_addressing.specs.Bits.{IsWidth}
+use Rattle.bit_addressing.specs.declared.store.BitStore as store
+use Rattle.bit_addressing.specs.declared.order.BitOrder as order
 use Rattle.bit_addressing.specs.Row.{put, sized, moved, source_of, words_for}
+use Rattle.bit_addressing.specs.Typed.{row}
+use Rattle.bit_addressing.proofs.Rows.{width_positive}
 use Rattle.bit_addressing.proofs.lists.Sized.{room, length-sized, sized_same, words_for_all}
 use Rattle.bit_addressing.proofs.lists.Shown.{length-run, shows_sized}
 use Rattle.bit_addressing.proofs.lists.Put.{put_one, length-put}
 use Rattle.bit_addressing.proofs.lists.Moved.{length-moved, get_or-moved}
 use Rattle.bit_addressing.proofs.Shifts.{put_moved}
 use Rattle.bit_slice.specs.Clean.{IsCleanRow}
+use Rattle.bit_slice.proofs.Parts.{all_shown, row_size}
 use Rattle.bit_slice.proofs.Shown.{put_all}
 
 -- what is told of a container by whether it is clean
@@ -104,6 +110,13 @@ clean_swapped w old new i j positive h k head list row clean =
 pub clean_all : (w n : ℕ) (bits list : List Bool) → 0 < w → length bits ≡ w * n → list ≡ bits → bits ≡ sized w list (length list)
 clean_all w n bits list positive size is =
     sym (sized_same w bits (length bits) (size ∙ ap (λ m. w * m) (words_for_all w n positive ∙ ap (words_for w) (sym size)))) ∙ ap (λ l. sized w l (length l)) (sym is)
+
+-- all bits of some words are clean
+pub clean_words : {X Y : Type 0} (W : store.Ghosts X) (P : order.Ghosts Y) (ws : List X) (n : ℕ) → IsWidth W.BITS → n ≡ W.BITS * length ws → IsCleanRow W.BITS 0 (row W P ws) (slice_range (row W P ws) 0 (0 + n))
+clean_words W P ws n width all = record {
+  head = refl;
+  row = clean_all W.BITS (length ws) (row W P ws) _ (width_positive W.BITS width) (row_size W P ws) (all_shown W P ws n all);
+}
 
 -- ---- a list that is moved to where it stands
 

@@ -4,14 +4,15 @@ use Rattle.std.specs.List.{refill}
 use Rattle.bit_addressing.specs.Bits.{IsWidth}
 use Rattle.bit_addressing.specs.declared.store.BitStore as store
 use Rattle.bit_addressing.specs.declared.order.BitOrder as order
-use Rattle.bit_addressing.specs.Row.{put}
+use Rattle.bit_addressing.specs.Row.{moved, put}
 use Rattle.bit_addressing.specs.Typed.{row}
 use Rattle.bit_addressing.proofs.Rows.{width_positive}
+use Rattle.bit_addressing.proofs.lists.Moved.{shows_moved}
 use Rattle.bit_addressing.proofs.lists.Shown.{shown_written}
-use Rattle.bit_slice.proofs.Clean.{Seen, clean_put, clean_whole}
+use Rattle.bit_slice.proofs.Clean.{Seen, clean_moved, clean_put, clean_whole}
 use Rattle.bit_slice.proofs.Parts.{in_row, refilled, shown_length}
-use Rattle.bit_slice.proofs.Shown.{shown_filled}
-use Rattle.bit_slice.specs.Overwritten.{list_in, IsWritten, IsRewritten}
+use Rattle.bit_slice.proofs.Shown.{moved_lands, shown_filled}
+use Rattle.bit_slice.specs.Overwritten.{list_in, IsMovedWithin, IsRewritten, IsWritten}
 
 module _ {X Y : Type 0} (W : store.Ghosts X) (P : order.Ghosts Y) (old : List X) (n : ℕ) (count : n ≡ length old) (ws : List X) (head len : ℕ) (width : IsWidth W.BITS) (room : head + len ≤ W.BITS * length old) (size : length ws ≡ length old) where
   abbrev seen_in : List X → Seen
@@ -48,4 +49,21 @@ module _ {X Y : Type 0} (W : store.Ghosts X) (P : order.Ghosts Y) (old : List X)
         list = list;
         clean = clean_whole W.BITS (seen_in old) (seen_in new) bits (width_positive W.BITS width) (full ∙ sym long) refl list is;
         size = sym (ap length same) ∙ size;
+      }
+
+module _ {X Y : Type 0} (W : store.Ghosts X) (P : order.Ghosts Y) (old new : List X) (head len : ℕ) (width : IsWidth W.BITS) (room : head + len ≤ W.BITS * length old) (size : length new ≡ length old) where
+  pub moved_within : (s d n : ℕ) → s + n ≤ len → d + n ≤ len → row W P new ≡ moved (row W P old) (head + s) (head + d) n → IsMovedWithin W P old new head len s d n
+  moved_within s d n from to is =
+      let shown : List Bool = list_in W P old head len in
+      let long : length shown ≡ len = shown_length W P old head len room in
+      let inside : s + n ≤ length shown = omega arith in
+      let there : d + n ≤ length shown = omega arith in
+      let list : list_in W P new head len ≡ moved shown s d n =
+      ap (λ r. slice_range r head (head + len)) is ∙ shows_moved (row W P old) head len s d n from to (in_row W P old (head + len) room) in
+      record {
+        row = is;
+        list = list;
+        landed = ap (λ l. slice_range l d (d + n)) list ∙ moved_lands shown s d n inside there;
+        clean = clean_moved W.BITS (record { head = head; row = row W P old; list = shown }) (record { head = head; row = row W P new; list = list_in W P new head len }) s d n (width_positive W.BITS width) inside there refl list is;
+        size = size;
       }

@@ -2,7 +2,7 @@
 use Rattle.std.proofs.Common.{◌≡◌, ℕ, ◌+◌, ◌-◌, ◌*◌, ◌/◌, ◌%◌, ◌<◌, ◌≤◌, Bool, List, ◌++◌, map, length, take, drop, slice_range, sym, ◌∙◌, ap, subst, arith, rules, mul_comm}
 use Rattle.std.specs.List.{refill}
 use Rattle.std.proofs.Math.Seq.{take-append_seam}
-use Rattle.std.proofs.lemmas.List.{places, same_lists, take-append-le, length-append, drop-take, take-take, drop_at, take-append-drop, length-take-le, take-map, drop-map, length-map, length-drop, length-take}
+use Rattle.std.proofs.lemmas.List.{places, same_lists, take_all, take-append-le, length-append, drop-take, take-take, drop_at, take-append-drop, length-take-le, take-map, drop-map, length-map, length-drop, length-take}
 use Rattle.std.proofs.Math.Nat.{mul-le-mul_left, le_of_mul-le-mul_left, le-mul_of_pos_right, lt_of_mul-lt-mul_left}
 use Rattle.std.proofs.lemmas.Nat.{div-add-mod'}
 use Rattle.bit_addressing.specs.Bits.{IsWidth}
@@ -101,6 +101,10 @@ module _ {X Y : Type 0} (W : store.Ghosts X) (P : order.Ghosts Y) where
   -- as many bits are shown as the length says
   pub shown_length : (ws : List X) (head len : ℕ) → head + len ≤ W.BITS * length ws → length (slice_range (row W P ws) head (head + len)) ≡ len
   shown_length ws head len fits = length-run (row W P ws) head len (in_row ws (head + len) fits)
+
+  -- all bits of the words are shown
+  pub all_shown : (ws : List X) (n : ℕ) → n ≡ W.BITS * length ws → slice_range (row W P ws) 0 (0 + n) ≡ row W P ws
+  all_shown ws n all = let size = row_size ws in take_all (0 + n - 0) (row W P ws) (omega arith)
 
 -- a whole list written over one of its length
 pub refilled : {X : Type 0} (n : ℕ) (xs ws : List X) → length ws ≡ n → refill n xs ws ≡ ws

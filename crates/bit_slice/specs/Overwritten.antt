@@ -2,7 +2,7 @@
 use Rattle.std.specs.Prelude.{◌≡◌, ℕ, ◌+◌, Bool, List, length, slice_range}
 use Rattle.bit_addressing.specs.declared.store.BitStore as store
 use Rattle.bit_addressing.specs.declared.order.BitOrder as order
-use Rattle.bit_addressing.specs.Row.{put}
+use Rattle.bit_addressing.specs.Row.{moved, put}
 use Rattle.bit_addressing.specs.Typed.{row as row_of}
 use Rattle.bit_slice.specs.Clean.{IsCleanRow}
 
@@ -21,5 +21,13 @@ pub record IsWritten {X Y : Type 0} (W : store.Ghosts X) (P : order.Ghosts Y) (o
 pub record IsRewritten {X Y : Type 0} (W : store.Ghosts X) (P : order.Ghosts Y) (old new : List X) (head len : ℕ) (bits : List Bool) : Type 0 where
   pub row : row_of W P new ≡ put (row_of W P old) head bits
   pub list : list_in W P new head len ≡ bits
+  pub clean : IsCleanRow W.BITS head (row_of W P old) (list_in W P old head len) → IsCleanRow W.BITS head (row_of W P new) (list_in W P new head len)
+  pub size : length new ≡ length old
+
+-- n bits of the list were moved from one index on to another: the words are as many, each other bit of their row stays, and a clean row is clean afterwards
+pub record IsMovedWithin {X Y : Type 0} (W : store.Ghosts X) (P : order.Ghosts Y) (old new : List X) (head len start dest n : ℕ) : Type 0 where
+  pub row : row_of W P new ≡ moved (row_of W P old) (head + start) (head + dest) n
+  pub list : list_in W P new head len ≡ moved (list_in W P old head len) start dest n
+  pub landed : slice_range (list_in W P new head len) dest (dest + n) ≡ slice_range (list_in W P old head len) start (start + n)
   pub clean : IsCleanRow W.BITS head (row_of W P old) (list_in W P old head len) → IsCleanRow W.BITS head (row_of W P new) (list_in W P new head len)
   pub size : length new ≡ length old

@@ -3,9 +3,9 @@
 ghost use Rattle.std.specs.Prelude.{◌≡◌, ◌+◌, ◌-◌, ◌*◌, ◌^◌, ◌<◌, ◌≤◌, ◌++◌, drop, false, length, map, not, replicate, reverse, slice_range, take, vec_capacity};
 ghost use Rattle.bit_addressing.specs.declared.length.TheConstants.{MAX_BITS};
 ghost use Rattle.bit_addressing.specs.Range.{LiesIn};
-ghost use Rattle.bit_addressing.specs.Row.{binary, number_bits};
+ghost use Rattle.bit_addressing.specs.Row.{binary, number_bits, touched};
 ghost use Rattle.bit_slice.specs.BitSlice.{len_of as len_seen, list_of as list_seen};
-ghost use Rattle.bit_slice.specs.Overwritten.{list_in, IsWritten, IsRewritten};
+ghost use Rattle.bit_slice.specs.Overwritten.{list_in, IsMovedWithin, IsRewritten, IsWritten};
 ghost use Rattle.bit_slice.specs.Operators.{combined, part_onto};
 
 use crate::edits::{
@@ -14,8 +14,63 @@ use crate::edits::{
 use crate::ops::combine_words;
 use crate::slice::BitSlice;
 use bit_addressing::{
-    BitOperator, BitOrder, BitStore, RangeExt, copy_bits, fill_bits, write_binary, write_chunk,
+    BitOperator, BitOrder, BitStore, Meter, RangeExt, copy_bits, fill_bits,
+    move_bits_counted_in_vec, write_binary, write_chunk,
 };
+
+/// Writes `bit` at each index of the list.
+pub fn fill_in_vec<T: BitStore, O: BitOrder>(words: &mut Vec<T>, head: usize, len: usize, bit: bool)
+    requires within { head + len ≤ T.BITS * length words.old.items }
+    requires fits { head + len < 2 ^ 64 }
+    ensures written { IsRewritten T.BitStore O.BitOrder words.old.items words.new.items head len (replicate len bit) }
+    ensures capacity { vec_capacity words.new ≡ vec_capacity words.old }
+{
+    fill_bits::<T, O>(words.as_mut_slice(), head, head + len, bit);
+}
+
+/// Writes the bits of a view, with any word type and order, over the list. Requires that the view is as long
+/// as the list.
+pub fn copy_over_in_vec<T: BitStore, O: BitOrder, U: BitStore, P: BitOrder>(
+    words: &mut Vec<T>,
+    head: usize,
+    len: usize,
+    source: BitSlice<'_, U, P>,
+)
+    requires within { head + len ≤ T.BITS * length words.old.items }
+    requires fits { head + len < 2 ^ 64 }
+    requires same_len { len_seen source ≡ len }
+    ensures written { IsRewritten T.BitStore O.BitOrder words.old.items words.new.items head len
+        (list_seen source.entry) }
+    ensures capacity { vec_capacity words.new ≡ vec_capacity words.old }
+{
+    let from = source.head();
+    copy_bits::<T, O, U, P>(words.as_mut_slice(), head, source.as_raw_slice(), from, len);
+}
+
+/// Moves the bits of a range of the list to `dest`, as if they were copied out first, and returns the meter of
+/// the words that were read and written. Requires that the range lies in the list, that its bits have room from
+/// `dest` on, and that the words have at most `MAX_BITS + 2 * T::BITS` bits.
+pub fn move_within_in_vec<T: BitStore, O: BitOrder, R: RangeExt>(
+    words: &mut Vec<T>,
+    head: usize,
+    len: usize,
+    range: R,
+    dest: usize,
+) -> Meter
+    requires few { T.BITS * length words.old.items ≤ MAX_BITS + 2 * T.BITS }
+    requires within { head + len ≤ T.BITS * length words.old.items }
+    requires lies { LiesIn (R.start_of range) (R.end_of range len) len }
+    requires room { dest + (R.end_of range len - R.start_of range) ≤ len }
+    ensures moved { IsMovedWithin T.BitStore O.BitOrder words.old.items words.new.items head len
+        (R.start_of range) dest (R.end_of range len - R.start_of range) }
+    ensures capacity { vec_capacity words.new ≡ vec_capacity words.old }
+    ensures writes { result.writes ≤ touched T.BITS (head + dest) (R.end_of range len - R.start_of range) }
+    ensures reads { result.reads ≤ 3 * touched T.BITS (head + dest) (R.end_of range len - R.start_of range) }
+{
+    let range = range.normalize(len);
+    let (from, to) = (head + range.start, head + dest);
+    move_bits_counted_in_vec::<T, O>(words, from, to, range.end - range.start)
+}
 
 /// Writes `bit` at each index of a range of the list. Requires that the range lies in the list.
 pub fn fill_range_in_vec<T: BitStore, O: BitOrder, R: RangeExt>(

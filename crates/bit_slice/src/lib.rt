@@ -21,9 +21,9 @@ pub use edits::{
     shift_words_right,
 };
 pub use held::{
-    combine_range_in_vec, combine_within_in_vec, copy_into_in_vec, fill_range_in_vec,
-    flip_range_in_vec, reverse_in_vec, rotate_in_vec, shift_left_in_vec, shift_right_in_vec,
-    store_be_in_vec, store_le_in_vec,
+    combine_range_in_vec, combine_within_in_vec, copy_into_in_vec, copy_over_in_vec, fill_in_vec,
+    fill_range_in_vec, flip_range_in_vec, move_within_in_vec, reverse_in_vec, rotate_in_vec,
+    shift_left_in_vec, shift_right_in_vec, store_be_in_vec, store_le_in_vec,
 };
 pub use iter::Iter;
 pub use ops::{combine_in_vec, combine_words, order_of_bits};

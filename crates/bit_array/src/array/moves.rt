@@ -71,8 +71,7 @@ impl<A: BitViewSized, O: BitOrder> BitArray<A, O> {
             ≡ slice_get (row A.Store.BitStore O.BitOrder (A.words self.old)) j }
     {
         let len = self.len();
-        let words = self.inner.as_raw_mut_slice();
-        rotate_words::<A::Store, O>(words, 0, len, len - by);
+        self.rotate_left(len - by);
     }
 
     /// Moves each bit by `by` indices towards the front. The first `by` bits are dropped, and the last `by` become

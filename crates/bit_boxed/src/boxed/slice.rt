@@ -8,11 +8,8 @@ ghost use Rattle.bit_boxed.specs.BitBox.{IsClean, Stayed};
 ghost use Rattle.bit_slice.specs.BitSlice.{words_of, head_of, len_of, list_of};
 
 use crate::boxed::BitBox;
-use bit_addressing::{
-    BitOrder, BitStore, Meter, RangeExt, copy_bits_in_vec, fill_bits_in_vec,
-    move_bits_counted_in_vec, swap_bits_in_vec, write_bit_in_vec,
-};
-use bit_slice::BitSlice;
+use bit_addressing::{BitOrder, BitStore, Meter, RangeExt, swap_bits_in_vec, write_bit_in_vec};
+use bit_slice::{BitSlice, copy_over_in_vec, fill_in_vec, move_within_in_vec};
 
 impl<T: BitStore, O: BitOrder> BitBox<T, O> {
     /// How many bits the box has.
@@ -217,7 +214,7 @@ impl<T: BitStore, O: BitOrder> BitBox<T, O> {
         ensures stayed { Stayed self.old self.new }
     {
         let (head, len) = (self.head, self.len);
-        fill_bits_in_vec::<T, O>(&mut self.words, head, head + len, bit);
+        fill_in_vec::<T, O>(&mut self.words, head, len, bit);
     }
 
     /// Copies the bits of a range to index `dest`, as if they were copied out first. No other bit changes, dead
@@ -274,9 +271,8 @@ impl<T: BitStore, O: BitOrder> BitBox<T, O> {
             * touched T.BITS (self.old.head + dest)
             (R.end_of range (length self.old.list) - R.start_of range) }
     {
-        let range = range.normalize(self.len);
-        let (from, to) = (self.head + range.start, self.head + dest);
-        move_bits_counted_in_vec::<T, O>(&mut self.words, from, to, range.end - range.start)
+        let (head, len) = (self.head, self.len);
+        move_within_in_vec::<T, O, R>(&mut self.words, head, len, range, dest)
     }
 
     /// Writes the bits of a view, with any word type and order, over those of the list. No dead bit
@@ -294,7 +290,6 @@ impl<T: BitStore, O: BitOrder> BitBox<T, O> {
         ensures stayed { Stayed self.old self.new }
     {
         let (head, len) = (self.head, self.len);
-        let from = source.head();
-        copy_bits_in_vec::<T, O, U, P>(&mut self.words, head, source.as_raw_slice(), from, len);
+        copy_over_in_vec::<T, O, U, P>(&mut self.words, head, len, source);
     }
 }

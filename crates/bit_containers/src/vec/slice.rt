@@ -8,10 +8,9 @@ ghost use Rattle.bit_slice.specs.BitSlice.{len_of, list_of};
 
 use crate::vec::BitVec;
 use bit_addressing::{
-    BitOrder, BitStore, Meter, RangeExt, copy_bits_in_vec, fill_bits_in_vec,
-    move_bits_counted_in_vec, read_bit, swap_bits_in_vec, write_bit_in_vec,
+    BitOrder, BitStore, Meter, RangeExt, read_bit, swap_bits_in_vec, write_bit_in_vec,
 };
-use bit_slice::BitSlice;
+use bit_slice::{BitSlice, copy_over_in_vec, fill_in_vec, move_within_in_vec};
 
 impl<T: BitStore, O: BitOrder> BitVec<T, O> {
     /// The bit at `i`. None exactly where `i` is the length or more.
@@ -167,7 +166,7 @@ impl<T: BitStore, O: BitOrder> BitVec<T, O> {
         ensures stayed { Stayed self.old self.new }
     {
         let (head, len) = (self.head, self.len);
-        fill_bits_in_vec::<T, O>(&mut self.words, head, head + len, bit);
+        fill_in_vec::<T, O>(&mut self.words, head, len, bit);
     }
 
     /// Copies the bits of a range to index `dest`, as if they were copied out first. No other bit changes, dead
@@ -201,7 +200,7 @@ impl<T: BitStore, O: BitOrder> BitVec<T, O> {
     /// ```text
     /// let meter = v.copy_within_counted(0..9, 3);   // 12 bits in bytes: meter.writes ≤ 2, meter.reads ≤ 6
     /// ```
-    #[tactic(auto, using(bit_slice::proofs::Parts::shown_length))]
+    #[tactic(auto, using(bit_slice::proofs::Parts::shown_length, crate::proofs::Vectors::few_words, bit_addressing::proofs::Rows::width_positive))]
     pub fn copy_within_counted<R: RangeExt>(&mut self, range: R, dest: usize) -> Meter
         requires lies { LiesIn (R.start_of range) (R.end_of range (length self.old.list)) (length self.old.list) }
         requires room { dest + (R.end_of range (length self.old.list) - R.start_of range) ≤ length self.old.list }
@@ -224,10 +223,8 @@ impl<T: BitStore, O: BitOrder> BitVec<T, O> {
             * touched T.BITS (self.old.head + dest)
             (R.end_of range (length self.old.list) - R.start_of range) }
     {
-        let len = self.len;
-        let range = range.normalize(len);
-        let (from, to) = (self.head + range.start, self.head + dest);
-        move_bits_counted_in_vec::<T, O>(&mut self.words, from, to, range.end - range.start)
+        let (head, len) = (self.head, self.len);
+        move_within_in_vec::<T, O, R>(&mut self.words, head, len, range, dest)
     }
 
     /// Writes the bits of a view, with any word type and order, over those of the list. No dead bit
@@ -245,7 +242,6 @@ impl<T: BitStore, O: BitOrder> BitVec<T, O> {
         ensures stayed { Stayed self.old self.new }
     {
         let (head, len) = (self.head, self.len);
-        let from = source.head();
-        copy_bits_in_vec::<T, O, U, P>(&mut self.words, head, source.as_raw_slice(), from, len);
+        copy_over_in_vec::<T, O, U, P>(&mut self.words, head, len, source);
     }
 }

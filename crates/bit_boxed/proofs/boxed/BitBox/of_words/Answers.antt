@@ -1,10 +1,7 @@
-use Rattle.std.proofs.Common.{◌≡◌, ◌+◌, ◌-◌, ◌*◌, length, refl, ◌∙◌, ap, arith}
-use Rattle.std.proofs.lemmas.List.{take_all}
-use Rattle.bit_addressing.specs.Typed.{row}
+use Rattle.std.proofs.Common.{◌≡◌, ◌+◌, ◌*◌, length, ◌∙◌, ap, arith}
 use Rattle.bit_addressing.proofs.Rows.{width_positive}
-use Rattle.bit_addressing.proofs.Typed.{length_row}
-use Rattle.bit_slice.proofs.Clean.{clean_all}
-use Rattle.bit_slice.proofs.Parts.{shown_length}
+use Rattle.bit_slice.proofs.Clean.{clean_words}
+use Rattle.bit_slice.proofs.Parts.{all_shown, row_size, shown_length}
 use Rattle.bit_boxed.proofs.boxed.BitBox.of_words.Goals as goal
 
 pub invariant_of-result : goal.invariant_of-result
@@ -14,20 +11,10 @@ invariant_of-result g c =
     rw is (record { head_below = width_positive w g.met.T.BitStore.width; len_small = c.requires; fits = omega arith; few = omega (arith, c.requires); shows = shown_length g.T.BitStore g.O.BitOrder c.args.words.items 0 (w * length c.args.words.items) (omega arith) })
 
 pub returns-clause-list : goal.returns-clause-list
-returns-clause-list g c =
-    let bits = row g.T.BitStore g.O.BitOrder c.args.words.items in
-    let is : c.BITS.result * c.len.result ≡ g.T.BitStore.BITS * length c.args.words.items = cc in
-    let size : length bits ≡ g.T.BitStore.BITS * length c.args.words.items = length_row g.T.BitStore.value g.O.BitOrder.place g.T.BitStore.BITS c.args.words.items in
-    take_all (0 + c.BITS.result * c.len.result - 0) bits (omega arith)
+returns-clause-list g c = all_shown g.T.BitStore g.O.BitOrder c.args.words.items _ cc
 
 pub returns-clause-len : goal.returns-clause-len
-returns-clause-len g c = ap length (returns-clause-list g c) ∙ length_row g.T.BitStore.value g.O.BitOrder.place g.T.BitStore.BITS c.args.words.items
+returns-clause-len g c = ap length (returns-clause-list g c) ∙ row_size g.T.BitStore g.O.BitOrder c.args.words.items
 
 pub returns-clause-clean : goal.returns-clause-clean
-returns-clause-clean g c =
-    let w = g.T.BitStore.BITS in
-    let ws = c.args.words.items in
-    record {
-      head = refl;
-      row = clean_all w (length ws) (row g.T.BitStore g.O.BitOrder ws) _ (width_positive w g.met.T.BitStore.width) (length_row g.T.BitStore.value g.O.BitOrder.place w ws) (returns-clause-list g c);
-    }
+returns-clause-clean g c = clean_words g.T.BitStore g.O.BitOrder c.args.words.items _ g.met.T.BitStore.width cc

@@ -1,12 +1,9 @@
-use Rattle.std.proofs.Common.{◌≡◌, ◌+◌, ◌-◌, ◌*◌, length, refl, ◌∙◌, ap, arith}
+use Rattle.std.proofs.Common.{◌≡◌, ◌+◌, ◌*◌, length, ◌∙◌, ap, arith}
 use Rattle.bit_addressing.specs.Row.{words_for}
-use Rattle.bit_addressing.specs.Typed.{row}
 use Rattle.bit_addressing.proofs.lists.Sized.{words_for_all}
-use Rattle.std.proofs.lemmas.List.{take_all}
 use Rattle.bit_addressing.proofs.Rows.{width_positive}
-use Rattle.bit_addressing.proofs.Typed.{length_row}
-use Rattle.bit_slice.proofs.Parts.{shown_length}
-use Rattle.bit_slice.proofs.Clean.{clean_all}
+use Rattle.bit_slice.proofs.Clean.{clean_words}
+use Rattle.bit_slice.proofs.Parts.{all_shown, row_size, shown_length}
 use Rattle.bit_containers.proofs.vec.BitVec.from_vec.Goals as goal
 
 pub invariant_of-result : goal.invariant_of-result
@@ -17,19 +14,10 @@ invariant_of-result g c =
     rw is (record { head_below = positive; len_small = c.requires; count = words_for_all w (length c.args.words.items) positive ∙ ap (words_for w) (omega arith); fits = omega arith; shows = shown_length g.T.BitStore g.O.BitOrder c.args.words.items 0 (w * length c.args.words.items) (omega arith) })
 
 pub returns-clause-list : goal.returns-clause-list
-returns-clause-list g c =
-    let bits = row g.T.BitStore g.O.BitOrder c.args.words.items in
-    let is : c.BITS.result * c.len.result ≡ g.T.BitStore.BITS * length c.args.words.items = cc in
-    let size : length bits ≡ g.T.BitStore.BITS * length c.args.words.items = length_row g.T.BitStore.value g.O.BitOrder.place g.T.BitStore.BITS c.args.words.items in
-    take_all (0 + c.BITS.result * c.len.result - 0) bits (omega arith)
+returns-clause-list g c = all_shown g.T.BitStore g.O.BitOrder c.args.words.items _ cc
 
 pub returns-clause-len : goal.returns-clause-len
-returns-clause-len g c = ap length (returns-clause-list g c) ∙ length_row g.T.BitStore.value g.O.BitOrder.place g.T.BitStore.BITS c.args.words.items
+returns-clause-len g c = ap length (returns-clause-list g c) ∙ row_size g.T.BitStore g.O.BitOrder c.args.words.items
 
 pub returns-clause-clean : goal.returns-clause-clean
-returns-clause-clean g c =
-    let w = g.T.BitStore.BITS in
-    record {
-      head = refl;
-      row = clean_all w (length c.args.words.items) (row g.T.BitStore g.O.BitOrder c.args.words.items) _ (width_positive w g.met.T.BitStore.width) (length_row g.T.BitStore.value g.O.BitOrder.place w c.args.words.items) (returns-clause-list g c);
-    }
+returns-clause-clean g c = clean_words g.T.BitStore g.O.BitOrder c.args.words.items _ g.met.T.BitStore.width cc

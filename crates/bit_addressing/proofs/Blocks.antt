@@ -1,5 +1,5 @@
 -- Blocks of 64 bits out of two that follow each other.
-use Rattle.std.proofs.Common.{◌≡◌, ℕ, ◌+◌, ◌-◌, ◌*◌, ◌/◌, ◌%◌, ◌<◌, ◌≤◌, Bool, false, List, [], ◌∷◌, length, get_or, slice_range, sym, ◌∙◌, ap, inl, inr, arith}
+use Rattle.std.proofs.Common.{◌≡◌, ℕ, ◌+◌, ◌-◌, ◌*◌, ◌/◌, ◌%◌, ◌<◌, ◌≤◌, Bool, false, List, [], ◌∷◌, length, get_or, slice_range, refl, sym, ◌∙◌, ap, subst, inl, inr, arith, mul_comm}
 use Rattle.std.proofs.lemmas.Bool.{cases_lt}
 use Rattle.std.proofs.lemmas.List.{ext_get_or}
 use Rattle.std.proofs.lemmas.Nat.{div-add-mod'}
@@ -7,7 +7,7 @@ use Rattle.bit_addressing.specs.Bits.{has_bit, IsWidth}
 use Rattle.bit_addressing.specs.Row.{row_bit, row_of}
 use Rattle.bit_addressing.proofs.lists.Shown.{get_or-run}
 use Rattle.bit_addressing.proofs.Packs.{pack_fills, row_from}
-use Rattle.bit_addressing.proofs.Runs.{mul_mono}
+use Rattle.bit_addressing.proofs.Runs.{inside_words, mul_mono}
 use Rattle.bit_addressing.proofs.lists.Sized.{right_sum}
 use Rattle.bit_addressing.proofs.Rows.{length-row_of, get_or-row_one}
 use Rattle.bit_addressing.proofs.Windows.{first_of_two, second_of_two}
@@ -51,9 +51,20 @@ block_from w each k skip t fills =
 pub stands : (w each k skip t : ℕ) → IsWidth w → each ≡ w → (k + t * (64 / each)) * w + skip ≡ k * w + skip + t * 64
 stands w each k skip t is narrow = ap (λ n. (k + t * (64 / n)) * w + skip) narrow ∙ block_from w (64 / w) k skip t (pack_fills w is)
 
--- the same, of a run that begins at that index
-pub stands_in : (w each k skip t from : ℕ) → IsWidth w → each ≡ w → k * w + skip ≡ from → (k + t * (64 / each)) * w + skip ≡ from + t * 64
-stands_in w each k skip t from is narrow begins = stands w each k skip t is narrow ∙ ap (λ n. n + t * 64) begins
+-- the word of a block that has another after it
+pub last_block : {u others n : ℕ} (begin t : ℕ) → others ≡ u → 0 < u → (begin + t * (64 / u)) * u + 128 ≤ u * n → begin + t * (64 / others) < n
+last_block {u} {others} {n} begin t e positive h = rw e (inside_words u (begin + t * (64 / u)) n ((begin + t * (64 / u)) * u) refl (omega arith))
+
+-- two blocks lie in the words
+pub two_blocks : {u each n : ℕ} (k : ℕ) → IsWidth u → each ≡ u → k + 2 * (64 / each) ≤ n → k * u + 128 ≤ u * n
+two_blocks {u} {each} {n} k is e h =
+    let fills = pack_fills u is in
+    let most = mul_mono (k + 2 * (64 / u)) n u (subst (λ m. k + 2 * (64 / m) ≤ n) e h) in
+    let sum = right_sum k (2 * (64 / u)) u in
+    let double : 2 * (64 / u) ≡ 64 / u + 64 / u = omega arith in
+    let twice : 2 * (64 / u) * u ≡ 64 / u * u + 64 / u * u = ap (λ m. m * u) double ∙ right_sum (64 / u) (64 / u) u in
+    let turned = mul_comm n u in
+    omega arith
 
 -- whole blocks of 64 bits lie in the words
 pub blocks_inside : (each first last : ℕ) → first ≤ last → first + (last - first) / each * each ≤ last

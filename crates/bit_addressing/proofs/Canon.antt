@@ -1,5 +1,5 @@
 -- Words from their row: canonical words of one list are the same words.
-use Rattle.std.proofs.Common.{◌≡◌, ◌↔◌, ℕ, ◌+◌, ◌-◌, ◌*◌, ◌/◌, ◌%◌, ◌^◌, ◌<◌, ◌≤◌, zero, suc, [], ◌∷◌, Bool, true, false, ◌&&◌, ◌||◌, if◌then◌else◌, eqb, leb, map, drop, ◌++◌, bit_or, inl, inr, arith, List, length, take, get_or, replicate, refl, sym, ◌∙◌, ap, subst}
+use Rattle.std.proofs.Common.{◌≡◌, ℕ, ◌+◌, ◌-◌, ◌*◌, ◌/◌, ◌%◌, ◌^◌, ◌<◌, ◌≤◌, zero, suc, [], ◌∷◌, Bool, true, false, ◌&&◌, ◌||◌, if◌then◌else◌, eqb, leb, map, drop, ◌++◌, bit_or, inl, inr, arith, List, length, take, get_or, replicate, refl, sym, ◌∙◌, ap, subst}
 use Rattle.std.proofs.lemmas.List.{ext_get_or, take_at, take_all, drop-drop, length-take, get_or-take, get_or-drop}
 use Rattle.std.proofs.lemmas.Nat.{div-mul-add, mod-mul-add, mul-add-lt}
 use Rattle.bit_addressing.specs.Bits.{has_bit}
@@ -11,7 +11,7 @@ use Rattle.std.proofs.Math.Nat.{mul-div_cancel_left}
 use Rattle.bit_addressing.proofs.Words.{same_word, has_or, has_none}
 use Rattle.bit_addressing.specs.Order.{IsPermutation}
 use Rattle.bit_addressing.proofs.Onto.{onto}
-use Rattle.bit_addressing.specs.Row.{row_bit, row_of, words_for, sized, gathered, packed_words, packed, list_words, AreWords, IsCanonical}
+use Rattle.bit_addressing.specs.Row.{row_bit, row_of, words_for, sized, gathered, packed_words, packed, list_words, AreWords}
 use Rattle.bit_addressing.proofs.lists.Sized.{room, length-sized}
 use Rattle.bit_addressing.proofs.Rows.{get_or-row_of, length-row_of}
 

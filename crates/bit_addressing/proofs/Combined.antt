@@ -93,6 +93,13 @@ combined_begin f xs zs at from =
     let none : at - at ≡ 0 = omega arith in
     rw none (sym (put_none xs at))
 
+-- a word of a run of whole words ends in it
+pub word_before : {first k last : ℕ} (w : ℕ) → first ≤ k → k < last → (k - first) * w + w ≤ (last - first) * w
+word_before {first} {k} {last} w ordered below =
+    let next = one_more_word (k - first) w in
+    let most = mul_mono (k - first + 1) (last - first) w (omega arith) in
+    omega arith
+
 -- one whole word more is made of two
 pub combined_more : (f : Bool → Bool → Bool) (xs cur zs one : List Bool) (w first k from a upto : ℕ) → first ≤ k → (k + 1) * w ≤ length xs → a ≡ from + (k - first) * w → upto ≡ from + (k + 1 - first) * w → upto ≤ length zs
     → cur ≡ put xs (first * w) (zip2 f (slice_range xs (first * w) (k * w)) (slice_range zs from (from + (k - first) * w)))

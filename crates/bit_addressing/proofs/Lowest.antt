@@ -1,5 +1,5 @@
 -- The lowest bit of a number that is set: its place, and the number with it cleared.
-use Rattle.std.proofs.Common.{◌≡◌, ◌≢◌, ℕ, zero, suc, ◌-◌, ◌/◌, ◌^◌, ◌<◌, true, false, ◌&&◌, eqb, inl, inr, refl, sym, ◌∙◌, ap, arith, bit_and}
+use Rattle.std.proofs.Common.{◌≡◌, ◌≢◌, ℕ, zero, suc, ◌-◌, ◌/◌, ◌^◌, ◌<◌, true, false, ◌&&◌, eqb, inl, inr, sym, ◌∙◌, ap, arith, bit_and}
 use Rattle.std.specs.Int.{bit_at, Width, trailing_zeros}
 use Rattle.std.proofs.Math.Bool.{and-false, and_self}
 use Rattle.std.proofs.lemmas.Bool.{cases_lt}

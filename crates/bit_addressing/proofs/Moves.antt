@@ -1,12 +1,12 @@
 -- Where moved bits come from, a word that is collected bit by bit, and the words that a run touches.
-use Rattle.std.proofs.Common.{◌≡◌, ◌↔◌, ℕ, ◌+◌, ◌-◌, ◌*◌, ◌/◌, ◌<◌, ◌≤◌, Bool, if◌then◌else◌, ◌&&◌, eqb, leb, ltb, refl, sym, ◌∙◌, ap, inl, inr, arith, eq-eqb}
+use Rattle.std.proofs.Common.{◌≡◌, ◌≢◌, ◌↔◌, ℕ, ◌+◌, ◌-◌, ◌*◌, ◌/◌, ◌<◌, ◌≤◌, Bool, if◌then◌else◌, ◌&&◌, eqb, leb, ltb, refl, sym, ◌∙◌, ap, inl, inr, arith, eq-eqb}
 use Rattle.std.proofs.lemmas.Nat.{div-mul-add}
 use Rattle.std.proofs.Math.Nat.{div-mul-le_self, div-lt_iff_lt-mul}
 use Rattle.std.proofs.lemmas.Bool.{cases_lt, lt-leb, le-leb, lt-ltb, le-ltb}
 use Rattle.std.proofs.lemmas.Bool.Decides.{nat_tests, eqb_tells}
 use Rattle.bit_addressing.specs.Bits.{has_bit}
 use Rattle.bit_addressing.specs.Order.{IsPermutation}
-use Rattle.bit_addressing.specs.Row.{source_of}
+use Rattle.bit_addressing.specs.Row.{IsSpan, source_of, touched}
 use Rattle.bit_addressing.proofs.Runs.{div_mono, mul_mono}
 
 pub source_below : (s d n j l : ℕ) → s + n ≤ l → j < l → source_of s d n j < l
@@ -58,6 +58,16 @@ run_blended place w old new mask v from upto f lawful change masked window i h =
 
 pub source_none : (s d n j : ℕ) → n ≡ 0 → source_of s d n j ≡ j
 source_none s d n j h = grind (arith, nat_tests)
+
+-- the words that a run touches are those of its span
+pub touched_span : {w d n first low last end : ℕ} → IsSpan w d (d + n) first low last end → n ≢ 0 → touched w d n ≡ last + 1 - first
+touched_span {w} {d} {n} {first} {low} {last} {end} r some =
+    let a : d / w ≡ first = ap (λ m. m / w) (sym r.begins) ∙ div-mul-add first w low r.low_below in
+    let b : (d + n - 1) / w ≡ last = ap (λ m. m / w) (omega arith) ∙ div-mul-add last w (end - 1) (omega arith) in
+    elim (eqb_tells n 0) [
+      | inl e ↦ absurd (some e.1)
+      | inr e ↦ rw (e.0, a, b) refl
+    ]
 
 -- ---- the closed form of `touched` counts the words of which a bit lies in the run
 

@@ -1,5 +1,5 @@
 -- The span of a run: an edge in its first word, whole words, and an edge in its last; and runs of one bit.
-use Rattle.std.proofs.Common.{◌≡◌, ◌≢◌, ℕ, ◌+◌, ◌-◌, ◌*◌, ◌/◌, ◌%◌, ◌<◌, ◌≤◌, Bool, List, ◌++◌, length, replicate, slice_range, sym, ◌∙◌, ap, subst, arith, inl, inr}
+use Rattle.std.proofs.Common.{◌≡◌, ◌≢◌, ℕ, ◌+◌, ◌-◌, ◌*◌, ◌/◌, ◌%◌, ◌<◌, ◌≤◌, Bool, List, ◌++◌, length, replicate, slice_range, refl, sym, ◌∙◌, ap, subst, arith, inl, inr}
 use Rattle.std.proofs.lemmas.List.{length-replicate, length-append, replicate-append-replicate, length-take, length-drop, places, same_lists}
 use Rattle.std.proofs.lemmas.Nat.{div-add-mod', div-mul-add, le-div}
 use Rattle.std.proofs.Math.Nat.{mod-lt, mul-le-mul_left, div-mul-le_self}
@@ -15,6 +15,13 @@ div_mono a b w positive h = le-div (a / w) b w positive (let e = div-mul-le_self
 pub mul_mono : (a b w : ℕ) → a ≤ b → a * w ≤ b * w
 mul_mono a b w h = let m : w * a ≤ w * b = mul-le-mul_left w h in let x : w * a ≡ a * w = mul_comm w a in let y : w * b ≡ b * w = mul_comm w b in omega arith
 
+-- a word with a place below the words' end is one of them
+pub inside_words : (w k n at : ℕ) → at ≡ k * w → at < w * n → k < n
+inside_words w k n at is h = elim (cases_lt k n) [
+  | inl below ↦ below
+  | inr above ↦ let m = mul_mono n k w above in let x : w * n ≡ n * w = mul_comm w n in absurd (omega arith)
+]
+
 pub span_of : (w width from upto : ℕ) → 0 < w → width ≡ w → from < upto → IsSpan w from upto (from / width) (from % width) ((upto - 1) / width) ((upto - 1) % width + 1)
 span_of w width from upto positive is h =
     let p : 0 < width = omega arith in
@@ -27,14 +34,8 @@ span_of w width from upto positive is h =
       some = omega arith;
       end_within = omega arith;
       ordered = div_mono from (upto - 1) width p (omega arith);
+      inside = λ n fits. inside_words w ((upto - 1) / width) n ((upto - 1) / width * w) refl (subst (λ m. (upto - 1) / width * m < w * n) is (omega arith));
     }
-
--- the last word is one of the words that have room for the run
-pub last_inside : {w from upto first low last end : ℕ} (n : ℕ) → IsSpan w from upto first low last end → upto ≤ w * n → last < n
-last_inside {w} {from} {upto} {first} {low} {last} n run fits = elim (cases_lt last n) [
-  | inl h ↦ h
-  | inr h ↦ let m = mul_mono n last w h in let x : w * n ≡ n * w = mul_comm w n in let r = run in absurd (omega arith)
-]
 
 -- where the whole words of a run of several words begin and end, and how its parts add up
 pub record HasInner (w from upto first low last end : ℕ) : Type 0 where
@@ -52,13 +53,6 @@ inner {w} {from} {upto} {first} {low} {last} {end} run apart =
     let split : first + 1 + (last - (first + 1)) ≡ last = omega arith in
     let whole : last * w ≡ (first + 1) * w + (last - (first + 1)) * w = ap (λ k. k * w) (sym split) ∙ right_sum (first + 1) (last - (first + 1)) w in
     record { ordered = ordered; head = omega arith; tail = omega arith; whole = whole; total = omega arith }
-
--- a word with a place below the words' end is one of them
-pub inside_words : (w k n at : ℕ) → at ≡ k * w → at < w * n → k < n
-inside_words w k n at is h = elim (cases_lt k n) [
-  | inl below ↦ below
-  | inr above ↦ let m = mul_mono n k w above in let x : w * n ≡ n * w = mul_comm w n in absurd (omega arith)
-]
 
 -- ---- one bit, repeated
 

@@ -1,10 +1,11 @@
 -- Whole words copied, each out of two neighbours or a run.
-use Rattle.std.proofs.Common.{◌≡◌, ℕ, ◌+◌, ◌-◌, ◌*◌, ◌/◌, ◌%◌, ◌^◌, ◌<◌, ◌≤◌, Bool, false, List, [], ◌∷◌, map, length, get_or, slice_range, refl, sym, ◌∙◌, ap, arith}
+use Rattle.std.proofs.Math.Nat.{le-mul_of_pos_right, le_of_mul-le-mul_right}
+use Rattle.std.proofs.Common.{◌≡◌, ◌≢◌, ℕ, ◌+◌, ◌-◌, ◌*◌, ◌/◌, ◌%◌, ◌^◌, ◌<◌, ◌≤◌, Bool, false, List, [], ◌∷◌, map, length, get_or, slice_range, refl, sym, ◌∙◌, ap, arith, mul_comm}
 use Rattle.std.proofs.lemmas.Nat.{div-add-mod', div-mul-add, mod-mul-add, mul-add-lt}
 use Rattle.bit_addressing.specs.Bits.{has_bit}
 use Rattle.bit_addressing.specs.Row.{row_of, number_of}
 use Rattle.bit_addressing.proofs.lists.Sized.{one_more_word, right_sum}
-use Rattle.bit_addressing.proofs.Runs.{mul_mono}
+use Rattle.bit_addressing.proofs.Runs.{inside_words, mul_mono}
 use Rattle.bit_addressing.proofs.Chunks.{run_placed, whole_is}
 use Rattle.bit_addressing.proofs.Typed.{row_read}
 
@@ -28,6 +29,34 @@ begins_word at d w e none =
     let split = div-add-mod' at d in
     let wide : at / d * d ≡ at / d * w = ap (λ m. at / d * m) e in
     omega arith
+
+-- the whole words of a run that begins with a word, and the word after them
+pub record HasWords (first whole left at n len : ℕ) : Type 0 where
+  pub most : first + whole ≤ len
+  pub few : first + whole ≤ at + n
+  pub rest : left ≢ 0 → first + whole < len
+
+pub words_there : {d w at n len : ℕ} → d ≡ w → 0 < w → at % d ≡ 0 → at + n ≤ w * len → HasWords (at / d) (n / d) (n % d) at n len
+words_there {d} {w} {at} {n} {len} e positive none within =
+    let split = div-add-mod' n d in
+    let begins = begins_word at d w e none in
+    let wide : n / d * d ≡ n / d * w = ap (λ m. n / d * m) e in
+    let sum = right_sum (at / d) (n / d) w in
+    let low = le-mul_of_pos_right (at / d + n / d) positive in
+    let turned = mul_comm w len in
+    record {
+      most = le_of_mul-le-mul_right {n = len} {k = w} (omega arith) positive;
+      few = omega arith;
+      rest = λ some. inside_words w (at / d + n / d) len ((at / d + n / d) * w) refl (omega arith);
+    }
+
+-- the word after the one that some words of one width lead to
+pub word_follows : {u w n : ℕ} (begin t skip : ℕ) → u ≡ w → begin * u + skip + t * w + w < u * n → begin + t + 1 < n
+word_follows {u} {w} {n} begin t skip e inside =
+    let sum = right_sum begin t u in
+    let next = one_more_word (begin + t) u in
+    let same : t * u ≡ t * w = ap (λ m. t * m) e in
+    inside_words u (begin + t + 1) n ((begin + t + 1) * u) refl (omega (arith, e))
 
 -- a word of a run is in it
 pub word_in_run : (d w n t : ℕ) → d ≡ w → t < n / d → t * w + w ≤ n

@@ -70,6 +70,7 @@ pub record IsSpan (w from upto first low last end : ℕ) : Type 0 where
   pub some : 0 < end
   pub end_within : end ≤ w
   pub ordered : first ≤ last
+  pub inside : (n : ℕ) → upto ≤ w * n → last < n
 
 -- words that stand for a list: as many as it needs, its bits and then false
 pub record IsCanonical (place : ℕ → ℕ → ℕ) (w : ℕ) (words : List ℕ) (bits : List Bool) : Type 0 where

@@ -27,6 +27,25 @@ pub fn elts<T: BitStore>(bits: usize) -> usize
     }
 }
 
+/// The word that holds the bit of a row at an index, and the bit's index in that word.
+#[inline(always)]
+pub(crate) fn in_word<T: BitStore>(at: usize) -> (usize, u8)
+    ensures index { result.0 * T.BITS + result.1 ≡ at }
+    ensures within { result.1 < T.BITS }
+{
+    let width = T::BITS as usize;
+    (at / width, (at % width) as u8)
+}
+
+/// The index in a row of the bit at index `index` of word `k`.
+#[inline(always)]
+pub(crate) fn in_row<T: BitStore>(k: usize, index: u8) -> usize
+    requires { k * T.BITS + index < 2 ^ 64 }
+    ensures { result ≡ k * T.BITS + index }
+{
+    k * T::BITS as usize + index as usize
+}
+
 /// The words of type `T` that hold a bit of the `n` bits from index `from` of a row on, by their numbers.
 ///
 /// ```text

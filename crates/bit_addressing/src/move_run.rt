@@ -8,6 +8,7 @@ ghost use Rattle.bit_addressing.specs.Typed.{row};
 
 use crate::each_shift::each_shift;
 use crate::index::{BitEnd, BitIdx};
+use crate::length::in_word;
 use crate::meter::Meter;
 use crate::order::BitOrder;
 use crate::pair_table::PairTable;
@@ -241,9 +242,7 @@ pub(crate) fn move_words<T: BitStore, O: BitOrder>(
     ensures reads_rise { row.old.meter.reads ≤ row.new.meter.reads }
     ensures writes { row.new.meter.writes ≡ row.old.meter.writes + count }
 {
-    let width = T::BITS as usize;
-    let begin = from / width;
-    let at = (from % width) as u8;
+    let (begin, at) = in_word::<T>(from);
     if T::BITS == 8 && O::goes_by_shifts() {
         each_shift!(at, by => shift_words::<T, O>(row, begin, by, first, count, None));
     } else if at == 0 {

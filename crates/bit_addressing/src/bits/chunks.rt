@@ -10,7 +10,7 @@ ghost use Rattle.bit_addressing.specs.Typed.{row};
 use crate::bits::copies::copy_bits;
 use crate::bits::single::write_part;
 use crate::index::BitIdx;
-use crate::length::Span;
+use crate::length::{Span, in_row};
 use crate::order::{BitOrder, Lsb0};
 use crate::pair_table::PairTable;
 use crate::store::BitStore;
@@ -299,7 +299,7 @@ fn word_after_by_bits<T: BitStore, O: BitOrder, U: BitStore, P: BitOrder>(
         }
         return word_by_bits::<T, O, U, P>(source, begin + t, skip);
     }
-    let at = begin * U::BITS as usize + skip as usize + t * T::BITS as usize;
+    let at = in_row::<U>(begin, skip) + in_row::<T>(t, 0);
     word_of_run::<T, O, U, P>(source, at, T::BITS, 0)
 }
 
@@ -328,6 +328,23 @@ pub(crate) fn block_at<O: BitOrder, U: BitStore, P: BitOrder>(
     let high = P::pack(source, k + (64 / U::BITS) as usize);
     let word = P::window(low, high, BitIdx::<u64>::new_unchecked(skip));
     O::from_lsb0(P::to_lsb0(word))
+}
+
+/// Like `block_at`, of the bits that are `t` blocks of 64 bits further on.
+#[inline(always)]
+pub(crate) fn block_after<O: BitOrder, U: BitStore, P: BitOrder>(
+    source: &[U],
+    k: usize,
+    skip: u8,
+    t: usize,
+) -> u64
+    requires within { skip < U.BITS }
+    requires words { (k + t * (64 / U.BITS)) * U.BITS + 128 ≤ U.BITS * length source.now }
+    ensures { row_of O.place 64 (result ∷ [])
+        ≡ slice_range (row U.BitStore P.BitOrder source.now) (k * U.BITS + skip + t * 64)
+        (k * U.BITS + skip + t * 64 + 64) }
+{
+    block_at::<O, U, P>(source, k + t * (64 / U::BITS) as usize, skip)
 }
 
 /// The word of the bits of a block from its bit `i * T::BITS` on. Requires that the block has them.
@@ -386,6 +403,6 @@ pub(crate) fn word_after<T: BitStore, O: BitOrder, U: BitStore, P: BitOrder>(
             return T::from_u64(block_at::<O, U, P>(source, k, skip));
         }
     }
-    let at = begin * U::BITS as usize + skip as usize + t * T::BITS as usize;
+    let at = in_row::<U>(begin, skip) + in_row::<T>(t, 0);
     word_at::<T, O, U, P>(source, at)
 }

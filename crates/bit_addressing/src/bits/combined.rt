@@ -6,12 +6,12 @@ ghost use Rattle.bit_addressing.specs.Row.{put, row_of};
 ghost use Rattle.bit_addressing.specs.Typed.{row};
 
 use crate::bits::chunks::{
-    are_alike, block_at, followed_blocks, word_after, word_alike, word_by_table, word_of_block,
+    are_alike, block_after, followed_blocks, word_after, word_alike, word_by_table, word_of_block,
     word_of_run,
 };
 use crate::bits::single::write_part;
 use crate::each_shift::each_shift;
-use crate::length::Span;
+use crate::length::{Span, in_word};
 use crate::order::BitOrder;
 use crate::pair_table::PairTable;
 use crate::store::BitStore;
@@ -213,9 +213,9 @@ fn combine_blocks<F: BitOperator, T: BitStore, O: BitOrder, U: BitStore, P: BitO
         (begin * U.BITS + skip + blocks * 64))) }
     ensures size { length words.new ≡ length words.old }
 {
-    let (each, others) = ((64 / T::BITS) as usize, (64 / U::BITS) as usize);
+    let each = (64 / T::BITS) as usize;
     for t in 0..blocks {
-        let block = block_at::<O, U, P>(source, begin + t * others, skip);
+        let block = block_after::<O, U, P>(source, begin, skip, t);
         combine_block::<F, T, O>(words, first + t * each, block);
     }
 }
@@ -247,6 +247,33 @@ fn combine_unlike<F: BitOperator, T: BitStore, O: BitOrder, U: BitStore, P: BitO
     combine_blocks::<F, T, O, U, P>(words, first, source, begin, skip, blocks);
     let (next, from) = (first + blocks * each, begin + blocks * others);
     combine_after::<F, T, O, U, P>(words, next, last, source, from, skip);
+}
+
+/// Like `combine_after`, with a loop for each number of bits that a byte is shifted by (docs/SPEED.md, "A move within
+/// bytes").
+#[inline(always)]
+fn combine_shifted<F: BitOperator, T: BitStore, O: BitOrder, U: BitStore, P: BitOrder>(
+    words: &mut [T],
+    first: usize,
+    last: usize,
+    source: &[U],
+    begin: usize,
+    skip: u8,
+)
+    requires ordered { first ≤ last }
+    requires target { last ≤ length words.old }
+    requires within { skip < 8 }
+    requires width { U.BITS ≡ 8 }
+    requires source { begin * U.BITS + skip + (last - first) * T.BITS < U.BITS * length source.now }
+    requires source_fits { begin * U.BITS + skip + (last - first) * T.BITS < 2 ^ 64 }
+    ensures bits { row T.BitStore O.BitOrder words.new
+        ≡ put (row T.BitStore O.BitOrder words.old) (first * T.BITS)
+        (zip2 F.made (slice_range (row T.BitStore O.BitOrder words.old) (first * T.BITS) (last * T.BITS))
+        (slice_range (row U.BitStore P.BitOrder source.now) (begin * U.BITS + skip)
+        (begin * U.BITS + skip + (last - first) * T.BITS))) }
+    ensures size { length words.new ≡ length words.old }
+{
+    each_shift!(skip, by => combine_after::<F, T, O, U, P>(words, first, last, source, begin, by));
 }
 
 /// Whether this many words are made faster by a table: words of one width, in an order that does not go by shifts.
@@ -284,9 +311,7 @@ fn combine_whole<F: BitOperator, T: BitStore, O: BitOrder, U: BitStore, P: BitOr
         (slice_range (row U.BitStore P.BitOrder source.now) from (from + (last - first) * T.BITS))) }
     ensures size { length words.new ≡ length words.old }
 {
-    let width = U::BITS as usize;
-    let begin = from / width;
-    let skip = (from % width) as u8;
+    let (begin, skip) = in_word::<U>(from);
     if T::BITS != U::BITS && O::goes_by_shifts() && P::goes_by_shifts() {
         if skip == 0 {
             combine_unlike::<F, T, O, U, P>(words, first, last, source, begin, 0);
@@ -294,7 +319,7 @@ fn combine_whole<F: BitOperator, T: BitStore, O: BitOrder, U: BitStore, P: BitOr
             combine_unlike::<F, T, O, U, P>(words, first, last, source, begin, skip);
         }
     } else if T::BITS == 8 && U::BITS == 8 && P::goes_by_shifts() {
-        each_shift!(skip, by => combine_after::<F, T, O, U, P>(words, first, last, source, begin, by));
+        combine_shifted::<F, T, O, U, P>(words, first, last, source, begin, skip);
     } else if goes_by_table::<T, O, U, P>(skip, last - first) {
         combine_by_table::<F, T, O, U, P>(words, first, last, source, begin, skip);
     } else if skip == 0 {
@@ -389,6 +414,7 @@ fn combine_apart<F: BitOperator, T: BitStore, O: BitOrder, U: BitStore, P: BitOr
         last,
         end,
     } = Span::of::<T>(at, at + n);
+    prove!(last < words.len());
     if first == last {
         let new = word_of_run::<T, O, U, P>(source, from, n as u8, low as u8);
         combine_part::<F, T, O>(words, first, low, end, new);

@@ -6,10 +6,10 @@ ghost use Rattle.bit_addressing.specs.Row.{IsFirst, IsFirstDifference};
 ghost use Rattle.bit_addressing.specs.Typed.{row};
 
 use crate::bits::chunks::{
-    are_alike, block_at, followed_blocks, read_chunk, word_alike, word_number,
+    are_alike, block_after, followed_blocks, read_chunk, word_alike, word_number,
 };
 use crate::index::{BitEnd, BitIdx};
-use crate::length::Span;
+use crate::length::{Span, in_row, in_word};
 use crate::order::{BitOrder, Lsb0};
 use crate::store::BitStore;
 
@@ -110,13 +110,12 @@ fn equal_blocks<T: BitStore, O: BitOrder, U: BitStore, P: BitOrder>(
         (k * T.BITS + skip + result * 64)
         ≡ slice_range (row U.BitStore P.BitOrder b.now) (l * U.BITS + over) (l * U.BITS + over + result * 64) }
 {
-    let (each, others) = ((64 / T::BITS) as usize, (64 / U::BITS) as usize);
     for t in 0..count / 16 {
         let done = t * 16;
         let mut apart = 0u64;
         for i in 0..16 {
-            let left = block_at::<O, T, O>(a, k + (done + i) * each, skip);
-            let right = block_at::<O, U, P>(b, l + (done + i) * others, over);
+            let left = block_after::<O, T, O>(a, k, skip, done + i);
+            let right = block_after::<O, U, P>(b, l, over, done + i);
             apart = apart.or(left.xor(right));
         }
         if apart != 0 {
@@ -151,15 +150,13 @@ fn differ_from<T: BitStore, O: BitOrder, U: BitStore, P: BitOrder>(
         (slice_range (row T.BitStore O.BitOrder a.now) (k * T.BITS + skip) (k * T.BITS + skip + n))
         (slice_range (row U.BitStore P.BitOrder b.now) (l * U.BITS + over) (l * U.BITS + over + n)) d) }
 {
-    let (each, others) = ((64 / T::BITS) as usize, (64 / U::BITS) as usize);
-    let i = k * T::BITS as usize + skip as usize;
-    let j = l * U::BITS as usize + over as usize;
+    let (i, j) = (in_row::<T>(k, skip), in_row::<U>(l, over));
     let room = followed_blocks::<T>(a.len(), k).min(followed_blocks::<U>(b.len(), l));
     let blocks = room.min(n / 64);
     let start = equal_blocks::<T, O, U, P>(a, k, skip, b, l, over, blocks);
     for t in start..blocks {
-        let left = block_at::<O, T, O>(a, k + t * each, skip);
-        let right = block_at::<O, U, P>(b, l + t * others, over);
+        let left = block_after::<O, T, O>(a, k, skip, t);
+        let right = block_after::<O, U, P>(b, l, over, t);
         if left != right {
             let apart = word_number::<u64, O>(left) ^ word_number::<u64, O>(right);
             if apart != 0 {
@@ -424,9 +421,8 @@ pub fn differ_at<T: BitStore, O: BitOrder, U: BitStore, P: BitOrder>(
         (λ k. IsFirstDifference (slice_range (row T.BitStore O.BitOrder a.now) i (i + n))
         (slice_range (row U.BitStore P.BitOrder b.now) j (j + n)) k) }
 {
-    let (width, other) = (T::BITS as usize, U::BITS as usize);
-    let (k, skip) = (i / width, (i % width) as u8);
-    let (l, over) = (j / other, (j % other) as u8);
+    let (k, skip) = in_word::<T>(i);
+    let (l, over) = in_word::<U>(j);
     if skip == 0 && over == 0 && are_alike::<T, O, U, P>() {
         if n > 512 {
             return differ_long::<T, O, U, P>(a, k, b, l, n);
@@ -456,10 +452,9 @@ fn blocks_without<T: BitStore, O: BitOrder>(
     }
     let others = if bit { 0 } else { u64::MAX };
     let run = Span::of::<T>(from, upto);
-    let each = (64 / T::BITS) as usize;
     let blocks = followed_blocks::<T>(words.len(), run.first).min((upto - from) / 64);
     for t in 0..blocks {
-        if block_at::<O, T, O>(words, run.first + t * each, run.low as u8) != others {
+        if block_after::<O, T, O>(words, run.first, run.low as u8, t) != others {
             return t;
         }
     }

@@ -18,3 +18,12 @@ loop-v-preserved c =
       size = search rules;
       bits = λ f u h below. entry_more c.args.columns.now c.loop-v.entries k v (k * 16 + v) new refl (omega arith) (omega arith) made c.loop-v.invariant.bits f u h (omega arith);
     }
+
+pub loop-v-init : goal.loop-v-init
+loop-v-init c = record { size = c.loop-k.invariant.size; bits = λ f u h below. c.loop-k.invariant.bits f u h (omega arith) }
+
+pub loop-k-preserved : goal.loop-k-preserved
+loop-k-preserved c = record { size = c.loop-v.invariant.size; bits = λ f u h below. c.loop-v.invariant.bits f u h (omega arith) }
+
+pub returns : goal.returns
+returns c = λ k v h below. c.loop-k.invariant.bits k v below (omega arith)

@@ -1,8 +1,9 @@
 use Rattle.std.proofs.Common.{◌≡◌, ℕ, ◌+◌, ◌*◌, ◌/◌, slice_range, sym, ◌∙◌, ap, arith}
 use Rattle.bit_addressing.specs.Typed.{row}
-use Rattle.bit_addressing.proofs.Blocks.{block_as_word}
+use Rattle.bit_addressing.proofs.Blocks.{block_as_word, two_blocks}
 use Rattle.bit_addressing.proofs.Packs.{pack_fills}
 use Rattle.bit_addressing.proofs.lists.Sized.{right_sum}
+use Rattle.bit_addressing.proofs.Wholes.{word_follows}
 use Rattle.bit_addressing.proofs.bits.chunks.word_after.Goals as goal
 
 -- where a block begins, some blocks after a word
@@ -12,6 +13,12 @@ beyond begin t each u skip w fills wide =
     let sum : (begin + t * each) * u ≡ begin * u + (t * each) * u = right_sum begin (t * each) u in
     let whole : t * (each * u) ≡ t * w = ap (λ n. t * n) (fills ∙ sym wide) in
     omega arith
+
+pub word_of_window-requires-clause-word : goal.word_of_window-requires-clause-word
+word_of_window-requires-clause-word g c = word_follows c.args.begin c.args.t c.args.skip (omega arith) c.requires.source
+
+pub block_at-requires-clause-words : goal.block_at-requires-clause-words
+block_at-requires-clause-words g c = two_blocks (c.args.begin + c.args.t * (64 / c.BITS-then-BITS-eq64.result)) g.met.U.BitStore.width c.BITS-then-BITS-eq64.ensures (omega arith)
 
 pub returns-then-k-each : goal.returns-then-k-each
 returns-then-k-each g c =
@@ -38,6 +45,5 @@ returns g c =
     let skip = c.args.skip in
     let t = c.args.t in
     let zs = row g.U.BitStore g.P.BitOrder c.args.source.now in
-    let at : ℕ = begin * c.BITS-4.result + skip + t * c.BITS-5.result in
-    let from : at ≡ begin * u + skip + t * w = ap (λ n. begin * n + skip + t * c.BITS-5.result) c.BITS-4.ensures ∙ ap (λ n. begin * u + skip + t * n) c.BITS-5.ensures in
+    let from : c.in_row.result + c.in_row-2.result ≡ begin * u + skip + t * w = omega arith in
     c.word_at.ensures ∙ ap (λ n. slice_range zs n (n + w)) from

@@ -1,6 +1,6 @@
 use Rattle.std.proofs.Common.{◌≡◌, ℕ, ◌+◌, ◌-◌, ◌*◌, length, refl, arith, rules}
 use Rattle.bit_addressing.specs.Typed.{row}
-use Rattle.bit_addressing.proofs.Combined.{combined_whole_none, combined_word}
+use Rattle.bit_addressing.proofs.Combined.{combined_whole_none, combined_word, word_before}
 use Rattle.bit_addressing.proofs.Runs.{mul_mono}
 use Rattle.bit_addressing.proofs.Rows.{width_positive}
 use Rattle.bit_addressing.proofs.Typed.{length_row}
@@ -8,6 +8,12 @@ use Rattle.bit_addressing.proofs.bits.combined.combine_after.Goals as goal
 
 pub loop-k-init : goal.loop-k-init
 loop-k-init g c = record { bits = combined_whole_none g.F.BitOperator.made (row g.T.BitStore g.O.BitOrder c.args.words.now) (row g.U.BitStore g.P.BitOrder c.args.source.now) g.T.BitStore.BITS (c.args.begin * g.U.BitStore.BITS + c.args.skip) c.args.first; size = refl }
+
+pub word_after-new-requires-clause-source : goal.word_after-new-requires-clause-source
+word_after-new-requires-clause-source g c = let m = word_before g.T.BitStore.BITS c.loop-k.auto.k c.loop-k-test.true in omega arith
+
+pub word_after-new-requires-clause-fits : goal.word_after-new-requires-clause-fits
+word_after-new-requires-clause-fits g c = let m = word_before g.T.BitStore.BITS c.loop-k.auto.k c.loop-k-test.true in omega arith
 
 pub loop-k-preserved : goal.loop-k-preserved
 loop-k-preserved g c =

@@ -4,13 +4,22 @@ use Rattle.bit_addressing.specs.Row.{put}
 use Rattle.bit_addressing.specs.Typed.{row}
 use Rattle.bit_addressing.proofs.Chunks.{part_is}
 use Rattle.bit_addressing.proofs.Combined.{combined_none, combined_begin, combined_part}
-use Rattle.bit_addressing.proofs.Runs.{inner, inside_words}
+use Rattle.bit_addressing.proofs.Runs.{inner}
 use Rattle.bit_addressing.proofs.Typed.{length_row}
 use Rattle.bit_addressing.proofs.Wholes.{split_sum}
 use Rattle.bit_addressing.proofs.bits.combined.combine_apart.Goals as goal
 
 pub returns-then-n-eq0-clause-bits : goal.returns-then-n-eq0-clause-bits
 returns-then-n-eq0-clause-bits g c = combined_none g.F.BitOperator.made (row g.T.BitStore g.O.BitOrder c.args.words.now) (row g.U.BitStore g.P.BitOrder c.args.source.now) c.args.at c.args.from c.args.n c.if-n-eq0.true
+
+pub prove-unreachable-requires : goal.prove-unreachable-requires
+prove-unreachable-requires g c = let below = c.of-first.ensures.inside (length c.args.words.now) c.requires.target in omega arith
+
+pub overflow_add-from : goal.overflow_add-from
+overflow_add-from g c = let m = inner c.of-first.ensures c.if-first-last.false in let run = c.of-first.ensures in omega arith
+
+pub word_of_run-new-requires-2-clause-source : goal.word_of_run-new-requires-2-clause-source
+word_of_run-new-requires-2-clause-source g c = let m = inner c.of-first.ensures c.if-first-last.false in let run = c.of-first.ensures in omega arith
 
 pub returns-then-first-last-clause-bits : goal.returns-then-first-last-clause-bits
 returns-then-first-last-clause-bits g c =
@@ -32,11 +41,7 @@ returns-then-first-last-clause-bits g c =
     ∙ combined_part f old old zs _ at at (at + c.args.n) from from (from + c.args.n) (s.first * w + s.low) (s.first * w + s.end) run.begins (omega arith) (omega arith) (omega arith) (omega arith) (omega arith) (omega arith) (omega arith) part (combined_begin f old zs at from)
 
 pub combine_ahead-requires-clause-target : goal.combine_ahead-requires-clause-target
-combine_ahead-requires-clause-target g c =
-    let w = g.T.BitStore.BITS in
-    let r = c.of-first.ensures in
-    let s = c.of-first.result in
-    inside_words w s.last (length c.args.words.now) (s.last * w) refl (omega arith)
+combine_ahead-requires-clause-target g c = c.of-first.ensures.inside (length c.args.words.now) c.requires.target
 
 pub combine_ahead-requires-clause-source : goal.combine_ahead-requires-clause-source
 combine_ahead-requires-clause-source g c =

@@ -6,8 +6,7 @@ use Rattle.bit_addressing.specs.Row.{put}
 use Rattle.bit_addressing.specs.Typed.{row}
 use Rattle.bit_addressing.proofs.Combined.{combined_part}
 use Rattle.bit_addressing.proofs.Rows.{width_positive}
-use Rattle.bit_addressing.proofs.Runs.{inside_words}
-use Rattle.bit_addressing.proofs.Wholes.{begins_word}
+use Rattle.bit_addressing.proofs.Wholes.{begins_word, words_there}
 use Rattle.bit_addressing.proofs.lists.Sized.{right_sum}
 use Rattle.bit_addressing.proofs.Typed.{length_row, row_piece}
 use Rattle.bit_addressing.proofs.bits.combined.combine_bits.Goals as goal
@@ -24,6 +23,18 @@ of_words f old new zs w at from first begin whole ea eb is =
     ∙ ap (λ m. put old (first * w) (zip2 f (slice_range old (first * w) m) (slice_range zs (begin * w) (begin * w + whole * w)))) e
     ∙ ap (λ m. put old m (zip2 f (slice_range old m (at + whole * w)) (slice_range zs (begin * w) (begin * w + whole * w)))) ea
     ∙ ap (λ m. put old at (zip2 f (slice_range old at (at + whole * w)) (slice_range zs m (m + whole * w)))) eb
+
+pub combine_alike-requires-clause-target : goal.combine_alike-requires-clause-target
+combine_alike-requires-clause-target g c = (words_there c.BITS-width.ensures (width_positive _ g.met.T.BitStore.width) c.if-at-width-ne0.false c.requires.target).most
+
+pub combine_alike-requires-clause-source : goal.combine_alike-requires-clause-source
+combine_alike-requires-clause-source g c = let same = (c.are_alike.ensures c.if-not-are_alike.false).0 in let t = words_there (c.BITS-width.ensures ∙ sym same) (width_positive _ g.met.U.BitStore.width) c.if-from-width-ne0.false c.requires.source in omega arith
+
+pub bounds-source-begin : goal.bounds-source-begin
+bounds-source-begin g c = let same = (c.are_alike.ensures c.if-not-are_alike.false).0 in (words_there (c.BITS-width.ensures ∙ sym same) (width_positive _ g.met.U.BitStore.width) c.if-from-width-ne0.false c.requires.source).rest c.if-rest-eq0.false
+
+pub combine_part-requires-clause-word : goal.combine_part-requires-clause-word
+combine_part-requires-clause-word g c = rw c.combine_alike.ensures.size ((words_there c.BITS-width.ensures (width_positive _ g.met.T.BitStore.width) c.if-at-width-ne0.false c.requires.target).rest c.if-rest-eq0.false)
 
 pub returns-then-rest-eq0-clause-bits : goal.returns-then-rest-eq0-clause-bits
 returns-then-rest-eq0-clause-bits g c =
@@ -70,8 +81,8 @@ returns-clause-bits g c =
     let a : ℕ = from + whole * w in
     let end : (first + whole) * w ≡ p = right_sum first whole w ∙ ap (λ m. m + whole * w) head in
     let far : (begin + whole) * w ≡ a = right_sum begin whole w ∙ ap (λ m. m + whole * w) start in
+    let there : begin + whole < length source = (words_there (c.BITS-width.ensures ∙ sym same) (width_positive _ g.met.U.BitStore.width) c.if-from-width-ne0.false c.requires.source).rest c.if-rest-eq0.false in
     let here : a ≡ (begin + whole) * u = sym far ∙ ap (λ m. (begin + whole) * m) (sym same) in
-    let there : begin + whole < length source = inside_words u (begin + whole) (length source) a here (omega arith) in
     let part : slice_range new 0 rest ≡ slice_range zs a (from + n) = ap (λ l. slice_range l 0 rest) c.word_alike-new.ensures
     ∙ row_piece g.U.BitStore.value g.P.BitOrder.place u source (begin + whole) 0 rest a (from + n) c.index-source-begin.result (width_positive u g.met.U.BitStore.width) there (omega arith) (omega arith) c.index-source-begin.is (omega arith) (omega arith) in
     c.combine_part.ensures.bits

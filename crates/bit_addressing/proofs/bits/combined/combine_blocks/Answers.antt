@@ -17,6 +17,15 @@ loop-t-init g c = record {
   size = refl;
 }
 
+pub overflow_mul-t : goal.overflow_mul-t
+overflow_mul-t g c = let room = rw (← c.BITS.ensures) at (c.requires.target c.loop-t.t c.loop-t-test.true) in omega arith
+
+pub overflow_add-first : goal.overflow_add-first
+overflow_add-first g c = let room = rw (← c.BITS.ensures) at (c.requires.target c.loop-t.t c.loop-t-test.true) in omega arith
+
+pub combine_block-requires : goal.combine_block-requires
+combine_block-requires g c = rw (c.BITS.ensures, c.loop-t.invariant.size) (c.requires.target c.loop-t.t c.loop-t-test.true)
+
 pub loop-t-preserved : goal.loop-t-preserved
 loop-t-preserved g c =
     let w = g.T.BitStore.BITS in
@@ -32,7 +41,7 @@ loop-t-preserved g c =
     let old = row g.T.BitStore g.O.BitOrder words in
     let cur = row g.T.BitStore g.O.BitOrder c.loop-t.words in
     let zs = row g.U.BitStore g.P.BitOrder source in
-    let block = c.block_at-block.result in
+    let block = c.block_after-block.result in
     let each : ℕ = 64 / c.BITS.result in
     let k : ℕ = first + t * each in
     let at : ℕ = first * w in
@@ -55,11 +64,9 @@ loop-t-preserved g c =
     let beyond = c.requires.source t below in
     let small = width_small u g.met.U.BitStore.width in
     let within = c.requires.within in
-    let stood : (begin + t * (64 / c.BITS-2.result)) * u + skip ≡ a = stands u c.BITS-2.result begin skip t g.met.U.BitStore.width c.BITS-2.ensures in
     let next : a + 64 ≡ upto = omega arith in
     let one : List Bool = zip2 f (slice_range cur (k * w) ((k + 64 / w) * w)) (row_of place 64 (block ∷ [])) in
-    let bits : row_of place 64 (block ∷ []) ≡ slice_range zs a upto = c.block_at-block.ensures
-    ∙ ap (λ n. slice_range zs n (n + 64)) stood
+    let bits : row_of place 64 (block ∷ []) ≡ slice_range zs a upto = c.block_after-block.ensures
     ∙ ap (slice_range zs a) next in
     let is : one ≡ zip2 f (slice_range cur p q) (slice_range zs a upto) = ap (zip2 f (slice_range cur (k * w) ((k + 64 / w) * w))) bits ∙ ap (λ n. zip2 f (slice_range cur n ((k + 64 / w) * w)) (slice_range zs a upto)) begins ∙ ap (λ n. zip2 f (slice_range cur p n) (slice_range zs a upto)) ends in
     record {

@@ -1,14 +1,21 @@
-use Rattle.std.proofs.Common.{◌≡◌, ℕ, ◌+◌, ◌-◌, ◌*◌, [], ◌∷◌, length, slice_range, refl, ◌∙◌, ap, arith, rules}
+use Rattle.std.proofs.Common.{◌≡◌, ℕ, ◌+◌, ◌-◌, ◌*◌, ◌<◌, [], ◌∷◌, length, slice_range, refl, ◌∙◌, ap, arith, rules}
 use Rattle.bit_addressing.specs.Typed.{row}
-use Rattle.bit_addressing.proofs.Combined.{combined_whole_none, combined_word}
+use Rattle.bit_addressing.proofs.Combined.{combined_whole_none, combined_word, word_before}
 use Rattle.bit_addressing.proofs.Runs.{mul_mono}
 use Rattle.bit_addressing.proofs.lists.Sized.{right_sum}
 use Rattle.bit_addressing.proofs.Rows.{width_positive}
+use Rattle.bit_addressing.proofs.Wholes.{word_follows}
 use Rattle.bit_addressing.proofs.Typed.{length_row}
 use Rattle.bit_addressing.proofs.bits.combined.combine_by_table.Goals as goal
 
 pub loop-k-init : goal.loop-k-init
 loop-k-init g c = record { bits = combined_whole_none g.F.BitOperator.made (row g.T.BitStore g.O.BitOrder c.args.words.now) (row g.U.BitStore g.P.BitOrder c.args.source.now) g.T.BitStore.BITS (c.args.begin * g.U.BitStore.BITS + c.args.skip) c.args.first; size = refl }
+
+pub overflow_add-from : goal.overflow_add-from
+overflow_add-from g c = let next : c.args.begin + (c.loop-k.k - c.args.first) + 1 < length c.args.source.now = word_follows c.args.begin (c.loop-k.k - c.args.first) c.args.skip c.requires.width (let m = word_before g.T.BitStore.BITS c.loop-k.auto.k c.loop-k-test.true in omega arith) in omega arith
+
+pub word_by_table-new-requires-clause-word : goal.word_by_table-new-requires-clause-word
+word_by_table-new-requires-clause-word g c = word_follows c.args.begin (c.loop-k.k - c.args.first) c.args.skip c.requires.width (let m = word_before g.T.BitStore.BITS c.loop-k.auto.k c.loop-k-test.true in omega arith)
 
 pub loop-k-preserved : goal.loop-k-preserved
 loop-k-preserved g c =

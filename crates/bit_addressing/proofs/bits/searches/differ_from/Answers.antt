@@ -5,15 +5,16 @@ use Rattle.bit_addressing.specs.Row.{number_of, row_of, IsFirstDifference}
 use Rattle.bit_addressing.specs.Typed.{row}
 use Rattle.bit_addressing.proofs.Differs.{AreAlike, alike_all, alike_more, alike_run, differ_here}
 use Rattle.bit_addressing.proofs.lists.Shown.{length-run}
-use Rattle.bit_addressing.proofs.Blocks.{stands}
 use Rattle.bit_addressing.proofs.Typed.{length_row}
 use Rattle.bit_addressing.proofs.bits.searches.differ_from.Given as given
 use Rattle.bit_addressing.proofs.bits.searches.differ_from.Goals as goal
 use Rattle.bit_addressing.proofs.bits.searches.differ_from.Goals.{then-left-right+else-apart-ne0, else-left-right}
 
--- where a chunk stands, its width written otherwise
-starts : (width w k skip at : ℕ) → width ≡ w → k * width + skip + at ≡ k * w + skip + at
-starts width w k skip at wide = ap (λ n. k * n + skip + at) wide
+pub block_after-left-requires-clause-words : goal.block_after-left-requires-clause-words
+block_after-left-requires-clause-words g c = c.followed_blocks.ensures c.loop-t.t (omega arith)
+
+pub block_after-right-requires-clause-words : goal.block_after-right-requires-clause-words
+block_after-right-requires-clause-words g c = c.followed_blocks-2.ensures c.loop-t.t (omega arith)
 
 pub returns-then-apart-ne0 : goal.returns-then-apart-ne0
 returns-then-apart-ne0 g c =
@@ -25,8 +26,8 @@ returns-then-apart-ne0 g c =
     let second : length ys ≡ g.U.BitStore.BITS * length c.args.b.now = length_row g.U.BitStore.value g.P.BitOrder.place g.U.BitStore.BITS c.args.b.now in
     let t = c.loop-t.t in
     let k : ℕ = t * 64 in
-    let left = c.block_at-left.ensures ∙ ap (λ n. slice_range xs n (n + 64)) (stands g.T.BitStore.BITS c.BITS.result c.args.k c.args.skip t g.met.T.BitStore.width c.BITS.ensures) in
-    let right = c.block_at-right.ensures ∙ ap (λ n. slice_range ys n (n + 64)) (stands g.U.BitStore.BITS c.BITS-2.result c.args.l c.args.over t g.met.U.BitStore.width c.BITS-2.ensures) in
+    let left = c.block_after-left.ensures in
+    let right = c.block_after-right.ensures in
     differ_here xs ys i j k 64 c.word_number.result c.word_number-then-left-right.result (i + k) (j + k) refl refl (c.word_number.ensures ∙ ap number_of left) (c.word_number-then-left-right.ensures ∙ ap number_of right)
     c.args.n c.if-apart-ne0.true (xor_lt 64 c.word_number.result c.word_number-then-left-right.result c.word_number.type_inv c.word_number-then-left-right.type_inv) (omega arith) (omega arith) (omega arith) c.loop-t.invariant.alike
 
@@ -39,8 +40,8 @@ loop-t-preserved g c =
     let t = c.loop-t.t in
     let k : ℕ = t * 64 in
     let next : k + 64 ≡ (t + 1) * 64 = omega arith in
-    let left = c.block_at-left.ensures ∙ ap (λ n. slice_range xs n (n + 64)) (stands g.T.BitStore.BITS c.BITS.result c.args.k c.args.skip t g.met.T.BitStore.width c.BITS.ensures) in
-    let right = c.block_at-right.ensures ∙ ap (λ n. slice_range ys n (n + 64)) (stands g.U.BitStore.BITS c.BITS-2.result c.args.l c.args.over t g.met.U.BitStore.width c.BITS-2.ensures) in
+    let left = c.block_after-left.ensures in
+    let right = c.block_after-right.ensures in
     let alike : AreAlike xs ys i j (k + 64) = elim c.if-left-right.branch [
       | then-left-right+else-apart-ne0 w ↦
           alike_more xs ys i j k 64 w.word_number.result w.word_number-then-left-right.result (i + k) (j + k) refl refl (w.word_number.ensures ∙ ap number_of left) (w.word_number-then-left-right.ensures ∙ ap number_of right) w.if-apart-ne0.false c.loop-t.invariant.alike
@@ -58,7 +59,7 @@ returns-then-apart-ne0-2 g c =
     let first : length xs ≡ g.T.BitStore.BITS * length c.args.a.now = length_row g.T.BitStore.value g.O.BitOrder.place g.T.BitStore.BITS c.args.a.now in
     let second : length ys ≡ g.U.BitStore.BITS * length c.args.b.now = length_row g.U.BitStore.value g.P.BitOrder.place g.U.BitStore.BITS c.args.b.now in
     let k : ℕ = c.loop-t-2.t * 64 in
-    differ_here xs ys i j k 64 c.read_chunk-left.result c.read_chunk-right.result (c.args.k * c.BITS-3.result + c.args.skip + k) (c.args.l * c.BITS-4.result + c.args.over + k) (starts c.BITS-3.result g.T.BitStore.BITS c.args.k c.args.skip k c.BITS-3.ensures) (starts c.BITS-4.result g.U.BitStore.BITS c.args.l c.args.over k c.BITS-4.ensures) c.read_chunk-left.ensures c.read_chunk-right.ensures
+    differ_here xs ys i j k 64 c.read_chunk-left.result c.read_chunk-right.result (c.in_row-i.result + k) (c.in_row-j.result + k) (ap (λ n. n + k) c.in_row-i.ensures) (ap (λ n. n + k) c.in_row-j.ensures) c.read_chunk-left.ensures c.read_chunk-right.ensures
     c.args.n c.if-apart-ne0-2.true (xor_lt 64 c.read_chunk-left.result c.read_chunk-right.result c.read_chunk-left.type_inv c.read_chunk-right.type_inv) (omega arith) (omega arith) (omega arith) c.loop-t-2.invariant.alike
 
 pub loop-t-2-preserved : goal.loop-t-2-preserved
@@ -73,7 +74,7 @@ loop-t-2-preserved g c =
     let next : k + 64 ≡ (c.loop-t-2.t + 1) * 64 = omega arith in
     record {
       alike = subst (AreAlike xs ys i j) next
-          (alike_more xs ys i j k 64 c.read_chunk-left.result c.read_chunk-right.result (c.args.k * c.BITS-3.result + c.args.skip + k) (c.args.l * c.BITS-4.result + c.args.over + k) (starts c.BITS-3.result g.T.BitStore.BITS c.args.k c.args.skip k c.BITS-3.ensures) (starts c.BITS-4.result g.U.BitStore.BITS c.args.l c.args.over k c.BITS-4.ensures) c.read_chunk-left.ensures c.read_chunk-right.ensures (omega arith) c.loop-t-2.invariant.alike);
+          (alike_more xs ys i j k 64 c.read_chunk-left.result c.read_chunk-right.result (c.in_row-i.result + k) (c.in_row-j.result + k) (ap (λ n. n + k) c.in_row-i.ensures) (ap (λ n. n + k) c.in_row-j.ensures) c.read_chunk-left.ensures c.read_chunk-right.ensures (omega arith) c.loop-t-2.invariant.alike);
     }
 
 pub returns-then-apart-eq0 : goal.returns-then-apart-eq0
@@ -87,7 +88,7 @@ returns-then-apart-eq0 g c =
     let k : ℕ = c.args.n / 64 * 64 in
     let same : c.loop-t-2.t * 64 ≡ k = omega arith in
     alike_all xs ys i j c.args.n (k + c.args.n % 64) (omega arith) (omega arith) (omega arith)
-    (alike_more xs ys i j k (c.args.n % 64) c.read_chunk-left-2.result c.read_chunk-right-2.result (c.args.k * c.BITS-3.result + c.args.skip + k) (c.args.l * c.BITS-4.result + c.args.over + k) (starts c.BITS-3.result g.T.BitStore.BITS c.args.k c.args.skip k c.BITS-3.ensures) (starts c.BITS-4.result g.U.BitStore.BITS c.args.l c.args.over k c.BITS-4.ensures) c.read_chunk-left-2.ensures c.read_chunk-right-2.ensures c.if-apart-eq0.true (subst (AreAlike xs ys i j) same c.loop-t-2.invariant.alike))
+    (alike_more xs ys i j k (c.args.n % 64) c.read_chunk-left-2.result c.read_chunk-right-2.result (c.in_row-i.result + k) (c.in_row-j.result + k) (ap (λ n. n + k) c.in_row-i.ensures) (ap (λ n. n + k) c.in_row-j.ensures) c.read_chunk-left-2.ensures c.read_chunk-right-2.ensures c.if-apart-eq0.true (subst (AreAlike xs ys i j) same c.loop-t-2.invariant.alike))
 
 found : (g : given.Over) (c : goal.Else-apart-eq0 g) → IsFirstDifference (slice_range (row g.T.BitStore g.O.BitOrder c.args.a.now) (c.args.k * g.T.BitStore.BITS + c.args.skip) ((c.args.k * g.T.BitStore.BITS + c.args.skip) + c.args.n)) (slice_range (row g.U.BitStore g.P.BitOrder c.args.b.now) (c.args.l * g.U.BitStore.BITS + c.args.over) ((c.args.l * g.U.BitStore.BITS + c.args.over) + c.args.n)) (c.args.n / 64 * 64 + trailing_zeros w64 (bit_xor c.read_chunk-left-2.result c.read_chunk-right-2.result))
 found g c =
@@ -99,7 +100,7 @@ found g c =
     let second : length ys ≡ g.U.BitStore.BITS * length c.args.b.now = length_row g.U.BitStore.value g.P.BitOrder.place g.U.BitStore.BITS c.args.b.now in
     let k : ℕ = c.args.n / 64 * 64 in
     let same : c.loop-t-2.t * 64 ≡ k = omega arith in
-    differ_here xs ys i j k (c.args.n % 64) c.read_chunk-left-2.result c.read_chunk-right-2.result (c.args.k * c.BITS-3.result + c.args.skip + k) (c.args.l * c.BITS-4.result + c.args.over + k) (starts c.BITS-3.result g.T.BitStore.BITS c.args.k c.args.skip k c.BITS-3.ensures) (starts c.BITS-4.result g.U.BitStore.BITS c.args.l c.args.over k c.BITS-4.ensures) c.read_chunk-left-2.ensures c.read_chunk-right-2.ensures
+    differ_here xs ys i j k (c.args.n % 64) c.read_chunk-left-2.result c.read_chunk-right-2.result (c.in_row-i.result + k) (c.in_row-j.result + k) (ap (λ n. n + k) c.in_row-i.ensures) (ap (λ n. n + k) c.in_row-j.ensures) c.read_chunk-left-2.ensures c.read_chunk-right-2.ensures
     c.args.n c.if-apart-eq0.false (xor_lt 64 c.read_chunk-left-2.result c.read_chunk-right-2.result c.read_chunk-left-2.type_inv c.read_chunk-right-2.type_inv) (omega arith) (omega arith) (omega arith) (subst (AreAlike xs ys i j) same c.loop-t-2.invariant.alike)
 
 pub overflow_add-result-2 : goal.overflow_add-result-2

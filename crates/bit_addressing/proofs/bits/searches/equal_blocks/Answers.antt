@@ -1,11 +1,16 @@
-use Rattle.std.proofs.Common.{◌≡◌, ℕ, ◌+◌, ◌*◌, ◌/◌, ◌<◌, false, length, slice_range, refl, sym, ◌∙◌, ap, subst, inr, arith}
+use Rattle.std.proofs.Common.{◌≡◌, ℕ, ◌+◌, ◌*◌, ◌/◌, ◌<◌, false, length, refl, sym, ◌∙◌, subst, inr, arith}
 use Rattle.bit_addressing.specs.Bits.{has_bit}
 use Rattle.bit_addressing.specs.Typed.{row}
-use Rattle.bit_addressing.proofs.Blocks.{stands}
 use Rattle.bit_addressing.proofs.Differs.{AreAlike, alike_all, alike_run, or_none, same_if}
 use Rattle.bit_addressing.proofs.Packs.{same_word}
 use Rattle.bit_addressing.proofs.Typed.{length_row}
 use Rattle.bit_addressing.proofs.bits.searches.equal_blocks.Goals as goal
+
+pub block_after-left-requires-clause-words : goal.block_after-left-requires-clause-words
+block_after-left-requires-clause-words g c = c.requires.more (c.loop-t.t * 16 + c.loop-i.i) (omega arith)
+
+pub block_after-right-requires-clause-words : goal.block_after-right-requires-clause-words
+block_after-right-requires-clause-words g c = c.requires.other_more (c.loop-t.t * 16 + c.loop-i.i) (omega arith)
 
 pub loop-i-preserved : goal.loop-i-preserved
 loop-i-preserved g c =
@@ -16,10 +21,10 @@ loop-i-preserved g c =
     let m : ℕ = c.loop-t.t * 16 + c.loop-i.i in
     let k : ℕ = m * 64 in
     let next : k + 64 ≡ (c.loop-t.t * 16 + (c.loop-i.i + 1)) * 64 = omega arith in
-    let x = c.block_at-left.result in
-    let y = c.block_at-right.result in
-    let left = c.block_at-left.ensures ∙ ap (λ n. slice_range xs n (n + 64)) (stands g.T.BitStore.BITS c.BITS.result c.args.k c.args.skip m g.met.T.BitStore.width c.BITS.ensures) in
-    let right = c.block_at-right.ensures ∙ ap (λ n. slice_range ys n (n + 64)) (stands g.U.BitStore.BITS c.BITS-2.result c.args.l c.args.over m g.met.U.BitStore.width c.BITS-2.ensures) in
+    let x = c.block_after-left.result in
+    let y = c.block_after-right.result in
+    let left = c.block_after-left.ensures in
+    let right = c.block_after-right.ensures in
     record {
       alike = λ none.
           let parts : (p : ℕ) → p < 64 → (has_bit c.loop-i.apart p ≡ false) × (has_bit c.xor.result p ≡ false) = λ p h. or_none (has_bit c.loop-i.apart p) (has_bit c.xor.result p) (sym (c.or-apart.ensures p h) ∙ none p h) in

@@ -3,7 +3,7 @@ use Rattle.bit_addressing.specs.Bits.{has_bit}
 use Rattle.bit_addressing.specs.Row.{put, row_of}
 use Rattle.bit_addressing.specs.Typed.{row}
 use Rattle.bit_addressing.proofs.lists.Put.{put_none}
-use Rattle.bit_addressing.proofs.Runs.{filled_next, slice_repeated, inner, last_inside, mul_mono}
+use Rattle.bit_addressing.proofs.Runs.{filled_next, slice_repeated, inner, mul_mono}
 use Rattle.bit_addressing.proofs.lists.Sized.{one_more_word}
 use Rattle.bit_addressing.proofs.Rows.{width_positive, row_repeated}
 use Rattle.bit_addressing.proofs.Typed.{length_row, row_replaced}
@@ -21,6 +21,9 @@ full g x b bits = row_repeated g.O.BitOrder.place g.T.BitStore.BITS x b (width_p
 
 part : (g : given.Over) (x low high n : ℕ) (b : Bool) → ((p : ℕ) → p < g.T.BitStore.BITS → has_bit x p ≡ b) → high ≤ g.T.BitStore.BITS → high - low ≡ n → slice_range (row_of g.O.BitOrder.place g.T.BitStore.BITS (x ∷ [])) low high ≡ replicate n b
 part g x low high n b bits fits size = slice_repeated (row_of g.O.BitOrder.place g.T.BitStore.BITS (x ∷ [])) g.T.BitStore.BITS low high n b (full g x b bits) fits size
+
+pub prove-unreachable-requires : goal.prove-unreachable-requires
+prove-unreachable-requires g c = let below = c.of-first.ensures.inside (length c.args.words.now) c.requires.within in omega arith
 
 pub returns-then-first-last-clause-bits : goal.returns-then-first-last-clause-bits
 returns-then-first-last-clause-bits g c =
@@ -57,7 +60,7 @@ loop-k-preserved g c =
     let r = run in
     let old = row g.T.BitStore g.O.BitOrder c.args.words.now in
     let size : length old ≡ w * length c.args.words.now = length_row g.T.BitStore.value g.O.BitOrder.place w c.args.words.now in
-    let inside = last_inside (length c.args.words.now) run c.requires.within in
+    let inside = run.inside (length c.args.words.now) c.requires.within in
     let more = one_more_word k w in
     let above = mul_mono (s.first + 1) k w c.loop-k.auto.k in
     let below = mul_mono (k + 1) s.last w (omega arith) in

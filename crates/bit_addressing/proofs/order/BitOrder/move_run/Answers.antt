@@ -2,10 +2,29 @@ use Rattle.std.proofs.Common.{◌-◌, map, sym, ap, arith}
 use Rattle.bit_addressing.specs.Row.{row_of}
 use Rattle.bit_addressing.proofs.Typed.{index_in_row}
 use Rattle.bit_addressing.proofs.Shifts.{moved_none, run_moved_on, run_moved_back}
+use Rattle.bit_addressing.proofs.Moves.{touched_span}
 use Rattle.bit_addressing.proofs.order.BitOrder.move_run.Goals as goal
 
 pub returns-then-n-eq0-clause-bits : goal.returns-then-n-eq0-clause-bits
 returns-then-n-eq0-clause-bits g c = sym (moved_none (row_of g.Self.BitOrder.place g.T.BitStore.BITS (map g.T.BitStore.value c.args.row.now.words.now)) c.args.src c.args.dst c.args.n c.if-n-eq0.true)
+
+pub returns-then-first-last-clause-reads : goal.returns-then-first-last-clause-reads
+returns-then-first-last-clause-reads g c = let t = touched_span c.of-first.ensures c.if-n-eq0.false in let run = c.of-first.ensures in omega arith
+
+pub returns-then-first-last-clause-writes : goal.returns-then-first-last-clause-writes
+returns-then-first-last-clause-writes g c = let t = touched_span c.of-first.ensures c.if-n-eq0.false in let run = c.of-first.ensures in omega arith
+
+pub returns-then-dst-src-clause-reads : goal.returns-then-dst-src-clause-reads
+returns-then-dst-src-clause-reads g c = let t = touched_span c.of-first.ensures c.if-n-eq0.false in let run = c.of-first.ensures in omega arith
+
+pub returns-then-dst-src-clause-writes : goal.returns-then-dst-src-clause-writes
+returns-then-dst-src-clause-writes g c = let t = touched_span c.of-first.ensures c.if-n-eq0.false in let run = c.of-first.ensures in omega arith
+
+pub returns-clause-reads : goal.returns-clause-reads
+returns-clause-reads g c = let t = touched_span c.of-first.ensures c.if-n-eq0.false in let run = c.of-first.ensures in omega arith
+
+pub returns-clause-writes : goal.returns-clause-writes
+returns-clause-writes g c = let t = touched_span c.of-first.ensures c.if-n-eq0.false in let run = c.of-first.ensures in omega arith
 
 pub returns-then-dst-src-clause-bits : goal.returns-then-dst-src-clause-bits
 returns-then-dst-src-clause-bits g c =

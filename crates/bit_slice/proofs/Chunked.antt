@@ -1,5 +1,5 @@
 -- Items of a list read as a number: whether one of them is true, and its lowest bits cleared one by one.
-use Rattle.std.proofs.Common.{◌≡◌, ◌≢◌, ℕ, ◌+◌, ◌-◌, ◌*◌, ◌/◌, ◌%◌, ◌^◌, ◌<◌, ◌≤◌, min, Bool, true, false, List, length, get_or, slice_range, w64, refl, sym, ◌∙◌, ap, inl, inr, mod-lt, arith, bit_and}
+use Rattle.std.proofs.Common.{◌≡◌, ◌≢◌, ℕ, ◌+◌, ◌-◌, ◌*◌, ◌/◌, ◌%◌, ◌^◌, ◌<◌, ◌≤◌, min, Bool, true, false, List, length, get_or, slice_range, w64, refl, sym, ◌∙◌, ap, inl, inr, arith, bit_and}
 use Rattle.std.specs.Int.{trailing_zeros}
 use Rattle.std.specs.Int.Count.{trailing_of_zero}
 use Rattle.std.proofs.lemmas.Bool.{cases_lt, true≢false}
@@ -153,14 +153,6 @@ word_begins w at wide begins =
     let blocks : at ≡ at / 64 * 64 = omega (arith, split, begins) in
     let words : at / 64 * 64 ≡ at / 64 * (64 / w) * w = ap (λ n. at / 64 * n) (sym whole) ∙ grind arith in
     ap (λ n. n % w) (blocks ∙ words) ∙ mul-mod_left (at / 64 * (64 / w)) w
-
--- the next index at which a block begins
-pub next_edge : (head at : ℕ) → (head + (at + (64 - (head + at) % 64))) % 64 ≡ 0
-next_edge head at =
-    let split = div-add-mod' (head + at) 64 in
-    let under : (head + at) % 64 < 64 = mod-lt (head + at) (omega arith) in
-    let edge : head + (at + (64 - (head + at) % 64)) ≡ ((head + at) / 64 + 1) * 64 = omega (arith, split, under) in
-    ap (λ n. n % 64) edge ∙ mul-mod_left ((head + at) / 64 + 1) 64
 
 -- the index after a block
 pub edge_later : (head at : ℕ) → (head + at) % 64 ≡ 0 → (head + (at + 64)) % 64 ≡ 0

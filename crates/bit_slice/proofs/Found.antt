@@ -180,10 +180,6 @@ module _ (xs : List Bool) (lo n : ℕ) (bit : Bool) (size : length xs ≡ n) whe
   next_none None h = λ j a b. item_is xs j (not bit) (omega arith) (h.each j a b)
   next_none (Some i) h = tt
 
-  pub last_inside : (r : Option ℕ) → MatchOption r (IsAbsent bit xs lo n) (λ i. IsLast bit xs lo n i) → IfSome r (λ i. i < n)
-  last_inside None h = tt
-  last_inside (Some i) h = h.within
-
   pub last_found : (r : Option ℕ) → MatchOption r (IsAbsent bit xs lo n) (λ i. IsLast bit xs lo n i) → IfSome r (λ i. slice_get xs i ≡ Some bit)
   last_found None h = tt
   last_found (Some i) h = let w = h.within in item_is xs i bit (omega arith) h.here

@@ -141,36 +141,34 @@ same_in_64 w a b r s few fits_a fits_b fits_r fits_s low_r high_r low_s high_s =
     at_place p same (inl below) = low_r p below ∙ ap (λ n. has_bit n p) same ∙ sym (low_s p below)
     at_place p same (inr above) = high_r p above ∙ sym (high_s p above)
 
--- ---- masks made of two shifts of the word whose bits are all set
+-- ---- masks made by two shifts of the word whose bits are all set
 
 pub ones_bit : (w blank ones p : ℕ) → blank ≡ 0 → p < w → ((q : ℕ) → q < w → has_bit ones q ≡ not (has_bit blank q)) → has_bit ones p ≡ true
 ones_bit w blank ones p none h flips = flips p h ∙ ap (λ n. not (has_bit n p)) none ∙ ap not (has_none p)
 
 -- counted from the lowest place
-pub mask_up : (w low high back ones up down out p : ℕ) → high ≤ w → back ≡ w - high → p < w → ((q : ℕ) → q < w → has_bit ones q ≡ true)
-    → ((q : ℕ) → q < low → has_bit up q ≡ false) → ((q : ℕ) → low ≤ q → q < w → has_bit up q ≡ has_bit ones (q - low))
+pub mask_up : (w low high back ones down out p : ℕ) → low ≤ high → high ≤ w → back ≡ w - (high - low) → p < w → ((q : ℕ) → q < w → has_bit ones q ≡ true)
     → ((q : ℕ) → q + back < w → has_bit down q ≡ has_bit ones (q + back)) → ((q : ℕ) → w ≤ q + back → has_bit down q ≡ false)
-    → ((q : ℕ) → q < w → has_bit out q ≡ (has_bit up q && has_bit down q))
+    → ((q : ℕ) → q < low → has_bit out q ≡ false) → ((q : ℕ) → low ≤ q → q < w → has_bit out q ≡ has_bit down (q - low))
     → has_bit out p ≡ (leb low p && ltb p high)
-mask_up w low high back ones up down out p fits is h all below above inside past both = both p h ∙ elim (cases_lt p low) [
+mask_up w low high back ones down out p ordered fits is h all inside past below above = elim (cases_lt p low) [
   | inl k ↦ rw (below p k, lt-leb low p k) refl
-  | inr k ↦ rw (above p k h, all (p - low) (omega arith), le-leb low p k) (elim (cases_lt p high) [
-    | inl l ↦ rw (inside p (omega arith), all (p + back) (omega arith), lt-ltb p high l) refl
-    | inr l ↦ rw (past p (omega arith), le-ltb p high l) refl
+  | inr k ↦ rw (above p k h, le-leb low p k) (elim (cases_lt p high) [
+    | inl l ↦ rw (inside (p - low) (omega arith), all (p - low + back) (omega arith), lt-ltb p high l) refl
+    | inr l ↦ rw (past (p - low) (omega arith), le-ltb p high l) refl
   ])
 ]
 
 -- counted from the highest place
-pub mask_down : (w low high back ones down up out i : ℕ) → high ≤ w → back ≡ w - high → i < w → ((q : ℕ) → q < w → has_bit ones q ≡ true)
-    → ((q : ℕ) → q + low < w → has_bit down q ≡ has_bit ones (q + low)) → ((q : ℕ) → w ≤ q + low → has_bit down q ≡ false)
+pub mask_down : (w low high back ones up out i : ℕ) → low ≤ high → high ≤ w → back ≡ w - (high - low) → i < w → ((q : ℕ) → q < w → has_bit ones q ≡ true)
     → ((q : ℕ) → q < back → has_bit up q ≡ false) → ((q : ℕ) → back ≤ q → q < w → has_bit up q ≡ has_bit ones (q - back))
-    → ((q : ℕ) → q < w → has_bit out q ≡ (has_bit down q && has_bit up q))
+    → ((q : ℕ) → q + low < w → has_bit out q ≡ has_bit up (q + low)) → ((q : ℕ) → w ≤ q + low → has_bit out q ≡ false)
     → has_bit out (w - 1 - i) ≡ (leb low i && ltb i high)
-mask_down w low high back ones down up out i fits is h all inside past below above both = both (w - 1 - i) (omega arith) ∙ elim (cases_lt i low) [
+mask_down w low high back ones up out i ordered fits is h all below above inside past = elim (cases_lt i low) [
   | inl k ↦ rw (past (w - 1 - i) (omega arith), lt-leb low i k) refl
-  | inr k ↦ rw (inside (w - 1 - i) (omega arith), all (w - 1 - i + low) (omega arith), le-leb low i k) (elim (cases_lt i high) [
-    | inl l ↦ rw (above (w - 1 - i) (omega arith) (omega arith), all (w - 1 - i - back) (omega arith), lt-ltb i high l) refl
-    | inr l ↦ rw (below (w - 1 - i) (omega arith), le-ltb i high l) refl
+  | inr k ↦ rw (inside (w - 1 - i) (omega arith), le-leb low i k) (elim (cases_lt i high) [
+    | inl l ↦ rw (above (w - 1 - i + low) (omega arith) (omega arith), all (w - 1 - i + low - back) (omega arith), lt-ltb i high l) refl
+    | inr l ↦ rw (below (w - 1 - i + low) (omega arith), le-ltb i high l) refl
   ])
 ]
 

@@ -252,7 +252,7 @@ impl BitOrder for Lsb0 {
             return T::ZERO;
         }
         let ones = T::ZERO.not();
-        ones.shl(low).and(ones.shr(T::BITS - high))
+        ones.shr(T::BITS - (high - low)).shl(low)
     }
 
     fn to_lsb0<T: BitStore>(word: T) -> T {
@@ -315,7 +315,7 @@ impl BitOrder for Msb0 {
             return T::ZERO;
         }
         let ones = T::ZERO.not();
-        ones.shr(low).and(ones.shl(T::BITS - high))
+        ones.shl(T::BITS - (high - low)).shr(low)
     }
 
     fn to_lsb0<T: BitStore>(word: T) -> T {

@@ -293,11 +293,13 @@ pub fn push_chunk_in_vec<T: BitStore, O: BitOrder>(
     }
     let room = T::BITS - low;
     if n <= room {
-        write_in_word::<T, O>(words, end / width, low, n, chunk);
+        let k = words.len() - 1;
+        write_in_word::<T, O>(words, k, low, n, chunk);
         return Ok(());
     }
+    let k = words.len() - 1;
     push_part::<T, O>(words, n - room, chunk >> room)?;
-    write_in_word::<T, O>(words, end / width, low, room, chunk);
+    write_in_word::<T, O>(words, k, low, room, chunk);
     Ok(())
 }
 

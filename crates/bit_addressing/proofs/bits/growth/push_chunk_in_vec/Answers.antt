@@ -68,11 +68,30 @@ returns-in_err-push_part-clause-full g c =
     let most = c.in_err-push_part.ensures.full in
     rw p.1 (omega arith)
 
+-- the last word, where it is not full
+last_word : (w end count len : ℕ) → 0 < w → count ≡ words_for w end → end % w ≢ 0 → len ≡ count → (1 ≤ len) × (len - 1 < count) × ((len - 1) * w + end % w ≡ end)
+last_word w end count len positive is odd same =
+    let o = odd_words w end count positive is odd in
+    let at : len - 1 ≡ end / w = omega (arith, o.3) in
+    (omega (arith, o.3), omega (arith, o.3), ap (λ m. m * w + end % w) at ∙ o.2)
+
+pub overflow_sub-k : goal.overflow_sub-k
+overflow_sub-k g c =
+    let w = g.T.BitStore.BITS in
+    let odd : c.args.end % w ≢ 0 = λ e. c.if-low-eq0.false (ap (λ m. c.args.end % m) c.BITS-width.ensures ∙ e) in
+    (last_word w c.args.end (length c.args.words.now.items) c.len-k.result (width_positive w g.met.T.BitStore.width) c.requires.count odd (c.len-k.ensures ∙ c.args.words.now.ok.0)).0
+
+pub overflow_sub-k-2 : goal.overflow_sub-k-2
+overflow_sub-k-2 g c =
+    let w = g.T.BitStore.BITS in
+    let odd : c.args.end % w ≢ 0 = λ e. c.if-low-eq0.false (ap (λ m. c.args.end % m) c.BITS-width.ensures ∙ e) in
+    (last_word w c.args.end (length c.args.words.now.items) c.len-k-2.result (width_positive w g.met.T.BitStore.width) c.requires.count odd (c.len-k-2.ensures ∙ c.args.words.now.ok.0)).0
+
 pub write_in_word-requires-clause-word : goal.write_in_word-requires-clause-word
 write_in_word-requires-clause-word g c =
     let w = g.T.BitStore.BITS in
     let odd : c.args.end % w ≢ 0 = λ e. c.if-low-eq0.false (ap (λ m. c.args.end % m) c.BITS-width.ensures ∙ e) in
-    rw c.BITS-width.ensures ((odd_words w c.args.end (length c.args.words.now.items) (width_positive w g.met.T.BitStore.width) c.requires.count odd).0)
+    (last_word w c.args.end (length c.args.words.now.items) c.len-k.result (width_positive w g.met.T.BitStore.width) c.requires.count odd (c.len-k.ensures ∙ c.args.words.now.ok.0)).1
 
 -- the words for `n` bits more, which the last word has room for
 same_words : (w end n count : ℕ) → 0 < w → count ≡ words_for w end → end % w ≢ 0 → n ≤ w - end % w → words_for w (end + n) ≡ count
@@ -106,7 +125,7 @@ returns-then-n-room-clause-bits g c =
     let positive = width_positive w g.met.T.BitStore.width in
     let odd : end % w ≢ 0 = λ e. c.if-low-eq0.false (ap (λ m. end % m) c.BITS-width.ensures ∙ e) in
     let fits : c.args.n ≤ w - end % w = rw c.BITS-width.ensures at (rw c.BITS-2.ensures at c.if-n-room.true) in
-    let begin : end / c.BITS-width.result * w + end % c.BITS-width.result ≡ end = ap (λ m. end / m * w + end % m) c.BITS-width.ensures ∙ (odd_words w end (length items) positive c.requires.count odd).2 in
+    let begin : (c.len-k.result - 1) * w + end % c.BITS-width.result ≡ end = ap (λ m. (c.len-k.result - 1) * w + end % m) c.BITS-width.ensures ∙ (last_word w end (length items) c.len-k.result positive c.requires.count odd (c.len-k.ensures ∙ c.args.words.now.ok.0)).2 in
     let size : length old ≡ w * words_for w (end + c.args.n) = length_row g.T.BitStore.value g.O.BitOrder.place w items ∙ ap (λ m. w * m) (sym (same_words w end c.args.n (length items) positive c.requires.count odd fits)) in
     c.write_in_word.ensures.bits ∙ ap (λ m. put old m bits) begin ∙ ap (λ r. put r end bits) (sym (sized_same w old (end + c.args.n) size))
 
@@ -114,8 +133,8 @@ pub write_in_word-requires-2-clause-word : goal.write_in_word-requires-2-clause-
 write_in_word-requires-2-clause-word g c =
     let w = g.T.BitStore.BITS in
     let odd : c.args.end % w ≢ 0 = λ e. c.if-low-eq0.false (ap (λ m. c.args.end % m) c.BITS-width.ensures ∙ e) in
-    let below = (odd_words w c.args.end (length c.args.words.now.items) (width_positive w g.met.T.BitStore.width) c.requires.count odd).0 in
-    rw c.BITS-width.ensures (omega (arith, c.in_ok-push_part-2.ensures.size))
+    let below = (last_word w c.args.end (length c.args.words.now.items) c.len-k-2.result (width_positive w g.met.T.BitStore.width) c.requires.count odd (c.len-k-2.ensures ∙ c.args.words.now.ok.0)).1 in
+    omega (arith, c.in_ok-push_part-2.ensures.size)
 
 pub returns-clause-size : goal.returns-clause-size
 returns-clause-size g c =
@@ -142,7 +161,7 @@ returns-clause-bits g c =
     let few : n ≤ w = elim c.else-BITS-lt64.branch [ else-BITS-lt64-via-then-BITS-lt64+else-n-BITS b ↦ omega arith | else-BITS-lt64-via-else-BITS-lt64 b ↦ omega arith ] in
     let over : w - end % w < n = rw c.BITS-width.ensures at (rw c.BITS-2.ensures at c.if-n-room.false) in
     let o = odd_words w end (length items) positive c.requires.count odd in
-    let begin : end / c.BITS-width.result * w + end % c.BITS-width.result ≡ end = ap (λ m. end / m * w + end % m) c.BITS-width.ensures ∙ o.2 in
+    let begin : (c.len-k-2.result - 1) * w + end % c.BITS-width.result ≡ end = ap (λ m. (c.len-k-2.result - 1) * w + end % m) c.BITS-width.ensures ∙ (last_word w end (length items) c.len-k-2.result positive c.requires.count odd (c.len-k-2.ensures ∙ c.args.words.now.ok.0)).2 in
     let size : length old ≡ w * length items = length_row g.T.BitStore.value g.O.BitOrder.place w items in
     let all : length old + w ≡ w * words_for w (end + n) = one_word_more w (length old) (length items) _ size (more_words w end n (length items) positive c.requires.count odd over few) in
     let front = number_bits chunk split in

@@ -1,13 +1,15 @@
 -- Bits appended: a part of the list once more, and in several steps.
-use Rattle.std.proofs.Common.{if◌then◌else◌, eqb, map, get_or, ◌≡◌, ℕ, ◌+◌, ◌-◌, ◌*◌, ◌<◌, ◌≤◌, Bool, false, List, [], ◌∷◌, ◌++◌, length, replicate, slice_range, refl, sym, ◌∙◌, ap, inl, inr, arith, rules}
+use Rattle.std.proofs.Common.{if◌then◌else◌, eqb, map, get_or, ◌≡◌, ℕ, ◌+◌, ◌-◌, ◌*◌, ◌/◌, ◌^◌, ◌<◌, ◌≤◌, Bool, false, List, [], ◌∷◌, ◌++◌, length, replicate, slice_range, refl, sym, ◌∙◌, ap, inl, inr, arith, rules}
 use Rattle.std.proofs.lemmas.Bool.{cases_lt}
 use Rattle.std.proofs.lemmas.List.{places, same_lists, length-append, ext_get_or, length_push, get_or-append_right, get_or_append_left}
-use Rattle.std.proofs.Math.Nat.{mul-le-mul_left}
+use Rattle.std.proofs.Math.Nat.{mul-le-mul_left, div-one}
 use Rattle.std.proofs.lemmas.List.FromFn.{length-map-range_with_len, get_or-map-range_with_len}
 use Rattle.std.specs.List.{range_with_len}
-use Rattle.std.proofs.lemmas.Bool.Decides.{eqb_tells}
+use Rattle.std.proofs.lemmas.Bool.Decides.{nat_tests, eqb_tells}
 use Rattle.bit_addressing.specs.Bits.{has_bit}
 use Rattle.bit_addressing.specs.Row.{words_for, put, sized, moved, number_bits}
+use Rattle.bit_addressing.proofs.Binary.{length-number_bits, number_bits_none}
+use Rattle.bit_addressing.proofs.Words.{has_shr_low}
 use Rattle.bit_addressing.proofs.lists.Sized.{room, words_for_mono, words_for_le, sized_more, length-sized, sized_same}
 use Rattle.bit_addressing.proofs.lists.Put.{length-put, put_joined, put_none}
 use Rattle.bit_addressing.proofs.lists.Shown.{length-run, shown_part, shows_sized, grown_shows}
@@ -17,6 +19,7 @@ use Rattle.bit_addressing.specs.declared.errors.GrowError.{GrowError}
 use Rattle.bit_addressing.specs.declared.errors.GrowError.TheVariants.{TooLong, OutOfMemory}
 use Rattle.bit_addressing.specs.declared.length.TheConstants.{MAX_BITS}
 use Rattle.bit_containers.specs.BitVec.{Held, Grew, RefusesOnly}
+use Rattle.bit_containers.specs.Making.{highest_bits}
 
 -- a part of what is shown moved after it
 pub part_moved : (w : ℕ) (xs : List Bool) (head len s n : ℕ) → 0 < w → s + n ≤ len → head + len ≤ length xs
@@ -114,9 +117,9 @@ sized_false w n positive =
 -- ---- bits gathered in a number
 
 -- one bit more in a number
-pub number_bits_next : (x y n : ℕ) (b : Bool) → n < 64 → ((p : ℕ) → p < 64 → has_bit y p ≡ (if eqb p n then b else has_bit x p)) → number_bits y (n + 1) ≡ number_bits x n ++ b ∷ []
+pub number_bits_next : (x y n : ℕ) (b : Bool) → ((p : ℕ) → p < n + 1 → has_bit y p ≡ (if eqb p n then b else has_bit x p)) → number_bits y (n + 1) ≡ number_bits x n ++ b ∷ []
 unfolding number_bits
-number_bits_next x y n b few change =
+number_bits_next x y n b change =
     let gone : n - n ≡ 0 = omega arith in
     let xs : List Bool = map (has_bit x) (range_with_len 0 n) in
     let size : length xs ≡ n = length-map-range_with_len (has_bit x) 0 n in
@@ -124,9 +127,38 @@ number_bits_next x y n b few change =
     ext_get_or false (number_bits y (n + 1)) (xs ++ b ∷ []) (left ∙ sym (length_push xs b ∙ ap (λ k. k + 1) size))
     (λ i h.
     let below : i < n + 1 = omega arith in
-    get_or-map-range_with_len (has_bit y) 0 (n + 1) i i false below (omega arith) ∙ change i (omega arith) ∙ elim (eqb_tells i n) [
+    get_or-map-range_with_len (has_bit y) 0 (n + 1) i i false below (omega arith) ∙ change i below ∙ elim (eqb_tells i n) [
       | inl e ↦ rw (e.0, e.1) (sym (get_or-append_right xs (b ∷ []) n n false size (omega arith) ∙ ap (λ k. get_or (b ∷ []) k false) gone))
       | inr e ↦ rw e.0 (sym (get_or_append_left xs (b ∷ []) false i (omega (arith, e.1)) ∙ get_or-map-range_with_len (has_bit x) 0 n i i false (omega (arith, e.1)) (omega arith)))
+    ])
+
+pub length-highest_bits : (x n : ℕ) → length (highest_bits x n) ≡ n
+unfolding highest_bits
+length-highest_bits x n = length-number_bits (x / 2 ^ (64 - n)) n
+
+pub highest_bits_none : (x : ℕ) → highest_bits x 0 ≡ []
+unfolding highest_bits
+highest_bits_none x = number_bits_none (x / 2 ^ 64)
+
+-- all bits of a word
+pub highest_bits_all : (x n : ℕ) → n ≡ 64 → number_bits x n ≡ highest_bits x n
+unfolding highest_bits
+highest_bits_all x n is = rw is (ap (λ y. number_bits y 64) (sym (div-one x)))
+
+-- one bit more, at the top of a number that is shifted down by one place
+pub highest_bits_next : (x y n : ℕ) (b : Bool) → n < 64 → ((p : ℕ) → p < 64 → has_bit y p ≡ (if eqb p 63 then b else has_bit (x / 2 ^ 1) p)) → highest_bits y (n + 1) ≡ highest_bits x n ++ b ∷ []
+unfolding highest_bits
+highest_bits_next x y n b few change =
+    let down : ℕ = 64 - (n + 1) in
+    number_bits_next (x / 2 ^ (64 - n)) (y / 2 ^ down) n b (λ p h.
+    has_shr_low y down p ∙ change (p + down) (omega arith) ∙ elim (eqb_tells p n) [
+      | inl e ↦
+          let top : p + down ≡ 63 = omega (arith, e.1) in
+          rw (top, e.0) refl
+      | inr e ↦
+          let below : eqb (p + down) 63 ≡ false = grind (arith, nat_tests, e.1) in
+          let at : p + down + 1 ≡ p + (64 - n) = omega arith in
+          rw (below, e.0) (has_shr_low x 1 (p + down) ∙ ap (has_bit x) at ∙ sym (has_shr_low x (64 - n) p))
     ])
 
 one_error : {A : Type 0} (result : Result A GrowError) → result ≡ Err TooLong → result ≢ Err OutOfMemory

@@ -16,36 +16,36 @@ use Rattle.bit_addressing.specs.Row.{words_for, number_bits, row_of}
 use Rattle.bit_addressing.specs.Typed.{row}
 use Rattle.bit_addressing.proofs.Rows.{row_append, length-row_of, get_or-row_one}
 use Rattle.bit_containers.specs.BitVec.{Held, Grew}
-use Rattle.bit_addressing.proofs.Binary.{length-number_bits}
-use Rattle.bit_containers.proofs.Growing.{grew_twice}
+use Rattle.bit_containers.specs.Making.{highest_bits}
+use Rattle.bit_containers.proofs.Growing.{grew_twice, length-highest_bits}
 
 -- of the bits that were pulled the last are still in a number
 abbrev pub Gathers : {X : Type 0} → ℕ → Held X → Held X → ℕ → ℕ → List Bool → Type 0
-Gathers w old now number got pulled = (front : List Bool) × (now.list ≡ old.list ++ front) × Grew w old now front × (front ++ number_bits number got ≡ pulled)
+Gathers w old now number got pulled = (front : List Bool) × (now.list ≡ old.list ++ front) × Grew w old now front × (front ++ highest_bits number got ≡ pulled)
 
 module _ {X : Type 0} (w : ℕ) (old : Held X) (positive : 0 < w) (inside : length old.row ≡ w * words_for w (old.head + length old.list)) where
   -- one bit more was pulled
-  pub gathers_more : (mid new : Held X) (number got next more : ℕ) (pulled : List Bool) (bit : Bool) → Gathers w old mid number got pulled → (front : List Bool) → new.list ≡ mid.list ++ front → Grew w mid new front → front ++ number_bits next more ≡ number_bits number got ++ bit ∷ [] → Gathers w old new next more (pulled ++ bit ∷ [])
+  pub gathers_more : (mid new : Held X) (number got next more : ℕ) (pulled : List Bool) (bit : Bool) → Gathers w old mid number got pulled → (front : List Bool) → new.list ≡ mid.list ++ front → Grew w mid new front → front ++ highest_bits next more ≡ highest_bits number got ++ bit ∷ [] → Gathers w old new next more (pulled ++ bit ∷ [])
   gathers_more mid new number got next more pulled bit was front list grew same = (
     was.0 ++ front,
     list ∙ ap (λ l. l ++ front) was.1 ∙ append_assoc old.list was.0 front,
     grew_twice w old mid new was.0 front positive inside was.2 grew,
-    append_assoc was.0 front (number_bits next more) ∙ ap (λ l. was.0 ++ l) same ∙ sym (append_assoc was.0 (number_bits number got) (bit ∷ [])) ∙ ap (λ l. l ++ bit ∷ []) was.3,
+    append_assoc was.0 front (highest_bits next more) ∙ ap (λ l. was.0 ++ l) same ∙ sym (append_assoc was.0 (highest_bits number got) (bit ∷ [])) ∙ ap (λ l. l ++ bit ∷ []) was.3,
   )
 
   -- what the number still has is appended
-  pub gathers_all : (mid new : Held X) (number got : ℕ) (pulled : List Bool) → Gathers w old mid number got pulled → new.list ≡ mid.list ++ number_bits number got → Grew w mid new (number_bits number got) → (new.list ≡ old.list ++ pulled) × Grew w old new pulled
+  pub gathers_all : (mid new : Held X) (number got : ℕ) (pulled : List Bool) → Gathers w old mid number got pulled → new.list ≡ mid.list ++ highest_bits number got → Grew w mid new (highest_bits number got) → (new.list ≡ old.list ++ pulled) × Grew w old new pulled
   gathers_all mid new number got pulled was list grew = (
-    list ∙ ap (λ l. l ++ number_bits number got) was.1 ∙ append_assoc old.list was.0 (number_bits number got) ∙ ap (λ l. old.list ++ l) was.3,
-    subst (Grew w old new) was.3 (grew_twice w old mid new was.0 (number_bits number got) positive inside was.2 grew),
+    list ∙ ap (λ l. l ++ highest_bits number got) was.1 ∙ append_assoc old.list was.0 (highest_bits number got) ∙ ap (λ l. old.list ++ l) was.3,
+    subst (Grew w old new) was.3 (grew_twice w old mid new was.0 (highest_bits number got) positive inside was.2 grew),
   )
 
 -- how many were pulled
 pub gathers_length : {X : Type 0} (w : ℕ) (old now : Held X) (number got : ℕ) (pulled : List Bool) → Gathers w old now number got pulled → length now.list + got ≡ length old.list + length pulled
 gathers_length w old now number got pulled was =
     let a = ap length was.1 ∙ length-append old.list was.0 in
-    let b = sym (ap length was.3) ∙ length-append was.0 (number_bits number got) in
-    let s = length-number_bits number got in
+    let b = sym (ap length was.3) ∙ length-append was.0 (highest_bits number got) in
+    let s = length-highest_bits number got in
     omega arith
 
 -- an iterator of which no run has more items than fit is not refused
@@ -87,17 +87,17 @@ word_bits place w x y positive same =
     get_or-map-range_with_len (has_bit y) 0 w i i false below (omega arith) ∙ same i below ∙ sym (get_or-row_one place w x i positive below))
 
 -- of the bits that were pulled the first are a list, and the others are still in a number
-pub pulled_length : (xs : List Bool) (number got : ℕ) (pulled : List Bool) → xs ++ number_bits number got ≡ pulled → length xs + got ≡ length pulled
+pub pulled_length : (xs : List Bool) (number got : ℕ) (pulled : List Bool) → xs ++ highest_bits number got ≡ pulled → length xs + got ≡ length pulled
 pulled_length xs number got pulled all =
     let a = ap length all in
-    let b = length-append xs (number_bits number got) in
-    let s = length-number_bits number got in
+    let b = length-append xs (highest_bits number got) in
+    let s = length-highest_bits number got in
     omega arith
 
-pub pulled_more : (xs more zs : List Bool) (number got next n : ℕ) (pulled : List Bool) (bit : Bool) → xs ++ number_bits number got ≡ pulled → zs ≡ xs ++ more → more ++ number_bits next n ≡ number_bits number got ++ bit ∷ [] → zs ++ number_bits next n ≡ pulled ++ bit ∷ []
+pub pulled_more : (xs more zs : List Bool) (number got next n : ℕ) (pulled : List Bool) (bit : Bool) → xs ++ highest_bits number got ≡ pulled → zs ≡ xs ++ more → more ++ highest_bits next n ≡ highest_bits number got ++ bit ∷ [] → zs ++ highest_bits next n ≡ pulled ++ bit ∷ []
 pulled_more xs more zs number got next n pulled bit all list same =
-    ap (λ l. l ++ number_bits next n) list
-    ∙ append_assoc xs more (number_bits next n)
+    ap (λ l. l ++ highest_bits next n) list
+    ∙ append_assoc xs more (highest_bits next n)
     ∙ ap (λ l. xs ++ l) same
-    ∙ sym (append_assoc xs (number_bits number got) (bit ∷ []))
+    ∙ sym (append_assoc xs (highest_bits number got) (bit ∷ []))
     ∙ ap (λ l. l ++ bit ∷ []) all

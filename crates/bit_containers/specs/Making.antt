@@ -1,5 +1,6 @@
 -- What calls make of other lists, of bytes, of indices and of text.
-use Rattle.std.specs.Prelude.{◌≡◌, ℕ, ◌-◌, ◌<◌, Bool, true, false, List, [], ◌∷◌, ◌++◌, fold, length, replicate, set, slice_index_or, refl}
+use Rattle.std.specs.Prelude.{◌≡◌, ℕ, ◌-◌, ◌/◌, ◌^◌, ◌<◌, Bool, true, false, List, [], ◌∷◌, ◌++◌, fold, length, replicate, set, slice_index_or, refl}
+use Rattle.bit_addressing.specs.Row.{number_bits}
 use Rattle.bit_slice.specs.Operators.{or_of, xor_of}
 
 -- a list, with false appended to it up to n items where it has fewer
@@ -13,6 +14,10 @@ CombinesAll f xs ys zs = (i : ℕ) → i < length zs → slice_index_or zs i fal
 -- n bits, true at these indices and false at the others
 abbrev pub marked : ℕ → List ℕ → List Bool
 marked n indices = fold (λ bits i. set bits i true) (replicate n false) indices
+
+-- the n highest of a number's 64 bits, the lowest of them first
+unfoldable pub highest_bits : ℕ → ℕ → List Bool
+highest_bits x n = number_bits (x / 2 ^ (64 - n)) n
 
 filled_shorter : filled_up (true ∷ []) 3 ≡ true ∷ false ∷ false ∷ []
 filled_shorter = refl

@@ -8,6 +8,7 @@ ghost use Rattle.bit_addressing.specs.declared.length.TheConstants.{MAX_BITS};
 ghost use Rattle.bit_slice.specs.BitSlice.{len_of, list_of};
 ghost use Rattle.bit_containers.specs.BitVec.{IsClean, IsKept, RefusesOnly, Shrank};
 
+use crate::vec::collect::shifted_down;
 use crate::vec::{BitVec, Items};
 use bit_addressing::{BitOrder, BitStore, GrowError, Lsb0, MAX_BITS, RangeExt};
 use bit_slice::BitSlice;
@@ -222,7 +223,7 @@ impl<T: BitStore, O: BitOrder> BitVec<T, O> {
             (number, got, room) = v.gather(number, got, room, bit)?;
         }
         v.in_words();
-        v.extend_from_number(number, got)?;
+        v.extend_from_number(shifted_down(number, got), got)?;
         Ok(v)
     }
 

@@ -1,10 +1,8 @@
 use Rattle.std.proofs.Common.{[], ◌∷◌, ◌++◌, sym, arith, rules, append-nil}
 use Rattle.std.proofs.lemmas.List.{length_push}
 use Rattle.bit_addressing.proofs.Rows.{width_positive}
-use Rattle.bit_addressing.proofs.Words.{has_none}
-use Rattle.bit_addressing.proofs.Binary.{number_bits_none}
-use Rattle.bit_containers.proofs.Growing.{grew_none}
-use Rattle.bit_containers.proofs.Growing.{wanted_fits}
+use Rattle.bit_addressing.proofs.Binary.{length-number_bits}
+use Rattle.bit_containers.proofs.Growing.{grew_none, highest_bits_none, wanted_fits}
 use Rattle.bit_boxed.proofs.Pulling.{yields_more}
 use Rattle.bit_containers.proofs.Pulling.{gathers_more, gathers_all, gathers_length}
 use Rattle.bit_containers.proofs.vec.BitVec.extend_by.Goals as goal
@@ -16,11 +14,11 @@ loop-bit-init g c =
     record {
       can = may.0;
       finite = may.1;
-      joined = ([], sym (append-nil now.list), grew_none g.T.BitStore.BITS now c.in_words.ensures.size, number_bits_none 0);
-      above = λ p from h. has_none p;
+      joined = ([], sym (append-nil now.list), grew_none g.T.BitStore.BITS now c.in_words.ensures.size, highest_bits_none 0);
       room = omega arith;
       word = c.gathers-most.ensures.few;
       few = c.gathers-most.ensures.fits;
+      full = c.gathers-most.ensures.full;
       capacity = omega arith;
     }
 
@@ -34,10 +32,10 @@ loop-bit-preserved g c =
       can = search rules;
       finite = search rules;
       joined = gathers_more w now (width_positive w g.met.T.BitStore.width) c.in_words.ensures.size at.self c.gather.new.self at.number at.got c.in-Ok.next.0 c.in-Ok.next.1 at.yielded c.in-Some.bit at.invariant.joined one.0 one.1 one.2 one.3;
-      above = c.in-Ok.ensures.above;
       room = c.in-Ok.ensures.next.0;
       word = c.in-Ok.ensures.next.1;
       few = c.in-Ok.ensures.next.2;
+      full = c.in-Ok.ensures.full;
       capacity = omega (arith, at.invariant.capacity, c.gather.ensures.capacity);
     }
 
@@ -89,17 +87,17 @@ returns-in-Err-extend_from_number-clause-memory g c is =
 pub returns-clause-joined : goal.returns-clause-joined
 returns-clause-joined g c =
     let w = g.T.BitStore.BITS in
-    let at = c.loop-bit in (
+    let at = c.loop-bit in
+    let list = rw c.shifted_down.ensures at c.in_default.ensures.list in
+    let row = rw c.shifted_down.ensures at c.in_default.ensures.row in (
       c.into_iter-bit-iterator.result,
       at.yielded,
       c.into_iter-bit-iterator.ensures.into_iter_gives,
       (c.next.new.self, (at.bit-iterator, at.yielded_by, c.in-None.ensures.steps)),
-      gathers_all w c.args.self.now (width_positive w g.met.T.BitStore.width) c.in_words.ensures.size at.self c.extend_from_number.new.self at.number at.got at.yielded at.invariant.joined c.in_default.ensures.list c.in_default.ensures.row,
+      gathers_all w c.args.self.now (width_positive w g.met.T.BitStore.width) c.in_words.ensures.size at.self c.extend_from_number.new.self at.number at.got at.yielded at.invariant.joined list row,
     )
 
 pub returns-clause-few : goal.returns-clause-few
 returns-clause-few g c =
-    let at = c.loop-bit in
-    let size = gathers_length g.T.BitStore.BITS c.args.self.now at.self at.number at.got at.yielded at.invariant.joined in
-    let grown = gathers_all g.T.BitStore.BITS c.args.self.now (width_positive g.T.BitStore.BITS g.met.T.BitStore.width) c.in_words.ensures.size at.self c.extend_from_number.new.self at.number at.got at.yielded at.invariant.joined c.in_default.ensures.list c.in_default.ensures.row in
-    omega (arith, grown.1.len, at.invariant.few)
+    let size = length-number_bits c.shifted_down.result c.loop-bit.got in
+    omega (arith, c.in_default.ensures.row.len)

@@ -1,10 +1,9 @@
-use Rattle.std.proofs.Common.{◌≡◌, ◌≢◌, [], ◌∷◌, ◌++◌, length, ap, subst, ◌∙◌, arith, rules}
+use Rattle.std.proofs.Common.{◌≡◌, [], ◌∷◌, ◌++◌, length, ap, subst, ◌∙◌, arith, rules}
 use Rattle.std.proofs.lemmas.List.{length_push}
 use Rattle.std.specs.Iterator.{Yields}
-use Rattle.bit_addressing.specs.Row.{number_bits}
-use Rattle.bit_addressing.proofs.Words.{has_none}
-use Rattle.bit_addressing.proofs.Binary.{number_bits_none}
+use Rattle.bit_containers.specs.Making.{highest_bits}
 use Rattle.bit_boxed.proofs.Pulling.{yields_more}
+use Rattle.bit_containers.proofs.Growing.{highest_bits_none}
 use Rattle.bit_containers.proofs.Pulling.{pulled_length, pulled_more}
 use Rattle.bit_containers.proofs.vec.BitVec.pulled.Goals as goal
 
@@ -14,11 +13,11 @@ loop-bit-init g c =
     record {
       can = search rules;
       finite = search rules;
-      list = ap (λ l. l ++ number_bits 0 0) c.new-v.ensures.list ∙ number_bits_none 0;
-      above = λ p from h. has_none p;
+      list = ap (λ l. l ++ highest_bits 0 0) c.new-v.ensures.list ∙ highest_bits_none 0;
       room = omega arith;
       word = c.gathers-room.ensures.few;
       fits = c.gathers-room.ensures.fits;
+      full = c.gathers-room.ensures.full;
       few = omega arith;
     }
 
@@ -34,10 +33,10 @@ loop-bit-preserved g c =
       can = search rules;
       finite = search rules;
       list = all;
-      above = c.in_ok-number.ensures.above;
       room = c.in_ok-number.ensures.next.0;
       word = c.in_ok-number.ensures.next.1;
       fits = c.in_ok-number.ensures.next.2;
+      full = c.in_ok-number.ensures.full;
       few = omega (arith, before, now, more, at.invariant.few, c.if-len-got.false, c.len.ensures.value);
     }
 
@@ -83,5 +82,5 @@ pub returns-clause-few : goal.returns-clause-few
 returns-clause-few g c =
     let at = c.loop-bit in
     let all = pulled_length at.v.list at.number at.got at.yielded at.invariant.list in
-    let list = ap length (c.in_ok-extend_from_number.ensures.list ∙ at.invariant.list) in
+    let list = ap length (rw c.shifted_down.ensures at c.in_ok-extend_from_number.ensures.list ∙ at.invariant.list) in
     omega (arith, all, list, at.invariant.few)

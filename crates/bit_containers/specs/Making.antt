@@ -1,5 +1,5 @@
 -- What calls make of other lists, of bytes, of indices and of text.
-use Rattle.std.specs.Prelude.{◌≡◌, ℕ, ◌-◌, ◌/◌, ◌^◌, ◌<◌, Bool, true, false, List, [], ◌∷◌, ◌++◌, fold, length, replicate, set, slice_index_or, refl}
+use Rattle.std.specs.Prelude.{◌≡◌, ℕ, ◌+◌, ◌-◌, ◌/◌, ◌^◌, ◌<◌, Bool, true, false, List, [], ◌∷◌, ◌++◌, fold, length, replicate, set, slice_index_or, refl}
 use Rattle.bit_addressing.specs.Row.{number_bits}
 use Rattle.bit_slice.specs.Operators.{or_of, xor_of}
 
@@ -18,6 +18,10 @@ marked n indices = fold (λ bits i. set bits i true) (replicate n false) indices
 -- the n highest of a number's 64 bits, the lowest of them first
 unfoldable pub highest_bits : ℕ → ℕ → List Bool
 highest_bits x n = number_bits (x / 2 ^ (64 - n)) n
+
+three_highest : highest_bits (2 ^ 63 + 2 ^ 61 + 1) 3 ≡ true ∷ false ∷ true ∷ []
+unfolding highest_bits number_bits
+three_highest = refl
 
 filled_shorter : filled_up (true ∷ []) 3 ≡ true ∷ false ∷ false ∷ []
 filled_shorter = refl

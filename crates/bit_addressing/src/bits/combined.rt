@@ -414,7 +414,6 @@ fn combine_apart<F: BitOperator, T: BitStore, O: BitOrder, U: BitStore, P: BitOr
         last,
         end,
     } = Span::of::<T>(at, at + n);
-    prove!(last < words.len());
     if first == last {
         let new = word_of_run::<T, O, U, P>(source, from, n as u8, low as u8);
         combine_part::<F, T, O>(words, first, low, end, new);

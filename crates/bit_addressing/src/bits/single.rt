@@ -142,7 +142,6 @@ pub fn fill_bits<T: BitStore, O: BitOrder>(words: &mut [T], from: usize, upto: u
         last,
         end,
     } = Span::of::<T>(from, upto);
-    prove!(last < words.len());
     let full = repeated::<T>(bit);
     if first == last {
         write_part::<T, O>(words, first, low, end, full);

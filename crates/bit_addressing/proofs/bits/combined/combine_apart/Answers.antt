@@ -12,9 +12,6 @@ use Rattle.bit_addressing.proofs.bits.combined.combine_apart.Goals as goal
 pub returns-then-n-eq0-clause-bits : goal.returns-then-n-eq0-clause-bits
 returns-then-n-eq0-clause-bits g c = combined_none g.F.BitOperator.made (row g.T.BitStore g.O.BitOrder c.args.words.now) (row g.U.BitStore g.P.BitOrder c.args.source.now) c.args.at c.args.from c.args.n c.if-n-eq0.true
 
-pub prove-unreachable-requires : goal.prove-unreachable-requires
-prove-unreachable-requires g c = let below = c.of-first.ensures.inside (length c.args.words.now) c.requires.target in omega arith
-
 pub overflow_add-from : goal.overflow_add-from
 overflow_add-from g c = let m = inner c.of-first.ensures c.if-first-last.false in let run = c.of-first.ensures in omega arith
 

@@ -22,9 +22,6 @@ full g x b bits = row_repeated g.O.BitOrder.place g.T.BitStore.BITS x b (width_p
 part : (g : given.Over) (x low high n : ℕ) (b : Bool) → ((p : ℕ) → p < g.T.BitStore.BITS → has_bit x p ≡ b) → high ≤ g.T.BitStore.BITS → high - low ≡ n → slice_range (row_of g.O.BitOrder.place g.T.BitStore.BITS (x ∷ [])) low high ≡ replicate n b
 part g x low high n b bits fits size = slice_repeated (row_of g.O.BitOrder.place g.T.BitStore.BITS (x ∷ [])) g.T.BitStore.BITS low high n b (full g x b bits) fits size
 
-pub prove-unreachable-requires : goal.prove-unreachable-requires
-prove-unreachable-requires g c = let below = c.of-first.ensures.inside (length c.args.words.now) c.requires.within in omega arith
-
 pub returns-then-first-last-clause-bits : goal.returns-then-first-last-clause-bits
 returns-then-first-last-clause-bits g c =
     let w = g.T.BitStore.BITS in

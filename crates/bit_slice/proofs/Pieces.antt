@@ -1,5 +1,5 @@
 -- The first and the last of the parts that are left, and how many there are.
-use Rattle.std.proofs.Common.{◌≡◌, ℕ, ◌+◌, ◌-◌, ◌<◌, [], ◌∷◌, ◌++◌, length, length-append, map, sym, ◌∙◌, ap, arith}
+use Rattle.std.proofs.Common.{◌≡◌, ℕ, suc, ◌+◌, ◌-◌, ◌<◌, [], ◌∷◌, ◌++◌, length, length-append, map, refl, sym, ◌∙◌, ap, arith}
 use Rattle.std.specs.List.{range_with_len}
 use Rattle.std.proofs.lemmas.List.FromFn.{map-range_with_len_more}
 
@@ -18,4 +18,16 @@ module _ {X : Type 0} (f : ℕ → X) (from upto : ℕ) (some : from < upto) whe
   pub part_fewer : length (map f (range_with_len from (upto - 1 - from))) < length (map f (range_with_len from (upto - from)))
   part_fewer =
       let size = ap length part_last ∙ length-append (map f (range_with_len from (upto - 1 - from))) (f (upto - 1) ∷ []) in
+      omega (arith, size)
+
+  -- the parts that are left are what equals the first, and those after it
+  pub part_begins : (first : X) → first ≡ f from → map f (range_with_len from (upto - from)) ≡ first ∷ map f (range_with_len (from + 1) (upto - (from + 1)))
+  part_begins first is =
+      let e : upto - from ≡ suc (upto - (from + 1)) = omega arith in
+      ap (λ n. map f (range_with_len from n)) e ∙ ap (λ l. l ∷ map f (range_with_len (from + 1) (upto - (from + 1)))) (sym is)
+
+  -- the parts after the first are fewer than those that are left
+  pub part_shorter : length (map f (range_with_len (from + 1) (upto - (from + 1)))) < length (map f (range_with_len from (upto - from)))
+  part_shorter =
+      let size = ap length (part_begins (f from) refl) in
       omega (arith, size)

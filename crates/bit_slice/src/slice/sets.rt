@@ -42,8 +42,9 @@ fn count_pairs<F: BitOperator, T: BitStore, O: BitOrder, U: BitStore, P: BitOrde
     requires quiet { F.made false false ≡ false }
     requires left { upto ≤ len_of left }
     requires right { upto ≤ len_of right }
-    ensures { result ≡ count_by (λ b. b)
+    ensures value { result ≡ count_by (λ b. b)
         (slice_range (combined F.made (list_of left.entry) (list_of right.entry)) 0 upto) }
+    ensures few { result ≤ upto }
 {
     let (a, i, b, j) = (left.words, left.head, right.words, right.head);
     let (start, front) = count_blocks::<F, T, O, U, P>(a, i, b, j, upto);

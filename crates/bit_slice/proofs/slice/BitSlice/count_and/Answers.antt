@@ -1,8 +1,5 @@
 use Rattle.std.proofs.Common.{◌&&◌, ◌∙◌, arith}
-use Rattle.std.proofs.lemmas.List.Sums.{count_by-le-length}
 use Rattle.bit_slice.specs.BitSlice.{list_of}
-use Rattle.bit_slice.specs.Operators.{and_of}
-use Rattle.bit_slice.proofs.Combining.{length-combined}
 use Rattle.bit_slice.proofs.Parts.{shown_length}
 use Rattle.bit_slice.proofs.Sets.{count_front, and_false}
 use Rattle.bit_slice.proofs.slice.BitSlice.count_and.Goals as goal
@@ -15,16 +12,4 @@ returns-clause-value g c =
     let ys = list_of u in
     let left = shown_length g.T.BitStore g.O.BitOrder v.words.now v.head v.len v.fits.room in
     let right = shown_length g.U.BitStore g.P.BitOrder u.words.now u.head u.len u.fits.room in
-    c.count_pairs.ensures ∙ count_front (λ x y. x && y) xs ys c.min.result and_false (omega (arith, left, right))
-
-pub returns-clause-few : goal.returns-clause-few
-returns-clause-few g c =
-    let v = c.args.self in
-    let u = c.args.other in
-    let xs = list_of v in
-    let ys = list_of u in
-    let left = shown_length g.T.BitStore g.O.BitOrder v.words.now v.head v.len v.fits.room in
-    let right = shown_length g.U.BitStore g.P.BitOrder u.words.now u.head u.len u.fits.room in
-    let long = length-combined (λ x y. x && y) xs ys in
-    let most = count_by-le-length (λ b. b) (and_of xs ys) in
-    omega (arith, returns-clause-value g c, long, most, left)
+    c.count_pairs.ensures.value ∙ count_front (λ x y. x && y) xs ys c.min.result and_false (omega (arith, left, right))

@@ -12,7 +12,7 @@ returns-clause-value g c =
     let wide = shown_length g.U.BitStore g.P.BitOrder u.words.now u.head u.len u.fits.room in
     let left = c.count_ones-left.ensures.value ∙ ap (count_by (λ b. b)) c.get_range.ensures.list in
     let right = c.count_ones-right.ensures.value ∙ ap (count_by (λ b. b)) c.get_range-2.ensures.list in
-    counted_both (λ x y. x || y) (list_of v) (list_of u) v.len u.len _ long wide or_keeps (omega arith) _ _ _ c.count_pairs-shared.ensures left right
+    counted_both (λ x y. x || y) (list_of v) (list_of u) v.len u.len _ long wide or_keeps (omega arith) _ _ _ c.count_pairs-shared.ensures.value left right
 
 pub returns-clause-with_and : goal.returns-clause-with_and
 returns-clause-with_and g c =

@@ -1,4 +1,4 @@
-use Rattle.std.proofs.Common.{◌≡◌, ℕ, ◌+◌, ◌*◌, ◌/◌, ◌%◌, count_by, slice_range, refl, ◌∙◌, ap, arith}
+use Rattle.std.proofs.Common.{◌≡◌, ℕ, ◌+◌, ◌*◌, ◌/◌, ◌%◌, ◌≤◌, count_by, slice_range, refl, ◌∙◌, ap, arith}
 use Rattle.std.specs.Prelude.{count_ones}
 use Rattle.bit_addressing.proofs.Counts.{counted, counted_next, counted-le}
 use Rattle.bit_slice.specs.BitSlice.{list_of}
@@ -57,14 +57,20 @@ all g c =
     (c.loop-t.invariant.counted ∙ ap (λ k. count_by (λ b. b) (slice_range cs 0 k)) done)
     (counted cs at (at + c.args.upto % 64) at c.args.upto c.pair_chunk-rest.result refl (omega arith) c.pair_chunk-rest.ensures)
 
-pub returns : goal.returns
-returns g c = all g c
-
-pub overflow_add-result : goal.overflow_add-result
-overflow_add-result g c =
+-- they are no more than the bits
+few : (g : given.Over) (c : After-pair_chunk-rest g) → c.loop-t.count + count_ones c.pair_chunk-rest.result ≤ c.args.upto
+few g c =
     let v = c.args.left in
     let cs = combined g.F.BitOperator.made (list_of v) (list_of c.args.right) in
     let long = length-combined g.F.BitOperator.made (list_of v) (list_of c.args.right) in
     let size = shown_length g.T.BitStore g.O.BitOrder v.words.now v.head v.len v.fits.room in
-    let most = counted-le cs 0 c.args.upto (c.loop-t.count + count_ones c.pair_chunk-rest.result) (omega arith) (omega (arith, long, size)) (all g c) in
-    omega (arith, most)
+    counted-le cs 0 c.args.upto (c.loop-t.count + count_ones c.pair_chunk-rest.result) (omega arith) (omega (arith, long, size)) (all g c)
+
+pub returns-clause-value : goal.returns-clause-value
+returns-clause-value g c = all g c
+
+pub returns-clause-few : goal.returns-clause-few
+returns-clause-few g c = few g c
+
+pub overflow_add-result : goal.overflow_add-result
+overflow_add-result g c = let most = few g c in omega (arith, most)

@@ -80,6 +80,16 @@ piece w head end (suc k) positive low ordered inside =
     let m : (w * suc k) % w ≡ 0 = mul-mod_right w (suc k) in
     rw b record { begins = omega arith; ordered = omega arith; ends = omega arith; few = omega arith; in_one = rw m (omega arith) }
 
+-- the same of bounds with names
+pub piece_of : {w head end k from upto : ℕ} → 0 < w → head < w → head ≤ end → k < words_for w end → from ≡ begin w head end k → upto ≡ begin w head end (k + 1) → IsPiece w head end from upto
+piece_of {w} {head} {end} {k} positive low ordered inside first last = rw (first, last) (piece w head end k positive low ordered inside)
+
+-- a piece of another row at the same place lies in one word too
+pub piece_beside : {w head end from upto : ℕ} (b : ℕ) → IsPiece w head end from upto → b ≡ head → (b + (from - head)) % w + (upto - from) ≤ w
+piece_beside {w} {head} {end} {from} {upto} b p e =
+    let at : b + (from - head) ≡ from = let h = p.begins in omega arith in
+    rw at p.in_one
+
 -- the counts of the words that were read, and of one more
 pub read_more : (n0 n1 n2 k : ℕ) → n1 ≤ n0 + k → n2 ≤ n1 + 1 → n2 ≤ n0 + (k + 1)
 read_more n0 n1 n2 k h l = omega arith

@@ -2,7 +2,7 @@ use Rattle.std.proofs.Common.{◌≡◌, ◌+◌, ◌-◌, ◌*◌, ◌≤◌, l
 use Rattle.bit_addressing.specs.Typed.{row}
 use Rattle.bit_addressing.proofs.Counts.{counted_next}
 use Rattle.bit_addressing.proofs.Rows.{width_positive}
-use Rattle.bit_slice.proofs.Counting.{IsPiece, piece, begin_last, word_fits, next_fits}
+use Rattle.bit_slice.proofs.Counting.{piece_of, begin_last, word_fits, next_fits}
 use Rattle.bit_slice.proofs.Parts.{in_row}
 use Rattle.bit_slice.proofs.counted.ones_between.Goals as goal
 
@@ -22,7 +22,7 @@ loop-k-preserved g c =
     let zs = row g.T.BitStore g.O.BitOrder ws in
     let from = c.begin_of-from.result in
     let upto = c.begin_of-upto.result in
-    let p : IsPiece w head end from upto = rw (c.begin_of-from.ensures, c.begin_of-upto.ensures) (piece w head end k (width_positive w g.met.T.BitStore.width) c.requires.in_word c.requires.ordered (omega (arith, c.loop-k-test.true, c.elts-k-end.ensures.value))) in
+    let p = piece_of (width_positive g.T.BitStore.BITS g.met.T.BitStore.width) c.requires.in_word c.requires.ordered (omega (arith, c.loop-k-test.true, c.elts-k-end.ensures.value)) c.begin_of-from.ensures c.begin_of-upto.ensures in
     let back : from + (upto - from) ≡ upto = let o = p.ordered in omega arith in
     let before = c.loop-k.invariant.value ∙ ap (λ n. count_by (λ b. b) (slice_range zs head n)) (sym c.begin_of-from.ensures) in
     let here = c.ones_of_run-count.ensures.value ∙ ap (λ b. count_by (λ b. b) (slice_range (row g.T.BitStore g.O.BitOrder b.now) from (from + (upto - from)))) c.loop-k.invariant.words ∙ ap (λ n. count_by (λ b. b) (slice_range zs from n)) back in

@@ -1,7 +1,7 @@
-use Rattle.std.proofs.Common.{◌≡◌, ◌+◌, ◌-◌, ◌%◌, ◌≤◌, slice_range, refl, sym, ◌∙◌, ap, subst, arith}
+use Rattle.std.proofs.Common.{◌≡◌, ◌+◌, ◌-◌, ◌≤◌, slice_range, refl, sym, ◌∙◌, ap, subst, arith}
 use Rattle.bit_addressing.specs.Typed.{row}
 use Rattle.bit_addressing.proofs.Rows.{width_positive}
-use Rattle.bit_slice.proofs.Counting.{IsPiece, IsRunOf, piece, begin_last, word_fits, next_fits, same_more, same_piece, told, not_told, told_false, told_true}
+use Rattle.bit_slice.proofs.Counting.{IsRunOf, piece_beside, piece_of, begin_last, word_fits, next_fits, same_more, same_piece, told, not_told, told_false, told_true}
 use Rattle.bit_slice.proofs.Parts.{in_row}
 use Rattle.bit_slice.proofs.counted.same_bits.Goals as goal
 
@@ -10,6 +10,16 @@ begin_of-from-requires g c = word_fits _ _ _ _ _ (width_positive _ g.met.T.BitSt
 
 pub begin_of-upto-requires : goal.begin_of-upto-requires
 begin_of-upto-requires g c = next_fits _ _ _ _ _ (width_positive _ g.met.T.BitStore.width) c.loop-k-test.true c.elts-k-end.ensures.value c.requires.fits
+
+pub returns-then-not-same_run-clause-left_most : goal.returns-then-not-same_run-clause-left_most
+returns-then-not-same_run-clause-left_most g c =
+    let p = piece_of (width_positive g.T.BitStore.BITS g.met.T.BitStore.width) c.requires.in_word c.requires.ordered (omega (arith, c.loop-k-test.true, c.elts-k-end.ensures.value)) c.begin_of-from.ensures c.begin_of-upto.ensures in
+    omega (arith, c.loop-k.invariant.left_most, c.same_run.ensures.left_most p.in_one)
+
+pub returns-then-not-same_run-clause-right_most : goal.returns-then-not-same_run-clause-right_most
+returns-then-not-same_run-clause-right_most g c e =
+    let p = piece_of (width_positive g.T.BitStore.BITS g.met.T.BitStore.width) c.requires.in_word c.requires.ordered (omega (arith, c.loop-k-test.true, c.elts-k-end.ensures.value)) c.begin_of-from.ensures c.begin_of-upto.ensures in
+    omega (arith, c.loop-k.invariant.right_most e, c.same_run.ensures.right_most (piece_beside c.args.begin p e))
 
 pub returns-then-not-same_run-clause-value : goal.returns-then-not-same_run-clause-value
 returns-then-not-same_run-clause-value g c =
@@ -20,7 +30,7 @@ returns-then-not-same_run-clause-value g c =
     let ys = row g.T.BitStore g.O.BitOrder c.args.right.now.words.now in
     let from = c.begin_of-from.result in
     let upto = c.begin_of-upto.result in
-    let p : IsPiece w head end from upto = rw (c.begin_of-from.ensures, c.begin_of-upto.ensures) (piece w head end c.loop-k.k (width_positive w g.met.T.BitStore.width) c.requires.in_word c.requires.ordered (omega (arith, c.loop-k-test.true, c.elts-k-end.ensures.value))) in
+    let p = piece_of (width_positive g.T.BitStore.BITS g.met.T.BitStore.width) c.requires.in_word c.requires.ordered (omega (arith, c.loop-k-test.true, c.elts-k-end.ensures.value)) c.begin_of-from.ensures c.begin_of-upto.ensures in
     let run : IsRunOf head end c.args.begin from upto (c.args.begin + (from - head)) (upto - from) = record { begins = p.begins; ordered = p.ordered; ends = p.ends; place = refl; count = refl } in
     let left = in_row g.T.BitStore g.O.BitOrder c.args.left.now.words.now end c.requires.within_left in
     let right = in_row g.T.BitStore g.O.BitOrder c.args.right.now.words.now (c.args.begin + (end - head)) c.requires.within_right in
@@ -39,7 +49,7 @@ loop-k-preserved g c =
     let ys = row g.T.BitStore g.O.BitOrder c.args.right.now.words.now in
     let from = c.begin_of-from.result in
     let upto = c.begin_of-upto.result in
-    let p : IsPiece w head end from upto = rw (c.begin_of-from.ensures, c.begin_of-upto.ensures) (piece w head end k (width_positive w g.met.T.BitStore.width) c.requires.in_word c.requires.ordered (omega (arith, c.loop-k-test.true, c.elts-k-end.ensures.value))) in
+    let p = piece_of (width_positive g.T.BitStore.BITS g.met.T.BitStore.width) c.requires.in_word c.requires.ordered (omega (arith, c.loop-k-test.true, c.elts-k-end.ensures.value)) c.begin_of-from.ensures c.begin_of-upto.ensures in
     let run : IsRunOf head end c.args.begin from upto (c.args.begin + (from - head)) (upto - from) = record { begins = p.begins; ordered = p.ordered; ends = p.ends; place = refl; count = refl } in
     let left = in_row g.T.BitStore g.O.BitOrder c.args.left.now.words.now end c.requires.within_left in
     let right = in_row g.T.BitStore g.O.BitOrder c.args.right.now.words.now (c.args.begin + (end - head)) c.requires.within_right in
@@ -56,10 +66,7 @@ loop-k-preserved g c =
       left_least = omega (arith, c.loop-k.invariant.left_least, c.same_run.ensures.left_least);
       right_least = omega (arith, c.loop-k.invariant.right_least, c.same_run.ensures.right_least);
       left_most = omega (arith, c.loop-k.invariant.left_most);
-      right_most = λ e.
-          let at : c.args.begin + (from - head) ≡ from = let b = p.begins in omega arith in
-          let one : (c.args.begin + (from - head)) % w + (upto - from) ≤ w = rw at p.in_one in
-          omega (arith, c.loop-k.invariant.right_most e, c.same_run.ensures.right_most one);
+      right_most = λ e. omega (arith, c.loop-k.invariant.right_most e, c.same_run.ensures.right_most (piece_beside c.args.begin p e));
     }
 
 pub returns-clause-value : goal.returns-clause-value

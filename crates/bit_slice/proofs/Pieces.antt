@@ -1,7 +1,31 @@
 -- The first and the last of the parts that are left, and how many there are.
-use Rattle.std.proofs.Common.{◌≡◌, ℕ, suc, ◌+◌, ◌-◌, ◌<◌, [], ◌∷◌, ◌++◌, length, length-append, map, refl, sym, ◌∙◌, ap, arith}
+use Rattle.std.proofs.Common.{◌≡◌, ℕ, suc, ◌+◌, ◌-◌, ◌*◌, ◌/◌, ◌%◌, ◌<◌, ◌≤◌, [], ◌∷◌, ◌++◌, length, length-append, map, refl, sym, ◌∙◌, ap, inl, inr, arith}
 use Rattle.std.specs.List.{range_with_len}
+use Rattle.std.proofs.lemmas.Bool.{cases_lt}
 use Rattle.std.proofs.lemmas.List.FromFn.{map-range_with_len_more}
+use Rattle.std.proofs.lemmas.Nat.{div-add-mod'}
+use Rattle.std.proofs.Math.Nat.{div-mul-le_self}
+use Rattle.bit_addressing.proofs.Runs.{mul_mono}
+use Rattle.bit_addressing.proofs.lists.Sized.{one_more_word}
+use Rattle.bit_slice.specs.Pieces.{chunk_count}
+
+-- a part that is whole lies in the list
+pub whole_inside : (len size k : ℕ) → k < len / size → k * size + size ≤ len
+whole_inside len size k below =
+    let most = mul_mono (k + 1) (len / size) size (omega arith) in
+    let all = div-mul-le_self len size in
+    let next = one_more_word k size in
+    omega arith
+
+-- a part that may be shorter begins in the list
+pub begins_inside : (len size k : ℕ) → 0 < size → k < chunk_count len size → k * size < len
+begins_inside len size k some below = elim (cases_lt k (len / size)) [
+  | inl whole ↦ let inside = whole_inside len size k whole in omega arith
+  | inr last ↦
+      let e : k * size ≡ len / size * size = ap (λ n. n * size) (omega arith) in
+      let split = div-add-mod' len size in
+      omega (arith, e, split)
+]
 
 module _ {X : Type 0} (f : ℕ → X) (from upto : ℕ) (some : from < upto) where
   -- the parts that are left are those before the last, and the last

@@ -5,7 +5,11 @@ use Rattle.bit_slice.specs.BitSlice.{list_of}
 use Rattle.bit_slice.specs.Pieces.{part}
 use Rattle.bit_slice.proofs.Parts.{shown_length}
 use Rattle.bit_slice.proofs.Iteration.{chunks_exact_runs, chunks_exact_runs_back}
+use Rattle.bit_slice.proofs.Pieces.{whole_inside}
 use Rattle.bit_slice.proofs.slice.BitSlice.chunks_exact.Goals as goal
+
+pub invariant_of-result : goal.invariant_of-result
+invariant_of-result g c = record { fits = (omega arith, omega (arith, c.requires), λ k below. whole_inside c.args.self.len c.args.size k below) }
 
 pub returns-clause-list : goal.returns-clause-list
 returns-clause-list g c =

@@ -5,7 +5,11 @@ use Rattle.bit_slice.specs.BitSlice.{list_of}
 use Rattle.bit_slice.specs.Pieces.{part_back}
 use Rattle.bit_slice.proofs.Parts.{shown_length}
 use Rattle.bit_slice.proofs.Iteration.{rchunks_runs, rchunks_runs_back}
+use Rattle.bit_slice.proofs.Pieces.{begins_inside}
 use Rattle.bit_slice.proofs.slice.BitSlice.rchunks.Goals as goal
+
+pub invariant_of-result : goal.invariant_of-result
+invariant_of-result g c = record { fits = (omega arith, omega (arith, c.requires), λ k below. begins_inside c.args.self.len c.args.size k (omega (arith, c.requires)) (omega (arith, below, c.count_chunks.ensures))) }
 
 pub returns-clause-list : goal.returns-clause-list
 returns-clause-list g c =

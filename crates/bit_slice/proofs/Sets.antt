@@ -1,6 +1,6 @@
 -- Two lists of bits as sets of the indices of their true items.
 use Rattle.std.proofs.Common.{◌≡◌, ◌≢◌, ◌↔◌, ℕ, zero, suc, ◌+◌, ◌-◌, ◌*◌, ◌<◌, ◌≤◌, Bool, true, false, not, ◌&&◌, ◌||◌, cond, if◌then◌else◌, IsTrue, eqb, List, [], ◌∷◌, length, drop, get_or, count_by, slice_get, slice_range, Some, refl, sym, ◌∙◌, ap, inl, inr, arith}
-use Rattle.std.specs.Prelude.{SomeIndex, min}
+use Rattle.std.specs.Prelude.{EachIndex, SomeIndex, min}
 use Rattle.std.specs.List.{list_any}
 use Rattle.std.proofs.lemmas.Bool.{cases_lt, true≢false}
 use Rattle.std.proofs.lemmas.Bool.Decides.{eqb_tells}
@@ -17,6 +17,7 @@ use Rattle.bit_addressing.proofs.Words.{has_none}
 use Rattle.bit_addressing.proofs.Counts.{counted_next}
 use Rattle.bit_addressing.proofs.lists.Shown.{length-between, get_or-run, length-run}
 use Rattle.bit_slice.proofs.Combining.{length-combined}
+use Rattle.bit_slice.proofs.Counting.{told_false, told_true}
 use Rattle.bit_slice.proofs.Found.{item_of_part, item_is}
 use Rattle.bit_slice.proofs.Ranges.{item_combined}
 use Rattle.bit_slice.proofs.Shown.{run_none}
@@ -50,6 +51,10 @@ none_at [] e k = refl
 none_at (true ∷ ms) e k = absurd (true≢false e)
 none_at (false ∷ ms) e zero = refl
 none_at (false ∷ ms) e (suc k) = none_at ms e k
+
+pub not_any_index : (xs : List Bool) (b : Bool) → b ≡ some_true xs → (IsTrue b ↔ SomeIndex xs (λ i. slice_get xs i ≡ Some true)) → IsTrue (not b) ↔ EachIndex xs (λ i. slice_get xs i ≡ Some false)
+not_any_index xs true e h = told_false _ (λ each. let s = h.0 refl in true≢false (sym (get_or_from_slice_get xs s.0 true false s.2) ∙ get_or_from_slice_get xs s.0 false false (each s.0 s.1)))
+not_any_index xs false e h = told_true _ (λ i inside. item_is xs i false inside (none_at xs (sym e) i))
 
 pub number_none : (ms : List Bool) → number_of ms ≡ 0 → some_true ms ≡ false
 number_none ms e = none_true ms (λ k. sym (has_number ms k) ∙ ap (λ n. has_bit n k) e ∙ has_none k)

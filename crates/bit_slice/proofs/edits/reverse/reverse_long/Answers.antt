@@ -8,6 +8,13 @@ use Rattle.bit_slice.proofs.Parts.{part_room, in_row}
 use Rattle.bit_slice.proofs.Reversing.{reversed_within}
 use Rattle.bit_slice.proofs.edits.reverse.reverse_long.Goals as goal
 
+pub split_at_mut-rest-requires : goal.split_at_mut-rest-requires
+split_at_mut-rest-requires g c =
+    let w = g.T.BitStore.BITS in
+    let there = part_room w (length c.args.words.now) c.args.head c.args.len (width_positive w g.met.T.BitStore.width) c.requires.within in
+    let first : c.args.head / c.BITS-width.result ≡ c.args.head / w = ap (λ n. c.args.head / n) c.BITS-width.ensures in
+    omega (arith, there, first)
+
 pub split_at_mut-run-requires : goal.split_at_mut-run-requires
 split_at_mut-run-requires g c =
     let w = g.T.BitStore.BITS in
@@ -15,6 +22,11 @@ split_at_mut-run-requires g c =
     let count : c.elts-count.result ≡ words_for w (c.args.head % w + c.args.len) = c.elts-count.ensures.value ∙ ap (λ n. words_for w (c.args.head % n + c.args.len)) c.BITS-width.ensures in
     let first : c.args.head / c.BITS-width.result ≡ c.args.head / w = ap (λ n. c.args.head / n) c.BITS-width.ensures in
     omega (arith, there, count, first, c.split_at_mut-rest.ensures.front_len, c.split_at_mut-rest.ensures.back_len)
+
+pub reverse_touched-requires-clause-within : goal.reverse_touched-requires-clause-within
+reverse_touched-requires-clause-within g c =
+    let fits : g.T.BitStore.BITS * length c.split_at_mut-run.result.0.now ≡ g.T.BitStore.BITS * c.elts-count.result = ap (λ n. g.T.BitStore.BITS * n) c.split_at_mut-run.ensures.front_len in
+    omega (arith, fits, c.elts-count.ensures.room)
 
 pub reverse_touched-requires-clause-ends : goal.reverse_touched-requires-clause-ends
 reverse_touched-requires-clause-ends g c =

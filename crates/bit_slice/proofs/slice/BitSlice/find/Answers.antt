@@ -14,5 +14,5 @@ loop-at-preserved g c =
     record {
       ends = omega arith;
       before = below_more (λ j. part n xs j ≢ list_of c.args.other) at c.loop-at.invariant.before
-      (λ e. not_told (c.if-eq_bits.ensures.1 (c.get_range.ensures.list ∙ ap (λ k. take k (drop at xs)) size ∙ e)));
+          (λ e. not_told (c.if-eq_bits.ensures.1 (c.get_range.ensures.list ∙ ap (λ k. take k (drop at xs)) size ∙ e)));
     }

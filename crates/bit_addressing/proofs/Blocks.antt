@@ -55,6 +55,13 @@ stands w each k skip t is narrow = ap (λ n. (k + t * (64 / n)) * w + skip) narr
 pub last_block : {u others n : ℕ} (begin t : ℕ) → others ≡ u → 0 < u → (begin + t * (64 / u)) * u + 128 ≤ u * n → begin + t * (64 / others) < n
 last_block {u} {others} {n} begin t e positive h = rw e (inside_words u (begin + t * (64 / u)) n ((begin + t * (64 / u)) * u) refl (omega arith))
 
+-- block t of some that begin with a word lies in the words
+pub block_there : {w each n size : ℕ} (k t : ℕ) → IsWidth w → each ≡ w → t < n → k * w + n * 64 ≤ w * size → ((k + t * (64 / each)) * w + 64 ≤ w * size) × (k + t * (64 / each) < size)
+block_there {w} {each} {n} {size} k t is e h inside =
+    let here = stands w each k 0 t is e in
+    let room : (k + t * (64 / each)) * w + 64 ≤ w * size = omega arith in
+    (room, inside_words w (k + t * (64 / each)) size ((k + t * (64 / each)) * w) refl (omega arith))
+
 -- two blocks lie in the words
 pub two_blocks : {u each n : ℕ} (k : ℕ) → IsWidth u → each ≡ u → k + 2 * (64 / each) ≤ n → k * u + 128 ≤ u * n
 two_blocks {u} {each} {n} k is e h =

@@ -5,7 +5,7 @@ use Rattle.std.proofs.lemmas.List.{length-map, take_all}
 use Rattle.std.proofs.lemmas.Simd.{get_or-zip2, length-zip2}
 use Rattle.bit_addressing.specs.Bits.{has_bit}
 use Rattle.bit_addressing.specs.Typed.{row}
-use Rattle.bit_addressing.proofs.Blocks.{stands}
+use Rattle.bit_addressing.proofs.Blocks.{block_there, stands}
 use Rattle.bit_addressing.proofs.Counts.{counted-le}
 use Rattle.bit_addressing.proofs.Pairs.{block_bit, block_lawful, count_placed, in_block, made_next}
 use Rattle.bit_addressing.proofs.Rows.{width_positive}
@@ -14,6 +14,24 @@ use Rattle.bit_addressing.proofs.lists.Shown.{length-run}
 use Rattle.bit_addressing.proofs.bits.pairs.count_alike.Given as given
 use Rattle.bit_addressing.proofs.bits.pairs.count_alike.Goals as goal
 use Rattle.bit_addressing.proofs.bits.pairs.count_alike.Goals.{After-apply}
+
+pub overflow_mul-t : goal.overflow_mul-t
+overflow_mul-t g c = let below = (block_there c.args.k c.loop-t.t g.met.T.BitStore.width c.BITS.ensures c.loop-t-test.true c.requires.first).1 in omega arith
+
+pub overflow_add-k : goal.overflow_add-k
+overflow_add-k g c = let below = (block_there c.args.k c.loop-t.t g.met.T.BitStore.width c.BITS.ensures c.loop-t-test.true c.requires.first).1 in omega arith
+
+pub pack-old-requires : goal.pack-old-requires
+pack-old-requires g c = (block_there c.args.k c.loop-t.t g.met.T.BitStore.width c.BITS.ensures c.loop-t-test.true c.requires.first).0
+
+pub overflow_mul-t-in-loop-t : goal.overflow_mul-t-in-loop-t
+overflow_mul-t-in-loop-t g c = let below = (block_there c.args.k c.loop-t.t g.met.T.BitStore.width c.BITS.ensures c.loop-t-test.true c.requires.first).1 in omega arith
+
+pub overflow_add-l : goal.overflow_add-l
+overflow_add-l g c = let below = (block_there c.args.l c.loop-t.t g.met.T.BitStore.width c.BITS.ensures c.loop-t-test.true c.requires.second).1 in omega arith
+
+pub pack-new-requires : goal.pack-new-requires
+pack-new-requires g c = rw c.requires.width (block_there c.args.l c.loop-t.t g.met.T.BitStore.width c.BITS.ensures c.loop-t-test.true c.requires.second).0
 
 -- one block more is counted
 more : (g : given.Over) (c : After-apply g) → c.loop-t.count + count_ones c.apply.result ≡ count_by (λ b. b) (zip2 g.F.BitOperator.made (slice_range (row g.T.BitStore g.O.BitOrder c.args.a.now) (c.args.k * g.T.BitStore.BITS) (c.args.k * g.T.BitStore.BITS + (c.loop-t.t + 1) * 64)) (slice_range (row g.U.BitStore g.P.BitOrder c.args.b.now) (c.args.l * g.T.BitStore.BITS) (c.args.l * g.T.BitStore.BITS + (c.loop-t.t + 1) * 64)))

@@ -1,7 +1,10 @@
-use Rattle.std.proofs.Common.{◌≡◌, ℕ, ◌+◌, ◌*◌, ◌/◌, false, get_or, inl, inr, refl, sym, ◌∙◌, ap, subst, arith}
+use Rattle.std.proofs.Common.{◌≡◌, ℕ, ◌+◌, ◌*◌, ◌/◌, ◌≤◌, false, get_or, length, inl, inr, refl, sym, ◌∙◌, ap, subst, arith}
 use Rattle.std.proofs.lemmas.Nat.{div-add-mod'}
 use Rattle.bit_addressing.specs.Bits.{IsWidth}
 use Rattle.bit_addressing.specs.Typed.{row}
+use Rattle.bit_addressing.proofs.Rows.{width_positive}
+use Rattle.bit_addressing.proofs.Runs.{mul_mono}
+use Rattle.bit_addressing.proofs.Wholes.{words_there}
 use Rattle.bit_addressing.proofs.bits.pairs.false_blocks.Goals as goal
 
 -- words of 1024 bits
@@ -17,6 +20,28 @@ turns t each w e =
     let split : t * each * w ≡ t * (each * w) = grind arith in
     let same : t * (each * w) ≡ t * 1024 = ap (λ m. t * m) e in
     omega arith
+
+-- the bits of some turns are among n
+few_turns : {w d n : ℕ} (t : ℕ) → IsWidth w → d ≡ w → t * (1024 / d) ≤ n / d → t * 16 * 64 ≤ n
+few_turns {w} {d} {n} t is e most =
+    let fills : 1024 / d * w ≡ 1024 = subst (λ v. 1024 / v * w ≡ 1024) (sym e) (turn_fills w is) in
+    let all = turns t (1024 / d) w fills in
+    let less = mul_mono (t * (1024 / d)) (n / d) w most in
+    let wide : n / d * d ≡ n / d * w = ap (λ m. n / d * m) e in
+    let split = div-add-mod' n d in
+    omega arith
+
+pub false_turns-requires-clause-first : goal.false_turns-requires-clause-first
+false_turns-requires-clause-first g c = (words_there c.BITS-width.ensures (width_positive g.T.BitStore.BITS g.met.T.BitStore.width) c.if-i-width-ne0.false c.requires.first).most
+
+pub false_turns-requires-clause-second : goal.false_turns-requires-clause-second
+false_turns-requires-clause-second g c = (words_there c.BITS-width.ensures (width_positive g.T.BitStore.BITS g.met.T.BitStore.width) c.if-j-width-ne0.false (subst (λ m. c.args.j + c.args.n ≤ m * length c.args.b.now) (c.are_alike.ensures c.if-not-are_alike.false).0 c.requires.second)).most
+
+pub overflow_mul-result : goal.overflow_mul-result
+overflow_mul-result g c = let few = few_turns c.false_turns.result g.met.T.BitStore.width c.BITS-width.ensures c.false_turns.ensures.most in omega arith
+
+pub returns-clause-few : goal.returns-clause-few
+returns-clause-few g c = few_turns c.false_turns.result g.met.T.BitStore.width c.BITS-width.ensures c.false_turns.ensures.most
 
 pub returns-clause-none : goal.returns-clause-none
 returns-clause-none g c = λ q h.

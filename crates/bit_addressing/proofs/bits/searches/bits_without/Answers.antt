@@ -4,7 +4,12 @@ use Rattle.bit_addressing.specs.Bits.{has_bit}
 use Rattle.bit_addressing.specs.Typed.{row}
 use Rattle.bit_addressing.proofs.Finds.{equal_bits}
 use Rattle.bit_addressing.proofs.Rows.{width_positive, width_small}
+use Rattle.bit_addressing.proofs.Runs.{mul_mono}
+use Rattle.bit_addressing.proofs.Wholes.{words_there}
 use Rattle.bit_addressing.proofs.bits.searches.bits_without.Goals as goal
+
+pub turns_without-requires-clause-within : goal.turns_without-requires-clause-within
+turns_without-requires-clause-within g c = (words_there c.BITS-width.ensures (width_positive g.T.BitStore.BITS g.met.T.BitStore.width) c.if-from-width-ne0.false (omega arith)).most
 
 pub turns_without-requires-clause-same : goal.turns_without-requires-clause-same
 turns_without-requires-clause-same g c = λ p h.
@@ -13,6 +18,12 @@ turns_without-requires-clause-same g c = λ p h.
     let is : c.if-bit.from_u64 ≡ (if not c.args.bit then 2 ^ 64 - 1 else 0) = search rules in
     c.from_u64-other.ensures p h ∙ equal_bits (not c.args.bit) c.if-bit.from_u64 p is (omega arith)
     ∙ sym (c.from_u64-other.ensures 0 positive ∙ equal_bits (not c.args.bit) c.if-bit.from_u64 0 is (omega arith))
+
+pub overflow_mul-result : goal.overflow_mul-result
+overflow_mul-result g c = let few = mul_mono c.turns_without.result ((c.args.upto - c.args.from) / c.BITS-width.result) c.BITS-width.result c.turns_without.ensures.most in let split = div-add-mod' (c.args.upto - c.args.from) c.BITS-width.result in omega arith
+
+pub returns-clause-few : goal.returns-clause-few
+returns-clause-few g c = let few = mul_mono c.turns_without.result ((c.args.upto - c.args.from) / c.BITS-width.result) c.BITS-width.result c.turns_without.ensures.most in let split = div-add-mod' (c.args.upto - c.args.from) c.BITS-width.result in omega arith
 
 pub returns-clause-others : goal.returns-clause-others
 returns-clause-others g c =

@@ -1,11 +1,12 @@
-use Rattle.std.proofs.Common.{◌≡◌, ℕ, ◌+◌, ◌-◌, ◌*◌, ◌/◌, ◌<◌, slice_range, length, refl, ◌∙◌, ap, subst, arith, mul_comm}
+use Rattle.std.proofs.Common.{◌≡◌, ℕ, ◌+◌, ◌-◌, ◌*◌, ◌/◌, ◌<◌, ◌≤◌, slice_range, length, refl, ◌∙◌, ap, subst, arith, mul_comm}
 use Rattle.std.specs.Prelude.{count_ones}
 use Rattle.std.specs.List.{count_by}
+use Rattle.bit_addressing.specs.Bits.{IsWidth}
 use Rattle.bit_addressing.specs.Row.{number_of}
 use Rattle.bit_addressing.specs.Typed.{row}
 use Rattle.bit_addressing.proofs.Counts.{counted, counted_next, counted-le}
 use Rattle.bit_addressing.proofs.Packs.{pack_fills}
-use Rattle.bit_addressing.proofs.Blocks.{block_inside, stands}
+use Rattle.bit_addressing.proofs.Blocks.{block_inside, block_there, blocks_inside, stands}
 use Rattle.bit_addressing.proofs.Runs.{mul_mono}
 use Rattle.bit_addressing.proofs.lists.Sized.{one_more_word}
 use Rattle.bit_addressing.proofs.Rows.{width_positive}
@@ -13,6 +14,27 @@ use Rattle.bit_addressing.proofs.Typed.{length_row, row_whole}
 use Rattle.bit_addressing.proofs.bits.searches.count_words.Given as given
 use Rattle.bit_addressing.proofs.bits.searches.count_words.Goals as goal
 use Rattle.bit_addressing.proofs.bits.searches.count_words.Goals.{After-word_number, After-word_number-in-loop-k}
+
+-- the blocks lie in the words
+blocks_fit : {w each first last size : ℕ} → IsWidth w → each ≡ w → first ≤ last → last ≤ size → first * w + (last - first) / (64 / each) * 64 ≤ w * size
+blocks_fit {w} {each} {first} {last} {size} is e ordered within =
+    let all = blocks_inside (64 / each) first last ordered in
+    let most = mul_mono (first + (last - first) / (64 / each) * (64 / each)) size w (omega arith) in
+    let end = stands w each first 0 ((last - first) / (64 / each)) is e in
+    let turned = mul_comm w size in
+    omega arith
+
+pub overflow_mul-t : goal.overflow_mul-t
+overflow_mul-t g c = let below = (block_there c.args.first c.loop-t.t g.met.T.BitStore.width c.BITS.ensures c.loop-t-test.true (blocks_fit g.met.T.BitStore.width c.BITS.ensures c.requires.ordered c.requires.within)).1 in omega arith
+
+pub overflow_add-first : goal.overflow_add-first
+overflow_add-first g c = let below = (block_there c.args.first c.loop-t.t g.met.T.BitStore.width c.BITS.ensures c.loop-t-test.true (blocks_fit g.met.T.BitStore.width c.BITS.ensures c.requires.ordered c.requires.within)).1 in omega arith
+
+pub pack-block-requires : goal.pack-block-requires
+pack-block-requires g c = (block_there c.args.first c.loop-t.t g.met.T.BitStore.width c.BITS.ensures c.loop-t-test.true (blocks_fit g.met.T.BitStore.width c.BITS.ensures c.requires.ordered c.requires.within)).0
+
+pub overflow_mul-k : goal.overflow_mul-k
+overflow_mul-k g c = let all = blocks_inside (64 / c.BITS.result) c.args.first c.args.last c.requires.ordered in omega arith
 
 pub loop-t-init : goal.loop-t-init
 loop-t-init g c =
@@ -89,3 +111,10 @@ overflow_add-count-in-loop-k g c =
 
 pub loop-k-preserved : goal.loop-k-preserved
 loop-k-preserved g c = record { counted = word g c }
+
+pub loop-k-init : goal.loop-k-init
+loop-k-init g c =
+    let all : c.loop-t.t ≡ (c.args.last - c.args.first) / (64 / c.BITS.result) = omega arith in
+    let end = stands g.T.BitStore.BITS c.BITS.result c.args.first 0 c.loop-t.t g.met.T.BitStore.width c.BITS.ensures in
+    let reached : c.args.first * g.T.BitStore.BITS + c.loop-t.t * 64 ≡ (c.args.first + c.loop-t.t * (64 / c.BITS.result)) * g.T.BitStore.BITS = omega arith in
+    record { counted = subst (λ t. c.loop-t.count ≡ count_by (λ b. b) (slice_range (row g.T.BitStore g.O.BitOrder c.args.words.now) (c.args.first * g.T.BitStore.BITS) ((c.args.first + t * (64 / c.BITS.result)) * g.T.BitStore.BITS))) all (rw reached at c.loop-t.invariant.counted) }

@@ -1,8 +1,9 @@
-use Rattle.std.proofs.Common.{◌≡◌, ◌≢◌, ℕ, Bool, true, false, not, ◌&&◌, if◌then◌else◌, inl, inr, ◌+◌, ◌*◌, ◌^◌, ◌/◌, ◌%◌, ◌≤◌, ◌<◌, [], mod-lt, ◌∷◌, List, bit_xor, length, map, slice_range, w64, refl, sym, ◌∙◌, ap, subst, get_or, arith}
+use Rattle.std.proofs.Common.{◌≡◌, ◌≢◌, ℕ, Bool, true, false, not, ◌&&◌, if◌then◌else◌, inl, inr, ◌+◌, ◌*◌, ◌^◌, ◌/◌, ◌%◌, ◌≤◌, ◌<◌, [], mod-lt, ◌∷◌, List, bit_xor, length, map, slice_range, w64, refl, sym, ◌∙◌, ap, subst, get_or, arith, mul_comm}
 use Rattle.std.specs.Int.{trailing_zeros}
 use Rattle.std.specs.Prelude.{ltb}
 use Rattle.std.proofs.lemmas.Bool.{cases_lt, le-ltb, lt-ltb}
 use Rattle.std.proofs.lemmas.List.{get_or_past}
+use Rattle.std.proofs.Math.Nat.{le-mul_of_pos_right, le_of_mul-le-mul_right}
 use Rattle.std.proofs.lemmas.Nat.{div-add-mod', xor_lt}
 use Rattle.bit_addressing.specs.Bits.{has_bit}
 use Rattle.bit_addressing.specs.Row.{number_of, row_of, IsFirstDifference}
@@ -20,6 +21,41 @@ use Rattle.bit_addressing.proofs.Typed.{index_in_row, length_row}
 use Rattle.bit_addressing.proofs.bits.searches.differ_alike.Given as given
 use Rattle.bit_addressing.proofs.bits.searches.differ_alike.Goals as goal
 use Rattle.bit_addressing.proofs.bits.searches.differ_alike.Goals.{then-to_u64+else-apart-ne0, else-to_u64}
+
+-- how many whole words two runs of n bits have that begin with words k and l, and where they lie
+record HasWhole (w d k l n size other whole rest : ℕ) : Type 0 where
+  first : k + whole ≤ size
+  second : l + whole ≤ other
+  low : k + whole ≤ k * w + n
+  other_low : l + whole ≤ l * w + n
+  sum : whole * w + rest ≡ n
+  most : whole * d ≤ n
+  few : rest < w
+  here : 0 < rest → k + whole < size
+  there : 0 < rest → l + whole < other
+
+whole_words : {w d k l n size other : ℕ} → 0 < w → d ≡ w → k * w + n ≤ w * size → l * w + n ≤ w * other → HasWhole w d k l n size other (n / d) (n % d)
+whole_words {w} {d} {k} {l} {n} {size} {other} positive same first second =
+    let split = div-add-mod' n d in
+    let under : n % d < d = mod-lt n (omega (arith, positive, same)) in
+    let wide : n / d * d ≡ n / d * w = ap (λ m. n / d * m) same in
+    let sum = right_sum k (n / d) w in
+    let other_sum = right_sum l (n / d) w in
+    let low = le-mul_of_pos_right (k + n / d) positive in
+    let other_low = le-mul_of_pos_right (l + n / d) positive in
+    let turned = mul_comm w size in
+    let other_turned = mul_comm w other in
+    record {
+      first = le_of_mul-le-mul_right {n = size} {k = w} (omega arith) positive;
+      second = le_of_mul-le-mul_right {n = other} {k = w} (omega arith) positive;
+      low = omega arith;
+      other_low = omega arith;
+      sum = omega arith;
+      most = omega arith;
+      few = omega arith;
+      here = λ some. inside_words w (k + n / d) size ((k + n / d) * w) refl (omega arith);
+      there = λ some. inside_words w (l + n / d) other ((l + n / d) * w) refl (omega arith);
+    }
 
 -- where a word of a run begins, the width written otherwise
 word_begins : (k t d w : ℕ) → d ≡ w → (k + t) * d ≡ k * w + t * w
@@ -46,17 +82,69 @@ module _ {X Y : Type 0} (value : X → ℕ) (other : Y → ℕ) (place order : �
   -- what two runs have after their whole words
   rest_of_runs : HasRest w n k l (length a) (length b) (length (row_of place w (map value a))) (length (row_of order u (map other b))) (n / d) (n % d)
   rest_of_runs =
-      let split = div-add-mod' n d in
-      let under : n % d < d = mod-lt n (omega (arith, positive, same)) in
-      let wide : n / d * d ≡ n / d * w = ap (λ m. n / d * m) same in
+      let r = whole_words positive same first second in
       record {
-        sum = omega (arith, split, wide);
-        few = omega (arith, under, same);
-        here = λ some. inside_words w (k + n / d) (length a) (k * w + n / d * w) (sym (right_sum k (n / d) w)) (omega (arith, split, wide, first, some));
-        there = λ some. inside_words w (l + n / d) (length b) (l * w + n / d * w) (sym (right_sum l (n / d) w)) (omega (arith, split, wide, second, some));
+        sum = r.sum;
+        few = r.few;
+        here = r.here;
+        there = r.there;
         inside = index_in_row value place w a (k * w + n) first;
         beside = index_in_row other order u b (l * w + n) (subst (λ m. l * w + n ≤ m * length b) (sym width) second);
       }
+
+pub equal_front-start-requires-clause-first : goal.equal_front-start-requires-clause-first
+equal_front-start-requires-clause-first g c = let r = whole_words (width_positive _ g.met.T.BitStore.width) c.BITS-width.ensures c.requires.first c.requires.second in omega arith
+
+pub equal_front-start-requires-clause-second : goal.equal_front-start-requires-clause-second
+equal_front-start-requires-clause-second g c = let r = whole_words (width_positive _ g.met.T.BitStore.width) c.BITS-width.ensures c.requires.first c.requires.second in omega arith
+
+pub overflow_add-left : goal.overflow_add-left
+overflow_add-left g c = let r = whole_words (width_positive _ g.met.T.BitStore.width) c.BITS-width.ensures c.requires.first c.requires.second in omega arith
+
+pub bounds-a-k : goal.bounds-a-k
+bounds-a-k g c = let r = whole_words (width_positive _ g.met.T.BitStore.width) c.BITS-width.ensures c.requires.first c.requires.second in omega arith
+
+pub overflow_add-l : goal.overflow_add-l
+overflow_add-l g c = let r = whole_words (width_positive _ g.met.T.BitStore.width) c.BITS-width.ensures c.requires.first c.requires.second in omega arith
+
+pub bounds-b-l : goal.bounds-b-l
+bounds-b-l g c = let r = whole_words (width_positive _ g.met.T.BitStore.width) c.BITS-width.ensures c.requires.first c.requires.second in omega arith
+
+pub overflow_add-k : goal.overflow_add-k
+overflow_add-k g c = let r = whole_words (width_positive _ g.met.T.BitStore.width) c.BITS-width.ensures c.requires.first c.requires.second in omega arith
+
+pub bounds-a-k-2 : goal.bounds-a-k-2
+bounds-a-k-2 g c = let r = whole_words (width_positive _ g.met.T.BitStore.width) c.BITS-width.ensures c.requires.first c.requires.second in omega arith
+
+pub overflow_add-l-2 : goal.overflow_add-l-2
+overflow_add-l-2 g c = let r = whole_words (width_positive _ g.met.T.BitStore.width) c.BITS-width.ensures c.requires.first c.requires.second in omega arith
+
+pub bounds-b-l-2 : goal.bounds-b-l-2
+bounds-b-l-2 g c = let r = whole_words (width_positive _ g.met.T.BitStore.width) c.BITS-width.ensures c.requires.first c.requires.second in omega arith
+
+pub overflow_mul-result-2 : goal.overflow_mul-result-2
+overflow_mul-result-2 g c = let r = whole_words (width_positive _ g.met.T.BitStore.width) c.BITS-width.ensures c.requires.first c.requires.second in omega arith
+
+pub overflow_cast-rest : goal.overflow_cast-rest
+overflow_cast-rest g c = let r = whole_words (width_positive _ g.met.T.BitStore.width) c.BITS-width.ensures c.requires.first c.requires.second in omega arith
+
+pub first_bits_apart-apart-requires-clause-few : goal.first_bits_apart-apart-requires-clause-few
+first_bits_apart-apart-requires-clause-few g c = let r = whole_words (width_positive _ g.met.T.BitStore.width) c.BITS-width.ensures c.requires.first c.requires.second in omega arith
+
+pub overflow_mul-result : goal.overflow_mul-result
+overflow_mul-result g c = let inside = word_in_run c.BITS-width.result c.BITS-width.result c.args.n c.loop-t.t refl (omega arith) in omega arith
+
+pub offset_bounds-a-k : goal.offset_bounds-a-k
+offset_bounds-a-k g c = let r = whole_words (width_positive _ g.met.T.BitStore.width) c.BITS-width.ensures c.requires.first c.requires.second in omega arith
+
+pub offset_bounds-b-l : goal.offset_bounds-b-l
+offset_bounds-b-l g c = let r = whole_words (width_positive _ g.met.T.BitStore.width) c.BITS-width.ensures c.requires.first c.requires.second in omega arith
+
+pub offset_bounds-a-k-2 : goal.offset_bounds-a-k-2
+offset_bounds-a-k-2 g c = let r = whole_words (width_positive _ g.met.T.BitStore.width) c.BITS-width.ensures c.requires.first c.requires.second in omega arith
+
+pub offset_bounds-b-l-2 : goal.offset_bounds-b-l-2
+offset_bounds-b-l-2 g c = let r = whole_words (width_positive _ g.met.T.BitStore.width) c.BITS-width.ensures c.requires.first c.requires.second in omega arith
 
 -- the first difference of a run of n bits is below n
 below_run : (xs ys : List Bool) (i n k : ℕ) → i + n ≤ length xs → IsFirstDifference (slice_range xs i (i + n)) ys k → k < n

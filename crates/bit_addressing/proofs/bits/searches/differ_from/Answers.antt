@@ -3,12 +3,21 @@ use Rattle.std.specs.Int.{trailing_zeros}
 use Rattle.std.proofs.lemmas.Nat.{xor_lt}
 use Rattle.bit_addressing.specs.Row.{number_of, row_of, IsFirstDifference}
 use Rattle.bit_addressing.specs.Typed.{row}
-use Rattle.bit_addressing.proofs.Differs.{AreAlike, alike_all, alike_more, alike_run, differ_here}
+use Rattle.bit_addressing.proofs.Differs.{AreAlike, alike_all, alike_front, alike_more, alike_run, differ_here}
 use Rattle.bit_addressing.proofs.lists.Shown.{length-run}
 use Rattle.bit_addressing.proofs.Typed.{length_row}
 use Rattle.bit_addressing.proofs.bits.searches.differ_from.Given as given
 use Rattle.bit_addressing.proofs.bits.searches.differ_from.Goals as goal
 use Rattle.bit_addressing.proofs.bits.searches.differ_from.Goals.{then-left-right+else-apart-ne0, else-left-right}
+
+pub equal_blocks-start-requires-clause-more : goal.equal_blocks-start-requires-clause-more
+equal_blocks-start-requires-clause-more g c = λ t h. c.followed_blocks.ensures t (omega arith)
+
+pub equal_blocks-start-requires-clause-other_more : goal.equal_blocks-start-requires-clause-other_more
+equal_blocks-start-requires-clause-other_more g c = λ t h. c.followed_blocks-2.ensures t (omega arith)
+
+pub loop-t-init : goal.loop-t-init
+loop-t-init g c = record { alike = alike_front _ _ _ _ _ c.equal_blocks-start.ensures.alike }
 
 pub block_after-left-requires-clause-words : goal.block_after-left-requires-clause-words
 block_after-left-requires-clause-words g c = c.followed_blocks.ensures c.loop-t.t (omega arith)

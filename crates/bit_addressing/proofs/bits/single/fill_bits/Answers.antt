@@ -22,6 +22,12 @@ full g x b bits = row_repeated g.O.BitOrder.place g.T.BitStore.BITS x b (width_p
 part : (g : given.Over) (x low high n : ℕ) (b : Bool) → ((p : ℕ) → p < g.T.BitStore.BITS → has_bit x p ≡ b) → high ≤ g.T.BitStore.BITS → high - low ≡ n → slice_range (row_of g.O.BitOrder.place g.T.BitStore.BITS (x ∷ [])) low high ≡ replicate n b
 part g x low high n b bits fits size = slice_repeated (row_of g.O.BitOrder.place g.T.BitStore.BITS (x ∷ [])) g.T.BitStore.BITS low high n b (full g x b bits) fits size
 
+pub write_part-requires-clause-word : goal.write_part-requires-clause-word
+write_part-requires-clause-word g c = let inside = c.of-first.ensures.inside (length c.args.words.now) c.requires.within in omega arith
+
+pub write_part-requires-2-clause-word : goal.write_part-requires-2-clause-word
+write_part-requires-2-clause-word g c = let inside = c.of-first.ensures.inside (length c.args.words.now) c.requires.within in omega arith
+
 pub returns-then-first-last-clause-bits : goal.returns-then-first-last-clause-bits
 returns-then-first-last-clause-bits g c =
     let w = g.T.BitStore.BITS in
@@ -46,6 +52,15 @@ loop-k-init g c =
       bits = c.write_part-2.ensures.bits ∙ ap (put (row g.T.BitStore g.O.BitOrder c.args.words.now) (s.first * w + s.low)) piece ∙ ap (λ i. put (row g.T.BitStore g.O.BitOrder c.args.words.now) i (replicate n c.args.bit)) run.begins;
       size = c.write_part-2.ensures.size;
     }
+
+pub bounds-words-k : goal.bounds-words-k
+bounds-words-k g c = let inside = c.of-first.ensures.inside (length c.args.words.now) c.requires.within in omega arith
+
+pub write_part-requires-3-clause-word : goal.write_part-requires-3-clause-word
+write_part-requires-3-clause-word g c = let inside = c.of-first.ensures.inside (length c.args.words.now) c.requires.within in omega arith
+
+pub offset_bounds-words-k : goal.offset_bounds-words-k
+offset_bounds-words-k g c = let inside = c.of-first.ensures.inside (length c.args.words.now) c.requires.within in let below : c.loop-k.k < length c.loop-k.words = omega arith in grind arith
 
 pub loop-k-preserved : goal.loop-k-preserved
 loop-k-preserved g c =

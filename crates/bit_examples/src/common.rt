@@ -1,0 +1,16 @@
+//! What all tests use.
+use std::process::Abort;
+
+/// That this holds. A test calls it in place of `assert!`, which costs the prover several times as much: a failed
+/// test is told by its name.
+pub(crate) fn check(rt: &impl Abort, holds: bool) {
+    assert!(rt; holds);
+}
+
+/// What a call returns that found memory.
+pub(crate) fn ok<V, E>(rt: &impl Abort, outcome: Result<V, E>) -> V {
+    match outcome {
+        Ok(value) => value,
+        Err(_) => panic!(rt; "memory was refused"),
+    }
+}

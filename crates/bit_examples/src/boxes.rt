@@ -5,7 +5,7 @@ mod reading;
 mod slice;
 mod writing;
 
-use crate::found::ok;
+use crate::common::{check, ok};
 use bit_addressing::{BitOrder, BitStore, Lsb0, Msb0};
 use bit_array::BitArray;
 use bit_boxed::{BitBox, IntoIter};
@@ -15,23 +15,22 @@ use std::cmp::Ordering;
 use std::fmt;
 use std::hash::{DefaultHasher, Hash, Hasher};
 use std::process::Abort;
-use std::test::Fail;
 
 /// That the box holds these digits.
 fn holds<T: BitStore, O: BitOrder>(rt: &impl Abort, b: &BitBox<T, O>, digits: &[u8]) {
-    assert!(rt; b.len() == digits.len());
+    check(rt, b.len() == digits.len());
     for (i, digit) in digits.iter().enumerate() {
-        assert!(rt; b.get(i) == Some(*digit == b'1'));
+        check(rt, b.get(i) == Some(*digit == b'1'));
     }
-    assert!(rt; b.get(digits.len()).is_none());
+    check(rt, b.get(digits.len()).is_none());
 }
 
 /// That the words of the box are these.
 fn shows<T: BitStore, O: BitOrder>(rt: &impl Abort, b: &BitBox<T, O>, words: &[T]) {
     let kept = b.as_raw_slice();
-    assert!(rt; kept.len() == words.len());
+    check(rt, kept.len() == words.len());
     for (word, want) in kept.iter().zip(words) {
-        assert!(rt; word.to_u64() == want.to_u64());
+        check(rt, word.to_u64() == want.to_u64());
     }
 }
 
@@ -41,14 +40,14 @@ fn copied_with_a_head(rt: HostRuntime) {
     let view = BitSlice::<u8, Msb0>::from_slice(&words).get_range(2..6);
     let mut b = ok(&rt, BitBox::from_bitslice_headed(rt.alloc(), view));
     shows(&rt, &b, &[0x34]);
-    assert_eq!(rt; b.head(), 2);
+    check(&rt, b.head() == 2);
     holds(&rt, &b, b"1101");
     b.fill_uninitialized(true);
     shows(&rt, &b, &[0xf7]);
     let mut b = ok(&rt, BitBox::from_bitslice_headed(rt.alloc(), view));
     b.force_align();
     shows(&rt, &b, &[0xd4]);
-    assert_eq!(rt; b.head(), 0);
+    check(&rt, b.head() == 0);
     holds(&rt, &b, b"1101");
     b.fill_uninitialized(false);
     shows(&rt, &b, &[0xd0]);
@@ -76,12 +75,12 @@ fn copied_from_the_beginning(rt: HostRuntime) {
     let view = BitSlice::<u8, Msb0>::from_slice(&words).get_range(2..6);
     let mut b = ok(&rt, BitBox::from_bitslice(rt.alloc(), view));
     shows(&rt, &b, &[0xd0]);
-    assert_eq!(rt; b.head(), 0);
+    check(&rt, b.head() == 0);
     b.fill_uninitialized(true);
     shows(&rt, &b, &[0xdf]);
     let copy = ok(&rt, b.clone());
     shows(&rt, &copy, &[0xd0]);
-    assert!(rt; copy == b);
+    check(&rt, copy == b);
     b.force_align();
     shows(&rt, &b, &[0xdf]);
 }
@@ -95,51 +94,62 @@ fn all_words_are_kept(rt: HostRuntime) {
     shows(&rt, &b, &[0xf5, 0x07]);
     b.fill_uninitialized(false);
     shows(&rt, &b, &[0xf5, 0x00]);
-    assert_eq!(rt; b.as_bitslice().as_raw_slice(), [0xf5].as_slice());
-    assert_eq!(rt; b.len(), 8);
+    check(&rt, b.as_bitslice().as_raw_slice() == [0xf5].as_slice());
+    assert!(rt; b.len() == 8);
     b.as_mut_bitslice().set(1, true);
-    assert_eq!(rt; b.into_boxed_slice().as_slice(), [0xf7, 0x00].as_slice());
+    check(
+        &rt,
+        b.into_boxed_slice().as_slice() == [0xf7, 0x00].as_slice(),
+    );
 }
 
 #[test]
 #[tactic(auto, unfolding(bit_addressing::specs::Row::words_for))]
-fn made_of_words(rt: HostRuntime) -> Result<(), Fail> {
-    let boxed: BoxedSlice<u8> = vec![in rt.alloc(); 0x80, 0x01]?.into_boxed_slice();
+fn made_of_words(rt: HostRuntime) {
+    let boxed: BoxedSlice<u8> = ok(&rt, vec![in rt.alloc(); 0x80, 0x01]).into_boxed_slice();
+    assert!(rt; boxed.as_slice().len() == 2);
     let b = BitBox::<u8, Msb0>::from_boxed_slice(boxed);
     holds(&rt, &b, b"1000000000000001");
-    assert!(rt;
-        b.first() == Some(true)
-            && b.last() == Some(true)
-            && b.count_ones() == 2
-            && b.get(14) == Some(false)
-    );
+    check(&rt, b.first() == Some(true));
+    check(&rt, b.last() == Some(true));
+    check(&rt, b.count_ones() == 2);
+    check(&rt, b.get(14) == Some(false));
     let boxed: BoxedSlice<u8> = b.into();
-    assert!(rt; boxed.as_slice() == [0x80, 0x01].as_slice());
-    assert!(rt; BitBox::<u8, Msb0>::try_from_boxed_slice(boxed).is_ok());
-    Ok(())
+    check(&rt, boxed.as_slice() == [0x80, 0x01].as_slice());
+    check(&rt, BitBox::<u8, Msb0>::try_from_boxed_slice(boxed).is_ok());
 }
 
 #[test]
 #[tactic(auto, unfolding(bit_addressing::specs::Row::words_for))]
-fn made_of_one_word(rt: HostRuntime) -> Result<(), Fail> {
-    let boxed: BoxedSlice<u8> = vec![in rt.alloc(); 0x05]?.into_boxed_slice();
-    assert!(rt; BitBox::<u8, Lsb0>::try_from(boxed).is_ok_and(|b| b.count_ones() == 2));
-    let b = BitBox::<u16, Lsb0>::from_box(rt.alloc(), Box::new(rt.alloc(), 0x8001)?)?;
-    assert!(rt; b.first() == Some(true) && b.last() == Some(true) && b.len() == 16);
-    Ok(())
+fn made_of_one_word(rt: HostRuntime) {
+    let boxed: BoxedSlice<u8> = ok(&rt, vec![in rt.alloc(); 0x05]).into_boxed_slice();
+    check(
+        &rt,
+        BitBox::<u8, Lsb0>::try_from(boxed).is_ok_and(|b| b.count_ones() == 2),
+    );
+    let b = ok(
+        &rt,
+        BitBox::<u16, Lsb0>::from_box(rt.alloc(), ok(&rt, Box::new(rt.alloc(), 0x8001))),
+    );
+    check(&rt, b.first() == Some(true));
+    check(&rt, b.last() == Some(true));
+    check(&rt, b.len() == 16);
 }
 
 #[test]
 #[tactic(auto, unfolding(bit_addressing::specs::Row::words_for))]
-fn made_of_arrays_and_parts(rt: HostRuntime) -> Result<(), Fail> {
+fn made_of_arrays_and_parts(rt: HostRuntime) {
     let array = BitArray::<[u8; 2], Msb0>::new([0x80, 0x01]);
-    let b = BitBox::from_bitarray(rt.alloc(), array)?;
+    let b = ok(&rt, BitBox::from_bitarray(rt.alloc(), array));
     shows(&rt, &b, &[0x80, 0x01]);
-    let b = BitBox::<u8, Lsb0>::from_parts(vec![in rt.alloc(); 0xa8, 0x07]?, 3, 8)?;
+    let words = ok(&rt, vec![in rt.alloc(); 0xa8, 0x07]);
+    assert!(rt; words.len() == 2);
+    let b = ok(&rt, BitBox::<u8, Lsb0>::from_parts(words, 3, 8));
     holds(&rt, &b, b"10101111");
-    let none = BitBox::<u64, Lsb0>::empty(rt.alloc())?;
-    assert!(rt; none.is_empty() && none.first().is_none() && none.last().is_none());
-    Ok(())
+    let none = ok(&rt, BitBox::<u64, Lsb0>::empty(rt.alloc()));
+    check(&rt, none.is_empty());
+    check(&rt, none.first().is_none());
+    check(&rt, none.last().is_none());
 }
 
 #[test]
@@ -147,23 +157,27 @@ fn pulled(rt: HostRuntime) {
     let bits = [true, false, true, false, false, false, false, false, true];
     let b = ok(&rt, BitBox::<u8, Lsb0>::from_bits(rt.alloc(), bits));
     shows(&rt, &b, &[0x05, 0x01]);
-    assert!(rt; b.len() == 9 && b.head() == 0);
+    check(&rt, b.len() == 9);
+    check(&rt, b.head() == 0);
 }
 
 #[test]
-fn written(rt: HostRuntime) -> Result<(), Fail> {
-    let mut b = BitBox::<u8, Lsb0>::from_box(rt.alloc(), Box::new(rt.alloc(), 0)?)?;
-    assert_eq!(rt; b.len(), 8);
+fn written(rt: HostRuntime) {
+    let mut b = ok(
+        &rt,
+        BitBox::<u8, Lsb0>::from_box(rt.alloc(), ok(&rt, Box::new(rt.alloc(), 0))),
+    );
+    assert!(rt; b.len() == 8);
     b.set(1, true);
-    assert!(rt; b[1] && !b[0]);
+    check(&rt, b[1]);
+    check(&rt, !b[0]);
     b.flip_all();
     b.copy_within(0..3, 5);
     shows(&rt, &b, &[0xbd]);
     b.fill(false);
-    assert_eq!(rt; b.count_ones(), 0);
+    check(&rt, b.count_ones() == 0);
     b.as_raw_mut_slice()[0] = 0x0f;
     holds(&rt, &b, b"11110000");
-    Ok(())
 }
 
 /// A box of the first bits of a byte.
@@ -217,19 +231,21 @@ fn compared_at_another_head(rt: HostRuntime) {
     let headed = ok(&rt, BitBox::from_bitslice_headed(rt.alloc(), view));
     let byte = ok(&rt, Box::new(rt.alloc(), 0xf5));
     let aligned = ok(&rt, BitBox::<u8, Lsb0>::from_box(rt.alloc(), byte));
-    assert!(rt; headed == aligned && headed.cmp(&aligned) == Ordering::Equal);
+    check(&rt, headed == aligned);
+    check(&rt, headed.cmp(&aligned) == Ordering::Equal);
     let (mut one, mut other) = (DefaultHasher::new(), DefaultHasher::new());
     headed.hash(&mut one);
     aligned.hash(&mut other);
-    assert!(rt; one.finish() == other.finish());
+    check(&rt, one.finish() == other.finish());
 }
 
 #[test]
 fn compared_with_a_longer(rt: HostRuntime) {
     let short = first_bits(&rt, 0x00, 1);
     let long = first_bits(&rt, 0x00, 2);
-    assert!(rt; short != long && short < long);
-    assert!(rt; long.partial_cmp(&short) == Some(Ordering::Greater));
+    check(&rt, short != long);
+    check(&rt, short < long);
+    check(&rt, long.partial_cmp(&short) == Some(Ordering::Greater));
 }
 
 /// How a box is written in a radix.
@@ -260,12 +276,15 @@ impl<T: BitStore, O: BitOrder> fmt::Display for In<'_, T, O> {
 fn texts(rt: HostRuntime) {
     let b = first_bits(&rt, 0x0b, 5);
     let text = ok(&rt, format!(in rt.alloc(); "{b}"));
-    assert!(rt; text.as_str() == "[1, 1, 0, 1, 0]");
+    check(&rt, text.as_str() == "[1, 1, 0, 1, 0]");
     let words = [0x0b_u8];
     let view = BitSlice::<u8, Lsb0>::from_slice(&words).get_range(1..4);
     let headed = ok(&rt, BitBox::from_bitslice_headed(rt.alloc(), view));
     let text = ok(&rt, format!(in rt.alloc(); "{headed:?} {headed:>9}"));
-    assert!(rt; text.as_str() == "BitBox { head: 1, bits: 3 } [1, 0, 1] [1, 0, 1]");
+    check(
+        &rt,
+        text.as_str() == "BitBox { head: 1, bits: 3 } [1, 0, 1] [1, 0, 1]",
+    );
 }
 
 #[test]
@@ -278,42 +297,49 @@ fn texts_in_a_radix(rt: HostRuntime) {
         In(&b, Radix::UpperHex),
     );
     let text = ok(&rt, format!(in rt.alloc(); "{y} {o} {x} {u}"));
-    assert!(rt; text.as_str() == "[11010] [62] [d0] [D0]");
+    check(&rt, text.as_str() == "[11010] [62] [d0] [D0]");
 }
 
 #[test]
 fn iterated(rt: HostRuntime) {
     let b = first_bits(&rt, 0x26, 6);
-    assert!(rt; b.iter().rev().filter(|bit| *bit).count() == 3);
-    assert!(rt; (&b).into_iter().len() == 6);
+    check(&rt, b.iter().rev().filter(|bit| *bit).count() == 3);
+    check(&rt, (&b).into_iter().len() == 6);
 }
 
 /// What an iterator has yet to give, as a view and as text.
 #[test]
 fn iterator_seen(rt: HostRuntime) {
     let mut bits = first_bits(&rt, 0x26, 6).into_iter();
-    assert!(rt; bits.next() == Some(false) && bits.next_back() == Some(true));
+    check(&rt, bits.next() == Some(false));
+    check(&rt, bits.next_back() == Some(true));
     let text = ok(&rt, format!(in rt.alloc(); "{bits:?}"));
-    assert!(rt; text.as_str() == "IntoIter([1, 1, 0, 0])");
-    assert!(rt; bits.as_bitslice().count_ones() == 2 && bits.as_slice().len() == 4);
+    check(&rt, text.as_str() == "IntoIter([1, 1, 0, 0])");
+    check(&rt, bits.as_bitslice().count_ones() == 2);
+    check(&rt, bits.as_slice().len() == 4);
     let copy = ok(&rt, bits.clone());
-    assert!(rt; copy.size_hint() == (4, Some(4)));
+    check(&rt, copy.size_hint() == (4, Some(4)));
 }
 
 #[test]
 fn iterator_emptied(rt: HostRuntime) {
     let mut bits = first_bits(&rt, 0x26, 6).into_iter();
-    assert!(rt; bits.next() == Some(false) && bits.next_back() == Some(true));
-    assert!(rt; bits.nth(1) == Some(true) && bits.nth_back(1) == Some(false));
-    assert!(rt; bits.next().is_none() && bits.next_back().is_none() && bits.len() == 0);
+    check(&rt, bits.next() == Some(false));
+    check(&rt, bits.next_back() == Some(true));
+    check(&rt, bits.nth(1) == Some(true));
+    check(&rt, bits.nth_back(1) == Some(false));
+    check(&rt, bits.next().is_none());
+    check(&rt, bits.next_back().is_none());
+    check(&rt, bits.len() == 0);
 }
 
 #[test]
 #[tactic(auto, unfolding(bit_addressing::specs::Row::words_for))]
-fn iterator_of_parts(rt: HostRuntime) -> Result<(), Fail> {
-    let parts = IntoIter::<u8, Lsb0>::from_parts(vec![in rt.alloc(); 0xa8, 0x07]?, 3, 8);
-    assert!(rt; parts.filter(|bit| *bit).count() == 6);
-    Ok(())
+fn iterator_of_parts(rt: HostRuntime) {
+    let words = ok(&rt, vec![in rt.alloc(); 0xa8, 0x07]);
+    assert!(rt; words.len() == 2);
+    let parts = IntoIter::<u8, Lsb0>::from_parts(words, 3, 8);
+    check(&rt, parts.filter(|bit| *bit).count() == 6);
 }
 
 #[test]
@@ -328,7 +354,7 @@ fn empty_after_a_head(rt: HostRuntime) {
     shows(&rt, &b, &[0xff]);
     let mut b = ok(&rt, BitBox::from_bitslice_headed(rt.alloc(), view));
     b.force_align();
-    assert_eq!(rt; b.head(), 0);
+    check(&rt, b.head() == 0);
     shows(&rt, &b, &[0]);
-    assert_eq!(rt; b.as_bitslice().as_raw_slice(), [].as_slice());
+    check(&rt, b.as_bitslice().as_raw_slice() == [].as_slice());
 }

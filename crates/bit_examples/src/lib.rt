@@ -7,7 +7,7 @@ mod arrays;
 #[cfg(test)]
 mod boxes;
 #[cfg(test)]
-mod found;
+mod common;
 #[cfg(test)]
 mod rows;
 #[cfg(test)]

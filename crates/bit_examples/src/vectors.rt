@@ -13,7 +13,7 @@ mod text;
 mod words;
 mod writing;
 
-use crate::found::ok;
+use crate::common::{check, ok};
 use bit_containers::{BitOrder, BitStore, BitVec};
 use std::process::Abort;
 
@@ -26,19 +26,27 @@ fn of<T: BitStore, O: BitOrder>(rt: &(impl Abort + AllocGlobal), digits: &[u8]) 
     v
 }
 
+/// The vector of these words.
+fn of_words<O: BitOrder>(rt: &(impl Abort + AllocGlobal), words: &[u8]) -> BitVec<u8, O> {
+    let words = ok(rt, words.to_vec(rt.alloc()));
+    assert!(rt; words.len() < 100);
+    BitVec::from_vec(words)
+}
+
 /// That the vector holds these digits.
 fn holds<T: BitStore, O: BitOrder>(rt: &impl Abort, v: &BitVec<T, O>, digits: &[u8]) {
-    assert!(rt; v.len() == digits.len() && v.get(digits.len()).is_none());
+    check(rt, v.len() == digits.len());
+    check(rt, v.get(digits.len()).is_none());
     for (i, digit) in digits.iter().enumerate() {
-        assert!(rt; v.get(i) == Some(*digit == b'1'));
+        check(rt, v.get(i) == Some(*digit == b'1'));
     }
 }
 
 /// That the words of the vector are these.
 fn shows<T: BitStore, O: BitOrder>(rt: &impl Abort, v: &BitVec<T, O>, words: &[T]) {
     let kept = v.as_raw_slice();
-    assert!(rt; kept.len() == words.len());
+    check(rt, kept.len() == words.len());
     for (word, want) in kept.iter().zip(words) {
-        assert!(rt; word.to_u64() == want.to_u64());
+        check(rt, word.to_u64() == want.to_u64());
     }
 }

@@ -1,5 +1,6 @@
 //! The writing calls of a view that the array has itself.
 use crate::arrays::holds;
+use crate::common::check;
 use bit_addressing::Lsb0;
 use bit_array::BitArray;
 use bit_slice::BitSlice;
@@ -69,7 +70,7 @@ fn combined_within(rt: HostRuntime) {
 fn numbers_written(rt: HostRuntime) {
     let mut a = BitArray::<[u8; 2], Lsb0>::new([0x4d, 0x8b]);
     a.store_le(0xc135);
-    assert!(rt; a.as_raw_slice() == [0x35, 0xc1].as_slice());
+    check(&rt, a.as_raw_slice() == [0x35, 0xc1].as_slice());
     a.store_be(0xc135);
     holds(&rt, &a, b"1100000100110101");
 }

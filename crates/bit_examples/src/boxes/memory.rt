@@ -2,6 +2,7 @@
 //!
 //! The tests pass with ample memory, and whichever request `rt try --test --fail-alloc N` refuses.
 use crate::boxes::{holds, shows};
+use crate::common::check;
 use bit_addressing::{BitOrder, BitStore, GrowError, Lsb0, Msb0};
 use bit_array::BitArray;
 use bit_boxed::{BitBox, IntoIter};
@@ -25,9 +26,9 @@ fn made<T: BitStore, O: BitOrder>(
 fn gives<T: BitStore, O: BitOrder>(rt: &impl Abort, bits: IntoIter<T, O>, digits: &[u8]) {
     let mut bits = bits;
     for digit in digits {
-        assert_eq!(rt; bits.next(), Some(*digit == b'1'));
+        check(rt, bits.next() == Some(*digit == b'1'));
     }
-    assert!(rt; bits.next().is_none());
+    check(rt, bits.next().is_none());
 }
 
 #[test]
@@ -52,7 +53,7 @@ fn makers_refused(rt: HostRuntime) {
     );
     match BitBox::<u8, Lsb0>::from_bits(rt.alloc(), [true, false, true]) {
         Ok(b) => holds(&rt, &b, b"101"),
-        Err(why) => assert!(rt; why == GrowError::OutOfMemory),
+        Err(why) => check(&rt, why == GrowError::OutOfMemory),
     }
 }
 
@@ -73,12 +74,12 @@ fn makers_that_take_none(rt: HostRuntime) {
     let words = [0xff_u8];
     let view = BitSlice::<u8, Lsb0>::from_slice(&words).get_range(5..5);
     let none = BitArray::<[u8; 0], Lsb0>::new([]);
-    assert!(rt; BitBox::<u8, Lsb0>::empty(rt.alloc()).is_ok());
-    assert!(rt; BitBox::from_bitslice(rt.alloc(), view).is_ok());
-    assert!(rt; BitBox::from_bitarray(rt.alloc(), none).is_ok());
-    assert!(rt; BitBox::<u8, Lsb0>::from_bits(rt.alloc(), None).is_ok());
+    check(&rt, BitBox::<u8, Lsb0>::empty(rt.alloc()).is_ok());
+    check(&rt, BitBox::from_bitslice(rt.alloc(), view).is_ok());
+    check(&rt, BitBox::from_bitarray(rt.alloc(), none).is_ok());
+    check(&rt, BitBox::<u8, Lsb0>::from_bits(rt.alloc(), None).is_ok());
     let owned = Vec::<u8>::new(rt.alloc());
-    assert!(rt; BitBox::<u8, Lsb0>::from_parts(owned, 0, 0).is_ok());
+    check(&rt, BitBox::<u8, Lsb0>::from_parts(owned, 0, 0).is_ok());
 }
 
 #[test]
@@ -90,10 +91,10 @@ fn copies_refused(rt: HostRuntime) -> Result<(), Fail> {
     };
     made(&rt, b.clone(), b"10101111");
     shows(&rt, &b, &[0xa8, 0x07]);
-    assert_eq!(rt; b.head(), 3);
+    check(&rt, b.head() == 3);
     holds(&rt, &b, b"10101111");
     let mut bits = b.into_iter();
-    assert_eq!(rt; bits.next(), Some(true));
+    check(&rt, bits.next() == Some(true));
     if let Ok(copy) = bits.clone() {
         gives(&rt, copy, b"0101111");
     }

@@ -1,5 +1,5 @@
 //! Searches, sets and parts.
-use crate::found::ok;
+use crate::common::{check, ok};
 use bit_addressing::{Lsb0, Msb0};
 use bit_boxed::BitBox;
 use bit_slice::BitSlice;
@@ -15,29 +15,40 @@ fn ten_bits(rt: &(impl Abort + AllocGlobal)) -> BitBox<u8, Lsb0> {
 #[test]
 fn searched(rt: HostRuntime) {
     let b = ten_bits(&rt);
-    assert!(rt; b.first_one() == Some(1) && b.last_one() == Some(4));
-    assert!(rt; b.first_zero() == Some(0) && b.last_zero() == Some(9));
-    assert!(rt; b.next_one(3) == Some(4) && b.next_zero(1) == Some(3));
+    check(&rt, b.first_one() == Some(1));
+    check(&rt, b.last_one() == Some(4));
+    check(&rt, b.first_zero() == Some(0));
+    check(&rt, b.last_zero() == Some(9));
+    check(&rt, b.next_one(3) == Some(4));
+    check(&rt, b.next_zero(1) == Some(3));
     let words = [0xa000_u16];
     let part = BitSlice::<u16, Msb0>::from_slice(&words).get_range(0..3);
-    assert!(rt; b.find(part) == Some(2) && b.contains(part));
+    check(&rt, b.find(part) == Some(2));
+    check(&rt, b.contains(part));
 }
 
 #[test]
 fn bits_at_the_ends(rt: HostRuntime) {
     let b = ten_bits(&rt);
-    assert!(rt; b.leading_zeros() == 1 && b.leading_ones() == 0);
-    assert!(rt; b.trailing_zeros() == 5 && b.trailing_ones() == 0);
-    assert!(rt; b.some() && b.not_all() && !b.not_any());
+    check(&rt, b.leading_zeros() == 1);
+    check(&rt, b.leading_ones() == 0);
+    check(&rt, b.trailing_zeros() == 5);
+    check(&rt, b.trailing_ones() == 0);
+    check(&rt, b.some());
+    check(&rt, b.not_all());
+    check(&rt, !b.not_any());
 }
 
 #[test]
 fn indices_given(rt: HostRuntime) {
     let b = ten_bits(&rt);
     let mut ones = b.iter_ones();
-    assert!(rt; ones.next() == Some(1) && ones.next_back() == Some(4) && ones.len() == 1);
+    check(&rt, ones.next() == Some(1));
+    check(&rt, ones.next_back() == Some(4));
+    assert!(rt; ones.len() == 1);
     let mut zeros = b.iter_zeros();
-    assert!(rt; zeros.next() == Some(0) && zeros.len() == 6);
+    check(&rt, zeros.next() == Some(0));
+    check(&rt, zeros.len() == 6);
 }
 
 #[test]
@@ -46,10 +57,15 @@ fn beside_a_view(rt: HostRuntime) {
     let view = BitSlice::<u8, Msb0>::from_slice(&words).get_range(0..5);
     let b = ok(&rt, BitBox::from_bitslice(rt.alloc(), view));
     let other = BitSlice::<u16, Lsb0>::from_slice(&others).get_range(0..7);
-    assert!(rt; b.count_and(other) == 2 && b.count_or(other) == 5 && b.count_xor(other) == 3);
-    assert!(rt; b.intersects(other) && !b.is_disjoint(other) && !b.is_subset(other));
+    check(&rt, b.count_and(other) == 2);
+    check(&rt, b.count_or(other) == 5);
+    check(&rt, b.count_xor(other) == 3);
+    check(&rt, b.intersects(other));
+    check(&rt, !b.is_disjoint(other));
+    check(&rt, !b.is_subset(other));
     let part = other.get_range(0..3);
-    assert!(rt; b.is_superset(part) && part.is_subset(b.as_bitslice()));
+    check(&rt, b.is_superset(part));
+    check(&rt, part.is_subset(b.as_bitslice()));
 }
 
 /// A box of seven bits, whose second, third and fifth are set.
@@ -64,15 +80,20 @@ fn taken_apart(rt: HostRuntime) {
     let b = seven_bits(&rt);
     assert!(rt; b.len() == 7);
     let (front, back) = b.split_at(3);
-    assert!(rt; front.len() == 3 && back.len() == 4);
-    assert!(rt; b.starts_with(front) && b.ends_with(back) && !b.starts_with(back));
-    assert!(rt;
+    check(&rt, front.len() == 3);
+    check(&rt, back.len() == 4);
+    check(&rt, b.starts_with(front));
+    check(&rt, b.ends_with(back));
+    check(&rt, !b.starts_with(back));
+    check(
+        &rt,
         b.split_first()
-            .is_some_and(|(bit, rest)| !bit && rest.len() == 6)
+            .is_some_and(|(bit, rest)| !bit && rest.len() == 6),
     );
-    assert!(rt;
+    check(
+        &rt,
         b.split_last()
-            .is_some_and(|(bit, rest)| !bit && rest.len() == 6)
+            .is_some_and(|(bit, rest)| !bit && rest.len() == 6),
     );
 }
 
@@ -80,8 +101,11 @@ fn taken_apart(rt: HostRuntime) {
 fn taken_in_chunks(rt: HostRuntime) {
     let b = seven_bits(&rt);
     assert!(rt; b.len() == 7);
-    assert!(rt; b.chunk(3, 1).load_be() == 2);
-    assert!(rt; b.chunks(3).len() == 3 && b.rchunks(3).len() == 3);
-    assert!(rt; b.chunks_exact(3).len() == 2 && b.windows(3).len() == 5);
-    assert!(rt; b.load_be() == 52 && b.load_le() == 22);
+    check(&rt, b.chunk(3, 1).load_be() == 2);
+    check(&rt, b.chunks(3).len() == 3);
+    check(&rt, b.rchunks(3).len() == 3);
+    check(&rt, b.chunks_exact(3).len() == 2);
+    check(&rt, b.windows(3).len() == 5);
+    check(&rt, b.load_be() == 52);
+    check(&rt, b.load_le() == 22);
 }

@@ -1,6 +1,6 @@
 //! The calls of a view that the box has itself: bits read, written and combined at a head.
 use crate::boxes::{holds, shows};
-use crate::found::ok;
+use crate::common::{check, ok};
 use bit_addressing::{Lsb0, Msb0};
 use bit_boxed::BitBox;
 use bit_slice::BitSlice;
@@ -11,19 +11,23 @@ fn bits_and_parts(rt: HostRuntime) {
     let words = [0xa8_u8, 0x07];
     let view = BitSlice::<u8, Lsb0>::from_slice(&words).get_range(3..11);
     let mut b = ok(&rt, BitBox::from_bitslice_headed(rt.alloc(), view));
-    assert_eq!(rt; b.len(), 8);
-    assert!(rt; !b.replace(1, true));
+    assert!(rt; b.len() == 8);
+    check(&rt, !b.replace(1, true));
     shows(&rt, &b, &[0xb8, 0x07]);
     b.swap(0, 3);
     shows(&rt, &b, &[0xf0, 0x07]);
     holds(&rt, &b, b"01111111");
-    assert!(rt; b.count_zeros() == 1 && b.any() && !b.all());
+    check(&rt, b.count_zeros() == 1);
+    check(&rt, b.any());
+    check(&rt, !b.all());
     let part = b.get_range(1..8);
-    assert!(rt; part.head() == 4 && part.len() == 7 && part.count_ones() == 7);
+    check(&rt, part.head() == 4);
+    check(&rt, part.len() == 7);
+    check(&rt, part.count_ones() == 7);
     let others = [0x7f00_u16];
     let others = BitSlice::<u16, Msb0>::from_slice(&others);
-    assert!(rt; b.eq_bits(others.get_range(0..8)));
-    assert_eq!(rt; b.cmp_bits(others.get_range(0..9)), Ordering::Less);
+    check(&rt, b.eq_bits(others.get_range(0..8)));
+    check(&rt, b.cmp_bits(others.get_range(0..9)) == Ordering::Less);
 }
 
 #[test]

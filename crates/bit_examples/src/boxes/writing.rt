@@ -1,6 +1,6 @@
 //! The writing calls of a view that the box has itself: at a head, and dead bits stay.
 use crate::boxes::{holds, shows};
-use crate::found::ok;
+use crate::common::{check, ok};
 use bit_addressing::Lsb0;
 use bit_boxed::BitBox;
 use bit_slice::BitSlice;
@@ -110,7 +110,8 @@ fn part_lands(rt: HostRuntime) {
     let mut b = headed(&rt, &[0xa8, 0x07]);
     assert!(rt; b.len() == 8);
     let mut part = b.part_mut(4, 7);
-    assert!(rt; part.head() == 7 && part.len() == 3);
+    check(&rt, part.head() == 7);
+    assert!(rt; part.len() == 3);
     part.fill(false);
     holds(&rt, &b, b"10100001");
     shows(&rt, &b, &[0x28, 0x04]);

@@ -1,4 +1,5 @@
 //! Rows of words: single bits, runs, copies, chunks, counts and comparisons.
+use crate::common::{check, ok};
 use crate::rows::orders::{Scramble, Xor4};
 use bit_addressing::{
     And, Lsb0, Msb0, Or, append_run_in_vec, combine_bits, copy_bits, copy_bits_in_vec, count_bits,
@@ -6,110 +7,110 @@ use bit_addressing::{
     flip_bits, flip_bits_in_vec, move_bits_in_vec, push_bit_in_vec, read_binary, read_bit,
     read_chunk, resize_words_in_vec, write_binary, write_bit, write_bit_in_vec, write_chunk,
 };
-use std::test::Fail;
 
 #[test]
 fn bits_of_words(rt: HostRuntime) {
     let mut words = [0x1234u16, 0xabcd];
-    assert!(rt; read_bit::<u16, Msb0>(&words, 3) && !read_bit::<u16, Lsb0>(&words, 3));
+    check(&rt, read_bit::<u16, Msb0>(&words, 3));
+    check(&rt, !read_bit::<u16, Lsb0>(&words, 3));
     write_bit::<u16, Msb0>(&mut words, 4, true);
-    assert!(rt; words == [0x1a34, 0xabcd]);
+    check(&rt, words == [0x1a34, 0xabcd]);
     fill_bits::<u16, Msb0>(&mut words, 12, 20, true);
-    assert!(rt; words == [0x1a3f, 0xfbcd]);
+    check(&rt, words == [0x1a3f, 0xfbcd]);
     flip_bits::<u16, Lsb0>(&mut words);
-    assert!(rt; words == [0xe5c0, 0x0432]);
+    check(&rt, words == [0xe5c0, 0x0432]);
 }
 
 #[test]
 fn runs_filled(rt: HostRuntime) {
     let mut long = [0u8; 4];
     fill_bits::<u8, Lsb0>(&mut long, 3, 29, true);
-    assert!(rt; long == [0xf8, 0xff, 0xff, 0x1f]);
+    check(&rt, long == [0xf8, 0xff, 0xff, 0x1f]);
     fill_bits::<u8, Xor4>(&mut long, 8, 16, false);
-    assert!(rt; long == [0xf8, 0x00, 0xff, 0x1f]);
+    check(&rt, long == [0xf8, 0x00, 0xff, 0x1f]);
 }
 
 #[test]
 fn runs_copied(rt: HostRuntime) {
     let mut target = [0u8; 3];
     copy_bits::<u8, Lsb0, u8, Lsb0>(&mut target, 3, &[0xff, 0x5a, 0xff], 3, 15);
-    assert!(rt; target == [0xf8, 0x5a, 0x03]);
+    check(&rt, target == [0xf8, 0x5a, 0x03]);
     copy_bits::<u8, Lsb0, u8, Lsb0>(&mut target, 0, &[0x70, 0x00], 4, 4);
-    assert!(rt; target == [0xf7, 0x5a, 0x03]);
+    check(&rt, target == [0xf7, 0x5a, 0x03]);
 }
 
 #[test]
 fn runs_copied_between_orders(rt: HostRuntime) {
     let mut one = [0u16];
     copy_bits::<u16, Msb0, u8, Lsb0>(&mut one, 0, &[0xff, 0x00], 0, 16);
-    assert!(rt; one == [0xff00]);
+    check(&rt, one == [0xff00]);
     let mut wide = [0u64, 0];
     copy_bits::<u64, Msb0, u64, Msb0>(&mut wide, 4, &[0x8000_0000_0000_0001u64, 1], 0, 124);
-    assert!(rt; wide == [0x0800_0000_0000_0000, 0x1000_0000_0000_0000]);
+    check(&rt, wide == [0x0800_0000_0000_0000, 0x1000_0000_0000_0000]);
 }
 
 #[test]
-fn runs_appended(rt: HostRuntime) -> Result<(), Fail> {
-    let mut words = vec![in rt.alloc(); 0x05u8]?;
+fn runs_appended(rt: HostRuntime) {
+    let mut words = ok(&rt, vec![in rt.alloc(); 0x05u8]);
+    assert!(rt; words.len() == 1);
     cut_words_in_vec::<u8, Lsb0>(&mut words, 3);
-    append_run_in_vec::<u8, Lsb0>(&mut words, 3, 18, true)?;
-    assert_eq!(rt; words.as_slice(), [0xfd, 0xff, 0x03].as_slice());
-    Ok(())
+    ok(&rt, append_run_in_vec::<u8, Lsb0>(&mut words, 3, 18, true));
+    check(&rt, words.as_slice() == [0xfd, 0xff, 0x03].as_slice());
 }
 
 #[test]
-fn words_of_a_vector(rt: HostRuntime) -> Result<(), Fail> {
-    let mut words = vec![in rt.alloc(); 0xffu8]?;
-    resize_words_in_vec::<u8, Lsb0>(&mut words, 9)?;
-    assert!(rt; words.as_slice() == [0xff, 0x00].as_slice());
+fn words_of_a_vector(rt: HostRuntime) {
+    let mut words = ok(&rt, vec![in rt.alloc(); 0xffu8]);
+    ok(&rt, resize_words_in_vec::<u8, Lsb0>(&mut words, 9));
+    check(&rt, words.as_slice() == [0xff, 0x00].as_slice());
     assert!(rt; words.len() == 2);
     write_bit_in_vec::<u8, Lsb0>(&mut words, 0, false);
     fill_bits_in_vec::<u8, Lsb0>(&mut words, 6, 10, true);
-    assert!(rt; words.as_slice() == [0xfe, 0x03].as_slice());
-    Ok(())
+    check(&rt, words.as_slice() == [0xfe, 0x03].as_slice());
 }
 
 #[test]
-fn runs_of_a_vector(rt: HostRuntime) -> Result<(), Fail> {
-    let mut words = vec![in rt.alloc(); 0xfeu8, 0x03]?;
+fn runs_of_a_vector(rt: HostRuntime) {
+    let mut words = ok(&rt, vec![in rt.alloc(); 0xfeu8, 0x03]);
     assert!(rt; words.len() == 2);
     flip_bits_in_vec::<u8, Lsb0>(&mut words);
     copy_bits_in_vec::<u8, Lsb0, u16, Msb0>(&mut words, 4, &[0xf000], 0, 4);
-    assert!(rt; words.as_slice() == [0xf1, 0xfc].as_slice());
+    check(&rt, words.as_slice() == [0xf1, 0xfc].as_slice());
     assert!(rt; words.len() == 2);
     move_bits_in_vec::<u8, Lsb0>(&mut words, 4, 0, 8);
-    assert!(rt; words.as_slice() == [0xcf, 0xfc].as_slice());
-    Ok(())
+    check(&rt, words.as_slice() == [0xcf, 0xfc].as_slice());
 }
 
 #[test]
-fn words_cut_and_pushed(rt: HostRuntime) -> Result<(), Fail> {
-    let mut words = vec![in rt.alloc(); 0xcfu8, 0xfc]?;
+fn words_cut_and_pushed(rt: HostRuntime) {
+    let mut words = ok(&rt, vec![in rt.alloc(); 0xcfu8, 0xfc]);
     assert!(rt; words.len() == 2);
     cut_words_in_vec::<u8, Lsb0>(&mut words, 8);
-    assert!(rt; words.as_slice() == [0xcf].as_slice());
+    check(&rt, words.as_slice() == [0xcf].as_slice());
     assert!(rt; words.len() == 1);
-    push_bit_in_vec::<u8, Lsb0>(&mut words, 8, true)?;
-    assert!(rt; words.as_slice() == [0xcf, 0x01].as_slice());
-    Ok(())
+    ok(&rt, push_bit_in_vec::<u8, Lsb0>(&mut words, 8, true));
+    check(&rt, words.as_slice() == [0xcf, 0x01].as_slice());
 }
 
 #[test]
 fn chunks_read(rt: HostRuntime) {
     let words = [0x1234u16, 0xabcd, 0x0ff0];
-    assert!(rt; read_chunk::<u16, Lsb0>(&words, 4, 20) == 0xcd123);
-    assert!(rt; read_chunk::<u8, Msb0>(&[0x80u8, 0x01], 0, 16) == 0x8001);
-    assert!(rt; read_chunk::<u8, Msb0>(&[0x80u8, 0x01], 7, 0) == 0);
+    check(&rt, read_chunk::<u16, Lsb0>(&words, 4, 20) == 0xcd123);
+    check(
+        &rt,
+        read_chunk::<u8, Msb0>(&[0x80u8, 0x01], 0, 16) == 0x8001,
+    );
+    check(&rt, read_chunk::<u8, Msb0>(&[0x80u8, 0x01], 7, 0) == 0);
 }
 
 #[test]
 fn bits_counted_and_found(rt: HostRuntime) {
     let words = [0x1234u16, 0xabcd, 0x0ff0];
-    assert!(rt; count_bits::<u16, Scramble>(&words, 0, 48) == 23);
-    assert!(rt; count_bits::<u16, Lsb0>(&words, 3, 20) == 7);
-    assert!(rt; find_bit::<u16, Lsb0>(&words, 0, 48, true) == Some(2));
-    assert!(rt; find_bit::<u16, Msb0>(&words, 36, 48, false) == Some(8));
-    assert!(rt; find_bit::<u16, Lsb0>(&words, 44, 48, true).is_none());
+    check(&rt, count_bits::<u16, Scramble>(&words, 0, 48) == 23);
+    check(&rt, count_bits::<u16, Lsb0>(&words, 3, 20) == 7);
+    check(&rt, find_bit::<u16, Lsb0>(&words, 0, 48, true) == Some(2));
+    check(&rt, find_bit::<u16, Msb0>(&words, 36, 48, false) == Some(8));
+    check(&rt, find_bit::<u16, Lsb0>(&words, 44, 48, true).is_none());
 }
 
 #[test]
@@ -117,31 +118,37 @@ fn rows_compared_and_combined(rt: HostRuntime) {
     let words = [0x1234u16, 0xabcd, 0x0ff0];
     let same = [0x34u8, 0x12, 0xcd, 0xab, 0xf0, 0x0f];
     let other = [0x34u8, 0x12, 0xcd, 0xab, 0xf0, 0x0e];
-    assert!(rt; differ_at::<u16, Lsb0, u8, Lsb0>(&words, 0, &same, 0, 48).is_none());
-    assert!(rt; differ_at::<u16, Lsb0, u8, Lsb0>(&words, 0, &other, 0, 48) == Some(40));
+    check(
+        &rt,
+        differ_at::<u16, Lsb0, u8, Lsb0>(&words, 0, &same, 0, 48).is_none(),
+    );
+    check(
+        &rt,
+        differ_at::<u16, Lsb0, u8, Lsb0>(&words, 0, &other, 0, 48) == Some(40),
+    );
     let mut target = [0xffffu16, 0xffff];
     combine_bits::<And, u16, Lsb0, u8, Lsb0>(&mut target, 4, &same, 0, 16);
-    assert!(rt; target == [0x234f, 0xfff1]);
+    check(&rt, target == [0x234f, 0xfff1]);
 }
 
 #[test]
 fn chunks_written(rt: HostRuntime) {
     let mut bytes = [0u8; 3];
     write_chunk::<u8, Msb0>(&mut bytes, 6, 12, 0xfd);
-    assert!(rt; bytes == [0x02, 0xfc, 0x00]);
-    assert!(rt; read_chunk::<u8, Msb0>(&bytes, 6, 12) == 0xfd);
+    check(&rt, bytes == [0x02, 0xfc, 0x00]);
+    check(&rt, read_chunk::<u8, Msb0>(&bytes, 6, 12) == 0xfd);
 }
 
 #[test]
 fn binary_numbers(rt: HostRuntime) {
     let mut bytes = [0u8; 3];
     write_binary::<u8, Msb0>(&mut bytes, 6, 12, 0xfd);
-    assert!(rt; bytes == [0x00, 0x3f, 0x40]);
-    assert!(rt; read_binary::<u8, Msb0>(&bytes, 6, 12) == 0xfd);
+    check(&rt, bytes == [0x00, 0x3f, 0x40]);
+    check(&rt, read_binary::<u8, Msb0>(&bytes, 6, 12) == 0xfd);
     let mut word = [0u16];
     write_binary::<u16, Lsb0>(&mut word, 3, 3, 6);
-    assert!(rt; word == [0x18]);
-    assert!(rt; read_binary::<u16, Lsb0>(&word, 3, 3) == 6);
+    check(&rt, word == [0x18]);
+    check(&rt, read_binary::<u16, Lsb0>(&word, 3, 3) == 6);
 }
 
 #[test]
@@ -149,49 +156,74 @@ fn wide_words_taken_apart(rt: HostRuntime) {
     let source = [0x0123_4567_89ab_cdef_u64, 0xfedc_ba98_7654_3210, 0xff];
     let mut bytes = [0_u8; 17];
     copy_bits::<u8, Msb0, u64, Msb0>(&mut bytes, 0, &source, 0, 128);
-    assert!(rt;
+    check(
+        &rt,
         bytes
             == [
                 0x01, 0x23, 0x45, 0x67, 0x89, 0xab, 0xcd, 0xef, 0xfe, 0xdc, 0xba, 0x98, 0x76, 0x54,
-                0x32, 0x10, 0
-            ]
+                0x32, 0x10, 0,
+            ],
     );
     copy_bits::<u8, Msb0, u64, Lsb0>(&mut bytes, 0, &source, 0, 128);
-    assert!(rt;
+    check(
+        &rt,
         bytes
             == [
                 0xf7, 0xb3, 0xd5, 0x91, 0xe6, 0xa2, 0xc4, 0x80, 0x08, 0x4c, 0x2a, 0x6e, 0x19, 0x5d,
-                0x3b, 0x7f, 0
-            ]
+                0x3b, 0x7f, 0,
+            ],
     );
 }
 
 #[test]
 fn blocks_of_false(rt: HostRuntime) {
     let (low, mut high) = ([0x0f_u8; 256], [0xf0_u8; 256]);
-    assert!(rt; false_blocks::<And, u8, Msb0, u8, Msb0>(&low, 0, &high, 0, 2048) == 32);
-    assert!(rt; false_blocks::<Or, u8, Msb0, u8, Msb0>(&low, 0, &high, 0, 2048) == 0);
+    check(
+        &rt,
+        false_blocks::<And, u8, Msb0, u8, Msb0>(&low, 0, &high, 0, 2048) == 32,
+    );
+    check(
+        &rt,
+        false_blocks::<Or, u8, Msb0, u8, Msb0>(&low, 0, &high, 0, 2048) == 0,
+    );
     high[200] = 0xff;
-    assert!(rt; false_blocks::<And, u8, Msb0, u8, Msb0>(&low, 0, &high, 0, 2048) == 16);
+    check(
+        &rt,
+        false_blocks::<And, u8, Msb0, u8, Msb0>(&low, 0, &high, 0, 2048) == 16,
+    );
 }
 
 #[test]
 fn blocks_counted(rt: HostRuntime) {
     let low = [0x0f_u8; 256];
     let (blocks, ones) = count_blocks::<Or, u8, Msb0, u8, Msb0>(&low, 0, &low, 0, 2048);
-    assert!(rt; blocks == 32 && ones == 1024);
+    check(&rt, blocks == 32);
+    check(&rt, ones == 1024);
     let (blocks, ones) = count_blocks::<Or, u8, Msb0, u8, Msb0>(&low, 1, &low, 0, 1024);
-    assert!(rt; blocks == 0 && ones == 0);
+    check(&rt, blocks == 0);
+    check(&rt, ones == 0);
 }
 
 #[test]
 fn long_rows_compared(rt: HostRuntime) {
     let (low, mut high) = ([0x0f_u8; 256], [0xf0_u8; 256]);
-    assert!(rt; differ_at::<u8, Msb0, u8, Msb0>(&low, 0, &high, 0, 2044) == Some(0));
+    check(
+        &rt,
+        differ_at::<u8, Msb0, u8, Msb0>(&low, 0, &high, 0, 2044) == Some(0),
+    );
     high[200] = 0xff;
     let same = high;
-    assert!(rt; differ_at::<u8, Msb0, u8, Msb0>(&same, 8, &high, 8, 2036).is_none());
+    check(
+        &rt,
+        differ_at::<u8, Msb0, u8, Msb0>(&same, 8, &high, 8, 2036).is_none(),
+    );
     high[255] = 0xe0;
-    assert!(rt; differ_at::<u8, Msb0, u8, Msb0>(&same, 8, &high, 8, 2036) == Some(2035));
-    assert!(rt; differ_at::<u8, Msb0, u8, Msb0>(&same, 8, &high, 8, 2035).is_none());
+    check(
+        &rt,
+        differ_at::<u8, Msb0, u8, Msb0>(&same, 8, &high, 8, 2036) == Some(2035),
+    );
+    check(
+        &rt,
+        differ_at::<u8, Msb0, u8, Msb0>(&same, 8, &high, 8, 2035).is_none(),
+    );
 }

@@ -1,6 +1,7 @@
 //! Moves, whose reads and writes contracts count.
 ghost use Rattle.std.specs.Prelude.{◌≡◌, ◌+◌, ◌*◌, ◌≤◌, length};
 
+use crate::common::check;
 use crate::rows::orders::Xor4;
 use bit_addressing::{BitOrder, BitStore, Lsb0, Msb0, WordRead, WordRow, move_bits};
 
@@ -81,56 +82,56 @@ fn move_by_a_users_order(row: &mut WordRow<u8>)
 fn counted_moves(rt: HostRuntime) {
     let mut words = [0xb1, 0x6d];
     move_up(&mut WordRow::new(&mut words));
-    assert!(rt; words == [0xc1, 0x76]);
+    check(&rt, words == [0xc1, 0x76]);
     let mut words = [0xb1, 0x6d];
     move_down(&mut WordRow::new(&mut words));
-    assert!(rt; words == [0x6d, 0x6b]);
+    check(&rt, words == [0x6d, 0x6b]);
 }
 
 #[test]
 fn counted_moves_by_other_orders(rt: HostRuntime) {
     let mut words = [0xb1, 0x6d];
     move_up_from_the_highest_place(&mut WordRow::new(&mut words));
-    assert!(rt; words == [0xac, 0x59]);
+    check(&rt, words == [0xac, 0x59]);
     let mut words = [0xb1, 0x6d];
     move_down_from_the_highest_place(&mut WordRow::new(&mut words));
-    assert!(rt; words == [0xc5, 0xbd]);
+    check(&rt, words == [0xc5, 0xbd]);
     let mut words = [0xb1, 0x6d];
     move_by_a_users_order(&mut WordRow::new(&mut words));
-    assert!(rt; words == [0xb6, 0x8d]);
+    check(&rt, words == [0xb6, 0x8d]);
 }
 
 #[test]
 fn counted_moves_in_one_word(rt: HostRuntime) {
     let mut words = [0x07];
     move_in_one_word(&mut WordRow::new(&mut words));
-    assert!(rt; words == [0xe7]);
+    check(&rt, words == [0xe7]);
     let mut words = [0x07];
     move_nothing(&mut WordRow::new(&mut words));
-    assert!(rt; words == [0x07]);
+    check(&rt, words == [0x07]);
 }
 
 #[test]
 fn counted_moves_of_whole_words(rt: HostRuntime) {
     let mut words = [0x01, 0x80, 0xff];
     move_over_three_words(&mut WordRow::new(&mut words));
-    assert!(rt; words == [0x11, 0x00, 0xf8]);
+    check(&rt, words == [0x11, 0x00, 0xf8]);
     let mut words = [0x1234, 0xabcd];
     move_into_a_whole_word(&mut WordRow::new(&mut words));
-    assert!(rt; words == [0xcd12, 0xabcd]);
+    check(&rt, words == [0xcd12, 0xabcd]);
 }
 
 #[test]
 fn moves_of_words(rt: HostRuntime) {
     let mut words = [0xb1u8, 0x6d];
     move_bits::<u8, Lsb0>(&mut words, 1, 3, 11);
-    assert_eq!(rt; words, [0xc1, 0x76]);
+    check(&rt, words == [0xc1, 0x76]);
     let mut words = [0x07u8];
     let mut row = WordRow::new(&mut words);
-    assert_eq!(rt; row.row_len(), 8);
+    check(&rt, row.row_len() == 8);
     let word = row.load(0);
     row.store(0, word.not());
-    assert_eq!(rt; words, [0xf8]);
+    check(&rt, words == [0xf8]);
 }
 
 // Two words are read in three loads.
@@ -146,5 +147,5 @@ fn read_thrice(words: &mut WordRead<u8>) -> u8
 #[test]
 fn counted_reads(rt: HostRuntime) {
     let mut words = WordRead::new(&[0xb1, 0x6d]);
-    assert_eq!(rt; read_thrice(&mut words), 0x6d);
+    check(&rt, read_thrice(&mut words) == 0x6d);
 }

@@ -2,6 +2,7 @@
 ghost use Rattle.std.specs.Prelude.{◌+◌, ◌*◌, ◌%◌, bit_xor, refl};
 ghost use Rattle.bit_addressing.specs.Order.{lawful_by_test};
 
+use crate::common::check;
 use bit_addressing::{BitEnd, BitIdx, BitOrder, BitPos, BitStore, Lsb0, Msb0};
 use std::process::Abort;
 
@@ -31,42 +32,40 @@ impl BitOrder for Scramble {
     }
 }
 
-fn mask_of<T: BitStore, O: BitOrder>(rt: &impl Abort, from: u8, upto: u8) -> T {
+/// That the mask of the bits from `from` to `upto` is this number.
+fn masks<T: BitStore, O: BitOrder>(rt: &impl Abort, from: u8, upto: u8, want: u64) {
     assert!(rt; from <= upto && from < T::BITS && upto <= T::BITS);
-    O::mask(BitIdx::new_unchecked(from), BitEnd::new_unchecked(upto))
+    let mask: T = O::mask(BitIdx::new_unchecked(from), BitEnd::new_unchecked(upto));
+    check(rt, mask.to_u64() == want);
 }
 
 #[test]
-fn masks(rt: HostRuntime) {
-    assert_eq!(rt; mask_of::<u8, Lsb0>(&rt, 2, 5), 0x1c);
-    assert_eq!(rt; mask_of::<u8, Msb0>(&rt, 2, 5), 0x38);
-    assert_eq!(rt; mask_of::<u8, Xor4>(&rt, 2, 5), 0xc1);
-    assert_eq!(rt; mask_of::<u8, Scramble>(&rt, 0, 2), 0x09);
-    for mask in [
-        mask_of::<u8, Lsb0>(&rt, 0, 8),
-        mask_of::<u8, Msb0>(&rt, 0, 8),
-        mask_of::<u8, Scramble>(&rt, 0, 8),
-    ] {
-        assert_eq!(rt; mask, 0xff);
-    }
-    for mask in [
-        mask_of::<u8, Lsb0>(&rt, 3, 3),
-        mask_of::<u8, Msb0>(&rt, 3, 3),
-        mask_of::<u8, Xor4>(&rt, 3, 3),
-    ] {
-        assert_eq!(rt; mask, 0);
-    }
-    assert_eq!(rt; mask_of::<u16, Msb0>(&rt, 4, 16), 0x0fff);
-    assert_eq!(rt; mask_of::<u32, Lsb0>(&rt, 4, 32), 0xffff_fff0);
-    assert_eq!(rt; mask_of::<u64, Msb0>(&rt, 63, 64), 1);
-    assert_eq!(rt; mask_of::<usize, Lsb0>(&rt, 0, 64), usize::MAX);
+fn masks_of_bytes(rt: HostRuntime) {
+    masks::<u8, Lsb0>(&rt, 2, 5, 0x1c);
+    masks::<u8, Msb0>(&rt, 2, 5, 0x38);
+    masks::<u8, Xor4>(&rt, 2, 5, 0xc1);
+    masks::<u8, Scramble>(&rt, 0, 2, 0x09);
+    masks::<u8, Lsb0>(&rt, 0, 8, 0xff);
+    masks::<u8, Msb0>(&rt, 0, 8, 0xff);
+    masks::<u8, Scramble>(&rt, 0, 8, 0xff);
+    masks::<u8, Lsb0>(&rt, 3, 3, 0);
+    masks::<u8, Msb0>(&rt, 3, 3, 0);
+    masks::<u8, Xor4>(&rt, 3, 3, 0);
+}
+
+#[test]
+fn masks_of_wider_words(rt: HostRuntime) {
+    masks::<u16, Msb0>(&rt, 4, 16, 0x0fff);
+    masks::<u32, Lsb0>(&rt, 4, 32, 0xffff_fff0);
+    masks::<u64, Msb0>(&rt, 63, 64, 1);
+    masks::<usize, Lsb0>(&rt, 0, 64, 0xffff_ffff_ffff_ffff);
 }
 
 fn places<T: BitStore, O: BitOrder>(rt: &impl Abort, first: u8, last: u8) {
     let ends = [(0, first), (T::BITS - 1, last)];
     for (index, place) in ends {
         let index = BitIdx::<T>::new(index);
-        assert!(rt; index.map(|i| O::at(i).into_inner()) == Some(place));
+        check(rt, index.map(|i| O::at(i).into_inner()) == Some(place));
     }
 }
 
@@ -88,29 +87,28 @@ fn orders(rt: HostRuntime) {
 
 #[test]
 fn indices(rt: HostRuntime) {
-    assert!(rt; BitIdx::<u8>::new(7).map(|i| i.into_inner()) == Some(7));
-    assert!(rt; BitIdx::<u8>::new(8).is_none());
-    assert!(rt; BitEnd::<u8>::new(8).map(|e| e.into_inner()) == Some(8));
-    assert!(rt; BitEnd::<u8>::new(9).is_none());
-    assert!(rt; BitPos::<u64>::new(63).map(|p| p.into_inner()) == Some(63));
-    assert!(rt; BitPos::<u64>::new(64).is_none());
-    assert!(rt; BitIdx::<u8>::new(3) < BitIdx::<u8>::new(4));
-    assert!(rt;
-        BitEnd::<u8>::new(3) < BitEnd::<u8>::new(4) && BitPos::<u8>::new(3) < BitPos::<u8>::new(4)
+    check(&rt, BitIdx::<u8>::new(7).map(|i| i.into_inner()) == Some(7));
+    check(&rt, BitIdx::<u8>::new(8).is_none());
+    check(&rt, BitEnd::<u8>::new(8).map(|e| e.into_inner()) == Some(8));
+    check(&rt, BitEnd::<u8>::new(9).is_none());
+    check(
+        &rt,
+        BitPos::<u64>::new(63).map(|p| p.into_inner()) == Some(63),
     );
-    assert!(rt;
-        BitIdx::<u8>::new(3) == BitIdx::<u8>::new(3) && BitEnd::<u8>::new(8) != BitEnd::<u8>::new(7)
-    );
-    assert!(rt;
-        BitPos::<u16>::new(9) == BitPos::<u16>::new(9)
-            && BitPos::<u16>::new(9) != BitPos::<u16>::new(8)
-    );
+    check(&rt, BitPos::<u64>::new(64).is_none());
+    check(&rt, BitIdx::<u8>::new(3) < BitIdx::<u8>::new(4));
+    check(&rt, BitEnd::<u8>::new(3) < BitEnd::<u8>::new(4));
+    check(&rt, BitPos::<u8>::new(3) < BitPos::<u8>::new(4));
+    check(&rt, BitIdx::<u8>::new(3) == BitIdx::<u8>::new(3));
+    check(&rt, BitEnd::<u8>::new(8) != BitEnd::<u8>::new(7));
+    check(&rt, BitPos::<u16>::new(9) == BitPos::<u16>::new(9));
+    check(&rt, BitPos::<u16>::new(9) != BitPos::<u16>::new(8));
 }
 
 #[test]
 fn fronts(rt: HostRuntime) {
-    assert_eq!(rt; Lsb0::front::<u8, u32>(0x1234_5678), 0x78);
-    assert_eq!(rt; Msb0::front::<u8, u32>(0x1234_5678), 0x12);
-    assert_eq!(rt; Msb0::front::<u64, u64>(7), 7);
-    assert_eq!(rt; Xor4::front::<u8, u16>(0xabcd), 0xcd);
+    check(&rt, Lsb0::front::<u8, u32>(0x1234_5678) == 0x78);
+    check(&rt, Msb0::front::<u8, u32>(0x1234_5678) == 0x12);
+    check(&rt, Msb0::front::<u64, u64>(7) == 7);
+    check(&rt, Xor4::front::<u8, u16>(0xabcd) == 0xcd);
 }

@@ -1,4 +1,5 @@
 //! Runs of commands.
+use crate::common::check;
 use bit_containers::{BitOrder, BitStore, BitVec, Command, GrowError, Msb0, Reply, run};
 use std::process::Abort;
 
@@ -10,8 +11,8 @@ fn results<T: BitStore, O: BitOrder>(
     want: &[Reply],
 ) {
     let mut replies = Vec::new(rt.alloc());
-    assert!(rt; run(v, commands, &mut replies).is_ok());
-    assert_eq!(rt; replies.as_slice(), want);
+    check(rt, run(v, commands, &mut replies).is_ok());
+    check(rt, replies.as_slice() == want);
 }
 
 #[test]
@@ -48,7 +49,7 @@ fn runs_of_commands(rt: HostRuntime) {
         Reply::Nothing,
     ];
     results(&rt, &mut v, &commands, &want);
-    assert!(rt; v.is_empty());
+    check(&rt, v.is_empty());
     results(&rt, &mut v, &[], &[]);
-    assert_ne!(rt; GrowError::TooLong, GrowError::OutOfMemory);
+    check(&rt, GrowError::TooLong != GrowError::OutOfMemory);
 }

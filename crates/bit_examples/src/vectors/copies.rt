@@ -1,5 +1,5 @@
 //! Copies of views and of vectors.
-use crate::found::ok;
+use crate::common::{check, ok};
 use crate::vectors::{holds, shows};
 use bit_containers::{BitSlice, BitVec, Lsb0};
 use std::process::Abort;
@@ -11,10 +11,10 @@ fn copy_of_a_vector(rt: HostRuntime) {
     let view = BitSlice::<u8, Lsb0>::from_slice(&words).get_range(3..11);
     let v = ok(&rt, BitVec::from_bitslice_headed(rt.alloc(), view));
     shows(&rt, &v, &[0xa8, 0x07]);
-    assert!(rt; v.head() == 3);
+    check(&rt, v.head() == 3);
     let copy = ok(&rt, v.clone());
     shows(&rt, &copy, &[0xf5]);
-    assert!(rt; copy.head() == 0);
+    check(&rt, copy.head() == 0);
     holds(&rt, &copy, b"10101111");
 }
 
@@ -24,7 +24,7 @@ fn copy_of_a_view(rt: HostRuntime) {
     let view = BitSlice::<u8, Lsb0>::from_slice(&words).get_range(3..13);
     let copy = ok(&rt, BitVec::from_bitslice(rt.alloc(), view));
     shows(&rt, &copy, &[0xf5, 0x03]);
-    assert!(rt; copy.head() == 0);
+    check(&rt, copy.head() == 0);
 }
 
 #[test]
@@ -35,7 +35,8 @@ fn aligned_after_copying(rt: HostRuntime) {
     shows(&rt, &v, &[0xa8, 0x1f]);
     v.force_align();
     shows(&rt, &v, &[0xf5, 0x1f]);
-    assert!(rt; v.head() == 0 && v.len() == 10);
+    check(&rt, v.head() == 0);
+    check(&rt, v.len() == 10);
 }
 
 /// No bit at a head of 5, in a word of its own.
@@ -61,5 +62,6 @@ fn bits_after_a_head(rt: HostRuntime) {
     shows(&rt, &v, &[0x20]);
     let mut v = empty_after_a_head(&rt);
     v.force_align();
-    assert!(rt; v.as_raw_slice().is_empty() && v.head() == 0);
+    check(&rt, v.as_raw_slice().is_empty());
+    check(&rt, v.head() == 0);
 }

@@ -1,5 +1,5 @@
 //! Bits put in and taken out.
-use crate::found::ok;
+use crate::common::{check, ok};
 use crate::vectors::{holds, of};
 use bit_containers::{BitOrder, BitStore, Lsb0, Msb0};
 use std::process::Abort;
@@ -7,13 +7,13 @@ use std::process::Abort;
 fn edits<T: BitStore, O: BitOrder>(rt: &(impl Abort + AllocGlobal)) {
     let mut v = of::<T, O>(rt, b"01001");
     assert!(rt; v.len() == 5);
-    assert!(rt; !v.swap_remove(2));
+    check(rt, !v.swap_remove(2));
     holds(rt, &v, b"0110");
     assert!(rt; v.len() == 4);
     ok(rt, v.insert(2, false));
     holds(rt, &v, b"01010");
     assert!(rt; v.len() == 5);
-    assert!(rt; v.remove(3));
+    check(rt, v.remove(3));
     holds(rt, &v, b"0100");
 }
 

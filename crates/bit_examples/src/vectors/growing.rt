@@ -1,5 +1,5 @@
 //! Making and growing.
-use crate::found::ok;
+use crate::common::{check, ok};
 use crate::vectors::{holds, of, shows};
 use bit_containers::{BitSlice, BitVec, Lsb0, Msb0};
 
@@ -27,7 +27,7 @@ fn pulled(rt: HostRuntime) {
     let view = BitSlice::<u8, Lsb0>::from_slice(&words);
     ok(&rt, v.extend_from_bitslice(view.get_range(..4)));
     shows(&rt, &v, &[0x43, 0xc0]);
-    assert!(rt; v.len() == 10);
+    check(&rt, v.len() == 10);
 }
 
 #[test]
@@ -35,7 +35,7 @@ fn words_pulled(rt: HostRuntime) {
     let mut v = of::<u8, Lsb0>(&rt, b"1");
     ok(&rt, v.extend_words([3]));
     shows(&rt, &v, &[0x07, 0x00]);
-    assert!(rt; v.len() == 9);
+    check(&rt, v.len() == 9);
 }
 
 #[test]
@@ -53,8 +53,9 @@ fn appended(rt: HostRuntime) {
     let mut other = ok(&rt, BitVec::<u32, Lsb0>::repeat(rt.alloc(), true, 10));
     ok(&rt, v.append(&mut other));
     shows(&rt, &v, &[0x003f, 0xf000]);
-    assert_eq!(rt; v.len(), 20);
-    assert!(rt; other.is_empty() && other.as_raw_slice().is_empty());
+    check(&rt, v.len() == 20);
+    check(&rt, other.is_empty());
+    check(&rt, other.as_raw_slice().is_empty());
 }
 
 /// A vector with a head that shows a word has room in it.
@@ -64,7 +65,8 @@ fn room_after_a_head(rt: HostRuntime) {
     let view = BitSlice::<u8, Lsb0>::from_slice(&words).get_range(5..5);
     let mut v = ok(&rt, BitVec::from_bitslice_headed(rt.alloc(), view));
     shows(&rt, &v, &[0x00]);
-    assert!(rt; v.head() == 5 && v.is_empty());
+    check(&rt, v.head() == 5);
+    check(&rt, v.is_empty());
     ok(&rt, v.reserve(3));
     for _ in 0..3 {
         ok(&rt, v.push(true));
@@ -79,7 +81,8 @@ fn room_at_head_0(rt: HostRuntime) {
     let words = [0xff];
     let view = BitSlice::<u8, Lsb0>::from_slice(&words).get_range(5..5);
     let mut v = ok(&rt, BitVec::from_bitslice(rt.alloc(), view));
-    assert!(rt; v.head() == 0 && v.as_raw_slice().is_empty());
+    check(&rt, v.head() == 0);
+    check(&rt, v.as_raw_slice().is_empty());
     ok(&rt, v.reserve(3));
     ok(&rt, v.extend([true; 3]));
     shows(&rt, &v, &[0x07]);

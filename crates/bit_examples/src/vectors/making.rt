@@ -1,5 +1,5 @@
 //! Vectors made of views, of bytes, of indices and of text.
-use crate::found::ok;
+use crate::common::{check, ok};
 use crate::vectors::{holds, of, shows};
 use bit_containers::boxed::BitBox;
 use bit_containers::{BitSlice, BitVec, FromBits, Lsb0, Msb0, ParseBitsError, ToBits, ToBytes};
@@ -40,16 +40,16 @@ fn bytes_there_and_back(rt: HostRuntime) {
     holds(&rt, &v, b"1010000000000001");
     shows(&rt, &v, &[0x8005]);
     let back = ok(&rt, v.to_bytes::<Msb0>(rt.alloc()));
-    assert!(rt; back.as_slice() == bytes.as_slice());
+    check(&rt, back.as_slice() == bytes.as_slice());
 }
 
 #[test]
 fn bytes_of_a_part(rt: HostRuntime) {
     let v = of::<u64, Lsb0>(&rt, b"1010000011");
     let short = ok(&rt, v.to_bytes::<Msb0>(rt.alloc()));
-    assert!(rt; short.as_slice() == [0xa0, 0xc0].as_slice());
+    check(&rt, short.as_slice() == [0xa0, 0xc0].as_slice());
     let short = ok(&rt, v.to_bytes::<Lsb0>(rt.alloc()));
-    assert!(rt; short.as_slice() == [0x05, 0x03].as_slice());
+    check(&rt, short.as_slice() == [0x05, 0x03].as_slice());
 }
 
 #[test]
@@ -71,8 +71,9 @@ fn copied_out_of_a_view(rt: HostRuntime) {
     let v = ok(&rt, view.to_bitvec(rt.alloc()));
     shows(&rt, &v, &[0xf5]);
     let b = ok(&rt, view.to_bitbox(rt.alloc()));
-    assert!(rt; b.len() == 8 && b.head() == 0);
-    assert!(rt; b.eq_bits(v.as_bitslice()));
+    check(&rt, b.len() == 8);
+    check(&rt, b.head() == 0);
+    check(&rt, b.eq_bits(v.as_bitslice()));
 }
 
 #[test]
@@ -84,7 +85,7 @@ fn read_from_text(rt: HostRuntime) {
     holds(&rt, &v, b"101");
     for empty in ["[]", ""] {
         let v = ok(&rt, BitVec::<u8, Lsb0>::from_text(rt.alloc(), empty));
-        assert!(rt; v.is_empty());
+        check(&rt, v.is_empty());
     }
 }
 
@@ -102,7 +103,10 @@ fn wrong_texts(rt: HostRuntime) {
     ];
     for (text, at) in wrong {
         let outcome = BitVec::<u8, Lsb0>::from_text(rt.alloc(), text);
-        assert!(rt; outcome.is_err_and(|why| why == ParseBitsError::Wrong(at)));
+        check(
+            &rt,
+            outcome.is_err_and(|why| why == ParseBitsError::Wrong(at)),
+        );
     }
 }
 
@@ -114,12 +118,12 @@ fn boxes_made_of_bytes(rt: HostRuntime) {
         &rt,
         BitBox::<u16, Lsb0>::from_bytes::<Msb0>(rt.alloc(), &bytes),
     );
-    assert!(rt; b.as_raw_slice() == [0x8005].as_slice());
+    check(&rt, b.as_raw_slice() == [0x8005].as_slice());
     assert!(rt; b.len() == 16);
     let back = ok(&rt, b.to_bytes::<Msb0>(rt.alloc()));
-    assert!(rt; back.as_slice() == bytes.as_slice());
+    check(&rt, back.as_slice() == bytes.as_slice());
     let part = ok(&rt, b.get_range(0..3).to_bytes::<Lsb0>(rt.alloc()));
-    assert!(rt; part.as_slice() == [0x05].as_slice());
+    check(&rt, part.as_slice() == [0x05].as_slice());
 }
 
 #[test]
@@ -128,15 +132,18 @@ fn boxes_made_of_indices(rt: HostRuntime) {
         &rt,
         BitBox::<u8, Msb0>::from_indices(rt.alloc(), 5, &[3, 0]),
     );
-    assert!(rt; b.len() == 5);
-    assert!(rt; b.as_raw_slice() == [0x90].as_slice());
+    check(&rt, b.len() == 5);
+    check(&rt, b.as_raw_slice() == [0x90].as_slice());
 }
 
 #[test]
 fn boxes_read_from_text(rt: HostRuntime) {
     let b = ok(&rt, BitBox::<u8, Msb0>::from_text(rt.alloc(), "[0, 1, 1]"));
-    assert!(rt; b.len() == 3);
-    assert!(rt; b.as_raw_slice() == [0x60].as_slice());
+    check(&rt, b.len() == 3);
+    check(&rt, b.as_raw_slice() == [0x60].as_slice());
     let outcome = BitBox::<u8, Lsb0>::from_text(rt.alloc(), "012");
-    assert!(rt; outcome.is_err_and(|why| why == ParseBitsError::Wrong(2)));
+    check(
+        &rt,
+        outcome.is_err_and(|why| why == ParseBitsError::Wrong(2)),
+    );
 }

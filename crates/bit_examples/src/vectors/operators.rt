@@ -1,5 +1,5 @@
 //! Vectors combined, flipped, compared and hashed.
-use crate::found::ok;
+use crate::common::{check, ok};
 use crate::vectors::{holds, of, shows};
 use bit_containers::{BitSlice, BitVec, Lsb0, Msb0};
 use std::cmp::Ordering;
@@ -45,11 +45,12 @@ fn compared_at_another_head(rt: HostRuntime) {
     let view = BitSlice::<u8, Lsb0>::from_slice(&words).get_range(3..11);
     let mut headed = ok(&rt, BitVec::from_bitslice_headed(rt.alloc(), view));
     let aligned = ok(&rt, BitVec::<u8, Lsb0>::from_element(rt.alloc(), 0xf5));
-    assert!(rt; headed == aligned && headed.cmp(&aligned) == Ordering::Equal);
+    check(&rt, headed == aligned);
+    check(&rt, headed.cmp(&aligned) == Ordering::Equal);
     let (mut one, mut other) = (DefaultHasher::new(), DefaultHasher::new());
     headed.hash(&mut one);
     aligned.hash(&mut other);
-    assert!(rt; one.finish() == other.finish());
+    check(&rt, one.finish() == other.finish());
     headed.force_align();
     headed.set_uninitialized(false);
     shows(&rt, &headed, &[0xf5]);
@@ -59,13 +60,14 @@ fn compared_at_another_head(rt: HostRuntime) {
 fn compared_with_a_longer(rt: HostRuntime) {
     let short = of::<u8, Lsb0>(&rt, b"0");
     let long = of::<u8, Lsb0>(&rt, b"00");
-    assert!(rt; short.as_raw_slice() == long.as_raw_slice());
-    assert!(rt; short != long && short < long);
+    check(&rt, short.as_raw_slice() == long.as_raw_slice());
+    check(&rt, short != long);
+    check(&rt, short < long);
 }
 
 #[test]
 fn compared_by_the_first_bit(rt: HostRuntime) {
     let (low, high) = (of::<u8, Msb0>(&rt, b"01"), of(&rt, b"1"));
-    assert!(rt; low < high);
-    assert!(rt; high.partial_cmp(&low) == Some(Ordering::Greater));
+    check(&rt, low < high);
+    check(&rt, high.partial_cmp(&low) == Some(Ordering::Greater));
 }

@@ -1,5 +1,5 @@
 //! Bits taken out, and put in place of others.
-use crate::found::ok;
+use crate::common::{check, ok};
 use crate::vectors::{holds, of, shows};
 use bit_containers::{BitSlice, BitVec, Lsb0, Msb0};
 
@@ -9,8 +9,10 @@ fn drained(rt: HostRuntime) {
     assert!(rt; v.len() == 5);
     {
         let mut drain = v.drain(1..4);
-        assert!(rt; drain.next() == Some(true) && drain.next_back() == Some(true));
-        assert!(rt; drain.len() == 1 && drain.size_hint() == (1, Some(1)));
+        check(&rt, drain.next() == Some(true));
+        check(&rt, drain.next_back() == Some(true));
+        check(&rt, drain.len() == 1);
+        check(&rt, drain.size_hint() == (1, Some(1)));
     }
     holds(&rt, &v, b"00");
 }
@@ -21,7 +23,8 @@ fn drained_past_the_end(rt: HostRuntime) {
     assert!(rt; v.len() == 5);
     {
         let mut drain = v.drain(1..4);
-        assert!(rt; drain.nth(5).is_none() && drain.len() == 0);
+        check(&rt, drain.nth(5).is_none());
+        check(&rt, drain.len() == 0);
     }
     holds(&rt, &v, b"00");
 }
@@ -32,9 +35,10 @@ fn drain_seen(rt: HostRuntime) {
     let mut v = of::<u8, Msb0>(&rt, b"01110");
     assert!(rt; v.len() == 5);
     let drain = v.drain(1..4);
-    assert!(rt; drain.as_bitslice().len() == 3 && drain.as_slice().all());
+    check(&rt, drain.as_bitslice().len() == 3);
+    check(&rt, drain.as_slice().all());
     let text = ok(&rt, format!(in rt.alloc(); "{drain:?}"));
-    assert!(rt; text.as_str() == "Drain([1, 1, 1])");
+    check(&rt, text.as_str() == "Drain([1, 1, 1])");
 }
 
 #[test]
@@ -43,7 +47,7 @@ fn retained(rt: HostRuntime) {
     v.retain(|i, _| i % 2 == 0);
     holds(&rt, &v, b"001");
     let mut v = of::<u8, Lsb0>(&rt, b"001101010001010001010");
-    assert!(rt; v.pop() == Some(false));
+    check(&rt, v.pop() == Some(false));
     v.retain(|i, bit| *bit && i % 2 == 1);
     holds(&rt, &v, b"1111111");
 }
@@ -58,7 +62,7 @@ fn retained_by_a_count(rt: HostRuntime) {
         count % 2 == 0
     });
     holds(&rt, &v, b"11");
-    assert!(rt; count == 4);
+    check(&rt, count == 4);
 }
 
 #[test]
@@ -70,7 +74,7 @@ fn split(rt: HostRuntime) {
     holds(&rt, &rest, b"001");
     shows(&rt, &v, &[0x12]);
     shows(&rt, &rest, &[0x04]);
-    assert!(rt; rest.head() == 0);
+    check(&rt, rest.head() == 0);
 }
 
 #[test]
@@ -110,7 +114,8 @@ fn spliced_from_both_ends(rt: HostRuntime) {
     let mut v = of::<u8, Lsb0>(&rt, b"01110");
     assert!(rt; v.len() == 5);
     let mut splice = v.splice(1..4, ok(&rt, vec![in rt.alloc(); false, true, true, false]));
-    assert!(rt; splice.next() == Some(true) && splice.next_back() == Some(true));
+    check(&rt, splice.next() == Some(true));
+    check(&rt, splice.next_back() == Some(true));
     assert!(rt; splice.len() == 1);
     ok(&rt, splice.finish());
     holds(&rt, &v, b"001100");
@@ -122,11 +127,15 @@ fn spliced_after_all_was_taken(rt: HostRuntime) {
     let mut v = of::<u8, Msb0>(&rt, b"111111111110100100001");
     assert!(rt; v.len() == 21);
     let mut splice = v.splice(2..10, Some(false));
-    assert!(rt; splice.next() == Some(true) && splice.next() == Some(true));
-    assert!(rt; splice.next() == Some(true) && splice.next() == Some(true));
-    assert!(rt; splice.next_back() == Some(true) && splice.next_back() == Some(true));
-    assert!(rt; splice.next_back() == Some(true) && splice.next() == Some(true));
-    assert!(rt; splice.next().is_none());
+    check(&rt, splice.next() == Some(true));
+    check(&rt, splice.next() == Some(true));
+    check(&rt, splice.next() == Some(true));
+    check(&rt, splice.next() == Some(true));
+    check(&rt, splice.next_back() == Some(true));
+    check(&rt, splice.next_back() == Some(true));
+    check(&rt, splice.next_back() == Some(true));
+    check(&rt, splice.next() == Some(true));
+    check(&rt, splice.next().is_none());
     ok(&rt, splice.finish());
     holds(&rt, &v, b"11010100100001");
 }
@@ -138,9 +147,10 @@ fn capacity_is_kept(rt: HostRuntime) {
     for _ in 0..80 {
         ok(&rt, v.push(true));
     }
-    assert!(rt; v.capacity() >= 80);
+    check(&rt, v.capacity() >= 80);
     v.truncate(3);
-    assert!(rt; v.capacity() >= 80);
+    check(&rt, v.capacity() >= 80);
     v.clear();
-    assert!(rt; v.capacity() >= 80 && v.is_empty());
+    check(&rt, v.capacity() >= 80);
+    check(&rt, v.is_empty());
 }

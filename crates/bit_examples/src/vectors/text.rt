@@ -1,5 +1,5 @@
 //! The text of a vector.
-use crate::found::ok;
+use crate::common::{check, ok};
 use crate::vectors::of;
 use bit_containers::{BitOrder, BitStore, BitVec, Lsb0, Msb0};
 use std::fmt;
@@ -7,16 +7,16 @@ use std::fmt;
 #[test]
 fn text(rt: HostRuntime) {
     let v = of::<u8, Lsb0>(&rt, b"11010");
-    assert_eq!(rt;
-        ok(&rt, format!(in rt.alloc(); "{v}")).as_str(),
-        "[1, 1, 0, 1, 0]"
+    check(
+        &rt,
+        ok(&rt, format!(in rt.alloc(); "{v}")).as_str() == "[1, 1, 0, 1, 0]",
     );
-    assert_eq!(rt;
-        ok(&rt, format!(in rt.alloc(); "{v:>20}")).as_str(),
-        "[1, 1, 0, 1, 0]"
+    check(
+        &rt,
+        ok(&rt, format!(in rt.alloc(); "{v:>20}")).as_str() == "[1, 1, 0, 1, 0]",
     );
     let v = BitVec::<u64, Msb0>::new(rt.alloc());
-    assert_eq!(rt; ok(&rt, format!(in rt.alloc(); "{v}")).as_str(), "[]");
+    check(&rt, ok(&rt, format!(in rt.alloc(); "{v}")).as_str() == "[]");
 }
 
 /// How a vector is written in a radix.
@@ -53,5 +53,5 @@ fn digits(rt: HostRuntime) {
         In(&v, Radix::UpperHex),
     );
     let text = ok(&rt, format!(in rt.alloc(); "{y} {o} {x} {u}"));
-    assert_eq!(rt; text.as_str(), "[11010] [62] [d0] [D0]");
+    check(&rt, text.as_str() == "[11010] [62] [d0] [D0]");
 }

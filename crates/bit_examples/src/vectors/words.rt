@@ -1,38 +1,40 @@
 //! The words of a vector.
-use crate::found::ok;
-use crate::vectors::{holds, shows};
+use crate::common::{check, ok};
+use crate::vectors::{holds, of_words, shows};
 use bit_containers::{BitVec, Lsb0, MAX_BITS, Msb0};
-use std::test::Fail;
 
 #[test]
-fn words_are_kept(rt: HostRuntime) -> Result<(), Fail> {
-    assert!(rt; BitVec::<u8, Lsb0>::fits(1));
-    let mut v = BitVec::<u8, Lsb0>::from_vec(vec![in rt.alloc(); 0xdc]?);
-    assert_eq!(rt; v.pop(), Some(true));
+fn words_are_kept(rt: HostRuntime) {
+    check(&rt, BitVec::<u8, Lsb0>::fits(1));
+    let mut v = of_words::<Lsb0>(&rt, &[0xdc]);
+    check(&rt, v.pop() == Some(true));
     v.truncate(4);
-    assert_eq!(rt; v.into_vec().as_slice(), [0xdc].as_slice());
-    let mut v = BitVec::<u8, Lsb0>::from_vec(vec![in rt.alloc(); 0xdc]?);
+    check(&rt, v.into_vec().as_slice() == [0xdc].as_slice());
+    let mut v = of_words::<Lsb0>(&rt, &[0xdc]);
     v.truncate(0);
-    assert!(rt; v.is_empty() && v.pop().is_none());
-    assert_eq!(rt; v.into_vec().as_slice(), [].as_slice());
-    Ok(())
+    check(&rt, v.is_empty());
+    check(&rt, v.pop().is_none());
+    check(&rt, v.into_vec().as_slice() == [].as_slice());
 }
 
 #[test]
 fn limits(rt: HostRuntime) {
-    assert!(rt; BitVec::<u8, Lsb0>::fits(288230376151711743));
-    assert!(rt; !BitVec::<u8, Lsb0>::fits(288230376151711744));
-    assert!(rt; BitVec::<u64, Lsb0>::fits(36028797018963967));
-    assert!(rt; !BitVec::<u64, Lsb0>::fits(36028797018963968));
-    assert!(rt; !BitVec::<usize, Msb0>::fits(usize::MAX) && !BitVec::<u8, Msb0>::fits(usize::MAX));
-    assert_eq!(rt; MAX_BITS, 2305843009213693951);
+    check(&rt, BitVec::<u8, Lsb0>::fits(288230376151711743));
+    check(&rt, !BitVec::<u8, Lsb0>::fits(288230376151711744));
+    check(&rt, BitVec::<u64, Lsb0>::fits(36028797018963967));
+    check(&rt, !BitVec::<u64, Lsb0>::fits(36028797018963968));
+    check(&rt, !BitVec::<usize, Msb0>::fits(usize::MAX));
+    check(&rt, !BitVec::<u8, Msb0>::fits(usize::MAX));
+    check(&rt, MAX_BITS == 2305843009213693951);
 }
 
 #[test]
-fn words_and_lengths_set(rt: HostRuntime) -> Result<(), Fail> {
-    let mut v = BitVec::<u8, Lsb0>::from_vec(vec![in rt.alloc(); 0xdc]?);
+fn words_and_lengths_set(rt: HostRuntime) {
+    let words = ok(&rt, vec![in rt.alloc(); 0xdc]);
+    assert!(rt; words.len() == 1);
+    let mut v = BitVec::<u8, Lsb0>::from_vec(words);
     v.truncate(4);
-    assert_eq!(rt; v.as_raw_slice(), [0xdc].as_slice());
+    check(&rt, v.as_raw_slice() == [0xdc].as_slice());
     v.set_len(8);
     holds(&rt, &v, b"00111011");
     v.truncate(4);
@@ -44,6 +46,6 @@ fn words_and_lengths_set(rt: HostRuntime) -> Result<(), Fail> {
     let mut v = ok(&rt, BitVec::<u8, Msb0>::repeat(rt.alloc(), false, 20));
     v.set_elements(0xa5);
     shows(&rt, &v, &[0xa5, 0xa5, 0xa5]);
-    assert!(rt; v.count_ones() == 10 && v.len() == 20);
-    Ok(())
+    check(&rt, v.count_ones() == 10);
+    check(&rt, v.len() == 20);
 }

@@ -4,11 +4,11 @@ ghost use Rattle.bit_addressing.specs.Typed.{row};
 ghost use Rattle.bit_slice.specs.BitSliceMut.{head_of, len_of, row_of, list_of, loan_of};
 ghost use Rattle.bit_addressing.specs.declared.length.TheConstants.{MAX_BITS};
 
+use crate::common::{check, ok};
 use crate::rows::orders::Xor4;
 use bit_addressing::{BitOrder, BitStore, Lsb0, MAX_BITS, Msb0};
 use bit_slice::{BitSlice, BitSliceMut, run_mut, split_run_mut};
 use std::process::Abort;
-use std::test::Fail;
 
 // What is written through a view stands in the caller's own words.
 fn set_third<T: BitStore, O: BitOrder>(words: &mut [T])
@@ -118,26 +118,27 @@ fn moved_bits(rt: HostRuntime) {
     // 0, 1, 1, 0, 0, 1, 0, 1
     let mut words = [0x65_u8];
     let mut view = BitSliceMut::<u8, Msb0>::from_slice_mut(&mut words);
-    assert!(rt; turned(&mut view) == Some(true));
+    check(&rt, turned(&mut view) == Some(true));
     // 1, 0, 1, 0, 1, 1, 0, 0
-    assert!(rt; reversed(&mut view) == Some(true));
+    check(&rt, reversed(&mut view) == Some(true));
     // 0, 0, 1, 1, 0, 1, 0, 1
-    assert!(rt; shifted(&mut view) == Some(true));
+    check(&rt, shifted(&mut view) == Some(true));
     // 1, 0, 1, 0, 1, 0, 0, 0
-    assert!(rt; emptied(&mut view) == Some(false));
-    assert!(rt; words[0] == 0x40);
+    check(&rt, emptied(&mut view) == Some(false));
+    check(&rt, words[0] == 0x40);
 }
 
 #[test]
 fn part_lands(rt: HostRuntime) {
     let mut words = [0x00ff_u16, 0x0000, 0xffff];
-    assert!(rt; counted_part::<u16, Lsb0>(&mut words) == 4);
+    check(&rt, counted_part::<u16, Lsb0>(&mut words) == 4);
     let mut view = BitSliceMut::<u16, Lsb0>::from_slice_mut(&mut words);
     let mut part = view.part_mut(4, 36);
-    assert!(rt; part.head() == 4 && part.len() == 32);
+    check(&rt, part.head() == 4);
+    assert!(rt; part.len() == 32);
     part.flip_all();
     part.part_mut(12, 28).fill(false);
-    assert!(rt; words.as_slice() == [0xff0f, 0x0000, 0xfff0].as_slice());
+    check(&rt, words.as_slice() == [0xff0f, 0x0000, 0xfff0].as_slice());
 }
 
 #[test]
@@ -146,33 +147,33 @@ fn two_runs_land(rt: HostRuntime) {
     let (mut left, mut right) = split_run_mut::<u8, Lsb0>(&mut words, 3, 8, 20);
     left.fill(false);
     right.flip_all();
-    assert!(rt; words.as_slice() == [0x07, 0x00, 0xf0].as_slice());
+    check(&rt, words.as_slice() == [0x07, 0x00, 0xf0].as_slice());
 }
 
 #[test]
-fn parts_of_a_word(rt: HostRuntime) -> Result<(), Fail> {
+fn parts_of_a_word(rt: HostRuntime) {
     let words = [0x1234_u16];
     let part = BitSlice::<u16, Msb0>::from_slice(&words).get_range(4..12);
-    assert!(rt; part.head() == 4);
-    let list = part.iter().collect::<Vec<bool>>(rt.alloc())?;
-    assert!(rt;
-        list.as_slice() == [false, false, true, false, false, false, true, true].as_slice()
+    check(&rt, part.head() == 4);
+    let list = ok(&rt, part.iter().collect::<Vec<bool>>(rt.alloc()));
+    check(
+        &rt,
+        list.as_slice() == [false, false, true, false, false, false, true, true].as_slice(),
     );
-    assert!(rt; part.count_ones() == 3);
-    Ok(())
+    check(&rt, part.count_ones() == 3);
 }
 
 #[test]
 fn writes_to_a_word(rt: HostRuntime) {
     let mut words = [0xff_u8, 0xff];
     run_mut::<u8, Lsb0>(&mut words, 3, 11).fill(false);
-    assert!(rt; words.as_slice() == [0x07, 0xf8].as_slice());
+    check(&rt, words.as_slice() == [0x07, 0xf8].as_slice());
     let mut words = [0x1234_u16];
     BitSliceMut::<u16, Msb0>::from_slice_mut(&mut words).set(4, true);
-    assert!(rt; words[0] == 0x1a34);
+    check(&rt, words[0] == 0x1a34);
     let mut words = [0x1234_u16];
     BitSliceMut::<u16, Msb0>::from_slice_mut(&mut words).swap(0, 3);
-    assert!(rt; words[0] == 0x8234);
+    check(&rt, words[0] == 0x8234);
 }
 
 #[test]
@@ -181,7 +182,7 @@ fn view_copied_to_a_word(rt: HostRuntime) {
     let bytes = [0xff_u8, 0];
     let view = BitSlice::<u8, Lsb0>::from_slice(&bytes);
     BitSliceMut::<u16, Msb0>::from_slice_mut(&mut words).clone_from_bitslice(view);
-    assert!(rt; words[0] == 0xff00);
+    check(&rt, words[0] == 0xff00);
 }
 
 #[test]
@@ -191,18 +192,20 @@ fn both_ends(rt: HostRuntime) {
         .get_range(1..=8)
         .iter();
     // 1, 0, 0, 1, 1, 0, 1, 1
-    assert!(rt; bits.len() == 8);
-    assert!(rt; bits.next() == Some(true));
-    assert!(rt; bits.next_back() == Some(true));
-    assert!(rt; bits.next() == Some(false));
-    assert!(rt; bits.next_back() == Some(true));
-    assert!(rt; bits.next_back() == Some(false));
-    assert!(rt; bits.size_hint() == (3, Some(3)));
-    assert!(rt; bits.next() == Some(false));
-    assert!(rt; bits.next() == Some(true));
-    assert!(rt; bits.next_back() == Some(true));
+    check(&rt, bits.len() == 8);
+    check(&rt, bits.next() == Some(true));
+    check(&rt, bits.next_back() == Some(true));
+    check(&rt, bits.next() == Some(false));
+    check(&rt, bits.next_back() == Some(true));
+    check(&rt, bits.next_back() == Some(false));
+    check(&rt, bits.size_hint() == (3, Some(3)));
+    check(&rt, bits.next() == Some(false));
+    check(&rt, bits.next() == Some(true));
+    check(&rt, bits.next_back() == Some(true));
     for _ in 0..3 {
-        assert!(rt; bits.next().is_none() && bits.next_back().is_none() && bits.len() == 0);
+        check(&rt, bits.next().is_none());
+        check(&rt, bits.next_back().is_none());
+        check(&rt, bits.len() == 0);
     }
 }
 
@@ -213,14 +216,25 @@ fn reads<T: BitStore, O: BitOrder>(rt: &impl Abort, words: &[T])
 {
     let count = words.len() * T::BITS as usize;
     let view = BitSlice::<T, O>::from_slice(words);
-    assert!(rt; view.len() == count && view.head() == 0);
-    assert!(rt; !view.is_empty() && view.any() && !view.all());
-    assert!(rt; view.count_ones() == 2 && view.count_zeros() == count - 2);
-    assert!(rt; view[3] && !view[2] && view[9]);
-    assert!(rt; view.get(9) == Some(true) && view.get(count).is_none());
-    assert!(rt; view.first() == Some(false) && view.last() == Some(false));
-    assert!(rt; view.as_raw_slice().len() == words.len());
-    assert!(rt; BitSlice::<T, O>::try_from_slice(words).map(|v| v.len()) == Ok(count));
+    check(rt, view.len() == count);
+    check(rt, view.head() == 0);
+    check(rt, !view.is_empty());
+    check(rt, view.any());
+    check(rt, !view.all());
+    check(rt, view.count_ones() == 2);
+    check(rt, view.count_zeros() == count - 2);
+    check(rt, view[3]);
+    check(rt, !view[2]);
+    check(rt, view[9]);
+    check(rt, view.get(9) == Some(true));
+    check(rt, view.get(count).is_none());
+    check(rt, view.first() == Some(false));
+    check(rt, view.last() == Some(false));
+    check(rt, view.as_raw_slice().len() == words.len());
+    check(
+        rt,
+        BitSlice::<T, O>::try_from_slice(words).map(|v| v.len()) == Ok(count),
+    );
 }
 
 // The same of the part from bit 3 to bit 9, and of no bit after it.
@@ -229,14 +243,20 @@ fn reads_of_a_part<T: BitStore, O: BitOrder>(rt: &impl Abort, words: &[T])
     requires fits { T.BITS * length words.now ≤ MAX_BITS }
 {
     let part = BitSlice::<T, O>::from_slice(words).get_range(3..10);
-    assert!(rt; part.head() == 3 && part.len() == 7);
-    assert!(rt; part.count_ones() == 2 && part.count_zeros() == 5);
-    assert!(rt; part.first() == Some(true) && part.last() == Some(true));
-    assert!(rt; part.iter().position(|b| !b) == Some(1));
+    check(rt, part.head() == 3);
+    check(rt, part.len() == 7);
+    check(rt, part.count_ones() == 2);
+    check(rt, part.count_zeros() == 5);
+    check(rt, part.first() == Some(true));
+    check(rt, part.last() == Some(true));
+    check(rt, part.iter().position(|b| !b) == Some(1));
     let none = part.get_range(7..);
-    assert!(rt; none.is_empty() && !none.any() && none.all());
-    assert!(rt; none.first().is_none() && none.last().is_none());
-    assert!(rt; part.clone().map(|v| v.len()) == Ok(7));
+    check(rt, none.is_empty());
+    check(rt, !none.any());
+    check(rt, none.all());
+    check(rt, none.first().is_none());
+    check(rt, none.last().is_none());
+    check(rt, part.clone().map(|v| v.len()) == Ok(7));
 }
 
 // The calls that write, on words with no bit set.
@@ -246,10 +266,14 @@ fn writes<T: BitStore, O: BitOrder>(rt: &impl Abort, words: &mut [T])
 {
     let count = words.len() * T::BITS as usize;
     let mut view = BitSliceMut::<T, O>::from_slice_mut(words);
-    assert!(rt; view.head() == 0 && view.len() == count);
-    assert!(rt; !view.is_empty() && !view.any() && !view.all());
+    check(rt, view.head() == 0);
+    check(rt, view.len() == count);
+    check(rt, !view.is_empty());
+    check(rt, !view.any());
+    check(rt, !view.all());
     view.set(9, true);
-    assert!(rt; !view.replace(2, true) && view.replace(2, true));
+    check(rt, !view.replace(2, true));
+    check(rt, view.replace(2, true));
     view.swap(2, 3);
     reads::<T, O>(rt, view.as_raw_slice());
 }
@@ -261,12 +285,17 @@ fn reads_while_written<T: BitStore, O: BitOrder>(rt: &impl Abort, words: &mut [T
 {
     let count = words.len() * T::BITS as usize;
     let view = BitSliceMut::<T, O>::from_slice_mut(words);
-    assert!(rt; view[3] && !view[2] && view[9]);
-    assert!(rt; view.count_ones() == 2 && view.count_zeros() == count - 2);
-    assert!(rt; view.get(9) == Some(true) && view.get(count).is_none());
-    assert!(rt; view.first() == Some(false) && view.last() == Some(false));
-    assert!(rt; view.get_range(3..10).count_ones() == 2);
-    assert!(rt; view.iter().len() == count);
+    check(rt, view[3]);
+    check(rt, !view[2]);
+    check(rt, view[9]);
+    check(rt, view.count_ones() == 2);
+    check(rt, view.count_zeros() == count - 2);
+    check(rt, view.get(9) == Some(true));
+    check(rt, view.get(count).is_none());
+    check(rt, view.first() == Some(false));
+    check(rt, view.last() == Some(false));
+    check(rt, view.get_range(3..10).count_ones() == 2);
+    check(rt, view.iter().len() == count);
 }
 
 fn fills<T: BitStore, O: BitOrder>(rt: &impl Abort, words: &mut [T])
@@ -275,10 +304,10 @@ fn fills<T: BitStore, O: BitOrder>(rt: &impl Abort, words: &mut [T])
 {
     let mut view = BitSliceMut::<T, O>::from_slice_mut(words);
     view.fill(true);
-    assert!(rt; view.as_bitslice().all());
+    check(rt, view.as_bitslice().all());
     let raw = view.as_raw_mut_slice();
     raw[0] = T::ZERO;
-    assert!(rt; view.count_zeros() == T::BITS as usize);
+    check(rt, view.count_zeros() == T::BITS as usize);
 }
 
 #[test]
@@ -330,31 +359,33 @@ fn bits_outside(rt: HostRuntime) {
     let mut words = [0xff_u8, 0xff, 0xff];
     let mut view = BitSliceMut::<u8, Lsb0>::from_parts_mut(&mut words, 2, 19);
     view.fill(false);
-    assert!(rt; words == [0x03, 0x00, 0xe0]);
+    check(&rt, words == [0x03, 0x00, 0xe0]);
     let view = BitSlice::<u8, Msb0>::from_parts(&words, 2, 19);
-    assert!(rt; view.head() == 2 && view.len() == 19 && view.count_ones() == 5);
+    check(&rt, view.head() == 2);
+    check(&rt, view.len() == 19);
+    check(&rt, view.count_ones() == 5);
 }
 
 #[test]
 fn writes_in_the_callers_words(rt: HostRuntime) {
     let mut words = [0x03_u8, 0x00, 0xe0];
-    assert!(rt; !set_two::<u8, Lsb0>(&mut words));
+    check(&rt, !set_two::<u8, Lsb0>(&mut words));
     set_third::<u8, Xor4>(&mut words);
-    assert!(rt; words == [0x93, 0x00, 0xe0]);
+    check(&rt, words == [0x93, 0x00, 0xe0]);
     exchange_in::<u8, Lsb0>(&mut words);
-    assert!(rt; words == [0x92, 0x00, 0xe0]);
-    assert!(rt; count_two(&[0x1234, 0xffff]) == 21);
+    check(&rt, words == [0x92, 0x00, 0xe0]);
+    check(&rt, count_two(&[0x1234, 0xffff]) == 21);
 }
 
 #[test]
 fn copies_within(rt: HostRuntime) {
     let words = [0xb1_u8, 0x6d];
     let after = [0xc1, 0x76];
-    assert!(rt; copied::<Lsb0>(words, 1, 12, 3) == (after, after));
+    check(&rt, copied::<Lsb0>(words, 1, 12, 3) == (after, after));
     let after = [0x6d, 0x6b];
-    assert!(rt; copied::<Lsb0>(words, 3, 14, 1) == (after, after));
+    check(&rt, copied::<Lsb0>(words, 3, 14, 1) == (after, after));
     let after = [0xb6, 0x8d];
-    assert!(rt; copied::<Xor4>(words, 1, 12, 3) == (after, after));
+    check(&rt, copied::<Xor4>(words, 1, 12, 3) == (after, after));
 }
 
 #[test]
@@ -362,17 +393,17 @@ fn copies_within_one_word(rt: HostRuntime) {
     let mut word = [0x07_u8];
     let mut view = BitSliceMut::<u8, Lsb0>::from_slice_mut(&mut word);
     view.copy_within(3..3, 0);
-    assert!(rt; view.as_raw_slice()[0] == 0x07);
+    check(&rt, view.as_raw_slice()[0] == 0x07);
     view.copy_within(0..3, 5);
-    assert!(rt; word[0] == 0xe7);
+    check(&rt, word[0] == 0xe7);
 }
 
 #[test]
 fn copies_within_many_words(rt: HostRuntime) {
     let mut bytes = [0x01_u8, 0x80, 0xff];
     BitSliceMut::<u8, Lsb0>::from_slice_mut(&mut bytes).copy_within(..20, 4);
-    assert!(rt; bytes == [0x11, 0x00, 0xf8]);
+    check(&rt, bytes == [0x11, 0x00, 0xf8]);
     let mut words = [0x1234_u16, 0xabcd];
     BitSliceMut::<u16, Lsb0>::from_slice_mut(&mut words).copy_within(8..24, 0);
-    assert!(rt; words == [0xcd12, 0xabcd]);
+    check(&rt, words == [0xcd12, 0xabcd]);
 }

@@ -5,6 +5,7 @@ ghost use Rattle.bit_slice.specs.BitSlice.{len_of as len_seen};
 ghost use Rattle.bit_slice.specs.BitSliceMut.{len_of};
 ghost use Rattle.bit_addressing.specs.declared.length.TheConstants.{MAX_BITS};
 
+use crate::common::check;
 use crate::rows::orders::Xor4;
 use bit_addressing::{BitOrder, BitStore, Lsb0, MAX_BITS, Msb0};
 use bit_slice::{BitSlice, BitSliceMut};
@@ -24,18 +25,18 @@ fn order_of_lists(rt: HostRuntime) {
     let (zero, two, one) = ([0_u8], [2_u8], [0x8000_u16]);
     let none = first_bits(&zero, 1);
     let nones = first_bits(&zero, 2);
-    assert!(rt; !none.eq_bits(nones));
-    assert_eq!(rt;
-        (none.cmp_bits(nones), nones.cmp_bits(none)),
-        (Ordering::Less, Ordering::Greater)
+    check(&rt, !none.eq_bits(nones));
+    check(
+        &rt,
+        (none.cmp_bits(nones), nones.cmp_bits(none)) == (Ordering::Less, Ordering::Greater),
     );
     let left = first_bits(&two, 2);
     let right = BitSlice::<u16, Msb0>::from_slice(&one).get_range(..1);
-    assert_eq!(rt;
-        (left.cmp_bits(right), right.cmp_bits(left)),
-        (Ordering::Less, Ordering::Greater)
+    check(
+        &rt,
+        (left.cmp_bits(right), right.cmp_bits(left)) == (Ordering::Less, Ordering::Greater),
     );
-    assert_eq!(rt; left.cmp_bits(left), Ordering::Equal);
+    check(&rt, left.cmp_bits(left) == Ordering::Equal);
 }
 
 // What becomes of the first bits of a byte under each operator, as a byte.
@@ -54,8 +55,14 @@ fn made(left: u8, n: usize, right: BitSlice<'_, u8, Lsb0>) -> (u8, u8, u8)
 #[test]
 #[tactic(auto, unfolding(bit_addressing::specs::Row::words_for))]
 fn operators(rt: HostRuntime) {
-    assert_eq!(rt; made(0x5c, 4, first_bits(&[0x02], 2)), (0x50, 0x5e, 0x5e));
-    assert_eq!(rt; made(0xa2, 2, first_bits(&[0x0f], 4)), (0xa2, 0xa3, 0xa1));
+    check(
+        &rt,
+        made(0x5c, 4, first_bits(&[0x02], 2)) == (0x50, 0x5e, 0x5e),
+    );
+    check(
+        &rt,
+        made(0xa2, 2, first_bits(&[0x0f], 4)) == (0xa2, 0xa3, 0xa1),
+    );
 }
 
 // Views that hold the same bits from bit 3 and from bit 5 on.
@@ -68,14 +75,20 @@ fn ordered<T: BitStore, O: BitOrder, U: BitStore, P: BitOrder>(
     requires right { 24 ≤ len_of right.now }
 {
     let part = left.get_range(3..20);
-    assert!(rt; part.eq_bits(right.get_range(5..22)));
-    assert!(rt; part.cmp_bits(right.get_range(5..22)) == Ordering::Equal);
-    assert!(rt; !part.eq_bits(right.get_range(5..21)));
-    assert!(rt; part.cmp_bits(right.get_range(5..21)) == Ordering::Greater);
-    assert!(rt; part.cmp_bits(right.get_range(5..23)) == Ordering::Less);
-    assert!(rt; part.cmp_bits(right.get_range(4..22)) == Ordering::Greater);
-    assert!(rt; !left.eq_bits(right.as_bitslice()));
-    assert!(rt; right.cmp_bits(left.as_bitslice()) == Ordering::Less);
+    check(rt, part.eq_bits(right.get_range(5..22)));
+    check(rt, part.cmp_bits(right.get_range(5..22)) == Ordering::Equal);
+    check(rt, !part.eq_bits(right.get_range(5..21)));
+    check(
+        rt,
+        part.cmp_bits(right.get_range(5..21)) == Ordering::Greater,
+    );
+    check(rt, part.cmp_bits(right.get_range(5..23)) == Ordering::Less);
+    check(
+        rt,
+        part.cmp_bits(right.get_range(4..22)) == Ordering::Greater,
+    );
+    check(rt, !left.eq_bits(right.as_bitslice()));
+    check(rt, right.cmp_bits(left.as_bitslice()) == Ordering::Less);
 }
 
 fn combined<T: BitStore, O: BitOrder, U: BitStore, P: BitOrder>(
@@ -87,11 +100,12 @@ fn combined<T: BitStore, O: BitOrder, U: BitStore, P: BitOrder>(
     requires right { 24 ≤ len_of right.now }
 {
     left.xor_bits(right.get_range(2..));
-    assert!(rt; !left.any());
+    check(rt, !left.any());
     left.or_bits(right.get_range(2..));
-    assert!(rt; left.count_ones() == 2);
+    check(rt, left.count_ones() == 2);
     left.and_bits(right.get_range(2..19));
-    assert!(rt; left[3] && left.count_ones() == 1);
+    check(rt, left[3]);
+    check(rt, left.count_ones() == 1);
 }
 
 // Two views of the same bits in words of two kinds, at heads 3 and 5.

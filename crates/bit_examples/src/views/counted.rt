@@ -4,6 +4,7 @@ ghost use Rattle.bit_addressing.specs.Row.{moved};
 ghost use Rattle.bit_slice.specs.CountedMut.{head_of as head_counted, len_of as len_counted, loan_of as loan_counted, list_of as list_counted, reads_of as reads_counted, writes_of};
 ghost use Rattle.bit_slice.specs.Counted.{head_of as head_read, len_of as len_read, list_of as list_read, reads_of, WasRead};
 
+use crate::common::check;
 use bit_addressing::Lsb0;
 use bit_slice::{BitSlice, BitSliceMut, Counted, CountedMut};
 
@@ -29,12 +30,12 @@ fn counted_move(rt: HostRuntime) {
     let mut words = [0x05_u8, 0x00, 0xff];
     let mut view = BitSliceMut::<u8, Lsb0>::from_parts_mut(&mut words, 2, 19);
     let mut counted = view.counted_mut();
-    assert_eq!(rt; (counted.head(), counted.len()), (2, 19));
-    assert!(rt; !counted.is_empty());
+    check(&rt, (counted.head(), counted.len()) == (2, 19));
+    check(&rt, !counted.is_empty());
     counted.copy_within_counted(0..3, 8);
     counted.copy_within_counted(8..=10, 6);
-    assert_eq!(rt; view.count_ones(), 7);
-    assert_eq!(rt; words, [0x05, 0x01, 0xff]);
+    check(&rt, view.count_ones() == 7);
+    check(&rt, words == [0x05, 0x01, 0xff]);
 }
 
 #[test]
@@ -43,7 +44,7 @@ fn counted_rows(rt: HostRuntime) {
     let mut words = [0xb1_u8, 0x6d];
     let mut view = BitSliceMut::<u8, Lsb0>::from_parts_mut(&mut words, 0, 16);
     count_writes(&mut view.counted_mut());
-    assert_eq!(rt; words, [0xc1, 0x76]);
+    check(&rt, words == [0xc1, 0x76]);
 }
 
 // Eight bits from head 3 on lie in two words on either side.
@@ -78,18 +79,19 @@ fn counted_reads(rt: HostRuntime) {
     let second = BitSlice::<u8, Lsb0>::from_slice(&second).get_range(3..11);
     let third = BitSlice::<u8, Lsb0>::from_slice(&third).get_range(3..11);
     let mut counted = first.counted();
-    assert_eq!(rt; (counted.head(), counted.len()), (3, 8));
-    assert!(rt; !counted.is_empty());
-    assert!(rt; compare_in_four(&mut counted, &mut second.counted()));
-    assert!(rt; !compare_in_four(&mut counted, &mut third.counted()));
-    assert_eq!(rt; count_in_two(&mut counted), 6);
+    check(&rt, (counted.head(), counted.len()) == (3, 8));
+    check(&rt, !counted.is_empty());
+    check(&rt, compare_in_four(&mut counted, &mut second.counted()));
+    check(&rt, !compare_in_four(&mut counted, &mut third.counted()));
+    check(&rt, count_in_two(&mut counted) == 6);
     let byte = [0xff_u8];
     let none = BitSlice::<u8, Lsb0>::from_slice(&byte).get_range(3..3);
-    assert_eq!(rt; count_in_two(&mut none.counted()), 0);
+    check(&rt, count_in_two(&mut none.counted()) == 0);
     let aligned = [0xf5_u8];
     let aligned = BitSlice::<u8, Lsb0>::from_slice(&aligned);
-    assert!(rt; counted.eq_counted(&mut aligned.counted()));
-    assert!(rt; aligned.counted().eq_counted(&mut counted));
-    assert!(rt; !counted.eq_counted(&mut none.counted()));
-    assert!(rt; first.eq_bits(aligned) && !first.eq_bits(third));
+    check(&rt, counted.eq_counted(&mut aligned.counted()));
+    check(&rt, aligned.counted().eq_counted(&mut counted));
+    check(&rt, !counted.eq_counted(&mut none.counted()));
+    check(&rt, first.eq_bits(aligned));
+    check(&rt, !first.eq_bits(third));
 }

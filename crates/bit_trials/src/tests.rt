@@ -12,6 +12,12 @@ mod sweeps;
 use bit_containers::{BitOrder, BitStore, BitVec};
 use std::process::Abort;
 
+/// That this holds. A test calls it in place of `assert!`, which costs the prover several times as much: a failed
+/// test is told by its name.
+fn check(rt: &impl Abort, holds: bool) {
+    assert!(rt; holds);
+}
+
 /// What a call returns that found memory.
 fn ok<V, E>(rt: &impl Abort, outcome: Result<V, E>) -> V {
     match outcome {
@@ -31,17 +37,18 @@ fn of<T: BitStore, O: BitOrder>(rt: &(impl Abort + AllocGlobal), digits: &[u8]) 
 
 /// That the vector holds these digits.
 fn holds<T: BitStore, O: BitOrder>(rt: &impl Abort, v: &BitVec<T, O>, digits: &[u8]) {
-    assert!(rt; v.len() == digits.len() && v.get(digits.len()).is_none());
+    check(rt, v.len() == digits.len());
+    check(rt, v.get(digits.len()).is_none());
     for (i, digit) in digits.iter().enumerate() {
-        assert!(rt; v.get(i) == Some(*digit == b'1'));
+        check(rt, v.get(i) == Some(*digit == b'1'));
     }
 }
 
 /// That the words of the vector are these.
 fn shows<T: BitStore, O: BitOrder>(rt: &impl Abort, v: &BitVec<T, O>, words: &[T]) {
     let kept = v.as_raw_slice();
-    assert!(rt; kept.len() == words.len());
+    check(rt, kept.len() == words.len());
     for (word, want) in kept.iter().zip(words) {
-        assert!(rt; word.to_u64() == want.to_u64());
+        check(rt, word.to_u64() == want.to_u64());
     }
 }

@@ -1,5 +1,5 @@
 //! Runs of commands: those that grow, that write the words, and that take bits out.
-use crate::tests::shows;
+use crate::tests::{check, shows};
 use bit_containers::{BitOrder, BitStore, BitVec, Command, GrowError, Msb0, Reply, Stop, run};
 use std::process::Abort;
 
@@ -11,8 +11,8 @@ fn results<T: BitStore, O: BitOrder>(
     want: &[Reply],
 ) {
     let mut replies = Vec::new(rt.alloc());
-    assert!(rt; run(v, commands, &mut replies).is_ok());
-    assert!(rt; replies.as_slice() == want);
+    check(rt, run(v, commands, &mut replies).is_ok());
+    check(rt, replies.as_slice() == want);
 }
 
 /// That a run of these commands stops at the second, by which the vector would be too long, and replies `Done` to the first.
@@ -23,8 +23,11 @@ pub(super) fn stops<T: BitStore, O: BitOrder>(
 ) {
     let mut replies = Vec::new(rt.alloc());
     let why = GrowError::TooLong;
-    assert!(rt; run(v, commands, &mut replies) == Err(Stop { done: 1, why }));
-    assert!(rt; replies.as_slice() == [Reply::Done].as_slice());
+    check(
+        rt,
+        run(v, commands, &mut replies) == Err(Stop { done: 1, why }),
+    );
+    check(rt, replies.as_slice() == [Reply::Done].as_slice());
 }
 
 #[test]
@@ -53,7 +56,7 @@ fn growing_commands(rt: HostRuntime) {
         Command::Pop,
     ];
     stops(&rt, &mut v, &commands);
-    assert_eq!(rt; v.len(), 5);
+    check(&rt, v.len() == 5);
 }
 
 #[test]
@@ -108,5 +111,5 @@ fn removing_commands(rt: HostRuntime) {
         Command::Splice(0, 1, false, usize::MAX),
     ];
     stops(&rt, &mut v, &commands);
-    assert_eq!(rt; v.len(), 1);
+    check(&rt, v.len() == 1);
 }

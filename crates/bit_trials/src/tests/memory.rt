@@ -3,7 +3,7 @@
 //! The tests pass with ample memory, and whichever request `rt try --test --fail-alloc N` refuses.
 ghost use Rattle.std.specs.Prelude.{◌≡◌, length};
 
-use crate::tests::holds;
+use crate::tests::{check, holds};
 use bit_containers::array::BitArray;
 use bit_containers::{
     BitOrder, BitSlice, BitStore, BitVec, Command, GrowError, IntoBitVec, Lsb0, Msb0,
@@ -31,7 +31,7 @@ fn grown<T: BitStore, O: BitOrder>(
 ) {
     match outcome {
         Ok(v) => holds(rt, &v, digits),
-        Err(why) => assert!(rt; why == GrowError::OutOfMemory),
+        Err(why) => check(rt, why == GrowError::OutOfMemory),
     }
 }
 
@@ -78,28 +78,39 @@ fn makers_that_take_none(rt: HostRuntime) {
     let words = [0xff_u8];
     let view = BitSlice::<u8, Lsb0>::from_slice(&words).get_range(5..5);
     let none = BitArray::<[u8; 0], Lsb0>::new([]);
-    assert!(rt; BitVec::from_bitslice(rt.alloc(), view).is_ok());
-    assert!(rt; BitVec::from_bitarray(rt.alloc(), none).is_ok());
-    assert!(rt; BitVec::<u8, Lsb0>::from_slice(rt.alloc(), &[]).is_ok());
-    assert!(rt; BitVec::<u8, Lsb0>::from_bits(rt.alloc(), None).is_ok());
-    assert!(rt; BitVec::<u8, Lsb0>::from_words(rt.alloc(), None).is_ok());
-    assert!(rt; BitVec::<u8, Lsb0>::repeat(rt.alloc(), true, 0).is_ok());
-    assert!(rt; BitVec::<u8, Lsb0>::with_capacity(rt.alloc(), 0).is_ok());
+    check(&rt, BitVec::from_bitslice(rt.alloc(), view).is_ok());
+    check(&rt, BitVec::from_bitarray(rt.alloc(), none).is_ok());
+    check(&rt, BitVec::<u8, Lsb0>::from_slice(rt.alloc(), &[]).is_ok());
+    check(&rt, BitVec::<u8, Lsb0>::from_bits(rt.alloc(), None).is_ok());
+    check(
+        &rt,
+        BitVec::<u8, Lsb0>::from_words(rt.alloc(), None).is_ok(),
+    );
+    check(&rt, BitVec::<u8, Lsb0>::repeat(rt.alloc(), true, 0).is_ok());
+    check(
+        &rt,
+        BitVec::<u8, Lsb0>::with_capacity(rt.alloc(), 0).is_ok(),
+    );
     let mut v = BitVec::<u8, Lsb0>::new(rt.alloc());
-    assert!(rt; v.clone().is_ok() && v.split_off(0).is_ok() && v.reserve(0).is_ok());
-    assert!(rt; v.splice(.., None).finish().is_ok() && v.shrink_to_fit().is_ok());
-    assert!(rt; v.into_boxed_bitslice().is_ok());
+    check(&rt, v.clone().is_ok());
+    check(&rt, v.split_off(0).is_ok());
+    check(&rt, v.reserve(0).is_ok());
+    check(&rt, v.splice(.., None).finish().is_ok());
+    check(&rt, v.shrink_to_fit().is_ok());
+    check(&rt, v.into_boxed_bitslice().is_ok());
 }
 
 /// That a vector has 96 ones after its eight bits, or, where it was refused, those bits alone.
 fn stands(rt: &impl Abort, v: &BitVec<u8, Lsb0>, outcome: Result<(), GrowError>) {
     match outcome {
         Ok(()) => {
-            assert!(rt; v.len() == 104 && v.count_ones() == 102);
-            assert!(rt; v.get(1) == Some(false) && v.get(3) == Some(false));
+            check(rt, v.len() == 104);
+            check(rt, v.count_ones() == 102);
+            check(rt, v.get(1) == Some(false));
+            check(rt, v.get(3) == Some(false));
         }
         Err(why) => {
-            assert!(rt; why == GrowError::OutOfMemory);
+            check(rt, why == GrowError::OutOfMemory);
             holds(rt, v, b"10101111");
         }
     }
@@ -139,7 +150,7 @@ fn growing_refused(rt: HostRuntime) {
         assert!(rt; v.len() == 8);
         let outcome = grow(&mut v, way);
         stands(&rt, &v, outcome);
-        assert!(rt; v.head() == 3);
+        check(&rt, v.head() == 3);
     }
 }
 
@@ -154,7 +165,7 @@ fn resizing_by_calls_refused(rt: HostRuntime) {
         calls = calls.wrapping_add(1);
         true
     });
-    assert!(rt; calls == if outcome.is_ok() { 96 } else { 0 });
+    check(&rt, calls == if outcome.is_ok() { 96 } else { 0 });
     stands(&rt, &v, outcome);
 }
 
@@ -176,9 +187,12 @@ fn combined_with_longer_refused(rt: HostRuntime) {
             return;
         };
         match combine_longer(&mut v, xor) {
-            Ok(()) => assert!(rt; v.len() == 96 && v.count_ones() == ones),
+            Ok(()) => {
+                check(&rt, v.len() == 96);
+                check(&rt, v.count_ones() == ones)
+            },
             Err(why) => {
-                assert!(rt; why == GrowError::OutOfMemory);
+                check(&rt, why == GrowError::OutOfMemory);
                 holds(&rt, &v, b"10101111");
             }
         }
@@ -193,7 +207,7 @@ fn combined_with_as_long(rt: HostRuntime) {
     let Some(mut v) = eight(&rt) else {
         return;
     };
-    assert!(rt; v.xor_growing(more).is_ok());
+    check(&rt, v.xor_growing(more).is_ok());
     holds(&rt, &v, b"01010000");
 }
 
@@ -204,7 +218,8 @@ fn other_makers_refused(rt: HostRuntime) {
     let view = BitSlice::<u8, Lsb0>::from_slice(&words).get_range(3..11);
     made(&rt, view.to_bitvec(rt.alloc()), b"10101111");
     if let Ok(b) = view.to_bitbox(rt.alloc()) {
-        assert!(rt; b.len() == 8 && b.count_ones() == 6);
+        check(&rt, b.len() == 8);
+        check(&rt, b.count_ones() == 6);
     }
     grown(
         &rt,
@@ -218,13 +233,13 @@ fn other_makers_refused(rt: HostRuntime) {
     );
     match BitVec::<u8, Msb0>::from_text(rt.alloc(), "[1, 0]") {
         Ok(v) => holds(&rt, &v, b"10"),
-        Err(why) => assert!(rt; why == ParseBitsError::OutOfMemory),
+        Err(why) => check(&rt, why == ParseBitsError::OutOfMemory),
     }
     let Ok(v) = BitVec::<u32, Lsb0>::from_bytes::<Lsb0>(rt.alloc(), &words) else {
         return;
     };
     if let Ok(bytes) = v.to_bytes::<Lsb0>(rt.alloc()) {
-        assert_eq!(rt; bytes.as_slice(), words.as_slice());
+        check(&rt, bytes.as_slice() == words.as_slice());
     }
 }
 
@@ -238,8 +253,8 @@ fn appending_refused(rt: HostRuntime) {
         return;
     };
     let outcome = v.append(&mut other);
-    assert!(rt; other.len() == if outcome.is_ok() { 0 } else { 96 });
-    assert!(rt; other.count_ones() == other.len());
+    check(&rt, other.len() == if outcome.is_ok() { 0 } else { 96 });
+    check(&rt, other.count_ones() == other.len());
     stands(&rt, &v, outcome);
 }
 
@@ -267,10 +282,15 @@ fn one_by_one_refused(rt: HostRuntime) {
             _ => 0,
         };
         match grow_once(&mut v, turn % 5) {
-            Ok(()) => assert!(rt; v.len() == len + more && v.count_ones() == v.len()),
+            Ok(()) => {
+                check(&rt, v.len() == len + more);
+                check(&rt, v.count_ones() == v.len())
+            },
             Err(why) => {
-                assert!(rt; why == GrowError::OutOfMemory);
-                assert!(rt; v.len() == len && v.count_ones() == ones && v.first() == first);
+                check(&rt, why == GrowError::OutOfMemory);
+                check(&rt, v.len() == len);
+                check(&rt, v.count_ones() == ones);
+                check(&rt, v.first() == first);
             }
         }
         v.truncate(60);
@@ -300,8 +320,8 @@ fn shrinking_refused(rt: HostRuntime) {
     let Some(mut v) = eight(&rt) else {
         return;
     };
-    assert!(rt; v.reserve(100).is_err() || v.capacity() >= 108);
-    assert!(rt; v.shrink_to_fit().is_ok());
+    check(&rt, v.reserve(100).is_err() || v.capacity() >= 108);
+    check(&rt, v.shrink_to_fit().is_ok());
     holds(&rt, &v, b"10101111");
 }
 
@@ -348,16 +368,20 @@ fn runs_refused(rt: HostRuntime) {
     let done = match run(&mut v, &commands, &mut replies) {
         Ok(()) => commands.len(),
         Err(stop) => {
-            assert!(rt; stop.why == GrowError::OutOfMemory);
+            check(&rt, stop.why == GrowError::OutOfMemory);
             stop.done
         }
     };
-    assert_eq!(rt; replies.len(), done);
+    assert!(rt; replies.len() == done);
     let (mut len, mut ones) = (0usize, 0usize);
     for (reply, want) in replies.iter().zip(wanted) {
-        assert_eq!(rt; *reply, want.0);
+        check(&rt, *reply == want.0);
         (len, ones) = (want.1, want.2);
     }
-    assert!(rt; v.len() == len && v.count_ones() == ones);
-    assert!(rt; done < 5 || v.get(if done == 5 { 0 } else { 1 }) == Some(false));
+    check(&rt, v.len() == len);
+    check(&rt, v.count_ones() == ones);
+    check(
+        &rt,
+        done < 5 || v.get(if done == 5 { 0 } else { 1 }) == Some(false),
+    );
 }

@@ -2,7 +2,7 @@
 ghost use Rattle.std.specs.Prelude.{◌+◌, ◌*◌, ◌%◌, bit_xor, refl};
 ghost use Rattle.bit_addressing.specs.Order.{lawful_by_test};
 
-use crate::tests::{of, ok};
+use crate::tests::{check, of, ok};
 use bit_addressing::{BitIdx, BitOrder, BitPos, BitStore};
 use bit_boxed::BitBox;
 use std::boxed::BoxedSlice;
@@ -40,27 +40,27 @@ fn boxes_by_orders_of_a_user(rt: HostRuntime) {
     let Ok(mut b) = BitBox::<u8, Xor4>::try_from_boxed_slice(words) else {
         panic!(rt; "two words have few bits");
     };
-    assert_eq!(rt; b.len(), 16);
+    assert!(rt; b.len() == 16);
     b.copy_within(1..12, 3);
-    assert_eq!(rt; b.as_raw_slice(), [0xb6, 0x8d].as_slice());
+    check(&rt, b.as_raw_slice() == [0xb6, 0x8d].as_slice());
     let bits = [true, true, false, false, true];
     let b = ok(&rt, BitBox::<u8, Xor4>::from_bits(rt.alloc(), bits));
-    assert_eq!(rt; b.as_raw_slice(), [0x31].as_slice());
+    check(&rt, b.as_raw_slice() == [0x31].as_slice());
     let b = ok(&rt, BitBox::<u8, Scramble>::from_bits(rt.alloc(), bits));
-    assert_eq!(rt; b.as_raw_slice(), [0x89].as_slice());
+    check(&rt, b.as_raw_slice() == [0x89].as_slice());
     let b = ok(&rt, BitBox::<u16, Scramble>::from_bits(rt.alloc(), bits));
-    assert_eq!(rt; b.as_raw_slice(), [0x0188].as_slice());
+    check(&rt, b.as_raw_slice() == [0x0188].as_slice());
 }
 
 #[test]
 fn vectors_by_orders_of_a_user(rt: HostRuntime) {
     let v = of::<u8, Scramble>(&rt, b"11001");
-    assert_eq!(rt; v.as_raw_slice(), [0x89].as_slice());
+    check(&rt, v.as_raw_slice() == [0x89].as_slice());
     let v = of::<u16, Scramble>(&rt, b"11001");
-    assert_eq!(rt; v.as_raw_slice(), [0x0188].as_slice());
+    check(&rt, v.as_raw_slice() == [0x0188].as_slice());
     let mut v = of::<u8, Xor4>(&rt, b"1101100001101011");
-    assert_eq!(rt; v.as_raw_slice(), [0xb1, 0x6d].as_slice());
+    check(&rt, v.as_raw_slice() == [0xb1, 0x6d].as_slice());
     assert!(rt; v.len() == 16);
     v.copy_within(1..12, 3);
-    assert_eq!(rt; v.as_raw_slice(), [0xb6, 0x8d].as_slice());
+    check(&rt, v.as_raw_slice() == [0xb6, 0x8d].as_slice());
 }

@@ -1,7 +1,7 @@
 //! Iterators of a caller's own, with loose hints, whose calls are counted; what is left early.
 ghost use Rattle.std.specs.Iterator.{at_most};
 
-use crate::tests::{holds, of, ok};
+use crate::tests::{check, holds, of, ok};
 use bit_containers::boxed::BitBox;
 use bit_containers::{BitVec, GrowError, Lsb0, Msb0};
 use std::process::Abort;
@@ -70,10 +70,12 @@ fn bits(rt: &(impl Abort + AllocGlobal), n: usize) -> Vec<bool> {
 
 /// That a vector holds two bits and then the `n` that were pulled.
 fn ends_with(rt: &impl Abort, v: &BitVec<u8, Lsb0>, n: usize) {
-    assert!(rt; n < 2000 && v.len() == n + 2);
-    assert!(rt; v.get(0) == Some(false) && v.get(1) == Some(true));
+    assert!(rt; n < 2000);
+    assert!(rt; v.len() == n + 2);
+    check(rt, v.get(0) == Some(false));
+    check(rt, v.get(1) == Some(true));
     for i in 0..n {
-        assert!(rt; v.get(2 + i) == Some((n - 1 - i) % 3 == 0));
+        check(rt, v.get(2 + i) == Some((n - 1 - i) % 3 == 0));
     }
 }
 
@@ -93,7 +95,8 @@ fn made(rt: &(impl Abort + AllocGlobal), n: usize, bounded: bool) {
     let loose = Loose::of(n, BITS, bounded);
     let made = ok(rt, BitVec::<u8, Lsb0>::from_bits(rt.alloc(), loose));
     let exact = ok(rt, BitVec::<u8, Lsb0>::from_bits(rt.alloc(), bits(rt, n)));
-    assert!(rt; made == exact && made.as_raw_slice() == exact.as_raw_slice());
+    check(rt, made == exact);
+    check(rt, made.as_raw_slice() == exact.as_raw_slice());
 }
 
 /// A box made of bits, beside the vector that is made of a list of them.
@@ -101,7 +104,7 @@ fn boxed(rt: &(impl Abort + AllocGlobal), n: usize, bounded: bool) {
     let loose = Loose::of(n, BITS, bounded);
     let boxed = ok(rt, BitBox::<u8, Lsb0>::from_bits(rt.alloc(), loose));
     let exact = ok(rt, BitVec::<u8, Lsb0>::from_bits(rt.alloc(), bits(rt, n)));
-    assert!(rt; boxed.eq_bits(exact.as_bitslice()));
+    check(rt, boxed.eq_bits(exact.as_bitslice()));
 }
 
 /// A vector made of words, and one that they are appended to.
@@ -110,10 +113,11 @@ fn of_words(rt: &(impl Abort + AllocGlobal), n: usize, bounded: bool) {
     let made = ok(rt, BitVec::<u8, Msb0>::from_words(rt.alloc(), words));
     let mut v = BitVec::<u8, Msb0>::new(rt.alloc());
     ok(rt, v.extend_words(Loose::of(n, WORDS, bounded)));
-    assert!(rt; made == v && v.len() / 8 == n);
+    check(rt, made == v);
+    check(rt, v.len() / 8 == n);
     for (i, bit) in bits(rt, n).iter().enumerate() {
         let word = if *bit { 0xa5 } else { 0x0f };
-        assert!(rt; v.as_raw_slice().get(i) == Some(&word));
+        check(rt, v.as_raw_slice().get(i) == Some(&word));
     }
 }
 
@@ -141,9 +145,10 @@ fn bits_counted(rt: &(impl Abort + AllocGlobal), n: usize, bounded: bool) {
             rt,
             BitVec::<u16, Msb0>::from_bits(rt.alloc(), bits.by_ref()),
         );
-        assert!(rt; v.len() == n);
+        check(rt, v.len() == n);
     }
-    assert!(rt; bits.nones == 1 && bits.calls.wrapping_sub(1) == n);
+    check(rt, bits.nones == 1);
+    check(rt, bits.calls.wrapping_sub(1) == n);
 }
 
 /// Bits by reference, into a box.
@@ -153,8 +158,9 @@ fn boxed_counted(rt: &(impl Abort + AllocGlobal), n: usize, bounded: bool) {
         rt,
         BitBox::<u16, Msb0>::from_bits(rt.alloc(), bits.by_ref()),
     );
-    assert!(rt; b.len() == n);
-    assert!(rt; bits.nones == 1 && bits.calls.wrapping_sub(1) == n);
+    check(rt, b.len() == n);
+    check(rt, bits.nones == 1);
+    check(rt, bits.calls.wrapping_sub(1) == n);
 }
 
 /// Words by reference, so too.
@@ -166,8 +172,9 @@ fn words_counted(rt: &(impl Abort + AllocGlobal), n: usize, bounded: bool) {
     } else {
         v = ok(rt, BitVec::from_words(rt.alloc(), words.by_ref()));
     }
-    assert!(rt; v.len() / 8 == n);
-    assert!(rt; words.nones == 1 && words.calls.wrapping_sub(1) == n);
+    check(rt, v.len() / 8 == n);
+    check(rt, words.nones == 1);
+    check(rt, words.calls.wrapping_sub(1) == n);
 }
 
 /// No call follows the first None, after which there would be more.
@@ -186,8 +193,15 @@ fn calls_counted(rt: HostRuntime) {
 fn stopped<X: Copy>(rt: &impl Abort, pulled: &Loose<X>, outcome: Result<(), GrowError>) {
     let (calls, nones) = (pulled.calls, pulled.nones);
     match outcome {
-        Ok(()) => assert!(rt; nones == 1 && calls == 1001),
-        Err(why) => assert!(rt; why == GrowError::OutOfMemory && nones == 0 && calls < 1000),
+        Ok(()) => {
+            check(rt, nones == 1);
+            check(rt, calls == 1001)
+        },
+        Err(why) => {
+            check(rt, why == GrowError::OutOfMemory);
+            check(rt, nones == 0);
+            check(rt, calls < 1000)
+        },
     }
 }
 
@@ -252,7 +266,7 @@ fn left_early(rt: &(impl Abort + AllocGlobal), way: u8) {
         _ => splice.next_back() == Some(true),
     };
     ok(rt, splice.finish());
-    assert!(rt; right);
+    check(rt, right);
     holds(rt, &v, b"01000");
 }
 
@@ -261,7 +275,7 @@ fn left_after_all(rt: &(impl Abort + AllocGlobal)) {
     let mut v = of::<u16, Msb0>(rt, b"0110100");
     assert!(rt; v.len() == 7);
     let mut splice = v.splice(1..5, [true, false]);
-    assert!(rt; splice.items().filter(|bit| *bit).count() == 3);
+    check(rt, splice.items().filter(|bit| *bit).count() == 3);
     ok(rt, splice.finish());
     holds(rt, &v, b"01000");
 }
@@ -271,7 +285,7 @@ fn left_after_all_from_the_end(rt: &(impl Abort + AllocGlobal)) {
     let mut v = of::<u16, Msb0>(rt, b"0110100");
     assert!(rt; v.len() == 7);
     let mut splice = v.splice(1..5, [true, false]);
-    assert!(rt; splice.items().rev().filter(|bit| !*bit).count() == 1);
+    check(rt, splice.items().rev().filter(|bit| !*bit).count() == 1);
     ok(rt, splice.finish());
     holds(rt, &v, b"01000");
 }
@@ -287,7 +301,7 @@ fn left_past_an_end(rt: &(impl Abort + AllocGlobal), back: bool) {
         splice.nth(4).is_none() && splice.next_back().is_none()
     };
     ok(rt, splice.finish());
-    assert!(rt; right);
+    check(rt, right);
     holds(rt, &v, b"01000");
 }
 

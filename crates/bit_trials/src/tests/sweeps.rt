@@ -16,7 +16,7 @@ mod searched;
 mod views;
 mod words;
 
-use crate::tests::ok;
+use crate::tests::{check, ok};
 use bit_containers::{BitIdx, BitOrder, BitSlice, BitStore, BitVec};
 use std::process::Abort;
 

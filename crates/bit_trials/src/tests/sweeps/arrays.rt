@@ -1,7 +1,7 @@
 //! Arrays of one to three words, by four orders, beside plain loops over lists.
-use crate::tests::ok;
 use crate::tests::orders::{Scramble, Xor4};
 use crate::tests::sweeps::{By, row_of};
+use crate::tests::{check, ok};
 use bit_addressing::{BitOrder, Lsb0, Msb0};
 use bit_array::{BitArray, BitViewSized};
 use std::process::Abort;
@@ -58,19 +58,19 @@ fn set<A: BitViewSized, O: BitOrder>(
     if let Some(item) = list.get_mut(i) {
         *item = bit;
     }
-    assert!(rt; list_of(rt, a) == *list);
+    check(rt, list_of(rt, a) == *list);
 }
 
 /// Each bit written.
 fn written<A: BitViewSized, O: BitOrder>(rt: &(impl Abort + AllocGlobal), a: &BitArray<A, O>) {
     let mut a = ok(rt, a.clone());
     let mut list = list_of(rt, &a);
-    assert!(rt; shows(&a, &list));
+    check(rt, shows(&a, &list));
     for i in 0..a.len() {
         set(rt, &mut a, &mut list, i, false);
         set(rt, &mut a, &mut list, i, true);
     }
-    assert!(rt; shows(&a, &list));
+    check(rt, shows(&a, &list));
 }
 
 /// All bits written, and all flipped.
@@ -78,9 +78,9 @@ fn filled<A: BitViewSized, O: BitOrder>(rt: &(impl Abort + AllocGlobal), a: &Bit
     let mut a = ok(rt, a.clone());
     a.fill(true);
     a.fill(false);
-    assert!(rt; a.count_ones() == 0);
+    check(rt, a.count_ones() == 0);
     a.flip_all();
-    assert!(rt; a.count_ones() == a.len());
+    check(rt, a.count_ones() == a.len());
 }
 
 /// Each range of at most five bits copied to each place.
@@ -91,10 +91,11 @@ fn moved<A: BitViewSized, O: BitOrder>(rt: &(impl Abort + AllocGlobal), a: &BitA
         for count in 0..6.min(len - from + 1) {
             for dest in 0..len - count + 1 {
                 let mut a = ok(rt, a.clone());
-                assert!(rt; from + count <= a.len() && dest + count <= a.len());
+                assert!(rt; from + count <= a.len());
+                assert!(rt; dest + count <= a.len());
                 a.copy_within(from..from + count, dest);
                 let after = list_of(rt, &a);
-                assert!(rt; is_moved(&before, &after, from, count, dest));
+                check(rt, is_moved(&before, &after, from, count, dest));
             }
         }
     }
@@ -138,7 +139,7 @@ fn combined_by<A: BitViewSized, O: BitOrder>(
     let list = list_of(rt, &made);
     for i in 0..a.len() {
         let wanted = by.of(a.get(i) == Some(true), b.get(i) == Some(true));
-        assert!(rt; list.get(i).copied() == Some(wanted));
+        check(rt, list.get(i).copied() == Some(wanted));
     }
 }
 
@@ -146,7 +147,7 @@ fn combined_by<A: BitViewSized, O: BitOrder>(
 fn flipped<A: BitViewSized, O: BitOrder>(rt: &(impl Abort + AllocGlobal), a: &BitArray<A, O>) {
     let list = list_of(rt, &!ok(rt, a.clone()));
     for i in 0..a.len() {
-        assert!(rt; list.get(i).copied() == Some(a.get(i) != Some(true)));
+        check(rt, list.get(i).copied() == Some(a.get(i) != Some(true)));
     }
 }
 

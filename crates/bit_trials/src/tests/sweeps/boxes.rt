@@ -3,9 +3,9 @@ ghost use Rattle.std.specs.Prelude.{◌+◌, ◌<◌};
 
 mod given;
 
-use crate::tests::ok;
 use crate::tests::orders::{Scramble, Xor4};
 use crate::tests::sweeps::{By, row_of, words_of};
+use crate::tests::{check, ok};
 use bit_addressing::{BitOrder, BitStore, Lsb0, Msb0};
 use bit_boxed::BitBox;
 use bit_slice::BitSlice;
@@ -123,9 +123,10 @@ fn stands<T: BitStore, O: BitOrder>(
     requires { at + n < 100 }
 {
     let after = owned(rt, b);
-    assert!(rt; is_made(before, &after, at, n, made));
+    check(rt, is_made(before, &after, at, n, made));
     let (head, len) = (b.head(), b.len());
-    assert!(rt; head + len < 100 && shows(b, &after, head, len));
+    assert!(rt; head + len < 100);
+    check(rt, shows(b, &after, head, len));
 }
 
 /// One bit written.
@@ -137,9 +138,11 @@ fn set<T: BitStore, O: BitOrder>(
 ) {
     let before = owned(rt, b);
     let (head, len) = (b.head(), b.len());
-    assert!(rt; i < len && head + len < 100);
+    assert!(rt; i < len);
+    assert!(rt; head + len < 100);
     b.set(i, bit);
-    assert!(rt; b.head() == head && b.len() == len);
+    check(rt, b.head() == head);
+    assert!(rt; b.len() == len);
     stands(rt, b, &before, head + i, 1, Made::Bit(bit));
 }
 
@@ -153,7 +156,8 @@ fn filled<T: BitStore, O: BitOrder>(
     let (head, len) = (b.head(), b.len());
     assert!(rt; head + len < 100);
     b.fill(bit);
-    assert!(rt; b.head() == head && b.len() == len);
+    check(rt, b.head() == head);
+    assert!(rt; b.len() == len);
     stands(rt, b, &before, head, len, Made::Bit(bit));
 }
 
@@ -170,21 +174,23 @@ fn written<T: BitStore, O: BitOrder>(rt: &(impl Abort + AllocGlobal), b: &mut Bi
 /// Each range that has room at each place, copied there.
 fn moved<T: BitStore, O: BitOrder>(rt: &(impl Abort + AllocGlobal), b: &mut BitBox<T, O>) {
     let (head, len) = (b.head(), b.len());
-    assert!(rt; head < 8 && len < 18);
+    assert!(rt; head < 8);
+    assert!(rt; len < 18);
     for from in 0..len + 1 {
         for upto in from..len + 1 {
             for dest in 0..len - (upto - from) + 1 {
                 let before = owned(rt, b);
-                assert!(rt; upto <= b.len() && dest <= b.len() - (upto - from));
+                assert!(rt; upto <= b.len());
+                assert!(rt; dest <= b.len() - (upto - from));
                 b.copy_within(from..upto, dest);
                 let after = owned(rt, b);
                 let made = Made::Moved(head + from);
-                assert!(rt; is_made(&before, &after, head + dest, upto - from, made));
+                check(rt, is_made(&before, &after, head + dest, upto - from, made));
             }
         }
     }
     let row = owned(rt, b);
-    assert!(rt; shows(b, &row, head, len));
+    check(rt, shows(b, &row, head, len));
 }
 
 /// All bits flipped, dead ones too.
@@ -193,7 +199,8 @@ fn flipped<T: BitStore, O: BitOrder>(rt: &(impl Abort + AllocGlobal), b: &mut Bi
     let (head, len) = (b.head(), b.len());
     assert!(rt; before.len() < 100);
     b.flip_all();
-    assert!(rt; b.head() == head && b.len() == len);
+    check(rt, b.head() == head);
+    assert!(rt; b.len() == len);
     stands(rt, b, &before, 0, before.len(), Made::Flipped);
 }
 
@@ -204,20 +211,23 @@ fn dead_filled<T: BitStore, O: BitOrder>(
     bit: bool,
 ) {
     let (head, len) = (b.head(), b.len());
-    assert!(rt; head < 8 && len < 18);
+    assert!(rt; head < 8);
+    assert!(rt; len < 18);
     let before = owned(rt, b);
     b.fill_uninitialized(bit);
     let after = owned(rt, b);
-    assert!(rt; is_filled(&before, &after, head, len, bit));
+    check(rt, is_filled(&before, &after, head, len, bit));
 }
 
 /// The list moved to the beginning of the words.
 fn aligned<T: BitStore, O: BitOrder>(rt: &(impl Abort + AllocGlobal), b: &mut BitBox<T, O>) {
     let (head, len) = (b.head(), b.len());
-    assert!(rt; head < 8 && len < 18);
+    assert!(rt; head < 8);
+    assert!(rt; len < 18);
     let before = owned(rt, b);
     b.force_align();
-    assert!(rt; b.head() == 0 && b.len() == len);
+    check(rt, b.head() == 0);
+    assert!(rt; b.len() == len);
     stands(rt, b, &before, 0, len, Made::Moved(head));
 }
 
@@ -230,7 +240,7 @@ fn worked<T: BitStore, O: BitOrder>(
     let before = owned(rt, &b);
     flipped(rt, &mut b);
     let mut b = !b;
-    assert!(rt; owned(rt, &b) == before);
+    check(rt, owned(rt, &b) == before);
     for bit in [true, false, true] {
         dead_filled(rt, &mut b, bit);
     }
@@ -241,12 +251,13 @@ fn worked<T: BitStore, O: BitOrder>(
 /// What is written through a view, and through the words, stands in the box.
 fn lent<T: BitStore, O: BitOrder>(rt: &(impl Abort + AllocGlobal), b: &mut BitBox<T, O>) {
     let (head, len) = (b.head(), b.len());
-    assert!(rt; head < 8 && len < 18);
+    assert!(rt; head < 8);
+    assert!(rt; len < 18);
     let before = owned(rt, b);
     b.as_mut_bitslice().fill(true);
     let after = owned(rt, b);
-    assert!(rt; is_made(&before, &after, head, len, Made::Bit(true)));
-    assert!(rt; shows(b, &after, head, len));
+    check(rt, is_made(&before, &after, head, len, Made::Bit(true)));
+    check(rt, shows(b, &after, head, len));
     let count = b.as_raw_slice().len();
     for at in 0..count {
         let words = b.as_raw_mut_slice();
@@ -257,9 +268,9 @@ fn lent<T: BitStore, O: BitOrder>(rt: &(impl Abort + AllocGlobal), b: &mut BitBo
     let five = words_of::<T>(rt, 0x5a5a_5a5a_5a5a_5a5a);
     let five = row_of::<T, O>(rt, five.as_slice());
     for (j, bit) in after.iter().enumerate() {
-        assert!(rt; five.get(j % T::BITS as usize) == Some(bit));
+        check(rt, five.get(j % T::BITS as usize) == Some(bit));
     }
-    assert!(rt; shows(b, &after, head, len));
+    check(rt, shows(b, &after, head, len));
 }
 
 /// Two boxes combined by an operator.
@@ -300,7 +311,7 @@ fn combined<T: BitStore, O: BitOrder>(
     let before = owned(rt, a);
     for by in [By::And, By::Or, By::Xor] {
         let after = owned(rt, &operated(copied(rt, a), copied(rt, b), by));
-        assert!(rt; is_combined(&before, &after, a.head(), a.len(), b, by));
+        check(rt, is_combined(&before, &after, a.head(), a.len(), b, by));
     }
 }
 
@@ -355,7 +366,7 @@ fn every_call<T: BitStore, O: BitOrder>(rt: &(impl Abort + AllocGlobal), head: u
 {
     let mut b = boxed::<T, O>(rt, 0x0fed_cba9_8765_4321, head, len);
     let row = owned(rt, &b);
-    assert!(rt; shows(&b, &row, head, len));
+    check(rt, shows(&b, &row, head, len));
     given(rt, &b);
     told(rt, &b);
     written(rt, &mut copied(rt, &b));
@@ -379,13 +390,14 @@ fn pairs<T: BitStore, O: BitOrder>(rt: &(impl Abort + AllocGlobal), head: usize,
         let other = (3 * head + size) % 8;
         let b = boxed::<T, O>(rt, 0x0fed_cba9_8765_4321, other, size);
         combined(rt, &a, &b);
-        assert!(rt; compared(&a, &b));
+        check(rt, compared(&a, &b));
         if size <= words.len() {
             let part = ok(
                 rt,
                 BitBox::from_bitslice(rt.alloc(), words.get_range(0..size)),
             );
-            assert!(rt; compared(&a, &part) && compared(&part, &a));
+            check(rt, compared(&a, &part));
+            check(rt, compared(&part, &a));
         }
     }
 }

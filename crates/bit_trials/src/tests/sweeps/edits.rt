@@ -1,9 +1,9 @@
 //! Single bits put in, taken out and written, and the list cut.
 ghost use Rattle.std.specs.Prelude.{◌<◌};
 
-use crate::tests::ok;
 use crate::tests::orders::{Scramble, Xor4};
 use crate::tests::sweeps::{Case, at_head, replaced, same, shows};
+use crate::tests::{check, ok};
 use bit_containers::{BitOrder, BitStore, Lsb0, Msb0};
 use std::process::Abort;
 
@@ -18,13 +18,13 @@ fn joined<T: BitStore, O: BitOrder>(rt: &(impl Abort + AllocGlobal), head: usize
         let Case { mut v, list, row } = at_head::<T, O>(rt, SEED, head, len);
         ok(rt, v.push(bit));
         let wanted = replaced(rt, &list, len, len, &[bit]);
-        assert!(rt; shows(rt, &v, head, &wanted, &row));
+        check(rt, shows(rt, &v, head, &wanted, &row));
         for at in 0..len + 1 {
             let Case { mut v, list, .. } = at_head::<T, O>(rt, SEED, head, len);
             assert!(rt; at <= v.len());
             ok(rt, v.insert(at, bit));
             let wanted = replaced(rt, &list, at, at, &[bit]);
-            assert!(rt; same(&v, head, &wanted));
+            check(rt, same(&v, head, &wanted));
         }
     }
 }
@@ -35,9 +35,9 @@ fn popped<T: BitStore, O: BitOrder>(rt: &(impl Abort + AllocGlobal), head: usize
     requires len { len < 18 }
 {
     let Case { mut v, list, row } = at_head::<T, O>(rt, SEED, head, len);
-    assert!(rt; v.pop() == list.last().copied());
+    check(rt, v.pop() == list.last().copied());
     let wanted = replaced(rt, &list, len.saturating_sub(1), len, &[]);
-    assert!(rt; shows(rt, &v, head, &wanted, &row));
+    check(rt, shows(rt, &v, head, &wanted, &row));
 }
 
 /// An item taken out.
@@ -53,9 +53,9 @@ fn removed<T: BitStore, O: BitOrder>(
 {
     let Case { mut v, list, .. } = at_head::<T, O>(rt, SEED, head, len);
     assert!(rt; at < v.len());
-    assert!(rt; Some(v.remove(at)) == list.get(at).copied());
+    check(rt, Some(v.remove(at)) == list.get(at).copied());
     let wanted = replaced(rt, &list, at, at + 1, &[]);
-    assert!(rt; same(&v, head, &wanted));
+    check(rt, same(&v, head, &wanted));
 }
 
 /// An item taken out, and the last one put in its place.
@@ -71,11 +71,11 @@ fn swapped_out<T: BitStore, O: BitOrder>(
 {
     let Case { mut v, list, .. } = at_head::<T, O>(rt, SEED, head, len);
     assert!(rt; at < v.len());
-    assert!(rt; Some(v.swap_remove(at)) == list.get(at).copied());
+    check(rt, Some(v.swap_remove(at)) == list.get(at).copied());
     let last = list.last().copied().unwrap_or(false);
     let wanted = replaced(rt, &list, at, at + 1, &[last]);
     let wanted = replaced(rt, &wanted, len - 1, len, &[]);
-    assert!(rt; same(&v, head, &wanted));
+    check(rt, same(&v, head, &wanted));
 }
 
 /// The list cut at each place, and past its end.
@@ -88,11 +88,13 @@ fn cut<T: BitStore, O: BitOrder>(rt: &(impl Abort + AllocGlobal), head: usize, l
         let room = v.capacity();
         v.truncate(n);
         let wanted = replaced(rt, &list, n, len, &[]);
-        assert!(rt; shows(rt, &v, head, &wanted, &row) && v.capacity() == room);
+        check(rt, shows(rt, &v, head, &wanted, &row));
+        check(rt, v.capacity() == room);
     }
     let Case { mut v, row, .. } = at_head::<T, O>(rt, SEED, head, len);
     v.clear();
-    assert!(rt; shows(rt, &v, head, &[], &row) && v.is_empty());
+    check(rt, shows(rt, &v, head, &[], &row));
+    check(rt, v.is_empty());
 }
 
 /// Each item written, in both ways.
@@ -106,12 +108,12 @@ fn written<T: BitStore, O: BitOrder>(rt: &(impl Abort + AllocGlobal), head: usiz
         for (bit, replaces) in [(true, true), (false, true), (true, false), (false, false)] {
             assert!(rt; at < v.len());
             if replaces {
-                assert!(rt; Some(v.replace(at, bit)) == now.get(at).copied());
+                check(rt, Some(v.replace(at, bit)) == now.get(at).copied());
             } else {
                 v.set(at, bit);
             }
             now = replaced(rt, &now, at, at + 1, &[bit]);
-            assert!(rt; shows(rt, &v, head, &now, &row));
+            check(rt, shows(rt, &v, head, &now, &row));
         }
     }
 }
@@ -124,12 +126,13 @@ fn exchanged<T: BitStore, O: BitOrder>(rt: &(impl Abort + AllocGlobal), head: us
     for i in 0..len {
         for j in 0..len {
             let Case { mut v, list, row } = at_head::<T, O>(rt, SEED, head, len);
-            assert!(rt; i < v.len() && j < v.len());
+            assert!(rt; i < v.len());
+            assert!(rt; j < v.len());
             v.swap(i, j);
             let (first, second) = (list.get(i).copied(), list.get(j).copied());
             let wanted = replaced(rt, &list, i, i + 1, &[second.unwrap_or(false)]);
             let wanted = replaced(rt, &wanted, j, j + 1, &[first.unwrap_or(false)]);
-            assert!(rt; shows(rt, &v, head, &wanted, &row));
+            check(rt, shows(rt, &v, head, &wanted, &row));
         }
     }
 }

@@ -1,9 +1,9 @@
 //! Bits appended, from lists, views, words and functions, and room made.
 ghost use Rattle.std.specs.Prelude.{◌<◌};
 
-use crate::tests::ok;
 use crate::tests::orders::{Scramble, Xor4};
 use crate::tests::sweeps::{Case, at_head, part, replaced, row_of, shows, words_of};
+use crate::tests::{check, ok};
 use bit_containers::{BitOrder, BitStore, BitVec, Lsb0, Msb0};
 use std::process::Abort;
 
@@ -54,7 +54,7 @@ fn extended<T: BitStore, O: BitOrder>(rt: &(impl Abort + AllocGlobal), head: usi
         for way in 0..4u8 {
             extended_in::<T, O>(rt, head, len, &mut other, way);
         }
-        assert!(rt; shows(rt, &other.v, emptied, &[], &other.row));
+        check(rt, shows(rt, &other.v, emptied, &[], &other.row));
     }
 }
 
@@ -85,9 +85,10 @@ fn resized_by_calls<T: BitStore, O: BitOrder>(
         i % 3 == 0
     });
     ok(rt, outcome);
-    assert!(rt; ordered && next == len.max(n));
+    check(rt, ordered);
+    check(rt, next == len.max(n));
     let wanted = replaced(rt, &list, n, len, &thirds(rt, len, n));
-    assert!(rt; shows(rt, &v, head, &wanted, &row));
+    check(rt, shows(rt, &v, head, &wanted, &row));
 }
 
 /// The length set, by one bit.
@@ -107,7 +108,7 @@ fn resized_by_ones<T: BitStore, O: BitOrder>(
     let Case { mut v, list, row } = at_head::<T, O>(rt, SEED, head, len);
     ok(rt, v.resize(n, true));
     let wanted = replaced(rt, &list, n, len, &ones);
-    assert!(rt; shows(rt, &v, head, &wanted, &row));
+    check(rt, shows(rt, &v, head, &wanted, &row));
 }
 
 /// The length set, to fewer bits and to more.
@@ -136,13 +137,13 @@ fn extended_by_words<T: BitStore, O: BitOrder>(
         let Case { mut v, list, row } = at_head::<T, O>(rt, SEED, head, len);
         ok(rt, v.extend_from_raw_slice(words.as_slice()));
         let wanted = replaced(rt, &list, len, len, &more);
-        assert!(rt; shows(rt, &v, head, &wanted, &row));
+        check(rt, shows(rt, &v, head, &wanted, &row));
         let Case { mut v, row, .. } = at_head::<T, O>(rt, SEED, head, len);
         ok(
             rt,
             v.extend_words(ok(rt, Vec::from_slice(rt.alloc(), words.as_slice()))),
         );
-        assert!(rt; shows(rt, &v, head, &wanted, &row));
+        check(rt, shows(rt, &v, head, &wanted, &row));
         let _last = words.pop();
     }
 }
@@ -163,7 +164,7 @@ fn extended_within<T: BitStore, O: BitOrder>(
             ok(rt, v.extend_from_within(from..upto));
             let more = part(rt, &list, from, upto);
             let wanted = replaced(rt, &list, len, len, &more);
-            assert!(rt; shows(rt, &v, head, &wanted, &row));
+            check(rt, shows(rt, &v, head, &wanted, &row));
         }
     }
 }
@@ -176,13 +177,15 @@ fn roomy<T: BitStore, O: BitOrder>(rt: &(impl Abort + AllocGlobal), head: usize,
     for more in 0..40usize {
         let Case { mut v, list, row } = at_head::<T, O>(rt, SEED, head, len);
         ok(rt, v.reserve(more));
-        assert!(rt; v.capacity() >= len + more);
+        check(rt, v.capacity() >= len + more);
         ok(rt, v.reserve_exact(2 * more));
         let room = v.capacity();
-        assert!(rt; room >= len + 2 * more && shows(rt, &v, head, &list, &row));
+        check(rt, room >= len + 2 * more);
+        check(rt, shows(rt, &v, head, &list, &row));
         ok(rt, v.shrink_to_fit());
-        assert!(rt; v.capacity() >= len && v.capacity() <= room);
-        assert!(rt; shows(rt, &v, head, &list, &row));
+        check(rt, v.capacity() >= len);
+        assert!(rt; v.capacity() <= room);
+        check(rt, shows(rt, &v, head, &list, &row));
     }
 }
 

@@ -1,9 +1,9 @@
 //! Runs of many words, moved and copied by orders of a user, beside plain lists.
 ghost use Rattle.std.specs.Prelude.{◌+◌, ◌<◌};
 
-use crate::tests::ok;
 use crate::tests::orders::{Scramble, Xor4};
 use crate::tests::sweeps::row_of;
+use crate::tests::{check, ok};
 use bit_addressing::{BitOrder, BitStore, Lsb0, Msb0, Xor, combine_bits, copy_bits, move_bits};
 use std::process::Abort;
 
@@ -55,10 +55,11 @@ fn moved<T: BitStore, O: BitOrder>(
     let mut words = many_words::<T>(rt, 0x9e37_79b9_7f4a_7c15, 80);
     let before = row_of::<T, O>(rt, words.as_slice());
     assert!(rt; words.len() == 80);
-    assert!(rt; src + n <= T::BITS as usize * 80 && dst + n <= T::BITS as usize * 80);
+    assert!(rt; src + n <= T::BITS as usize * 80);
+    assert!(rt; dst + n <= T::BITS as usize * 80);
     move_bits::<T, O>(words.as_mut_slice(), src, dst, n);
     let after = row_of::<T, O>(rt, words.as_slice());
-    assert!(rt; is_written(&before, &after, dst, &before, src, n, false));
+    check(rt, is_written(&before, &after, dst, &before, src, n, false));
 }
 
 /// Eighty words after a run of their bits is written over by one of others, or combined with it.
@@ -74,8 +75,10 @@ fn written_over<T: BitStore, O: BitOrder, U: BitStore, P: BitOrder>(
     requires { at + n + from < 10000 }
 {
     let mut words = words;
-    assert!(rt; words.len() == 80 && source.len() == 80);
-    assert!(rt; at + n <= T::BITS as usize * 80 && from + n <= U::BITS as usize * 80);
+    assert!(rt; words.len() == 80);
+    assert!(rt; source.len() == 80);
+    assert!(rt; at + n <= T::BITS as usize * 80);
+    assert!(rt; from + n <= U::BITS as usize * 80);
     if flips {
         combine_bits::<Xor, T, O, U, P>(words.as_mut_slice(), at, source, from, n);
     } else {
@@ -99,7 +102,7 @@ fn copied<T: BitStore, O: BitOrder, U: BitStore, P: BitOrder>(
     let words = written_over::<T, O, U, P>(rt, words, at, source.as_slice(), from, n, flips);
     let after = row_of::<T, O>(rt, words.as_slice());
     let given = row_of::<U, P>(rt, source.as_slice());
-    assert!(rt; is_written(&before, &after, at, &given, from, n, flips));
+    check(rt, is_written(&before, &after, at, &given, from, n, flips));
 }
 
 /// Runs of about a thousand bits, from some places to others.

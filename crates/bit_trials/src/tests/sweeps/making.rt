@@ -1,9 +1,9 @@
 //! Vectors made of views, lists, words and other containers.
 ghost use Rattle.std.specs.Prelude.{◌<◌};
 
-use crate::tests::ok;
 use crate::tests::orders::{Scramble, Xor4};
 use crate::tests::sweeps::{Case, at_head, part, row_of, shows, words_of};
+use crate::tests::{check, ok};
 use bit_containers::array::BitArray;
 use bit_containers::{BitOrder, BitStore, BitVec, Lsb0, Msb0};
 use std::process::Abort;
@@ -23,14 +23,16 @@ fn copied<T: BitStore, O: BitOrder>(rt: &(impl Abort + AllocGlobal), head: usize
         ok(rt, BitVec::from_bits(rt.alloc(), v.iter())),
         ok(rt, BitVec::from_bits(rt.alloc(), bits)),
     ] {
-        assert!(rt; shows(rt, &copy, 0, &list, &[]) && copy == v);
+        check(rt, shows(rt, &copy, 0, &list, &[]));
+        check(rt, copy == v);
     }
     let copy = ok(
         rt,
         BitVec::from_bitslice_headed(rt.alloc(), v.as_bitslice()),
     );
-    assert!(rt; shows(rt, &copy, head, &list, &[]) && copy == v);
-    assert!(rt; shows(rt, &v, head, &list, &row));
+    check(rt, shows(rt, &copy, head, &list, &[]));
+    check(rt, copy == v);
+    check(rt, shows(rt, &v, head, &list, &row));
 }
 
 /// One bit repeated, which fills the dead bits too, and room for bits.
@@ -39,13 +41,15 @@ fn repeated<T: BitStore, O: BitOrder>(rt: &(impl Abort + AllocGlobal), len: usiz
         let v = ok(rt, BitVec::<T, O>::repeat(rt.alloc(), bit, len));
         let row = row_of::<T, O>(rt, v.as_raw_slice());
         for now in &row {
-            assert!(rt; *now == bit);
+            check(rt, *now == bit);
         }
         let list = part(rt, &row, 0, len);
-        assert!(rt; list.len() == len && shows(rt, &v, 0, &list, &row));
+        check(rt, list.len() == len);
+        check(rt, shows(rt, &v, 0, &list, &row));
     }
     let v = ok(rt, BitVec::<T, O>::with_capacity(rt.alloc(), len));
-    assert!(rt; v.capacity() >= len && shows(rt, &v, 0, &[], &[]));
+    check(rt, v.capacity() >= len);
+    check(rt, shows(rt, &v, 0, &[], &[]));
 }
 
 /// That a vector holds all bits of these words, and hands the words back.
@@ -55,9 +59,9 @@ fn hands_back<T: BitStore, O: BitOrder>(
     words: &[T],
 ) {
     let row = row_of::<T, O>(rt, words);
-    assert!(rt; shows(rt, &v, 0, &row, &[]));
+    check(rt, shows(rt, &v, 0, &row, &[]));
     let back = v.into_vec();
-    assert!(rt; row_of::<T, O>(rt, back.as_slice()) == row);
+    check(rt, row_of::<T, O>(rt, back.as_slice()) == row);
 }
 
 /// All bits of some words, kept.
@@ -90,14 +94,17 @@ fn of_words<T: BitStore, O: BitOrder>(rt: &(impl Abort + AllocGlobal)) {
 fn of_arrays<O: BitOrder>(rt: &(impl Abort + AllocGlobal)) {
     let (first, last) = (0x5a17_u16, 0xc4e9_u16);
     let v = ok(rt, BitVec::<u16, O>::from_element(rt.alloc(), first));
-    assert!(rt; shows(rt, &v, 0, &row_of::<u16, O>(rt, &[first]), &[]));
+    check(rt, shows(rt, &v, 0, &row_of::<u16, O>(rt, &[first]), &[]));
     let array = BitArray::<[u16; 2], O>::new([first, last]);
-    assert!(rt; BitVec::<u16, O>::empty(rt.alloc()).is_empty());
+    check(rt, BitVec::<u16, O>::empty(rt.alloc()).is_empty());
     for v in [
         ok(rt, BitVec::from_bitarray(rt.alloc(), array)),
         ok(rt, BitVec::from_slice(rt.alloc(), &[first, last])),
     ] {
-        assert!(rt; shows(rt, &v, 0, &row_of::<u16, O>(rt, &[first, last]), &[]));
+        check(
+            rt,
+            shows(rt, &v, 0, &row_of::<u16, O>(rt, &[first, last]), &[]),
+        );
     }
 }
 

@@ -1,6 +1,7 @@
 //! Each move within three bytes, by four orders, beside the move of a list.
 ghost use Rattle.std.specs.Prelude.{◌+◌, ◌≤◌};
 
+use crate::tests::check;
 use crate::tests::orders::{Scramble, Xor4};
 use crate::tests::sweeps::bits_of;
 use bit_addressing::{BitOrder, Lsb0, Msb0, move_bits};
@@ -28,7 +29,7 @@ fn every_move<O: BitOrder>(rt: &impl Abort) -> usize {
             for dst in 0..=24 - n {
                 let mut now = words;
                 move_bits::<u8, O>(&mut now, src, dst, n);
-                assert!(rt; bits_of::<O>(now) == moved(before, src, dst, n));
+                check(rt, bits_of::<O>(now) == moved(before, src, dst, n));
                 count = count.wrapping_add(1);
             }
         }
@@ -38,8 +39,8 @@ fn every_move<O: BitOrder>(rt: &impl Abort) -> usize {
 
 #[test]
 fn every_move_within_three_words(rt: HostRuntime) {
-    assert_eq!(rt; every_move::<Lsb0>(&rt), 5525);
-    assert_eq!(rt; every_move::<Msb0>(&rt), 5525);
-    assert_eq!(rt; every_move::<Xor4>(&rt), 5525);
-    assert_eq!(rt; every_move::<Scramble>(&rt), 5525);
+    check(&rt, every_move::<Lsb0>(&rt) == 5525);
+    check(&rt, every_move::<Msb0>(&rt) == 5525);
+    check(&rt, every_move::<Xor4>(&rt) == 5525);
+    check(&rt, every_move::<Scramble>(&rt) == 5525);
 }

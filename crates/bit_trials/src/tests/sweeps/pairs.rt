@@ -1,9 +1,9 @@
 //! Two lists combined, compared and written over one another.
 ghost use Rattle.std.specs.Prelude.{◌<◌};
 
-use crate::tests::ok;
 use crate::tests::orders::{Scramble, Xor4};
 use crate::tests::sweeps::{By, Case, at_head, part, replaced, shows};
+use crate::tests::{check, ok};
 use bit_containers::{BitOrder, BitSlice, BitStore, BitVec, Lsb0, Msb0};
 use std::cmp::Ordering;
 use std::hash::{DefaultHasher, Hash, Hasher};
@@ -109,7 +109,7 @@ fn crossed_by<T: BitStore, O: BitOrder>(
     let Case { mut v, list, row } = at_head::<T, O>(rt, SEED, head, len);
     by_view(&mut v, right.v.as_bitslice(), by);
     let wanted = combined(rt, &list, &right.list, by);
-    assert!(rt; shows(rt, &v, head, &wanted, &row));
+    check(rt, shows(rt, &v, head, &wanted, &row));
 }
 
 /// A list beside one by other words and another order.
@@ -124,8 +124,11 @@ fn set_beside<T: BitStore, O: BitOrder>(
 {
     let Case { v, list, .. } = at_head::<T, O>(rt, SEED, head, len);
     let order = order_of(&list, &right.list);
-    assert!(rt; v.cmp_bits(right.v.as_bitslice()) == order);
-    assert!(rt; v.eq_bits(right.v.as_bitslice()) == (order == Ordering::Equal));
+    check(rt, v.cmp_bits(right.v.as_bitslice()) == order);
+    check(
+        rt,
+        v.eq_bits(right.v.as_bitslice()) == (order == Ordering::Equal),
+    );
 }
 
 /// A list written over by one as long, by other words and another order.
@@ -141,8 +144,8 @@ fn written_over<T: BitStore, O: BitOrder>(
     let Case { mut v, row, .. } = at_head::<T, O>(rt, SEED, head, len);
     assert!(rt; v.len() == right.v.len());
     v.clone_from_bitslice(right.v.as_bitslice());
-    assert!(rt; shows(rt, &v, head, &right.list, &row));
-    assert!(rt; v.eq_bits(right.v.as_bitslice()));
+    check(rt, shows(rt, &v, head, &right.list, &row));
+    check(rt, v.eq_bits(right.v.as_bitslice()));
 }
 
 /// A list combined with, and written over by, a view by other words and another order.
@@ -213,15 +216,13 @@ fn ordered<T: BitStore, O: BitOrder>(rt: &(impl Abort + AllocGlobal), head: usiz
     let a = at_head::<T, O>(rt, SEED, head, len);
     for size in 0..18usize {
         let b = at_head::<T, O>(rt, OTHER, (3 * head + size) % 8, size);
-        assert!(rt;
-            compared(&a.v, &b.v, &a.list, &b.list) && compared(&b.v, &a.v, &b.list, &a.list)
-        );
+        check(rt, compared(&a.v, &b.v, &a.list, &b.list));
+        check(rt, compared(&b.v, &a.v, &b.list, &a.list));
         let list = part(rt, &a.list, 0, size);
         let bits = part(rt, &list, 0, size);
         let mut first = ok(rt, BitVec::<T, O>::from_bits(rt.alloc(), bits));
-        assert!(rt;
-            compared(&a.v, &first, &a.list, &list) && compared(&first, &a.v, &list, &a.list)
-        );
+        check(rt, compared(&a.v, &first, &a.list, &list));
+        check(rt, compared(&first, &a.v, &list, &a.list));
         if let Some(last) = first.pop() {
             ok(rt, first.push(!last));
             let list = replaced(
@@ -231,9 +232,8 @@ fn ordered<T: BitStore, O: BitOrder>(rt: &(impl Abort + AllocGlobal), head: usiz
                 list.len(),
                 &[!last],
             );
-            assert!(rt;
-                compared(&a.v, &first, &a.list, &list) && compared(&first, &a.v, &list, &a.list)
-            );
+            check(rt, compared(&a.v, &first, &a.list, &list));
+            check(rt, compared(&first, &a.v, &list, &a.list));
         }
     }
 }

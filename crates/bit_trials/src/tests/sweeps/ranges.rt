@@ -1,9 +1,9 @@
 //! Ranges drained, replaced, split off, copied and kept by a function.
 ghost use Rattle.std.specs.Prelude.{◌<◌, ◌≤◌, length};
 
-use crate::tests::ok;
 use crate::tests::orders::{Scramble, Xor4};
 use crate::tests::sweeps::{Case, again, at_head, part, replaced, same, shows};
+use crate::tests::{check, ok};
 use bit_containers::{BitOrder, BitStore, BitVec, Lsb0, Msb0};
 use std::process::Abort;
 
@@ -128,8 +128,8 @@ fn drained_in<T: BitStore, O: BitOrder>(
     let wanted = replaced(rt, list, from, upto, &[]);
     let mut copy = again(rt, v);
     assert!(rt; upto <= copy.len());
-    assert!(rt; gives(&mut copy, from, upto, &bits, left));
-    assert!(rt; same(&copy, v.head(), &wanted));
+    check(rt, gives(&mut copy, from, upto, &bits, left));
+    check(rt, same(&copy, v.head(), &wanted));
 }
 
 /// Each range drained, in turn as far as each way goes.
@@ -138,7 +138,7 @@ fn drained<T: BitStore, O: BitOrder>(rt: &(impl Abort + AllocGlobal), head: usiz
     requires len { len < 18 }
 {
     let Case { v: first, list, .. } = at_head::<T, O>(rt, SEED, head, len);
-    assert!(rt; first.head() == head);
+    check(rt, first.head() == head);
     for from in 0..len + 1 {
         for upto in from..len + 1 {
             for (turn, left) in WAYS.iter().enumerate() {
@@ -166,7 +166,7 @@ fn spliced_in<T: BitStore, O: BitOrder>(
     let mut copy = again(rt, v);
     assert!(rt; upto <= copy.len());
     ok(rt, copy.splice(from..upto, bits).finish());
-    assert!(rt; same(&copy, v.head(), &wanted));
+    check(rt, same(&copy, v.head(), &wanted));
 }
 
 /// Each range replaced by lists of several lengths.
@@ -175,7 +175,7 @@ fn spliced<T: BitStore, O: BitOrder>(rt: &(impl Abort + AllocGlobal), head: usiz
     requires len { len < 18 }
 {
     let Case { v: first, list, .. } = at_head::<T, O>(rt, SEED, head, len);
-    assert!(rt; first.head() == head);
+    check(rt, first.head() == head);
     for more in [0usize, 1, 2, 7, 17] {
         let other = at_head::<u16, Msb0>(rt, OTHER, head, more).list;
         for from in 0..len + 1 {
@@ -196,9 +196,9 @@ fn split<T: BitStore, O: BitOrder>(rt: &(impl Abort + AllocGlobal), head: usize,
         assert!(rt; at <= v.len());
         let rest = ok(rt, v.split_off(at));
         let wanted = part(rt, &list, at, len);
-        assert!(rt; shows(rt, &rest, 0, &wanted, &[]));
+        check(rt, shows(rt, &rest, 0, &wanted, &[]));
         let wanted = part(rt, &list, 0, at);
-        assert!(rt; shows(rt, &v, head, &wanted, &row));
+        check(rt, shows(rt, &v, head, &wanted, &row));
     }
 }
 
@@ -218,9 +218,10 @@ fn moved_to<T: BitStore, O: BitOrder>(
     let bits = part(rt, list, from, upto);
     let wanted = replaced(rt, list, dest, dest + (upto - from), &bits);
     let mut copy = again(rt, v);
-    assert!(rt; upto <= copy.len() && dest <= copy.len() - (upto - from));
+    assert!(rt; upto <= copy.len());
+    assert!(rt; dest <= copy.len() - (upto - from));
     copy.copy_within(from..upto, dest);
-    assert!(rt; shows(rt, &copy, v.head(), &wanted, &[true; 40]));
+    check(rt, shows(rt, &copy, v.head(), &wanted, &[true; 40]));
 }
 
 /// Each range copied to each place that has room for it.
@@ -229,7 +230,7 @@ fn moved<T: BitStore, O: BitOrder>(rt: &(impl Abort + AllocGlobal), head: usize,
     requires len { len < 18 }
 {
     let Case { v: first, list, .. } = at_head::<T, O>(rt, SEED, head, len);
-    assert!(rt; first.head() == head);
+    check(rt, first.head() == head);
     for from in 0..len + 1 {
         for upto in from..len + 1 {
             for dest in 0..len - (upto - from) + 1 {
@@ -267,7 +268,9 @@ fn retained_by<T: BitStore, O: BitOrder>(
         next = next.wrapping_add(1);
         *bit == (pattern.wrapping_shr((i % 32) as u32) % 2 == 1)
     });
-    assert!(rt; ordered && next == len && same(&v, head, &kept(rt, &list, pattern)));
+    check(rt, ordered);
+    check(rt, next == len);
+    check(rt, same(&v, head, &kept(rt, &list, pattern)));
 }
 
 /// Items kept by their index and their bit; the function is called at each in turn.

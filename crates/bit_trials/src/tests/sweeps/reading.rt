@@ -1,10 +1,10 @@
 //! What is read of a list: items, counts, parts, iterators and texts.
 ghost use Rattle.std.specs.Prelude.{◌<◌, ◌≤◌};
 
-use crate::tests::ok;
 use crate::tests::orders::{Scramble, Xor4};
 use crate::tests::radix::{In, Radix};
 use crate::tests::sweeps::{Case, at_head, part};
+use crate::tests::{check, ok};
 use bit_containers::{BitOrder, BitStore, BitVec, Lsb0, Msb0};
 use std::process::Abort;
 
@@ -64,15 +64,18 @@ fn passed_over<T: BitStore, O: BitOrder>(rt: &(impl Abort + AllocGlobal), head: 
             let last = at.and_then(|i| rest.get(i)).copied();
             let left = at.unwrap_or(0);
             let mut lent = v.iter();
-            assert!(rt; lent.nth(front) == first && lent.nth_back(back) == last);
+            check(rt, lent.nth(front) == first);
+            check(rt, lent.nth_back(back) == last);
             assert!(rt; lent.len() == left);
             let mut kept = v.into_iter();
-            assert!(rt; kept.nth(front) == first && kept.nth_back(back) == last);
+            check(rt, kept.nth(front) == first);
+            check(rt, kept.nth_back(back) == last);
             assert!(rt; kept.len() == left);
             for i in 0..left {
-                assert!(rt; kept.next() == rest.get(i).copied());
+                check(rt, kept.next() == rest.get(i).copied());
             }
-            assert!(rt; kept.next().is_none() && kept.next_back().is_none());
+            check(rt, kept.next().is_none());
+            check(rt, kept.next_back().is_none());
         }
     }
 }
@@ -90,12 +93,13 @@ fn part_told<T: BitStore, O: BitOrder>(
 {
     let bits = part(rt, list, from, upto);
     let head = v.head();
-    assert!(rt; upto <= v.len() && head < 8);
+    assert!(rt; upto <= v.len());
+    assert!(rt; head < 8);
     let view = v.get_range(from..upto);
-    assert!(rt; view.len() == bits.len());
-    assert!(rt; view.head() == (head + from) % T::BITS as usize);
+    check(rt, view.len() == bits.len());
+    check(rt, view.head() == (head + from) % T::BITS as usize);
     for (i, bit) in bits.iter().enumerate() {
-        assert!(rt; view.get(i) == Some(*bit));
+        check(rt, view.get(i) == Some(*bit));
     }
 }
 
@@ -105,7 +109,8 @@ fn parts<T: BitStore, O: BitOrder>(rt: &(impl Abort + AllocGlobal), head: usize,
     requires len { len < 18 }
 {
     let Case { v, list, .. } = at_head::<T, O>(rt, SEED, head, len);
-    assert!(rt; v.head() == head && told(&v, &list));
+    check(rt, v.head() == head);
+    check(rt, told(&v, &list));
     for from in 0..len + 1 {
         for upto in from..len + 1 {
             part_told(rt, &v, &list, from, upto);
@@ -153,7 +158,7 @@ fn written<T: BitStore, O: BitOrder>(rt: &(impl Abort + AllocGlobal), head: usiz
     }
     ok(rt, wanted.push_str("]"));
     let text = ok(rt, format!(in rt.alloc(); "{v}"));
-    assert_eq!(rt; text.as_str(), wanted.as_str());
+    check(rt, text.as_str() == wanted.as_str());
     for (radix, width, digits) in [
         (Radix::Binary, 1, "01"),
         (Radix::Octal, 3, "01234567"),
@@ -163,7 +168,7 @@ fn written<T: BitStore, O: BitOrder>(rt: &(impl Abort + AllocGlobal), head: usiz
         let wanted = digits_of(rt, &list, width, digits);
         let digits = In(&v, radix);
         let text = ok(rt, format!(in rt.alloc(); "{digits}"));
-        assert_eq!(rt; text.as_bytes(), wanted.as_slice());
+        check(rt, text.as_bytes() == wanted.as_slice());
     }
 }
 

@@ -2,6 +2,7 @@
 //! over lists.
 ghost use Rattle.std.specs.Prelude.{◌+◌, ◌<◌};
 
+use crate::tests::check;
 use crate::tests::orders::Xor4;
 use crate::tests::sweeps::{row_of, words_of};
 use bit_addressing::{
@@ -55,8 +56,10 @@ fn written<T: BitStore, O: BitOrder, U: BitStore, P: BitOrder>(
     let mut words = words_of::<T>(rt, 0x0fed_cba9_8765_4321);
     let before = row_of::<T, O>(rt, words.as_slice());
     let given = row_of::<U, P>(rt, source.as_slice());
-    assert!(rt; words.len() == 4 && source.len() == 4);
-    assert!(rt; at + n <= T::BITS as usize * 4 && from + n <= U::BITS as usize * 4);
+    assert!(rt; words.len() == 4);
+    assert!(rt; source.len() == 4);
+    assert!(rt; at + n <= T::BITS as usize * 4);
+    assert!(rt; from + n <= U::BITS as usize * 4);
     match make {
         0 => copy_bits::<T, O, U, P>(words.as_mut_slice(), at, source.as_slice(), from, n),
         1 => combine_bits::<And, T, O, U, P>(words.as_mut_slice(), at, source.as_slice(), from, n),
@@ -64,7 +67,7 @@ fn written<T: BitStore, O: BitOrder, U: BitStore, P: BitOrder>(
         _ => combine_bits::<Xor, T, O, U, P>(words.as_mut_slice(), at, source.as_slice(), from, n),
     }
     let after = row_of::<T, O>(rt, words.as_slice());
-    assert!(rt; is_made(&before, &after, at, &given, from, n, make));
+    check(rt, is_made(&before, &after, at, &given, from, n, make));
 }
 
 /// One bit at each place of a run.
@@ -74,10 +77,11 @@ fn filled<T: BitStore, O: BitOrder>(rt: &(impl Abort + AllocGlobal), at: usize, 
     let mut words = words_of::<T>(rt, 0x0fed_cba9_8765_4321);
     let before = row_of::<T, O>(rt, words.as_slice());
     let given = [bit; 18];
-    assert!(rt; words.len() == 4 && at + n <= T::BITS as usize * 4);
+    assert!(rt; words.len() == 4);
+    assert!(rt; at + n <= T::BITS as usize * 4);
     fill_bits::<T, O>(words.as_mut_slice(), at, at + n, bit);
     let after = row_of::<T, O>(rt, words.as_slice());
-    assert!(rt; is_made(&before, &after, at, &given, 0, n, 0));
+    check(rt, is_made(&before, &after, at, &given, 0, n, 0));
 }
 
 /// The first of `n` indices at which two lists differ, each from a place of its own on.
@@ -121,12 +125,14 @@ fn compared<T: BitStore, O: BitOrder, U: BitStore, P: BitOrder>(
 {
     let source = words_of::<U>(rt, 0x1234_5678_9abc_def1);
     let words = words_of::<T>(rt, 0x0fed_cba9_8765_4321);
-    assert!(rt; words.len() == 4 && source.len() == 4);
-    assert!(rt; at + n <= T::BITS as usize * 4 && from + n <= U::BITS as usize * 4);
+    assert!(rt; words.len() == 4);
+    assert!(rt; source.len() == 4);
+    assert!(rt; at + n <= T::BITS as usize * 4);
+    assert!(rt; from + n <= U::BITS as usize * 4);
     let apart = differ_at::<T, O, U, P>(words.as_slice(), at, source.as_slice(), from, n);
     let given = row_of::<U, P>(rt, source.as_slice());
     let own = row_of::<T, O>(rt, words.as_slice());
-    assert!(rt; apart == first_apart(&own, at, &given, from, n));
+    check(rt, apart == first_apart(&own, at, &given, from, n));
 }
 
 /// How many bits are true, and the first of each kind.
@@ -134,13 +140,15 @@ fn searched<U: BitStore, P: BitOrder>(rt: &(impl Abort + AllocGlobal), from: usi
     requires { n + from < 100 }
 {
     let source = words_of::<U>(rt, 0x1234_5678_9abc_def1);
-    assert!(rt; source.len() == 4 && from + n <= U::BITS as usize * 4);
+    assert!(rt; source.len() == 4);
+    assert!(rt; from + n <= U::BITS as usize * 4);
     let total = count_bits::<U, P>(source.as_slice(), from, from + n);
     let given = row_of::<U, P>(rt, source.as_slice());
     for bit in [false, true] {
         let (ones, first) = counted(&given, from, n, bit);
         let found = find_bit::<U, P>(source.as_slice(), from, from + n, bit);
-        assert!(rt; total == ones && found == first);
+        check(rt, total == ones);
+        check(rt, found == first);
     }
 }
 
@@ -155,14 +163,17 @@ fn chunked<T: BitStore, O: BitOrder, U: BitStore, P: BitOrder>(
 {
     let source = words_of::<U>(rt, 0x1234_5678_9abc_def1);
     let mut words = words_of::<T>(rt, 0x0fed_cba9_8765_4321);
-    assert!(rt; words.len() == 4 && source.len() == 4 && n <= 64);
-    assert!(rt; at + n <= T::BITS as usize * 4 && from + n <= U::BITS as usize * 4);
+    assert!(rt; words.len() == 4);
+    assert!(rt; source.len() == 4);
+    assert!(rt; n <= 64);
+    assert!(rt; at + n <= T::BITS as usize * 4);
+    assert!(rt; from + n <= U::BITS as usize * 4);
     let before = row_of::<T, O>(rt, words.as_slice());
     let chunk = read_chunk::<U, P>(source.as_slice(), from, n as u8);
     write_chunk::<T, O>(words.as_mut_slice(), at, n as u8, chunk);
     let given = row_of::<U, P>(rt, source.as_slice());
     let after = row_of::<T, O>(rt, words.as_slice());
-    assert!(rt; is_made(&before, &after, at, &given, from, n, 0));
+    check(rt, is_made(&before, &after, at, &given, from, n, 0));
 }
 
 fn sweep<T: BitStore, O: BitOrder, U: BitStore, P: BitOrder>(rt: &(impl Abort + AllocGlobal)) {

@@ -1,6 +1,7 @@
 //! Searches, indices, sets and changes of views at each head of a byte and lengths up to 17, beside plain loops.
 ghost use Rattle.std.specs.Prelude.{◌+◌, ◌≤◌, ◌<◌};
 
+use crate::tests::check;
 use crate::tests::orders::Xor4;
 use crate::tests::sweeps::bits_of;
 use bit_addressing::{BitOrder, Lsb0, Msb0};
@@ -31,14 +32,14 @@ fn found<O: BitOrder>(rt: &impl Abort, head: usize, len: usize, bit: bool)
         } else {
             view.next_zero(at)
         };
-        assert_eq!(rt; outcome, next);
+        check(rt, outcome == next);
     }
     let ends = if bit {
         (view.first_one(), view.last_one())
     } else {
         (view.first_zero(), view.last_zero())
     };
-    assert_eq!(rt; ends, (next, last));
+    assert!(rt; ends == (next, last));
     let runs = if bit {
         (view.leading_zeros(), view.trailing_zeros())
     } else {
@@ -48,7 +49,7 @@ fn found<O: BitOrder>(rt: &impl Abort, head: usize, len: usize, bit: bool)
         (Some(i), Some(j)) => (i, (len - 1).wrapping_sub(j)),
         _ => (len, len),
     };
-    assert_eq!(rt; runs, (front, back));
+    check(rt, runs == (front, back));
 }
 
 /// The indices of true bits, from the front.
@@ -58,13 +59,14 @@ fn true_indices<O: BitOrder>(rt: &impl Abort, head: usize, len: usize)
     let words = WORDS;
     let view = BitSlice::<u8, O>::from_slice(&words).get_range(head..head + len);
     let mut ones = view.iter_ones();
-    assert!(rt; ones.len() == view.count_ones());
+    check(rt, ones.len() == view.count_ones());
     for i in 0..len {
         if view[i] {
-            assert!(rt; ones.next() == Some(i));
+            check(rt, ones.next() == Some(i));
         }
     }
-    assert!(rt; ones.next().is_none() && ones.next_back().is_none());
+    check(rt, ones.next().is_none());
+    check(rt, ones.next_back().is_none());
 }
 
 /// The indices of false bits, from the end.
@@ -74,14 +76,15 @@ fn false_indices<O: BitOrder>(rt: &impl Abort, head: usize, len: usize)
     let words = WORDS;
     let view = BitSlice::<u8, O>::from_slice(&words).get_range(head..head + len);
     let mut zeros = view.iter_zeros();
-    assert!(rt; zeros.len() == view.count_zeros());
+    check(rt, zeros.len() == view.count_zeros());
     for i in 0..len {
         let back = len - 1 - i;
         if !view[back] {
-            assert!(rt; zeros.next_back() == Some(back));
+            check(rt, zeros.next_back() == Some(back));
         }
     }
-    assert!(rt; zeros.next().is_none() && zeros.next_back().is_none());
+    check(rt, zeros.next().is_none());
+    check(rt, zeros.next_back().is_none());
 }
 
 /// Two views as sets, against a loop over the longer.
@@ -100,21 +103,21 @@ fn sets<O: BitOrder, P: BitOrder>(rt: &impl Abort, head: usize, len: usize, othe
         xor = xor.wrapping_add(usize::from(a != b));
         less = less.wrapping_add(usize::from(a && !b));
     }
-    assert_eq!(rt;
+    check(
+        rt,
         (
             left.count_and(right),
             left.count_or(right),
-            left.count_xor(right)
-        ),
-        (and, or, xor)
+            left.count_xor(right),
+        ) == (and, or, xor),
     );
-    assert_eq!(rt;
-        (left.is_subset(right), right.is_superset(left)),
-        (less == 0, less == 0)
+    check(
+        rt,
+        (left.is_subset(right), right.is_superset(left)) == (less == 0, less == 0),
     );
-    assert_eq!(rt;
-        (left.intersects(right), left.is_disjoint(right)),
-        (and != 0, and == 0)
+    check(
+        rt,
+        (left.intersects(right), left.is_disjoint(right)) == (and != 0, and == 0),
     );
 }
 
@@ -155,7 +158,7 @@ fn moved<O: BitOrder>(rt: &impl Abort, words: [u8; 3], head: usize, len: usize, 
                 None => Some(false),
             };
         }
-        assert!(rt; Some(new[i]) == expected);
+        check(rt, Some(new[i]) == expected);
     }
 }
 
@@ -249,7 +252,7 @@ fn changes<O: BitOrder>(rt: &impl Abort, head: usize, len: usize)
             if i >= head && i < head + len {
                 expected = changed_bit(old[i], right.get(i - head) == Some(true), kind);
             }
-            assert!(rt; new[i] == expected);
+            check(rt, new[i] == expected);
         }
     }
 }
@@ -264,29 +267,29 @@ fn parts<O: BitOrder>(rt: &impl Abort, head: usize, len: usize, size: usize)
     let mut at = 0usize;
     for part in view.chunks(size) {
         for j in 0..part.len() {
-            assert_eq!(rt; view.get(at.wrapping_add(j)), part.get(j));
+            check(rt, view.get(at.wrapping_add(j)) == part.get(j));
         }
         at = at.wrapping_add(part.len());
     }
-    assert_eq!(rt; at, len);
+    check(rt, at == len);
     for part in view.rchunks(size) {
         at = at.wrapping_sub(part.len());
         for j in 0..part.len() {
-            assert_eq!(rt; view.get(at.wrapping_add(j)), part.get(j));
+            check(rt, view.get(at.wrapping_add(j)) == part.get(j));
         }
     }
-    assert_eq!(rt; at, 0);
+    check(rt, at == 0);
     for part in view.windows(size) {
         for j in 0..part.len() {
-            assert_eq!(rt; view.get(at.wrapping_add(j)), part.get(j));
+            check(rt, view.get(at.wrapping_add(j)) == part.get(j));
         }
         at = at.wrapping_add(1);
     }
-    assert_eq!(rt; at, (len + 1).saturating_sub(size));
+    check(rt, at == (len + 1).saturating_sub(size));
     let exact = view.chunks_exact(size);
-    assert_eq!(rt;
-        (exact.len(), exact.remainder().len()),
-        (len / size, len % size)
+    check(
+        rt,
+        (exact.len(), exact.remainder().len()) == (len / size, len % size),
     );
 }
 
@@ -303,15 +306,18 @@ fn numbers<O: BitOrder>(rt: &impl Abort, head: usize, len: usize)
             .wrapping_mul(2)
             .wrapping_add(u64::from(view[len - 1 - i]));
     }
-    assert_eq!(rt; (view.load_le(), view.load_be()), (low_first, high_first));
+    check(
+        rt,
+        (view.load_le(), view.load_be()) == (low_first, high_first),
+    );
     let mut words = [0u8; 3];
     run_mut::<u8, O>(&mut words, head, head + len).store_le(low_first);
     let low = BitSlice::<u8, O>::from_slice(&words);
-    assert!(rt; low.get_range(head..head + len) == view);
+    check(rt, low.get_range(head..head + len) == view);
     let mut words = [0u8; 3];
     run_mut::<u8, O>(&mut words, head, head + len).store_be(high_first);
     let high = BitSlice::<u8, O>::from_slice(&words);
-    assert!(rt; high.get_range(head..head + len) == view);
+    check(rt, high.get_range(head..head + len) == view);
 }
 
 /// Where a part of a view stands first, and a part combined with another of the same view.
@@ -332,14 +338,14 @@ fn found_in<O: BitOrder>(rt: &impl Abort, head: usize, len: usize)
             first = Some(at);
         }
     }
-    assert_eq!(rt; (all.find(part), all.contains(part)), (first, true));
+    check(rt, (all.find(part), all.contains(part)) == (first, true));
     for dest in 0..24 - len + 1 {
         let mut changed = WORDS;
         run_mut::<u8, O>(&mut changed, 0, 24).or_within(head..head + len, dest);
         let new = BitSlice::<u8, O>::from_slice(&changed);
         for i in 0..24 {
             let there = i >= dest && part.get(i.wrapping_sub(dest)) == Some(true);
-            assert_eq!(rt; new.get(i) == Some(true), all[i] || there);
+            check(rt, (new.get(i) == Some(true)) == (all[i] || there));
         }
     }
 }

@@ -1,6 +1,7 @@
 //! Each call of a view at every head of a byte and every length up to 17 bits, beside plain loops over lists.
 ghost use Rattle.std.specs.Prelude.{◌+◌, ◌≤◌};
 
+use crate::tests::check;
 use crate::tests::orders::{Scramble, Xor4};
 use crate::tests::sweeps::bits_of;
 use bit_addressing::{BitOrder, Lsb0, Msb0};
@@ -17,15 +18,15 @@ fn items<O: BitOrder>(rt: &impl Abort, words: [u8; 3], head: usize, len: usize)
     let (mut forward, mut backward) = (view.iter(), view.iter());
     for i in 0..len {
         let (bit, last) = (bits[head + i], bits[head + len - 1 - i]);
-        assert_eq!(rt; forward.len(), len - i);
-        assert_eq!(rt; (view[i], view.get(i)), (bit, Some(bit)));
-        assert_eq!(rt;
-            (forward.next(), backward.next_back()),
-            (Some(bit), Some(last))
+        check(rt, forward.len() == len - i);
+        check(rt, (view[i], view.get(i)) == (bit, Some(bit)));
+        check(
+            rt,
+            (forward.next(), backward.next_back()) == (Some(bit), Some(last)),
         );
     }
-    assert_eq!(rt; (forward.next(), backward.next_back()), (None, None));
-    assert_eq!(rt; view.get(len), None);
+    check(rt, (forward.next(), backward.next_back()) == (None, None));
+    check(rt, view.get(len) == None);
 }
 
 /// How many of these bits, from a place on, are true.
@@ -47,9 +48,11 @@ fn totals<O: BitOrder>(rt: &impl Abort, words: [u8; 3], head: usize, len: usize)
     let view = BitSlice::<u8, O>::from_slice(&words).get_range(head..head + len);
     let (count, zeros) = (view.count_ones(), view.count_zeros());
     let (any, all) = (view.any(), view.all());
-    assert!(rt; count == ones && zeros == len.wrapping_sub(ones));
-    assert!(rt; any == (ones != 0) && all == (ones == len));
-    assert!(rt; view.counted().count_ones_counted() == ones);
+    check(rt, count == ones);
+    check(rt, zeros == len.wrapping_sub(ones));
+    check(rt, any == (ones != 0));
+    check(rt, all == (ones == len));
+    check(rt, view.counted().count_ones_counted() == ones);
 }
 
 /// The calls that look at one end.
@@ -58,13 +61,15 @@ fn ends<O: BitOrder>(rt: &impl Abort, words: [u8; 3], head: usize, len: usize)
 {
     let view = BitSlice::<u8, O>::from_slice(&words).get_range(head..head + len);
     let (first, last) = (view.first(), view.last());
-    assert!(rt; view.len() == len && view.is_empty() == (len == 0));
+    check(rt, view.len() == len);
+    check(rt, view.is_empty() == (len == 0));
     let bits = bits_of::<O>(words);
     let (mut front, mut back) = (None, None);
     if len != 0 {
         (front, back) = (Some(bits[head]), Some(bits[head + len - 1]));
     }
-    assert!(rt; first == front && last == back);
+    check(rt, first == front);
+    check(rt, last == back);
 }
 
 /// Two views of words of two kinds, compared as lists are.
@@ -91,8 +96,8 @@ fn compared<O: BitOrder, P: BitOrder>(
     }
     let left = BitSlice::<u8, O>::from_slice(&words).get_range(head..head + len);
     let right = BitSlice::<u8, P>::from_slice(&words).get_range(from..from + n);
-    assert_eq!(rt; left.cmp_bits(right), order);
-    assert_eq!(rt; left.eq_bits(right), order == Ordering::Equal);
+    check(rt, left.cmp_bits(right) == order);
+    check(rt, left.eq_bits(right) == (order == Ordering::Equal));
 }
 
 /// One bit written, read as it is written over, or exchanged with another.
@@ -105,17 +110,18 @@ fn written<O: BitOrder>(rt: &impl Abort, words: [u8; 3], head: usize, len: usize
         wanted[head + i] = !before[head + i];
         let mut now = words;
         run_mut::<u8, O>(&mut now, head, head + len).set(i, !before[head + i]);
-        assert!(rt; bits_of::<O>(now) == wanted);
+        check(rt, bits_of::<O>(now) == wanted);
         let mut now = words;
         let old = run_mut::<u8, O>(&mut now, head, head + len).replace(i, !before[head + i]);
-        assert!(rt; old == before[head + i] && bits_of::<O>(now) == wanted);
+        check(rt, old == before[head + i]);
+        check(rt, bits_of::<O>(now) == wanted);
         for j in 0..len {
             let mut wanted = before;
             wanted[head + i] = before[head + j];
             wanted[head + j] = before[head + i];
             let mut now = words;
             run_mut::<u8, O>(&mut now, head, head + len).swap(i, j);
-            assert!(rt; bits_of::<O>(now) == wanted);
+            check(rt, bits_of::<O>(now) == wanted);
         }
     }
 }
@@ -135,11 +141,11 @@ fn copied_within<O: BitOrder>(rt: &impl Abort, words: [u8; 3], head: usize, len:
                 let mut now = words;
                 let mut view = run_mut::<u8, O>(&mut now, head, head + len);
                 view.copy_within(src..src + n, dest);
-                assert!(rt; bits_of::<O>(now) == wanted);
+                check(rt, bits_of::<O>(now) == wanted);
                 let mut now = words;
                 let mut view = run_mut::<u8, O>(&mut now, head, head + len);
                 view.counted_mut().copy_within_counted(src..src + n, dest);
-                assert!(rt; bits_of::<O>(now) == wanted);
+                check(rt, bits_of::<O>(now) == wanted);
             }
         }
     }
@@ -193,7 +199,7 @@ fn combined<O: BitOrder, P: BitOrder>(
             };
         }
         let now = combined_words::<O, P>(words, head, len, view, make);
-        assert!(rt; bits_of::<O>(now) == wanted);
+        check(rt, bits_of::<O>(now) == wanted);
     }
 }
 
@@ -217,7 +223,7 @@ fn cloned<O: BitOrder, P: BitOrder>(
     }
     let mut now = words;
     run_mut::<u8, O>(&mut now, head, head + len).clone_from_bitslice(view);
-    assert!(rt; bits_of::<O>(now) == wanted);
+    check(rt, bits_of::<O>(now) == wanted);
 }
 
 fn sweep<O: BitOrder, P: BitOrder>(rt: &impl Abort) {

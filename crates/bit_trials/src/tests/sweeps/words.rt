@@ -1,9 +1,9 @@
 //! The words as they are lent, written, filled, aligned and given up.
 ghost use Rattle.std.specs.Prelude.{◌<◌};
 
-use crate::tests::ok;
 use crate::tests::orders::{Scramble, Xor4};
 use crate::tests::sweeps::{Case, at_head, part, row_of, shows};
+use crate::tests::{check, ok};
 use bit_containers::{BitOrder, BitStore, BitVec, IntoBitVec, Lsb0, Msb0};
 use std::process::Abort;
 
@@ -23,9 +23,9 @@ fn flipped<T: BitStore, O: BitOrder>(rt: &(impl Abort + AllocGlobal), head: usiz
     }
     let not = part(rt, &other, head, head + len);
     v.flip_all();
-    assert!(rt; shows(rt, &v, head, &not, &other));
+    check(rt, shows(rt, &v, head, &not, &other));
     let v = !v;
-    assert!(rt; shows(rt, &v, head, &list, &row));
+    check(rt, shows(rt, &v, head, &list, &row));
 }
 
 /// The list filled, and the dead bits filled, each with both bits.
@@ -40,7 +40,7 @@ fn filled<T: BitStore, O: BitOrder>(rt: &(impl Abort + AllocGlobal), head: usize
             ok(rt, all.push(bit));
         }
         v.set_uninitialized(bit);
-        assert!(rt; shows(rt, &v, head, &list, &all));
+        check(rt, shows(rt, &v, head, &list, &all));
         v.set_uninitialized(!bit);
         v.fill(bit);
         let list = part(rt, &all, 0, len);
@@ -48,10 +48,10 @@ fn filled<T: BitStore, O: BitOrder>(rt: &(impl Abort + AllocGlobal), head: usize
         for _ in &row {
             ok(rt, dead.push(!bit));
         }
-        assert!(rt; shows(rt, &v, head, &list, &dead));
+        check(rt, shows(rt, &v, head, &list, &dead));
         v.as_mut_bitslice().fill(!bit);
         let list = part(rt, &dead, 0, len);
-        assert!(rt; shows(rt, &v, head, &list, &dead));
+        check(rt, shows(rt, &v, head, &list, &dead));
     }
 }
 
@@ -62,11 +62,11 @@ fn aligned<T: BitStore, O: BitOrder>(rt: &(impl Abort + AllocGlobal), head: usiz
 {
     let Case { mut v, list, row } = at_head::<T, O>(rt, SEED, head, len);
     v.force_align();
-    assert!(rt; shows(rt, &v, 0, &list, &row));
+    check(rt, shows(rt, &v, 0, &list, &row));
     v.set_uninitialized(false);
-    assert!(rt; shows(rt, &v, 0, &list, &[]));
+    check(rt, shows(rt, &v, 0, &list, &[]));
     v.force_align();
-    assert!(rt; shows(rt, &v, 0, &list, &[]));
+    check(rt, shows(rt, &v, 0, &list, &[]));
 }
 
 /// Each length that the words have room for: what becomes live stood there.
@@ -80,11 +80,12 @@ fn measured<T: BitStore, O: BitOrder>(rt: &(impl Abort + AllocGlobal), head: usi
         if head + n <= row.len() {
             let Case { mut v, row, .. } = at_head::<T, O>(rt, SEED, head, len);
             let words = v.as_raw_slice().len();
-            assert!(rt; v.head() == head && words < 100);
+            assert!(rt; v.head() == head);
+            assert!(rt; words < 100);
             assert!(rt; head + n <= T::BITS as usize * words);
             v.set_len(n);
             let list = part(rt, &row, head, head + n);
-            assert!(rt; shows(rt, &v, head, &list, &row));
+            check(rt, shows(rt, &v, head, &list, &row));
         }
     }
 }
@@ -107,7 +108,7 @@ fn stamped<T: BitStore, O: BitOrder>(rt: &(impl Abort + AllocGlobal), head: usiz
     v.set_elements(T::from_u64(WORD));
     let all = stamp::<T, O>(rt);
     let list = part(rt, &all, head, head + len);
-    assert!(rt; shows(rt, &v, head, &list, &all));
+    check(rt, shows(rt, &v, head, &list, &all));
 }
 
 /// One word written over all, through the words of the vector.
@@ -125,7 +126,7 @@ fn stamped_by_words<T: BitStore, O: BitOrder>(
     }
     let all = stamp::<T, O>(rt);
     let list = part(rt, &all, head, head + len);
-    assert!(rt; shows(rt, &v, head, &list, &all));
+    check(rt, shows(rt, &v, head, &list, &all));
 }
 
 /// The words given up and taken back, as a vector of words and as a box.
@@ -135,13 +136,14 @@ fn given_up<T: BitStore, O: BitOrder>(rt: &(impl Abort + AllocGlobal), head: usi
 {
     let Case { v, list, row } = at_head::<T, O>(rt, SEED, head, len);
     let boxed = ok(rt, v.into_boxed_bitslice());
-    assert!(rt; boxed.head() == head && boxed.len() == len);
+    check(rt, boxed.head() == head);
+    assert!(rt; boxed.len() == len);
     let v = ok(rt, boxed.into_bitvec());
-    assert!(rt; shows(rt, &v, head, &list, &row));
+    check(rt, shows(rt, &v, head, &list, &row));
     let v = BitVec::<T, O>::try_from_vec(v.into_vec());
-    assert!(rt; v.is_ok());
+    check(rt, v.is_ok());
     let v = v.unwrap_or(BitVec::new(rt.alloc()));
-    assert!(rt; shows(rt, &v, 0, &row, &[]));
+    check(rt, shows(rt, &v, 0, &row, &[]));
 }
 
 /// All of it, at one head and one length.

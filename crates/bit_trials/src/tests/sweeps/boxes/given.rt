@@ -1,9 +1,9 @@
 //! What a box gives: its bits from both ends, its text, its words, copies of it.
 ghost use Rattle.std.specs.Prelude.{◌+◌, ◌<◌};
 
-use crate::tests::ok;
 use crate::tests::radix::{In, Radix};
 use crate::tests::sweeps::boxes::{copied, owned, shows};
+use crate::tests::{check, ok};
 use bit_addressing::{BitOrder, BitStore};
 use bit_boxed::{BitBox, IntoIter};
 use std::process::Abort;
@@ -11,7 +11,8 @@ use std::process::Abort;
 /// Copies, from head 0 on, of the list alone; the words given up and taken back.
 pub(crate) fn taken<T: BitStore, O: BitOrder>(rt: &(impl Abort + AllocGlobal), b: BitBox<T, O>) {
     let (head, len) = (b.head(), b.len());
-    assert!(rt; head < 8 && len < 18);
+    assert!(rt; head < 8);
+    assert!(rt; len < 18);
     let row = owned(rt, &b);
     for copy in [
         ok(rt, b.clone()),
@@ -19,19 +20,21 @@ pub(crate) fn taken<T: BitStore, O: BitOrder>(rt: &(impl Abort + AllocGlobal), b
         ok(rt, BitBox::from_bits(rt.alloc(), b.iter())),
     ] {
         let clean = owned(rt, &copy);
-        assert!(rt; shows(&copy, &clean, 0, len) && copy == b);
+        check(rt, shows(&copy, &clean, 0, len));
+        check(rt, copy == b);
         assert!(rt; clean.len() < len + T::BITS as usize);
         for (j, bit) in clean.iter().enumerate() {
             let wanted = j < len && row.get(head.wrapping_add(j)).copied().unwrap_or(false);
-            assert!(rt; *bit == wanted);
+            check(rt, *bit == wanted);
         }
     }
     let words = b.into_boxed_slice();
     let Ok(back) = BitBox::<T, O>::try_from_boxed_slice(words) else {
         panic!(rt; "some words have few bits");
     };
-    assert!(rt; back.len() < 100 && back.len() == row.len());
-    assert!(rt; shows(&back, &row, 0, back.len()));
+    assert!(rt; back.len() < 100);
+    assert!(rt; back.len() == row.len());
+    check(rt, shows(&back, &row, 0, back.len()));
 }
 
 /// The digits of a list, one for each group of `width` bits, where the bit that comes first weighs most.
@@ -88,13 +91,13 @@ fn told_in<T: BitStore, O: BitOrder>(
     let wanted = digits_of(rt, b, width, digits);
     let written = In(b, radix);
     let text = ok(rt, format!(in rt.alloc(); "{written}"));
-    assert!(rt; text.as_bytes() == wanted.as_slice());
+    check(rt, text.as_bytes() == wanted.as_slice());
 }
 
 /// The text of a box, and its digits by one, three and four bits.
 pub(crate) fn told<T: BitStore, O: BitOrder>(rt: &(impl Abort + AllocGlobal), b: &BitBox<T, O>) {
     let text = ok(rt, format!(in rt.alloc(); "{b}"));
-    assert!(rt; text.as_str() == text_of(rt, b).as_str());
+    check(rt, text.as_str() == text_of(rt, b).as_str());
     told_in(rt, b, Radix::Binary, 1, b"01");
     told_in(rt, b, Radix::Octal, 3, b"01234567");
     told_in(rt, b, Radix::LowerHex, 4, b"0123456789abcdef");
@@ -108,20 +111,25 @@ fn left<T: BitStore, O: BitOrder>(
     list: &[bool],
 ) {
     let mut bits = bits;
-    assert!(rt; bits.len() == list.len() && bits.as_slice().len() == list.len());
+    check(rt, bits.len() == list.len());
+    check(rt, bits.as_slice().len() == list.len());
     let mut copy = ok(rt, bits.clone());
     for (i, bit) in list.iter().enumerate() {
-        assert!(rt; copy.next() == Some(*bit) && bits.as_bitslice().get(i) == Some(*bit));
+        check(rt, copy.next() == Some(*bit));
+        check(rt, bits.as_bitslice().get(i) == Some(*bit));
         let mut view = bits.as_mut_bitslice();
         if i < view.len() {
             view.set(i, !*bit);
         }
     }
-    assert!(rt; copy.next().is_none() && copy.next_back().is_none());
+    check(rt, copy.next().is_none());
+    check(rt, copy.next_back().is_none());
     for bit in list {
-        assert!(rt; bits.next() == Some(!*bit));
+        check(rt, bits.next() == Some(!*bit));
     }
-    assert!(rt; bits.next().is_none() && bits.next_back().is_none() && bits.len() == 0);
+    check(rt, bits.next().is_none());
+    check(rt, bits.next_back().is_none());
+    check(rt, bits.len() == 0);
 }
 
 /// The bits one by one from both ends, past the end too.
@@ -137,7 +145,7 @@ pub(crate) fn given<T: BitStore, O: BitOrder>(rt: &(impl Abort + AllocGlobal), b
         for back in 0..len + 2 {
             let mut bits = copied(rt, b).into_iter();
             let from = len.min(front + 1);
-            assert!(rt; bits.nth(front) == list.get(front).copied());
+            check(rt, bits.nth(front) == list.get(front).copied());
             let upto = if back < len - from {
                 len - 1 - back
             } else {
@@ -148,8 +156,9 @@ pub(crate) fn given<T: BitStore, O: BitOrder>(rt: &(impl Abort + AllocGlobal), b
             } else {
                 None
             };
-            assert!(rt; bits.nth_back(back) == last);
-            assert!(rt; from <= upto && upto <= list.len());
+            check(rt, bits.nth_back(back) == last);
+            assert!(rt; from <= upto);
+            assert!(rt; upto <= list.len());
             left(rt, bits, &list[from..upto]);
         }
     }

@@ -5,33 +5,39 @@ mod scripts;
 mod words;
 
 use crate::starting::start;
-use std::alloc::Global;
 use std::process::Abort;
-use std::test::Fail;
+
+/// That this holds. A test calls it in place of `assert!`, which costs the prover several times as much: a failed
+/// test is told by its name.
+fn check(rt: &impl Abort, holds: bool) {
+    assert!(rt; holds);
+}
+
+/// What a call returns that found memory.
+fn ok<V, E>(rt: &impl Abort, outcome: Result<V, E>) -> V {
+    match outcome {
+        Ok(value) => value,
+        Err(_) => panic!(rt; "memory was refused"),
+    }
+}
 
 /// The program's arguments.
-fn words_of(alloc: Global, call: &str) -> Result<Vec<String>, Fail> {
-    let mut list = Vec::new(alloc);
+fn words_of(rt: &(impl Abort + AllocGlobal), call: &str) -> Vec<String> {
+    let mut list = Vec::new(rt.alloc());
     for word in call.split_whitespace() {
-        list.push(String::from_str(alloc, word)?)?;
+        let word = ok(rt, String::from_str(rt.alloc(), word));
+        ok(rt, list.push(word));
     }
-    Ok(list)
+    list
 }
 
 /// Starts the program on an input, and compares what it writes and returns.
-fn check(
-    rt: &impl Abort,
-    alloc: Global,
-    call: &str,
-    input: &[u8],
-    want: (&[u8], u8),
-) -> Result<(), Fail> {
-    let words = words_of(alloc, call)?;
-    let mut output = Vec::new(alloc);
-    let status = start(alloc, words.as_slice(), input, &mut output);
-    assert_eq!(rt; output.as_slice(), want.0);
-    assert_eq!(rt; status, want.1);
-    Ok(())
+fn replies(rt: &(impl Abort + AllocGlobal), call: &str, input: &[u8], want: &[u8], status: u8) {
+    let words = words_of(rt, call);
+    let mut output = Vec::new(rt.alloc());
+    let ended = start(rt.alloc(), words.as_slice(), input, &mut output);
+    check(rt, output.as_slice() == want);
+    check(rt, ended == status);
 }
 
 const FIRST_RUN: &[u8] = b"push 0\npush 1\nget 5\npop\n";

@@ -1,9 +1,8 @@
 //! Readers and writers that fail, are interrupted, or are full.
 use crate::starting::start;
-use crate::tests::{FIRST_RUN, words_of};
+use crate::tests::{FIRST_RUN, check, ok, words_of};
 use std::io;
 use std::io::{Read, Write};
-use std::test::Fail;
 
 /// A reader that gives a number of bytes at each read, and fails when no read is left.
 #[derive(Drop)]
@@ -59,9 +58,9 @@ fn replies_within(bytes: usize) -> &'static [u8] {
 }
 
 #[test]
-fn failing_reads(rt: HostRuntime) -> Result<(), Fail> {
+fn failing_reads(rt: HostRuntime) {
     let alloc = rt.alloc();
-    let words = words_of(alloc, "u8 msb0")?;
+    let words = words_of(&rt, "u8 msb0");
     for reads in 0..30usize {
         let input = Stuttering {
             bytes: FIRST_RUN,
@@ -70,20 +69,19 @@ fn failing_reads(rt: HostRuntime) -> Result<(), Fail> {
         };
         let mut output = Vec::new(alloc);
         let status = start(alloc, words.as_slice(), input, &mut output);
-        let mut want = Vec::from_slice(alloc, replies_within(reads))?;
+        let mut want = ok(&rt, Vec::from_slice(alloc, replies_within(reads)));
         if reads <= FIRST_RUN.len() {
-            want.extend_from_slice(b"read failed\n")?;
+            ok(&rt, want.extend_from_slice(b"read failed\n"));
         }
-        assert_eq!(rt; output.as_slice(), want.as_slice(), "after {reads} reads");
-        assert_eq!(rt; status == 1, reads <= FIRST_RUN.len());
+        check(&rt, output.as_slice() == want.as_slice());
+        check(&rt, status == u8::from(reads <= FIRST_RUN.len()));
     }
-    Ok(())
 }
 
 #[test]
-fn failing_writes(rt: HostRuntime) -> Result<(), Fail> {
+fn failing_writes(rt: HostRuntime) {
     let alloc = rt.alloc();
-    let words = words_of(alloc, "u8 msb0")?;
+    let words = words_of(&rt, "u8 msb0");
     for writes in 0..8usize {
         let input = Stuttering {
             bytes: FIRST_RUN,
@@ -103,20 +101,19 @@ fn failing_writes(rt: HostRuntime) -> Result<(), Fail> {
             3 => b"ok\nok\nrange\n".as_slice(),
             _ => REPLIES,
         };
-        assert_eq!(rt; kept.as_slice(), want, "after {writes} writes");
-        assert_eq!(rt; status, if writes < 4 { 1 } else { 0 });
+        check(&rt, kept.as_slice() == want);
+        check(&rt, status == u8::from(writes < 4));
     }
-    Ok(())
 }
 
 #[test]
-fn long_line(rt: HostRuntime) -> Result<(), Fail> {
+fn long_line(rt: HostRuntime) {
     // The 101st byte is read, and then the reader fails.
     let alloc = rt.alloc();
-    let words = words_of(alloc, "u8 lsb0")?;
-    for (reads, want) in [
-        (100, b"read failed\n".as_slice()),
-        (101, b"line 1: bad command\n".as_slice()),
+    let words = words_of(&rt, "u8 lsb0");
+    for (reads, want, wanted) in [
+        (100, b"read failed\n".as_slice(), 1),
+        (101, b"line 1: bad command\n".as_slice(), 2),
     ] {
         let input = Stuttering {
             bytes: &[b'7'; 200],
@@ -125,10 +122,9 @@ fn long_line(rt: HostRuntime) -> Result<(), Fail> {
         };
         let mut output = Vec::new(alloc);
         let status = start(alloc, words.as_slice(), input, &mut output);
-        assert_eq!(rt; output.as_slice(), want);
-        assert_eq!(rt; status, if reads == 100 { 1 } else { 2 });
+        check(&rt, output.as_slice() == want);
+        check(&rt, status == wanted);
     }
-    Ok(())
 }
 
 /// A reader whose every other read is interrupted.
@@ -150,18 +146,17 @@ impl Read for Interrupted<'_> {
 }
 
 #[test]
-fn interrupted_reads(rt: HostRuntime) -> Result<(), Fail> {
+fn interrupted_reads(rt: HostRuntime) {
     let alloc = rt.alloc();
-    let words = words_of(alloc, "u8 msb0")?;
+    let words = words_of(&rt, "u8 msb0");
     let input = Interrupted {
         bytes: FIRST_RUN,
         again: false,
     };
     let mut output = Vec::new(alloc);
     let status = start(alloc, words.as_slice(), input, &mut output);
-    assert_eq!(rt; output.as_slice(), REPLIES);
-    assert_eq!(rt; status, 0);
-    Ok(())
+    check(&rt, output.as_slice() == REPLIES);
+    check(&rt, status == 0);
 }
 
 /// A writer that counts its flushes, and how many bytes wait for one.
@@ -189,9 +184,9 @@ impl Write for Flushing<'_> {
 
 /// Each reply is flushed before the next line is read, and nothing waits at the end.
 #[test]
-fn flushed_writes(rt: HostRuntime) -> Result<(), Fail> {
+fn flushed_writes(rt: HostRuntime) {
     let alloc = rt.alloc();
-    let words = words_of(alloc, "u8 msb0")?;
+    let words = words_of(&rt, "u8 msb0");
     let input = Stuttering {
         bytes: FIRST_RUN,
         step: 1,
@@ -206,10 +201,10 @@ fn flushed_writes(rt: HostRuntime) -> Result<(), Fail> {
         flushes: &mut flushes,
     };
     let status = start(alloc, words.as_slice(), input, output);
-    assert_eq!(rt; kept.as_slice(), REPLIES);
-    assert!(rt; status == 0 && waiting == 0);
-    assert_eq!(rt; flushes, 4);
-    Ok(())
+    check(&rt, kept.as_slice() == REPLIES);
+    check(&rt, status == 0);
+    check(&rt, waiting == 0);
+    check(&rt, flushes == 4);
 }
 
 const GROWING: &[u8] =
@@ -236,27 +231,27 @@ fn refused_memory(rt: HostRuntime) {
     };
     let status = start(alloc, words.as_slice(), GROWING, &mut output);
     if status == 0 {
-        assert_eq!(rt; output.as_slice(), all);
+        check(&rt, output.as_slice() == all);
         return;
     }
-    assert_eq!(rt; status, 1);
+    check(&rt, status == 1);
     let Some(front) = output.as_slice().strip_suffix(b"no memory\n".as_slice()) else {
         panic!(rt; "the refusal is told");
     };
-    assert!(rt; front.len() < all.len() && all.starts_with(front));
-    assert!(rt; front.is_empty() || front.ends_with(b"\n".as_slice()));
+    check(&rt, front.len() < all.len());
+    check(&rt, all.starts_with(front));
+    check(&rt, front.is_empty() || front.ends_with(b"\n".as_slice()));
 }
 
 #[test]
-fn usage_to_a_full_writer(rt: HostRuntime) -> Result<(), Fail> {
+fn usage_to_a_full_writer(rt: HostRuntime) {
     let alloc = rt.alloc();
-    let words = words_of(alloc, "u8")?;
+    let words = words_of(&rt, "u8");
     let mut kept = Vec::new(alloc);
     let output = Filling {
         kept: &mut kept,
         writes: 0,
     };
-    assert_eq!(rt; start(alloc, words.as_slice(), FIRST_RUN, output), 1);
-    assert!(rt; kept.is_empty());
-    Ok(())
+    check(&rt, start(alloc, words.as_slice(), FIRST_RUN, output) == 1);
+    check(&rt, kept.is_empty());
 }

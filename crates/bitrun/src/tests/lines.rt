@@ -1,9 +1,8 @@
 //! Lines, good and bad.
-use crate::tests::check;
-use std::test::Fail;
+use crate::tests::replies;
 
 #[test]
-fn bad_lines(rt: HostRuntime) -> Result<(), Fail> {
+fn bad_lines(rt: HostRuntime) {
     let bad = [
         b"\n".as_slice(),
         b"push  1\n".as_slice(),
@@ -21,49 +20,30 @@ fn bad_lines(rt: HostRuntime) -> Result<(), Fail> {
         [b'x'; 101].as_slice(),
     ];
     for input in bad {
-        check(
-            &rt,
-            rt.alloc(),
-            "u8 lsb0",
-            input,
-            (b"line 1: bad command\n", 2),
-        )?;
+        replies(&rt, "u8 lsb0", input, b"line 1: bad command\n", 2);
     }
-    Ok(())
 }
 
 #[test]
-fn edges_of_lines(rt: HostRuntime) -> Result<(), Fail> {
+fn edges_of_lines(rt: HostRuntime) {
     let alloc = rt.alloc();
     let call = "u8 lsb0";
-    check(&rt, alloc, call, b"", (b"", 0))?;
-    check(&rt, alloc, call, b"push 1\nlen", (b"ok\n1\n", 0))?;
-    check(
+    replies(&rt, call, b"", b"", 0);
+    replies(&rt, call, b"push 1\nlen", b"ok\n1\n", 0);
+    replies(
         &rt,
-        alloc,
         call,
         b"pop\nx\npop\n",
-        (b"none\nline 2: bad command\n", 2),
-    )?;
-    check(
+        b"none\nline 2: bad command\n",
+        2,
+    );
+    replies(&rt, call, b"get 18446744073709551615\n", b"range\n", 0);
+    replies(&rt, call, b"get 00000000000000000005\n", b"range\n", 0);
+    replies(
         &rt,
-        alloc,
-        call,
-        b"get 18446744073709551615\n",
-        (b"range\n", 0),
-    )?;
-    check(
-        &rt,
-        alloc,
-        call,
-        b"get 00000000000000000005\n",
-        (b"range\n", 0),
-    )?;
-    check(
-        &rt,
-        alloc,
         call,
         b"insert 1 0\nremove 0\nset 0 0\n",
-        (b"range\nrange\nrange\n", 0),
-    )
+        b"range\nrange\nrange\n",
+        0,
+    );
 }

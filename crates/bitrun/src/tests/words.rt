@@ -1,11 +1,9 @@
 //! The program's arguments.
-use crate::starting::start;
-use crate::tests::{FIRST_RUN, check, words_of};
-use std::test::Fail;
+use crate::tests::{FIRST_RUN, replies};
 
 /// Each word and order: where the second bit stands in the first word.
 #[test]
-fn each_word_and_order(rt: HostRuntime) -> Result<(), Fail> {
+fn each_word_and_order(rt: HostRuntime) {
     let calls = [
         ("u8 lsb0", b"ok\nok\n02\n".as_slice()),
         ("u8 msb0", b"ok\nok\n40\n".as_slice()),
@@ -19,14 +17,12 @@ fn each_word_and_order(rt: HostRuntime) -> Result<(), Fail> {
         ("usize msb0", b"ok\nok\n4000000000000000\n".as_slice()),
     ];
     for (call, want) in calls {
-        check(&rt, rt.alloc(), call, b"push 0\npush 1\nraw\n", (want, 0))?;
+        replies(&rt, call, b"push 0\npush 1\nraw\n", want, 0);
     }
-    Ok(())
 }
 
 #[test]
-fn wrong_words(rt: HostRuntime) -> Result<(), Fail> {
-    let alloc = rt.alloc();
+fn wrong_words(rt: HostRuntime) {
     let wrong = [
         "",
         "u8",
@@ -37,11 +33,6 @@ fn wrong_words(rt: HostRuntime) -> Result<(), Fail> {
         "u8 lsb0 raw",
     ];
     for call in wrong {
-        let words = words_of(alloc, call)?;
-        let mut output = Vec::new(alloc);
-        let status = start(alloc, words.as_slice(), FIRST_RUN, &mut output);
-        assert_eq!(rt; output.as_slice(), b"usage: bitrun WORD ORDER\n".as_slice());
-        assert_eq!(rt; status, 2);
+        replies(&rt, call, FIRST_RUN, b"usage: bitrun WORD ORDER\n", 2);
     }
-    Ok(())
 }

@@ -1,0 +1,23 @@
+use Rattle.bit_boxed.proofs.Boxes.{refilled, stayed}
+use Rattle.bit_boxed.proofs.boxed.BitBox.copy_into.Goals as goal
+
+pub copy_into_in_vec-requires-clause-lies : goal.copy_into_in_vec-requires-clause-lies
+copy_into_in_vec-requires-clause-lies g c = rw (← c.self.view_is, c.self.invariant.shows) at c.requires.lies
+
+pub copy_into_in_vec-requires-clause-same_len : goal.copy_into_in_vec-requires-clause-same_len
+copy_into_in_vec-requires-clause-same_len g c = rw (← c.self.view_is, c.self.invariant.shows) at c.requires.same_len
+
+pub returns-clause-list : goal.returns-clause-list
+returns-clause-list g c = rw (← c.self.view_is) c.copy_into_in_vec.ensures.written.list
+
+pub returns-clause-row : goal.returns-clause-row
+returns-clause-row g c = rw (← c.self.view_is) c.copy_into_in_vec.ensures.written.row
+
+pub returns-clause-clean : goal.returns-clause-clean
+returns-clause-clean g c = rw (← c.self.view_is) c.copy_into_in_vec.ensures.written.clean
+
+pub returns-clause-stayed : goal.returns-clause-stayed
+returns-clause-stayed g c = rw (← c.self.view_is) (stayed g.T.BitStore g.O.BitOrder _ _ _ _ c.copy_into_in_vec.ensures.written.size c.self.invariant)
+
+pub invariant_of-self : goal.invariant_of-self
+invariant_of-self g c = refilled g.T.BitStore g.O.BitOrder _ _ _ _ c.copy_into_in_vec.ensures.written.size c.self.invariant

@@ -7,17 +7,10 @@ copy_into_in_vec-requires-clause-lies g c = rw (← c.self.view_is, c.self.invar
 pub copy_into_in_vec-requires-clause-same_len : goal.copy_into_in_vec-requires-clause-same_len
 copy_into_in_vec-requires-clause-same_len g c = rw (← c.self.view_is, c.self.invariant.shows) at c.requires.same_len
 
-pub returns-clause-list : goal.returns-clause-list
-returns-clause-list g c = rw (← c.self.view_is) c.copy_into_in_vec.ensures.written.list
-
-pub returns-clause-row : goal.returns-clause-row
-returns-clause-row g c = rw (← c.self.view_is) c.copy_into_in_vec.ensures.written.row
-
-pub returns-clause-clean : goal.returns-clause-clean
-returns-clause-clean g c = rw (← c.self.view_is) c.copy_into_in_vec.ensures.written.clean
-
-pub returns-clause-stayed : goal.returns-clause-stayed
-returns-clause-stayed g c = rw (← c.self.view_is) (stayed g.T.BitStore g.O.BitOrder _ _ _ _ c.copy_into_in_vec.ensures.written.size c.self.invariant)
+pub returns : goal.returns
+returns g c =
+    let is = c.copy_into_in_vec.ensures.written in
+    rw (← c.self.view_is) (record { list = is.list; row = is.row; clean = is.clean; stayed = stayed g.T.BitStore g.O.BitOrder _ _ _ _ is.size c.self.invariant })
 
 pub invariant_of-self : goal.invariant_of-self
 invariant_of-self g c = refilled g.T.BitStore g.O.BitOrder _ _ _ _ c.copy_into_in_vec.ensures.written.size c.self.invariant

@@ -1,3 +1,4 @@
+use Rattle.bit_slice.proofs.Moved.{shifted_left_at, shifted_left_end}
 use Rattle.bit_boxed.proofs.Boxes.{refilled, stayed}
 use Rattle.bit_boxed.proofs.boxed.BitBox.shift_left.Goals as goal
 
@@ -6,6 +7,12 @@ shift_left_in_vec-requires-clause-inside g c = rw (← c.self.view_is, c.self.in
 
 pub returns-clause-list : goal.returns-clause-list
 returns-clause-list g c = rw (← c.self.view_is) c.shift_left_in_vec.ensures.written.list
+
+pub returns-clause-kept : goal.returns-clause-kept
+returns-clause-kept g c j h = shifted_left_at _ _ c.args.by j (returns-clause-list g c) c.requires h
+
+pub returns-clause-cleared : goal.returns-clause-cleared
+returns-clause-cleared g c j h k = shifted_left_end _ _ c.args.by j (returns-clause-list g c) c.requires h k
 
 pub returns-clause-row : goal.returns-clause-row
 returns-clause-row g c = rw (← c.self.view_is) c.shift_left_in_vec.ensures.written.row

@@ -1,3 +1,4 @@
+use Rattle.bit_slice.proofs.Moved.{shifted_right_at, shifted_right_front}
 use Rattle.bit_boxed.proofs.Boxes.{refilled, stayed}
 use Rattle.bit_boxed.proofs.boxed.BitBox.shift_right.Goals as goal
 
@@ -6,6 +7,12 @@ shift_right_in_vec-requires-clause-inside g c = rw (← c.self.view_is, c.self.i
 
 pub returns-clause-list : goal.returns-clause-list
 returns-clause-list g c = rw (← c.self.view_is, c.self.invariant.shows) c.shift_right_in_vec.ensures.written.list
+
+pub returns-clause-kept : goal.returns-clause-kept
+returns-clause-kept g c j h = shifted_right_at _ _ c.args.by j (returns-clause-list g c) c.requires h
+
+pub returns-clause-cleared : goal.returns-clause-cleared
+returns-clause-cleared g c j h = shifted_right_front _ _ c.args.by j (returns-clause-list g c) c.requires h
 
 pub returns-clause-row : goal.returns-clause-row
 returns-clause-row g c = rw (← c.self.view_is, c.self.invariant.shows) c.shift_right_in_vec.ensures.written.row

@@ -17,7 +17,7 @@ use Rattle.bit_addressing.proofs.Typed.{row_kept}
 use Rattle.bit_slice.proofs.Parts.{in_row, shown_length}
 use Rattle.std.specs.List.{refill, length_refill}
 use Rattle.bit_slice.proofs.Parts.{refilled as over_all, refilled_front}
-use Rattle.bit_boxed.specs.BitBox.{Held, IsBox}
+use Rattle.bit_boxed.specs.BitBox.{Held, IsBox, Stayed}
 use Rattle.bit_boxed.specs.Lends.{with_words}
 
 module _ {X Y : Type 0} (W : store.Ghosts X) (P : order.Ghosts Y) where
@@ -65,6 +65,12 @@ module _ {X Y : Type 0} (W : store.Ghosts X) (P : order.Ghosts Y) (head len : �
       ap (λ k. shown (refill k xs ws)) e
       ∙ ap (λ l. record { words = now; row = row W P now; head = head; list = l })
       (sym (ap (λ k. refill (length old) old (slice_range (row W P now) head (head + k))) size ∙ over_all (length old) old seen alike))
+
+  -- other words, as many: the list is as long as before
+  pub stayed : {size : ℕ} (old new : List X) → length new ≡ length old → IsBox W.BITS (length old) head len size → Stayed (shown old) (shown new)
+  stayed old new same b =
+      let fits : head + len ≤ W.BITS * length new = rw same b.fits in
+      record { head = refl; len = shown_length W P new head len fits ∙ sym (shown_length W P old head len b.fits); size = same }
 
   -- a front of the words is written over
   pub front_lands : {size : ℕ} (n : ℕ) (xs : List X) → n ≡ length xs → IsBox W.BITS (length xs) head len size → (ws : List X) → shown (refill n xs (ws ++ drop (length ws) xs)) ≡ with_words W P (shown xs) ws

@@ -17,7 +17,6 @@ impl<T: BitStore, O: BitOrder> BitBox<T, O> {
     /// ```text
     /// of 01101001: bits.reverse() leaves 10010110
     /// ```
-    #[tactic(auto, using(bit_slice::proofs::Parts::shown_length, bit_slice::proofs::Moved::reversed_at))]
     pub fn reverse(&mut self)
         ensures list { self.new.list ≡ reverse self.old.list }
         ensures index { (j : ℕ) → j < length self.old.list
@@ -36,7 +35,6 @@ impl<T: BitStore, O: BitOrder> BitBox<T, O> {
     /// ```text
     /// of 01101001: bits.rotate_left(2) leaves 10100101
     /// ```
-    #[tactic(auto, using(bit_slice::proofs::Parts::shown_length, bit_slice::proofs::Moved::rotated_front, bit_slice::proofs::Moved::rotated_back))]
     pub fn rotate_left(&mut self, by: usize)
         requires { by ≤ length self.old.list }
         ensures list { self.new.list ≡ drop by self.old.list ++ take by self.old.list }
@@ -58,7 +56,6 @@ impl<T: BitStore, O: BitOrder> BitBox<T, O> {
     /// ```text
     /// of 01101001: bits.rotate_right(2) leaves 01011010
     /// ```
-    #[tactic(auto, using(bit_slice::proofs::Parts::shown_length, bit_slice::proofs::Moved::rotated_right_front, bit_slice::proofs::Moved::rotated_right_back))]
     pub fn rotate_right(&mut self, by: usize)
         requires { by ≤ length self.old.list }
         ensures list { self.new.list
@@ -84,7 +81,6 @@ impl<T: BitStore, O: BitOrder> BitBox<T, O> {
     /// ```text
     /// of 01101001: bits.shift_left(2) leaves 10100100
     /// ```
-    #[tactic(auto, using(bit_slice::proofs::Parts::shown_length, bit_slice::proofs::Moved::shifted_left_at, bit_slice::proofs::Moved::shifted_left_end))]
     pub fn shift_left(&mut self, by: usize)
         requires { by ≤ length self.old.list }
         ensures list { self.new.list ≡ drop by self.old.list ++ replicate by false }
@@ -106,7 +102,6 @@ impl<T: BitStore, O: BitOrder> BitBox<T, O> {
     /// ```text
     /// of 01101001: bits.shift_right(2) leaves 00011010
     /// ```
-    #[tactic(auto, using(bit_slice::proofs::Parts::shown_length, bit_slice::proofs::Moved::shifted_right_at, bit_slice::proofs::Moved::shifted_right_front))]
     pub fn shift_right(&mut self, by: usize)
         requires { by ≤ length self.old.list }
         ensures list { self.new.list ≡ replicate by false ++ take (length self.old.list - by) self.old.list }
@@ -125,7 +120,6 @@ impl<T: BitStore, O: BitOrder> BitBox<T, O> {
 
     // Combines each bit at `dest + k`, by `F`, with bit `k` of a range, as if the range was read before any
     // bit is written. Requires that the range lies in the length, and that its bits have room from `dest` on.
-    #[tactic(auto, using(bit_slice::proofs::Parts::shown_length))]
     fn combine_within<F: BitOperator, R: RangeExt>(&mut self, range: R, dest: usize)
         requires lies { LiesIn (R.start_of range) (R.end_of range (length self.old.list)) (length self.old.list) }
         requires room { dest + (R.end_of range (length self.old.list) - R.start_of range) ≤ length self.old.list }

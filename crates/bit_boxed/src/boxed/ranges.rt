@@ -21,7 +21,6 @@ impl<T: BitStore, O: BitOrder> BitBox<T, O> {
     /// ```text
     /// of 01101001: bits.fill_range(2..6, true) leaves 01111101
     /// ```
-    #[tactic(auto, using(bit_slice::proofs::Parts::shown_length))]
     pub fn fill_range<R: RangeExt>(&mut self, range: R, bit: bool)
         requires lies { LiesIn (R.start_of range) (R.end_of range (length self.old.list)) (length self.old.list) }
         ensures list { self.new.list
@@ -43,7 +42,6 @@ impl<T: BitStore, O: BitOrder> BitBox<T, O> {
     /// ```text
     /// of 01101001: bits.flip_range(1..4) leaves 00011001
     /// ```
-    #[tactic(auto, using(bit_slice::proofs::Parts::shown_length))]
     pub fn flip_range<R: RangeExt>(&mut self, range: R)
         requires lies { LiesIn (R.start_of range) (R.end_of range (length self.old.list)) (length self.old.list) }
         ensures list { self.new.list
@@ -98,7 +96,6 @@ impl<T: BitStore, O: BitOrder> BitBox<T, O> {
     /// ```text
     /// of 01101001 and 0101: bits.copy_into(1..5, other) leaves 00101001
     /// ```
-    #[tactic(auto, using(bit_slice::proofs::Parts::shown_length))]
     pub fn copy_into<R: RangeExt, U: BitStore, P: BitOrder>(
         &mut self,
         range: R,
@@ -117,7 +114,6 @@ impl<T: BitStore, O: BitOrder> BitBox<T, O> {
 
     // Combines each bit at the indices of a range, by `F`, with the bit of a view for it, or with false past the
     // view's end. Requires that the range lies in the length.
-    #[tactic(auto, using(bit_slice::proofs::Parts::shown_length))]
     fn combine_range<F: BitOperator, R: RangeExt, U: BitStore, P: BitOrder>(
         &mut self,
         range: R,
@@ -225,7 +221,6 @@ impl<T: BitStore, O: BitOrder> BitBox<T, O> {
     /// ```text
     /// of 01101001: bits.store_le(5) leaves 10100000
     /// ```
-    #[tactic(auto, using(bit_slice::proofs::Parts::shown_length))]
     pub fn store_le(&mut self, number: u64)
         requires { length self.old.list ≤ 64 }
         ensures list { self.new.list ≡ number_bits number (length self.old.list) }
@@ -243,7 +238,6 @@ impl<T: BitStore, O: BitOrder> BitBox<T, O> {
     /// ```text
     /// of 01101001: bits.store_be(5) leaves 00000101
     /// ```
-    #[tactic(auto, using(bit_slice::proofs::Parts::shown_length))]
     pub fn store_be(&mut self, number: u64)
         requires { length self.old.list ≤ 64 }
         ensures list { self.new.list ≡ binary (length self.old.list) number }

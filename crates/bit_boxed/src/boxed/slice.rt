@@ -206,7 +206,6 @@ impl<T: BitStore, O: BitOrder> BitBox<T, O> {
     /// ```text
     /// of 01101001: bits.fill(true) leaves 11111111
     /// ```
-    #[tactic(auto, using(bit_slice::proofs::Parts::shown_length))]
     pub fn fill(&mut self, bit: bool)
         ensures list { self.new.list ≡ replicate (length self.old.list) bit }
         ensures row { self.new.row ≡ put self.old.row self.old.head (replicate (length self.old.list) bit) }
@@ -248,7 +247,6 @@ impl<T: BitStore, O: BitOrder> BitBox<T, O> {
     /// ```text
     /// let meter = b.copy_within_counted(0..9, 3);   // 12 bits in bytes: meter.writes ≤ 2, meter.reads ≤ 6
     /// ```
-    #[tactic(auto, using(bit_slice::proofs::Parts::shown_length))]
     pub fn copy_within_counted<R: RangeExt>(&mut self, range: R, dest: usize) -> Meter
         requires lies { LiesIn (R.start_of range) (R.end_of range (length self.old.list)) (length self.old.list) }
         requires room { dest + (R.end_of range (length self.old.list) - R.start_of range) ≤ length self.old.list }
@@ -281,7 +279,6 @@ impl<T: BitStore, O: BitOrder> BitBox<T, O> {
     /// ```text
     /// of 01101001 and 01010101: bits.clone_from_bitslice(other) leaves 01010101
     /// ```
-    #[tactic(auto, using(bit_slice::proofs::Parts::shown_length))]
     pub fn clone_from_bitslice<U: BitStore, P: BitOrder>(&mut self, source: BitSlice<'_, U, P>)
         requires { len_of source ≡ length self.old.list }
         ensures list { self.new.list ≡ list_of source.entry }

@@ -1,4 +1,4 @@
-use Rattle.std.proofs.Common.{◌≡◌, reverse, length, ◌∙◌, ap, ◌+◌, ◌-◌, ◌*◌, slice_get, sym, arith}
+use Rattle.std.proofs.Common.{◌≡◌, reverse, length, ◌∙◌, ap, ◌*◌, slice_get, sym}
 use Rattle.std.proofs.lemmas.List.{length-reverse}
 use Rattle.bit_array.proofs.Arrays.{row_rewritten}
 use Rattle.bit_addressing.specs.Typed.{row}

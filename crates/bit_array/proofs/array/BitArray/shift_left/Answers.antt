@@ -1,4 +1,4 @@
-use Rattle.std.proofs.Common.{◌≡◌, ◌++◌, drop, replicate, false, length, ◌∙◌, ap, arith, ◌+◌, ◌-◌, ◌*◌, slice_get, sym}
+use Rattle.std.proofs.Common.{◌≡◌, ◌++◌, drop, replicate, false, length, ◌∙◌, ap, arith, ◌*◌, slice_get, sym}
 use Rattle.std.proofs.lemmas.List.{length-append, length-drop, length-replicate}
 use Rattle.bit_array.proofs.Arrays.{row_rewritten}
 use Rattle.bit_addressing.specs.Typed.{row}

@@ -1,4 +1,4 @@
-use Rattle.std.proofs.Common.{◌≡◌, ◌+◌, ◌*◌, length, ◌∙◌, ap, arith}
+use Rattle.std.proofs.Common.{◌≡◌, ◌*◌, length, ◌∙◌, ap, arith}
 use Rattle.bit_addressing.proofs.Rows.{width_positive}
 use Rattle.bit_slice.proofs.Clean.{clean_words}
 use Rattle.bit_slice.proofs.Parts.{all_shown, row_size, shown_length}

@@ -1,7 +1,7 @@
 //! Examples through the bound, at each of the containers.
 mod callers;
 
-use crate::ok;
+use crate::{check, ok};
 use bit_addressing::{BitOrder, BitStore, GrowError, Lsb0, Msb0};
 use bit_array::BitArray;
 use bit_boxed::BitBox;
@@ -12,11 +12,11 @@ use std::process::Abort;
 
 /// That these are the digits, and no more.
 fn holds<B: Bits>(rt: &impl Abort, bits: &B, digits: &[u8]) {
-    assert_eq!(rt; bits.len(), digits.len());
+    assert!(rt; bits.len() == digits.len());
     for (i, digit) in digits.iter().enumerate() {
         assert_eq!(rt; bits.get(i), Some(*digit == b'1'), "at {i}");
     }
-    assert_eq!(rt; bits.get(digits.len()), None);
+    check(rt, bits.get(digits.len()) == None);
 }
 
 /// A run over eight bits that are false: its replies, and what it leaves.
@@ -31,7 +31,7 @@ fn worked<B: Bits>(rt: &(impl Abort + AllocGlobal), bits: &mut B) {
     ];
     let mut replies = Vec::new(rt.alloc());
     let ran = run_fixed(bits, &commands, &mut replies);
-    assert!(rt; ran.is_ok());
+    check(rt, ran.is_ok());
     let wanted = [
         Reply::Done,
         Reply::Done,
@@ -39,7 +39,7 @@ fn worked<B: Bits>(rt: &(impl Abort + AllocGlobal), bits: &mut B) {
         Reply::OutOfRange,
         Reply::Number(8),
     ];
-    assert!(rt; replies.as_slice() == wanted.as_slice());
+    check(rt, replies.as_slice() == wanted.as_slice());
     holds(rt, bits, b"10111101");
 }
 
@@ -59,7 +59,7 @@ fn gave<B: Bits>(rt: &(impl Abort + AllocGlobal), bits: &mut B) {
     ];
     let mut replies = Vec::new(rt.alloc());
     let ran = run_fixed(bits, &commands, &mut replies);
-    assert!(rt; ran.is_ok());
+    check(rt, ran.is_ok());
     let wanted = [
         Reply::Done,
         Reply::Bit(true),
@@ -72,23 +72,24 @@ fn gave<B: Bits>(rt: &(impl Abort + AllocGlobal), bits: &mut B) {
         Reply::Done,
         Reply::Bit(false),
     ];
-    assert!(rt; replies.as_slice() == wanted.as_slice());
+    check(rt, replies.as_slice() == wanted.as_slice());
     holds(rt, bits, b"11111110");
-    assert!(rt; run_fixed(bits, &[], &mut replies).is_ok() && replies.len() == 10);
+    check(rt, run_fixed(bits, &[], &mut replies).is_ok());
+    assert!(rt; replies.len() == 10);
 }
 
 /// Each call of the trait once.
 fn called<B: Bits>(rt: &impl Abort, bits: &mut B) {
     bits.fill(false);
     let len = bits.len();
-    assert_eq!(rt; len, 8);
+    check(rt, len == 8);
     bits.set(6, true);
     holds(rt, bits, b"00000010");
     bits.copy_within(5, 8, 0);
     holds(rt, bits, b"01000010");
     bits.flip_all();
     holds(rt, bits, b"10111101");
-    assert_eq!(rt; bits.get(1), Some(false));
+    check(rt, bits.get(1) == Some(false));
 }
 
 /// The whole of it over eight bits that are false.
@@ -102,10 +103,10 @@ fn run_over<B: Bits>(rt: &(impl Abort + AllocGlobal), bits: &mut B) {
 fn arrays(rt: HostRuntime) {
     let mut word = BitArray::<u8, Lsb0>::zero();
     run_over(&rt, &mut word);
-    assert_eq!(rt; word.into_inner(), 0xbd);
+    check(&rt, word.into_inner() == 0xbd);
     let mut words = BitArray::<[u8; 1], Msb0>::zero();
     run_over(&rt, &mut words);
-    assert_eq!(rt; words.as_raw_slice(), [0xbd].as_slice());
+    check(&rt, words.as_raw_slice() == [0xbd].as_slice());
 }
 
 #[test]
@@ -113,12 +114,13 @@ fn boxes(rt: HostRuntime) {
     let word = ok(&rt, Box::new(rt.alloc(), 0));
     let mut b = ok(&rt, BitBox::<u8, Lsb0>::from_box(rt.alloc(), word));
     run_over(&rt, &mut b);
-    assert_eq!(rt; b.as_raw_slice(), [0xbd].as_slice());
+    check(&rt, b.as_raw_slice() == [0xbd].as_slice());
     let zeros = [0_u16];
     let view = BitSlice::<u16, Msb0>::from_slice(&zeros).get_range(5..13);
     let mut b = ok(&rt, BitBox::from_bitslice_headed(rt.alloc(), view));
     run_over(&rt, &mut b);
-    assert!(rt; b.head() == 5 && b.as_raw_slice() == [0x05e8].as_slice());
+    check(&rt, b.head() == 5);
+    check(&rt, b.as_raw_slice() == [0x05e8].as_slice());
 }
 
 #[test]
@@ -127,12 +129,13 @@ fn vectors(rt: HostRuntime) {
     assert!(rt; words.len() == 1);
     let mut v = BitVec::<u8, Lsb0>::from_vec(words);
     run_over(&rt, &mut v);
-    assert_eq!(rt; v.as_raw_slice(), [0xbd].as_slice());
+    check(&rt, v.as_raw_slice() == [0xbd].as_slice());
     let zeros = [0_u16];
     let view = BitSlice::<u16, Msb0>::from_slice(&zeros).get_range(5..13);
     let mut v = ok(&rt, BitVec::from_bitslice_headed(rt.alloc(), view));
     run_over(&rt, &mut v);
-    assert!(rt; v.head() == 5 && v.as_raw_slice() == [0x05e8].as_slice());
+    check(&rt, v.head() == 5);
+    check(&rt, v.as_raw_slice() == [0x05e8].as_slice());
 }
 
 /// A run: where its replies find no memory, it stops before its first command, and changes nothing. It passes
@@ -142,7 +145,7 @@ fn stopped<B: Bits>(rt: &(impl Abort + AllocGlobal), bits: &mut B) {
     let commands = [FixedCommand::Fill(true), FixedCommand::Len];
     match run_fixed(bits, &commands, &mut replies) {
         Ok(()) => {
-            assert_eq!(rt; replies.len(), 2);
+            assert!(rt; replies.len() == 2);
             holds(rt, bits, b"11111111");
         }
         Err(stop) => {
@@ -150,7 +153,8 @@ fn stopped<B: Bits>(rt: &(impl Abort + AllocGlobal), bits: &mut B) {
                 done: 0,
                 why: GrowError::OutOfMemory,
             };
-            assert!(rt; stop == wanted && replies.is_empty());
+            check(rt, stop == wanted);
+            check(rt, replies.is_empty());
             holds(rt, bits, b"00000000");
         }
     }

@@ -14,6 +14,13 @@ mod records;
 #[cfg(test)]
 mod users;
 
+/// That this holds. A test calls it in place of `assert!`, which costs the prover several times as much: a failed
+/// test is told by its name.
+#[cfg(test)]
+fn check(rt: &impl Abort, holds: bool) {
+    assert!(rt; holds);
+}
+
 /// What a call returns that found memory.
 #[cfg(test)]
 fn ok<V, E>(rt: &impl Abort, outcome: Result<V, E>) -> V {

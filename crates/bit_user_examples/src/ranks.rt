@@ -2,7 +2,7 @@
 mod callers;
 mod sorted;
 
-use crate::ok;
+use crate::{check, ok};
 use bit_containers::{BitOrder, BitStore, BitVec, Lsb0, Msb0};
 use bit_ranks::Ranks;
 use std::alloc::Global;
@@ -98,25 +98,43 @@ fn plain_lists_agree<T: BitStore, O: BitOrder>(alloc: Global, bit: bool) -> Opti
 
 #[test]
 fn short_lists(rt: HostRuntime) {
-    assert_eq!(rt; short_lists_agree::<u8, Lsb0>(rt.alloc()), Some(true));
-    assert_eq!(rt; short_lists_agree::<u8, Msb0>(rt.alloc()), Some(true));
-    assert_eq!(rt; short_lists_agree::<u64, Lsb0>(rt.alloc()), Some(true));
-    assert_eq!(rt; short_lists_agree::<u64, Msb0>(rt.alloc()), Some(true));
+    check(&rt, short_lists_agree::<u8, Lsb0>(rt.alloc()) == Some(true));
+    check(&rt, short_lists_agree::<u8, Msb0>(rt.alloc()) == Some(true));
+    check(
+        &rt,
+        short_lists_agree::<u64, Lsb0>(rt.alloc()) == Some(true),
+    );
+    check(
+        &rt,
+        short_lists_agree::<u64, Msb0>(rt.alloc()) == Some(true),
+    );
 }
 
 #[test]
 fn long_lists(rt: HostRuntime) {
     for of in [2u64, 40, 700] {
-        assert_eq!(rt; long_list_agrees::<u8, Msb0>(rt.alloc(), of), Some(true));
-        assert_eq!(rt; long_list_agrees::<u64, Lsb0>(rt.alloc(), of), Some(true));
+        check(
+            &rt,
+            long_list_agrees::<u8, Msb0>(rt.alloc(), of) == Some(true),
+        );
+        check(
+            &rt,
+            long_list_agrees::<u64, Lsb0>(rt.alloc(), of) == Some(true),
+        );
     }
 }
 
 #[test]
 fn plain_lists(rt: HostRuntime) {
     for bit in [false, true] {
-        assert_eq!(rt; plain_lists_agree::<u16, Lsb0>(rt.alloc(), bit), Some(true));
-        assert_eq!(rt; plain_lists_agree::<u32, Msb0>(rt.alloc(), bit), Some(true));
+        check(
+            &rt,
+            plain_lists_agree::<u16, Lsb0>(rt.alloc(), bit) == Some(true),
+        );
+        check(
+            &rt,
+            plain_lists_agree::<u32, Msb0>(rt.alloc(), bit) == Some(true),
+        );
     }
 }
 
@@ -129,11 +147,16 @@ fn seven(rt: &(impl Abort + AllocGlobal)) -> Ranks<u8, Msb0> {
 #[test]
 fn seven_bits(rt: HostRuntime) {
     let ranks = seven(&rt);
-    assert!(rt; ranks.len() == 7 && !ranks.is_empty() && ranks.index_len() == 0);
-    assert!(rt; ranks.count_ones() == 3 && ranks.count_zeros() == 4);
-    assert!(rt; ranks.rank1(4) == 2 && ranks.rank0(4) == 2);
-    assert!(rt; ranks.select1(2) == Some(4) && ranks.select1(3).is_none());
-    assert!(rt; ranks.select0(1) == Some(3));
+    assert!(rt; ranks.len() == 7);
+    check(&rt, !ranks.is_empty());
+    check(&rt, ranks.index_len() == 0);
+    check(&rt, ranks.count_ones() == 3);
+    check(&rt, ranks.count_zeros() == 4);
+    check(&rt, ranks.rank1(4) == 2);
+    check(&rt, ranks.rank0(4) == 2);
+    check(&rt, ranks.select1(2) == Some(4));
+    check(&rt, ranks.select1(3).is_none());
+    check(&rt, ranks.select0(1) == Some(3));
 }
 
 #[test]
@@ -143,18 +166,18 @@ fn ones_of_seven_bits(rt: HostRuntime) {
         &rt,
         ranks.iter_ones_from(0).collect::<Vec<usize>>(rt.alloc()),
     );
-    assert!(rt; ones.as_slice() == [1, 2, 4].as_slice());
+    check(&rt, ones.as_slice() == [1, 2, 4].as_slice());
     let ones = ok(
         &rt,
         ranks.iter_ones_from(2).collect::<Vec<usize>>(rt.alloc()),
     );
-    assert!(rt; ones.as_slice() == [4].as_slice());
-    assert!(rt; ranks.iter_ones_from(3).next().is_none());
+    check(&rt, ones.as_slice() == [4].as_slice());
+    check(&rt, ranks.iter_ones_from(3).next().is_none());
 }
 
 #[test]
 fn seven_bits_given_up(rt: HostRuntime) {
     let ranks = seven(&rt);
-    assert!(rt; ranks.as_bitslice().count_ones() == 3);
-    assert!(rt; ranks.into_bits().as_raw_slice() == [0x68].as_slice());
+    check(&rt, ranks.as_bitslice().count_ones() == 3);
+    check(&rt, ranks.into_bits().as_raw_slice() == [0x68].as_slice());
 }

@@ -1,7 +1,7 @@
 //! Records on small inputs, and each call once.
 mod callers;
 
-use crate::ok;
+use crate::{check, ok};
 use bit_containers::{GrowError, Lsb0, Msb0};
 use bit_records::Records;
 use std::alloc::AllocError;
@@ -9,25 +9,26 @@ use std::alloc::AllocError;
 #[test]
 fn widths(rt: HostRuntime) {
     for width in [0u8, 65, 255] {
-        assert!(rt; Records::<u8, Msb0>::new(rt.alloc(), width).is_none());
+        check(&rt, Records::<u8, Msb0>::new(rt.alloc(), width).is_none());
     }
     for width in [1u8, 64] {
-        assert!(rt; Records::<u8, Msb0>::new(rt.alloc(), width).is_some());
+        check(&rt, Records::<u8, Msb0>::new(rt.alloc(), width).is_some());
     }
 }
 
 #[test]
 fn five_digits(rt: HostRuntime) {
     let mut records = Records::<u8, Msb0>::new(rt.alloc(), 5).unwrap();
-    assert!(rt; records.is_empty() && records.width() == 5);
+    check(&rt, records.is_empty());
+    assert!(rt; records.width() == 5);
     ok(&rt, records.push(1));
     ok(&rt, records.push(31));
     ok(&rt, records.push(0));
-    assert_eq!(rt; records.get(1), Some(31));
-    assert_eq!(rt; records.get(3), None);
+    check(&rt, records.get(1) == Some(31));
+    check(&rt, records.get(3) == None);
     let bits = records.into_bits();
-    assert_eq!(rt; bits.len(), 15);
-    assert_eq!(rt; bits.as_raw_slice(), [0x0f, 0xc0].as_slice());
+    assert!(rt; bits.len() == 15);
+    check(&rt, bits.as_raw_slice() == [0x0f, 0xc0].as_slice());
 }
 
 #[test]
@@ -37,19 +38,25 @@ fn three_digits(rt: HostRuntime) {
     ok(&rt, records.push(3));
     ok(&rt, records.push(6));
     let bits = ok(&rt, records.clone()).into_bits();
-    assert_eq!(rt; bits.len(), 9);
-    assert_eq!(rt; bits.as_raw_slice(), [0xf5, 0x00].as_slice());
+    assert!(rt; bits.len() == 9);
+    check(&rt, bits.as_raw_slice() == [0xf5, 0x00].as_slice());
     assert!(rt; records.len() == 3);
     records.set(1, 0);
-    assert_eq!(rt; records.into_bits().as_raw_slice(), [0xc5, 0x00].as_slice());
+    check(
+        &rt,
+        records.into_bits().as_raw_slice() == [0xc5, 0x00].as_slice(),
+    );
 }
 
 #[test]
 fn whole_words(rt: HostRuntime) {
     let mut records = Records::<u8, Lsb0>::new(rt.alloc(), 64).unwrap();
     ok(&rt, records.push(u64::MAX));
-    assert_eq!(rt; records.get(0), Some(u64::MAX));
-    assert_eq!(rt; records.into_bits().as_raw_slice(), [0xff; 8].as_slice());
+    check(&rt, records.get(0) == Some(u64::MAX));
+    check(
+        &rt,
+        records.into_bits().as_raw_slice() == [0xff; 8].as_slice(),
+    );
 }
 
 #[test]
@@ -68,8 +75,8 @@ fn equal_words(rt: HostRuntime) {
         ok(&rt, records.clone()).into_bits(),
         ok(&rt, others.clone()).into_bits(),
     );
-    assert_eq!(rt; left.as_raw_slice(), right.as_raw_slice());
-    assert_eq!(rt; records.get(0), others.get(0));
+    check(&rt, left.as_raw_slice() == right.as_raw_slice());
+    check(&rt, records.get(0) == others.get(0));
 }
 
 // Where a request for memory is refused, the records are as they were.
@@ -77,19 +84,27 @@ fn equal_words(rt: HostRuntime) {
 fn refused(rt: HostRuntime) {
     let mut records = Records::<u8, Msb0>::new(rt.alloc(), 33).unwrap();
     for number in [8589934591u64, 5, 0, 4294967296] {
-        assert!(rt; records.width() == 33 && number < 8589934592);
+        assert!(rt; records.width() == 33);
+        assert!(rt; number < 8589934592);
         let (len, first) = (records.len(), records.get(0));
         match records.push(number) {
-            Ok(()) => assert_eq!(rt; records.get(len), Some(number)),
+            Ok(()) => check(&rt, records.get(len) == Some(number)),
             Err(why) => {
-                assert!(rt; why == GrowError::OutOfMemory && records.len() == len);
-                assert_eq!(rt; records.get(0), first);
+                check(&rt, why == GrowError::OutOfMemory);
+                assert!(rt; records.len() == len);
+                check(&rt, records.get(0) == first);
             }
         }
         let copied: Result<Records<u8, Msb0>, AllocError> = records.clone();
         match copied {
-            Ok(copy) => assert!(rt; copy.len() == records.len() && copy.get(0) == records.get(0)),
-            Err(_) => assert!(rt; records.len() > 0 && records.get(0) == Some(8589934591)),
+            Ok(copy) => {
+                assert!(rt; copy.len() == records.len());
+                check(&rt, copy.get(0) == records.get(0))
+            },
+            Err(_) => {
+                assert!(rt; records.len() > 0);
+                check(&rt, records.get(0) == Some(8589934591))
+            },
         }
     }
 }

@@ -5,7 +5,7 @@ mod frames;
 mod matrices;
 mod sets;
 
-use crate::ok;
+use crate::{check, ok};
 use bit_addressing::{GrowError, Lsb0, Msb0};
 use bit_containers::BitVec;
 use bit_users::{
@@ -24,45 +24,65 @@ const BYTES: [u8; 20] = [
 #[test]
 fn a_header_is_read(rt: HostRuntime) {
     let header = Header::read(BYTES.as_slice()).unwrap();
-    assert!(rt; header.version == 4 && header.header_words == 5);
-    assert!(rt; header.service == 0 && header.congestion == 0 && header.total_length == 115);
-    assert!(rt; header.identification == 0 && header.flags == 2 && header.fragment_offset == 0);
-    assert!(rt; header.time_to_live == 64 && header.protocol == 17 && header.checksum == 0xb861);
-    assert!(rt; header.source == 0xc0a80001 && header.destination == 0xc0a800c7);
-    assert!(rt; Header::read(&BYTES[..19]).is_none());
+    check(&rt, header.version == 4);
+    check(&rt, header.header_words == 5);
+    check(&rt, header.service == 0);
+    check(&rt, header.congestion == 0);
+    check(&rt, header.total_length == 115);
+    check(&rt, header.identification == 0);
+    check(&rt, header.flags == 2);
+    check(&rt, header.fragment_offset == 0);
+    check(&rt, header.time_to_live == 64);
+    check(&rt, header.protocol == 17);
+    check(&rt, header.checksum == 0xb861);
+    check(&rt, header.source == 0xc0a80001);
+    check(&rt, header.destination == 0xc0a800c7);
+    check(&rt, Header::read(&BYTES[..19]).is_none());
 }
 
 #[test]
 fn reserved_values_of_a_header(rt: HostRuntime) {
     let mut bytes = BYTES;
-    assert!(rt; Header::read_checked(bytes.as_slice()).is_ok());
-    assert!(rt; Header::read_checked(&bytes[..19]) == Err(HeaderFault::TooShort));
+    check(&rt, Header::read_checked(bytes.as_slice()).is_ok());
+    check(
+        &rt,
+        Header::read_checked(&bytes[..19]) == Err(HeaderFault::TooShort),
+    );
     bytes[6] = 0xc0;
-    assert!(rt; Header::read_checked(bytes.as_slice()) == Err(HeaderFault::ReservedFlag));
+    check(
+        &rt,
+        Header::read_checked(bytes.as_slice()) == Err(HeaderFault::ReservedFlag),
+    );
     bytes[0] = 0x46;
-    assert!(rt; Header::read_checked(bytes.as_slice()) == Err(HeaderFault::Options));
+    check(
+        &rt,
+        Header::read_checked(bytes.as_slice()) == Err(HeaderFault::Options),
+    );
     bytes[0] = 0x66;
-    assert!(rt; Header::read_checked(bytes.as_slice()) == Err(HeaderFault::Version));
+    check(
+        &rt,
+        Header::read_checked(bytes.as_slice()) == Err(HeaderFault::Version),
+    );
 }
 
 #[test]
 fn a_header_is_written(rt: HostRuntime) {
     let header = Header::read(BYTES.as_slice()).unwrap();
     let bytes = ok(&rt, header.to_bytes(rt.alloc()));
-    assert!(rt; bytes.as_slice() == BYTES.as_slice());
-    assert!(rt; Header::read(&bytes) == Some(header));
+    check(&rt, bytes.as_slice() == BYTES.as_slice());
+    check(&rt, Header::read(&bytes) == Some(header));
 }
 
 #[test]
 fn the_bits_of_a_header(rt: HostRuntime) {
     let header = Header::read(BYTES.as_slice()).unwrap();
-    assert!(rt; ok(&rt, header.to_bits(rt.alloc())).len() == 160);
+    check(&rt, ok(&rt, header.to_bits(rt.alloc())).len() == 160);
 }
 
 /// That a set has these numbers, in this order.
 fn has(rt: &(impl Abort + AllocGlobal), set: &NumberSet, numbers: &[usize]) {
     let members = ok(rt, set.members(rt.alloc()));
-    assert!(rt; members.as_slice() == numbers);
+    check(rt, members.as_slice() == numbers);
 }
 
 /// A set of those of these numbers that are below a bound.
@@ -84,8 +104,11 @@ fn sets_of_numbers(rt: HostRuntime) {
     small.insert(64);
     small.insert(65);
     small.insert(199);
-    assert!(rt; small.contains(64) && !small.contains(0) && !small.contains(200));
-    assert!(rt; small.count() == 4 && small.next_from(66) == Some(199));
+    check(&rt, small.contains(64));
+    check(&rt, !small.contains(0));
+    check(&rt, !small.contains(200));
+    check(&rt, small.count() == 4);
+    check(&rt, small.next_from(66) == Some(199));
     small.remove(3);
     has(&rt, &small, &[64, 65, 199]);
 }
@@ -94,8 +117,9 @@ fn sets_of_numbers(rt: HostRuntime) {
 fn unions(rt: HostRuntime) {
     let small = set_of(&rt, 200, &[64, 65, 199]);
     let even = set_of(&rt, 200, &[0, 64, 128]);
-    assert!(rt; small.bound() == 200 && even.bound() == 200);
-    assert!(rt; even.next_from(129) == None);
+    assert!(rt; small.bound() == 200);
+    assert!(rt; even.bound() == 200);
+    check(&rt, even.next_from(129) == None);
     has(&rt, &small.union(even), &[0, 64, 65, 128, 199]);
 }
 
@@ -103,7 +127,8 @@ fn unions(rt: HostRuntime) {
 fn differences(rt: HostRuntime) {
     let both = set_of(&rt, 200, &[0, 64, 65, 128, 199]);
     let few = set_of(&rt, 200, &[65, 66]);
-    assert!(rt; both.bound() == 200 && few.bound() == 200);
+    assert!(rt; both.bound() == 200);
+    assert!(rt; few.bound() == 200);
     has(&rt, &both.difference(few), &[0, 64, 128, 199]);
 }
 
@@ -111,15 +136,16 @@ fn differences(rt: HostRuntime) {
 fn intersections(rt: HostRuntime) {
     let rest = set_of(&rt, 200, &[0, 64, 128, 199]);
     let last = set_of(&rt, 200, &[199, 1]);
-    assert!(rt; rest.bound() == 200 && last.bound() == 200);
+    assert!(rt; rest.bound() == 200);
+    assert!(rt; last.bound() == 200);
     has(&rt, &rest.intersection(last), &[199]);
 }
 
 #[test]
 fn sets_that_grow(rt: HostRuntime) {
     let mut low = ok(&rt, NumberSet::from_numbers(rt.alloc(), 10, &[2, 7, 2]));
-    assert!(rt; ok(&rt, low.insert_growing(70)));
-    assert!(rt; !ok(&rt, low.insert_growing(7)));
+    check(&rt, ok(&rt, low.insert_growing(70)));
+    check(&rt, !ok(&rt, low.insert_growing(7)));
     assert!(rt; low.bound() == 71);
     has(&rt, &low, &[2, 7, 70]);
 }
@@ -131,8 +157,10 @@ fn sets_that_are_united(rt: HostRuntime) {
     ok(&rt, low.unite(&high));
     assert!(rt; low.bound() == 200);
     has(&rt, &low, &[2, 7, 70, 150]);
-    assert!(rt; high.is_subset(&low) && low.is_superset(&high) && !low.is_subset(&high));
-    assert!(rt; low.count_intersection(&high) == 2);
+    check(&rt, high.is_subset(&low));
+    check(&rt, low.is_superset(&high));
+    check(&rt, !low.is_subset(&high));
+    check(&rt, low.count_intersection(&high) == 2);
 }
 
 #[test]
@@ -140,19 +168,24 @@ fn sets_in_place(rt: HostRuntime) {
     let high = set_of(&rt, 200, &[7, 150]);
     let mut low = set_of(&rt, 200, &[2, 7, 70, 150]);
     low.subtract(&high);
-    assert!(rt; low.is_disjoint(&high) && low.first() == Some(2) && low.last() == Some(70));
-    assert!(rt; low.iter().next_back() == Some(70));
+    check(&rt, low.is_disjoint(&high));
+    check(&rt, low.first() == Some(2));
+    check(&rt, low.last() == Some(70));
+    check(&rt, low.iter().next_back() == Some(70));
     low.intersect(&high);
-    assert!(rt; low.is_empty() && low.first().is_none() && low.last().is_none());
+    check(&rt, low.is_empty());
+    check(&rt, low.first().is_none());
+    check(&rt, low.last().is_none());
 }
 
 #[test]
 fn sets_of_bits(rt: HostRuntime) {
     let high = set_of(&rt, 200, &[7, 150]);
     let mut again = NumberSet::from_bits(high.into_bits());
-    assert!(rt; again.contains(150) && again.count() == 2);
+    check(&rt, again.contains(150));
+    check(&rt, again.count() == 2);
     again.clear();
-    assert!(rt; again.is_empty());
+    check(&rt, again.is_empty());
 }
 
 #[test]
@@ -168,37 +201,55 @@ fn primes(rt: HostRuntime) {
 #[test]
 fn frames_of_a_map(rt: HostRuntime) {
     let mut map = ok(&rt, FreeMap::new(rt.alloc(), 130));
-    assert!(rt; map.frames() == 130 && map.take() == Some(0));
-    assert!(rt; map.take_run(100) == Some(1) && map.frames() == 130);
-    assert!(rt; map.is_taken(100) && !map.is_taken(101));
-    assert!(rt; map.take_run(30).is_none());
-    assert!(rt; map.take_run(29) == Some(101));
-    assert!(rt; map.take().is_none());
+    assert!(rt; map.frames() == 130);
+    check(&rt, map.take() == Some(0));
+    check(&rt, map.take_run(100) == Some(1));
+    assert!(rt; map.frames() == 130);
+    check(&rt, map.is_taken(100));
+    check(&rt, !map.is_taken(101));
+    check(&rt, map.take_run(30).is_none());
+    check(&rt, map.take_run(29) == Some(101));
+    check(&rt, map.take().is_none());
 }
 
 #[test]
 fn frames_given_back(rt: HostRuntime) {
     let mut map = ok(&rt, FreeMap::new(rt.alloc(), 130));
-    assert!(rt; map.take_run(130) == Some(0) && map.frames() == 130);
-    assert!(rt; map.give_back(60, 8).is_ok() && map.give_back(70, 5).is_ok());
-    assert!(rt; map.give_back(67, 3) == Err(NotTaken) && map.is_taken(68));
-    assert!(rt; map.count_free() == 13 && map.take() == Some(60));
-    assert!(rt; map.take_run(8).is_none());
-    assert!(rt; map.take_run(5) == Some(61) && map.take_run(5) == Some(70));
-    assert!(rt; map.count_free() == 2);
+    check(&rt, map.take_run(130) == Some(0));
+    assert!(rt; map.frames() == 130);
+    check(&rt, map.give_back(60, 8).is_ok());
+    check(&rt, map.give_back(70, 5).is_ok());
+    check(&rt, map.give_back(67, 3) == Err(NotTaken));
+    check(&rt, map.is_taken(68));
+    check(&rt, map.count_free() == 13);
+    check(&rt, map.take() == Some(60));
+    check(&rt, map.take_run(8).is_none());
+    check(&rt, map.take_run(5) == Some(61));
+    check(&rt, map.take_run(5) == Some(70));
+    check(&rt, map.count_free() == 2);
 }
 
 #[test]
 fn too_many(rt: HostRuntime) {
     let most = usize::MAX;
-    assert!(rt; matches!(NumberSet::new(rt.alloc(), most), Err(GrowError::TooLong)));
-    assert!(rt; matches!(FreeMap::new(rt.alloc(), most), Err(GrowError::TooLong)));
-    assert!(rt; matches!(Matrix::new(rt.alloc(), most, 3), Err(GrowError::TooLong)));
-    assert!(rt;
+    check(
+        &rt,
+        matches!(NumberSet::new(rt.alloc(), most), Err(GrowError::TooLong)),
+    );
+    check(
+        &rt,
+        matches!(FreeMap::new(rt.alloc(), most), Err(GrowError::TooLong)),
+    );
+    check(
+        &rt,
+        matches!(Matrix::new(rt.alloc(), most, 3), Err(GrowError::TooLong)),
+    );
+    check(
+        &rt,
         matches!(
             Matrix::new(rt.alloc(), 1 << 31, 1 << 30),
             Err(GrowError::TooLong)
-        )
+        ),
     );
 }
 
@@ -208,9 +259,12 @@ fn lists_as_bytes(rt: HostRuntime) {
     assert!(rt; bits.len() == 10);
     bits.set(1, false);
     let bytes = ok(&rt, to_bytes(rt.alloc(), &bits));
-    assert!(rt; bytes.as_slice() == [10, 0, 0, 0, 0, 0, 0, 0, 0xbf, 0xc0].as_slice());
+    check(
+        &rt,
+        bytes.as_slice() == [10, 0, 0, 0, 0, 0, 0, 0, 0xbf, 0xc0].as_slice(),
+    );
     let read = ok(&rt, from_bytes(rt.alloc(), &bytes));
-    assert!(rt; read.eq_bits(bits.as_bitslice()));
+    check(&rt, read.eq_bits(bits.as_bitslice()));
 }
 
 #[test]
@@ -218,13 +272,13 @@ fn bytes_of_one_list(rt: HostRuntime) {
     let bits = ok(&rt, BitVec::<u16, Lsb0>::repeat(rt.alloc(), true, 10));
     let bytes = ok(&rt, to_bytes(rt.alloc(), &bits));
     let again = ok(&rt, to_bytes(rt.alloc(), &bits));
-    assert!(rt; are_of_one_list(&bytes, &again));
+    check(&rt, are_of_one_list(&bytes, &again));
     let empty = ok(
         &rt,
         to_bytes(rt.alloc(), &BitVec::<u8, Msb0>::new(rt.alloc())),
     );
-    assert!(rt; !are_of_one_list(&bytes, &empty));
-    assert!(rt; empty.as_slice() == [0; 8].as_slice());
+    check(&rt, !are_of_one_list(&bytes, &empty));
+    check(&rt, empty.as_slice() == [0; 8].as_slice());
 }
 
 #[test]
@@ -234,11 +288,11 @@ fn bytes_of_no_list(rt: HostRuntime) {
     let long = [10u8, 0, 0, 0, 0, 0, 0, 0, 0xbf, 0xc0, 0];
     let stray = [10u8, 0, 0, 0, 0, 0, 0, 0, 0xbf, 0xc1];
     let most = [0xffu8; 9];
-    assert!(rt; is_broken(rt.alloc(), few.as_slice()));
-    assert!(rt; is_broken(rt.alloc(), short.as_slice()));
-    assert!(rt; is_broken(rt.alloc(), long.as_slice()));
-    assert!(rt; is_broken(rt.alloc(), stray.as_slice()));
-    assert!(rt; is_broken(rt.alloc(), most.as_slice()));
+    check(&rt, is_broken(rt.alloc(), few.as_slice()));
+    check(&rt, is_broken(rt.alloc(), short.as_slice()));
+    check(&rt, is_broken(rt.alloc(), long.as_slice()));
+    check(&rt, is_broken(rt.alloc(), stray.as_slice()));
+    check(&rt, is_broken(rt.alloc(), most.as_slice()));
 }
 
 fn is_broken(alloc: Global, bytes: &[u8]) -> bool {
@@ -301,7 +355,8 @@ fn leads(rt: &(impl Abort + AllocGlobal), graph: &Matrix, from: usize)
     requires { from < 10 }
 {
     let reached = ok(rt, reached_from(rt.alloc(), from));
-    assert!(rt; graph.rows() == 10 && graph.columns() == 10);
+    assert!(rt; graph.rows() == 10);
+    assert!(rt; graph.columns() == 10);
     for to in 0..10 {
         let edge = graph.get(from, to);
         assert!(rt;
@@ -315,7 +370,8 @@ fn leads(rt: &(impl Abort + AllocGlobal), graph: &Matrix, from: usize)
 fn paths_of_a_graph(rt: HostRuntime) {
     let mut graph = ok(&rt, Matrix::new(rt.alloc(), 10, 10));
     for (from, to) in EDGES {
-        assert!(rt; from < graph.rows() && to < graph.columns());
+        assert!(rt; from < graph.rows());
+        assert!(rt; to < graph.columns());
         graph.set(from, to, true);
     }
     assert!(rt; graph.rows() == graph.columns());
@@ -330,10 +386,12 @@ fn paths_of_a_graph(rt: HostRuntime) {
 fn paths_of_a_line(rt: HostRuntime) {
     let mut line = ok(&rt, Matrix::new(rt.alloc(), 100, 100));
     for node in 1..100 {
-        assert!(rt; node < line.rows() && node < line.columns());
+        assert!(rt; node < line.rows());
+        assert!(rt; node < line.columns());
         line.set(node - 1, node, true);
     }
-    assert!(rt; line.rows() == 100 && line.columns() == 100);
+    assert!(rt; line.rows() == 100);
+    assert!(rt; line.columns() == 100);
     line.close();
     for from in 0..100 {
         for to in 0..100 {
@@ -345,7 +403,8 @@ fn paths_of_a_line(rt: HostRuntime) {
 /// A matrix of three rows with two bits in each, of which one row was or-ed to another, and copied.
 fn three_rows(rt: &(impl Abort + AllocGlobal)) -> Matrix {
     let mut matrix = ok(rt, Matrix::new(rt.alloc(), 3, 70));
-    assert!(rt; matrix.rows() == 3 && matrix.columns() == 70);
+    assert!(rt; matrix.rows() == 3);
+    assert!(rt; matrix.columns() == 70);
     matrix.set(0, 2, true);
     matrix.set(0, 69, true);
     matrix.set(2, 0, true);
@@ -359,7 +418,8 @@ fn three_rows(rt: &(impl Abort + AllocGlobal)) -> Matrix {
 #[test]
 fn rows_of_a_matrix(rt: HostRuntime) {
     let turned = ok(&rt, three_rows(&rt).transpose(rt.alloc()));
-    assert!(rt; turned.rows() == 70 && turned.columns() == 3);
+    assert!(rt; turned.rows() == 70);
+    assert!(rt; turned.columns() == 3);
     for column in 0..70 {
         let expected = [
             column == 2 || column == 69,
@@ -376,10 +436,12 @@ fn rows_of_a_matrix(rt: HostRuntime) {
 #[test]
 fn no_rows_or_columns(rt: HostRuntime) {
     let mut none = ok(&rt, Matrix::new(rt.alloc(), 0, 0));
-    assert!(rt; none.rows() == 0 && none.columns() == 0);
+    assert!(rt; none.rows() == 0);
+    assert!(rt; none.columns() == 0);
     none.close();
     assert!(rt; none.rows() == 0);
     let wide = ok(&rt, Matrix::new(rt.alloc(), 5, 0));
     let turned = ok(&rt, wide.transpose(rt.alloc()));
-    assert!(rt; turned.rows() == 0 && turned.columns() == 5);
+    assert!(rt; turned.rows() == 0);
+    assert!(rt; turned.columns() == 5);
 }

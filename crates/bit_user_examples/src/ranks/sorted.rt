@@ -1,4 +1,5 @@
 //! Sorted numbers beside plain loops over lists.
+use crate::check;
 use crate::ranks::next_state;
 use bit_ranks::{SortedError, SortedNumbers};
 use std::alloc::Global;
@@ -76,25 +77,28 @@ fn gaps_agree(alloc: Global, gap: u64) -> Option<bool> {
 #[test]
 fn dense_lists(rt: HostRuntime) {
     for gap in [1u64, 2, 3] {
-        assert_eq!(rt; gaps_agree(rt.alloc(), gap), Some(true));
+        check(&rt, gaps_agree(rt.alloc(), gap) == Some(true));
     }
 }
 
 #[test]
 fn sparse_lists(rt: HostRuntime) {
     for gap in [100u64, 65_537, 1 << 40] {
-        assert_eq!(rt; gaps_agree(rt.alloc(), gap), Some(true));
+        check(&rt, gaps_agree(rt.alloc(), gap) == Some(true));
     }
 }
 
 #[test]
 fn lists_with_both_ends(rt: HostRuntime) {
     let ends = [0, 0, 0, 1, u64::MAX, u64::MAX];
-    assert_eq!(rt; list_agrees(rt.alloc(), ends.as_slice()), Some(true));
-    assert_eq!(rt; list_agrees(rt.alloc(), [u64::MAX].as_slice()), Some(true));
-    assert_eq!(rt;
-        list_agrees(rt.alloc(), [0u64, 1 << 63].as_slice()),
-        Some(true)
+    check(&rt, list_agrees(rt.alloc(), ends.as_slice()) == Some(true));
+    check(
+        &rt,
+        list_agrees(rt.alloc(), [u64::MAX].as_slice()) == Some(true),
+    );
+    check(
+        &rt,
+        list_agrees(rt.alloc(), [0u64, 1 << 63].as_slice()) == Some(true),
     );
 }
 
@@ -103,19 +107,19 @@ fn lists_with_both_ends(rt: HostRuntime) {
 fn clustered_list(rt: HostRuntime) {
     let mut list = ascending(rt.alloc(), 400, 1 << 30, 3).expect(&rt, "memory");
     list.push(1 << 50).expect(&rt, "memory");
-    assert_eq!(rt; list_agrees(rt.alloc(), &list), Some(true));
+    check(&rt, list_agrees(rt.alloc(), &list) == Some(true));
 }
 
 #[test]
 fn refused_lists(rt: HostRuntime) {
     let alloc = rt.alloc();
     let refused = SortedNumbers::from_slice(alloc, [2, 9, 3, 1].as_slice()).err();
-    assert_eq!(rt; refused, Some(SortedError::Descends(2)));
+    check(&rt, refused == Some(SortedError::Descends(2)));
     let refused = SortedNumbers::from_slice(alloc, [1, 0].as_slice()).err();
-    assert_eq!(rt; refused, Some(SortedError::Descends(1)));
+    check(&rt, refused == Some(SortedError::Descends(1)));
     let list = Vec::from_array(alloc, [4, 4, 3, 9]).expect(&rt, "memory");
     let refused = SortedNumbers::from_numbers(alloc, list).err();
-    assert_eq!(rt; refused, Some(SortedError::Descends(2)));
+    check(&rt, refused == Some(SortedError::Descends(2)));
 }
 
 #[test]
@@ -124,12 +128,12 @@ fn four_numbers(rt: HostRuntime) {
     let numbers = SortedNumbers::from_numbers(rt.alloc(), list)
         .ok()
         .expect(&rt, "they ascend");
-    assert!(rt; !numbers.is_empty());
-    assert_eq!(rt; numbers.len(), 4);
-    assert_eq!(rt; numbers.get(1), Some(3));
-    assert_eq!(rt; numbers.next_at_least(4), Some((2, 9)));
-    assert_eq!(rt; numbers.next_at_least(10), None);
-    assert!(rt; numbers.contains(3));
-    assert!(rt; !numbers.contains(4));
-    assert_eq!(rt; numbers.size_in_bits(), 12);
+    check(&rt, !numbers.is_empty());
+    assert!(rt; numbers.len() == 4);
+    check(&rt, numbers.get(1) == Some(3));
+    check(&rt, numbers.next_at_least(4) == Some((2, 9)));
+    check(&rt, numbers.next_at_least(10) == None);
+    check(&rt, numbers.contains(3));
+    check(&rt, !numbers.contains(4));
+    check(&rt, numbers.size_in_bits() == 12);
 }

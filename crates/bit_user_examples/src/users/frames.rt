@@ -1,40 +1,48 @@
 //! Maps of frames, where runs fit and what lists of requests leave.
-use crate::ok;
+use crate::{check, ok};
 use bit_users::{FreeMap, Reply, Request};
 use std::process::Abort;
 
 /// A map of 100 frames, of which 22 are free: runs of 9, 4, 4 and 5 frames.
 fn map_with_gaps(rt: &(impl Abort + AllocGlobal)) -> FreeMap {
     let mut map = ok(rt, FreeMap::new(rt.alloc(), 100));
-    assert!(rt; map.take_run(100) == Some(0) && map.frames() == 100);
-    assert!(rt; map.give_back(3, 9).is_ok() && map.give_back(20, 4).is_ok());
-    assert!(rt; map.give_back(40, 4).is_ok() && map.give_back(60, 5).is_ok());
+    check(rt, map.take_run(100) == Some(0));
+    assert!(rt; map.frames() == 100);
+    check(rt, map.give_back(3, 9).is_ok());
+    check(rt, map.give_back(20, 4).is_ok());
+    check(rt, map.give_back(40, 4).is_ok());
+    check(rt, map.give_back(60, 5).is_ok());
     map
 }
 
 #[test]
 fn runs_that_fit(rt: HostRuntime) {
     let mut map = map_with_gaps(&rt);
-    assert!(rt; map.take_best_fit(4) == Some(20) && map.take_best_fit(5) == Some(60));
-    assert!(rt; map.take_best_fit(3) == Some(40) && map.take_best_fit(10).is_none());
-    assert!(rt; map.count_free() == 10);
+    check(&rt, map.take_best_fit(4) == Some(20));
+    check(&rt, map.take_best_fit(5) == Some(60));
+    check(&rt, map.take_best_fit(3) == Some(40));
+    check(&rt, map.take_best_fit(10).is_none());
+    check(&rt, map.count_free() == 10);
 }
 
 #[test]
 fn runs_that_are_aligned(rt: HostRuntime) {
     let mut map = map_with_gaps(&rt);
-    assert!(rt; map.take_aligned(2, 5) == Some(5) && map.take_aligned(2, 64).is_none());
-    assert!(rt; map.take_aligned(2, 4) == Some(8));
-    assert!(rt; map.count_free() == 18);
+    check(&rt, map.take_aligned(2, 5) == Some(5));
+    check(&rt, map.take_aligned(2, 64).is_none());
+    check(&rt, map.take_aligned(2, 4) == Some(8));
+    check(&rt, map.count_free() == 18);
 }
 
 #[test]
 fn a_map_that_grows(rt: HostRuntime) {
     let mut map = ok(&rt, FreeMap::new(rt.alloc(), 10));
-    assert!(rt; map.take_run(9) == Some(0) && map.frames() <= 200);
+    check(&rt, map.take_run(9) == Some(0));
+    assert!(rt; map.frames() <= 200);
     ok(&rt, map.grow(200));
-    assert!(rt; map.frames() == 200 && map.count_free() == 191);
-    assert!(rt; map.take_run(191) == Some(9));
+    assert!(rt; map.frames() == 200);
+    check(&rt, map.count_free() == 191);
+    check(&rt, map.take_run(191) == Some(9));
 }
 
 #[test]
@@ -59,6 +67,6 @@ fn requests(rt: HostRuntime) {
         Reply::Refused,
         Reply::Taken(0),
     ];
-    assert!(rt; replies.as_slice() == expected.as_slice());
-    assert!(rt; map.count_free() == 6);
+    check(&rt, replies.as_slice() == expected.as_slice());
+    check(&rt, map.count_free() == 6);
 }

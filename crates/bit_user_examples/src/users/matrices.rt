@@ -1,5 +1,5 @@
 //! Matrices beside plain loops.
-use crate::ok;
+use crate::{check, ok};
 use bit_addressing::GrowError;
 use bit_users::Matrix;
 use std::alloc::Global;
@@ -46,16 +46,18 @@ fn ways(left: &Matrix, right: &Matrix, row: usize, column: usize, middle: usize)
 fn rows_of_a_matrix(rt: HostRuntime) {
     let matrix = ok(&rt, scattered(rt.alloc(), 5, 70, 3));
     let mut rows = matrix.iter_rows();
-    assert!(rt; rows.len() == 5 && rows.size_hint() == (5, Some(5)));
+    assert!(rt; rows.len() == 5);
+    check(&rt, rows.size_hint() == (5, Some(5)));
     for row in 0..5 {
         let Some(view) = rows.next() else {
             panic!(rt; "no row {row}");
         };
         for column in 0..70 {
-            assert!(rt; view.get(column) == Some(bit(&matrix, row, column)));
+            check(&rt, view.get(column) == Some(bit(&matrix, row, column)));
         }
     }
-    assert!(rt; rows.next().is_none() && rows.next_back().is_none());
+    check(&rt, rows.next().is_none());
+    check(&rt, rows.next_back().is_none());
 }
 
 #[test]
@@ -65,11 +67,12 @@ fn columns_of_a_matrix(rt: HostRuntime) {
     for column in 0..70 {
         let mut bits = matrix.column(column);
         assert!(rt; bits.len() == 5);
-        assert!(rt; bits.next_back() == Some(bit(&matrix, 4, column)));
+        check(&rt, bits.next_back() == Some(bit(&matrix, 4, column)));
         for row in 0..4 {
-            assert!(rt; bits.next() == Some(bit(&matrix, row, column)));
+            check(&rt, bits.next() == Some(bit(&matrix, row, column)));
         }
-        assert!(rt; bits.next().is_none() && bits.next_back().is_none());
+        check(&rt, bits.next().is_none());
+        check(&rt, bits.next_back().is_none());
     }
 }
 
@@ -80,7 +83,10 @@ fn products(rt: HostRuntime) {
     assert!(rt; right.rows() == left.columns());
     let any = ok(&rt, left.times(&right, rt.alloc()));
     let sum = ok(&rt, left.times_mod_2(&right, rt.alloc()));
-    assert!(rt; any.rows() == 9 && any.columns() == 67 && sum.rows() == 9 && sum.columns() == 67);
+    assert!(rt; any.rows() == 9);
+    assert!(rt; any.columns() == 67);
+    assert!(rt; sum.rows() == 9);
+    assert!(rt; sum.columns() == 67);
     for row in 0..9 {
         for column in 0..67 {
             let count = ways(&left, &right, row, column, 70);
@@ -116,7 +122,7 @@ fn inverses(rt: HostRuntime) {
     let matrix = ok(&rt, invertible(rt.alloc(), 66));
     assert!(rt; matrix.rows() == matrix.columns());
     let inverse = ok(&rt, matrix.inverse_mod_2(rt.alloc()));
-    assert!(rt; inverse.is_some());
+    check(&rt, inverse.is_some());
     let inverse = inverse.unwrap();
     for row in 0..66 {
         for column in 0..66 {
@@ -134,27 +140,31 @@ fn inverses(rt: HostRuntime) {
 #[test]
 fn no_inverse(rt: HostRuntime) {
     let mut matrix = ok(&rt, invertible(rt.alloc(), 66));
-    assert!(rt; matrix.rows() == 66 && matrix.columns() == 66);
+    assert!(rt; matrix.rows() == 66);
+    assert!(rt; matrix.columns() == 66);
     matrix.copy_row(3, 40);
-    assert!(rt; ok(&rt, matrix.inverse_mod_2(rt.alloc())).is_none());
+    check(&rt, ok(&rt, matrix.inverse_mod_2(rt.alloc())).is_none());
     let none = ok(&rt, Matrix::new(rt.alloc(), 0, 0));
     assert!(rt; none.rows() == none.columns());
-    assert!(rt; ok(&rt, none.inverse_mod_2(rt.alloc())).is_some());
+    check(&rt, ok(&rt, none.inverse_mod_2(rt.alloc())).is_some());
 }
 
 #[test]
 fn copies_and_texts(rt: HostRuntime) {
     let mut matrix = ok(&rt, Matrix::identity(rt.alloc(), 3));
-    assert!(rt; matrix.rows() == 3 && matrix.columns() == 3);
+    assert!(rt; matrix.rows() == 3);
+    assert!(rt; matrix.columns() == 3);
     let copy = ok(&rt, matrix.clone());
-    assert!(rt; copy == matrix);
+    check(&rt, copy == matrix);
     matrix.xor_row(0, 2);
-    assert!(rt; copy != matrix && matrix.row(0).len() == 3);
+    check(&rt, copy != matrix);
+    check(&rt, matrix.row(0).len() == 3);
     let (text, other) = (
         ok(&rt, matrix.to_string(rt.alloc())),
         ok(&rt, copy.to_string(rt.alloc())),
     );
-    assert!(rt; text.as_str() == "101\n010\n001\n" && other.as_str() == "100\n010\n001\n");
+    check(&rt, text.as_str() == "101\n010\n001\n");
+    check(&rt, other.as_str() == "100\n010\n001\n");
 }
 
 #[test]
@@ -162,7 +172,8 @@ fn turned_by_squares(rt: HostRuntime) {
     for (rows, columns) in [(64, 64), (1, 130), (130, 1), (63, 65), (129, 70)] {
         let matrix = ok(&rt, scattered(rt.alloc(), rows, columns, 5));
         let turned = ok(&rt, matrix.transpose(rt.alloc()));
-        assert!(rt; turned.rows() == columns && turned.columns() == rows);
+        assert!(rt; turned.rows() == columns);
+        assert!(rt; turned.columns() == rows);
         for row in 0..rows {
             for column in 0..columns {
                 let old = bit(&matrix, row, column);
@@ -217,7 +228,7 @@ fn ranks(rt: HostRuntime) {
 
 #[test]
 fn ranks_that_are_known(rt: HostRuntime) {
-    assert!(rt; rank(&rt, Matrix::identity(rt.alloc(), 66)) == 66);
-    assert!(rt; rank(&rt, Matrix::new(rt.alloc(), 5, 0)) == 0);
-    assert!(rt; rank(&rt, Matrix::new(rt.alloc(), 5, 9)) == 0);
+    check(&rt, rank(&rt, Matrix::identity(rt.alloc(), 66)) == 66);
+    check(&rt, rank(&rt, Matrix::new(rt.alloc(), 5, 0)) == 0);
+    check(&rt, rank(&rt, Matrix::new(rt.alloc(), 5, 9)) == 0);
 }

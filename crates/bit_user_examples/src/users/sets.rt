@@ -1,6 +1,6 @@
 //! Sets of numbers on small examples.
-use crate::ok;
 use crate::users::has;
+use crate::{check, ok};
 use bit_addressing::GrowError;
 use bit_users::NumberSet;
 use std::alloc::Global;
@@ -17,21 +17,21 @@ fn two_sets(alloc: Global) -> Result<(NumberSet, NumberSet), GrowError> {
 fn numbers_of_either_set(rt: HostRuntime) {
     let (small, large) = ok(&rt, two_sets(rt.alloc()));
     let union: Vec<usize> = ok(&rt, small.iter_union(&large).collect(rt.alloc()));
-    assert!(rt; union.as_slice() == [0, 3, 4, 5, 69, 199].as_slice());
+    check(&rt, union.as_slice() == [0, 3, 4, 5, 69, 199].as_slice());
 }
 
 #[test]
 fn numbers_of_both_sets(rt: HostRuntime) {
     let (small, large) = ok(&rt, two_sets(rt.alloc()));
     let both: Vec<usize> = ok(&rt, small.iter_intersection(&large).collect(rt.alloc()));
-    assert!(rt; both.as_slice() == [3, 69].as_slice());
+    check(&rt, both.as_slice() == [3, 69].as_slice());
 }
 
 #[test]
 fn numbers_of_the_first_set_alone(rt: HostRuntime) {
     let (small, large) = ok(&rt, two_sets(rt.alloc()));
     let first: Vec<usize> = ok(&rt, large.iter_difference(&small).collect(rt.alloc()));
-    assert!(rt; first.as_slice() == [4, 199].as_slice());
+    check(&rt, first.as_slice() == [4, 199].as_slice());
 }
 
 #[test]
@@ -41,22 +41,24 @@ fn numbers_of_one_set_alone(rt: HostRuntime) {
         &rt,
         small.iter_symmetric_difference(&large).collect(rt.alloc()),
     );
-    assert!(rt; one.as_slice() == [0, 4, 5, 199].as_slice());
+    check(&rt, one.as_slice() == [0, 4, 5, 199].as_slice());
 }
 
 #[test]
 fn counts_of_two_sets(rt: HostRuntime) {
     let (small, large) = ok(&rt, two_sets(rt.alloc()));
-    assert!(rt; small.count_union(&large) == 6 && large.count_union(&small) == 6);
-    assert!(rt; small.count_intersection(&large) == 2);
-    assert!(rt; small.count_difference(&large) == 2 && large.count_difference(&small) == 2);
-    assert!(rt; large.count_symmetric_difference(&small) == 4);
+    check(&rt, small.count_union(&large) == 6);
+    check(&rt, large.count_union(&small) == 6);
+    check(&rt, small.count_intersection(&large) == 2);
+    check(&rt, small.count_difference(&large) == 2);
+    check(&rt, large.count_difference(&small) == 2);
+    check(&rt, large.count_symmetric_difference(&small) == 4);
 }
 
 /// That this is the text of a set.
 fn reads(rt: &(impl Abort + AllocGlobal), set: &NumberSet, text: &str) {
     let written = ok(rt, set.to_string(rt.alloc()));
-    assert!(rt; written.as_str() == text);
+    check(rt, written.as_str() == text);
 }
 
 #[test]
@@ -73,13 +75,17 @@ fn ranges_and_texts(rt: HostRuntime) {
 fn sets_compared(rt: HostRuntime) {
     let (set, _) = ok(&rt, two_sets(rt.alloc()));
     let mut copy = ok(&rt, set.clone());
-    assert!(rt; copy == set && copy.has_same_numbers(&set));
+    check(&rt, copy == set);
+    check(&rt, copy.has_same_numbers(&set));
     let _new = ok(&rt, copy.insert_growing(500));
     assert!(rt; copy.bound() == 501);
     copy.remove(500);
-    assert!(rt; copy != set && copy > set && copy.has_same_numbers(&set));
+    check(&rt, copy != set);
+    check(&rt, copy > set);
+    check(&rt, copy.has_same_numbers(&set));
     copy.insert(1);
-    assert!(rt; copy > set && !copy.has_same_numbers(&set));
+    check(&rt, copy > set);
+    check(&rt, !copy.has_same_numbers(&set));
 }
 
 #[test]
@@ -90,7 +96,7 @@ fn numbers_that_a_function_keeps(rt: HostRuntime) {
         let _there_is_room = asked.push(number);
         small.contains(number)
     });
-    assert!(rt; asked.as_slice() == [3, 4, 69, 199].as_slice());
+    check(&rt, asked.as_slice() == [3, 4, 69, 199].as_slice());
     has(&rt, &large, &[3, 69]);
     assert!(rt; large.bound() == 200);
 }
@@ -118,6 +124,6 @@ fn numbers_put_in_from_an_iterator(rt: HostRuntime) {
     has(&rt, &set, &[0, 3, 4, 5, 69, 100]);
     assert!(rt; set.bound() == 101);
     let numbers = ok(&rt, vec![in rt.alloc(); 1, usize::MAX, 2]);
-    assert!(rt; set.extend(numbers) == Err(GrowError::TooLong));
+    check(&rt, set.extend(numbers) == Err(GrowError::TooLong));
     has(&rt, &set, &[0, 1, 3, 4, 5, 69, 100]);
 }

@@ -7,6 +7,7 @@ use Rattle.bit_addressing.proofs.lists.Sized.{sized_same}
 use Rattle.bit_addressing.proofs.Rows.{width_positive}
 use Rattle.bit_addressing.proofs.Typed.{length_row}
 use Rattle.bit_containers.proofs.Vectors.{shown}
+use Rattle.bit_containers.proofs.Elements.{exactly}
 use Rattle.bit_containers.proofs.vec.BitVec.truncate.Goals as goal
 
 pub returns-then-n-self-clause-list : goal.returns-then-n-self-clause-list
@@ -27,3 +28,6 @@ returns-else-n-self-clause-row g c =
       capacity = refl;
       row = sym (sized_same w (row g.T.BitStore g.O.BitOrder i.words.items) (i.head + i.len) (length_row g.T.BitStore.value g.O.BitOrder.place w i.words.items ∙ ap (λ n. w * n) c.self.invariant.count));
     })
+
+pub invariant_of-self : goal.invariant_of-self
+invariant_of-self g c = exactly g.T.BitStore g.O.BitOrder c.cut_words_in_vec.new.words.items c.self.inside.head c.args.n g.met.T.BitStore.width c.self.invariant.head_below (omega (arith, c.self.invariant.len_small)) c.cut_words_in_vec.ensures.size

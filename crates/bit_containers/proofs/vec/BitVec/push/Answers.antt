@@ -5,9 +5,10 @@ use Rattle.bit_addressing.specs.Typed.{row}
 use Rattle.bit_addressing.proofs.lists.Shown.{grown_shows}
 use Rattle.std.proofs.Common.{vec_capacity}
 use Rattle.bit_addressing.proofs.Rows.{width_positive}
-use Rattle.bit_containers.proofs.Vectors.{kept, shown, no_room, room_in}
+use Rattle.bit_containers.proofs.Vectors.{kept, shown, no_room, room_in, refilled}
 use Rattle.bit_containers.specs.BitVec.{bits_in}
 use Rattle.bit_containers.proofs.Clean.{clean_joined}
+use Rattle.bit_containers.proofs.Elements.{exactly}
 use Rattle.bit_containers.proofs.vec.BitVec.push.Goals as goal
 
 pub returns-in_err-push_bit_in_vec-clause-refusal : goal.returns-in_err-push_bit_in_vec-clause-refusal
@@ -55,3 +56,14 @@ returns-clause-no_memory g c = λ h.
     let few = subst (λ n. n < bits_in w (vec_capacity i.words) i.head) c.self.invariant.shows (subst (λ v. length v.list < v.capacity) (sym c.self.view_is) h) in
     ap (λ n. bits_in w n i.head) (c.push_bit_in_vec.ensures.no_memory (room_in w (vec_capacity i.words) i.head i.len (width_positive w g.met.T.BitStore.width) few))
     ∙ ap (λ v. v.capacity) c.self.view_is
+
+pub invariant_of-self : goal.invariant_of-self
+invariant_of-self g c =
+    let i = c.self.inside in
+    refilled g.T.BitStore g.O.BitOrder i.words.items c.push_bit_in_vec.new.words.items i.head i.len (ap length c.in_err-push_bit_in_vec.ensures.unchanged) c.self.invariant
+
+pub invariant_of-self-2 : goal.invariant_of-self-2
+invariant_of-self-2 g c =
+    let i = c.self.inside in
+    let count = c.in_ok-push_bit_in_vec.ensures.size ∙ ap (words_for g.T.BitStore.BITS) (omega arith) in
+    exactly g.T.BitStore g.O.BitOrder c.push_bit_in_vec.new.words.items i.head (i.len + 1) g.met.T.BitStore.width c.self.invariant.head_below (omega (arith, c.self.invariant.len_small, c.if-self-eq-MAX_BITS.false)) count

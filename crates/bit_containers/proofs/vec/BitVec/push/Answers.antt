@@ -9,6 +9,7 @@ use Rattle.bit_containers.proofs.Vectors.{kept, shown, no_room, room_in, refille
 use Rattle.bit_containers.specs.BitVec.{bits_in}
 use Rattle.bit_containers.proofs.Clean.{clean_joined}
 use Rattle.bit_containers.proofs.Elements.{exactly}
+use Rattle.bit_containers.proofs.Growing.{grew_by}
 use Rattle.bit_containers.proofs.vec.BitVec.push.Goals as goal
 
 pub returns-in_err-push_bit_in_vec-clause-refusal : goal.returns-in_err-push_bit_in_vec-clause-refusal
@@ -32,14 +33,20 @@ returns-clause-list g c =
     ∙ grown_shows w bits (c.args.bit ∷ []) i.head i.len 1 (width_positive w g.met.T.BitStore.width) fits refl
     ∙ ap (λ v. v.list ++ c.args.bit ∷ []) c.self.view_is
 
-pub returns-clause-clean : goal.returns-clause-clean
-returns-clause-clean g c =
+pub returns-clause-row : goal.returns-clause-row
+returns-clause-row g c =
     let i = c.self.inside in
     let w = g.T.BitStore.BITS in
     let len : i.len ≡ length c.args.self.now.list = sym c.self.invariant.shows ∙ ap (λ v. length v.list) c.self.view_is in
-    clean_joined w c.args.self.now _ c.args.bit (width_positive w g.met.T.BitStore.width) (ap (λ v. v.head) c.self.view_is) (returns-clause-list g c)
+    grew_by w c.args.self.now _ (c.args.bit ∷ []) (ap (λ v. v.head) c.self.view_is) (returns-clause-list g c)
     (c.in_ok-push_bit_in_vec.ensures.bits ∙ ap (λ v. put (sized w v.row (v.head + i.len + 1)) (v.head + i.len) (c.args.bit ∷ [])) c.self.view_is
     ∙ ap (λ n. put (sized w c.args.self.now.row (c.args.self.now.head + n + 1)) (c.args.self.now.head + n) (c.args.bit ∷ [])) len)
+
+pub returns-clause-clean : goal.returns-clause-clean
+returns-clause-clean g c =
+    let w = g.T.BitStore.BITS in
+    let grew = returns-clause-row g c in
+    clean_joined w c.args.self.now _ c.args.bit (width_positive w g.met.T.BitStore.width) grew.head (returns-clause-list g c) grew.row
 
 pub returns-in_err-push_bit_in_vec-clause-no_memory : goal.returns-in_err-push_bit_in_vec-clause-no_memory
 returns-in_err-push_bit_in_vec-clause-no_memory g c = λ h.

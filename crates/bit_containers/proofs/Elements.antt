@@ -1,5 +1,5 @@
 -- Vectors made of words that are there.
-use Rattle.std.proofs.Common.{◌≡◌, ℕ, zero, suc, ◌+◌, ◌*◌, ◌<◌, ◌≤◌, List, [], ◌∷◌, ◌++◌, length, replicate, drop, set, slice_range, refl, ap, ◌∙◌, subst, sym, arith}
+use Rattle.std.proofs.Common.{◌≡◌, ℕ, zero, suc, ◌+◌, ◌*◌, ◌<◌, ◌≤◌, List, [], ◌∷◌, ◌++◌, length, replicate, take, drop, set, slice_range, refl, ap, ◌∙◌, subst, sym, arith}
 use Rattle.bit_addressing.specs.Bits.{IsWidth}
 use Rattle.bit_addressing.specs.declared.store.BitStore as store
 use Rattle.bit_addressing.specs.declared.order.BitOrder as order
@@ -10,7 +10,7 @@ use Rattle.bit_addressing.proofs.Rows.{width_positive}
 use Rattle.bit_addressing.proofs.lists.Sized.{room}
 use Rattle.bit_addressing.proofs.lists.Shown.{shows_sized}
 use Rattle.bit_addressing.proofs.Typed.{length_row}
-use Rattle.bit_containers.specs.BitVec.{IsVector}
+use Rattle.bit_containers.specs.BitVec.{IsVector, Shrank}
 use Rattle.bit_slice.proofs.Parts.{shown_length}
 
 -- words that are exactly as many as it takes are a vector
@@ -19,6 +19,12 @@ exactly W P ws head len width low small count =
     let r = (room W.BITS (head + len) (width_positive W.BITS width)).0 in
     let fits : head + len ≤ W.BITS * length ws = subst (λ n. head + len ≤ W.BITS * n) (sym count) r in
     record { head_below = low; len_small = small; count = count; fits = fits; shows = shown_length W P ws head len fits }
+
+-- and words that were cut are a vector that shrank
+pub shrank : {X Y : Type 0} (W : store.Ghosts X) (P : order.Ghosts Y) (old new : List X) (head len n cap left : ℕ) → new ≡ take (words_for W.BITS (head + n)) old → row W P new ≡ sized W.BITS (row W P old) (head + n) → head + n ≤ W.BITS * length new → left ≡ cap
+    → Shrank W.BITS (record { words = old; row = row W P old; head = head; list = slice_range (row W P old) head (head + len); capacity = cap })
+    (record { words = new; row = row W P new; head = head; list = slice_range (row W P new) head (head + n); capacity = left }) n
+shrank W P old new head len n cap left items bits fits same = record { head = refl; words = items; len = shown_length W P new head n fits; row = bits; capacity = same }
 
 -- words cut to the indices up to the end of a run show the run
 pub run_kept : {X Y : Type 0} (W : store.Ghosts X) (P : order.Ghosts Y) (old new : List X) (head n : ℕ) → IsWidth W.BITS → head + n ≤ W.BITS * length old → row W P new ≡ sized W.BITS (row W P old) (head + n) → slice_range (row W P new) head (head + n) ≡ slice_range (row W P old) head (head + n)

@@ -36,7 +36,7 @@ impl<T: BitStore, O: BitOrder> BitVec<T, O> {
     /// ```text
     /// of 01101001: bits.rotate_left(2) leaves 10100101
     /// ```
-    #[tactic(auto, using(bit_slice::proofs::Parts::shown_length, crate::proofs::Vectors::few_words, bit_addressing::proofs::Rows::width_positive, bit_slice::proofs::Moved::rotated_front, bit_slice::proofs::Moved::rotated_back))]
+    #[tactic(auto, using(bit_slice::proofs::Parts::shown_length))]
     pub fn rotate_left(&mut self, by: usize)
         requires { by ≤ length self.old.list }
         ensures list { self.new.list ≡ drop by self.old.list ++ take by self.old.list }
@@ -58,7 +58,7 @@ impl<T: BitStore, O: BitOrder> BitVec<T, O> {
     /// ```text
     /// of 01101001: bits.rotate_right(2) leaves 01011010
     /// ```
-    #[tactic(auto, using(bit_slice::proofs::Parts::shown_length, crate::proofs::Vectors::few_words, bit_addressing::proofs::Rows::width_positive, bit_slice::proofs::Moved::rotated_right_front, bit_slice::proofs::Moved::rotated_right_back))]
+    #[tactic(auto, using(bit_slice::proofs::Parts::shown_length))]
     pub fn rotate_right(&mut self, by: usize)
         requires { by ≤ length self.old.list }
         ensures list { self.new.list
@@ -84,7 +84,7 @@ impl<T: BitStore, O: BitOrder> BitVec<T, O> {
     /// ```text
     /// of 01101001: bits.shift_left(2) leaves 10100100
     /// ```
-    #[tactic(auto, using(bit_slice::proofs::Parts::shown_length, crate::proofs::Vectors::few_words, bit_addressing::proofs::Rows::width_positive, bit_slice::proofs::Moved::shifted_left_at, bit_slice::proofs::Moved::shifted_left_end))]
+    #[tactic(auto, using(bit_slice::proofs::Parts::shown_length))]
     pub fn shift_left(&mut self, by: usize)
         requires { by ≤ length self.old.list }
         ensures list { self.new.list ≡ drop by self.old.list ++ replicate by false }
@@ -106,7 +106,7 @@ impl<T: BitStore, O: BitOrder> BitVec<T, O> {
     /// ```text
     /// of 01101001: bits.shift_right(2) leaves 00011010
     /// ```
-    #[tactic(auto, using(bit_slice::proofs::Parts::shown_length, crate::proofs::Vectors::few_words, bit_addressing::proofs::Rows::width_positive, bit_slice::proofs::Moved::shifted_right_at, bit_slice::proofs::Moved::shifted_right_front))]
+    #[tactic(auto, using(bit_slice::proofs::Parts::shown_length))]
     pub fn shift_right(&mut self, by: usize)
         requires { by ≤ length self.old.list }
         ensures list { self.new.list ≡ replicate by false ++ take (length self.old.list - by) self.old.list }

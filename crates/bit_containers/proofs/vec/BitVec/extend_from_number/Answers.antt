@@ -5,9 +5,10 @@ use Rattle.bit_addressing.specs.Row.{put, sized, words_for, number_bits}
 use Rattle.bit_addressing.specs.Typed.{row}
 use Rattle.bit_addressing.proofs.lists.Shown.{grown_shows}
 use Rattle.bit_addressing.proofs.Rows.{width_positive}
-use Rattle.bit_containers.proofs.Vectors.{kept, shown, no_room_for}
+use Rattle.bit_containers.proofs.Vectors.{kept, shown, no_room_for, refilled}
 use Rattle.bit_addressing.proofs.Binary.{length-number_bits}
 use Rattle.bit_containers.proofs.Growing.{grew_by}
+use Rattle.bit_containers.proofs.Elements.{exactly}
 use Rattle.bit_containers.proofs.vec.BitVec.extend_from_number.Goals as goal
 
 pub returns-in_err-push_chunk_in_vec-clause-refusal : goal.returns-in_err-push_chunk_in_vec-clause-refusal
@@ -48,3 +49,14 @@ returns-clause-row g c =
     ∙ ap (λ v. put (sized w v.row (v.head + i.len + n)) (v.head + i.len) bits) c.self.view_is
     ∙ ap (λ m. put (sized w now.row (now.head + m + n)) (now.head + m) bits) len
     ∙ ap (λ m. put (sized w now.row (now.head + length now.list + m)) (now.head + length now.list) bits) (sym (length-number_bits c.args.number n)))
+
+pub invariant_of-self : goal.invariant_of-self
+invariant_of-self g c =
+    let i = c.self.inside in
+    refilled g.T.BitStore g.O.BitOrder i.words.items c.push_chunk_in_vec.new.words.items i.head i.len (ap length c.in_err-push_chunk_in_vec.ensures.unchanged) c.self.invariant
+
+pub invariant_of-self-2 : goal.invariant_of-self-2
+invariant_of-self-2 g c =
+    let i = c.self.inside in
+    let count = c.in_ok-push_chunk_in_vec.ensures.size ∙ ap (words_for g.T.BitStore.BITS) (omega arith) in
+    exactly g.T.BitStore g.O.BitOrder c.push_chunk_in_vec.new.words.items i.head (i.len + c.args.n) g.met.T.BitStore.width c.self.invariant.head_below (omega (arith, c.self.invariant.len_small, c.if-more-self.false)) count

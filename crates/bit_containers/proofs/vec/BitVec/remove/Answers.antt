@@ -6,6 +6,8 @@ use Rattle.bit_addressing.proofs.Rows.{width_positive}
 use Rattle.bit_addressing.proofs.lists.Shown.{shows_some}
 use Rattle.bit_addressing.proofs.lists.Moved.{removed_shows}
 use Rattle.bit_containers.proofs.Vectors.{few_words, shown}
+use Rattle.bit_containers.proofs.Elements.{exactly}
+use Rattle.bit_slice.proofs.Parts.{shown_length}
 use Rattle.bit_containers.proofs.vec.BitVec.remove.Goals as goal
 
 pub remove_bit_in_vec-requires-clause-room : goal.remove_bit_in_vec-requires-clause-room
@@ -28,3 +30,13 @@ returns-clause-list g c =
     ap (λ r. slice_range r i.head (i.head + (i.len - 1))) (c.cut_words_in_vec.ensures.bits ∙ ap (λ r. sized w r (i.head + (i.len - 1))) c.remove_bit_in_vec.ensures.bits)
     ∙ removed_shows w bits i.head i.len c.args.i (width_positive w g.met.T.BitStore.width) (omega arith) fits
     ∙ ap (λ v. remove v.list c.args.i) c.self.view_is
+
+pub invariant_of-self : goal.invariant_of-self
+invariant_of-self g c = exactly g.T.BitStore g.O.BitOrder c.cut_words_in_vec.new.words.items c.self.inside.head (c.self.inside.len - 1) g.met.T.BitStore.width c.self.invariant.head_below (omega (arith, c.self.invariant.len_small)) c.cut_words_in_vec.ensures.size
+
+pub returns-clause-len : goal.returns-clause-len
+returns-clause-len g c =
+    let i = c.self.inside in
+    let len : i.len ≡ length c.args.self.now.list = sym c.self.invariant.shows ∙ ap (λ v. length v.list) c.self.view_is in
+    let size = shown_length g.T.BitStore g.O.BitOrder c.cut_words_in_vec.new.words.items i.head (i.len - 1) c.cut_words_in_vec.ensures.room in
+    omega (arith, len, size, c.requires)

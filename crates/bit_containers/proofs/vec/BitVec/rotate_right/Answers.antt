@@ -1,0 +1,24 @@
+use Rattle.bit_containers.proofs.Vectors.{refilled, few_words}
+use Rattle.std.proofs.Common.{◌-◌, ◌++◌, take, drop, ◌∙◌, ap, ◌≡◌, length, sym}
+use Rattle.bit_slice.proofs.Moved.{rotated_right_front, rotated_right_back}
+use Rattle.bit_addressing.proofs.Rows.{width_positive}
+use Rattle.bit_containers.proofs.vec.BitVec.rotate_right.Goals as goal
+
+pub invariant_of-self : goal.invariant_of-self
+invariant_of-self g c =
+    let i = c.self.inside in
+    refilled g.T.BitStore g.O.BitOrder i.words.items c.rotate_in_vec.new.words.items i.head i.len c.rotate_in_vec.ensures.written.size c.self.invariant
+
+pub returns-clause-list : goal.returns-clause-list
+returns-clause-list g c =
+    let len : c.self.inside.len ≡ length c.args.self.now.list = sym c.self.invariant.shows ∙ ap (λ v. length v.list) c.self.view_is in
+    c.rotate_in_vec.ensures.written.list ∙ ap (λ v. drop (c.self.inside.len - c.args.by) v.list ++ take (c.self.inside.len - c.args.by) v.list) c.self.view_is ∙ ap (λ n. drop (n - c.args.by) c.args.self.now.list ++ take (n - c.args.by) c.args.self.now.list) len
+
+pub returns-clause-front : goal.returns-clause-front
+returns-clause-front g c = λ j h. rotated_right_front c.args.self.now.list _ c.args.by j (returns-clause-list g c) c.requires h
+
+pub returns-clause-back : goal.returns-clause-back
+returns-clause-back g c = λ j h. rotated_right_back c.args.self.now.list _ c.args.by j (returns-clause-list g c) c.requires h
+
+pub rotate_in_vec-requires-clause-room : goal.rotate_in_vec-requires-clause-room
+rotate_in_vec-requires-clause-room g c = few_words g.T.BitStore.BITS (length c.self.inside.words.items) c.self.inside.head c.self.inside.len (width_positive _ g.met.T.BitStore.width) c.self.invariant

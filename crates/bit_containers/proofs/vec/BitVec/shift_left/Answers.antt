@@ -1,0 +1,23 @@
+use Rattle.bit_containers.proofs.Vectors.{refilled, few_words}
+use Rattle.std.proofs.Common.{◌++◌, false, replicate, drop, ◌∙◌, ap, length}
+use Rattle.bit_slice.proofs.Moved.{shifted_left_at, shifted_left_end}
+use Rattle.bit_addressing.proofs.Rows.{width_positive}
+use Rattle.bit_containers.proofs.vec.BitVec.shift_left.Goals as goal
+
+pub invariant_of-self : goal.invariant_of-self
+invariant_of-self g c =
+    let i = c.self.inside in
+    refilled g.T.BitStore g.O.BitOrder i.words.items c.shift_left_in_vec.new.words.items i.head i.len c.shift_left_in_vec.ensures.written.size c.self.invariant
+
+pub returns-clause-list : goal.returns-clause-list
+returns-clause-list g c =
+    c.shift_left_in_vec.ensures.written.list ∙ ap (λ v. drop c.args.by v.list ++ replicate c.args.by false) c.self.view_is
+
+pub returns-clause-kept : goal.returns-clause-kept
+returns-clause-kept g c = λ j h. shifted_left_at c.args.self.now.list _ c.args.by j (returns-clause-list g c) c.requires h
+
+pub returns-clause-cleared : goal.returns-clause-cleared
+returns-clause-cleared g c = λ j h k. shifted_left_end c.args.self.now.list _ c.args.by j (returns-clause-list g c) c.requires h k
+
+pub shift_left_in_vec-requires-clause-room : goal.shift_left_in_vec-requires-clause-room
+shift_left_in_vec-requires-clause-room g c = few_words g.T.BitStore.BITS (length c.self.inside.words.items) c.self.inside.head c.self.inside.len (width_positive _ g.met.T.BitStore.width) c.self.invariant

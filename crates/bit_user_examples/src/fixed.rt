@@ -82,7 +82,7 @@ fn gave<B: Bits>(rt: &(impl Abort + AllocGlobal), bits: &mut B) {
 fn called<B: Bits>(rt: &impl Abort, bits: &mut B) {
     bits.fill(false);
     let len = bits.len();
-    check(rt, len == 8);
+    assert!(rt; len == 8);
     bits.set(6, true);
     holds(rt, bits, b"00000010");
     bits.copy_within(5, 8, 0);

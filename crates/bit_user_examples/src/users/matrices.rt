@@ -122,7 +122,7 @@ fn inverses(rt: HostRuntime) {
     let matrix = ok(&rt, invertible(rt.alloc(), 66));
     assert!(rt; matrix.rows() == matrix.columns());
     let inverse = ok(&rt, matrix.inverse_mod_2(rt.alloc()));
-    check(&rt, inverse.is_some());
+    assert!(rt; inverse.is_some());
     let inverse = inverse.unwrap();
     for row in 0..66 {
         for column in 0..66 {

@@ -12,7 +12,7 @@ mod sweeps;
 use bit_containers::{BitOrder, BitStore, BitVec};
 use std::process::Abort;
 
-/// That this holds. A test calls it in place of `assert!`, which costs the prover several times as much: a failed
+/// That this holds. A test calls it in place of `assert!`, which costs the prover more: a failed
 /// test is told by its name.
 fn check(rt: &impl Abort, holds: bool) {
     assert!(rt; holds);

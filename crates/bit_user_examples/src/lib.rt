@@ -14,7 +14,7 @@ mod records;
 #[cfg(test)]
 mod users;
 
-/// That this holds. A test calls it in place of `assert!`, which costs the prover several times as much: a failed
+/// That this holds. A test calls it in place of `assert!`, which costs the prover more: a failed
 /// test is told by its name.
 #[cfg(test)]
 fn check(rt: &impl Abort, holds: bool) {

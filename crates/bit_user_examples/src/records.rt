@@ -99,12 +99,12 @@ fn refused(rt: HostRuntime) {
         match copied {
             Ok(copy) => {
                 assert!(rt; copy.len() == records.len());
-                check(&rt, copy.get(0) == records.get(0))
-            },
+                check(&rt, copy.get(0) == records.get(0));
+            }
             Err(_) => {
                 assert!(rt; records.len() > 0);
-                check(&rt, records.get(0) == Some(8589934591))
-            },
+                check(&rt, records.get(0) == Some(8589934591));
+            }
         }
     }
 }

@@ -189,8 +189,8 @@ fn combined_with_longer_refused(rt: HostRuntime) {
         match combine_longer(&mut v, xor) {
             Ok(()) => {
                 check(&rt, v.len() == 96);
-                check(&rt, v.count_ones() == ones)
-            },
+                check(&rt, v.count_ones() == ones);
+            }
             Err(why) => {
                 check(&rt, why == GrowError::OutOfMemory);
                 holds(&rt, &v, b"10101111");
@@ -284,8 +284,8 @@ fn one_by_one_refused(rt: HostRuntime) {
         match grow_once(&mut v, turn % 5) {
             Ok(()) => {
                 check(&rt, v.len() == len + more);
-                check(&rt, v.count_ones() == v.len())
-            },
+                check(&rt, v.count_ones() == v.len());
+            }
             Err(why) => {
                 check(&rt, why == GrowError::OutOfMemory);
                 check(&rt, v.len() == len);

@@ -195,13 +195,13 @@ fn stopped<X: Copy>(rt: &impl Abort, pulled: &Loose<X>, outcome: Result<(), Grow
     match outcome {
         Ok(()) => {
             check(rt, nones == 1);
-            check(rt, calls == 1001)
-        },
+            check(rt, calls == 1001);
+        }
         Err(why) => {
             check(rt, why == GrowError::OutOfMemory);
             check(rt, nones == 0);
-            check(rt, calls < 1000)
-        },
+            check(rt, calls < 1000);
+        }
     }
 }
 

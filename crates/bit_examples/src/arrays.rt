@@ -17,7 +17,7 @@ use std::process::Abort;
 fn holds<A: BitViewSized, O: BitOrder>(rt: &impl Abort, a: &BitArray<A, O>, digits: &[u8]) {
     check(rt, a.len() == digits.len());
     for (i, digit) in digits.iter().enumerate() {
-        assert_eq!(rt; a.get(i), Some(*digit == b'1'), "at {i}");
+        check(rt, a.get(i) == Some(*digit == b'1'));
     }
     check(rt, a.get(digits.len()) == None);
 }
@@ -295,7 +295,7 @@ fn written_while_given(rt: HostRuntime) {
     let mut bits = IntoIter::new(BitArray::<u8, Msb0>::new(0x60));
     check(&rt, bits.next() == Some(false));
     let mut view = bits.as_mut_bitslice();
-    assert!(rt; view.len() == 7);
+    check(&rt, view.len() == 7);
     view.set(6, true);
     let mut view = bits.as_mut_slice();
     assert!(rt; view.len() == 7);

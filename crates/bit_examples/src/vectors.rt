@@ -1,4 +1,6 @@
-//! Examples: exact words, lists and replies. `bit_trials` has each call beside plain lists.
+//! Examples: exact words, lists and replies. `bit_sweeps` has each call beside plain lists.
+ghost use Rattle.std.specs.Prelude.{◌≡◌, length};
+
 mod commands;
 mod converting;
 mod copies;
@@ -18,11 +20,14 @@ use bit_containers::{BitOrder, BitStore, BitVec};
 use std::process::Abort;
 
 /// A vector of the bits that these digits write, appended one by one.
-fn of<T: BitStore, O: BitOrder>(rt: &(impl Abort + AllocGlobal), digits: &[u8]) -> BitVec<T, O> {
+fn of<T: BitStore, O: BitOrder>(rt: &(impl Abort + AllocGlobal), digits: &[u8]) -> BitVec<T, O>
+    ensures { length result.list ≡ length digits.now }
+{
     let mut v = BitVec::new(rt.alloc());
     for digit in digits {
         ok(rt, v.push(*digit == b'1'));
     }
+    assert!(rt; v.len() == digits.len());
     v
 }
 

@@ -1,5 +1,5 @@
-//! What users of the containers get: callers that are proved from the contracts alone, and each call beside plain
-//! lists, with memory refused and at the limits of lengths. All of it is tests.
+//! What users of the containers get: callers that are proved from the contracts alone, and calls with memory
+//! refused and at the limits of lengths. All of it is tests.
 #![tactic(auto)]
 
 #[cfg(test)]

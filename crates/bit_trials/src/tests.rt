@@ -1,13 +1,11 @@
-//! Rows, views, arrays, boxes and vectors beside plain lists; vectors with memory refused, and at the limits of
-//! lengths.
+//! Vectors with memory refused, at the limits of lengths, and filled by loose iterators; calls that no sweep makes.
+ghost use Rattle.std.specs.Prelude.{Ok, ◌≡◌, length};
+
 mod calls;
 mod commands;
 mod limits;
 mod memory;
-mod orders;
 mod pulling;
-mod radix;
-mod sweeps;
 
 use bit_containers::{BitOrder, BitStore, BitVec};
 use std::process::Abort;
@@ -19,7 +17,9 @@ fn check(rt: &impl Abort, holds: bool) {
 }
 
 /// What a call returns that found memory.
-fn ok<V, E>(rt: &impl Abort, outcome: Result<V, E>) -> V {
+fn ok<V, E>(rt: &impl Abort, outcome: Result<V, E>) -> V
+    ensures { outcome ≡ Ok result }
+{
     match outcome {
         Ok(value) => value,
         Err(_) => panic!(rt; "memory was refused"),
@@ -27,11 +27,14 @@ fn ok<V, E>(rt: &impl Abort, outcome: Result<V, E>) -> V {
 }
 
 /// A vector of the bits that these digits write, appended one by one.
-fn of<T: BitStore, O: BitOrder>(rt: &(impl Abort + AllocGlobal), digits: &[u8]) -> BitVec<T, O> {
+fn of<T: BitStore, O: BitOrder>(rt: &(impl Abort + AllocGlobal), digits: &[u8]) -> BitVec<T, O>
+    ensures { length result.list ≡ length digits.now }
+{
     let mut v = BitVec::new(rt.alloc());
     for digit in digits {
         ok(rt, v.push(*digit == b'1'));
     }
+    assert!(rt; v.len() == digits.len());
     v
 }
 

@@ -14,7 +14,7 @@ use std::process::Abort;
 fn holds<B: Bits>(rt: &impl Abort, bits: &B, digits: &[u8]) {
     assert!(rt; bits.len() == digits.len());
     for (i, digit) in digits.iter().enumerate() {
-        assert_eq!(rt; bits.get(i), Some(*digit == b'1'), "at {i}");
+        check(rt, bits.get(i) == Some(*digit == b'1'));
     }
     check(rt, bits.get(digits.len()) == None);
 }

@@ -194,7 +194,7 @@ fn primes(rt: HostRuntime) {
     has(&rt, &primes, &[2, 3, 5, 7, 11, 13, 17, 19, 23, 29]);
     for (bound, count) in [(1000, 168), (0, 0), (1, 0), (2, 0)] {
         let primes = ok(&rt, NumberSet::primes(rt.alloc(), bound));
-        assert!(rt; primes.count() == count, "below {bound}");
+        check(&rt, primes.count() == count);
     }
 }
 
@@ -359,10 +359,8 @@ fn leads(rt: &(impl Abort + AllocGlobal), graph: &Matrix, from: usize)
     assert!(rt; graph.columns() == 10);
     for to in 0..10 {
         let edge = graph.get(from, to);
-        assert!(rt;
-            edge == reached[to] && edge == (PATHS[from] >> to & 1 == 1),
-            "{from} to {to}"
-        );
+        check(rt, edge == reached[to]);
+        check(rt, edge == (PATHS[from] >> to & 1 == 1));
     }
 }
 
@@ -395,7 +393,7 @@ fn paths_of_a_line(rt: HostRuntime) {
     line.close();
     for from in 0..100 {
         for to in 0..100 {
-            assert!(rt; line.get(from, to) == (from < to), "{from} to {to}");
+            check(&rt, line.get(from, to) == (from < to));
         }
     }
 }
@@ -428,7 +426,7 @@ fn rows_of_a_matrix(rt: HostRuntime) {
         ];
         for row in 0..3 {
             let bit = turned.get(column, row);
-            assert!(rt; bit == expected[row], "row {row}, column {column}");
+            check(&rt, bit == expected[row]);
         }
     }
 }

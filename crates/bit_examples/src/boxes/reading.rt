@@ -1,4 +1,6 @@
 //! Searches, sets and parts.
+ghost use Rattle.std.specs.Prelude.{◌≡◌, length};
+
 use crate::common::{check, ok};
 use bit_addressing::{Lsb0, Msb0};
 use bit_boxed::BitBox;
@@ -45,7 +47,7 @@ fn indices_given(rt: HostRuntime) {
     let mut ones = b.iter_ones();
     check(&rt, ones.next() == Some(1));
     check(&rt, ones.next_back() == Some(4));
-    assert!(rt; ones.len() == 1);
+    check(&rt, ones.len() == 1);
     let mut zeros = b.iter_zeros();
     check(&rt, zeros.next() == Some(0));
     check(&rt, zeros.len() == 6);
@@ -69,7 +71,9 @@ fn beside_a_view(rt: HostRuntime) {
 }
 
 /// A box of seven bits, whose second, third and fifth are set.
-fn seven_bits(rt: &(impl Abort + AllocGlobal)) -> BitBox<u8, Lsb0> {
+fn seven_bits(rt: &(impl Abort + AllocGlobal)) -> BitBox<u8, Lsb0>
+    ensures { length result.list ≡ 7 }
+{
     let words = [0x16_u8];
     let view = BitSlice::<u8, Lsb0>::from_slice(&words).get_range(0..7);
     ok(rt, BitBox::from_bitslice(rt.alloc(), view))
@@ -78,7 +82,6 @@ fn seven_bits(rt: &(impl Abort + AllocGlobal)) -> BitBox<u8, Lsb0> {
 #[test]
 fn taken_apart(rt: HostRuntime) {
     let b = seven_bits(&rt);
-    assert!(rt; b.len() == 7);
     let (front, back) = b.split_at(3);
     check(&rt, front.len() == 3);
     check(&rt, back.len() == 4);
@@ -100,7 +103,6 @@ fn taken_apart(rt: HostRuntime) {
 #[test]
 fn taken_in_chunks(rt: HostRuntime) {
     let b = seven_bits(&rt);
-    assert!(rt; b.len() == 7);
     check(&rt, b.chunk(3, 1).load_be() == 2);
     check(&rt, b.chunks(3).len() == 3);
     check(&rt, b.rchunks(3).len() == 3);

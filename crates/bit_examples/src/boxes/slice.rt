@@ -11,7 +11,6 @@ fn bits_and_parts(rt: HostRuntime) {
     let words = [0xa8_u8, 0x07];
     let view = BitSlice::<u8, Lsb0>::from_slice(&words).get_range(3..11);
     let mut b = ok(&rt, BitBox::from_bitslice_headed(rt.alloc(), view));
-    assert!(rt; b.len() == 8);
     check(&rt, !b.replace(1, true));
     shows(&rt, &b, &[0xb8, 0x07]);
     b.swap(0, 3);
@@ -35,7 +34,6 @@ fn copied_from_a_view(rt: HostRuntime) {
     let words = [0xa8_u8, 0x07];
     let view = BitSlice::<u8, Lsb0>::from_slice(&words).get_range(3..11);
     let mut b = ok(&rt, BitBox::from_bitslice_headed(rt.alloc(), view));
-    assert!(rt; b.len() == 8);
     let wide = [0x1234_u16];
     b.clone_from_bitslice(BitSlice::<u16, Msb0>::from_slice(&wide).get_range(4..12));
     holds(&rt, &b, b"00100011");
@@ -64,7 +62,6 @@ fn copied_within(rt: HostRuntime) {
     let words = [0x30_u8, 0x04];
     let view = BitSlice::<u8, Lsb0>::from_slice(&words).get_range(3..11);
     let mut b = ok(&rt, BitBox::from_bitslice_headed(rt.alloc(), view));
-    assert!(rt; b.len() == 8);
     let _meter = b.copy_within_counted(1..3, 4);
     shows(&rt, &b, &[0xb0, 0x05]);
 }

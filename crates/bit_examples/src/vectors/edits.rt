@@ -6,13 +6,10 @@ use std::process::Abort;
 
 fn edits<T: BitStore, O: BitOrder>(rt: &(impl Abort + AllocGlobal)) {
     let mut v = of::<T, O>(rt, b"01001");
-    assert!(rt; v.len() == 5);
     check(rt, !v.swap_remove(2));
     holds(rt, &v, b"0110");
-    assert!(rt; v.len() == 4);
     ok(rt, v.insert(2, false));
     holds(rt, &v, b"01010");
-    assert!(rt; v.len() == 5);
     check(rt, v.remove(3));
     holds(rt, &v, b"0100");
 }
@@ -23,7 +20,6 @@ fn inserting_and_removing(rt: HostRuntime) {
     edits::<u8, Msb0>(&rt);
     edits::<u64, Lsb0>(&rt);
     let mut v = of::<u8, Lsb0>(&rt, b"111111101");
-    assert!(rt; v.len() == 9);
     ok(&rt, v.insert(7, false));
     holds(&rt, &v, b"1111111001");
 }

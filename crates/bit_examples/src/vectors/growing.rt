@@ -6,10 +6,8 @@ use bit_containers::{BitSlice, BitVec, Lsb0, Msb0};
 #[test]
 fn joined_within(rt: HostRuntime) {
     let mut v = of::<u8, Msb0>(&rt, b"01");
-    assert!(rt; v.len() == 2);
     ok(&rt, v.extend_from_within(..));
     holds(&rt, &v, b"0101");
-    assert!(rt; v.len() == 4);
     ok(&rt, v.extend_from_within(1..3));
     holds(&rt, &v, b"010110");
     ok(&rt, v.extend_from_raw_slice(&[0xc3]));

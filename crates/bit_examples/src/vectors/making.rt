@@ -119,7 +119,6 @@ fn boxes_made_of_bytes(rt: HostRuntime) {
         BitBox::<u16, Lsb0>::from_bytes::<Msb0>(rt.alloc(), &bytes),
     );
     check(&rt, b.as_raw_slice() == [0x8005].as_slice());
-    assert!(rt; b.len() == 16);
     let back = ok(&rt, b.to_bytes::<Msb0>(rt.alloc()));
     check(&rt, back.as_slice() == bytes.as_slice());
     let part = ok(&rt, b.get_range(0..3).to_bytes::<Lsb0>(rt.alloc()));

@@ -31,7 +31,6 @@ fn limits(rt: HostRuntime) {
 #[test]
 fn words_and_lengths_set(rt: HostRuntime) {
     let words = ok(&rt, vec![in rt.alloc(); 0xdc]);
-    assert!(rt; words.len() == 1);
     let mut v = BitVec::<u8, Lsb0>::from_vec(words);
     v.truncate(4);
     check(&rt, v.as_raw_slice() == [0xdc].as_slice());

@@ -135,7 +135,7 @@ fn part_lands(rt: HostRuntime) {
     let mut view = BitSliceMut::<u16, Lsb0>::from_slice_mut(&mut words);
     let mut part = view.part_mut(4, 36);
     check(&rt, part.head() == 4);
-    assert!(rt; part.len() == 32);
+    check(&rt, part.len() == 32);
     part.flip_all();
     part.part_mut(12, 28).fill(false);
     check(&rt, words.as_slice() == [0xff0f, 0x0000, 0xfff0].as_slice());
@@ -193,13 +193,11 @@ fn both_ends(rt: HostRuntime) {
         .iter();
     // 1, 0, 0, 1, 1, 0, 1, 1
     check(&rt, bits.len() == 8);
-    check(&rt, bits.next() == Some(true));
-    check(&rt, bits.next_back() == Some(true));
-    check(&rt, bits.next() == Some(false));
-    check(&rt, bits.next_back() == Some(true));
-    check(&rt, bits.next_back() == Some(false));
-    check(&rt, bits.size_hint() == (3, Some(3)));
-    check(&rt, bits.next() == Some(false));
+    for (front, back) in [(true, true), (false, true), (false, false)] {
+        check(&rt, bits.next() == Some(front));
+        check(&rt, bits.next_back() == Some(back));
+    }
+    check(&rt, bits.size_hint() == (2, Some(2)));
     check(&rt, bits.next() == Some(true));
     check(&rt, bits.next_back() == Some(true));
     for _ in 0..3 {
@@ -209,8 +207,8 @@ fn both_ends(rt: HostRuntime) {
     }
 }
 
-// The calls that read, on words whose bits 3 and 9 alone are set.
-fn reads<T: BitStore, O: BitOrder>(rt: &impl Abort, words: &[T])
+// The calls that read, on words whose bits 3 and 9 alone are set: lengths and counts.
+fn counts<T: BitStore, O: BitOrder>(rt: &impl Abort, words: &[T])
     requires some { 16 ≤ T.BITS * length words.now }
     requires fits { T.BITS * length words.now ≤ MAX_BITS }
 {
@@ -223,13 +221,6 @@ fn reads<T: BitStore, O: BitOrder>(rt: &impl Abort, words: &[T])
     check(rt, !view.all());
     check(rt, view.count_ones() == 2);
     check(rt, view.count_zeros() == count - 2);
-    check(rt, view[3]);
-    check(rt, !view[2]);
-    check(rt, view[9]);
-    check(rt, view.get(9) == Some(true));
-    check(rt, view.get(count).is_none());
-    check(rt, view.first() == Some(false));
-    check(rt, view.last() == Some(false));
     check(rt, view.as_raw_slice().len() == words.len());
     check(
         rt,
@@ -237,7 +228,23 @@ fn reads<T: BitStore, O: BitOrder>(rt: &impl Abort, words: &[T])
     );
 }
 
-// The same of the part from bit 3 to bit 9, and of no bit after it.
+// The same: single bits.
+fn reads<T: BitStore, O: BitOrder>(rt: &impl Abort, words: &[T])
+    requires some { 16 ≤ T.BITS * length words.now }
+    requires fits { T.BITS * length words.now ≤ MAX_BITS }
+{
+    let count = words.len() * T::BITS as usize;
+    let view = BitSlice::<T, O>::from_slice(words);
+    check(rt, view[3]);
+    check(rt, !view[2]);
+    check(rt, view[9]);
+    check(rt, view.get(9) == Some(true));
+    check(rt, view.get(count).is_none());
+    check(rt, view.first() == Some(false));
+    check(rt, view.last() == Some(false));
+}
+
+// The same of the part from bit 3 to bit 9.
 fn reads_of_a_part<T: BitStore, O: BitOrder>(rt: &impl Abort, words: &[T])
     requires some { 16 ≤ T.BITS * length words.now }
     requires fits { T.BITS * length words.now ≤ MAX_BITS }
@@ -250,13 +257,20 @@ fn reads_of_a_part<T: BitStore, O: BitOrder>(rt: &impl Abort, words: &[T])
     check(rt, part.first() == Some(true));
     check(rt, part.last() == Some(true));
     check(rt, part.iter().position(|b| !b) == Some(1));
-    let none = part.get_range(7..);
+    check(rt, part.clone().map(|v| v.len()) == Ok(7));
+}
+
+// The same of no bit.
+fn reads_of_no_bit<T: BitStore, O: BitOrder>(rt: &impl Abort, words: &[T])
+    requires some { 16 ≤ T.BITS * length words.now }
+    requires fits { T.BITS * length words.now ≤ MAX_BITS }
+{
+    let none = BitSlice::<T, O>::from_slice(words).get_range(10..10);
     check(rt, none.is_empty());
     check(rt, !none.any());
     check(rt, none.all());
     check(rt, none.first().is_none());
     check(rt, none.last().is_none());
-    check(rt, part.clone().map(|v| v.len()) == Ok(7));
 }
 
 // The calls that write, on words with no bit set.
@@ -268,17 +282,31 @@ fn writes<T: BitStore, O: BitOrder>(rt: &impl Abort, words: &mut [T])
     let mut view = BitSliceMut::<T, O>::from_slice_mut(words);
     check(rt, view.head() == 0);
     check(rt, view.len() == count);
-    check(rt, !view.is_empty());
     check(rt, !view.any());
-    check(rt, !view.all());
     view.set(9, true);
     check(rt, !view.replace(2, true));
     check(rt, view.replace(2, true));
     view.swap(2, 3);
+    counts::<T, O>(rt, view.as_raw_slice());
     reads::<T, O>(rt, view.as_raw_slice());
 }
 
-// Those that read through a view for writing, after those that write.
+// Those that read through a view for writing, after those that write: lengths, counts and parts.
+fn counts_while_written<T: BitStore, O: BitOrder>(rt: &impl Abort, words: &mut [T])
+    requires some { 16 ≤ T.BITS * length words.old }
+    requires fits { T.BITS * length words.old ≤ MAX_BITS }
+{
+    let count = words.len() * T::BITS as usize;
+    let view = BitSliceMut::<T, O>::from_slice_mut(words);
+    check(rt, !view.is_empty());
+    check(rt, !view.all());
+    check(rt, view.count_ones() == 2);
+    check(rt, view.count_zeros() == count - 2);
+    check(rt, view.get_range(3..10).count_ones() == 2);
+    check(rt, view.iter().len() == count);
+}
+
+// The same: single bits.
 fn reads_while_written<T: BitStore, O: BitOrder>(rt: &impl Abort, words: &mut [T])
     requires some { 16 ≤ T.BITS * length words.old }
     requires fits { T.BITS * length words.old ≤ MAX_BITS }
@@ -288,14 +316,10 @@ fn reads_while_written<T: BitStore, O: BitOrder>(rt: &impl Abort, words: &mut [T
     check(rt, view[3]);
     check(rt, !view[2]);
     check(rt, view[9]);
-    check(rt, view.count_ones() == 2);
-    check(rt, view.count_zeros() == count - 2);
     check(rt, view.get(9) == Some(true));
     check(rt, view.get(count).is_none());
     check(rt, view.first() == Some(false));
     check(rt, view.last() == Some(false));
-    check(rt, view.get_range(3..10).count_ones() == 2);
-    check(rt, view.iter().len() == count);
 }
 
 fn fills<T: BitStore, O: BitOrder>(rt: &impl Abort, words: &mut [T])
@@ -315,6 +339,8 @@ fn calls_on_bytes(rt: HostRuntime) {
     let mut words = [0; 3];
     writes::<u8, Lsb0>(&rt, &mut words);
     reads_of_a_part::<u8, Lsb0>(&rt, &words);
+    reads_of_no_bit::<u8, Lsb0>(&rt, &words);
+    counts_while_written::<u8, Lsb0>(&rt, &mut words);
     reads_while_written::<u8, Lsb0>(&rt, &mut words);
     fills::<u8, Lsb0>(&rt, &mut words);
 }
@@ -324,6 +350,8 @@ fn calls_from_the_highest_place(rt: HostRuntime) {
     let mut words = [0; 2];
     writes::<u32, Msb0>(&rt, &mut words);
     reads_of_a_part::<u32, Msb0>(&rt, &words);
+    reads_of_no_bit::<u32, Msb0>(&rt, &words);
+    counts_while_written::<u32, Msb0>(&rt, &mut words);
     reads_while_written::<u32, Msb0>(&rt, &mut words);
     fills::<u32, Msb0>(&rt, &mut words);
 }
@@ -333,6 +361,8 @@ fn calls_by_a_users_order(rt: HostRuntime) {
     let mut words = [0; 1];
     writes::<usize, Xor4>(&rt, &mut words);
     reads_of_a_part::<usize, Xor4>(&rt, &words);
+    reads_of_no_bit::<usize, Xor4>(&rt, &words);
+    counts_while_written::<usize, Xor4>(&rt, &mut words);
     reads_while_written::<usize, Xor4>(&rt, &mut words);
     fills::<usize, Xor4>(&rt, &mut words);
 }

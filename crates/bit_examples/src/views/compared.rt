@@ -66,7 +66,7 @@ fn operators(rt: HostRuntime) {
 }
 
 // Views that hold the same bits from bit 3 and from bit 5 on.
-fn ordered<T: BitStore, O: BitOrder, U: BitStore, P: BitOrder>(
+fn equal<T: BitStore, O: BitOrder, U: BitStore, P: BitOrder>(
     rt: &impl Abort,
     left: &BitSliceMut<'_, T, O>,
     right: &BitSliceMut<'_, U, P>,
@@ -76,8 +76,22 @@ fn ordered<T: BitStore, O: BitOrder, U: BitStore, P: BitOrder>(
 {
     let part = left.get_range(3..20);
     check(rt, part.eq_bits(right.get_range(5..22)));
-    check(rt, part.cmp_bits(right.get_range(5..22)) == Ordering::Equal);
     check(rt, !part.eq_bits(right.get_range(5..21)));
+    check(rt, !left.eq_bits(right.as_bitslice()));
+    check(rt, right.cmp_bits(left.as_bitslice()) == Ordering::Less);
+}
+
+// The same, in order.
+fn ordered<T: BitStore, O: BitOrder, U: BitStore, P: BitOrder>(
+    rt: &impl Abort,
+    left: &BitSliceMut<'_, T, O>,
+    right: &BitSliceMut<'_, U, P>,
+)
+    requires left { 24 ≤ len_of left.now }
+    requires right { 24 ≤ len_of right.now }
+{
+    let part = left.get_range(3..20);
+    check(rt, part.cmp_bits(right.get_range(5..22)) == Ordering::Equal);
     check(
         rt,
         part.cmp_bits(right.get_range(5..21)) == Ordering::Greater,
@@ -87,8 +101,6 @@ fn ordered<T: BitStore, O: BitOrder, U: BitStore, P: BitOrder>(
         rt,
         part.cmp_bits(right.get_range(4..22)) == Ordering::Greater,
     );
-    check(rt, !left.eq_bits(right.as_bitslice()));
-    check(rt, right.cmp_bits(left.as_bitslice()) == Ordering::Less);
 }
 
 fn combined<T: BitStore, O: BitOrder, U: BitStore, P: BitOrder>(
@@ -127,6 +139,7 @@ fn compared<T: BitStore, O: BitOrder, U: BitStore, P: BitOrder>(
     left.set(19, true);
     right.set(5, true);
     right.set(21, true);
+    equal(rt, &left, &right);
     ordered(rt, &left, &right);
     combined(rt, &mut left, &right);
 }

@@ -2,6 +2,7 @@
 ghost use Rattle.std.specs.Prelude.{◌≡◌, ◌↔◌, IsTrue, count_by, ◌+◌, ◌≤◌};
 ghost use Rattle.bit_addressing.specs.Row.{moved};
 ghost use Rattle.bit_slice.specs.CountedMut.{head_of as head_counted, len_of as len_counted, loan_of as loan_counted, list_of as list_counted, reads_of as reads_counted, writes_of};
+ghost use Rattle.bit_slice.specs.BitSlice.{head_of as head_seen, len_of as len_seen};
 ghost use Rattle.bit_slice.specs.Counted.{head_of as head_read, len_of as len_read, list_of as list_read, reads_of, WasRead};
 
 use crate::common::check;
@@ -72,26 +73,44 @@ fn count_in_two(view: &mut Counted<'_, u8, Lsb0>) -> usize
     view.count_ones_counted()
 }
 
+/// The eight bits from head 3 on.
+fn eight(words: &[u8; 2]) -> BitSlice<'_, u8, Lsb0>
+    ensures head { head_seen result ≡ 3 }
+    ensures len { len_seen result ≡ 8 }
+{
+    BitSlice::<u8, Lsb0>::from_slice(words).get_range(3..11)
+}
+
 #[test]
-fn counted_reads(rt: HostRuntime) {
+fn compared_in_four_reads(rt: HostRuntime) {
     let (first, second, third) = ([0xa8_u8, 0x07], [0xaf_u8, 0xff], [0xa8_u8, 0x03]);
-    let first = BitSlice::<u8, Lsb0>::from_slice(&first).get_range(3..11);
-    let second = BitSlice::<u8, Lsb0>::from_slice(&second).get_range(3..11);
-    let third = BitSlice::<u8, Lsb0>::from_slice(&third).get_range(3..11);
-    let mut counted = first.counted();
+    let mut counted = eight(&first).counted();
     check(&rt, (counted.head(), counted.len()) == (3, 8));
     check(&rt, !counted.is_empty());
-    check(&rt, compare_in_four(&mut counted, &mut second.counted()));
-    check(&rt, !compare_in_four(&mut counted, &mut third.counted()));
-    check(&rt, count_in_two(&mut counted) == 6);
+    let mut other = eight(&second).counted();
+    check(&rt, compare_in_four(&mut counted, &mut other));
+    let mut other = eight(&third).counted();
+    check(&rt, !compare_in_four(&mut counted, &mut other));
+    check(&rt, !eight(&first).eq_bits(eight(&third)));
+}
+
+#[test]
+fn ones_counted_in_two_reads(rt: HostRuntime) {
+    let words = [0xa8_u8, 0x07];
+    check(&rt, count_in_two(&mut eight(&words).counted()) == 6);
     let byte = [0xff_u8];
     let none = BitSlice::<u8, Lsb0>::from_slice(&byte).get_range(3..3);
     check(&rt, count_in_two(&mut none.counted()) == 0);
-    let aligned = [0xf5_u8];
-    let aligned = BitSlice::<u8, Lsb0>::from_slice(&aligned);
+    let mut counted = eight(&words).counted();
+    check(&rt, !counted.eq_counted(&mut none.counted()));
+}
+
+#[test]
+fn compared_at_other_heads(rt: HostRuntime) {
+    let (words, byte) = ([0xa8_u8, 0x07], [0xf5_u8]);
+    let aligned = BitSlice::<u8, Lsb0>::from_slice(&byte);
+    let mut counted = eight(&words).counted();
     check(&rt, counted.eq_counted(&mut aligned.counted()));
     check(&rt, aligned.counted().eq_counted(&mut counted));
-    check(&rt, !counted.eq_counted(&mut none.counted()));
-    check(&rt, first.eq_bits(aligned));
-    check(&rt, !first.eq_bits(third));
+    check(&rt, eight(&words).eq_bits(aligned));
 }

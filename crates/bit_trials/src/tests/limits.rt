@@ -14,7 +14,7 @@ fn reserving_at_the_limit(rt: HostRuntime) {
     for (more, too_long) in [(LIMIT - 1, false), (LIMIT, true), (usize::MAX, true)] {
         let results = [v.reserve(more), v.reserve_exact(more)];
         for outcome in results {
-            assert_eq!(rt; outcome == Err(GrowError::TooLong), too_long, "for {more}");
+            check(&rt, (outcome == Err(GrowError::TooLong)) == too_long);
         }
         holds(&rt, &v, b"1");
     }
@@ -35,7 +35,7 @@ fn repeating_at_the_limit(rt: HostRuntime) {
     for (n, too_long) in LENGTHS {
         let made = BitVec::<u8, Lsb0>::repeat(rt.alloc(), false, n);
         let refused = matches!(made, Err(GrowError::TooLong));
-        assert!(rt; refused == too_long, "for {n}");
+        check(&rt, refused == too_long);
     }
 }
 
@@ -44,7 +44,7 @@ fn room_at_the_limit(rt: HostRuntime) {
     for (n, too_long) in LENGTHS {
         let made = BitVec::<u64, Msb0>::with_capacity(rt.alloc(), n);
         let refused = matches!(made, Err(GrowError::TooLong));
-        assert!(rt; refused == too_long, "for {n}");
+        check(&rt, refused == too_long);
     }
 }
 

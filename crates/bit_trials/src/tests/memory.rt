@@ -1,7 +1,7 @@
 //! Each request for memory refused: what is returned then, and what stays.
 //!
 //! The tests pass with ample memory, and whichever request `rt try --test --fail-alloc N` refuses.
-ghost use Rattle.std.specs.Prelude.{◌≡◌, length};
+ghost use Rattle.std.specs.Prelude.{◌≡◌, length, IfSome};
 
 use crate::tests::{check, holds};
 use bit_containers::array::BitArray;
@@ -117,7 +117,9 @@ fn stands(rt: &impl Abort, v: &BitVec<u8, Lsb0>, outcome: Result<(), GrowError>)
 }
 
 /// The eight bits that the tests begin with, at head 3, where memory is found.
-fn eight(rt: &impl AllocGlobal) -> Option<BitVec<u8, Lsb0>> {
+fn eight(rt: &impl AllocGlobal) -> Option<BitVec<u8, Lsb0>>
+    ensures { IfSome result (λ v. length v.list ≡ 8) }
+{
     let words = [0xa8_u8, 0x07];
     let view = BitSlice::<u8, Lsb0>::from_slice(&words).get_range(3..11);
     BitVec::from_bitslice_headed(rt.alloc(), view).ok()
@@ -147,7 +149,6 @@ fn growing_refused(rt: HostRuntime) {
         let Some(mut v) = eight(&rt) else {
             return;
         };
-        assert!(rt; v.len() == 8);
         let outcome = grow(&mut v, way);
         stands(&rt, &v, outcome);
         check(&rt, v.head() == 3);
@@ -304,7 +305,6 @@ fn copies_refused(rt: HostRuntime) {
     };
     made(&rt, v.clone(), b"10101111");
     holds(&rt, &v, b"10101111");
-    assert!(rt; v.len() == 8);
     match v.split_off(3) {
         Ok(rest) => {
             holds(&rt, &rest, b"01111");

@@ -85,7 +85,6 @@ fn joined(rt: &(impl Abort + AllocGlobal), n: usize, bounded: bool) {
     ok(rt, v.extend(Loose::of(n, BITS, bounded)));
     ends_with(rt, &v, n);
     let mut v = of::<u8, Lsb0>(rt, b"0110");
-    assert!(rt; v.len() == 4);
     ok(rt, v.splice(2.., Loose::of(n, BITS, bounded)).finish());
     ends_with(rt, &v, n);
 }
@@ -258,7 +257,6 @@ fn pulled_until_refused(rt: HostRuntime) {
 /// A splice finished at once, or after one bit from either end.
 fn left_early(rt: &(impl Abort + AllocGlobal), way: u8) {
     let mut v = of::<u16, Msb0>(rt, b"0110100");
-    assert!(rt; v.len() == 7);
     let mut splice = v.splice(1..5, [true, false]);
     let right = match way {
         0 => splice.len() == 4,
@@ -273,7 +271,6 @@ fn left_early(rt: &(impl Abort + AllocGlobal), way: u8) {
 /// A splice finished after all of its bits, from the front.
 fn left_after_all(rt: &(impl Abort + AllocGlobal)) {
     let mut v = of::<u16, Msb0>(rt, b"0110100");
-    assert!(rt; v.len() == 7);
     let mut splice = v.splice(1..5, [true, false]);
     check(rt, splice.items().filter(|bit| *bit).count() == 3);
     ok(rt, splice.finish());
@@ -283,7 +280,6 @@ fn left_after_all(rt: &(impl Abort + AllocGlobal)) {
 /// A splice finished after all of its bits, from the end.
 fn left_after_all_from_the_end(rt: &(impl Abort + AllocGlobal)) {
     let mut v = of::<u16, Msb0>(rt, b"0110100");
-    assert!(rt; v.len() == 7);
     let mut splice = v.splice(1..5, [true, false]);
     check(rt, splice.items().rev().filter(|bit| !*bit).count() == 1);
     ok(rt, splice.finish());
@@ -293,7 +289,6 @@ fn left_after_all_from_the_end(rt: &(impl Abort + AllocGlobal)) {
 /// A splice finished after it was asked for more bits than it has, from the front or from the end.
 fn left_past_an_end(rt: &(impl Abort + AllocGlobal), back: bool) {
     let mut v = of::<u16, Msb0>(rt, b"0110100");
-    assert!(rt; v.len() == 7);
     let mut splice = v.splice(1..5, [true, false]);
     let right = if back {
         splice.nth_back(4).is_none() && splice.next().is_none()

@@ -50,7 +50,7 @@ fn rows_of_a_matrix(rt: HostRuntime) {
     check(&rt, rows.size_hint() == (5, Some(5)));
     for row in 0..5 {
         let Some(view) = rows.next() else {
-            panic!(rt; "no row {row}");
+            panic!(rt; "a row is missing");
         };
         for column in 0..70 {
             check(&rt, view.get(column) == Some(bit(&matrix, row, column)));
@@ -90,11 +90,8 @@ fn products(rt: HostRuntime) {
     for row in 0..9 {
         for column in 0..67 {
             let count = ways(&left, &right, row, column, 70);
-            assert!(rt; bit(&any, row, column) == (count > 0), "{row}, {column}");
-            assert!(rt;
-                bit(&sum, row, column) == (count % 2 == 1),
-                "{row}, {column}"
-            );
+            check(&rt, bit(&any, row, column) == (count > 0));
+            check(&rt, bit(&sum, row, column) == (count % 2 == 1));
         }
     }
 }
@@ -129,10 +126,8 @@ fn inverses(rt: HostRuntime) {
             let one = row == column;
             let left = ways(&inverse, &matrix, row, column, 66);
             let right = ways(&matrix, &inverse, row, column, 66);
-            assert!(rt;
-                (left % 2 == 1) == one && (right % 2 == 1) == one,
-                "{row}, {column}"
-            );
+            check(&rt, (left % 2 == 1) == one);
+            check(&rt, (right % 2 == 1) == one);
         }
     }
 }
@@ -177,7 +172,7 @@ fn turned_by_squares(rt: HostRuntime) {
         for row in 0..rows {
             for column in 0..columns {
                 let old = bit(&matrix, row, column);
-                assert!(rt; bit(&turned, column, row) == old, "{row}, {column}");
+                check(&rt, bit(&turned, column, row) == old);
             }
         }
     }
@@ -221,7 +216,7 @@ fn ranks(rt: HostRuntime) {
             let matrix = ok(&rt, scattered(rt.alloc(), 7, columns, seed));
             let sums = zero_sums(&matrix, 7, columns);
             let rank = rank(&rt, Ok(matrix));
-            assert!(rt; rank <= 7 && sums == 1 << (7 - rank), "{seed}, {columns}");
+            check(&rt, rank <= 7 && sums == 1 << (7 - rank));
         }
     }
 }

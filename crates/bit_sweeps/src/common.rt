@@ -1,36 +1,36 @@
-//! Each call at every head of a byte, at every length up to 17 bits, beside plain lists.
-ghost use Rattle.std.specs.Prelude.{◌+◌, ◌<◌};
+//! Vectors of mixed bits beside plain lists, and what all tests use.
+ghost use Rattle.std.specs.Prelude.{Ok, ◌≡◌, ◌+◌, ◌<◌, length};
 
-mod arrays;
-mod boxes;
-mod edits;
-mod growing;
-mod long;
-mod making;
-mod moves;
-mod pairs;
-mod ranges;
-mod reading;
-mod rows;
-mod searched;
-mod views;
-mod words;
-
-use crate::tests::{check, ok};
 use bit_containers::{BitIdx, BitOrder, BitSlice, BitStore, BitVec};
 use std::process::Abort;
 
+/// That this holds. A test calls it in place of `assert!`, which costs the prover more: a failed
+/// test is told by its name.
+pub(crate) fn check(rt: &impl Abort, holds: bool) {
+    assert!(rt; holds);
+}
+
+/// What a call returns that found memory.
+pub(crate) fn ok<V, E>(rt: &impl Abort, outcome: Result<V, E>) -> V
+    ensures { outcome ≡ Ok result }
+{
+    match outcome {
+        Ok(value) => value,
+        Err(_) => panic!(rt; "memory was refused"),
+    }
+}
+
 /// A vector, the list that it has to hold, and the bits of its words.
 #[derive(Drop)]
-struct Case<T: BitStore, O: BitOrder> {
-    v: BitVec<T, O>,
-    list: Vec<bool>,
-    row: Vec<bool>,
+pub(crate) struct Case<T: BitStore, O: BitOrder> {
+    pub(crate) v: BitVec<T, O>,
+    pub(crate) list: Vec<bool>,
+    pub(crate) row: Vec<bool>,
 }
 
 /// How two bits are combined.
 #[derive(Clone, Copy)]
-enum By {
+pub(crate) enum By {
     And,
     Or,
     Xor,
@@ -38,7 +38,7 @@ enum By {
 
 impl By {
     /// What it makes of two bits.
-    fn of(self, left: bool, right: bool) -> bool {
+    pub(crate) fn of(self, left: bool, right: bool) -> bool {
         match self {
             By::And => left && right,
             By::Or => left || right,
@@ -48,7 +48,9 @@ impl By {
 }
 
 /// Four words whose bits are mixed, and differ by the seed.
-fn words_of<T: BitStore>(rt: &(impl Abort + AllocGlobal), seed: u64) -> Vec<T> {
+pub(crate) fn words_of<T: BitStore>(rt: &(impl Abort + AllocGlobal), seed: u64) -> Vec<T>
+    ensures { length result.items ≡ 4 }
+{
     let mut words = Vec::new(rt.alloc());
     for (factor, less) in [
         (1u64, 0u32),
@@ -59,11 +61,15 @@ fn words_of<T: BitStore>(rt: &(impl Abort + AllocGlobal), seed: u64) -> Vec<T> {
         let mixed = seed.wrapping_mul(factor).wrapping_shr(less);
         ok(rt, words.push(T::from_u64(mixed)));
     }
+    assert!(rt; words.len() == 4);
     words
 }
 
 /// The bits of these words, one by one.
-fn row_of<T: BitStore, O: BitOrder>(rt: &(impl Abort + AllocGlobal), words: &[T]) -> Vec<bool> {
+pub(crate) fn row_of<T: BitStore, O: BitOrder>(
+    rt: &(impl Abort + AllocGlobal),
+    words: &[T],
+) -> Vec<bool> {
     let mut bits = Vec::new(rt.alloc());
     for word in words {
         for i in 0..T::BITS {
@@ -75,7 +81,7 @@ fn row_of<T: BitStore, O: BitOrder>(rt: &(impl Abort + AllocGlobal), words: &[T]
 }
 
 /// The bits of three bytes, one by one.
-fn bits_of<O: BitOrder>(words: [u8; 3]) -> [bool; 24] {
+pub(crate) fn bits_of<O: BitOrder>(words: [u8; 3]) -> [bool; 24] {
     let mut bits = [false; 24];
     for (k, word) in words.iter().enumerate() {
         for i in 0..8 {
@@ -88,7 +94,12 @@ fn bits_of<O: BitOrder>(words: [u8; 3]) -> [bool; 24] {
 }
 
 /// The items of a list from one place up to another, as far as there are any.
-fn part(rt: &(impl Abort + AllocGlobal), list: &[bool], from: usize, upto: usize) -> Vec<bool> {
+pub(crate) fn part(
+    rt: &(impl Abort + AllocGlobal),
+    list: &[bool],
+    from: usize,
+    upto: usize,
+) -> Vec<bool> {
     let mut items = Vec::new(rt.alloc());
     for (i, bit) in list.iter().enumerate() {
         if from <= i && i < upto {
@@ -99,7 +110,7 @@ fn part(rt: &(impl Abort + AllocGlobal), list: &[bool], from: usize, upto: usize
 }
 
 /// A list whose items from one place up to another are replaced by others.
-fn replaced(
+pub(crate) fn replaced(
     rt: &(impl Abort + AllocGlobal),
     list: &[bool],
     from: usize,
@@ -119,13 +130,14 @@ fn replaced(
 }
 
 /// A vector of `len` bits of these words that begin at this head. Its dead bits are theirs too.
-fn vector_of<T: BitStore, O: BitOrder>(
+pub(crate) fn vector_of<T: BitStore, O: BitOrder>(
     rt: &(impl Abort + AllocGlobal),
     words: &[T],
     head: usize,
     len: usize,
 ) -> BitVec<T, O>
     requires { head + len < 100 }
+    ensures { length result.list ≡ len }
 {
     let view = ok(rt, BitSlice::<T, O>::try_from_slice(words));
     assert!(rt; head + len <= view.len());
@@ -134,17 +146,19 @@ fn vector_of<T: BitStore, O: BitOrder>(
     for (word, mixed) in v.as_raw_mut_slice().iter_mut().zip(words) {
         *word = *mixed;
     }
+    assert!(rt; v.len() == len);
     v
 }
 
 /// A vector of `len` mixed bits that begin at this head. Its dead bits are mixed too.
-fn at_head<T: BitStore, O: BitOrder>(
+pub(crate) fn at_head<T: BitStore, O: BitOrder>(
     rt: &(impl Abort + AllocGlobal),
     seed: u64,
     head: usize,
     len: usize,
 ) -> Case<T, O>
     requires { head + len < 100 }
+    ensures { length result.v.list ≡ len }
 {
     let words = words_of::<T>(rt, seed);
     let v = vector_of::<T, O>(rt, words.as_slice(), head, len);
@@ -156,10 +170,12 @@ fn at_head<T: BitStore, O: BitOrder>(
 }
 
 /// The same list at the same head, with dead bits that are true.
-fn again<T: BitStore, O: BitOrder>(
+pub(crate) fn again<T: BitStore, O: BitOrder>(
     rt: &(impl Abort + AllocGlobal),
     v: &BitVec<T, O>,
-) -> BitVec<T, O> {
+) -> BitVec<T, O>
+    ensures { result.list ≡ v.now.list }
+{
     let mut copy = ok(
         rt,
         BitVec::from_bitslice_headed(rt.alloc(), v.as_bitslice()),
@@ -169,7 +185,7 @@ fn again<T: BitStore, O: BitOrder>(
 }
 
 /// Whether a vector holds this list from this head on.
-fn same<T: BitStore, O: BitOrder>(v: &BitVec<T, O>, head: usize, list: &[bool]) -> bool {
+pub(crate) fn same<T: BitStore, O: BitOrder>(v: &BitVec<T, O>, head: usize, list: &[bool]) -> bool {
     let mut same = v.head() == head && v.len() == list.len() && v.get(list.len()).is_none();
     for (i, bit) in list.iter().enumerate() {
         same = same && v.get(i) == Some(*bit);
@@ -179,7 +195,7 @@ fn same<T: BitStore, O: BitOrder>(v: &BitVec<T, O>, head: usize, list: &[bool]) 
 
 /// Whether a vector holds this list from this head on, in exactly the words for it, whose dead bits are those of
 /// a row, or false past its end.
-fn shows<T: BitStore, O: BitOrder>(
+pub(crate) fn shows<T: BitStore, O: BitOrder>(
     rt: &(impl Abort + AllocGlobal),
     v: &BitVec<T, O>,
     head: usize,

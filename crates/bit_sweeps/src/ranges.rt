@@ -1,9 +1,8 @@
 //! Ranges drained, replaced, split off, copied and kept by a function.
 ghost use Rattle.std.specs.Prelude.{◌<◌, ◌≤◌, length};
 
-use crate::tests::orders::{Scramble, Xor4};
-use crate::tests::sweeps::{Case, again, at_head, part, replaced, same, shows};
-use crate::tests::{check, ok};
+use crate::common::{Case, again, at_head, check, ok, part, replaced, same, shows};
+use crate::orders::{Scramble, Xor4};
 use bit_containers::{BitOrder, BitStore, BitVec, Lsb0, Msb0};
 use std::process::Abort;
 
@@ -193,7 +192,6 @@ fn split<T: BitStore, O: BitOrder>(rt: &(impl Abort + AllocGlobal), head: usize,
 {
     for at in 0..len + 1 {
         let Case { mut v, list, row } = at_head::<T, O>(rt, SEED, head, len);
-        assert!(rt; at <= v.len());
         let rest = ok(rt, v.split_off(at));
         let wanted = part(rt, &list, at, len);
         check(rt, shows(rt, &rest, 0, &wanted, &[]));

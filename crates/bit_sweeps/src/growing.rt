@@ -1,9 +1,8 @@
 //! Bits appended, from lists, views, words and functions, and room made.
 ghost use Rattle.std.specs.Prelude.{◌<◌};
 
-use crate::tests::orders::{Scramble, Xor4};
-use crate::tests::sweeps::{Case, at_head, part, replaced, row_of, shows, words_of};
-use crate::tests::{check, ok};
+use crate::common::{Case, at_head, check, ok, part, replaced, row_of, shows, words_of};
+use crate::orders::{Scramble, Xor4};
 use bit_containers::{BitOrder, BitStore, BitVec, Lsb0, Msb0};
 use std::process::Abort;
 
@@ -40,7 +39,7 @@ fn extended_in<T: BitStore, O: BitOrder>(
     let Case { mut v, list, row } = at_head::<T, O>(rt, SEED, head, len);
     extend(rt, &mut v, other, way);
     let wanted = replaced(rt, &list, len, len, &other.list);
-    assert!(rt; shows(rt, &v, head, &wanted, &row), "way {way}");
+    check(rt, shows(rt, &v, head, &wanted, &row));
 }
 
 /// Another list appended in each way, the last of which empties it.
@@ -160,7 +159,6 @@ fn extended_within<T: BitStore, O: BitOrder>(
     for from in 0..len + 1 {
         for upto in from..len + 1 {
             let Case { mut v, list, row } = at_head::<T, O>(rt, SEED, head, len);
-            assert!(rt; upto <= v.len());
             ok(rt, v.extend_from_within(from..upto));
             let more = part(rt, &list, from, upto);
             let wanted = replaced(rt, &list, len, len, &more);
@@ -184,7 +182,7 @@ fn roomy<T: BitStore, O: BitOrder>(rt: &(impl Abort + AllocGlobal), head: usize,
         check(rt, shows(rt, &v, head, &list, &row));
         ok(rt, v.shrink_to_fit());
         check(rt, v.capacity() >= len);
-        assert!(rt; v.capacity() <= room);
+        check(rt, v.capacity() <= room);
         check(rt, shows(rt, &v, head, &list, &row));
     }
 }

@@ -1,9 +1,9 @@
 //! What a box gives: its bits from both ends, its text, its words, copies of it.
 ghost use Rattle.std.specs.Prelude.{◌+◌, ◌<◌};
 
-use crate::tests::radix::{In, Radix};
-use crate::tests::sweeps::boxes::{copied, owned, shows};
-use crate::tests::{check, ok};
+use crate::boxes::{copied, owned, shows};
+use crate::common::{check, ok};
+use crate::radix::{In, Radix};
 use bit_addressing::{BitOrder, BitStore};
 use bit_boxed::{BitBox, IntoIter};
 use std::process::Abort;

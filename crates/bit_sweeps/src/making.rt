@@ -1,9 +1,8 @@
 //! Vectors made of views, lists, words and other containers.
 ghost use Rattle.std.specs.Prelude.{◌<◌};
 
-use crate::tests::orders::{Scramble, Xor4};
-use crate::tests::sweeps::{Case, at_head, part, row_of, shows, words_of};
-use crate::tests::{check, ok};
+use crate::common::{Case, at_head, check, ok, part, row_of, shows, words_of};
+use crate::orders::{Scramble, Xor4};
 use bit_containers::array::BitArray;
 use bit_containers::{BitOrder, BitStore, BitVec, Lsb0, Msb0};
 use std::process::Abort;

@@ -1,9 +1,8 @@
 //! Each move within three bytes, by four orders, beside the move of a list.
 ghost use Rattle.std.specs.Prelude.{◌+◌, ◌≤◌};
 
-use crate::tests::check;
-use crate::tests::orders::{Scramble, Xor4};
-use crate::tests::sweeps::bits_of;
+use crate::common::{bits_of, check};
+use crate::orders::{Scramble, Xor4};
 use bit_addressing::{BitOrder, Lsb0, Msb0, move_bits};
 use std::process::Abort;
 

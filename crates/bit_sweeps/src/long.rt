@@ -1,19 +1,21 @@
 //! Runs of many words, moved and copied by orders of a user, beside plain lists.
-ghost use Rattle.std.specs.Prelude.{◌+◌, ◌<◌};
+ghost use Rattle.std.specs.Prelude.{◌≡◌, ◌+◌, ◌<◌, length};
 
-use crate::tests::orders::{Scramble, Xor4};
-use crate::tests::sweeps::row_of;
-use crate::tests::{check, ok};
+use crate::common::{check, ok, row_of};
+use crate::orders::{Scramble, Xor4};
 use bit_addressing::{BitOrder, BitStore, Lsb0, Msb0, Xor, combine_bits, copy_bits, move_bits};
 use std::process::Abort;
 
-/// Words whose bits are mixed, and differ by the seed.
-fn many_words<T: BitStore>(rt: &(impl Abort + AllocGlobal), seed: u64, count: u64) -> Vec<T> {
+/// Eighty words whose bits are mixed, and differ by the seed.
+fn many_words<T: BitStore>(rt: &(impl Abort + AllocGlobal), seed: u64) -> Vec<T>
+    ensures { length result.items ≡ 80 }
+{
     let mut words = Vec::new(rt.alloc());
-    for k in 0..count {
+    for k in 0..80u64 {
         let mixed = seed.wrapping_mul(k.wrapping_mul(2).wrapping_add(1));
         ok(rt, words.push(T::from_u64(mixed ^ mixed.wrapping_shr(29))));
     }
+    assert!(rt; words.len() == 80);
     words
 }
 
@@ -52,9 +54,8 @@ fn moved<T: BitStore, O: BitOrder>(
 )
     requires { dst + n + src < 10000 }
 {
-    let mut words = many_words::<T>(rt, 0x9e37_79b9_7f4a_7c15, 80);
+    let mut words = many_words::<T>(rt, 0x9e37_79b9_7f4a_7c15);
     let before = row_of::<T, O>(rt, words.as_slice());
-    assert!(rt; words.len() == 80);
     assert!(rt; src + n <= T::BITS as usize * 80);
     assert!(rt; dst + n <= T::BITS as usize * 80);
     move_bits::<T, O>(words.as_mut_slice(), src, dst, n);
@@ -72,11 +73,11 @@ fn written_over<T: BitStore, O: BitOrder, U: BitStore, P: BitOrder>(
     n: usize,
     flips: bool,
 ) -> Vec<T>
-    requires { at + n + from < 10000 }
+    requires target { length words.items ≡ 80 }
+    requires source { length source.now ≡ 80 }
+    requires few { at + n + from < 10000 }
 {
     let mut words = words;
-    assert!(rt; words.len() == 80);
-    assert!(rt; source.len() == 80);
     assert!(rt; at + n <= T::BITS as usize * 80);
     assert!(rt; from + n <= U::BITS as usize * 80);
     if flips {
@@ -96,8 +97,8 @@ fn copied<T: BitStore, O: BitOrder, U: BitStore, P: BitOrder>(
 )
     requires { at + n + from < 10000 }
 {
-    let source = many_words::<U>(rt, 0xbf58_476d_1ce4_e5b9, 80);
-    let words = many_words::<T>(rt, 0x94d0_49bb_1331_11eb, 80);
+    let source = many_words::<U>(rt, 0xbf58_476d_1ce4_e5b9);
+    let words = many_words::<T>(rt, 0x94d0_49bb_1331_11eb);
     let before = row_of::<T, O>(rt, words.as_slice());
     let words = written_over::<T, O, U, P>(rt, words, at, source.as_slice(), from, n, flips);
     let after = row_of::<T, O>(rt, words.as_slice());

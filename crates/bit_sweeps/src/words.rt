@@ -1,9 +1,8 @@
 //! The words as they are lent, written, filled, aligned and given up.
 ghost use Rattle.std.specs.Prelude.{◌<◌};
 
-use crate::tests::orders::{Scramble, Xor4};
-use crate::tests::sweeps::{Case, at_head, part, row_of, shows};
-use crate::tests::{check, ok};
+use crate::common::{Case, at_head, check, ok, part, row_of, shows};
+use crate::orders::{Scramble, Xor4};
 use bit_containers::{BitOrder, BitStore, BitVec, IntoBitVec, Lsb0, Msb0};
 use std::process::Abort;
 

@@ -1,7 +1,6 @@
 //! Arrays of one to three words, by four orders, beside plain loops over lists.
-use crate::tests::orders::{Scramble, Xor4};
-use crate::tests::sweeps::{By, row_of};
-use crate::tests::{check, ok};
+use crate::common::{By, check, ok, row_of};
+use crate::orders::{Scramble, Xor4};
 use bit_addressing::{BitOrder, Lsb0, Msb0};
 use bit_array::{BitArray, BitViewSized};
 use std::process::Abort;

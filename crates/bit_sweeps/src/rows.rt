@@ -2,9 +2,8 @@
 //! over lists.
 ghost use Rattle.std.specs.Prelude.{◌+◌, ◌<◌};
 
-use crate::tests::check;
-use crate::tests::orders::Xor4;
-use crate::tests::sweeps::{row_of, words_of};
+use crate::common::{check, row_of, words_of};
+use crate::orders::Xor4;
 use bit_addressing::{
     And, BitOrder, BitStore, Lsb0, Msb0, Or, Xor, combine_bits, copy_bits, count_bits, differ_at,
     fill_bits, find_bit, read_chunk, write_chunk,
@@ -56,8 +55,6 @@ fn written<T: BitStore, O: BitOrder, U: BitStore, P: BitOrder>(
     let mut words = words_of::<T>(rt, 0x0fed_cba9_8765_4321);
     let before = row_of::<T, O>(rt, words.as_slice());
     let given = row_of::<U, P>(rt, source.as_slice());
-    assert!(rt; words.len() == 4);
-    assert!(rt; source.len() == 4);
     assert!(rt; at + n <= T::BITS as usize * 4);
     assert!(rt; from + n <= U::BITS as usize * 4);
     match make {
@@ -77,7 +74,6 @@ fn filled<T: BitStore, O: BitOrder>(rt: &(impl Abort + AllocGlobal), at: usize, 
     let mut words = words_of::<T>(rt, 0x0fed_cba9_8765_4321);
     let before = row_of::<T, O>(rt, words.as_slice());
     let given = [bit; 18];
-    assert!(rt; words.len() == 4);
     assert!(rt; at + n <= T::BITS as usize * 4);
     fill_bits::<T, O>(words.as_mut_slice(), at, at + n, bit);
     let after = row_of::<T, O>(rt, words.as_slice());
@@ -125,8 +121,6 @@ fn compared<T: BitStore, O: BitOrder, U: BitStore, P: BitOrder>(
 {
     let source = words_of::<U>(rt, 0x1234_5678_9abc_def1);
     let words = words_of::<T>(rt, 0x0fed_cba9_8765_4321);
-    assert!(rt; words.len() == 4);
-    assert!(rt; source.len() == 4);
     assert!(rt; at + n <= T::BITS as usize * 4);
     assert!(rt; from + n <= U::BITS as usize * 4);
     let apart = differ_at::<T, O, U, P>(words.as_slice(), at, source.as_slice(), from, n);
@@ -140,7 +134,6 @@ fn searched<U: BitStore, P: BitOrder>(rt: &(impl Abort + AllocGlobal), from: usi
     requires { n + from < 100 }
 {
     let source = words_of::<U>(rt, 0x1234_5678_9abc_def1);
-    assert!(rt; source.len() == 4);
     assert!(rt; from + n <= U::BITS as usize * 4);
     let total = count_bits::<U, P>(source.as_slice(), from, from + n);
     let given = row_of::<U, P>(rt, source.as_slice());
@@ -163,8 +156,6 @@ fn chunked<T: BitStore, O: BitOrder, U: BitStore, P: BitOrder>(
 {
     let source = words_of::<U>(rt, 0x1234_5678_9abc_def1);
     let mut words = words_of::<T>(rt, 0x0fed_cba9_8765_4321);
-    assert!(rt; words.len() == 4);
-    assert!(rt; source.len() == 4);
     assert!(rt; n <= 64);
     assert!(rt; at + n <= T::BITS as usize * 4);
     assert!(rt; from + n <= U::BITS as usize * 4);

@@ -1,9 +1,8 @@
 //! Each call of a view at every head of a byte and every length up to 17 bits, beside plain loops over lists.
 ghost use Rattle.std.specs.Prelude.{◌+◌, ◌≤◌};
 
-use crate::tests::check;
-use crate::tests::orders::{Scramble, Xor4};
-use crate::tests::sweeps::bits_of;
+use crate::common::{bits_of, check};
+use crate::orders::{Scramble, Xor4};
 use bit_addressing::{BitOrder, Lsb0, Msb0};
 use bit_slice::{BitSlice, run_mut};
 use std::cmp::Ordering;

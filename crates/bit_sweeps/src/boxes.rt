@@ -3,9 +3,8 @@ ghost use Rattle.std.specs.Prelude.{◌+◌, ◌<◌};
 
 mod given;
 
-use crate::tests::orders::{Scramble, Xor4};
-use crate::tests::sweeps::{By, row_of, words_of};
-use crate::tests::{check, ok};
+use crate::common::{By, check, ok, row_of, words_of};
+use crate::orders::{Scramble, Xor4};
 use bit_addressing::{BitOrder, BitStore, Lsb0, Msb0};
 use bit_boxed::BitBox;
 use bit_slice::BitSlice;

@@ -1,9 +1,8 @@
 //! Searches, indices, sets and changes of views at each head of a byte and lengths up to 17, beside plain loops.
 ghost use Rattle.std.specs.Prelude.{◌+◌, ◌≤◌, ◌<◌};
 
-use crate::tests::check;
-use crate::tests::orders::Xor4;
-use crate::tests::sweeps::bits_of;
+use crate::common::{bits_of, check};
+use crate::orders::Xor4;
 use bit_addressing::{BitOrder, Lsb0, Msb0};
 use bit_slice::{BitSlice, run_mut};
 use std::process::Abort;

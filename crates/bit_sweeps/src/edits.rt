@@ -1,9 +1,8 @@
 //! Single bits put in, taken out and written, and the list cut.
 ghost use Rattle.std.specs.Prelude.{◌<◌};
 
-use crate::tests::orders::{Scramble, Xor4};
-use crate::tests::sweeps::{Case, at_head, replaced, same, shows};
-use crate::tests::{check, ok};
+use crate::common::{Case, at_head, check, ok, replaced, same, shows};
+use crate::orders::{Scramble, Xor4};
 use bit_containers::{BitOrder, BitStore, Lsb0, Msb0};
 use std::process::Abort;
 
@@ -21,7 +20,6 @@ fn joined<T: BitStore, O: BitOrder>(rt: &(impl Abort + AllocGlobal), head: usize
         check(rt, shows(rt, &v, head, &wanted, &row));
         for at in 0..len + 1 {
             let Case { mut v, list, .. } = at_head::<T, O>(rt, SEED, head, len);
-            assert!(rt; at <= v.len());
             ok(rt, v.insert(at, bit));
             let wanted = replaced(rt, &list, at, at, &[bit]);
             check(rt, same(&v, head, &wanted));
@@ -52,7 +50,6 @@ fn removed<T: BitStore, O: BitOrder>(
     requires at { at < len }
 {
     let Case { mut v, list, .. } = at_head::<T, O>(rt, SEED, head, len);
-    assert!(rt; at < v.len());
     check(rt, Some(v.remove(at)) == list.get(at).copied());
     let wanted = replaced(rt, &list, at, at + 1, &[]);
     check(rt, same(&v, head, &wanted));
@@ -70,7 +67,6 @@ fn swapped_out<T: BitStore, O: BitOrder>(
     requires at { at < len }
 {
     let Case { mut v, list, .. } = at_head::<T, O>(rt, SEED, head, len);
-    assert!(rt; at < v.len());
     check(rt, Some(v.swap_remove(at)) == list.get(at).copied());
     let last = list.last().copied().unwrap_or(false);
     let wanted = replaced(rt, &list, at, at + 1, &[last]);
@@ -126,8 +122,6 @@ fn exchanged<T: BitStore, O: BitOrder>(rt: &(impl Abort + AllocGlobal), head: us
     for i in 0..len {
         for j in 0..len {
             let Case { mut v, list, row } = at_head::<T, O>(rt, SEED, head, len);
-            assert!(rt; i < v.len());
-            assert!(rt; j < v.len());
             v.swap(i, j);
             let (first, second) = (list.get(i).copied(), list.get(j).copied());
             let wanted = replaced(rt, &list, i, i + 1, &[second.unwrap_or(false)]);

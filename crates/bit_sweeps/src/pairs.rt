@@ -1,9 +1,8 @@
 //! Two lists combined, compared and written over one another.
 ghost use Rattle.std.specs.Prelude.{◌<◌};
 
-use crate::tests::orders::{Scramble, Xor4};
-use crate::tests::sweeps::{By, Case, at_head, part, replaced, shows};
-use crate::tests::{check, ok};
+use crate::common::{By, Case, at_head, check, ok, part, replaced, shows};
+use crate::orders::{Scramble, Xor4};
 use bit_containers::{BitOrder, BitSlice, BitStore, BitVec, Lsb0, Msb0};
 use std::cmp::Ordering;
 use std::hash::{DefaultHasher, Hash, Hasher};
@@ -77,7 +76,7 @@ fn operated_in<T: BitStore, O: BitOrder>(
         1 => by_assignment(&mut v, right.v, by),
         _ => by_view(&mut v, right.v.as_bitslice(), by),
     }
-    assert!(rt; shows(rt, &v, head, &wanted, &row), "way {way}");
+    check(rt, shows(rt, &v, head, &wanted, &row));
 }
 
 /// Two vectors combined by the operators, and by the calls that take a view of any type.

@@ -1,10 +1,9 @@
 //! What is read of a list: items, counts, parts, iterators and texts.
 ghost use Rattle.std.specs.Prelude.{◌<◌, ◌≤◌};
 
-use crate::tests::orders::{Scramble, Xor4};
-use crate::tests::radix::{In, Radix};
-use crate::tests::sweeps::{Case, at_head, part};
-use crate::tests::{check, ok};
+use crate::common::{Case, at_head, check, ok, part};
+use crate::orders::{Scramble, Xor4};
+use crate::radix::{In, Radix};
 use bit_containers::{BitOrder, BitStore, BitVec, Lsb0, Msb0};
 use std::process::Abort;
 
@@ -66,11 +65,11 @@ fn passed_over<T: BitStore, O: BitOrder>(rt: &(impl Abort + AllocGlobal), head: 
             let mut lent = v.iter();
             check(rt, lent.nth(front) == first);
             check(rt, lent.nth_back(back) == last);
-            assert!(rt; lent.len() == left);
+            check(rt, lent.len() == left);
             let mut kept = v.into_iter();
             check(rt, kept.nth(front) == first);
             check(rt, kept.nth_back(back) == last);
-            assert!(rt; kept.len() == left);
+            check(rt, kept.len() == left);
             for i in 0..left {
                 check(rt, kept.next() == rest.get(i).copied());
             }

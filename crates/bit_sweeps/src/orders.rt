@@ -1,10 +1,11 @@
 //! Orders that a user writes, by which the sweeps go too, and words that containers hold by them.
-ghost use Rattle.std.specs.Prelude.{◌+◌, ◌*◌, ◌%◌, bit_xor, refl};
+ghost use Rattle.std.specs.Prelude.{◌≡◌, ◌+◌, ◌*◌, ◌%◌, bit_xor, length, refl};
 ghost use Rattle.bit_addressing.specs.Order.{lawful_by_test};
 
-use crate::tests::{check, of, ok};
+use crate::common::{check, ok};
 use bit_addressing::{BitIdx, BitOrder, BitPos, BitStore};
 use bit_boxed::BitBox;
+use bit_containers::BitVec;
 use std::boxed::BoxedSlice;
 use std::process::Abort;
 
@@ -34,13 +35,24 @@ impl BitOrder for Scramble {
     }
 }
 
+/// A vector of the bits that these digits write, appended one by one.
+fn of<T: BitStore, O: BitOrder>(rt: &(impl Abort + AllocGlobal), digits: &[u8]) -> BitVec<T, O>
+    ensures { length result.list ≡ length digits.now }
+{
+    let mut v = BitVec::new(rt.alloc());
+    for digit in digits {
+        ok(rt, v.push(*digit == b'1'));
+    }
+    assert!(rt; v.len() == digits.len());
+    v
+}
+
 #[test]
 fn boxes_by_orders_of_a_user(rt: HostRuntime) {
     let words: BoxedSlice<u8> = ok(&rt, vec![in rt.alloc(); 0xb1, 0x6d]).into_boxed_slice();
     let Ok(mut b) = BitBox::<u8, Xor4>::try_from_boxed_slice(words) else {
         panic!(rt; "two words have few bits");
     };
-    assert!(rt; b.len() == 16);
     b.copy_within(1..12, 3);
     check(&rt, b.as_raw_slice() == [0xb6, 0x8d].as_slice());
     let bits = [true, true, false, false, true];
@@ -60,7 +72,6 @@ fn vectors_by_orders_of_a_user(rt: HostRuntime) {
     check(&rt, v.as_raw_slice() == [0x0188].as_slice());
     let mut v = of::<u8, Xor4>(&rt, b"1101100001101011");
     check(&rt, v.as_raw_slice() == [0xb1, 0x6d].as_slice());
-    assert!(rt; v.len() == 16);
     v.copy_within(1..12, 3);
     check(&rt, v.as_raw_slice() == [0xb6, 0x8d].as_slice());
 }

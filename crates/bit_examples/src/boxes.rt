@@ -312,6 +312,12 @@ fn iterator_seen(rt: HostRuntime) {
     check(&rt, bits.next_back() == Some(true));
     let text = ok(&rt, format!(in rt.alloc(); "{bits:?}"));
     check(&rt, text.as_str() == "IntoIter([1, 1, 0, 0])");
+}
+
+#[test]
+fn views_of_an_iterator(rt: HostRuntime) {
+    let mut bits = first_bits(&rt, 0x26, 6).into_iter();
+    check(&rt, bits.nth(1) == Some(true));
     check(&rt, bits.as_bitslice().count_ones() == 2);
     check(&rt, bits.as_slice().len() == 4);
     let copy = ok(&rt, bits.clone());

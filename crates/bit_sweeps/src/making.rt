@@ -5,9 +5,23 @@ use crate::common::{Case, at_head, check, ok, part, row_of, shows, words_of};
 use crate::orders::{Scramble, Xor4};
 use bit_containers::array::BitArray;
 use bit_containers::{BitOrder, BitStore, BitVec, Lsb0, Msb0};
+use std::alloc::AllocError;
 use std::process::Abort;
 
 const SEED: u64 = 0x0f1e_2d3c_4b5a_6978;
+
+/// That what a call made is a vector of this list from this head on, with no other bit, and equal to another.
+fn is_copy<T: BitStore, O: BitOrder>(
+    rt: &(impl Abort + AllocGlobal),
+    v: &BitVec<T, O>,
+    head: usize,
+    list: &[bool],
+    made: Result<BitVec<T, O>, AllocError>,
+) {
+    let copy = ok(rt, made);
+    check(rt, shows(rt, &copy, head, list, &[]));
+    check(rt, copy == *v);
+}
 
 /// Copies of the list: those that begin at the beginning, and one that keeps the head. Their dead bits are false.
 fn copied<T: BitStore, O: BitOrder>(rt: &(impl Abort + AllocGlobal), head: usize, len: usize)
@@ -16,21 +30,15 @@ fn copied<T: BitStore, O: BitOrder>(rt: &(impl Abort + AllocGlobal), head: usize
 {
     let Case { v, list, row } = at_head::<T, O>(rt, SEED, head, len);
     let bits = part(rt, &list, 0, len);
-    for copy in [
-        ok(rt, v.clone()),
-        ok(rt, BitVec::from_bitslice(rt.alloc(), v.as_bitslice())),
-        ok(rt, BitVec::from_bits(rt.alloc(), v.iter())),
-        ok(rt, BitVec::from_bits(rt.alloc(), bits)),
-    ] {
-        check(rt, shows(rt, &copy, 0, &list, &[]));
-        check(rt, copy == v);
-    }
-    let copy = ok(
-        rt,
-        BitVec::from_bitslice_headed(rt.alloc(), v.as_bitslice()),
-    );
-    check(rt, shows(rt, &copy, head, &list, &[]));
-    check(rt, copy == v);
+    is_copy(rt, &v, 0, &list, v.clone());
+    let view = v.as_bitslice();
+    is_copy(rt, &v, 0, &list, BitVec::from_bitslice(rt.alloc(), view));
+    let headed = BitVec::from_bitslice_headed(rt.alloc(), view);
+    is_copy(rt, &v, head, &list, headed);
+    let copy = ok(rt, BitVec::from_bits(rt.alloc(), v.iter()));
+    is_copy(rt, &v, 0, &list, Ok(copy));
+    let copy = ok(rt, BitVec::from_bits(rt.alloc(), bits));
+    is_copy(rt, &v, 0, &list, Ok(copy));
     check(rt, shows(rt, &v, head, &list, &row));
 }
 

@@ -206,6 +206,23 @@ fn compared<T: BitStore, O: BitOrder>(
         && fed.finish() == wanted.finish()
 }
 
+/// A vector compared with its own first bits, of which the last one may be flipped.
+fn ordered_by_a_part<T: BitStore, O: BitOrder>(
+    rt: &(impl Abort + AllocGlobal),
+    a: &Case<T, O>,
+    size: usize,
+    flips: bool,
+) {
+    let mut list = part(rt, &a.list, 0, size);
+    if flips && let Some(last) = list.pop() {
+        ok(rt, list.push(!last));
+    }
+    let bits = part(rt, &list, 0, size);
+    let first = ok(rt, BitVec::<T, O>::from_bits(rt.alloc(), bits));
+    check(rt, compared(&a.v, &first, &a.list, &list));
+    check(rt, compared(&first, &a.v, &list, &a.list));
+}
+
 /// A vector compared with others of each length: with mixed bits, with its own first bits, and with these and one
 /// of them flipped.
 fn ordered<T: BitStore, O: BitOrder>(rt: &(impl Abort + AllocGlobal), head: usize, len: usize)
@@ -217,23 +234,8 @@ fn ordered<T: BitStore, O: BitOrder>(rt: &(impl Abort + AllocGlobal), head: usiz
         let b = at_head::<T, O>(rt, OTHER, (3 * head + size) % 8, size);
         check(rt, compared(&a.v, &b.v, &a.list, &b.list));
         check(rt, compared(&b.v, &a.v, &b.list, &a.list));
-        let list = part(rt, &a.list, 0, size);
-        let bits = part(rt, &list, 0, size);
-        let mut first = ok(rt, BitVec::<T, O>::from_bits(rt.alloc(), bits));
-        check(rt, compared(&a.v, &first, &a.list, &list));
-        check(rt, compared(&first, &a.v, &list, &a.list));
-        if let Some(last) = first.pop() {
-            ok(rt, first.push(!last));
-            let list = replaced(
-                rt,
-                &list,
-                list.len().saturating_sub(1),
-                list.len(),
-                &[!last],
-            );
-            check(rt, compared(&a.v, &first, &a.list, &list));
-            check(rt, compared(&first, &a.v, &list, &a.list));
-        }
+        ordered_by_a_part(rt, &a, size, false);
+        ordered_by_a_part(rt, &a, size, true);
     }
 }
 

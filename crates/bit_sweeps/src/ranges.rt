@@ -42,12 +42,12 @@ fn gives_all<T: BitStore, O: BitOrder>(
     requires ordered { from ≤ upto }
     requires within { upto ≤ length v.old.list }
 {
-    let drain = v.drain(from..upto);
+    let mut drain = v.drain(from..upto);
     let mut right = drain.len() == bits.len();
-    for (i, bit) in drain.enumerate() {
-        right = right && bits.get(i) == Some(&bit);
+    for bit in bits {
+        right = drain.next() == Some(*bit) && right;
     }
-    right
+    drain.next().is_none() && right
 }
 
 /// Whether a range gives these bits from the end, each once.

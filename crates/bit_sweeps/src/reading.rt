@@ -117,6 +117,18 @@ fn parts<T: BitStore, O: BitOrder>(rt: &(impl Abort + AllocGlobal), head: usize,
     }
 }
 
+/// The text of a list, in brackets, with a comma between two bits.
+fn text_of(rt: &(impl Abort + AllocGlobal), list: &[bool]) -> String {
+    let mut text = String::new(rt.alloc());
+    ok(rt, text.push_str("["));
+    for (i, bit) in list.iter().enumerate() {
+        ok(rt, text.push_str(if i > 0 { ", " } else { "" }));
+        ok(rt, text.push_str(if *bit { "1" } else { "0" }));
+    }
+    ok(rt, text.push_str("]"));
+    text
+}
+
 /// The digits of a list, one for each group of `width` bits, where the bit that comes first weighs most.
 fn digits_of(rt: &(impl Abort + AllocGlobal), list: &[bool], width: u8, digits: &str) -> Vec<u8> {
     let mut text = Vec::new(rt.alloc());
@@ -149,15 +161,20 @@ fn written<T: BitStore, O: BitOrder>(rt: &(impl Abort + AllocGlobal), head: usiz
     requires len { len < 18 }
 {
     let Case { v, list, .. } = at_head::<T, O>(rt, SEED, head, len);
-    let mut wanted = String::new(rt.alloc());
-    ok(rt, wanted.push_str("["));
-    for (i, bit) in list.iter().enumerate() {
-        ok(rt, wanted.push_str(if i > 0 { ", " } else { "" }));
-        ok(rt, wanted.push_str(if *bit { "1" } else { "0" }));
-    }
-    ok(rt, wanted.push_str("]"));
     let text = ok(rt, format!(in rt.alloc(); "{v}"));
-    check(rt, text.as_str() == wanted.as_str());
+    check(rt, text.as_str() == text_of(rt, &list).as_str());
+}
+
+/// The same in each radix.
+fn written_in_a_radix<T: BitStore, O: BitOrder>(
+    rt: &(impl Abort + AllocGlobal),
+    head: usize,
+    len: usize,
+)
+    requires head { head < 8 }
+    requires len { len < 18 }
+{
+    let Case { v, list, .. } = at_head::<T, O>(rt, SEED, head, len);
     for (radix, width, digits) in [
         (Radix::Binary, 1, "01"),
         (Radix::Octal, 3, "01234567"),
@@ -182,6 +199,8 @@ fn reading_at_each_head(rt: HostRuntime) {
             passed_over::<u16, Xor4>(&rt, head, len);
             written::<u8, Lsb0>(&rt, head, len);
             written::<u8, Msb0>(&rt, head, len);
+            written_in_a_radix::<u8, Lsb0>(&rt, head, len);
+            written_in_a_radix::<u8, Msb0>(&rt, head, len);
         }
     }
 }

@@ -256,6 +256,18 @@ fn changes<O: BitOrder>(rt: &impl Abort, head: usize, len: usize)
     }
 }
 
+/// That a part of a view has its bits from an index on.
+fn is_part<O: BitOrder>(
+    rt: &impl Abort,
+    view: BitSlice<'_, u8, O>,
+    part: BitSlice<'_, u8, O>,
+    at: usize,
+) {
+    for j in 0..part.len() {
+        check(rt, view.get(at.wrapping_add(j)) == part.get(j));
+    }
+}
+
 /// The parts of a view, one after another.
 fn parts<O: BitOrder>(rt: &impl Abort, head: usize, len: usize, size: usize)
     requires run { head + len ≤ 24 }
@@ -265,23 +277,27 @@ fn parts<O: BitOrder>(rt: &impl Abort, head: usize, len: usize, size: usize)
     let view = BitSlice::<u8, O>::from_slice(&words).get_range(head..head + len);
     let mut at = 0usize;
     for part in view.chunks(size) {
-        for j in 0..part.len() {
-            check(rt, view.get(at.wrapping_add(j)) == part.get(j));
-        }
+        is_part(rt, view, part, at);
         at = at.wrapping_add(part.len());
     }
     check(rt, at == len);
     for part in view.rchunks(size) {
         at = at.wrapping_sub(part.len());
-        for j in 0..part.len() {
-            check(rt, view.get(at.wrapping_add(j)) == part.get(j));
-        }
+        is_part(rt, view, part, at);
     }
     check(rt, at == 0);
+}
+
+/// The parts of a view of one length.
+fn parts_of_one_length<O: BitOrder>(rt: &impl Abort, head: usize, len: usize, size: usize)
+    requires run { head + len ≤ 24 }
+    requires some { 0 < size }
+{
+    let words = WORDS;
+    let view = BitSlice::<u8, O>::from_slice(&words).get_range(head..head + len);
+    let mut at = 0usize;
     for part in view.windows(size) {
-        for j in 0..part.len() {
-            check(rt, view.get(at.wrapping_add(j)) == part.get(j));
-        }
+        is_part(rt, view, part, at);
         at = at.wrapping_add(1);
     }
     check(rt, at == (len + 1).saturating_sub(size));
@@ -361,6 +377,7 @@ fn each<O: BitOrder>(rt: &impl Abort, head: usize, len: usize)
     found_in::<O>(rt, head, len);
     for size in [1, 3, 8] {
         parts::<O>(rt, head, len, size);
+        parts_of_one_length::<O>(rt, head, len, size);
     }
     changes::<O>(rt, head, len);
     for other in [0, 5, len, 24] {

@@ -6,7 +6,7 @@ use bit_slice::BitSlice;
 use std::cmp::Ordering;
 
 #[test]
-fn bits_and_parts(rt: HostRuntime) {
+fn single_bits(rt: HostRuntime) {
     let mut a = BitArray::<[u8; 2], Msb0>::new([0x80, 0x01]);
     check(&rt, !a.replace(1, true));
     a.swap(0, 8);
@@ -14,11 +14,21 @@ fn bits_and_parts(rt: HostRuntime) {
     check(&rt, a.count_zeros() == 13);
     check(&rt, a.any());
     check(&rt, !a.all());
+}
+
+#[test]
+fn a_part(rt: HostRuntime) {
+    let a = BitArray::<[u8; 2], Msb0>::new([0x40, 0x81]);
     let part = a.get_range(6..10);
     check(&rt, part.head() == 6);
     check(&rt, part.len() == 4);
     check(&rt, part.get(2) == Some(true));
     check(&rt, part.count_ones() == 1);
+}
+
+#[test]
+fn compared_with_views(rt: HostRuntime) {
+    let a = BitArray::<[u8; 2], Msb0>::new([0x40, 0x81]);
     let same = [0x4081_u16];
     check(&rt, a.eq_bits(BitSlice::<u16, Msb0>::from_slice(&same)));
     let next = [0x4082_u16];

@@ -65,7 +65,14 @@ fn beside_a_view(rt: HostRuntime) {
     check(&rt, b.intersects(other));
     check(&rt, !b.is_disjoint(other));
     check(&rt, !b.is_subset(other));
-    let part = other.get_range(0..3);
+}
+
+#[test]
+fn above_a_view(rt: HostRuntime) {
+    let (words, others) = ([0x68_u8], [0x0066_u16]);
+    let view = BitSlice::<u8, Msb0>::from_slice(&words).get_range(0..5);
+    let b = ok(&rt, BitBox::from_bitslice(rt.alloc(), view));
+    let part = BitSlice::<u16, Lsb0>::from_slice(&others).get_range(0..3);
     check(&rt, b.is_superset(part));
     check(&rt, part.is_subset(b.as_bitslice()));
 }

@@ -37,6 +37,11 @@ fn beside_a_view(rt: HostRuntime) {
     check(&rt, v.intersects(other));
     check(&rt, !v.is_disjoint(other));
     check(&rt, !v.is_subset(other));
+}
+
+#[test]
+fn above_a_view(rt: HostRuntime) {
+    let v = of::<u8, Msb0>(&rt, b"01101");
     let part = of::<u64, Lsb0>(&rt, b"011");
     check(&rt, v.is_superset(part.as_bitslice()));
     check(&rt, part.is_subset(v.as_bitslice()));

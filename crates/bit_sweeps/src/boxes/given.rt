@@ -8,26 +8,33 @@ use bit_addressing::{BitOrder, BitStore};
 use bit_boxed::{BitBox, IntoIter};
 use std::process::Abort;
 
+/// That a copy of a box has its list from head 0 on, in words for it alone, and no other bit.
+fn copied_clean<T: BitStore, O: BitOrder>(
+    rt: &(impl Abort + AllocGlobal),
+    b: &BitBox<T, O>,
+    copy: BitBox<T, O>,
+) {
+    let len = b.len();
+    assert!(rt; len < 18);
+    let clean = owned(rt, &copy);
+    check(rt, shows(&copy, &clean, 0, len));
+    check(rt, copy == *b);
+    check(rt, clean.len() < len + T::BITS as usize);
+    for (j, bit) in clean.iter().enumerate() {
+        check(rt, *bit == b.get(j).unwrap_or(false));
+    }
+}
+
 /// Copies, from head 0 on, of the list alone; the words given up and taken back.
 pub(crate) fn taken<T: BitStore, O: BitOrder>(rt: &(impl Abort + AllocGlobal), b: BitBox<T, O>) {
-    let (head, len) = (b.head(), b.len());
-    assert!(rt; head < 8);
-    assert!(rt; len < 18);
     let row = owned(rt, &b);
-    for copy in [
-        ok(rt, b.clone()),
+    copied_clean(rt, &b, ok(rt, b.clone()));
+    copied_clean(
+        rt,
+        &b,
         ok(rt, BitBox::from_bitslice(rt.alloc(), b.as_bitslice())),
-        ok(rt, BitBox::from_bits(rt.alloc(), b.iter())),
-    ] {
-        let clean = owned(rt, &copy);
-        check(rt, shows(&copy, &clean, 0, len));
-        check(rt, copy == b);
-        assert!(rt; clean.len() < len + T::BITS as usize);
-        for (j, bit) in clean.iter().enumerate() {
-            let wanted = j < len && row.get(head.wrapping_add(j)).copied().unwrap_or(false);
-            check(rt, *bit == wanted);
-        }
-    }
+    );
+    copied_clean(rt, &b, ok(rt, BitBox::from_bits(rt.alloc(), b.iter())));
     let words = b.into_boxed_slice();
     let Ok(back) = BitBox::<T, O>::try_from_boxed_slice(words) else {
         panic!(rt; "some words have few bits");

@@ -213,3 +213,46 @@ pub(crate) fn shows<T: BitStore, O: BitOrder>(
     }
     right
 }
+
+/// The text of a list, in brackets, with a comma between two bits.
+pub(crate) fn text_of(rt: &(impl Abort + AllocGlobal), list: &[bool]) -> String {
+    let mut text = String::new(rt.alloc());
+    ok(rt, text.push_str("["));
+    for (i, bit) in list.iter().enumerate() {
+        ok(rt, text.push_str(if i > 0 { ", " } else { "" }));
+        ok(rt, text.push_str(if *bit { "1" } else { "0" }));
+    }
+    ok(rt, text.push_str("]"));
+    text
+}
+
+/// The digits of a list, one for each group of `width` bits, where the bit that comes first weighs most.
+pub(crate) fn digits_of(
+    rt: &(impl Abort + AllocGlobal),
+    list: &[bool],
+    width: u8,
+    digits: &[u8],
+) -> Vec<u8> {
+    let mut text = Vec::new(rt.alloc());
+    ok(rt, text.push(b'['));
+    let (mut value, mut held) = (0u8, 0u8);
+    for bit in list {
+        value = value.wrapping_mul(2).wrapping_add(*bit as u8);
+        held = held.wrapping_add(1);
+        if held == width {
+            ok(
+                rt,
+                text.push(digits.get(value as usize).copied().unwrap_or(0)),
+            );
+            (value, held) = (0, 0);
+        }
+    }
+    if held > 0 {
+        ok(
+            rt,
+            text.push(digits.get(value as usize).copied().unwrap_or(0)),
+        );
+    }
+    ok(rt, text.push(b']'));
+    text
+}

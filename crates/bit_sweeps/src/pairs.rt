@@ -1,7 +1,7 @@
 //! Two lists combined, compared and written over one another.
 ghost use Rattle.std.specs.Prelude.{◌<◌};
 
-use crate::common::{By, Case, at_head, check, ok, part, replaced, shows};
+use crate::common::{By, Case, at_head, check, ok, part, shows};
 use crate::orders::{Scramble, Xor4};
 use bit_containers::{BitOrder, BitSlice, BitStore, BitVec, Lsb0, Msb0};
 use std::cmp::Ordering;

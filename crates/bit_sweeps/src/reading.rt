@@ -1,7 +1,7 @@
 //! What is read of a list: items, counts, parts, iterators and texts.
 ghost use Rattle.std.specs.Prelude.{◌<◌, ◌≤◌};
 
-use crate::common::{Case, at_head, check, ok, part};
+use crate::common::{Case, at_head, check, digits_of, ok, part, text_of};
 use crate::orders::{Scramble, Xor4};
 use crate::radix::{In, Radix};
 use bit_containers::{BitOrder, BitStore, BitVec, Lsb0, Msb0};
@@ -117,44 +117,6 @@ fn parts<T: BitStore, O: BitOrder>(rt: &(impl Abort + AllocGlobal), head: usize,
     }
 }
 
-/// The text of a list, in brackets, with a comma between two bits.
-fn text_of(rt: &(impl Abort + AllocGlobal), list: &[bool]) -> String {
-    let mut text = String::new(rt.alloc());
-    ok(rt, text.push_str("["));
-    for (i, bit) in list.iter().enumerate() {
-        ok(rt, text.push_str(if i > 0 { ", " } else { "" }));
-        ok(rt, text.push_str(if *bit { "1" } else { "0" }));
-    }
-    ok(rt, text.push_str("]"));
-    text
-}
-
-/// The digits of a list, one for each group of `width` bits, where the bit that comes first weighs most.
-fn digits_of(rt: &(impl Abort + AllocGlobal), list: &[bool], width: u8, digits: &str) -> Vec<u8> {
-    let mut text = Vec::new(rt.alloc());
-    ok(rt, text.push(b'['));
-    let (mut value, mut held) = (0u8, 0u8);
-    for bit in list {
-        value = value.wrapping_mul(2).wrapping_add(*bit as u8);
-        held = held.wrapping_add(1);
-        if held == width {
-            ok(
-                rt,
-                text.push(digits.as_bytes().get(value as usize).copied().unwrap_or(0)),
-            );
-            (value, held) = (0, 0);
-        }
-    }
-    if held > 0 {
-        ok(
-            rt,
-            text.push(digits.as_bytes().get(value as usize).copied().unwrap_or(0)),
-        );
-    }
-    ok(rt, text.push(b']'));
-    text
-}
-
 /// The text of a vector, and its digits by one, three and four bits.
 fn written<T: BitStore, O: BitOrder>(rt: &(impl Abort + AllocGlobal), head: usize, len: usize)
     requires head { head < 8 }
@@ -176,10 +138,10 @@ fn written_in_a_radix<T: BitStore, O: BitOrder>(
 {
     let Case { v, list, .. } = at_head::<T, O>(rt, SEED, head, len);
     for (radix, width, digits) in [
-        (Radix::Binary, 1, "01"),
-        (Radix::Octal, 3, "01234567"),
-        (Radix::LowerHex, 4, "0123456789abcdef"),
-        (Radix::UpperHex, 4, "0123456789ABCDEF"),
+        (Radix::Binary, 1, b"01".as_slice()),
+        (Radix::Octal, 3, b"01234567".as_slice()),
+        (Radix::LowerHex, 4, b"0123456789abcdef".as_slice()),
+        (Radix::UpperHex, 4, b"0123456789ABCDEF".as_slice()),
     ] {
         let wanted = digits_of(rt, &list, width, digits);
         let digits = In(&v, radix);

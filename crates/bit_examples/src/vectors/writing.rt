@@ -1,5 +1,4 @@
 //! The writing calls of a view that the vector has itself.
-use crate::common::check;
 use crate::vectors::{holds, of, shows};
 use bit_containers::{BitVec, Lsb0};
 use bit_slice::BitSlice;

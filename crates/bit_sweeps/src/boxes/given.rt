@@ -2,7 +2,7 @@
 ghost use Rattle.std.specs.Prelude.{◌+◌, ◌<◌};
 
 use crate::boxes::{copied, owned, shows};
-use crate::common::{check, ok};
+use crate::common::{check, digits_of, ok, text_of};
 use crate::radix::{In, Radix};
 use bit_addressing::{BitOrder, BitStore};
 use bit_boxed::{BitBox, IntoIter};
@@ -44,46 +44,15 @@ pub(crate) fn taken<T: BitStore, O: BitOrder>(rt: &(impl Abort + AllocGlobal), b
     check(rt, shows(&back, &row, 0, back.len()));
 }
 
-/// The digits of a list, one for each group of `width` bits, where the bit that comes first weighs most.
-fn digits_of<T: BitStore, O: BitOrder>(
+/// The bits of a box, one by one.
+fn list_of<T: BitStore, O: BitOrder>(
     rt: &(impl Abort + AllocGlobal),
     b: &BitBox<T, O>,
-    width: u8,
-    digits: &[u8],
-) -> Vec<u8> {
-    let mut text = Vec::new(rt.alloc());
-    ok(rt, text.push(b'['));
-    let (mut value, mut held) = (0u8, 0u8);
-    for bit in b.iter() {
-        value = value.wrapping_mul(2).wrapping_add(bit as u8);
-        held = held.wrapping_add(1);
-        if held == width {
-            ok(
-                rt,
-                text.push(digits.get(value as usize).copied().unwrap_or(0)),
-            );
-            (value, held) = (0, 0);
-        }
+) -> Vec<bool> {
+    let mut list = Vec::new(rt.alloc());
+    for bit in b {
+        ok(rt, list.push(bit));
     }
-    if held > 0 {
-        ok(
-            rt,
-            text.push(digits.get(value as usize).copied().unwrap_or(0)),
-        );
-    }
-    ok(rt, text.push(b']'));
-    text
-}
-
-/// The text of a list, in brackets, with a comma between two bits.
-fn text_of<T: BitStore, O: BitOrder>(rt: &(impl Abort + AllocGlobal), b: &BitBox<T, O>) -> String {
-    let mut list = String::new(rt.alloc());
-    ok(rt, list.push_str("["));
-    for (i, bit) in b.iter().enumerate() {
-        ok(rt, list.push_str(if i > 0 { ", " } else { "" }));
-        ok(rt, list.push_str(if bit { "1" } else { "0" }));
-    }
-    ok(rt, list.push_str("]"));
     list
 }
 
@@ -95,7 +64,7 @@ fn told_in<T: BitStore, O: BitOrder>(
     width: u8,
     digits: &[u8],
 ) {
-    let wanted = digits_of(rt, b, width, digits);
+    let wanted = digits_of(rt, &list_of(rt, b), width, digits);
     let written = In(b, radix);
     let text = ok(rt, format!(in rt.alloc(); "{written}"));
     check(rt, text.as_bytes() == wanted.as_slice());
@@ -104,7 +73,7 @@ fn told_in<T: BitStore, O: BitOrder>(
 /// The text of a box, and its digits by one, three and four bits.
 pub(crate) fn told<T: BitStore, O: BitOrder>(rt: &(impl Abort + AllocGlobal), b: &BitBox<T, O>) {
     let text = ok(rt, format!(in rt.alloc(); "{b}"));
-    check(rt, text.as_str() == text_of(rt, b).as_str());
+    check(rt, text.as_str() == text_of(rt, &list_of(rt, b)).as_str());
     told_in(rt, b, Radix::Binary, 1, b"01");
     told_in(rt, b, Radix::Octal, 3, b"01234567");
     told_in(rt, b, Radix::LowerHex, 4, b"0123456789abcdef");
@@ -143,10 +112,7 @@ fn left<T: BitStore, O: BitOrder>(
 pub(crate) fn given<T: BitStore, O: BitOrder>(rt: &(impl Abort + AllocGlobal), b: &BitBox<T, O>) {
     let len = b.len();
     assert!(rt; len < 18);
-    let mut list = Vec::new(rt.alloc());
-    for bit in b {
-        ok(rt, list.push(bit));
-    }
+    let list = list_of(rt, b);
     assert!(rt; list.len() == len);
     for front in 0..len + 2 {
         for back in 0..len + 2 {

@@ -1,6 +1,7 @@
-//! The users on real data, each call once.
+//! The users on real data, each call once; callers in `callers.rt`.
 ghost use Rattle.std.specs.Prelude.{◌<◌};
 
+mod callers;
 mod frames;
 mod matrices;
 mod sets;

@@ -2,7 +2,6 @@
 //! bytes, and a matrix, whose set bits are also the edges of a graph.
 #![tactic(auto)]
 
-mod callers;
 mod free_map;
 mod matrix;
 mod sequence;

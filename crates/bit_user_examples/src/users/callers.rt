@@ -11,12 +11,12 @@ ghost use Rattle.bit_users.specs.Serving.{IsNeverTwice};
 ghost use Rattle.bit_users.specs.Table.{IsIn, IsPrime};
 ghost use Rattle.bit_users.specs.Wire.{Fits};
 
-use crate::{
+use bit_addressing::{BitOrder, BitStore, GrowError, Msb0};
+use bit_containers::BitVec;
+use bit_users::{
     Fault, FreeMap, Header, Matrix, NumberSet, Reply, Request, are_of_one_list, from_bytes,
     to_bytes,
 };
-use bit_addressing::{BitOrder, BitStore, GrowError, Msb0};
-use bit_containers::BitVec;
 use std::alloc::{AllocError, Global};
 
 /// What is written is read back.
@@ -293,7 +293,7 @@ pub fn served(
 }
 
 /// The odd numbers stay.
-#[tactic(auto, using(crate::proofs::Retaining::in_turn_filter))]
+#[tactic(auto, using(bit_users::proofs::Retaining::in_turn_filter))]
 pub fn odd_kept(set: &mut NumberSet)
     ensures { ones_of set.new ≡ filter (λ number. number % 2 == 1) (ones_of set.old) }
 {

@@ -1,4 +1,4 @@
-//! Examples of each call of the base, of views and of the containers: exact words, lists and replies. All of it
+//! Examples of the base, of views and of the containers: exact words, lists and replies, and most calls once. All of it
 //! is tests.
 #![tactic(auto)]
 
@@ -8,6 +8,8 @@ mod arrays;
 mod boxes;
 #[cfg(test)]
 mod common;
+#[cfg(test)]
+mod radix;
 #[cfg(test)]
 mod rows;
 #[cfg(test)]

@@ -8,6 +8,8 @@ use std::process::Abort;
 #[cfg(test)]
 mod fixed;
 #[cfg(test)]
+mod lines;
+#[cfg(test)]
 mod ranks;
 #[cfg(test)]
 mod records;

@@ -1,15 +1,7 @@
 //! Runs command lines over a vector of bits.
 #![tactic(auto)]
 
-mod parsing;
-mod replying;
-mod serving;
-mod session;
-mod source;
-mod starting;
-#[cfg(test)]
-mod tests;
-
+use bit_lines::start;
 use std::process::ExitCode;
 use std::{env, io};
 
@@ -25,7 +17,7 @@ fn words(rt: &HostRuntime) -> io::Result<Vec<String>> {
 fn main(rt: HostRuntime) -> ExitCode {
     match words(&rt) {
         Ok(words) => {
-            let status = starting::start(rt.alloc(), words.as_slice(), rt.stdin(), rt.stdout());
+            let status = start(rt.alloc(), words.as_slice(), rt.stdin(), rt.stdout());
             ExitCode::from(status)
         }
         Err(_) => ExitCode::from(1),

@@ -69,7 +69,6 @@ fn box_of_a_word_refused(rt: HostRuntime) {
 }
 
 #[test]
-#[tactic(auto, unfolding(bit_addressing::specs::Row::words_for))]
 fn makers_that_take_none(rt: HostRuntime) {
     let words = [0xff_u8];
     let view = BitSlice::<u8, Lsb0>::from_slice(&words).get_range(5..5);
@@ -77,6 +76,11 @@ fn makers_that_take_none(rt: HostRuntime) {
     check(&rt, BitBox::<u8, Lsb0>::empty(rt.alloc()).is_ok());
     check(&rt, BitBox::from_bitslice(rt.alloc(), view).is_ok());
     check(&rt, BitBox::from_bitarray(rt.alloc(), none).is_ok());
+}
+
+#[test]
+#[tactic(auto, unfolding(bit_addressing::specs::Row::words_for))]
+fn makers_of_no_bits(rt: HostRuntime) {
     check(&rt, BitBox::<u8, Lsb0>::from_bits(rt.alloc(), None).is_ok());
     let owned = Vec::<u8>::new(rt.alloc());
     check(&rt, BitBox::<u8, Lsb0>::from_parts(owned, 0, 0).is_ok());

@@ -3,7 +3,7 @@ ghost use Rattle.std.specs.Prelude.{◌≡◌, ◌+◌, ◌*◌, ◌≤◌, leng
 
 use crate::common::check;
 use crate::rows::orders::Xor4;
-use bit_addressing::{BitOrder, BitStore, Lsb0, Msb0, WordRead, WordRow, move_bits};
+use bit_addressing::{BitOrder, BitStore, Lsb0, Msb0, WordRead, WordRow};
 
 // 11 bits over an edge touch two words.
 fn move_up(row: &mut WordRow<u8>)
@@ -123,9 +123,6 @@ fn counted_moves_of_whole_words(rt: HostRuntime) {
 
 #[test]
 fn moves_of_words(rt: HostRuntime) {
-    let mut words = [0xb1u8, 0x6d];
-    move_bits::<u8, Lsb0>(&mut words, 1, 3, 11);
-    check(&rt, words == [0xc1, 0x76]);
     let mut words = [0x07u8];
     let mut row = WordRow::new(&mut words);
     check(&rt, row.row_len() == 8);

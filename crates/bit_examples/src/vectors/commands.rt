@@ -1,6 +1,6 @@
 //! Runs of commands.
 use crate::common::check;
-use bit_containers::{BitOrder, BitStore, BitVec, Command, GrowError, Msb0, Reply, run};
+use bit_containers::{BitOrder, BitStore, BitVec, Command, Msb0, Reply, run};
 use std::process::Abort;
 
 /// That a run of these commands goes to its end, and gives these replies.
@@ -50,6 +50,4 @@ fn runs_of_commands(rt: HostRuntime) {
     ];
     results(&rt, &mut v, &commands, &want);
     check(&rt, v.is_empty());
-    results(&rt, &mut v, &[], &[]);
-    check(&rt, GrowError::TooLong != GrowError::OutOfMemory);
 }

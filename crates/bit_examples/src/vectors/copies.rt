@@ -1,6 +1,6 @@
 //! Copies of views and of vectors.
 use crate::common::{check, ok};
-use crate::vectors::{holds, shows};
+use crate::vectors::shows;
 use bit_containers::{BitSlice, BitVec, Lsb0};
 use std::process::Abort;
 
@@ -15,15 +15,14 @@ fn copy_of_a_vector(rt: HostRuntime) {
     let copy = ok(&rt, v.clone());
     shows(&rt, &copy, &[0xf5]);
     check(&rt, copy.head() == 0);
-    holds(&rt, &copy, b"10101111");
 }
 
 #[test]
 fn copy_of_a_view(rt: HostRuntime) {
-    let words = [0xaf, 0xff];
-    let view = BitSlice::<u8, Lsb0>::from_slice(&words).get_range(3..13);
+    let words = [0xa8, 0x07];
+    let view = BitSlice::<u8, Lsb0>::from_slice(&words).get_range(3..11);
     let copy = ok(&rt, BitVec::from_bitslice(rt.alloc(), view));
-    shows(&rt, &copy, &[0xf5, 0x03]);
+    shows(&rt, &copy, &[0xf5]);
     check(&rt, copy.head() == 0);
 }
 

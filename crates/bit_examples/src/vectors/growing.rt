@@ -8,11 +8,6 @@ fn joined_within(rt: HostRuntime) {
     let mut v = of::<u8, Msb0>(&rt, b"01");
     ok(&rt, v.extend_from_within(..));
     holds(&rt, &v, b"0101");
-    ok(&rt, v.extend_from_within(1..3));
-    holds(&rt, &v, b"010110");
-    ok(&rt, v.extend_from_raw_slice(&[0xc3]));
-    holds(&rt, &v, b"01011011000011");
-    shows(&rt, &v, &[0x5b, 0x0c]);
 }
 
 #[test]

@@ -12,12 +12,4 @@ fn copying_and_aligning(rt: HostRuntime) {
     assert!(rt; v.len() == 16);
     v.copy_within(3..14, 1);
     shows(&rt, &v, &[0x6d, 0x6b]);
-    v.force_align();
-    shows(&rt, &v, &[0x6d, 0x6b]);
-    let mut v = of_words::<Lsb0>(&rt, &[0xb1, 0x6d]);
-    assert!(rt; v.len() == 16);
-    v.as_mut_bitslice()
-        .counted_mut()
-        .copy_within_counted(1..12, 3);
-    shows(&rt, &v, &[0xc1, 0x76]);
 }

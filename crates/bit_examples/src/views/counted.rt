@@ -31,12 +31,11 @@ fn counted_move(rt: HostRuntime) {
     let mut words = [0x05_u8, 0x00, 0xff];
     let mut view = BitSliceMut::<u8, Lsb0>::from_parts_mut(&mut words, 2, 19);
     let mut counted = view.counted_mut();
-    check(&rt, (counted.head(), counted.len()) == (2, 19));
+    check(&rt, counted.head() == 2);
+    check(&rt, counted.len() == 19);
     check(&rt, !counted.is_empty());
-    counted.copy_within_counted(0..3, 8);
-    counted.copy_within_counted(8..=10, 6);
-    check(&rt, view.count_ones() == 7);
-    check(&rt, words == [0x05, 0x01, 0xff]);
+    counted.copy_within_counted(0..=2, 8);
+    check(&rt, words == [0x05, 0x04, 0xff]);
 }
 
 #[test]
@@ -85,13 +84,13 @@ fn eight(words: &[u8; 2]) -> BitSlice<'_, u8, Lsb0>
 fn compared_in_four_reads(rt: HostRuntime) {
     let (first, second, third) = ([0xa8_u8, 0x07], [0xaf_u8, 0xff], [0xa8_u8, 0x03]);
     let mut counted = eight(&first).counted();
-    check(&rt, (counted.head(), counted.len()) == (3, 8));
+    check(&rt, counted.head() == 3);
+    check(&rt, counted.len() == 8);
     check(&rt, !counted.is_empty());
     let mut other = eight(&second).counted();
     check(&rt, compare_in_four(&mut counted, &mut other));
     let mut other = eight(&third).counted();
     check(&rt, !compare_in_four(&mut counted, &mut other));
-    check(&rt, !eight(&first).eq_bits(eight(&third)));
 }
 
 #[test]
@@ -101,8 +100,6 @@ fn ones_counted_in_two_reads(rt: HostRuntime) {
     let byte = [0xff_u8];
     let none = BitSlice::<u8, Lsb0>::from_slice(&byte).get_range(3..3);
     check(&rt, count_in_two(&mut none.counted()) == 0);
-    let mut counted = eight(&words).counted();
-    check(&rt, !counted.eq_counted(&mut none.counted()));
 }
 
 #[test]
@@ -111,6 +108,5 @@ fn compared_at_other_heads(rt: HostRuntime) {
     let aligned = BitSlice::<u8, Lsb0>::from_slice(&byte);
     let mut counted = eight(&words).counted();
     check(&rt, counted.eq_counted(&mut aligned.counted()));
-    check(&rt, aligned.counted().eq_counted(&mut counted));
     check(&rt, eight(&words).eq_bits(aligned));
 }

@@ -1,4 +1,0 @@
-use Rattle.bitrun.proofs.replying.+append_number.Given as goal
-
-abbrev pub decreases-append_number : goal.decreases-append_number
-decreases-append_number l = l.number

@@ -116,6 +116,14 @@ impl Bits {
         total
     }
 
+    /// Ors a number into the 64 bits from a place on; those past the end are false.
+    fn or_at(&mut self, at: usize, number: u64) {
+        self.words[at / 64] |= number << at % 64;
+        if at % 64 != 0 && at / 64 + 1 < self.words.len() {
+            self.words[at / 64 + 1] |= number >> (64 - at % 64);
+        }
+    }
+
     fn shift_left(&mut self, by: usize) {
         let (k, n) = (by / 64, by % 64);
         let count = self.words.len();
@@ -329,6 +337,16 @@ fn views(n: usize, r: usize) {
         }
     };
     timed("rotate_left", r, || row.clone(), rotate, ones);
+    let far = n / 3;
+    let rotate_far = |v: &mut Bits| {
+        let front = v.clone();
+        v.shift_left(far);
+        for i in (0..far).step_by(64) {
+            let count = (far - i).min(64);
+            v.or_at(n - far + i, front.words[i / 64] & !0 >> (64 - count));
+        }
+    };
+    timed("rotate_far", r, || row.clone(), rotate_far, ones);
     timed("shift_left", r, || row.clone(), |v| v.shift_left(1001), ones);
 }
 

@@ -1,31 +1,32 @@
 //! Each call of a box at every head of a byte and every length up to 17 bits, beside plain loops over lists.
-ghost use Rattle.std.specs.Prelude.{◌+◌, ◌<◌, ◌≤◌};
+ghost use Rattle.std.specs.Prelude.{◌+◌, ◌<◌};
 
 mod given;
 
-use crate::common::{
-    By, check, combined, compared, flipped as flipped_list, gives, ok, ones_of, overlay, part,
-    repeated, replaced, row_of, view_of, words_of,
-};
+use crate::common::{By, check, ok, row_of, words_of};
 use crate::orders::{Scramble, Xor4};
-use crate::radix::told;
 use bit_addressing::{BitOrder, BitStore, Lsb0, Msb0};
 use bit_boxed::BitBox;
-use given::{given, taken};
+use bit_slice::BitSlice;
+use given::{given, taken, told};
+use std::cmp::Ordering;
+use std::hash::{DefaultHasher, Hash, Hasher};
 use std::process::Abort;
+
+/// What a call writes over the bits.
+#[derive(Clone, Copy)]
+enum Made {
+    /// This bit at the places.
+    Bit(bool),
+    /// The other bit at the places.
+    Flipped,
+    /// The bits of the row from this place on.
+    Moved(usize),
+}
 
 /// All bits that a box owns, one by one.
 fn owned<T: BitStore, O: BitOrder>(rt: &(impl Abort + AllocGlobal), b: &BitBox<T, O>) -> Vec<bool> {
     row_of::<T, O>(rt, b.as_raw_slice())
-}
-
-/// The list of a box, as its row shows it.
-fn list_of<T: BitStore, O: BitOrder>(
-    rt: &(impl Abort + AllocGlobal),
-    b: &BitBox<T, O>,
-) -> Vec<bool> {
-    let head = b.head();
-    part(rt, &owned(rt, b), head, head.wrapping_add(b.len()))
 }
 
 /// A box of `len` mixed bits that begin at this head.
@@ -38,42 +39,93 @@ fn boxed<T: BitStore, O: BitOrder>(
     requires { head + len < 100 }
 {
     let words = words_of::<T>(rt, seed);
-    let view = view_of::<T, O>(rt, &words, head, len);
-    ok(rt, BitBox::from_bitslice_headed(rt.alloc(), view))
+    let view = ok(rt, BitSlice::<T, O>::try_from_slice(words.as_slice()));
+    assert!(rt; head + len <= view.len());
+    let bits = view.get_range(head..head + len);
+    ok(rt, BitBox::from_bitslice_headed(rt.alloc(), bits))
 }
 
-/// That a box has this list, each item by its index.
-fn holds<T: BitStore, O: BitOrder>(rt: &impl Abort, b: &BitBox<T, O>, list: &[bool]) {
-    check(rt, b.len() == list.len());
-    for (i, bit) in list.iter().enumerate() {
-        check(rt, b.get(i) == Some(*bit));
-        assert!(rt; i < b.len());
-        check(rt, b[i] == *bit);
+/// Whether every call that reads says that the box has the `len` bits of this row from `head` on.
+fn shows<T: BitStore, O: BitOrder>(b: &BitBox<T, O>, row: &[bool], head: usize, len: usize) -> bool
+    requires { head + len < 100 }
+{
+    let mut same = b.len() == len && b.head() == head && b.is_empty() == (len == 0);
+    let (mut ones, mut left) = (0usize, b.iter());
+    for i in 0..len {
+        let bit = row.get(head + i).copied();
+        if bit == Some(true) {
+            ones = ones.wrapping_add(1);
+        }
+        same = same && b.get(i) == bit && left.next() == bit;
+        same = same && i < b.len() && bit == Some(b[i]);
     }
-    check(rt, b.get(list.len()).is_none());
+    let (first, last) = if len == 0 {
+        (None, None)
+    } else {
+        (row.get(head).copied(), row.get(head + len - 1).copied())
+    };
+    same = same && left.next().is_none() && b.get(len).is_none();
+    same && b.count_ones() == ones && b.first() == first && b.last() == last
 }
 
-/// That every call that reads says that a box has this list.
-fn reads<T: BitStore, O: BitOrder>(rt: &impl Abort, b: &BitBox<T, O>, list: &[bool]) {
-    holds(rt, b, list);
-    gives(rt, b.iter(), list);
-    check(rt, b.is_empty() == list.is_empty());
-    check(rt, b.count_ones() == ones_of(list));
-    check(rt, b.first() == list.first().copied());
-    check(rt, b.last() == list.last().copied());
+/// Whether `after` is the row `before`, with this made of the `n` places from `at` on.
+fn is_made(before: &[bool], after: &[bool], at: usize, n: usize, made: Made) -> bool
+    requires { at + n < 100 }
+{
+    let mut same = before.len() == after.len();
+    for (j, bit) in after.iter().enumerate() {
+        let old = before.get(j).copied().unwrap_or(false);
+        let wanted = if at <= j && j < at + n {
+            match made {
+                Made::Bit(bit) => bit,
+                Made::Flipped => !old,
+                Made::Moved(from) => from
+                    .checked_add(j - at)
+                    .and_then(|k| before.get(k))
+                    .copied()
+                    .unwrap_or(false),
+            }
+        } else {
+            old
+        };
+        same = same && *bit == wanted;
+    }
+    same
 }
 
-/// That a box has these bits in all, and `len` of them from `head` on as its list.
-fn shows<T: BitStore, O: BitOrder>(
+/// Whether `after` is the row `before`, with each bit outside the `n` places from `at` on made this one.
+fn is_filled(before: &[bool], after: &[bool], at: usize, n: usize, bit: bool) -> bool
+    requires { at + n < 100 }
+{
+    let mut same = before.len() == after.len();
+    for (j, now) in after.iter().enumerate() {
+        let inside = at <= j && j < at + n;
+        let wanted = if inside {
+            before.get(j).copied()
+        } else {
+            Some(bit)
+        };
+        same = same && Some(*now) == wanted;
+    }
+    same
+}
+
+/// That a box whose bits were `before` has the same head and length, and this made of the `n` places from `at` on.
+fn stands<T: BitStore, O: BitOrder>(
     rt: &(impl Abort + AllocGlobal),
     b: &BitBox<T, O>,
-    row: Vec<bool>,
-    head: usize,
-    len: usize,
-) {
-    check(rt, b.head() == head);
-    check(rt, owned(rt, b) == row);
-    reads(rt, b, &part(rt, &row, head, head.wrapping_add(len)));
+    before: &[bool],
+    at: usize,
+    n: usize,
+    made: Made,
+)
+    requires { at + n < 100 }
+{
+    let after = owned(rt, b);
+    check(rt, is_made(before, &after, at, n, made));
+    let (head, len) = (b.head(), b.len());
+    assert!(rt; head + len < 100);
+    check(rt, shows(b, &after, head, len));
 }
 
 /// One bit written.
@@ -83,24 +135,14 @@ fn set<T: BitStore, O: BitOrder>(
     i: usize,
     bit: bool,
 ) {
+    let before = owned(rt, b);
     let (head, len) = (b.head(), b.len());
-    let at = head.wrapping_add(i);
-    let row = replaced(rt, &owned(rt, b), at, at.wrapping_add(1), &[bit]);
     assert!(rt; i < len);
+    assert!(rt; head + len < 100);
     b.set(i, bit);
-    shows(rt, b, row, head, len);
-}
-
-/// A row of bits, with all of the list of `len` bits from `head` on this one.
-fn with_all(
-    rt: &(impl Abort + AllocGlobal),
-    row: &[bool],
-    head: usize,
-    len: usize,
-    bit: bool,
-) -> Vec<bool> {
-    let list = repeated(rt, bit, len);
-    replaced(rt, row, head, head.wrapping_add(len), &list)
+    check(rt, b.head() == head);
+    assert!(rt; b.len() == len);
+    stands(rt, b, &before, head + i, 1, Made::Bit(bit));
 }
 
 /// All bits written.
@@ -109,10 +151,13 @@ fn filled<T: BitStore, O: BitOrder>(
     b: &mut BitBox<T, O>,
     bit: bool,
 ) {
+    let before = owned(rt, b);
     let (head, len) = (b.head(), b.len());
-    let row = with_all(rt, &owned(rt, b), head, len, bit);
+    assert!(rt; head + len < 100);
     b.fill(bit);
-    shows(rt, b, row, head, len);
+    check(rt, b.head() == head);
+    assert!(rt; b.len() == len);
+    stands(rt, b, &before, head, len, Made::Bit(bit));
 }
 
 /// One bit written, and all bits.
@@ -125,57 +170,37 @@ fn written<T: BitStore, O: BitOrder>(rt: &(impl Abort + AllocGlobal), b: &mut Bi
     filled(rt, b, false);
 }
 
-/// A range of a box copied to a place: what was its row, and what it is then.
-fn moved_to<T: BitStore, O: BitOrder>(
-    rt: &(impl Abort + AllocGlobal),
-    b: &mut BitBox<T, O>,
-    row: Vec<bool>,
-    from: usize,
-    n: usize,
-    dest: usize,
-) -> Vec<bool>
-    requires range { from + n < 18 }
-    requires place { dest + n < 18 }
-{
-    let (head, len) = (b.head(), b.len());
-    assert!(rt; head < 8);
-    assert!(rt; from + n <= len);
-    assert!(rt; dest + n <= len);
-    b.copy_within(from..from + n, dest);
-    let bits = part(rt, &row, head + from, head + from + n);
-    let row = replaced(rt, &row, head + dest, head + dest + n, &bits);
-    check(rt, owned(rt, b) == row);
-    row
-}
-
 /// Each range that has room at each place, copied there.
 fn moved<T: BitStore, O: BitOrder>(rt: &(impl Abort + AllocGlobal), b: &mut BitBox<T, O>) {
     let (head, len) = (b.head(), b.len());
+    assert!(rt; head < 8);
     assert!(rt; len < 18);
-    let mut row = owned(rt, b);
-    for n in 0..len + 1 {
-        for from in 0..len - n + 1 {
-            for dest in 0..len - n + 1 {
-                row = moved_to(rt, b, row, from, n, dest);
+    for from in 0..len + 1 {
+        for upto in from..len + 1 {
+            for dest in 0..len - (upto - from) + 1 {
+                let before = owned(rt, b);
+                assert!(rt; upto <= b.len());
+                assert!(rt; dest <= b.len() - (upto - from));
+                b.copy_within(from..upto, dest);
+                let after = owned(rt, b);
+                let made = Made::Moved(head + from);
+                check(rt, is_made(&before, &after, head + dest, upto - from, made));
             }
         }
     }
-    shows(rt, b, row, head, len);
+    let row = owned(rt, b);
+    check(rt, shows(b, &row, head, len));
 }
 
-/// All bits flipped, dead ones too, and back.
-fn flipped<T: BitStore, O: BitOrder>(
-    rt: &(impl Abort + AllocGlobal),
-    b: BitBox<T, O>,
-) -> BitBox<T, O> {
-    let mut b = b;
+/// All bits flipped, dead ones too.
+fn flipped<T: BitStore, O: BitOrder>(rt: &(impl Abort + AllocGlobal), b: &mut BitBox<T, O>) {
+    let before = owned(rt, b);
     let (head, len) = (b.head(), b.len());
-    let row = owned(rt, &b);
+    assert!(rt; before.len() < 100);
     b.flip_all();
-    shows(rt, &b, flipped_list(rt, &row), head, len);
-    let b = !b;
-    check(rt, owned(rt, &b) == row);
-    b
+    check(rt, b.head() == head);
+    assert!(rt; b.len() == len);
+    stands(rt, b, &before, 0, before.len(), Made::Flipped);
 }
 
 /// All dead bits filled.
@@ -185,18 +210,24 @@ fn dead_filled<T: BitStore, O: BitOrder>(
     bit: bool,
 ) {
     let (head, len) = (b.head(), b.len());
-    let dead = repeated(rt, bit, owned(rt, b).len());
-    let row = replaced(rt, &dead, head, head.wrapping_add(len), &list_of(rt, b));
+    assert!(rt; head < 8);
+    assert!(rt; len < 18);
+    let before = owned(rt, b);
     b.fill_uninitialized(bit);
-    check(rt, owned(rt, b) == row);
+    let after = owned(rt, b);
+    check(rt, is_filled(&before, &after, head, len, bit));
 }
 
 /// The list moved to the beginning of the words.
 fn aligned<T: BitStore, O: BitOrder>(rt: &(impl Abort + AllocGlobal), b: &mut BitBox<T, O>) {
-    let len = b.len();
-    let row = replaced(rt, &owned(rt, b), 0, len, &list_of(rt, b));
+    let (head, len) = (b.head(), b.len());
+    assert!(rt; head < 8);
+    assert!(rt; len < 18);
+    let before = owned(rt, b);
     b.force_align();
-    shows(rt, b, row, 0, len);
+    check(rt, b.head() == 0);
+    assert!(rt; b.len() == len);
+    stands(rt, b, &before, 0, len, Made::Moved(head));
 }
 
 /// All bits flipped, twice over; dead bits filled; the list moved to the beginning of the words.
@@ -204,7 +235,11 @@ fn worked<T: BitStore, O: BitOrder>(
     rt: &(impl Abort + AllocGlobal),
     b: BitBox<T, O>,
 ) -> BitBox<T, O> {
-    let mut b = flipped(rt, b);
+    let mut b = b;
+    let before = owned(rt, &b);
+    flipped(rt, &mut b);
+    let mut b = !b;
+    check(rt, owned(rt, &b) == before);
     for bit in [true, false, true] {
         dead_filled(rt, &mut b, bit);
     }
@@ -212,21 +247,29 @@ fn worked<T: BitStore, O: BitOrder>(
     b
 }
 
-/// What is written through a view stands in the box.
+/// What is written through a view, and through the words, stands in the box.
 fn lent<T: BitStore, O: BitOrder>(rt: &(impl Abort + AllocGlobal), b: &mut BitBox<T, O>) {
     let (head, len) = (b.head(), b.len());
-    let row = with_all(rt, &owned(rt, b), head, len, true);
+    assert!(rt; head < 8);
+    assert!(rt; len < 18);
+    let before = owned(rt, b);
     b.as_mut_bitslice().fill(true);
-    shows(rt, b, row, head, len);
-}
-
-/// What is written through the words stands in the box.
-fn lent_words<T: BitStore, O: BitOrder>(rt: &(impl Abort + AllocGlobal), b: &mut BitBox<T, O>) {
-    let (head, len) = (b.head(), b.len());
-    let words = words_of::<T>(rt, 0x5a5a_5a5a_5a5a_5a5a);
-    overlay(b.as_raw_mut_slice(), &words);
-    let row = part(rt, &row_of::<T, O>(rt, &words), 0, owned(rt, b).len());
-    shows(rt, b, row, head, len);
+    let after = owned(rt, b);
+    check(rt, is_made(&before, &after, head, len, Made::Bit(true)));
+    check(rt, shows(b, &after, head, len));
+    let count = b.as_raw_slice().len();
+    for at in 0..count {
+        let words = b.as_raw_mut_slice();
+        assert!(rt; at < words.len());
+        words[at] = T::from_u64(0x5a5a_5a5a_5a5a_5a5a);
+    }
+    let after = owned(rt, b);
+    let five = words_of::<T>(rt, 0x5a5a_5a5a_5a5a_5a5a);
+    let five = row_of::<T, O>(rt, five.as_slice());
+    for (j, bit) in after.iter().enumerate() {
+        check(rt, five.get(j % T::BITS as usize) == Some(bit));
+    }
+    check(rt, shows(b, &after, head, len));
 }
 
 /// Two boxes combined by an operator.
@@ -238,18 +281,37 @@ fn operated<T: BitStore, O: BitOrder>(a: BitBox<T, O>, b: BitBox<T, O>, by: By) 
     }
 }
 
-/// That an operator gives, of two boxes, what it gives bit by bit; each bit outside the left list stays.
-fn combined_by<T: BitStore, O: BitOrder>(
+/// Whether `after` is the row `before`, with the `len` bits from `head` on combined with those of a box.
+fn is_combined<T: BitStore, O: BitOrder>(
+    before: &[bool],
+    after: &[bool],
+    head: usize,
+    len: usize,
+    b: &BitBox<T, O>,
+    by: By,
+) -> bool {
+    let mut same = true;
+    for (j, old) in before.iter().enumerate() {
+        let mut wanted = *old;
+        if head <= j && j - head < len {
+            wanted = by.of(*old, b.get(j - head).unwrap_or(false));
+        }
+        same = same && after.get(j).copied() == Some(wanted);
+    }
+    same
+}
+
+/// That the operators give, of two boxes, what they give bit by bit; each bit outside the left list stays.
+fn combined<T: BitStore, O: BitOrder>(
     rt: &(impl Abort + AllocGlobal),
     a: &BitBox<T, O>,
     b: &BitBox<T, O>,
-    by: By,
 ) {
-    let list = combined(rt, &list_of(rt, a), &list_of(rt, b), by);
-    let (head, len) = (a.head(), a.len());
-    let row = replaced(rt, &owned(rt, a), head, head.wrapping_add(len), &list);
-    let made = operated(copied(rt, a), copied(rt, b), by);
-    check(rt, owned(rt, &made) == row);
+    let before = owned(rt, a);
+    for by in [By::And, By::Or, By::Xor] {
+        let after = owned(rt, &operated(copied(rt, a), copied(rt, b), by));
+        check(rt, is_combined(&before, &after, a.head(), a.len(), b, by));
+    }
 }
 
 /// A box with the same words, head and list: all its words, dead bits too.
@@ -257,18 +319,43 @@ fn copied<T: BitStore, O: BitOrder>(
     rt: &(impl Abort + AllocGlobal),
     b: &BitBox<T, O>,
 ) -> BitBox<T, O> {
-    let made = BitBox::from_bitslice_headed(rt.alloc(), b.as_bitslice());
-    let mut copy = ok(rt, made);
-    overlay(copy.as_raw_mut_slice(), b.as_raw_slice());
+    let mut copy = ok(
+        rt,
+        BitBox::from_bitslice_headed(rt.alloc(), b.as_bitslice()),
+    );
+    let words = copy.as_raw_mut_slice();
+    for (i, word) in b.as_raw_slice().iter().enumerate() {
+        if i < words.len() {
+            words[i] = *word;
+        }
+    }
     copy
 }
 
-/// The bits of a box written, moved and lent.
-fn changed<T: BitStore, O: BitOrder>(rt: &(impl Abort + AllocGlobal), b: &mut BitBox<T, O>) {
-    written(rt, &mut copied(rt, b));
-    moved(rt, b);
-    lent(rt, &mut copied(rt, b));
-    lent_words(rt, &mut copied(rt, b));
+/// Whether order, equality and hash of two boxes are those of their lists.
+fn compared<T: BitStore, O: BitOrder>(a: &BitBox<T, O>, b: &BitBox<T, O>) -> bool {
+    let mut order = Ordering::Equal;
+    for i in 0..18usize {
+        if order == Ordering::Equal {
+            order = match (a.get(i), b.get(i)) {
+                (None, None) => Ordering::Equal,
+                (None, Some(_)) => Ordering::Less,
+                (Some(_), None) => Ordering::Greater,
+                (Some(left), Some(right)) => left.cmp(&right),
+            };
+        }
+    }
+    let (mut fed, mut wanted) = (DefaultHasher::new(), DefaultHasher::new());
+    a.hash(&mut fed);
+    for i in 0..18usize {
+        if let Some(bit) = a.get(i) {
+            bit.hash(&mut wanted);
+        }
+    }
+    a.cmp(b) == order
+        && a.partial_cmp(b) == Some(order)
+        && (*a == *b) == (order == Ordering::Equal)
+        && fed.finish() == wanted.finish()
 }
 
 /// Every call, at one head and one length, and once more on the aligned box, which keeps its words.
@@ -277,47 +364,18 @@ fn every_call<T: BitStore, O: BitOrder>(rt: &(impl Abort + AllocGlobal), head: u
     requires len { len < 18 }
 {
     let mut b = boxed::<T, O>(rt, 0x0fed_cba9_8765_4321, head, len);
-    shows(rt, &b, owned(rt, &b), head, len);
+    let row = owned(rt, &b);
+    check(rt, shows(&b, &row, head, len));
     given(rt, &b);
-    told(rt, &b, &list_of(rt, &b));
-    changed(rt, &mut b);
+    told(rt, &b);
+    written(rt, &mut copied(rt, &b));
+    moved(rt, &mut b);
+    lent(rt, &mut copied(rt, &b));
     let mut b = worked(rt, b);
-    changed(rt, &mut b);
+    written(rt, &mut copied(rt, &b));
+    moved(rt, &mut b);
+    lent(rt, &mut b);
     taken(rt, worked(rt, b));
-}
-
-/// A box compared with its own first bits, as far as there are any.
-fn compared_with_a_part<T: BitStore, O: BitOrder>(
-    rt: &(impl Abort + AllocGlobal),
-    a: &BitBox<T, O>,
-    list: &[bool],
-    size: usize,
-) {
-    let size = size.min(a.len());
-    let view = a.as_bitslice().get_range(0..size);
-    let first = ok(rt, BitBox::from_bitslice(rt.alloc(), view));
-    let bits = part(rt, list, 0, size);
-    compared(rt, a, &first, list, &bits);
-    compared(rt, &first, a, &bits, list);
-}
-
-/// Two boxes, at one head and length of the one and one of the other.
-fn pair<T: BitStore, O: BitOrder>(
-    rt: &(impl Abort + AllocGlobal),
-    a: &BitBox<T, O>,
-    head: usize,
-    size: usize,
-)
-    requires head { head < 8 }
-    requires size { size < 18 }
-{
-    let b = boxed::<T, O>(rt, 0x0fed_cba9_8765_4321, head, size);
-    for by in [By::And, By::Or, By::Xor] {
-        combined_by(rt, a, &b, by);
-    }
-    let list = list_of(rt, a);
-    compared(rt, a, &b, &list, &list_of(rt, &b));
-    compared_with_a_part(rt, a, &list, size);
 }
 
 /// Two boxes, at one head and length of the one and each length of the other, at another head.
@@ -326,8 +384,20 @@ fn pairs<T: BitStore, O: BitOrder>(rt: &(impl Abort + AllocGlobal), head: usize,
     requires len { len < 18 }
 {
     let a = boxed::<T, O>(rt, 0x1234_5678_9abc_def1, head, len);
+    let words = a.as_bitslice();
     for size in 0..18usize {
-        pair(rt, &a, (3 * head + size) % 8, size);
+        let other = (3 * head + size) % 8;
+        let b = boxed::<T, O>(rt, 0x0fed_cba9_8765_4321, other, size);
+        combined(rt, &a, &b);
+        check(rt, compared(&a, &b));
+        if size <= words.len() {
+            let part = ok(
+                rt,
+                BitBox::from_bitslice(rt.alloc(), words.get_range(0..size)),
+            );
+            check(rt, compared(&a, &part));
+            check(rt, compared(&part, &a));
+        }
     }
 }
 

@@ -1,11 +1,7 @@
 //! Vectors of mixed bits beside plain lists, and what all tests use.
-ghost use Rattle.std.specs.Prelude.{Ok, ◌≡◌, ◌+◌, ◌<◌, ◌≤◌, length};
-ghost use Rattle.bit_slice.specs.BitSlice.{len_of, list_of};
+ghost use Rattle.std.specs.Prelude.{Ok, ◌≡◌, ◌+◌, ◌<◌, length};
 
 use bit_containers::{BitIdx, BitOrder, BitSlice, BitStore, BitVec};
-use bit_slice::Iter;
-use std::cmp::Ordering;
-use std::hash::{DefaultHasher, Hash, Hasher};
 use std::process::Abort;
 
 /// That this holds. A test calls it in place of `assert!`, which costs the prover more: a failed
@@ -24,11 +20,10 @@ pub(crate) fn ok<V, E>(rt: &impl Abort, outcome: Result<V, E>) -> V
     }
 }
 
-/// A vector, the head and the list that it has to have, and the bits of its words.
+/// A vector, the list that it has to hold, and the bits of its words.
 #[derive(Drop)]
 pub(crate) struct Case<T: BitStore, O: BitOrder> {
     pub(crate) v: BitVec<T, O>,
-    pub(crate) head: usize,
     pub(crate) list: Vec<bool>,
     pub(crate) row: Vec<bool>,
 }
@@ -45,8 +40,8 @@ impl By {
     /// What it makes of two bits.
     pub(crate) fn of(self, left: bool, right: bool) -> bool {
         match self {
-            By::And => left & right,
-            By::Or => left | right,
+            By::And => left && right,
+            By::Or => left || right,
             By::Xor => left != right,
         }
     }
@@ -98,25 +93,6 @@ pub(crate) fn bits_of<O: BitOrder>(words: [u8; 3]) -> [bool; 24] {
     bits
 }
 
-/// These bits, with those of a list over them from a place on.
-pub(crate) fn over(bits: [bool; 24], at: usize, list: &[bool]) -> [bool; 24] {
-    let mut bits = bits;
-    for (i, bit) in list.iter().enumerate() {
-        if let Some(slot) = bits.get_mut(at.wrapping_add(i)) {
-            *slot = *bit;
-        }
-    }
-    bits
-}
-
-/// A view of `len` bits of three bytes from this head on.
-pub(crate) fn run<O: BitOrder>(words: &[u8; 3], head: usize, len: usize) -> BitSlice<'_, u8, O>
-    requires { head + len ≤ 24 }
-    ensures { len_of result ≡ len }
-{
-    BitSlice::<u8, O>::from_slice(words).get_range(head..head + len)
-}
-
 /// The items of a list from one place up to another, as far as there are any.
 pub(crate) fn part(
     rt: &(impl Abort + AllocGlobal),
@@ -124,47 +100,13 @@ pub(crate) fn part(
     from: usize,
     upto: usize,
 ) -> Vec<bool> {
-    let last = upto.min(list.len());
-    let first = from.min(last);
-    ok(rt, Vec::from_slice(rt.alloc(), &list[first..last]))
-}
-
-/// One bit, so many times.
-pub(crate) fn repeated(rt: &(impl Abort + AllocGlobal), bit: bool, n: usize) -> Vec<bool> {
-    ok(rt, vec![in rt.alloc(); bit; n])
-}
-
-/// A list, each item of it flipped.
-pub(crate) fn flipped(rt: &(impl Abort + AllocGlobal), list: &[bool]) -> Vec<bool> {
     let mut items = Vec::new(rt.alloc());
-    for bit in list {
-        ok(rt, items.push(!*bit));
+    for (i, bit) in list.iter().enumerate() {
+        if from <= i && i < upto {
+            ok(rt, items.push(*bit));
+        }
     }
     items
-}
-
-/// A list from its end.
-pub(crate) fn reversed(rt: &(impl Abort + AllocGlobal), list: &[bool]) -> Vec<bool> {
-    let mut items = Vec::new(rt.alloc());
-    for bit in list.iter().rev() {
-        ok(rt, items.push(*bit));
-    }
-    items
-}
-
-/// The left list, with each item combined with that of the right list, or with false past its end.
-pub(crate) fn combined(
-    rt: &(impl Abort + AllocGlobal),
-    left: &[bool],
-    right: &[bool],
-    by: By,
-) -> Vec<bool> {
-    let mut bits = Vec::new(rt.alloc());
-    for (i, bit) in left.iter().enumerate() {
-        let other = right.get(i) == Some(&true);
-        ok(rt, bits.push(by.of(*bit, other)));
-    }
-    bits
 }
 
 /// A list whose items from one place up to another are replaced by others.
@@ -176,63 +118,18 @@ pub(crate) fn replaced(
     by: &[bool],
 ) -> Vec<bool> {
     let mut items = part(rt, list, 0, from);
-    ok(rt, items.extend_from_slice(by));
-    ok(rt, items.extend_from_slice(&list[upto.min(list.len())..]));
+    for bit in by {
+        ok(rt, items.push(*bit));
+    }
+    for (i, bit) in list.iter().enumerate() {
+        if upto <= i {
+            ok(rt, items.push(*bit));
+        }
+    }
     items
 }
 
-/// How many items of a list are true.
-pub(crate) fn ones_of(list: &[bool]) -> usize {
-    let mut ones = 0usize;
-    for bit in list {
-        ones = ones.wrapping_add(*bit as usize);
-    }
-    ones
-}
-
-/// How many bits the words have whose first so many bits are shown.
-fn shown_by<T: BitStore>(bits: usize) -> usize {
-    let wide = T::BITS as usize;
-    bits.div_ceil(wide).wrapping_mul(wide)
-}
-
-/// All bits of the words for a list from this head on: the others are those of a row, or false past its end.
-fn laid<T: BitStore>(
-    rt: &(impl Abort + AllocGlobal),
-    row: &[bool],
-    head: usize,
-    list: &[bool],
-) -> Vec<bool> {
-    let upto = head.wrapping_add(list.len());
-    let shown = shown_by::<T>(upto);
-    let mut bits = part(rt, row, 0, shown);
-    ok(rt, bits.resize(shown, false));
-    replaced(rt, &bits, head, upto, list)
-}
-
-/// A view of `len` bits of these words from this head on.
-pub(crate) fn view_of<'a, T: BitStore, O: BitOrder>(
-    rt: &impl Abort,
-    words: &'a [T],
-    head: usize,
-    len: usize,
-) -> BitSlice<'a, T, O>
-    requires { head + len < 100 }
-    ensures { length (list_of result) ≡ len }
-{
-    let view = ok(rt, BitSlice::<T, O>::try_from_slice(words));
-    assert!(rt; head + len <= view.len());
-    view.get_range(head..head + len)
-}
-
-/// Writes words over others, as far as there are any.
-pub(crate) fn overlay<T: BitStore>(words: &mut [T], by: &[T]) {
-    for (word, new) in words.iter_mut().zip(by) {
-        *word = *new;
-    }
-}
-
-/// A vector of `len` mixed bits that begin at this head. Its dead bits are mixed too.
+/// A vector of `len` bits of these words that begin at this head. Its dead bits are theirs too.
 pub(crate) fn vector_of<T: BitStore, O: BitOrder>(
     rt: &(impl Abort + AllocGlobal),
     words: &[T],
@@ -242,9 +139,13 @@ pub(crate) fn vector_of<T: BitStore, O: BitOrder>(
     requires { head + len < 100 }
     ensures { length result.list ≡ len }
 {
-    let view = view_of::<T, O>(rt, words, head, len);
-    let mut v = ok(rt, BitVec::from_bitslice_headed(rt.alloc(), view));
-    overlay(v.as_raw_mut_slice(), words);
+    let view = ok(rt, BitSlice::<T, O>::try_from_slice(words));
+    assert!(rt; head + len <= view.len());
+    let bits = view.get_range(head..head + len);
+    let mut v = ok(rt, BitVec::from_bitslice_headed(rt.alloc(), bits));
+    for (word, mixed) in v.as_raw_mut_slice().iter_mut().zip(words) {
+        *word = *mixed;
+    }
     assert!(rt; v.len() == len);
     v
 }
@@ -260,13 +161,12 @@ pub(crate) fn at_head<T: BitStore, O: BitOrder>(
     ensures { length result.v.list ≡ len }
 {
     let words = words_of::<T>(rt, seed);
-    let all = row_of::<T, O>(rt, &words);
-    Case {
-        v: vector_of(rt, &words, head, len),
-        head,
-        list: part(rt, &all, head, head + len),
-        row: part(rt, &all, 0, shown_by::<T>(head + len)),
-    }
+    let v = vector_of::<T, O>(rt, words.as_slice(), head, len);
+    let all = row_of::<T, O>(rt, words.as_slice());
+    let list = part(rt, &all, head, head + len);
+    let shown = (head + len).div_ceil(T::BITS as usize);
+    let row = part(rt, &all, 0, shown.wrapping_mul(T::BITS as usize));
+    Case { v, list, row }
 }
 
 /// The same list at the same head, with dead bits that are true.
@@ -284,22 +184,16 @@ pub(crate) fn again<T: BitStore, O: BitOrder>(
     copy
 }
 
-/// That a vector holds this list from this head on.
-pub(crate) fn same<T: BitStore, O: BitOrder>(
-    rt: &impl Abort,
-    v: &BitVec<T, O>,
-    head: usize,
-    list: &[bool],
-) {
-    check(rt, v.head() == head);
-    check(rt, v.len() == list.len());
-    check(rt, v.get(list.len()).is_none());
+/// Whether a vector holds this list from this head on.
+pub(crate) fn same<T: BitStore, O: BitOrder>(v: &BitVec<T, O>, head: usize, list: &[bool]) -> bool {
+    let mut same = v.head() == head && v.len() == list.len() && v.get(list.len()).is_none();
     for (i, bit) in list.iter().enumerate() {
-        check(rt, v.get(i) == Some(*bit));
+        same = same && v.get(i) == Some(*bit);
     }
+    same
 }
 
-/// That a vector holds this list from this head on, in exactly the words for it, whose dead bits are those of
+/// Whether a vector holds this list from this head on, in exactly the words for it, whose dead bits are those of
 /// a row, or false past its end.
 pub(crate) fn shows<T: BitStore, O: BitOrder>(
     rt: &(impl Abort + AllocGlobal),
@@ -307,109 +201,58 @@ pub(crate) fn shows<T: BitStore, O: BitOrder>(
     head: usize,
     list: &[bool],
     row: &[bool],
-) {
-    same(rt, v, head, list);
+) -> bool {
     let now = row_of::<T, O>(rt, v.as_raw_slice());
-    check(rt, now == laid::<T>(rt, row, head, list));
+    let wide = T::BITS as usize;
+    let words = head.wrapping_add(list.len()).div_ceil(wide);
+    let mut right = same(v, head, list) && now.len() == words.wrapping_mul(wide);
+    for (j, bit) in now.iter().enumerate() {
+        let old = row.get(j).copied().unwrap_or(false);
+        let live = j.checked_sub(head).and_then(|i| list.get(i));
+        right = right && *bit == live.copied().unwrap_or(old);
+    }
+    right
 }
 
-/// That the vector of a case holds this list now, at its head, and has the dead bits of its row.
-pub(crate) fn stands<T: BitStore, O: BitOrder>(
-    rt: &(impl Abort + AllocGlobal),
-    case: Case<T, O>,
-    list: Vec<bool>,
-) {
-    shows(rt, &case.v, case.head, &list, &case.row);
-}
-
-/// That the vector of a case holds its list now with the items from one place up to another replaced by others.
-pub(crate) fn becomes<T: BitStore, O: BitOrder>(
-    rt: &(impl Abort + AllocGlobal),
-    case: Case<T, O>,
-    from: usize,
-    upto: usize,
-    by: &[bool],
-) {
-    let wanted = replaced(rt, &case.list, from, upto, by);
-    stands(rt, case, wanted);
-}
-
-/// The same of a call that leaves open what becomes of the dead bits.
-pub(crate) fn holds<T: BitStore, O: BitOrder>(
-    rt: &(impl Abort + AllocGlobal),
-    case: Case<T, O>,
-    from: usize,
-    upto: usize,
-    by: &[bool],
-) {
-    let wanted = replaced(rt, &case.list, from, upto, by);
-    same(rt, &case.v, case.head, &wanted);
-}
-
-/// That these bits are the items of a list, and no more.
-pub(crate) fn gives<T: BitStore, O: BitOrder>(
-    rt: &impl Abort,
-    bits: Iter<'_, T, O>,
-    list: &[bool],
-) {
-    let mut bits = bits;
+/// The text of a list, in brackets, with a comma between two bits.
+pub(crate) fn text_of(rt: &(impl Abort + AllocGlobal), list: &[bool]) -> String {
+    let mut text = String::new(rt.alloc());
+    ok(rt, text.push_str("["));
     for (i, bit) in list.iter().enumerate() {
-        check(rt, bits.len() == list.len().wrapping_sub(i));
-        check(rt, bits.next() == Some(*bit));
+        ok(rt, text.push_str(if i > 0 { ", " } else { "" }));
+        ok(rt, text.push_str(if *bit { "1" } else { "0" }));
     }
-    check(rt, bits.next().is_none());
+    ok(rt, text.push_str("]"));
+    text
 }
 
-/// That these bits are, from the end, the items of a list, and no more.
-pub(crate) fn gives_back<T: BitStore, O: BitOrder>(
-    rt: &impl Abort,
-    bits: Iter<'_, T, O>,
+/// The digits of a list, one for each group of `width` bits, where the bit that comes first weighs most.
+pub(crate) fn digits_of(
+    rt: &(impl Abort + AllocGlobal),
     list: &[bool],
-) {
-    let mut bits = bits;
-    for bit in list.iter().rev() {
-        check(rt, bits.next_back() == Some(*bit));
-    }
-    check(rt, bits.next_back().is_none());
-}
-
-/// The order of two lists: at the first place where they differ the one with false is less, or the one that ends.
-pub(crate) fn order_of(left: &[bool], right: &[bool]) -> Ordering {
-    let mut order = Ordering::Equal;
-    for (i, bit) in left.iter().enumerate() {
-        let other = right.get(i).copied().unwrap_or(*bit);
-        order = order.then(bit.cmp(&other));
-    }
-    order.then(left.len().cmp(&right.len()))
-}
-
-/// The hash of a value.
-fn hash_of<V: Hash>(value: &V) -> u64 {
-    let mut hasher = DefaultHasher::new();
-    value.hash(&mut hasher);
-    hasher.finish()
-}
-
-/// The hash of the items of a list, one after another.
-fn hash_of_items(list: &[bool]) -> u64 {
-    let mut hasher = DefaultHasher::new();
+    width: u8,
+    digits: &[u8],
+) -> Vec<u8> {
+    let mut text = Vec::new(rt.alloc());
+    ok(rt, text.push(b'['));
+    let (mut value, mut held) = (0u8, 0u8);
     for bit in list {
-        bit.hash(&mut hasher);
+        value = value.wrapping_mul(2).wrapping_add(*bit as u8);
+        held = held.wrapping_add(1);
+        if held == width {
+            ok(
+                rt,
+                text.push(digits.get(value as usize).copied().unwrap_or(0)),
+            );
+            (value, held) = (0, 0);
+        }
     }
-    hasher.finish()
-}
-
-/// That order, equality and hash of two containers are those of their lists.
-pub(crate) fn compared<C: Ord + Hash>(
-    rt: &impl Abort,
-    a: &C,
-    b: &C,
-    left: &[bool],
-    right: &[bool],
-) {
-    let order = order_of(left, right);
-    check(rt, a.cmp(b) == order);
-    check(rt, a.partial_cmp(b) == Some(order));
-    check(rt, (*a == *b) == order.is_eq());
-    check(rt, hash_of(a) == hash_of_items(left));
+    if held > 0 {
+        ok(
+            rt,
+            text.push(digits.get(value as usize).copied().unwrap_or(0)),
+        );
+    }
+    ok(rt, text.push(b']'));
+    text
 }

@@ -1,169 +1,132 @@
 //! Single bits put in, taken out and written, and the list cut.
-ghost use Rattle.std.specs.Prelude.{◌<◌, ◌≤◌, length};
+ghost use Rattle.std.specs.Prelude.{◌<◌};
 
-use crate::common::{Case, at_head, becomes, check, holds, ok, part, replaced, same, stands};
+use crate::common::{Case, at_head, check, ok, replaced, same, shows};
 use crate::orders::{Scramble, Xor4};
 use bit_containers::{BitOrder, BitStore, Lsb0, Msb0};
 use std::process::Abort;
 
 const SEED: u64 = 0x0fed_cba9_8765_4321;
 
-/// A bit appended.
-fn pushed<T: BitStore, O: BitOrder>(
-    rt: &(impl Abort + AllocGlobal),
-    mut case: Case<T, O>,
-    bit: bool,
-) {
-    let len = case.list.len();
-    ok(rt, case.v.push(bit));
-    becomes(rt, case, len, len, &[bit]);
-}
-
-/// A bit put before an item, or at the end.
-fn inserted<T: BitStore, O: BitOrder>(
-    rt: &(impl Abort + AllocGlobal),
-    mut case: Case<T, O>,
-    at: usize,
-    bit: bool,
-)
-    requires { at ≤ length case.v.list }
+/// A bit appended, and put before each item.
+fn joined<T: BitStore, O: BitOrder>(rt: &(impl Abort + AllocGlobal), head: usize, len: usize)
+    requires head { head < 8 }
+    requires len { len < 18 }
 {
-    ok(rt, case.v.insert(at, bit));
-    holds(rt, case, at, at, &[bit]);
+    for bit in [false, true] {
+        let Case { mut v, list, row } = at_head::<T, O>(rt, SEED, head, len);
+        ok(rt, v.push(bit));
+        let wanted = replaced(rt, &list, len, len, &[bit]);
+        check(rt, shows(rt, &v, head, &wanted, &row));
+        for at in 0..len + 1 {
+            let Case { mut v, list, .. } = at_head::<T, O>(rt, SEED, head, len);
+            ok(rt, v.insert(at, bit));
+            let wanted = replaced(rt, &list, at, at, &[bit]);
+            check(rt, same(&v, head, &wanted));
+        }
+    }
 }
 
 /// The last item taken out.
-fn popped<T: BitStore, O: BitOrder>(rt: &(impl Abort + AllocGlobal), mut case: Case<T, O>) {
-    let len = case.list.len();
-    check(rt, case.v.pop() == case.list.last().copied());
-    becomes(rt, case, len.saturating_sub(1), len, &[]);
+fn popped<T: BitStore, O: BitOrder>(rt: &(impl Abort + AllocGlobal), head: usize, len: usize)
+    requires head { head < 8 }
+    requires len { len < 18 }
+{
+    let Case { mut v, list, row } = at_head::<T, O>(rt, SEED, head, len);
+    check(rt, v.pop() == list.last().copied());
+    let wanted = replaced(rt, &list, len.saturating_sub(1), len, &[]);
+    check(rt, shows(rt, &v, head, &wanted, &row));
 }
 
 /// An item taken out.
 fn removed<T: BitStore, O: BitOrder>(
     rt: &(impl Abort + AllocGlobal),
-    mut case: Case<T, O>,
+    head: usize,
+    len: usize,
     at: usize,
 )
-    requires { at < length case.v.list }
+    requires head { head < 8 }
+    requires len { len < 18 }
+    requires at { at < len }
 {
-    let bit = case.v.remove(at);
-    check(rt, Some(bit) == case.list.get(at).copied());
-    holds(rt, case, at, at.wrapping_add(1), &[]);
+    let Case { mut v, list, .. } = at_head::<T, O>(rt, SEED, head, len);
+    check(rt, Some(v.remove(at)) == list.get(at).copied());
+    let wanted = replaced(rt, &list, at, at + 1, &[]);
+    check(rt, same(&v, head, &wanted));
 }
 
 /// An item taken out, and the last one put in its place.
 fn swapped_out<T: BitStore, O: BitOrder>(
     rt: &(impl Abort + AllocGlobal),
-    mut case: Case<T, O>,
-    at: usize,
-)
-    requires { at < length case.v.list }
-{
-    let bit = case.v.swap_remove(at);
-    check(rt, Some(bit) == case.list.get(at).copied());
-    let rest = case.list.len().wrapping_sub(1);
-    let last = part(rt, &case.list, rest, case.list.len());
-    let wanted = replaced(rt, &case.list, at, at.wrapping_add(1), &last);
-    same(rt, &case.v, case.head, &part(rt, &wanted, 0, rest));
-}
-
-/// The list cut at a place, or past its end.
-fn cut<T: BitStore, O: BitOrder>(rt: &(impl Abort + AllocGlobal), mut case: Case<T, O>, n: usize) {
-    let len = case.list.len();
-    let room = case.v.capacity();
-    case.v.truncate(n);
-    check(rt, case.v.capacity() == room);
-    becomes(rt, case, n, len, &[]);
-}
-
-/// The list emptied.
-fn cleared<T: BitStore, O: BitOrder>(rt: &(impl Abort + AllocGlobal), mut case: Case<T, O>) {
-    let len = case.list.len();
-    case.v.clear();
-    check(rt, case.v.is_empty());
-    becomes(rt, case, 0, len, &[]);
-}
-
-/// An item written over.
-fn set<T: BitStore, O: BitOrder>(
-    rt: &(impl Abort + AllocGlobal),
-    mut case: Case<T, O>,
-    at: usize,
-    bit: bool,
-)
-    requires { at < length case.v.list }
-{
-    case.v.set(at, bit);
-    becomes(rt, case, at, at.wrapping_add(1), &[bit]);
-}
-
-/// An item written over, and read as it was.
-fn exchanged<T: BitStore, O: BitOrder>(
-    rt: &(impl Abort + AllocGlobal),
-    mut case: Case<T, O>,
-    at: usize,
-    bit: bool,
-)
-    requires { at < length case.v.list }
-{
-    let old = case.v.replace(at, bit);
-    check(rt, Some(old) == case.list.get(at).copied());
-    becomes(rt, case, at, at.wrapping_add(1), &[bit]);
-}
-
-/// Two items exchanged.
-fn swapped<T: BitStore, O: BitOrder>(
-    rt: &(impl Abort + AllocGlobal),
-    mut case: Case<T, O>,
-    i: usize,
-    j: usize,
-)
-    requires first { i < length case.v.list }
-    requires second { j < length case.v.list }
-{
-    case.v.swap(i, j);
-    let first = part(rt, &case.list, i, i.wrapping_add(1));
-    let second = part(rt, &case.list, j, j.wrapping_add(1));
-    let wanted = replaced(rt, &case.list, i, i.wrapping_add(1), &second);
-    stands(
-        rt,
-        case,
-        replaced(rt, &wanted, j, j.wrapping_add(1), &first),
-    );
-}
-
-/// Bits put in at each place.
-fn put_in<T: BitStore, O: BitOrder>(
-    rt: &(impl Abort + AllocGlobal),
     head: usize,
     len: usize,
-    bit: bool,
+    at: usize,
 )
     requires head { head < 8 }
     requires len { len < 18 }
+    requires at { at < len }
 {
-    pushed(rt, at_head::<T, O>(rt, SEED, head, len), bit);
-    for at in 0..len + 1 {
-        inserted(rt, at_head::<T, O>(rt, SEED, head, len), at, bit);
-    }
-    for at in 0..len {
-        set(rt, at_head::<T, O>(rt, SEED, head, len), at, bit);
-        exchanged(rt, at_head::<T, O>(rt, SEED, head, len), at, bit);
-    }
+    let Case { mut v, list, .. } = at_head::<T, O>(rt, SEED, head, len);
+    check(rt, Some(v.swap_remove(at)) == list.get(at).copied());
+    let last = list.last().copied().unwrap_or(false);
+    let wanted = replaced(rt, &list, at, at + 1, &[last]);
+    let wanted = replaced(rt, &wanted, len - 1, len, &[]);
+    check(rt, same(&v, head, &wanted));
 }
 
-/// Items taken out at each place, or exchanged.
-fn taken_out<T: BitStore, O: BitOrder>(rt: &(impl Abort + AllocGlobal), head: usize, len: usize)
+/// The list cut at each place, and past its end.
+fn cut<T: BitStore, O: BitOrder>(rt: &(impl Abort + AllocGlobal), head: usize, len: usize)
     requires head { head < 8 }
     requires len { len < 18 }
 {
-    popped(rt, at_head::<T, O>(rt, SEED, head, len));
+    for n in 0..len + 3 {
+        let Case { mut v, list, row } = at_head::<T, O>(rt, SEED, head, len);
+        let room = v.capacity();
+        v.truncate(n);
+        let wanted = replaced(rt, &list, n, len, &[]);
+        check(rt, shows(rt, &v, head, &wanted, &row));
+        check(rt, v.capacity() == room);
+    }
+    let Case { mut v, row, .. } = at_head::<T, O>(rt, SEED, head, len);
+    v.clear();
+    check(rt, shows(rt, &v, head, &[], &row));
+    check(rt, v.is_empty());
+}
+
+/// Each item written, in both ways.
+fn written<T: BitStore, O: BitOrder>(rt: &(impl Abort + AllocGlobal), head: usize, len: usize)
+    requires head { head < 8 }
+    requires len { len < 18 }
+{
+    let Case { mut v, list, row } = at_head::<T, O>(rt, SEED, head, len);
+    let mut now = list;
     for at in 0..len {
-        removed(rt, at_head::<T, O>(rt, SEED, head, len), at);
-        swapped_out(rt, at_head::<T, O>(rt, SEED, head, len), at);
-        for other in 0..len {
-            swapped(rt, at_head::<T, O>(rt, SEED, head, len), at, other);
+        for (bit, replaces) in [(true, true), (false, true), (true, false), (false, false)] {
+            assert!(rt; at < v.len());
+            if replaces {
+                check(rt, Some(v.replace(at, bit)) == now.get(at).copied());
+            } else {
+                v.set(at, bit);
+            }
+            now = replaced(rt, &now, at, at + 1, &[bit]);
+            check(rt, shows(rt, &v, head, &now, &row));
+        }
+    }
+}
+
+/// Each two items exchanged.
+fn exchanged<T: BitStore, O: BitOrder>(rt: &(impl Abort + AllocGlobal), head: usize, len: usize)
+    requires head { head < 8 }
+    requires len { len < 18 }
+{
+    for i in 0..len {
+        for j in 0..len {
+            let Case { mut v, list, row } = at_head::<T, O>(rt, SEED, head, len);
+            v.swap(i, j);
+            let (first, second) = (list.get(i).copied(), list.get(j).copied());
+            let wanted = replaced(rt, &list, i, i + 1, &[second.unwrap_or(false)]);
+            let wanted = replaced(rt, &wanted, j, j + 1, &[first.unwrap_or(false)]);
+            check(rt, shows(rt, &v, head, &wanted, &row));
         }
     }
 }
@@ -173,13 +136,15 @@ fn edited<T: BitStore, O: BitOrder>(rt: &(impl Abort + AllocGlobal), head: usize
     requires head { head < 8 }
     requires len { len < 18 }
 {
-    put_in::<T, O>(rt, head, len, false);
-    put_in::<T, O>(rt, head, len, true);
-    taken_out::<T, O>(rt, head, len);
-    for n in 0..len + 3 {
-        cut(rt, at_head::<T, O>(rt, SEED, head, len), n);
+    joined::<T, O>(rt, head, len);
+    popped::<T, O>(rt, head, len);
+    for at in 0..len {
+        removed::<T, O>(rt, head, len, at);
+        swapped_out::<T, O>(rt, head, len, at);
     }
-    cleared(rt, at_head::<T, O>(rt, SEED, head, len));
+    cut::<T, O>(rt, head, len);
+    written::<T, O>(rt, head, len);
+    exchanged::<T, O>(rt, head, len);
 }
 
 #[test]

@@ -1,7 +1,7 @@
 //! Bits appended, from lists, views, words and functions, and room made.
-ghost use Rattle.std.specs.Prelude.{◌<◌, ◌≤◌, length};
+ghost use Rattle.std.specs.Prelude.{◌<◌};
 
-use crate::common::{Case, at_head, becomes, check, ok, part, repeated, row_of, words_of};
+use crate::common::{Case, at_head, check, ok, part, replaced, row_of, shows, words_of};
 use crate::orders::{Scramble, Xor4};
 use bit_containers::{BitOrder, BitStore, BitVec, Lsb0, Msb0};
 use std::process::Abort;
@@ -18,7 +18,7 @@ fn extend<T: BitStore, O: BitOrder>(
     way: u8,
 ) {
     match way {
-        0 => ok(rt, v.extend(part(rt, &other.list, 0, 18))),
+        0 => ok(rt, v.extend(part(rt, &other.list, 0, other.list.len()))),
         1 => ok(rt, v.extend_from_bitslice(other.v.as_bitslice())),
         2 => ok(rt, v.extend_from_slice(other.v.as_bitslice())),
         _ => ok(rt, v.append(&mut other.v)),
@@ -28,32 +28,33 @@ fn extend<T: BitStore, O: BitOrder>(
 /// Another list appended in one of four ways.
 fn extended_in<T: BitStore, O: BitOrder>(
     rt: &(impl Abort + AllocGlobal),
-    mut case: Case<T, O>,
-    other: &mut Case<u16, Msb0>,
-    way: u8,
-) {
-    let len = case.list.len();
-    extend(rt, &mut case.v, other, way);
-    becomes(rt, case, len, len, &other.list);
-}
-
-/// Another list appended in each way, the last of which empties it.
-fn extended<T: BitStore, O: BitOrder>(
-    rt: &(impl Abort + AllocGlobal),
     head: usize,
     len: usize,
-    more: usize,
+    other: &mut Case<u16, Msb0>,
+    way: u8,
 )
     requires head { head < 8 }
     requires len { len < 18 }
-    requires more { more < 18 }
 {
-    let mut other = at_head::<u16, Msb0>(rt, OTHER, (5 * head + more) % 16, more);
-    for way in 0..4u8 {
-        let case = at_head::<T, O>(rt, SEED, head, len);
-        extended_in(rt, case, &mut other, way);
+    let Case { mut v, list, row } = at_head::<T, O>(rt, SEED, head, len);
+    extend(rt, &mut v, other, way);
+    let wanted = replaced(rt, &list, len, len, &other.list);
+    check(rt, shows(rt, &v, head, &wanted, &row));
+}
+
+/// Another list appended in each way, the last of which empties it.
+fn extended<T: BitStore, O: BitOrder>(rt: &(impl Abort + AllocGlobal), head: usize, len: usize)
+    requires head { head < 8 }
+    requires len { len < 18 }
+{
+    for more in 0..18usize {
+        let emptied = (5 * head + more) % 16;
+        let mut other = at_head::<u16, Msb0>(rt, OTHER, emptied, more);
+        for way in 0..4u8 {
+            extended_in::<T, O>(rt, head, len, &mut other, way);
+        }
+        check(rt, shows(rt, &other.v, emptied, &[], &other.row));
     }
-    becomes(rt, other, 0, more, &[]);
 }
 
 /// Whether each number from one up to another is three times one.
@@ -68,139 +69,134 @@ fn thirds(rt: &(impl Abort + AllocGlobal), from: usize, upto: usize) -> Vec<bool
 /// The length set, by the results of a function, which is called at each new index in turn.
 fn resized_by_calls<T: BitStore, O: BitOrder>(
     rt: &(impl Abort + AllocGlobal),
-    mut case: Case<T, O>,
+    head: usize,
+    len: usize,
     n: usize,
-) {
-    let len = case.list.len();
+)
+    requires head { head < 8 }
+    requires len { len < 18 }
+{
+    let Case { mut v, list, row } = at_head::<T, O>(rt, SEED, head, len);
     let (mut next, mut ordered) = (len, true);
-    let outcome = case.v.resize_with(n, |i| {
-        ordered = ordered & (i == next);
+    let outcome = v.resize_with(n, |i| {
+        ordered = ordered && i == next;
         next = next.wrapping_add(1);
         i % 3 == 0
     });
     ok(rt, outcome);
     check(rt, ordered);
     check(rt, next == len.max(n));
-    becomes(rt, case, n, len, &thirds(rt, len, n));
+    let wanted = replaced(rt, &list, n, len, &thirds(rt, len, n));
+    check(rt, shows(rt, &v, head, &wanted, &row));
 }
 
 /// The length set, by one bit.
 fn resized_by_ones<T: BitStore, O: BitOrder>(
     rt: &(impl Abort + AllocGlobal),
-    mut case: Case<T, O>,
+    head: usize,
+    len: usize,
     n: usize,
-) {
-    let len = case.list.len();
-    ok(rt, case.v.resize(n, true));
-    becomes(rt, case, n, len, &repeated(rt, true, n.saturating_sub(len)));
-}
-
-/// Whole words appended.
-fn extended_by_copies<T: BitStore, O: BitOrder>(
-    rt: &(impl Abort + AllocGlobal),
-    mut case: Case<T, O>,
-    words: &[T],
-) {
-    let len = case.list.len();
-    ok(rt, case.v.extend_from_raw_slice(words));
-    becomes(rt, case, len, len, &row_of::<T, O>(rt, words));
-}
-
-/// Whole words pulled.
-fn extended_by_words<T: BitStore, O: BitOrder>(
-    rt: &(impl Abort + AllocGlobal),
-    mut case: Case<T, O>,
-    words: Vec<T>,
-) {
-    let len = case.list.len();
-    let more = row_of::<T, O>(rt, words.as_slice());
-    ok(rt, case.v.extend_words(words));
-    becomes(rt, case, len, len, &more);
-}
-
-/// A range appended once more.
-fn extended_within<T: BitStore, O: BitOrder>(
-    rt: &(impl Abort + AllocGlobal),
-    mut case: Case<T, O>,
-    from: usize,
-    upto: usize,
 )
-    requires ordered { from ≤ upto }
-    requires within { upto ≤ length case.v.list }
-{
-    let len = case.list.len();
-    ok(rt, case.v.extend_from_within(from..upto));
-    let more = part(rt, &case.list, from, upto);
-    becomes(rt, case, len, len, &more);
-}
-
-/// Room made: the list and the words stay.
-fn reserved<T: BitStore, O: BitOrder>(
-    rt: &(impl Abort + AllocGlobal),
-    mut case: Case<T, O>,
-    more: usize,
-)
-    requires { more < 40 }
-{
-    let len = case.list.len();
-    ok(rt, case.v.reserve(more));
-    check(rt, case.v.capacity() >= len.wrapping_add(more));
-    ok(rt, case.v.reserve_exact(2 * more));
-    check(rt, case.v.capacity() >= len.wrapping_add(2 * more));
-    becomes(rt, case, 0, 0, &[]);
-}
-
-/// Room made and given back.
-fn given_back<T: BitStore, O: BitOrder>(
-    rt: &(impl Abort + AllocGlobal),
-    mut case: Case<T, O>,
-    more: usize,
-) {
-    let len = case.list.len();
-    ok(rt, case.v.reserve_exact(more));
-    let room = case.v.capacity();
-    check(rt, room >= len.wrapping_add(more));
-    ok(rt, case.v.shrink_to_fit());
-    check(rt, case.v.capacity() >= len);
-    check(rt, case.v.capacity() <= room);
-    becomes(rt, case, 0, 0, &[]);
-}
-
-/// Lists and ranges appended, and room made.
-fn grown<T: BitStore, O: BitOrder>(rt: &(impl Abort + AllocGlobal), head: usize, len: usize)
     requires head { head < 8 }
     requires len { len < 18 }
 {
-    for more in 0..18usize {
-        extended::<T, O>(rt, head, len, more);
+    let mut ones = Vec::new(rt.alloc());
+    for _ in len..n {
+        ok(rt, ones.push(true));
     }
-    for from in 0..len + 1 {
-        for upto in from..len + 1 {
-            extended_within(rt, at_head::<T, O>(rt, SEED, head, len), from, upto);
-        }
-    }
-    for more in 0..40usize {
-        reserved(rt, at_head::<T, O>(rt, SEED, head, len), more);
-        given_back(rt, at_head::<T, O>(rt, SEED, head, len), 2 * more);
-    }
+    let Case { mut v, list, row } = at_head::<T, O>(rt, SEED, head, len);
+    ok(rt, v.resize(n, true));
+    let wanted = replaced(rt, &list, n, len, &ones);
+    check(rt, shows(rt, &v, head, &wanted, &row));
 }
 
-/// Words appended, and the length set to fewer bits and to more.
-fn lengthened<T: BitStore, O: BitOrder>(rt: &(impl Abort + AllocGlobal), head: usize, len: usize)
+/// The length set, to fewer bits and to more.
+fn resized<T: BitStore, O: BitOrder>(rt: &(impl Abort + AllocGlobal), head: usize, len: usize)
     requires head { head < 8 }
     requires len { len < 18 }
 {
     for n in 0..len + 19 {
-        resized_by_calls(rt, at_head::<T, O>(rt, SEED, head, len), n);
-        resized_by_ones(rt, at_head::<T, O>(rt, SEED, head, len), n);
+        resized_by_calls::<T, O>(rt, head, len, n);
+        resized_by_ones::<T, O>(rt, head, len, n);
     }
+}
+
+/// Whole words appended, copied and pulled.
+fn extended_by_words<T: BitStore, O: BitOrder>(
+    rt: &(impl Abort + AllocGlobal),
+    head: usize,
+    len: usize,
+)
+    requires head { head < 8 }
+    requires len { len < 18 }
+{
     let mut words = words_of::<T>(rt, OTHER);
     for _ in 0..5u8 {
-        extended_by_copies(rt, at_head::<T, O>(rt, SEED, head, len), words.as_slice());
-        let copy = ok(rt, words.clone());
-        extended_by_words(rt, at_head::<T, O>(rt, SEED, head, len), copy);
+        let more = row_of::<T, O>(rt, words.as_slice());
+        let Case { mut v, list, row } = at_head::<T, O>(rt, SEED, head, len);
+        ok(rt, v.extend_from_raw_slice(words.as_slice()));
+        let wanted = replaced(rt, &list, len, len, &more);
+        check(rt, shows(rt, &v, head, &wanted, &row));
+        let Case { mut v, row, .. } = at_head::<T, O>(rt, SEED, head, len);
+        ok(
+            rt,
+            v.extend_words(ok(rt, Vec::from_slice(rt.alloc(), words.as_slice()))),
+        );
+        check(rt, shows(rt, &v, head, &wanted, &row));
         let _last = words.pop();
     }
+}
+
+/// Each range appended once more.
+fn extended_within<T: BitStore, O: BitOrder>(
+    rt: &(impl Abort + AllocGlobal),
+    head: usize,
+    len: usize,
+)
+    requires head { head < 8 }
+    requires len { len < 18 }
+{
+    for from in 0..len + 1 {
+        for upto in from..len + 1 {
+            let Case { mut v, list, row } = at_head::<T, O>(rt, SEED, head, len);
+            ok(rt, v.extend_from_within(from..upto));
+            let more = part(rt, &list, from, upto);
+            let wanted = replaced(rt, &list, len, len, &more);
+            check(rt, shows(rt, &v, head, &wanted, &row));
+        }
+    }
+}
+
+/// Room made and given back: the list and the words stay.
+fn roomy<T: BitStore, O: BitOrder>(rt: &(impl Abort + AllocGlobal), head: usize, len: usize)
+    requires head { head < 8 }
+    requires len { len < 18 }
+{
+    for more in 0..40usize {
+        let Case { mut v, list, row } = at_head::<T, O>(rt, SEED, head, len);
+        ok(rt, v.reserve(more));
+        check(rt, v.capacity() >= len + more);
+        ok(rt, v.reserve_exact(2 * more));
+        let room = v.capacity();
+        check(rt, room >= len + 2 * more);
+        check(rt, shows(rt, &v, head, &list, &row));
+        ok(rt, v.shrink_to_fit());
+        check(rt, v.capacity() >= len);
+        check(rt, v.capacity() <= room);
+        check(rt, shows(rt, &v, head, &list, &row));
+    }
+}
+
+/// All of it, at one head and one length.
+fn grown<T: BitStore, O: BitOrder>(rt: &(impl Abort + AllocGlobal), head: usize, len: usize)
+    requires head { head < 8 }
+    requires len { len < 18 }
+{
+    extended::<T, O>(rt, head, len);
+    resized::<T, O>(rt, head, len);
+    extended_by_words::<T, O>(rt, head, len);
+    extended_within::<T, O>(rt, head, len);
+    roomy::<T, O>(rt, head, len);
 }
 
 #[test]
@@ -211,10 +207,6 @@ fn growth_at_each_head(rt: HostRuntime) {
             grown::<u8, Msb0>(&rt, head, len);
             grown::<u16, Xor4>(&rt, head, len);
             grown::<u8, Scramble>(&rt, head, len);
-            lengthened::<u8, Lsb0>(&rt, head, len);
-            lengthened::<u8, Msb0>(&rt, head, len);
-            lengthened::<u16, Xor4>(&rt, head, len);
-            lengthened::<u8, Scramble>(&rt, head, len);
         }
     }
 }

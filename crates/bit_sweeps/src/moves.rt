@@ -1,33 +1,34 @@
 //! Each move within three bytes, by four orders, beside the move of a list.
 ghost use Rattle.std.specs.Prelude.{◌+◌, ◌≤◌};
 
-use crate::common::{bits_of, check, over};
+use crate::common::{bits_of, check};
 use crate::orders::{Scramble, Xor4};
 use bit_addressing::{BitOrder, Lsb0, Msb0, move_bits};
 use std::process::Abort;
 
-/// A move within three words.
-fn moved<O: BitOrder>(rt: &impl Abort, src: usize, dst: usize, n: usize)
+/// The bits after a run was moved, as a list is copied within.
+fn moved(before: [bool; 24], src: usize, dst: usize, n: usize) -> [bool; 24]
     requires from { src + n ≤ 24 }
     requires to { dst + n ≤ 24 }
 {
-    let words = [0xb1, 0x6d, 0x2e];
-    let before = bits_of::<O>(words);
-    let mut now = words;
-    move_bits::<u8, O>(&mut now, src, dst, n);
-    check(
-        rt,
-        bits_of::<O>(now) == over(before, dst, &before[src..src + n]),
-    );
+    let mut after = before;
+    for k in 0..n {
+        after[dst + k] = before[src + k];
+    }
+    after
 }
 
 /// Makes each move within three words, by an order, and counts them.
 fn every_move<O: BitOrder>(rt: &impl Abort) -> usize {
+    let words = [0xb1, 0x6d, 0x2e];
+    let before = bits_of::<O>(words);
     let mut count = 0usize;
     for n in 0..=24 {
         for src in 0..=24 - n {
             for dst in 0..=24 - n {
-                moved::<O>(rt, src, dst, n);
+                let mut now = words;
+                move_bits::<u8, O>(&mut now, src, dst, n);
+                check(rt, bits_of::<O>(now) == moved(before, src, dst, n));
                 count = count.wrapping_add(1);
             }
         }

@@ -47,45 +47,29 @@ fn of<T: BitStore, O: BitOrder>(rt: &(impl Abort + AllocGlobal), digits: &[u8]) 
     v
 }
 
-/// That some words are this one alone.
-fn are_one<T: BitStore>(rt: &impl Abort, words: &[T], word: u64) {
-    check(rt, words.len() == 1);
-    for now in words {
-        check(rt, now.to_u64() == word);
-    }
-}
-
-/// That a box of five bits has this word.
-fn boxed<T: BitStore, O: BitOrder>(rt: &(impl Abort + AllocGlobal), word: u64) {
-    let bits = [true, true, false, false, true];
-    let b = ok(rt, BitBox::<T, O>::from_bits(rt.alloc(), bits));
-    are_one(rt, b.as_raw_slice(), word);
-}
-
-/// That a vector of five bits has this word.
-fn appended<T: BitStore, O: BitOrder>(rt: &(impl Abort + AllocGlobal), word: u64) {
-    let v = of::<T, O>(rt, b"11001");
-    are_one(rt, v.as_raw_slice(), word);
-}
-
 #[test]
 fn boxes_by_orders_of_a_user(rt: HostRuntime) {
-    boxed::<u8, Xor4>(&rt, 0x31);
-    boxed::<u8, Scramble>(&rt, 0x89);
-    boxed::<u16, Scramble>(&rt, 0x0188);
     let words: BoxedSlice<u8> = ok(&rt, vec![in rt.alloc(); 0xb1, 0x6d]).into_boxed_slice();
     let Ok(mut b) = BitBox::<u8, Xor4>::try_from_boxed_slice(words) else {
         panic!(rt; "two words have few bits");
     };
     b.copy_within(1..12, 3);
     check(&rt, b.as_raw_slice() == [0xb6, 0x8d].as_slice());
+    let bits = [true, true, false, false, true];
+    let b = ok(&rt, BitBox::<u8, Xor4>::from_bits(rt.alloc(), bits));
+    check(&rt, b.as_raw_slice() == [0x31].as_slice());
+    let b = ok(&rt, BitBox::<u8, Scramble>::from_bits(rt.alloc(), bits));
+    check(&rt, b.as_raw_slice() == [0x89].as_slice());
+    let b = ok(&rt, BitBox::<u16, Scramble>::from_bits(rt.alloc(), bits));
+    check(&rt, b.as_raw_slice() == [0x0188].as_slice());
 }
 
 #[test]
 fn vectors_by_orders_of_a_user(rt: HostRuntime) {
-    appended::<u8, Xor4>(&rt, 0x31);
-    appended::<u8, Scramble>(&rt, 0x89);
-    appended::<u16, Scramble>(&rt, 0x0188);
+    let v = of::<u8, Scramble>(&rt, b"11001");
+    check(&rt, v.as_raw_slice() == [0x89].as_slice());
+    let v = of::<u16, Scramble>(&rt, b"11001");
+    check(&rt, v.as_raw_slice() == [0x0188].as_slice());
     let mut v = of::<u8, Xor4>(&rt, b"1101100001101011");
     check(&rt, v.as_raw_slice() == [0xb1, 0x6d].as_slice());
     v.copy_within(1..12, 3);

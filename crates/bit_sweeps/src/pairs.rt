@@ -1,17 +1,26 @@
 //! Two lists combined, compared and written over one another.
-ghost use Rattle.std.specs.Prelude.{◌≡◌, ◌<◌, length};
+ghost use Rattle.std.specs.Prelude.{◌<◌};
 
-use crate::common::{
-    By, Case, again, at_head, check, combined, compared, flipped, ok, order_of, part, replaced,
-    stands,
-};
+use crate::common::{By, Case, at_head, check, ok, part, shows};
 use crate::orders::{Scramble, Xor4};
 use bit_containers::{BitOrder, BitSlice, BitStore, BitVec, Lsb0, Msb0};
+use std::cmp::Ordering;
+use std::hash::{DefaultHasher, Hash, Hasher};
 use std::process::Abort;
 
 const SEED: u64 = 0x1234_5678_9abc_def1;
 
 const OTHER: u64 = 0x0fed_cba9_8765_4321;
+
+/// The left list, with each item combined with that of the right list, or with false past its end.
+fn combined(rt: &(impl Abort + AllocGlobal), left: &[bool], right: &[bool], by: By) -> Vec<bool> {
+    let mut bits = Vec::new(rt.alloc());
+    for (i, bit) in left.iter().enumerate() {
+        let other = right.get(i).copied().unwrap_or(false);
+        ok(rt, bits.push(by.of(*bit, other)));
+    }
+    bits
+}
 
 /// A vector combined with another by an operator that gives a new one.
 fn by_operator<T: BitStore, O: BitOrder>(
@@ -48,86 +57,82 @@ fn by_view<T: BitStore, O: BitOrder, U: BitStore, P: BitOrder>(
     }
 }
 
-/// Two vectors combined by an operator.
-fn operated<T: BitStore, O: BitOrder>(
+/// Two vectors combined in one of three ways: by an operator, by one that changes the left, and by a call.
+fn operated_in<T: BitStore, O: BitOrder>(
     rt: &(impl Abort + AllocGlobal),
-    mut case: Case<T, O>,
-    right: &Case<T, O>,
+    head: usize,
+    len: usize,
+    right: Case<T, O>,
     by: By,
-) {
-    case.v = by_operator(case.v, again(rt, &right.v), by);
-    let wanted = combined(rt, &case.list, &right.list, by);
-    stands(rt, case, wanted);
+    way: u8,
+)
+    requires head { head < 8 }
+    requires len { len < 18 }
+{
+    let Case { mut v, list, row } = at_head::<T, O>(rt, SEED, head, len);
+    let wanted = combined(rt, &list, &right.list, by);
+    match way {
+        0 => v = by_operator(v, right.v, by),
+        1 => by_assignment(&mut v, right.v, by),
+        _ => by_view(&mut v, right.v.as_bitslice(), by),
+    }
+    check(rt, shows(rt, &v, head, &wanted, &row));
 }
 
-/// Two vectors combined by an operator that changes the left.
-fn assigned<T: BitStore, O: BitOrder>(
-    rt: &(impl Abort + AllocGlobal),
-    mut case: Case<T, O>,
-    right: &Case<T, O>,
-    by: By,
-) {
-    by_assignment(&mut case.v, again(rt, &right.v), by);
-    let wanted = combined(rt, &case.list, &right.list, by);
-    stands(rt, case, wanted);
+/// Two vectors combined by the operators, and by the calls that take a view of any type.
+fn operated<T: BitStore, O: BitOrder>(rt: &(impl Abort + AllocGlobal), head: usize, len: usize)
+    requires head { head < 8 }
+    requires len { len < 18 }
+{
+    for size in 0..18usize {
+        for by in [By::And, By::Or, By::Xor] {
+            for way in 0..3u8 {
+                let right = at_head::<T, O>(rt, OTHER, (3 * head + size) % 8, size);
+                operated_in(rt, head, len, right, by, way);
+            }
+        }
+    }
 }
 
-/// A vector combined with a view of another.
-fn crossed_by<T: BitStore, O: BitOrder, U: BitStore, P: BitOrder>(
+/// A list combined with a view by other words and another order.
+fn crossed_by<T: BitStore, O: BitOrder>(
     rt: &(impl Abort + AllocGlobal),
-    mut case: Case<T, O>,
-    right: &Case<U, P>,
+    head: usize,
+    len: usize,
+    right: &Case<u16, Msb0>,
     by: By,
-) {
-    let wanted = combined(rt, &case.list, &right.list, by);
-    by_view(&mut case.v, right.v.as_bitslice(), by);
-    stands(rt, case, wanted);
+)
+    requires head { head < 8 }
+    requires len { len < 18 }
+{
+    let Case { mut v, list, row } = at_head::<T, O>(rt, SEED, head, len);
+    by_view(&mut v, right.v.as_bitslice(), by);
+    let wanted = combined(rt, &list, &right.list, by);
+    check(rt, shows(rt, &v, head, &wanted, &row));
 }
 
 /// A list beside one by other words and another order.
 fn set_beside<T: BitStore, O: BitOrder>(
     rt: &(impl Abort + AllocGlobal),
-    case: Case<T, O>,
+    head: usize,
+    len: usize,
     right: &Case<u16, Msb0>,
-) {
-    let order = order_of(&case.list, &right.list);
-    check(rt, case.v.cmp_bits(right.v.as_bitslice()) == order);
-    check(rt, case.v.eq_bits(right.v.as_bitslice()) == order.is_eq());
+)
+    requires head { head < 8 }
+    requires len { len < 18 }
+{
+    let Case { v, list, .. } = at_head::<T, O>(rt, SEED, head, len);
+    let order = order_of(&list, &right.list);
+    check(rt, v.cmp_bits(right.v.as_bitslice()) == order);
+    check(
+        rt,
+        v.eq_bits(right.v.as_bitslice()) == (order == Ordering::Equal),
+    );
 }
 
 /// A list written over by one as long, by other words and another order.
 fn written_over<T: BitStore, O: BitOrder>(
     rt: &(impl Abort + AllocGlobal),
-    mut case: Case<T, O>,
-    right: Case<u16, Msb0>,
-)
-    requires { length case.v.list ≡ length right.v.list }
-{
-    case.v.clone_from_bitslice(right.v.as_bitslice());
-    check(rt, case.v.eq_bits(right.v.as_bitslice()));
-    stands(rt, case, right.list);
-}
-
-/// Two vectors combined by each operator, and by the calls that take a view of any type.
-fn each_operator<T: BitStore, O: BitOrder>(
-    rt: &(impl Abort + AllocGlobal),
-    head: usize,
-    len: usize,
-    right: &Case<T, O>,
-)
-    requires head { head < 8 }
-    requires len { len < 18 }
-{
-    for by in [By::And, By::Or, By::Xor] {
-        crossed_by(rt, at_head::<T, O>(rt, SEED, head, len), right, by);
-        operated(rt, at_head::<T, O>(rt, SEED, head, len), right, by);
-        assigned(rt, at_head::<T, O>(rt, SEED, head, len), right, by);
-    }
-}
-
-/// A list combined with, and beside, a view by other words and another order.
-fn crossed<T: BitStore, O: BitOrder>(
-    rt: &(impl Abort + AllocGlobal),
     head: usize,
     len: usize,
     right: &Case<u16, Msb0>,
@@ -135,59 +140,87 @@ fn crossed<T: BitStore, O: BitOrder>(
     requires head { head < 8 }
     requires len { len < 18 }
 {
-    for by in [By::And, By::Or, By::Xor] {
-        crossed_by(rt, at_head::<T, O>(rt, SEED, head, len), right, by);
-    }
-    set_beside(rt, at_head::<T, O>(rt, SEED, head, len), right);
+    let Case { mut v, row, .. } = at_head::<T, O>(rt, SEED, head, len);
+    assert!(rt; v.len() == right.v.len());
+    v.clone_from_bitslice(right.v.as_bitslice());
+    check(rt, shows(rt, &v, head, &right.list, &row));
+    check(rt, v.eq_bits(right.v.as_bitslice()));
 }
 
-/// A list at one head and length, beside others of each length by other words and another order.
-fn each_crossed<T: BitStore, O: BitOrder>(rt: &(impl Abort + AllocGlobal), head: usize, len: usize)
+/// A list combined with, and written over by, a view by other words and another order.
+fn crossed<T: BitStore, O: BitOrder>(rt: &(impl Abort + AllocGlobal), head: usize, len: usize)
     requires head { head < 8 }
     requires len { len < 18 }
 {
     for size in 0..18usize {
         let right = at_head::<u16, Msb0>(rt, OTHER, (5 * head + size) % 16, size);
-        crossed::<T, O>(rt, head, len, &right);
-    }
-    let right = at_head::<u16, Msb0>(rt, OTHER, (5 * head + len) % 16, len);
-    written_over(rt, at_head::<T, O>(rt, SEED, head, len), right);
-}
-
-/// Two vectors at one head and length of the one, and each length of the other.
-fn each_operated<T: BitStore, O: BitOrder>(rt: &(impl Abort + AllocGlobal), head: usize, len: usize)
-    requires head { head < 8 }
-    requires len { len < 18 }
-{
-    for size in 0..18usize {
-        let right = at_head::<T, O>(rt, OTHER, (3 * head + size) % 8, size);
-        each_operator(rt, head, len, &right);
+        for by in [By::And, By::Or, By::Xor] {
+            crossed_by::<T, O>(rt, head, len, &right, by);
+        }
+        set_beside::<T, O>(rt, head, len, &right);
+        if size == len {
+            written_over::<T, O>(rt, head, len, &right);
+        }
     }
 }
 
-/// A vector compared with one of this list.
-fn compared_with<T: BitStore, O: BitOrder>(
-    rt: &(impl Abort + AllocGlobal),
-    a: &Case<T, O>,
-    list: Vec<bool>,
-) {
-    let bits = part(rt, &list, 0, list.len());
-    let b = ok(rt, BitVec::<T, O>::from_bits(rt.alloc(), bits));
-    compared(rt, &a.v, &b, &a.list, &list);
-    compared(rt, &b, &a.v, &list, &a.list);
+/// The order of two lists: at the first place where they differ the one with false is less, or the one that ends.
+fn order_of(left: &[bool], right: &[bool]) -> Ordering {
+    for (i, bit) in left.iter().enumerate() {
+        match right.get(i) {
+            None => return Ordering::Greater,
+            Some(other) => {
+                if *bit != *other {
+                    return if *bit {
+                        Ordering::Greater
+                    } else {
+                        Ordering::Less
+                    };
+                }
+            }
+        }
+    }
+    if left.len() < right.len() {
+        Ordering::Less
+    } else {
+        Ordering::Equal
+    }
 }
 
-/// A vector compared with its own first bits, and with these and the last of them flipped.
-fn compared_with_parts<T: BitStore, O: BitOrder>(
+/// Whether order and equality of two vectors are those of their lists, and the hash of the first is that of its items.
+fn compared<T: BitStore, O: BitOrder>(
+    a: &BitVec<T, O>,
+    b: &BitVec<T, O>,
+    left: &[bool],
+    right: &[bool],
+) -> bool {
+    let order = order_of(left, right);
+    let (mut fed, mut wanted) = (DefaultHasher::new(), DefaultHasher::new());
+    a.hash(&mut fed);
+    for bit in left {
+        bit.hash(&mut wanted);
+    }
+    a.cmp(b) == order
+        && a.partial_cmp(b) == Some(order)
+        && (*a == *b) == (order == Ordering::Equal)
+        && fed.finish() == wanted.finish()
+}
+
+/// A vector compared with its own first bits, of which the last one may be flipped.
+fn ordered_by_a_part<T: BitStore, O: BitOrder>(
     rt: &(impl Abort + AllocGlobal),
     a: &Case<T, O>,
     size: usize,
+    flips: bool,
 ) {
-    let first = part(rt, &a.list, 0, size);
-    let at = first.len().saturating_sub(1);
-    let other = flipped(rt, &part(rt, &first, at, size));
-    compared_with(rt, a, replaced(rt, &first, at, size, &other));
-    compared_with(rt, a, first);
+    let mut list = part(rt, &a.list, 0, size);
+    if flips && let Some(last) = list.pop() {
+        ok(rt, list.push(!last));
+    }
+    let bits = part(rt, &list, 0, size);
+    let first = ok(rt, BitVec::<T, O>::from_bits(rt.alloc(), bits));
+    check(rt, compared(&a.v, &first, &a.list, &list));
+    check(rt, compared(&first, &a.v, &list, &a.list));
 }
 
 /// A vector compared with others of each length: with mixed bits, with its own first bits, and with these and one
@@ -199,9 +232,10 @@ fn ordered<T: BitStore, O: BitOrder>(rt: &(impl Abort + AllocGlobal), head: usiz
     let a = at_head::<T, O>(rt, SEED, head, len);
     for size in 0..18usize {
         let b = at_head::<T, O>(rt, OTHER, (3 * head + size) % 8, size);
-        compared(rt, &a.v, &b.v, &a.list, &b.list);
-        compared(rt, &b.v, &a.v, &b.list, &a.list);
-        compared_with_parts(rt, &a, size);
+        check(rt, compared(&a.v, &b.v, &a.list, &b.list));
+        check(rt, compared(&b.v, &a.v, &b.list, &a.list));
+        ordered_by_a_part(rt, &a, size, false);
+        ordered_by_a_part(rt, &a, size, true);
     }
 }
 
@@ -209,12 +243,12 @@ fn ordered<T: BitStore, O: BitOrder>(rt: &(impl Abort + AllocGlobal), head: usiz
 fn operators_at_each_head(rt: HostRuntime) {
     for head in 0..8usize {
         for len in 0..18usize {
-            each_operated::<u8, Lsb0>(&rt, head, len);
-            each_operated::<u8, Msb0>(&rt, head, len);
-            each_operated::<u16, Scramble>(&rt, head, len);
-            each_crossed::<u8, Lsb0>(&rt, head, len);
-            each_crossed::<u8, Msb0>(&rt, head, len);
-            each_crossed::<u8, Xor4>(&rt, head, len);
+            operated::<u8, Lsb0>(&rt, head, len);
+            operated::<u8, Msb0>(&rt, head, len);
+            operated::<u16, Scramble>(&rt, head, len);
+            crossed::<u8, Lsb0>(&rt, head, len);
+            crossed::<u8, Msb0>(&rt, head, len);
+            crossed::<u8, Xor4>(&rt, head, len);
         }
     }
 }

@@ -1,95 +1,80 @@
 //! What is read of a list: items, counts, parts, iterators and texts.
-ghost use Rattle.std.specs.Prelude.{◌+◌, ◌<◌, ◌≤◌, length};
+ghost use Rattle.std.specs.Prelude.{◌<◌, ◌≤◌};
 
-use crate::common::{Case, at_head, check, gives, gives_back, ones_of, part};
+use crate::common::{Case, at_head, check, digits_of, ok, part, text_of};
 use crate::orders::{Scramble, Xor4};
-use crate::radix::told;
+use crate::radix::{In, Radix};
 use bit_containers::{BitOrder, BitStore, BitVec, Lsb0, Msb0};
 use std::process::Abort;
 
 const SEED: u64 = 0x2f81_c6b4_09e7_d35a;
 
-/// That the items of a vector, by their index, are those of a list.
-fn holds<T: BitStore, O: BitOrder>(rt: &impl Abort, v: &BitVec<T, O>, list: &[bool]) {
-    check(rt, v.len() == list.len());
+/// Whether the items of a vector, by their index and of its iterator, are those of a list.
+fn gives<T: BitStore, O: BitOrder>(v: &BitVec<T, O>, list: &[bool]) -> bool {
+    let (mut forth, mut right) = (v.iter(), true);
     for (i, bit) in list.iter().enumerate() {
-        assert!(rt; i < v.len());
-        check(rt, v[i] == *bit);
+        right = right && i < v.len() && v[i] == *bit && forth.next() == Some(*bit);
     }
+    right && forth.next().is_none()
 }
 
-/// That the counts and the ends of a vector are those of a list.
-fn counts<T: BitStore, O: BitOrder>(rt: &impl Abort, v: &BitVec<T, O>, list: &[bool]) {
-    let ones = ones_of(list);
-    check(rt, v.count_ones() == ones);
-    check(rt, v.count_zeros() == list.len().wrapping_sub(ones));
-    check(rt, v.any() == (ones > 0));
-    check(rt, v.all() == (ones == list.len()));
-    check(rt, v.is_empty() == list.is_empty());
-    check(rt, v.first() == list.first().copied());
-    check(rt, v.last() == list.last().copied());
+/// Whether the items of a vector from the end are those of a list.
+fn gives_back<T: BitStore, O: BitOrder>(v: &BitVec<T, O>, list: &[bool]) -> bool {
+    let (mut back, mut right) = (list.len(), true);
+    for bit in v.iter().rev() {
+        back = back.wrapping_sub(1);
+        right = right && list.get(back) == Some(&bit);
+    }
+    right && back == 0
 }
 
-/// Items passed over from both ends, of the iterator that keeps the words; those between follow.
-fn kept<T: BitStore, O: BitOrder>(
-    rt: &impl Abort,
-    v: BitVec<T, O>,
-    front: usize,
-    first: Option<bool>,
-    back: usize,
-    last: Option<bool>,
-    rest: &[bool],
-) {
-    let mut kept = v.into_iter();
-    check(rt, kept.nth(front) == first);
-    check(rt, kept.nth_back(back) == last);
-    check(rt, kept.len() == rest.len());
-    for bit in rest {
-        check(rt, kept.next() == Some(*bit));
+/// Whether the counts of a vector are those of a list.
+fn counts<T: BitStore, O: BitOrder>(v: &BitVec<T, O>, list: &[bool]) -> bool {
+    let (mut ones, mut zeros) = (0usize, 0usize);
+    for bit in list {
+        if *bit {
+            ones = ones.wrapping_add(1);
+        } else {
+            zeros = zeros.wrapping_add(1);
+        }
     }
-    check(rt, kept.next().is_none());
-    check(rt, kept.next_back().is_none());
+    let counted = v.count_ones() == ones && v.count_zeros() == zeros;
+    counted && v.any() == (ones > 0) && v.all() == (zeros == 0)
+}
+
+/// Whether the counts and the ends of a vector, its items by index, and those of its iterators are those of a list.
+fn told<T: BitStore, O: BitOrder>(v: &BitVec<T, O>, list: &[bool]) -> bool {
+    let ends = v.first() == list.first().copied() && v.last() == list.last().copied();
+    let empty = v.is_empty() == list.is_empty();
+    ends && empty && counts(v, list) && gives(v, list) && gives_back(v, list)
 }
 
 /// Items passed over from both ends, past the end too, of the lent iterator and of the one that keeps the words.
-fn passed_over<T: BitStore, O: BitOrder>(
-    rt: &(impl Abort + AllocGlobal),
-    case: Case<T, O>,
-    front: usize,
-    back: usize,
-)
-    requires front { front < 20 }
-    requires back { back < 20 }
-{
-    let rest = part(rt, &case.list, front + 1, case.list.len());
-    let upto = rest.len().saturating_sub(back + 1);
-    let first = case.list.get(front).copied();
-    let last = part(rt, &rest, upto, rest.len().saturating_sub(back))
-        .first()
-        .copied();
-    let mut lent = case.v.iter();
-    check(rt, lent.nth(front) == first);
-    check(rt, lent.nth_back(back) == last);
-    check(rt, lent.len() == upto);
-    kept(
-        rt,
-        case.v,
-        front,
-        first,
-        back,
-        last,
-        &part(rt, &rest, 0, upto),
-    );
-}
-
-/// The same for each two numbers of items.
-fn passed<T: BitStore, O: BitOrder>(rt: &(impl Abort + AllocGlobal), head: usize, len: usize)
+fn passed_over<T: BitStore, O: BitOrder>(rt: &(impl Abort + AllocGlobal), head: usize, len: usize)
     requires head { head < 8 }
     requires len { len < 18 }
 {
     for front in 0..len + 2 {
         for back in 0..len + 2 {
-            passed_over(rt, at_head::<T, O>(rt, SEED, head, len), front, back);
+            let Case { v, list, .. } = at_head::<T, O>(rt, SEED, head, len);
+            let rest = part(rt, &list, front + 1, len);
+            let first = list.get(front).copied();
+            let at = rest.len().checked_sub(back + 1);
+            let last = at.and_then(|i| rest.get(i)).copied();
+            let left = at.unwrap_or(0);
+            let mut lent = v.iter();
+            check(rt, lent.nth(front) == first);
+            check(rt, lent.nth_back(back) == last);
+            check(rt, lent.len() == left);
+            let mut kept = v.into_iter();
+            check(rt, kept.nth(front) == first);
+            check(rt, kept.nth_back(back) == last);
+            check(rt, kept.len() == left);
+            for i in 0..left {
+                check(rt, kept.next() == rest.get(i).copied());
+            }
+            check(rt, kept.next().is_none());
+            check(rt, kept.next_back().is_none());
         }
     }
 }
@@ -97,20 +82,21 @@ fn passed<T: BitStore, O: BitOrder>(rt: &(impl Abort + AllocGlobal), head: usize
 /// A part of a list, as a view of it.
 fn part_told<T: BitStore, O: BitOrder>(
     rt: &(impl Abort + AllocGlobal),
-    case: &Case<T, O>,
+    v: &BitVec<T, O>,
+    list: &[bool],
     from: usize,
     upto: usize,
 )
     requires ordered { from ≤ upto }
-    requires within { upto ≤ length case.now.v.list }
+    requires few { upto < 18 }
 {
-    let bits = part(rt, &case.list, from, upto);
-    let view = case.v.get_range(from..upto);
+    let bits = part(rt, list, from, upto);
+    let head = v.head();
+    assert!(rt; upto <= v.len());
+    assert!(rt; head < 8);
+    let view = v.get_range(from..upto);
     check(rt, view.len() == bits.len());
-    check(
-        rt,
-        view.head() == case.head.wrapping_add(from) % T::BITS as usize,
-    );
+    check(rt, view.head() == (head + from) % T::BITS as usize);
     for (i, bit) in bits.iter().enumerate() {
         check(rt, view.get(i) == Some(*bit));
     }
@@ -121,40 +107,62 @@ fn parts<T: BitStore, O: BitOrder>(rt: &(impl Abort + AllocGlobal), head: usize,
     requires head { head < 8 }
     requires len { len < 18 }
 {
-    let case = at_head::<T, O>(rt, SEED, head, len);
+    let Case { v, list, .. } = at_head::<T, O>(rt, SEED, head, len);
+    check(rt, v.head() == head);
+    check(rt, told(&v, &list));
     for from in 0..len + 1 {
         for upto in from..len + 1 {
-            part_told(rt, &case, from, upto);
+            part_told(rt, &v, &list, from, upto);
         }
     }
 }
 
-/// A whole list, and its text.
-fn whole<T: BitStore, O: BitOrder>(rt: &(impl Abort + AllocGlobal), head: usize, len: usize)
+/// The text of a vector, and its digits by one, three and four bits.
+fn written<T: BitStore, O: BitOrder>(rt: &(impl Abort + AllocGlobal), head: usize, len: usize)
     requires head { head < 8 }
     requires len { len < 18 }
 {
-    let case = at_head::<T, O>(rt, SEED, head, len);
-    check(rt, case.v.head() == head);
-    holds(rt, &case.v, &case.list);
-    gives(rt, case.v.iter(), &case.list);
-    gives_back(rt, case.v.iter(), &case.list);
-    counts(rt, &case.v, &case.list);
-    told(rt, &case.v, &case.list);
+    let Case { v, list, .. } = at_head::<T, O>(rt, SEED, head, len);
+    let text = ok(rt, format!(in rt.alloc(); "{v}"));
+    check(rt, text.as_str() == text_of(rt, &list).as_str());
+}
+
+/// The same in each radix.
+fn written_in_a_radix<T: BitStore, O: BitOrder>(
+    rt: &(impl Abort + AllocGlobal),
+    head: usize,
+    len: usize,
+)
+    requires head { head < 8 }
+    requires len { len < 18 }
+{
+    let Case { v, list, .. } = at_head::<T, O>(rt, SEED, head, len);
+    for (radix, width, digits) in [
+        (Radix::Binary, 1, b"01".as_slice()),
+        (Radix::Octal, 3, b"01234567".as_slice()),
+        (Radix::LowerHex, 4, b"0123456789abcdef".as_slice()),
+        (Radix::UpperHex, 4, b"0123456789ABCDEF".as_slice()),
+    ] {
+        let wanted = digits_of(rt, &list, width, digits);
+        let digits = In(&v, radix);
+        let text = ok(rt, format!(in rt.alloc(); "{digits}"));
+        check(rt, text.as_bytes() == wanted.as_slice());
+    }
 }
 
 #[test]
 fn reading_at_each_head(rt: HostRuntime) {
     for head in 0..8usize {
         for len in 0..18usize {
-            whole::<u8, Lsb0>(&rt, head, len);
-            whole::<u8, Msb0>(&rt, head, len);
-            whole::<u8, Scramble>(&rt, head, len);
             parts::<u8, Lsb0>(&rt, head, len);
             parts::<u8, Msb0>(&rt, head, len);
             parts::<u8, Scramble>(&rt, head, len);
-            passed::<u8, Lsb0>(&rt, head, len);
-            passed::<u16, Xor4>(&rt, head, len);
+            passed_over::<u8, Lsb0>(&rt, head, len);
+            passed_over::<u16, Xor4>(&rt, head, len);
+            written::<u8, Lsb0>(&rt, head, len);
+            written::<u8, Msb0>(&rt, head, len);
+            written_in_a_radix::<u8, Lsb0>(&rt, head, len);
+            written_in_a_radix::<u8, Msb0>(&rt, head, len);
         }
     }
 }

@@ -1,8 +1,8 @@
 //! Each function over rows of words at every head of a byte and every length up to 17 bits, beside plain loops
 //! over lists.
-ghost use Rattle.std.specs.Prelude.{◌+◌, ◌*◌, ◌<◌, ◌≤◌, length};
+ghost use Rattle.std.specs.Prelude.{◌+◌, ◌<◌};
 
-use crate::common::{By, check, combined, ok, ones_of, part, repeated, replaced, row_of, words_of};
+use crate::common::{check, row_of, words_of};
 use crate::orders::Xor4;
 use bit_addressing::{
     And, BitOrder, BitStore, Lsb0, Msb0, Or, Xor, combine_bits, copy_bits, count_bits, differ_at,
@@ -10,214 +10,177 @@ use bit_addressing::{
 };
 use std::process::Abort;
 
-const SOURCE: u64 = 0x1234_5678_9abc_def1;
-
-const WORDS: u64 = 0x0fed_cba9_8765_4321;
-
-/// That some words, at most eighty, have so many bits.
-pub(crate) fn has_room<T: BitStore>(rt: &impl Abort, words: &[T], upto: usize)
-    ensures few { length words.now ≤ 80 }
-    ensures room { upto ≤ T.BITS * length words.now }
-{
-    assert!(rt; words.len() <= 80);
-    assert!(rt; upto <= T::BITS as usize * words.len());
-}
-
-/// That some words have these bits now from a place on, and elsewhere those that they had.
-pub(crate) fn is_written<T: BitStore, O: BitOrder>(
-    rt: &(impl Abort + AllocGlobal),
-    before: &[T],
-    after: &[T],
+/// Whether `after` has, at the `n` places from `at` on, what `make` says of the bits of `before` there and
+/// of `source` from `from` on, and elsewhere the bits of `before`.
+fn is_made(
+    before: &[bool],
+    after: &[bool],
     at: usize,
-    bits: &[bool],
-) {
-    let row = row_of::<T, O>(rt, before);
-    let wanted = replaced(rt, &row, at, at.wrapping_add(bits.len()), bits);
-    check(rt, row_of::<T, O>(rt, after) == wanted);
-}
-
-/// The bits of some words from a place on.
-pub(crate) fn run_of<T: BitStore, O: BitOrder>(
-    rt: &(impl Abort + AllocGlobal),
-    words: &[T],
+    source: &[bool],
     from: usize,
     n: usize,
-) -> Vec<bool> {
-    let row = row_of::<T, O>(rt, words);
-    part(rt, &row, from, from.wrapping_add(n))
-}
-
-/// A run of bits copied.
-pub(crate) fn copied<T: BitStore, O: BitOrder, U: BitStore, P: BitOrder>(
-    rt: &(impl Abort + AllocGlobal),
-    before: &[T],
-    at: usize,
-    source: &[U],
-    from: usize,
-    n: usize,
-)
-    requires { at + n + from < 10000 }
+    make: u8,
+) -> bool
+    requires { at + n + from < 100 }
 {
-    let mut words = ok(rt, Vec::from_slice(rt.alloc(), before));
-    has_room(rt, &words, at + n);
-    has_room(rt, source, from + n);
-    copy_bits::<T, O, U, P>(words.as_mut_slice(), at, source, from, n);
-    let bits = run_of::<U, P>(rt, source, from, n);
-    is_written::<T, O>(rt, before, &words, at, &bits);
-}
-
-/// Combines a run of bits with another.
-fn combine<T: BitStore, O: BitOrder, U: BitStore, P: BitOrder>(
-    words: &mut [T],
-    at: usize,
-    source: &[U],
-    from: usize,
-    n: usize,
-    by: By,
-)
-    requires few { at + n + from < 10000 }
-    requires target { at + n ≤ T.BITS * length words.old }
-    requires source { from + n ≤ U.BITS * length source.now }
-{
-    match by {
-        By::And => combine_bits::<And, T, O, U, P>(words, at, source, from, n),
-        By::Or => combine_bits::<Or, T, O, U, P>(words, at, source, from, n),
-        By::Xor => combine_bits::<Xor, T, O, U, P>(words, at, source, from, n),
+    let mut same = before.len() == after.len();
+    for (j, bit) in after.iter().enumerate() {
+        let old = before.get(j).copied().unwrap_or(false);
+        let wanted = if at <= j && j < at + n {
+            let new = source.get(from + (j - at)).copied().unwrap_or(false);
+            match make {
+                0 => new,
+                1 => old && new,
+                2 => old || new,
+                _ => old != new,
+            }
+        } else {
+            old
+        };
+        same = same && *bit == wanted;
     }
+    same
 }
 
-/// A run of bits combined with another.
-pub(crate) fn combined_by<T: BitStore, O: BitOrder, U: BitStore, P: BitOrder>(
+fn written<T: BitStore, O: BitOrder, U: BitStore, P: BitOrder>(
     rt: &(impl Abort + AllocGlobal),
-    before: &[T],
     at: usize,
-    source: &[U],
     from: usize,
     n: usize,
-    by: By,
+    make: u8,
 )
-    requires { at + n + from < 10000 }
+    requires { at + n + from < 100 }
 {
-    let mut words = ok(rt, Vec::from_slice(rt.alloc(), before));
-    has_room(rt, &words, at + n);
-    has_room(rt, source, from + n);
-    combine::<T, O, U, P>(words.as_mut_slice(), at, source, from, n, by);
-    let old = run_of::<T, O>(rt, before, at, n);
-    let bits = combined(rt, &old, &run_of::<U, P>(rt, source, from, n), by);
-    is_written::<T, O>(rt, before, &words, at, &bits);
+    let source = words_of::<U>(rt, 0x1234_5678_9abc_def1);
+    let mut words = words_of::<T>(rt, 0x0fed_cba9_8765_4321);
+    let before = row_of::<T, O>(rt, words.as_slice());
+    let given = row_of::<U, P>(rt, source.as_slice());
+    assert!(rt; at + n <= T::BITS as usize * 4);
+    assert!(rt; from + n <= U::BITS as usize * 4);
+    match make {
+        0 => copy_bits::<T, O, U, P>(words.as_mut_slice(), at, source.as_slice(), from, n),
+        1 => combine_bits::<And, T, O, U, P>(words.as_mut_slice(), at, source.as_slice(), from, n),
+        2 => combine_bits::<Or, T, O, U, P>(words.as_mut_slice(), at, source.as_slice(), from, n),
+        _ => combine_bits::<Xor, T, O, U, P>(words.as_mut_slice(), at, source.as_slice(), from, n),
+    }
+    let after = row_of::<T, O>(rt, words.as_slice());
+    check(rt, is_made(&before, &after, at, &given, from, n, make));
 }
 
 /// One bit at each place of a run.
 fn filled<T: BitStore, O: BitOrder>(rt: &(impl Abort + AllocGlobal), at: usize, n: usize, bit: bool)
     requires { at + n < 100 }
 {
-    let before = words_of::<T>(rt, WORDS);
-    let mut words = words_of::<T>(rt, WORDS);
-    has_room(rt, &words, at + n);
+    let mut words = words_of::<T>(rt, 0x0fed_cba9_8765_4321);
+    let before = row_of::<T, O>(rt, words.as_slice());
+    let given = [bit; 18];
+    assert!(rt; at + n <= T::BITS as usize * 4);
     fill_bits::<T, O>(words.as_mut_slice(), at, at + n, bit);
-    is_written::<T, O>(rt, &before, &words, at, &repeated(rt, bit, n));
+    let after = row_of::<T, O>(rt, words.as_slice());
+    check(rt, is_made(&before, &after, at, &given, 0, n, 0));
 }
 
-/// The first index at which two lists differ.
-fn first_apart(a: &[bool], b: &[bool]) -> Option<usize> {
+/// The first of `n` indices at which two lists differ, each from a place of its own on.
+fn first_apart(a: &[bool], i: usize, b: &[bool], j: usize, n: usize) -> Option<usize>
+    requires { i + n + j < 100 }
+{
+    for k in 0..n {
+        if a.get(i + k) != b.get(j + k) {
+            return Some(k);
+        }
+    }
+    None
+}
+
+/// How many of `n` bits from a place on are true, and the first that is this bit.
+fn counted(bits: &[bool], from: usize, n: usize, bit: bool) -> (usize, Option<usize>)
+    requires { from + n < 100 }
+{
+    let mut ones = 0usize;
     let mut first = None;
-    for (k, bit) in a.iter().enumerate() {
-        if first.is_none() & (b.get(k) != Some(bit)) {
+    for k in 0..n {
+        let here = bits.get(from + k) == Some(&true);
+        if here {
+            ones = ones.wrapping_add(1);
+        }
+        if here == bit && first.is_none() {
             first = Some(k);
         }
     }
-    first
+    (ones, first)
 }
 
 /// The first index at which two rows differ.
 fn compared<T: BitStore, O: BitOrder, U: BitStore, P: BitOrder>(
     rt: &(impl Abort + AllocGlobal),
-    words: &[T],
     at: usize,
-    source: &[U],
     from: usize,
     n: usize,
 )
     requires { at + n + from < 100 }
 {
-    has_room(rt, words, at + n);
-    has_room(rt, source, from + n);
-    let apart = differ_at::<T, O, U, P>(words, at, source, from, n);
-    let own = run_of::<T, O>(rt, words, at, n);
-    let given = run_of::<U, P>(rt, source, from, n);
-    check(rt, apart == first_apart(&own, &given));
+    let source = words_of::<U>(rt, 0x1234_5678_9abc_def1);
+    let words = words_of::<T>(rt, 0x0fed_cba9_8765_4321);
+    assert!(rt; at + n <= T::BITS as usize * 4);
+    assert!(rt; from + n <= U::BITS as usize * 4);
+    let apart = differ_at::<T, O, U, P>(words.as_slice(), at, source.as_slice(), from, n);
+    let given = row_of::<U, P>(rt, source.as_slice());
+    let own = row_of::<T, O>(rt, words.as_slice());
+    check(rt, apart == first_apart(&own, at, &given, from, n));
 }
 
-/// How many bits are true, and the first that is this bit.
-fn searched<U: BitStore, P: BitOrder>(
-    rt: &(impl Abort + AllocGlobal),
-    from: usize,
-    n: usize,
-    bit: bool,
-)
-    requires { from + n < 100 }
+/// How many bits are true, and the first of each kind.
+fn searched<U: BitStore, P: BitOrder>(rt: &(impl Abort + AllocGlobal), from: usize, n: usize)
+    requires { n + from < 100 }
 {
-    let source = words_of::<U>(rt, SOURCE);
-    has_room(rt, &source, from + n);
-    let bits = run_of::<U, P>(rt, &source, from, n);
-    let total = count_bits::<U, P>(&source, from, from + n);
-    check(rt, total == ones_of(&bits));
-    let found = find_bit::<U, P>(&source, from, from + n, bit);
-    check(rt, found == first_apart(&bits, &repeated(rt, !bit, n)));
+    let source = words_of::<U>(rt, 0x1234_5678_9abc_def1);
+    assert!(rt; from + n <= U::BITS as usize * 4);
+    let total = count_bits::<U, P>(source.as_slice(), from, from + n);
+    let given = row_of::<U, P>(rt, source.as_slice());
+    for bit in [false, true] {
+        let (ones, first) = counted(&given, from, n, bit);
+        let found = find_bit::<U, P>(source.as_slice(), from, from + n, bit);
+        check(rt, total == ones);
+        check(rt, found == first);
+    }
 }
 
 /// A run read as a number, and written over another.
 fn chunked<T: BitStore, O: BitOrder, U: BitStore, P: BitOrder>(
     rt: &(impl Abort + AllocGlobal),
-    before: &[T],
-    at: usize,
-    source: &[U],
-    from: usize,
-    n: u8,
-)
-    requires few { n < 18 }
-    requires places { at + from < 20 }
-{
-    let len = n as usize;
-    let mut words = ok(rt, Vec::from_slice(rt.alloc(), before));
-    has_room(rt, &words, at + len);
-    has_room(rt, source, from + len);
-    let chunk = read_chunk::<U, P>(source, from, n);
-    write_chunk::<T, O>(words.as_mut_slice(), at, n, chunk);
-    let bits = run_of::<U, P>(rt, source, from, len);
-    is_written::<T, O>(rt, before, &words, at, &bits);
-}
-
-/// Each call that takes two runs.
-fn paired<T: BitStore, O: BitOrder, U: BitStore, P: BitOrder>(
-    rt: &(impl Abort + AllocGlobal),
     at: usize,
     from: usize,
-    n: u8,
+    n: usize,
 )
-    requires at { at < 8 }
-    requires from { from < 8 }
-    requires n { n < 18 }
+    requires { at + n + from < 100 }
 {
-    let (words, source) = (words_of::<T>(rt, WORDS), words_of::<U>(rt, SOURCE));
-    let len = n as usize;
-    copied::<T, O, U, P>(rt, &words, at, &source, from, len);
-    for by in [By::And, By::Or, By::Xor] {
-        combined_by::<T, O, U, P>(rt, &words, at, &source, from, len, by);
-    }
-    compared::<T, O, U, P>(rt, &words, at, &source, from, len);
-    chunked::<T, O, U, P>(rt, &words, at, &source, from, n);
+    let source = words_of::<U>(rt, 0x1234_5678_9abc_def1);
+    let mut words = words_of::<T>(rt, 0x0fed_cba9_8765_4321);
+    assert!(rt; n <= 64);
+    assert!(rt; at + n <= T::BITS as usize * 4);
+    assert!(rt; from + n <= U::BITS as usize * 4);
+    let before = row_of::<T, O>(rt, words.as_slice());
+    let chunk = read_chunk::<U, P>(source.as_slice(), from, n as u8);
+    write_chunk::<T, O>(words.as_mut_slice(), at, n as u8, chunk);
+    let given = row_of::<U, P>(rt, source.as_slice());
+    let after = row_of::<T, O>(rt, words.as_slice());
+    check(rt, is_made(&before, &after, at, &given, from, n, 0));
 }
 
 fn sweep<T: BitStore, O: BitOrder, U: BitStore, P: BitOrder>(rt: &(impl Abort + AllocGlobal)) {
     for at in 0..8usize {
-        for n in 0..18u8 {
-            for bit in [false, true] {
-                filled::<T, O>(rt, at, n as usize, bit);
-                searched::<U, P>(rt, at, n as usize, bit);
-            }
-            for from in 0..8usize {
-                paired::<T, O, U, P>(rt, at, from, n);
+        for n in 0..18usize {
+            filled::<T, O>(rt, at, n, false);
+            filled::<T, O>(rt, at, n, true);
+            searched::<U, P>(rt, at, n);
+        }
+        for from in 0..8usize {
+            for n in 0..18usize {
+                for make in 0..4u8 {
+                    written::<T, O, U, P>(rt, at, from, n, make);
+                }
+                compared::<T, O, U, P>(rt, at, from, n);
+                chunked::<T, O, U, P>(rt, at, from, n);
             }
         }
     }

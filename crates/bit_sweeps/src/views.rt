@@ -1,219 +1,80 @@
 //! Each call of a view at every head of a byte and every length up to 17 bits, beside plain loops over lists.
-ghost use Rattle.std.specs.Prelude.{◌≡◌, ◌+◌, ◌<◌, ◌≤◌, length};
-ghost use Rattle.bit_slice.specs.BitSlice.{len_of};
+ghost use Rattle.std.specs.Prelude.{◌+◌, ◌≤◌};
 
-use crate::common::{
-    By, bits_of, check, combined, gives, gives_back, ones_of, order_of, over, run,
-};
+use crate::common::{bits_of, check};
 use crate::orders::{Scramble, Xor4};
 use bit_addressing::{BitOrder, Lsb0, Msb0};
 use bit_slice::{BitSlice, run_mut};
+use std::cmp::Ordering;
 use std::process::Abort;
 
-const WORDS: [u8; 3] = [0xb1, 0x6d, 0x2e];
-
-const OTHERS: [u8; 3] = [0x6b, 0x1d, 0xa4];
-
 /// The calls that read one bit after another.
-fn items<O: BitOrder>(rt: &impl Abort, view: BitSlice<'_, u8, O>, list: &[bool]) {
-    check(rt, view.len() == list.len());
-    for (i, bit) in list.iter().enumerate() {
-        check(rt, view.get(i) == Some(*bit));
-        assert!(rt; i < view.len());
-        check(rt, view[i] == *bit);
+fn items<O: BitOrder>(rt: &impl Abort, words: [u8; 3], head: usize, len: usize)
+    requires { head + len ≤ 24 }
+{
+    let bits = bits_of::<O>(words);
+    let view = BitSlice::<u8, O>::from_slice(&words).get_range(head..head + len);
+    let (mut forward, mut backward) = (view.iter(), view.iter());
+    for i in 0..len {
+        let (bit, last) = (bits[head + i], bits[head + len - 1 - i]);
+        check(rt, forward.len() == len - i);
+        check(rt, (view[i], view.get(i)) == (bit, Some(bit)));
+        check(
+            rt,
+            (forward.next(), backward.next_back()) == (Some(bit), Some(last)),
+        );
     }
-    check(rt, view.get(list.len()).is_none());
+    check(rt, (forward.next(), backward.next_back()) == (None, None));
+    check(rt, view.get(len) == None);
+}
+
+/// How many of these bits, from a place on, are true.
+fn ones_in(bits: &[bool], head: usize, len: usize) -> usize {
+    let mut ones = 0usize;
+    for (i, bit) in bits.iter().enumerate() {
+        if *bit && head <= i && i - head < len {
+            ones = ones.wrapping_add(1);
+        }
+    }
+    ones
 }
 
 /// The calls that count bits.
-fn totals<O: BitOrder>(rt: &impl Abort, view: BitSlice<'_, u8, O>, list: &[bool]) {
-    let ones = ones_of(list);
-    check(rt, view.count_ones() == ones);
-    check(rt, view.count_zeros() == list.len().wrapping_sub(ones));
-    check(rt, view.any() == (ones != 0));
-    check(rt, view.all() == (ones == list.len()));
+fn totals<O: BitOrder>(rt: &impl Abort, words: [u8; 3], head: usize, len: usize)
+    requires { head + len ≤ 24 }
+{
+    let ones = ones_in(&bits_of::<O>(words), head, len);
+    let view = BitSlice::<u8, O>::from_slice(&words).get_range(head..head + len);
+    let (count, zeros) = (view.count_ones(), view.count_zeros());
+    let (any, all) = (view.any(), view.all());
+    check(rt, count == ones);
+    check(rt, zeros == len.wrapping_sub(ones));
+    check(rt, any == (ones != 0));
+    check(rt, all == (ones == len));
     check(rt, view.counted().count_ones_counted() == ones);
 }
 
 /// The calls that look at one end.
-fn ends<O: BitOrder>(rt: &impl Abort, view: BitSlice<'_, u8, O>, list: &[bool]) {
-    check(rt, view.is_empty() == list.is_empty());
-    check(rt, view.first() == list.first().copied());
-    check(rt, view.last() == list.last().copied());
-}
-
-/// The calls that read.
-fn read<O: BitOrder>(rt: &impl Abort, head: usize, len: usize)
+fn ends<O: BitOrder>(rt: &impl Abort, words: [u8; 3], head: usize, len: usize)
     requires { head + len ≤ 24 }
 {
-    let (words, bits) = (WORDS, bits_of::<O>(WORDS));
-    let view = run::<O>(&words, head, len);
-    let list = &bits[head..head + len];
-    items(rt, view, list);
-    totals(rt, view, list);
-    ends(rt, view, list);
-    gives(rt, view.iter(), list);
-    gives_back(rt, view.iter(), list);
+    let view = BitSlice::<u8, O>::from_slice(&words).get_range(head..head + len);
+    let (first, last) = (view.first(), view.last());
+    check(rt, view.len() == len);
+    check(rt, view.is_empty() == (len == 0));
+    let bits = bits_of::<O>(words);
+    let (mut front, mut back) = (None, None);
+    if len != 0 {
+        (front, back) = (Some(bits[head]), Some(bits[head + len - 1]));
+    }
+    check(rt, first == front);
+    check(rt, last == back);
 }
 
 /// Two views of words of two kinds, compared as lists are.
 fn compared<O: BitOrder, P: BitOrder>(
     rt: &impl Abort,
-    left: BitSlice<'_, u8, O>,
-    right: BitSlice<'_, u8, P>,
-    a: &[bool],
-    b: &[bool],
-) {
-    let order = order_of(a, b);
-    check(rt, left.cmp_bits(right) == order);
-    check(rt, left.eq_bits(right) == order.is_eq());
-}
-
-/// That these words have these bits from a place on, and elsewhere those that they had.
-fn are<O: BitOrder>(rt: &impl Abort, words: [u8; 3], at: usize, bits: &[bool]) {
-    check(
-        rt,
-        bits_of::<O>(words) == over(bits_of::<O>(WORDS), at, bits),
-    );
-}
-
-/// One bit written, and read as it is written over.
-fn set<O: BitOrder>(rt: &impl Abort, head: usize, len: usize, i: usize)
-    requires run { head + len ≤ 24 }
-    requires within { i < len }
-{
-    let old = bits_of::<O>(WORDS)[head + i];
-    let mut now = WORDS;
-    run_mut::<u8, O>(&mut now, head, head + len).set(i, !old);
-    are::<O>(rt, now, head + i, &[!old]);
-    let mut now = WORDS;
-    let read = run_mut::<u8, O>(&mut now, head, head + len).replace(i, !old);
-    check(rt, read == old);
-    are::<O>(rt, now, head + i, &[!old]);
-}
-
-/// One bit exchanged with another.
-fn swapped<O: BitOrder>(rt: &impl Abort, head: usize, len: usize, i: usize, j: usize)
-    requires run { head + len ≤ 24 }
-    requires first { i < len }
-    requires second { j < len }
-{
-    let mut now = WORDS;
-    run_mut::<u8, O>(&mut now, head, head + len).swap(i, j);
-    let bits = bits_of::<O>(WORDS);
-    let wanted = over(bits, head + i, &[bits[head + j]]);
-    check(
-        rt,
-        bits_of::<O>(now) == over(wanted, head + j, &[bits[head + i]]),
-    );
-}
-
-/// All bits written, and each of them alone, and each two exchanged.
-fn written<O: BitOrder>(rt: &impl Abort, head: usize, len: usize)
-    requires head { head < 8 }
-    requires len { len < 18 }
-{
-    let mut now = WORDS;
-    run_mut::<u8, O>(&mut now, head, head + len).fill(true);
-    are::<O>(rt, now, head, &[true; 17][..len]);
-    for i in 0..len {
-        set::<O>(rt, head, len, i);
-        for j in 0..len {
-            swapped::<O>(rt, head, len, i, j);
-        }
-    }
-}
-
-/// A run of bits copied to a place.
-fn copied_to<O: BitOrder>(
-    rt: &impl Abort,
-    head: usize,
-    len: usize,
-    src: usize,
-    n: usize,
-    dest: usize,
-)
-    requires run { head + len ≤ 24 }
-    requires range { src + n ≤ len }
-    requires place { dest + n ≤ len }
-{
-    let bits = bits_of::<O>(WORDS);
-    let list = &bits[head + src..head + src + n];
-    let mut now = WORDS;
-    run_mut::<u8, O>(&mut now, head, head + len).copy_within(src..src + n, dest);
-    are::<O>(rt, now, head + dest, list);
-    let mut now = WORDS;
-    let mut view = run_mut::<u8, O>(&mut now, head, head + len);
-    view.counted_mut().copy_within_counted(src..src + n, dest);
-    are::<O>(rt, now, head + dest, list);
-}
-
-/// Each run of bits copied to each place.
-fn copied_within<O: BitOrder>(rt: &impl Abort, head: usize, len: usize)
-    requires { head + len ≤ 24 }
-{
-    for n in 0..=len {
-        for src in 0..=len - n {
-            for dest in 0..=len - n {
-                copied_to::<O>(rt, head, len, src, n, dest);
-            }
-        }
-    }
-}
-
-/// The words after a run of theirs is combined with a view.
-fn combined_words<O: BitOrder, P: BitOrder>(
-    head: usize,
-    len: usize,
-    view: BitSlice<'_, u8, P>,
-    by: By,
-) -> [u8; 3]
-    requires { head + len ≤ 24 }
-{
-    let mut now = WORDS;
-    let mut run = run_mut::<u8, O>(&mut now, head, head + len);
-    match by {
-        By::And => run.and_bits(view),
-        By::Or => run.or_bits(view),
-        By::Xor => run.xor_bits(view),
-    }
-    now
-}
-
-/// A run combined with a view of other words, by each operator.
-fn operated<O: BitOrder, P: BitOrder>(
-    rt: &(impl Abort + AllocGlobal),
-    head: usize,
-    list: &[bool],
-    view: BitSlice<'_, u8, P>,
-    other: &[bool],
-)
-    requires { head + length list.now ≤ 24 }
-{
-    for by in [By::And, By::Or, By::Xor] {
-        let now = combined_words::<O, P>(head, list.len(), view, by);
-        are::<O>(rt, now, head, &combined(rt, list, other, by));
-    }
-}
-
-/// All bits written over by those of a view of other words.
-fn cloned<O: BitOrder, P: BitOrder>(
-    rt: &impl Abort,
-    head: usize,
-    view: BitSlice<'_, u8, P>,
-    list: &[bool],
-)
-    requires run { head + length list.now ≤ 24 }
-    requires same { len_of view ≡ length list.now }
-{
-    let mut now = WORDS;
-    run_mut::<u8, O>(&mut now, head, head + list.len()).clone_from_bitslice(view);
-    are::<O>(rt, now, head, list);
-}
-
-/// Two runs, of `len` bits and of `n`.
-fn pair<O: BitOrder, P: BitOrder>(
-    rt: &(impl Abort + AllocGlobal),
+    words: [u8; 3],
     head: usize,
     len: usize,
     from: usize,
@@ -222,59 +83,166 @@ fn pair<O: BitOrder, P: BitOrder>(
     requires left { head + len ≤ 24 }
     requires right { from + n ≤ 24 }
 {
-    let (words, bits) = (WORDS, bits_of::<O>(WORDS));
-    let list = &bits[head..head + len];
-    let same = bits_of::<P>(WORDS);
-    compared(
-        rt,
-        run::<O>(&words, head, len),
-        run::<P>(&words, from, n),
-        list,
-        &same[from..from + n],
-    );
-    let (others, right) = (OTHERS, bits_of::<P>(OTHERS));
-    operated::<O, P>(
-        rt,
-        head,
-        list,
-        run::<P>(&others, from, n),
-        &right[from..from + n],
-    );
+    let (left, right) = (bits_of::<O>(words), bits_of::<P>(words));
+    let mut order = len.cmp(&n);
+    let mut apart = false;
+    for i in 0..len.min(n) {
+        let (x, y) = (left[head + i], right[from + i]);
+        if !apart && x != y {
+            apart = true;
+            order = if x { Ordering::Greater } else { Ordering::Less };
+        }
+    }
+    let left = BitSlice::<u8, O>::from_slice(&words).get_range(head..head + len);
+    let right = BitSlice::<u8, P>::from_slice(&words).get_range(from..from + n);
+    check(rt, left.cmp_bits(right) == order);
+    check(rt, left.eq_bits(right) == (order == Ordering::Equal));
 }
 
-/// A run written over by another.
-fn cloned_from<O: BitOrder, P: BitOrder>(rt: &impl Abort, head: usize, len: usize, from: usize)
-    requires left { head + len ≤ 24 }
-    requires right { from + len ≤ 24 }
+/// One bit written, read as it is written over, or exchanged with another.
+fn written<O: BitOrder>(rt: &impl Abort, words: [u8; 3], head: usize, len: usize)
+    requires { head + len ≤ 24 }
 {
-    let (others, right) = (OTHERS, bits_of::<P>(OTHERS));
-    cloned::<O, P>(
-        rt,
-        head,
-        run::<P>(&others, from, len),
-        &right[from..from + len],
-    );
-}
-
-/// Each view alone.
-fn alone<O: BitOrder>(rt: &impl Abort) {
-    for head in 0..8 {
-        for len in 0..18 {
-            read::<O>(rt, head, len);
-            written::<O>(rt, head, len);
-            copied_within::<O>(rt, head, len);
+    let before = bits_of::<O>(words);
+    for i in 0..len {
+        let mut wanted = before;
+        wanted[head + i] = !before[head + i];
+        let mut now = words;
+        run_mut::<u8, O>(&mut now, head, head + len).set(i, !before[head + i]);
+        check(rt, bits_of::<O>(now) == wanted);
+        let mut now = words;
+        let old = run_mut::<u8, O>(&mut now, head, head + len).replace(i, !before[head + i]);
+        check(rt, old == before[head + i]);
+        check(rt, bits_of::<O>(now) == wanted);
+        for j in 0..len {
+            let mut wanted = before;
+            wanted[head + i] = before[head + j];
+            wanted[head + j] = before[head + i];
+            let mut now = words;
+            run_mut::<u8, O>(&mut now, head, head + len).swap(i, j);
+            check(rt, bits_of::<O>(now) == wanted);
         }
     }
 }
 
-fn sweep<O: BitOrder, P: BitOrder>(rt: &(impl Abort + AllocGlobal)) {
-    alone::<O>(rt);
+/// Each run of bits copied to each place.
+fn copied_within<O: BitOrder>(rt: &impl Abort, words: [u8; 3], head: usize, len: usize)
+    requires { head + len ≤ 24 }
+{
+    let before = bits_of::<O>(words);
+    for n in 0..=len {
+        for src in 0..=len - n {
+            for dest in 0..=len - n {
+                let mut wanted = before;
+                for k in 0..n {
+                    wanted[head + dest + k] = before[head + src + k];
+                }
+                let mut now = words;
+                let mut view = run_mut::<u8, O>(&mut now, head, head + len);
+                view.copy_within(src..src + n, dest);
+                check(rt, bits_of::<O>(now) == wanted);
+                let mut now = words;
+                let mut view = run_mut::<u8, O>(&mut now, head, head + len);
+                view.counted_mut().copy_within_counted(src..src + n, dest);
+                check(rt, bits_of::<O>(now) == wanted);
+            }
+        }
+    }
+}
+
+/// The words after a run of theirs is filled, or combined with a view.
+fn combined_words<O: BitOrder, P: BitOrder>(
+    words: [u8; 3],
+    head: usize,
+    len: usize,
+    view: BitSlice<'_, u8, P>,
+    make: u8,
+) -> [u8; 3]
+    requires { head + len ≤ 24 }
+{
+    let mut now = words;
+    let mut run = run_mut::<u8, O>(&mut now, head, head + len);
+    match make {
+        0 => run.fill(true),
+        1 => run.and_bits(view),
+        2 => run.or_bits(view),
+        _ => run.xor_bits(view),
+    }
+    now
+}
+
+/// All bits written: by one bit, and by those of a view of other words, of which `n` are there.
+fn combined<O: BitOrder, P: BitOrder>(
+    rt: &impl Abort,
+    words: [u8; 3],
+    head: usize,
+    len: usize,
+    from: usize,
+    n: usize,
+)
+    requires left { head + len ≤ 24 }
+    requires right { from + n ≤ 24 }
+{
+    let others = [0x6b, 0x1d, 0xa4];
+    let (before, right) = (bits_of::<O>(words), bits_of::<P>(others));
+    let view = BitSlice::<u8, P>::from_slice(&others).get_range(from..from + n);
+    for make in 0..4 {
+        let mut wanted = before;
+        for i in 0..len {
+            let (old, there) = (before[head + i], i < n && right[from + i]);
+            wanted[head + i] = match make {
+                0 => true,
+                1 => old && there,
+                2 => old || there,
+                _ => old != there,
+            };
+        }
+        let now = combined_words::<O, P>(words, head, len, view, make);
+        check(rt, bits_of::<O>(now) == wanted);
+    }
+}
+
+/// All bits written over by those of a view of other words.
+fn cloned<O: BitOrder, P: BitOrder>(
+    rt: &impl Abort,
+    words: [u8; 3],
+    head: usize,
+    len: usize,
+    from: usize,
+)
+    requires left { head + len ≤ 24 }
+    requires right { from + len ≤ 24 }
+{
+    let others = [0x6b, 0x1d, 0xa4];
+    let right = bits_of::<P>(others);
+    let view = BitSlice::<u8, P>::from_slice(&others).get_range(from..from + len);
+    let mut wanted = bits_of::<O>(words);
+    for i in 0..len {
+        wanted[head + i] = right[from + i];
+    }
+    let mut now = words;
+    run_mut::<u8, O>(&mut now, head, head + len).clone_from_bitslice(view);
+    check(rt, bits_of::<O>(now) == wanted);
+}
+
+fn sweep<O: BitOrder, P: BitOrder>(rt: &impl Abort) {
+    let words = [0xb1, 0x6d, 0x2e];
+    for head in 0..8 {
+        for len in 0..18 {
+            items::<O>(rt, words, head, len);
+            totals::<O>(rt, words, head, len);
+            ends::<O>(rt, words, head, len);
+            written::<O>(rt, words, head, len);
+            copied_within::<O>(rt, words, head, len);
+        }
+    }
     for head in 0..8 {
         for from in 0..8 {
             for len in 0..18 {
-                cloned_from::<O, P>(rt, head, len, from);
+                cloned::<O, P>(rt, words, head, len, from);
                 for n in 0..18 {
-                    pair::<O, P>(rt, head, len, from, n);
+                    compared::<O, P>(rt, words, head, len, from, n);
+                    combined::<O, P>(rt, words, head, len, from, n);
                 }
             }
         }

@@ -1,7 +1,15 @@
 //! Making and growing.
 use crate::common::{check, ok};
+use crate::rows::orders::Xor4;
 use crate::vectors::{holds, of, shows};
 use bit_containers::{BitSlice, BitVec, Lsb0, Msb0};
+
+/// An order that exchanges the halves of a byte.
+#[test]
+fn appended_by_an_order_of_a_user(rt: HostRuntime) {
+    let v = of::<u8, Xor4>(&rt, b"11001");
+    shows(&rt, &v, &[0x31]);
+}
 
 #[test]
 fn joined_within(rt: HostRuntime) {

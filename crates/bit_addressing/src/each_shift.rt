@@ -2,6 +2,7 @@
 
 /// A call for each index of a byte, with the index bound to a name. A processor shifts bytes side by side by a number
 /// that the compiler knows, so each index gets a loop of its own (docs/SPEED.md, "A move within bytes").
+#[macro_export]
 macro_rules! each_shift {
     ($at:expr, $by:ident => $call:expr) => {
         match $at {
@@ -16,5 +17,3 @@ macro_rules! each_shift {
         }
     };
 }
-
-pub(crate) use each_shift;

@@ -29,7 +29,7 @@ pub fn elts<T: BitStore>(bits: usize) -> usize
 
 /// The word that holds the bit of a row at an index, and the bit's index in that word.
 #[inline(always)]
-pub(crate) fn in_word<T: BitStore>(at: usize) -> (usize, u8)
+pub fn in_word<T: BitStore>(at: usize) -> (usize, u8)
     ensures index { result.0 * T.BITS + result.1 ≡ at }
     ensures within { result.1 < T.BITS }
 {
@@ -37,9 +37,9 @@ pub(crate) fn in_word<T: BitStore>(at: usize) -> (usize, u8)
     (at / width, (at % width) as u8)
 }
 
-/// The index in a row of the bit at index `index` of word `k`.
+/// The index in a row of the bit at index `index` of word `k`. Requires that it is below 2 to the power 64.
 #[inline(always)]
-pub(crate) fn in_row<T: BitStore>(k: usize, index: u8) -> usize
+pub fn in_row<T: BitStore>(k: usize, index: u8) -> usize
     requires { k * T.BITS + index < 2 ^ 64 }
     ensures { result ≡ k * T.BITS + index }
 {
@@ -69,21 +69,21 @@ pub fn touched_words<T: BitStore>(from: usize, n: usize) -> Range<usize>
 /// The words that a run of bits takes: an edge in the word `first`, the whole words between it and `last`, and
 /// an edge in `last`. Where both are one word, its indices `low..end`.
 #[derive(Drop)]
-pub(crate) struct Span {
+pub struct Span {
     /// The first word that holds a bit of the run.
-    pub(crate) first: usize,
+    pub first: usize,
     /// The index of the run's first bit in that word.
-    pub(crate) low: usize,
+    pub low: usize,
     /// The last word that holds a bit of the run.
-    pub(crate) last: usize,
+    pub last: usize,
     /// The index after the run's last bit in that word, above 0.
-    pub(crate) end: usize,
+    pub end: usize,
 }
 
 impl Span {
     /// The span of the bits `from..upto` in words of type `T`. Requires that the run has a bit.
     #[inline(always)]
-    pub(crate) fn of<T: BitStore>(from: usize, upto: usize) -> Span
+    pub fn of<T: BitStore>(from: usize, upto: usize) -> Span
         requires { from < upto }
         ensures { IsSpan T.BITS from upto result.first result.low result.last result.end }
     {

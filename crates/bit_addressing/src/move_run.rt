@@ -6,7 +6,7 @@ ghost use Rattle.bit_addressing.specs.Table.{IsPairTable};
 ghost use Rattle.bit_addressing.specs.declared.length.TheConstants.{MAX_BITS};
 ghost use Rattle.bit_addressing.specs.Typed.{row};
 
-use crate::each_shift::each_shift;
+use crate::each_shift;
 use crate::index::{BitEnd, BitIdx};
 use crate::length::in_word;
 use crate::meter::Meter;

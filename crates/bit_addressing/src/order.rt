@@ -4,10 +4,10 @@ ghost use Rattle.bit_addressing.specs.Bits.{has_bit};
 ghost use Rattle.bit_addressing.specs.Order.{IsLawful, lsb0_lawful, msb0_lawful};
 ghost use Rattle.bit_addressing.specs.Row.{row_bit, row_of, moved, touched};
 
-use crate::bits::single::{blend, shl_by_rest, shr_by_rest};
 use crate::index::{BitEnd, BitIdx, BitPos};
 use crate::length::Span;
 use crate::move_run::{move_part, move_words};
+use crate::parts::{blend, shl_by_rest, shr_by_rest};
 use crate::store::BitStore;
 use crate::word_row::WordRow;
 

@@ -72,7 +72,7 @@ fn taken(entries: &[u64; 256], word: u64, count: u8) -> u64
 /// What makes a word of type `T` out of two words of one width: for each of the two, the words that four of its
 /// bits become.
 #[derive(Drop)]
-pub(crate) struct PairTable {
+pub struct PairTable {
     low: [u64; 256],
     high: [u64; 256],
 }
@@ -81,13 +81,13 @@ impl PairTable {
     /// Whether this many words are made faster with a table than without: to make it takes as long as 400 to 700 bits
     /// one by one.
     #[inline(always)]
-    pub(crate) fn pays<T: BitStore>(words: usize) -> bool {
+    pub fn pays<T: BitStore>(words: usize) -> bool {
         768 / T::BITS as usize <= words
     }
 
     /// The table of the words that begin with bit `at` of two words one after the other.
     #[inline(always)]
-    pub(crate) fn new<T: BitStore, O: BitOrder, U: BitStore, P: BitOrder>(at: u8) -> Self
+    pub fn new<T: BitStore, O: BitOrder, U: BitStore, P: BitOrder>(at: u8) -> Self
         requires width { U.BITS ≡ T.BITS }
         requires within { at < T.BITS }
         ensures { IsPairTable (O.place T.BITS) (P.place T.BITS) T.BITS at result.low result.high }
@@ -104,11 +104,7 @@ impl PairTable {
     /// The word whose bit at index `i` is bit `at + i` of the two words one after the other, of a table that was
     /// made for `at`.
     #[inline(always)]
-    pub(crate) fn window<T: BitStore, O: BitOrder, U: BitStore, P: BitOrder>(
-        &self,
-        low: U,
-        high: U,
-    ) -> T
+    pub fn window<T: BitStore, O: BitOrder, U: BitStore, P: BitOrder>(&self, low: U, high: U) -> T
         requires width { U.BITS ≡ T.BITS }
         ensures { (at i : ℕ) → at < T.BITS → i < T.BITS
             → IsPairTable (O.place T.BITS) (P.place T.BITS) T.BITS at self.now.low self.now.high

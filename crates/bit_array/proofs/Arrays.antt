@@ -5,7 +5,7 @@ use Rattle.bit_addressing.specs.declared.store.BitStore as store
 use Rattle.bit_addressing.specs.declared.order.BitOrder as order
 use Rattle.bit_addressing.specs.Row.{row_of, put, packed, words_for}
 use Rattle.bit_addressing.specs.Typed.{row, words_from, words_for_list}
-use Rattle.bit_addressing.proofs.Canon.{packed_sized}
+use Rattle.bit_rows.proofs.Canon.{packed_sized}
 use Rattle.bit_addressing.proofs.lists.Sized.{sized_same, words_for_all}
 use Rattle.bit_addressing.proofs.Rows.{width_positive, row_zeros}
 use Rattle.bit_addressing.proofs.Typed.{length_row, map_replicate}

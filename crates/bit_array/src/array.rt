@@ -4,7 +4,8 @@ ghost use Rattle.bit_addressing.specs.declared.length.TheConstants.{MAX_BITS};
 ghost use Rattle.bit_addressing.specs.Typed.{row, words_for_list};
 
 use crate::sized::{BitViewSized, BitWords};
-use bit_addressing::{BitOrder, BitStore, Lsb0, MAX_BITS, exact_words};
+use bit_addressing::{BitOrder, BitStore, Lsb0, MAX_BITS};
+use bit_rows::exact_words;
 use std::marker::{Model, PhantomData};
 
 mod iter;

@@ -9,11 +9,12 @@ ghost use Rattle.bit_slice.specs.BitSlice.{words_of, head_of, len_of, row_of, li
 ghost use Rattle.bit_boxed.specs.BitBox.{IsClean, Stayed};
 ghost use Rattle.bit_slice.specs.Pulls.{GivesAll, GivesFirst, RunsThrough};
 
-use bit_addressing::{
-    BitOrder, BitStore, GrowError, Lsb0, MAX_BITS, copy_bits_in_vec, exact_words,
-    fill_outside_in_vec, move_bits_in_vec, push_bit_in_vec, resize_words_in_vec,
-};
+use bit_addressing::{BitOrder, BitStore, GrowError, Lsb0, MAX_BITS};
 use bit_array::{BitArray, BitWords};
+use bit_rows::{
+    copy_bits_in_vec, exact_words, fill_outside_in_vec, move_bits_in_vec, push_bit_in_vec,
+    resize_words_in_vec,
+};
 use bit_slice::BitSlice;
 use std::alloc::{AllocError, Global};
 use std::boxed::BoxedSlice;

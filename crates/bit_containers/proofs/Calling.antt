@@ -6,7 +6,7 @@ use Rattle.std.specs.List.{filter, range_with_len}
 use Rattle.bit_addressing.specs.Row.{words_for, number_bits}
 use Rattle.bit_containers.specs.BitVec.{Held, Grew, IsKept}
 use Rattle.bit_containers.specs.Closures.{ResultsFrom, ResultsAtEach, kept, keep_where}
-use Rattle.bit_addressing.proofs.Binary.{number_bits_none}
+use Rattle.bit_rows.proofs.Binary.{number_bits_none}
 use Rattle.bit_containers.proofs.Growing.{grew_none}
 
 module _ {F : Type 0} (step : F → ℕ → Bool → F → Type 0) where

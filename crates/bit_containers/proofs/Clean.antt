@@ -6,7 +6,7 @@ use Rattle.bit_addressing.specs.declared.store.BitStore as store
 use Rattle.bit_addressing.specs.declared.order.BitOrder as order
 use Rattle.bit_addressing.specs.Row.{packed, put, sized, moved, words_for}
 use Rattle.bit_addressing.specs.Typed.{words_from, words_for_list}
-use Rattle.bit_addressing.proofs.Canon.{packed_sized}
+use Rattle.bit_rows.proofs.Canon.{packed_sized}
 use Rattle.std.proofs.Math.Nat.{mul-le-mul_left}
 use Rattle.bit_addressing.proofs.lists.Sized.{words_for_mono, room, sized_same, length-sized}
 use Rattle.bit_addressing.proofs.lists.Shown.{sized_joined}

@@ -8,7 +8,7 @@ use Rattle.std.specs.List.{range_with_len}
 use Rattle.std.proofs.lemmas.Bool.Decides.{nat_tests, eqb_tells}
 use Rattle.bit_addressing.specs.Bits.{has_bit}
 use Rattle.bit_addressing.specs.Row.{words_for, put, sized, moved, number_bits}
-use Rattle.bit_addressing.proofs.Binary.{length-number_bits, number_bits_none}
+use Rattle.bit_rows.proofs.Binary.{length-number_bits, number_bits_none}
 use Rattle.bit_addressing.proofs.Words.{has_shr_low}
 use Rattle.bit_addressing.proofs.lists.Sized.{room, words_for_mono, words_for_le, sized_more, length-sized, sized_same}
 use Rattle.bit_addressing.proofs.lists.Put.{length-put, put_joined, put_none}

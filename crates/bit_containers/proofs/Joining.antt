@@ -9,7 +9,7 @@ use Rattle.bit_addressing.specs.Row.{row_of, words_for, put, sized, AreWords}
 use Rattle.bit_addressing.specs.Typed.{row}
 use Rattle.bit_addressing.specs.declared.store.BitStore as store
 use Rattle.bit_addressing.specs.declared.order.BitOrder as order
-use Rattle.bit_addressing.proofs.Canon.{words_from_row, map_back}
+use Rattle.bit_rows.proofs.Canon.{words_from_row, map_back}
 use Rattle.bit_addressing.proofs.Rows.{width_positive, mul_add, length-row_of, row_append}
 use Rattle.bit_addressing.proofs.lists.Sized.{words_for_all}
 

@@ -6,11 +6,12 @@ mod machine;
 pub mod vec;
 
 pub use bit_addressing::{
-    And, BitEnd, BitIdx, BitOperator, BitOrder, BitPos, BitRegister, BitStore, GrowError, Lsb0,
-    MAX_BITS, Meter, Msb0, Or, RangeExt, Xor, combine_bits, elts, equal_words, find_bit,
+    BitEnd, BitIdx, BitOrder, BitPos, BitRegister, BitStore, GrowError, Lsb0, MAX_BITS, Meter,
+    Msb0, RangeExt, elts,
 };
 pub use bit_array as array;
 pub use bit_boxed as boxed;
+pub use bit_rows::{And, BitOperator, Or, Xor, combine_bits, equal_words, find_bit};
 pub use bit_slice::{
     AndNot, BitSlice, BitSliceMut, Chunks, ChunksExact, Counted, CountedMut, Iter, IterOnes,
     IterZeros, RChunks, Windows, combine_words, run_mut, split_run_mut,

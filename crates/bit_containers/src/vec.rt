@@ -6,9 +6,9 @@ ghost use Rattle.bit_addressing.specs.Typed.{row, words_from, words_for_list};
 ghost use Rattle.bit_containers.specs.BitVec.{Stayed, IsClean, bits_in};
 ghost use Rattle.bit_slice.specs.BitSlice.{words_of, head_of, len_of, row_of, list_of};
 
-use bit_addressing::{
-    BitOrder, BitStore, GrowError, Lsb0, MAX_BITS, append_run_in_vec, cut_words_in_vec, elts,
-    exact_words, fill_outside_in_vec, move_bits_in_vec,
+use bit_addressing::{BitOrder, BitStore, GrowError, Lsb0, MAX_BITS, elts};
+use bit_rows::{
+    append_run_in_vec, cut_words_in_vec, exact_words, fill_outside_in_vec, move_bits_in_vec,
 };
 use bit_slice::BitSlice;
 use std::alloc::{AllocError, Global};

@@ -11,7 +11,7 @@ use Rattle.std.proofs.lemmas.Nat.{mod_below, pow_pos}
 use Rattle.std.proofs.Math.Nat.{le-div_iff_mul-le, div-mul-le_self}
 use Rattle.bit_addressing.specs.Binary.{value}
 use Rattle.bit_addressing.specs.Row.{binary}
-use Rattle.bit_addressing.proofs.Binary.{get_or-binary, length-binary, value_of_binary}
+use Rattle.bit_rows.proofs.Binary.{get_or-binary, length-binary, value_of_binary}
 use Rattle.bit_addressing.proofs.Words.{has_low}
 use Rattle.bit_addressing.specs.declared.length.TheConstants.{MAX_BITS}
 use Rattle.bit_slice.specs.Places.{ones_of}

@@ -7,12 +7,12 @@ use Rattle.std.proofs.lemmas.Bool.{cases_lt}
 use Rattle.std.proofs.lemmas.List.{ext_get_or, get_or-reverse, length-reverse, drop_all, length-append, length-set, places, same_lists, get_or_append_left, get_or-set_same, get_or-set_other}
 use Rattle.std.proofs.Math.Seq.{get_or-append_seam}
 use Rattle.std.proofs.lemmas.Option.{slice_get-get_or}
-use Rattle.bit_addressing.proofs.Combined.{put_later}
+use Rattle.bit_rows.proofs.Combinations.{put_later}
 use Rattle.std.proofs.lemmas.List.FromFn.{length-map-range_with_len, get_or-map-range_with_len}
 use Rattle.std.proofs.lemmas.Nat.{div-mul-add}
 use Rattle.bit_addressing.specs.Bits.{has_bit}
 use Rattle.bit_addressing.specs.Row.{binary, number_of, put}
-use Rattle.bit_addressing.proofs.Binary.{length-binary, get_or-binary}
+use Rattle.bit_rows.proofs.Binary.{length-binary, get_or-binary}
 use Rattle.bit_addressing.proofs.Chunks.{has_number}
 use Rattle.bit_addressing.proofs.Words.{same_word}
 use Rattle.bit_addressing.proofs.lists.Put.{length-put}

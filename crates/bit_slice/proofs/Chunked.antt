@@ -9,7 +9,7 @@ use Rattle.std.proofs.lemmas.Nat.{and_le_l, div-add-mod'}
 use Rattle.bit_addressing.specs.Bits.{IsWidth, has_bit}
 use Rattle.bit_addressing.specs.Row.{number_of}
 use Rattle.bit_addressing.proofs.Chunks.{has_number, no_bits}
-use Rattle.bit_addressing.proofs.Lowest.{has_lowest, has_below_lowest, cleared_lowest, cleared_other}
+use Rattle.bit_rows.proofs.Lowest.{has_lowest, has_below_lowest, cleared_lowest, cleared_other}
 use Rattle.bit_addressing.proofs.Words.{has_none}
 use Rattle.bit_slice.proofs.Found.{item_of_part}
 use Rattle.bit_slice.specs.Places.{BlocksFit, IsAbsent, IsChunk, IsChunkLeft}

@@ -7,7 +7,7 @@ use Rattle.std.proofs.lemmas.Simd.{length-zip2}
 use Rattle.bit_addressing.specs.Row.{put}
 use Rattle.bit_addressing.proofs.lists.Put.{put_joined, length-put}
 use Rattle.bit_addressing.proofs.lists.Shown.{shows_fewer, length-run}
-use Rattle.bit_addressing.proofs.Combined.{put_later}
+use Rattle.bit_rows.proofs.Combinations.{put_later}
 use Rattle.bit_addressing.proofs.lists.Shown.{length-between}
 use Rattle.bit_slice.specs.Operators.{combined}
 

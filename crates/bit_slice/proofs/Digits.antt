@@ -10,7 +10,7 @@ use Rattle.bit_addressing.specs.Row.{binary, words_for}
 use Rattle.bit_addressing.proofs.lists.Sized.{room}
 use Rattle.bit_slice.specs.Texts.{IsDigitSize, digits_from}
 use Rattle.bit_addressing.specs.Binary.{value_after}
-use Rattle.bit_addressing.proofs.Binary.{binary_parted, length-binary, value_of_binary}
+use Rattle.bit_rows.proofs.Binary.{binary_parted, length-binary, value_of_binary}
 
 -- ---- the number of a group
 

@@ -14,7 +14,7 @@ use Rattle.bit_addressing.specs.Row.{number_of}
 use Rattle.bit_addressing.proofs.Chunks.{has_number, number_from_bits}
 use Rattle.bit_addressing.specs.Bits.{has_bit}
 use Rattle.bit_addressing.proofs.Words.{has_none}
-use Rattle.bit_addressing.proofs.Counts.{counted_next}
+use Rattle.bit_rows.proofs.Counts.{counted_next}
 use Rattle.bit_addressing.proofs.lists.Shown.{length-between, get_or-run, length-run}
 use Rattle.bit_slice.proofs.Combining.{length-combined}
 use Rattle.bit_slice.proofs.Counting.{told_false, told_true}

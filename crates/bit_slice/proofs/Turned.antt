@@ -5,11 +5,11 @@ use Rattle.std.proofs.lemmas.List.{ext_get_or, get_or-reverse, length-reverse, r
 use Rattle.std.proofs.lemmas.List.FromFn.{get_or-map-range_with_len}
 use Rattle.bit_addressing.specs.Bits.{has_bit}
 use Rattle.bit_addressing.specs.Row.{put, moved, binary, number_bits, row_of}
-use Rattle.bit_addressing.proofs.Binary.{length-number_bits}
+use Rattle.bit_rows.proofs.Binary.{length-number_bits}
 use Rattle.bit_addressing.proofs.Rows.{length-row_of}
 use Rattle.bit_addressing.proofs.lists.Put.{length-put, put_before, put_inside, put_after, put_joined}
 use Rattle.bit_addressing.proofs.lists.Shown.{length-run, get_or-run}
-use Rattle.bit_addressing.proofs.Combined.{put_later}
+use Rattle.bit_rows.proofs.Combinations.{put_later}
 use Rattle.bit_addressing.proofs.Shifts.{put_moved}
 use Rattle.bit_slice.proofs.Shown.{shown_filled}
 use Rattle.bit_slice.proofs.Combining.{rest_of_run}

@@ -2,7 +2,7 @@
 use Rattle.std.proofs.Common.{◌≡◌, ℕ, ◌+◌, ◌-◌, ◌≤◌, Bool, List, [], ◌∷◌, ◌++◌, length, slice_range, refl, sym, ◌∙◌, ap, arith, rules}
 use Rattle.std.proofs.lemmas.List.{same_lists, places}
 use Rattle.bit_addressing.specs.Row.{put}
-use Rattle.bit_addressing.proofs.Combined.{put_later}
+use Rattle.bit_rows.proofs.Combinations.{put_later}
 use Rattle.bit_addressing.proofs.lists.Put.{put_joined, put_none}
 use Rattle.bit_addressing.proofs.lists.Shown.{length-run}
 use Rattle.bit_slice.proofs.Combining.{length-combined}

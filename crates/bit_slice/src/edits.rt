@@ -8,10 +8,8 @@ ghost use Rattle.bit_slice.specs.Operators.{combined};
 
 mod reverse;
 
-use bit_addressing::{
-    BitOperator, BitOrder, BitStore, Lsb0, combine_bits, copy_bits, fill_bits, move_bits,
-    read_chunk, write_chunk,
-};
+use bit_addressing::{BitOrder, BitStore, Lsb0, move_bits};
+use bit_rows::{BitOperator, combine_bits, copy_bits, fill_bits, read_chunk, write_chunk};
 pub use reverse::reverse_words;
 
 /// The bit is true where the old one is and the new one is not.

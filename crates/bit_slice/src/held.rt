@@ -13,9 +13,9 @@ use crate::edits::{
 };
 use crate::ops::combine_words;
 use crate::slice::BitSlice;
-use bit_addressing::{
-    BitOperator, BitOrder, BitStore, Meter, RangeExt, copy_bits, fill_bits,
-    move_bits_counted_in_vec, write_binary, write_chunk,
+use bit_addressing::{BitOrder, BitStore, Meter, RangeExt};
+use bit_rows::{
+    BitOperator, copy_bits, fill_bits, move_bits_counted_in_vec, write_binary, write_chunk,
 };
 
 /// Writes `bit` at each index of the list.

@@ -4,7 +4,8 @@ ghost use Rattle.bit_addressing.specs.declared.length.TheConstants.{MAX_BITS};
 ghost use Rattle.bit_addressing.specs.Typed.{row};
 ghost use Rattle.bit_slice.specs.Fits.{IsRun};
 
-use bit_addressing::{BitOrder, BitStore, read_bit};
+use bit_addressing::{BitOrder, BitStore};
+use bit_rows::read_bit;
 use std::iter::{DoubleEndedIterator, ExactSizeIterator, FusedIterator, Iterator};
 use std::marker::PhantomData;
 

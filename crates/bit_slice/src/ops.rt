@@ -8,9 +8,8 @@ ghost use Rattle.bit_slice.specs.BitSlice.{len_of as len_seen, list_of as list_s
 
 use crate::slice::BitSlice;
 use crate::slice_mut::BitSliceMut;
-use bit_addressing::{
-    And, BitOperator, BitOrder, BitStore, Or, Xor, combine_bits, differ_at, fill_bits,
-};
+use bit_addressing::{BitOrder, BitStore};
+use bit_rows::{And, BitOperator, Or, Xor, combine_bits, differ_at, fill_bits};
 use std::cmp::Ordering;
 
 impl<'a, T: BitStore, O: BitOrder> BitSlice<'a, T, O> {

@@ -20,10 +20,8 @@ mod traits;
 
 use crate::counted::Counted;
 use crate::iter::Iter;
-use bit_addressing::{
-    BitOrder, BitStore, GrowError, MAX_BITS, RangeExt, count_bits, elts, exact_words, find_bit,
-    read_bit,
-};
+use bit_addressing::{BitOrder, BitStore, GrowError, MAX_BITS, RangeExt, elts};
+use bit_rows::{count_bits, exact_words, find_bit, read_bit};
 use std::alloc::AllocError;
 use std::marker::PhantomData;
 use std::ops::Index;

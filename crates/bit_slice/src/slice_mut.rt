@@ -18,10 +18,8 @@ mod ranges;
 use crate::counted_mut::CountedMut;
 use crate::iter::Iter;
 use crate::slice::BitSlice;
-use bit_addressing::{
-    BitOrder, BitStore, RangeExt, copy_bits, exact_words, fill_bits, move_bits, swap_bits,
-    write_bit,
-};
+use bit_addressing::{BitOrder, BitStore, RangeExt, move_bits};
+use bit_rows::{copy_bits, exact_words, fill_bits, swap_bits, write_bit};
 use std::marker::PhantomData;
 use std::ops::Index;
 

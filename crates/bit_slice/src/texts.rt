@@ -12,7 +12,8 @@ ghost use Rattle.bit_slice.specs.Comparisons.{bits_fed};
 ghost use Rattle.bit_slice.specs.Texts.{IsDigitSize, digits_from, digits_text, spaced};
 
 use crate::slice::BitSlice;
-use bit_addressing::{BitOrder, BitStore, read_binary, read_chunk};
+use bit_addressing::{BitOrder, BitStore};
+use bit_rows::{read_binary, read_chunk};
 use std::fmt;
 use std::hash::{Hash, Hasher};
 

@@ -3,7 +3,8 @@ ghost use Rattle.std.specs.Prelude.{◌≡◌, ◌+◌, ◌<◌, length};
 
 use crate::common::{check, ok, row_of};
 use crate::orders::{Scramble, Xor4};
-use bit_addressing::{BitOrder, BitStore, Lsb0, Msb0, Xor, combine_bits, copy_bits, move_bits};
+use bit_addressing::{BitOrder, BitStore, Lsb0, Msb0, move_bits};
+use bit_rows::{Xor, combine_bits, copy_bits};
 use std::process::Abort;
 
 /// Eighty words whose bits are mixed, and differ by the seed.

@@ -4,9 +4,10 @@ ghost use Rattle.std.specs.Prelude.{◌+◌, ◌<◌};
 
 use crate::common::{check, row_of, words_of};
 use crate::orders::Xor4;
-use bit_addressing::{
-    And, BitOrder, BitStore, Lsb0, Msb0, Or, Xor, combine_bits, copy_bits, count_bits, differ_at,
-    fill_bits, find_bit, read_chunk, write_chunk,
+use bit_addressing::{BitOrder, BitStore, Lsb0, Msb0};
+use bit_rows::{
+    And, Or, Xor, combine_bits, copy_bits, count_bits, differ_at, fill_bits, find_bit, read_chunk,
+    write_chunk,
 };
 use std::process::Abort;
 

@@ -9,6 +9,9 @@ use crate::{check, ok};
 use bit_lines::start;
 use std::process::Abort;
 
+/// The arguments, the input, what is written, and the status.
+type Run = (&'static str, &'static [u8], &'static [u8], u8);
+
 /// The program's arguments.
 fn words_of(rt: &(impl Abort + AllocGlobal), call: &str) -> Vec<String> {
     let mut list = Vec::new(rt.alloc());

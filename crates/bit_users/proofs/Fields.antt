@@ -5,9 +5,9 @@ use Rattle.std.proofs.lemmas.List.{append-nil, ext_get_or, length-append}
 use Rattle.std.proofs.lemmas.List.Edits.{between_none}
 use Rattle.bit_addressing.specs.Order.{msb0_lawful}
 use Rattle.bit_addressing.specs.Row.{binary, packed, row_of, sized, words_for, AreWords}
-use Rattle.bit_addressing.proofs.Canon.{packed_row, words_from_row}
+use Rattle.bit_rows.proofs.Canon.{packed_row, words_from_row}
 use Rattle.bit_addressing.proofs.Runs.{slices_joined}
-use Rattle.bit_addressing.proofs.Binary.{length-binary, get_or-binary, binary_parted}
+use Rattle.bit_rows.proofs.Binary.{length-binary, get_or-binary, binary_parted}
 use Rattle.bit_addressing.proofs.lists.Sized.{sized_same}
 use Rattle.bit_addressing.proofs.Rows.{length-row_of, row_of_none, row_append, get_or-row_one}
 use Rattle.std.proofs.Math.Pow.{high, low}

@@ -5,8 +5,9 @@ ghost use Rattle.bit_addressing.specs.declared.length.TheConstants.{MAX_BITS};
 ghost use Rattle.bit_users.specs.Sequence.{AreBytesOf};
 ghost use Rattle.bit_users.specs.declared.sequence.Fault.TheVariants as faults;
 
-use bit_addressing::{BitOrder, BitStore, GrowError, MAX_BITS, Msb0, elts, find_bit};
+use bit_addressing::{BitOrder, BitStore, GrowError, MAX_BITS, Msb0, elts};
 use bit_containers::BitVec;
+use bit_rows::find_bit;
 use bit_slice::BitSlice;
 use std::alloc::Global;
 

@@ -7,8 +7,9 @@ ghost use Rattle.bit_users.specs.Wire.{bits_of, bytes_of, Fits};
 ghost use Rattle.bit_users.specs.declared.wire.Header.{Header as HeaderRecord};
 ghost use Rattle.bit_users.specs.declared.wire.HeaderFault.TheVariants as faults;
 
-use bit_addressing::{GrowError, Msb0, read_binary};
+use bit_addressing::{GrowError, Msb0};
 use bit_containers::BitVec;
+use bit_rows::read_binary;
 use std::alloc::Global;
 
 /// Why bytes are not the header of an IPv4 packet without options.

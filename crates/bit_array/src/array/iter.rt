@@ -11,7 +11,8 @@ ghost use Rattle.bit_slice.specs.Owned.{rest_of, GivesInOrder, GivesInReverse};
 
 use crate::array::BitArray;
 use crate::sized::{BitViewSized, BitWords};
-use bit_addressing::{BitOrder, BitStore, read_bit};
+use bit_addressing::{BitOrder, BitStore};
+use bit_rows::read_bit;
 use bit_slice::{BitSlice, BitSliceMut, Iter, run_mut, write_list};
 use std::alloc::AllocError;
 use std::fmt;

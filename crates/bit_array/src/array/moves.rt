@@ -7,7 +7,8 @@ ghost use Rattle.bit_slice.specs.Operators.{and_of, combined, or_of, part_onto, 
 
 use crate::array::BitArray;
 use crate::sized::{BitViewSized, BitWords};
-use bit_addressing::{And, BitOperator, BitOrder, BitStore, Or, RangeExt, Xor};
+use bit_addressing::{BitOrder, BitStore, RangeExt};
+use bit_rows::{And, BitOperator, Or, Xor};
 use bit_slice::{combine_within, reverse_words, rotate_words, shift_words_left, shift_words_right};
 
 impl<A: BitViewSized, O: BitOrder> BitArray<A, O> {

@@ -6,7 +6,8 @@ ghost use Rattle.bit_slice.specs.Operators.{bits_cmp, combined, and_of, or_of, x
 
 use crate::array::BitArray;
 use crate::sized::{BitViewSized, BitWords};
-use bit_addressing::{And, BitOperator, BitOrder, BitStore, Or, Xor, flip_bits};
+use bit_addressing::{BitOrder, BitStore};
+use bit_rows::{And, BitOperator, Or, Xor, flip_bits};
 use bit_slice::{BitSlice, combine_words};
 use std::cmp::Ordering;
 use std::ops::{BitAnd, BitAndAssign, BitOr, BitOrAssign, BitXor, BitXorAssign, Index, Not};

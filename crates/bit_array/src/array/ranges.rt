@@ -9,10 +9,8 @@ ghost use Rattle.bit_slice.specs.Operators.{combined, and_of, or_of, xor_of, and
 
 use crate::array::BitArray;
 use crate::sized::{BitViewSized, BitWords};
-use bit_addressing::{
-    And, BitOperator, BitOrder, BitStore, Or, RangeExt, Xor, copy_bits, fill_bits, write_binary,
-    write_chunk,
-};
+use bit_addressing::{BitOrder, BitStore, RangeExt};
+use bit_rows::{And, BitOperator, Or, Xor, copy_bits, fill_bits, write_binary, write_chunk};
 use bit_slice::{AndNot, BitSlice, combine_words, flip_words};
 
 impl<A: BitViewSized, O: BitOrder> BitArray<A, O> {

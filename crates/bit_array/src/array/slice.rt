@@ -9,10 +9,8 @@ ghost use Rattle.bit_slice.specs.BitSlice.{words_of, head_of, len_of, list_of};
 
 use crate::array::BitArray;
 use crate::sized::{BitViewSized, BitWords};
-use bit_addressing::{
-    BitOrder, BitStore, Meter, RangeExt, copy_bits, fill_bits, move_bits_counted, swap_bits,
-    write_bit,
-};
+use bit_addressing::{BitOrder, BitStore, Meter, RangeExt, move_bits_counted};
+use bit_rows::{copy_bits, fill_bits, swap_bits, write_bit};
 use bit_slice::BitSlice;
 
 impl<A: BitWords, O: BitOrder> BitArray<A, O> {

@@ -10,7 +10,8 @@ ghost use Rattle.bit_array.specs.contracts.array.BitArray.{the_row};
 
 use crate::array::BitArray;
 use crate::sized::{BitViewSized, BitWords};
-use bit_addressing::{BitOrder, BitStore, exact_words};
+use bit_addressing::{BitOrder, BitStore};
+use bit_rows::exact_words;
 use bit_slice::{BitSlice, BitSliceMut, run_mut};
 
 impl<A: BitWords, O: BitOrder> BitArray<A, O> {

@@ -6,7 +6,8 @@ ghost use Rattle.bit_boxed.specs.BitBox.{IsClean, Stayed};
 ghost use Rattle.bit_slice.specs.Operators.{and_of, combined, or_of, part_onto, xor_of};
 
 use crate::boxed::BitBox;
-use bit_addressing::{And, BitOperator, BitOrder, BitStore, Or, RangeExt, Xor};
+use bit_addressing::{BitOrder, BitStore, RangeExt};
+use bit_rows::{And, BitOperator, Or, Xor};
 use bit_slice::{
     combine_within_in_vec, reverse_in_vec, rotate_in_vec, shift_left_in_vec, shift_right_in_vec,
 };

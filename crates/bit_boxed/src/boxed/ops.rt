@@ -6,7 +6,8 @@ ghost use Rattle.bit_slice.specs.BitSlice.{list_of};
 ghost use Rattle.bit_slice.specs.Operators.{bits_cmp, combined, and_of, or_of, xor_of, AndsEach, OrsEach, XorsEach, CombinesEach, FlipsEach};
 
 use crate::boxed::BitBox;
-use bit_addressing::{And, BitOperator, BitOrder, BitStore, Or, Xor, flip_bits_in_vec};
+use bit_addressing::{BitOrder, BitStore};
+use bit_rows::{And, BitOperator, Or, Xor, flip_bits_in_vec};
 use bit_slice::{BitSlice, combine_in_vec};
 use std::cmp::Ordering;
 use std::ops::{BitAnd, BitAndAssign, BitOr, BitOrAssign, BitXor, BitXorAssign, Index, Not};

@@ -8,7 +8,8 @@ ghost use Rattle.bit_boxed.specs.BitBox.{IsClean, Stayed};
 ghost use Rattle.bit_slice.specs.BitSlice.{words_of, head_of, len_of, list_of};
 
 use crate::boxed::BitBox;
-use bit_addressing::{BitOrder, BitStore, Meter, RangeExt, swap_bits_in_vec, write_bit_in_vec};
+use bit_addressing::{BitOrder, BitStore, Meter, RangeExt};
+use bit_rows::{swap_bits_in_vec, write_bit_in_vec};
 use bit_slice::{BitSlice, copy_over_in_vec, fill_in_vec, move_within_in_vec};
 
 impl<T: BitStore, O: BitOrder> BitBox<T, O> {

@@ -8,7 +8,8 @@ ghost use Rattle.bit_slice.specs.BitSliceMut.{words_of as lent_words, head_of as
 ghost use Rattle.bit_boxed.specs.Lends.{lends_words, lends_view, lends_run};
 
 use crate::boxed::BitBox;
-use bit_addressing::{BitOrder, BitStore, elts, exact_words};
+use bit_addressing::{BitOrder, BitStore, elts};
+use bit_rows::exact_words;
 use bit_slice::{BitSlice, BitSliceMut};
 
 impl<T: BitStore, O: BitOrder> BitBox<T, O> {

@@ -5,9 +5,10 @@ ghost use Rattle.bit_addressing.specs.declared.length.TheConstants.{MAX_BITS};
 ghost use Rattle.bit_containers.specs.BitVec.{Grew, Shrank, IsClean, RefusesOnly};
 
 use crate::vec::BitVec;
-use bit_addressing::{
-    BitOrder, BitStore, GrowError, MAX_BITS, cut_words_in_vec, insert_bit_in_vec, push_bit_in_vec,
-    read_bit, remove_bit_in_vec, write_bit_in_vec,
+use bit_addressing::{BitOrder, BitStore, GrowError, MAX_BITS};
+use bit_rows::{
+    cut_words_in_vec, insert_bit_in_vec, push_bit_in_vec, read_bit, remove_bit_in_vec,
+    write_bit_in_vec,
 };
 
 impl<T: BitStore, O: BitOrder> BitVec<T, O> {

@@ -7,7 +7,8 @@ ghost use Rattle.bit_containers.specs.Closures.{ResultsFrom, ResultsAtEach, kept
 
 use crate::vec::BitVec;
 use crate::vec::collect::with_next;
-use bit_addressing::{BitOrder, BitStore, GrowError, write_chunk_in_vec};
+use bit_addressing::{BitOrder, BitStore, GrowError};
+use bit_rows::write_chunk_in_vec;
 
 impl<T: BitStore, O: BitOrder> BitVec<T, O> {
     /// Keeps the first `n` bits, or appends what `f` returns at each new index until there are `n`. Memory is taken

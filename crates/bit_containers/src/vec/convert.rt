@@ -6,9 +6,10 @@ ghost use Rattle.bit_addressing.specs.Typed.{row};
 ghost use Rattle.bit_containers.specs.BitVec.{Held, IsClean};
 
 use crate::vec::BitVec;
-use bit_addressing::{BitOrder, BitStore, cut_words_in_vec};
+use bit_addressing::{BitOrder, BitStore};
 use bit_array::{BitArray, BitWords};
 use bit_boxed::BitBox;
+use bit_rows::cut_words_in_vec;
 use std::alloc::{AllocError, Global};
 use std::marker::PhantomData;
 

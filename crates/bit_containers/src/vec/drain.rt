@@ -7,7 +7,8 @@ ghost use Rattle.bit_addressing.specs.Range.{LiesIn};
 ghost use Rattle.bit_slice.specs.BitSlice.{list_of};
 
 use crate::vec::BitVec;
-use bit_addressing::{BitOrder, BitStore, Lsb0, RangeExt, cut_words_in_vec, move_bits_in_vec};
+use bit_addressing::{BitOrder, BitStore, Lsb0, RangeExt};
+use bit_rows::{cut_words_in_vec, move_bits_in_vec};
 use bit_slice::{BitSlice, write_list};
 use std::fmt;
 use std::iter::FusedIterator;

@@ -5,7 +5,8 @@ ghost use Rattle.bit_addressing.specs.Typed.{row};
 ghost use Rattle.bit_containers.specs.BitVec.{Stayed, Shrank};
 
 use crate::vec::BitVec;
-use bit_addressing::{BitOrder, BitStore, cut_words_in_vec};
+use bit_addressing::{BitOrder, BitStore};
+use bit_rows::cut_words_in_vec;
 
 /// Writes `word` over each of the words.
 fn set_words<T: BitStore>(words: &mut [T], word: T)

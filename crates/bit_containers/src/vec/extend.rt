@@ -7,9 +7,9 @@ ghost use Rattle.bit_containers.specs.BitVec.{Grew, Shrank, IsClean, RefusesOnly
 ghost use Rattle.bit_slice.specs.BitSlice.{len_of, list_of};
 
 use crate::vec::BitVec;
-use bit_addressing::{
-    BitOrder, BitStore, GrowError, MAX_BITS, RangeExt, append_run_in_vec, copy_bits_in_vec,
-    move_bits_in_vec, push_chunk_in_vec, resize_words_in_vec,
+use bit_addressing::{BitOrder, BitStore, GrowError, MAX_BITS, RangeExt};
+use bit_rows::{
+    append_run_in_vec, copy_bits_in_vec, move_bits_in_vec, push_chunk_in_vec, resize_words_in_vec,
 };
 use bit_slice::BitSlice;
 

@@ -6,9 +6,8 @@ ghost use Rattle.bit_addressing.specs.Typed.{row};
 ghost use Rattle.bit_containers.specs.BitVec.{Grew, IsClean, RefusesOnly, Stayed};
 
 use crate::vec::BitVec;
-use bit_addressing::{
-    BitOrder, BitStore, GrowError, MAX_BITS, push_binary_in_vec, read_binary, write_binary_in_vec,
-};
+use bit_addressing::{BitOrder, BitStore, GrowError, MAX_BITS};
+use bit_rows::{push_binary_in_vec, read_binary, write_binary_in_vec};
 
 impl<T: BitStore, O: BitOrder> BitVec<T, O> {
     /// Returns the number that the `n` bits from `at` on write in binary, the most significant digit first.

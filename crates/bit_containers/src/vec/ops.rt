@@ -7,7 +7,8 @@ ghost use Rattle.bit_slice.specs.BitSlice.{len_of, list_of};
 ghost use Rattle.bit_slice.specs.Operators.{bits_cmp, combined, and_of, or_of, xor_of, AndsEach, OrsEach, XorsEach, CombinesEach, FlipsEach};
 
 use crate::vec::BitVec;
-use bit_addressing::{And, BitOperator, BitOrder, BitStore, GrowError, Or, Xor, flip_bits_in_vec};
+use bit_addressing::{BitOrder, BitStore, GrowError};
+use bit_rows::{And, BitOperator, Or, Xor, flip_bits_in_vec};
 use bit_slice::{BitSlice, combine_in_vec};
 use std::cmp::Ordering;
 use std::ops::{BitAnd, BitAndAssign, BitOr, BitOrAssign, BitXor, BitXorAssign, Index, Not};

@@ -8,7 +8,8 @@ ghost use Rattle.bit_slice.specs.BitSlice.{len_of, list_of};
 ghost use Rattle.bit_slice.specs.Operators.{combined, and_of, or_of, xor_of, and_not_of};
 
 use crate::vec::BitVec;
-use bit_addressing::{And, BitOperator, BitOrder, BitStore, Or, RangeExt, Xor};
+use bit_addressing::{BitOrder, BitStore, RangeExt};
+use bit_rows::{And, BitOperator, Or, Xor};
 use bit_slice::{
     AndNot, BitSlice, combine_range_in_vec, copy_into_in_vec, fill_range_in_vec, flip_range_in_vec,
     store_be_in_vec, store_le_in_vec,

@@ -7,9 +7,8 @@ ghost use Rattle.bit_containers.specs.BitVec.{Stayed, IsClean};
 ghost use Rattle.bit_slice.specs.BitSlice.{len_of, list_of};
 
 use crate::vec::BitVec;
-use bit_addressing::{
-    BitOrder, BitStore, Meter, RangeExt, read_bit, swap_bits_in_vec, write_bit_in_vec,
-};
+use bit_addressing::{BitOrder, BitStore, Meter, RangeExt};
+use bit_rows::{read_bit, swap_bits_in_vec, write_bit_in_vec};
 use bit_slice::{BitSlice, copy_over_in_vec, fill_in_vec, move_within_in_vec};
 
 impl<T: BitStore, O: BitOrder> BitVec<T, O> {

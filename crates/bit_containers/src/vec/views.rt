@@ -9,7 +9,8 @@ ghost use Rattle.bit_slice.specs.BitSliceMut.{words_of as lent_words, head_of as
 ghost use Rattle.bit_containers.specs.BitVec.{IsClean};
 
 use crate::vec::BitVec;
-use bit_addressing::{BitOrder, BitStore, RangeExt, elts, exact_words};
+use bit_addressing::{BitOrder, BitStore, RangeExt, elts};
+use bit_rows::exact_words;
 use bit_slice::{BitSlice, BitSliceMut};
 
 impl<T: BitStore, O: BitOrder> BitVec<T, O> {

@@ -1,6 +1,7 @@
 //! Words, and ranges of them.
 use crate::common::{check, ok};
-use bit_addressing::{BitStore, GrowError, RangeExt, elts, equal_words};
+use bit_addressing::{BitStore, GrowError, RangeExt, elts};
+use bit_rows::equal_words;
 use std::process::Abort;
 
 fn operations<T: BitStore>(rt: &impl Abort) {

@@ -5,9 +5,8 @@ ghost use Rattle.bit_addressing.specs.Row.{moved, put};
 ghost use Rattle.bit_addressing.specs.Typed.{row};
 ghost use Rattle.bit_slice.specs.Mirrored.{IsMirrored};
 
-use bit_addressing::{
-    BitIdx, BitOrder, BitStore, MAX_BITS, elts, move_bits, read_binary, read_chunk, write_chunk,
-};
+use bit_addressing::{BitIdx, BitOrder, BitStore, MAX_BITS, elts, move_bits};
+use bit_rows::{read_binary, read_chunk, write_chunk};
 
 // Swaps the `n` bits from `front` on and the `n` from `back` on, each run reversed. Requires that the first ends
 // before the other begins, both lie in the words, and `n` is at most 64.

@@ -5,7 +5,8 @@ ghost use Rattle.bit_addressing.specs.Row.{binary, number_bits, number_of};
 ghost use Rattle.bit_slice.specs.BitSlice.{len_of, list_of};
 
 use crate::slice::BitSlice;
-use bit_addressing::{BitOrder, BitStore, read_binary, read_chunk};
+use bit_addressing::{BitOrder, BitStore};
+use bit_rows::{read_binary, read_chunk};
 
 impl<'a, T: BitStore, O: BitOrder> BitSlice<'a, T, O> {
     /// The bits of the view as a number, the first the least significant, whatever the order of bits in a

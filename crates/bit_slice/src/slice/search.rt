@@ -5,7 +5,8 @@ ghost use Rattle.bit_slice.specs.BitSlice.{head_of, len_of, list_of, words_of};
 ghost use Rattle.bit_slice.specs.Places.{BlocksFit, IsAbsent, IsChunk, IsLast, IsNext};
 
 use crate::slice::BitSlice;
-use bit_addressing::{BitOrder, BitStore, find_bit, read_block, read_chunk};
+use bit_addressing::{BitOrder, BitStore};
+use bit_rows::{find_bit, read_block, read_chunk};
 
 impl<'a, T: BitStore, O: BitOrder> BitSlice<'a, T, O> {
     // The first index from `from` up to `upto` with this bit.

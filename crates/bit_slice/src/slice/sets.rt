@@ -7,9 +7,8 @@ ghost use Rattle.bit_slice.specs.Operators.{combined, and_of, or_of, xor_of, and
 
 use crate::edits::AndNot;
 use crate::slice::BitSlice;
-use bit_addressing::{
-    And, BitOperator, BitOrder, BitStore, Or, Xor, count_blocks, false_blocks, read_chunk,
-};
+use bit_addressing::{BitOrder, BitStore};
+use bit_rows::{And, BitOperator, Or, Xor, count_blocks, false_blocks, read_chunk};
 
 // The `n` bits from index `at` on that the operator makes of two views, as a number, the first at
 // place 0.

@@ -4,7 +4,8 @@ ghost use Rattle.bit_addressing.specs.Row.{binary, number_bits, put};
 ghost use Rattle.bit_slice.specs.BitSliceMut.{head_of, len_of, row_of, list_of, Stays};
 
 use crate::slice_mut::BitSliceMut;
-use bit_addressing::{BitOrder, BitStore, write_binary, write_chunk};
+use bit_addressing::{BitOrder, BitStore};
+use bit_rows::{write_binary, write_chunk};
 
 impl<'a, T: BitStore, O: BitOrder> BitSliceMut<'a, T, O> {
     /// Writes the lowest bits of a number, the least significant first: what `load_le` reads. Requires

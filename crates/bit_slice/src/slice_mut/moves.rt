@@ -9,7 +9,8 @@ use crate::edits::{
     combine_within, reverse_words, rotate_words, shift_words_left, shift_words_right,
 };
 use crate::slice_mut::BitSliceMut;
-use bit_addressing::{And, BitOrder, BitStore, Or, RangeExt, Xor};
+use bit_addressing::{BitOrder, BitStore, RangeExt};
+use bit_rows::{And, Or, Xor};
 
 impl<'a, T: BitStore, O: BitOrder> BitSliceMut<'a, T, O> {
     /// Reverses the bits of the view, by whole words where it can.

@@ -11,9 +11,8 @@ use crate::edits::{AndNot, flip_words};
 use crate::ops::combine_words;
 use crate::slice::BitSlice;
 use crate::slice_mut::BitSliceMut;
-use bit_addressing::{
-    And, BitOperator, BitOrder, BitStore, Or, RangeExt, Xor, copy_bits, fill_bits,
-};
+use bit_addressing::{BitOrder, BitStore, RangeExt};
+use bit_rows::{And, BitOperator, Or, Xor, copy_bits, fill_bits};
 
 impl<'a, T: BitStore, O: BitOrder> BitSliceMut<'a, T, O> {
     /// Writes `bit` at each index of a range, by whole words where it can. Requires that the range lies

@@ -1,8 +1,12 @@
 //! Callers that prove exact words. Where words are computed from other words, one hint opens what computes.
-ghost use Rattle.std.specs.Prelude.{◌≡◌, true, false, [], ◌∷◌, if◌then◌else◌, length, IfOk};
+ghost use Rattle.std.specs.Prelude.{◌≡◌, ◌*◌, ◌<◌, ◌≤◌, true, false, [], ◌∷◌, if◌then◌else◌, length, map, not, set, IfOk};
+ghost use Rattle.bit_addressing.specs.Row.{moved};
 ghost use Rattle.bit_addressing.specs.Typed.{row};
+ghost use Rattle.bit_addressing.specs.declared.length.TheConstants.{MAX_BITS};
 
+use bit_addressing::move_bits;
 use bit_containers::{BitOrder, BitStore, BitVec, GrowError, Lsb0, Msb0};
+use bit_rows::{flip_bits, write_bit};
 use std::alloc::{AllocError, Global};
 
 pub fn permission_byte(alloc: Global, write: bool) -> Result<Vec<u8>, GrowError>
@@ -122,4 +126,20 @@ pub fn words_of_both(mut v: BitVec<u8, Msb0>, more: &[u8]) -> Result<Vec<u8>, Gr
 {
     v.extend_from_raw_slice(more)?;
     Ok(v.into_vec())
+}
+
+pub fn close_gap<T: BitStore, O: BitOrder>(words: &mut [T])
+    requires room { T.BITS * length words.old ≤ MAX_BITS }
+    requires within { 24 ≤ T.BITS * length words.old }
+    ensures { row T.BitStore O.BitOrder words.new ≡ moved (row T.BitStore O.BitOrder words.old) 16 8 8 }
+{
+    move_bits::<T, O>(words, 16, 8, 8);
+}
+
+pub fn flip_and_set<T: BitStore, O: BitOrder>(words: &mut [T], at: usize)
+    requires { at < T.BITS * length words.old }
+    ensures { row T.BitStore O.BitOrder words.new ≡ set (map not (row T.BitStore O.BitOrder words.old)) at true }
+{
+    flip_bits::<T, O>(words);
+    write_bit::<T, O>(words, at, true);
 }

@@ -1,6 +1,6 @@
 use Rattle.std.proofs.Common.{◌≡◌, ◌+◌, ◌-◌, ◌*◌, ◌≤◌, length, count_by, slice_range, sym, ◌∙◌, ap, arith}
 use Rattle.bit_addressing.specs.Typed.{row}
-use Rattle.bit_addressing.proofs.Counts.{counted_next, counted-le}
+use Rattle.bit_rows.proofs.Counts.{counted_next, counted-le}
 use Rattle.bit_addressing.proofs.Rows.{width_positive}
 use Rattle.bit_slice.proofs.Counting.{IsPiece, piece_of, begin_last, word_fits, next_fits}
 use Rattle.bit_slice.proofs.Parts.{in_row}

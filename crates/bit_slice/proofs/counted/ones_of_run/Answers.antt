@@ -1,6 +1,6 @@
 use Rattle.std.proofs.Common.{◌+◌, refl}
 use Rattle.bit_addressing.specs.Typed.{row}
-use Rattle.bit_addressing.proofs.Counts.{counted}
+use Rattle.bit_rows.proofs.Counts.{counted}
 use Rattle.bit_slice.proofs.counted.ones_of_run.Goals as goal
 
 pub returns-clause-value : goal.returns-clause-value

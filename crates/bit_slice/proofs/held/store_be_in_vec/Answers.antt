@@ -1,6 +1,6 @@
 use Rattle.std.proofs.Common.{ap, length, ◌∙◌, rules}
 use Rattle.bit_addressing.specs.Row.{binary, put}
-use Rattle.bit_addressing.proofs.Binary.{length-binary}
+use Rattle.bit_rows.proofs.Binary.{length-binary}
 use Rattle.bit_addressing.specs.Typed.{row}
 use Rattle.bit_slice.proofs.Overwritten.{rewritten}
 use Rattle.bit_slice.proofs.held.store_be_in_vec.Goals as goal

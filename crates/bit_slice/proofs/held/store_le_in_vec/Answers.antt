@@ -1,6 +1,6 @@
 use Rattle.std.proofs.Common.{ap, length, ◌∙◌, rules}
 use Rattle.bit_addressing.specs.Row.{number_bits, put}
-use Rattle.bit_addressing.proofs.Binary.{length-number_bits}
+use Rattle.bit_rows.proofs.Binary.{length-number_bits}
 use Rattle.bit_addressing.specs.Typed.{row}
 use Rattle.bit_slice.proofs.Overwritten.{rewritten}
 use Rattle.bit_slice.proofs.held.store_le_in_vec.Goals as goal

@@ -7,7 +7,7 @@ use Rattle.bit_slice.specs.BitSlice.{list_of}
 use Rattle.bit_slice.specs.Texts.{spaced}
 use Rattle.bit_slice.proofs.Parts.{in_row}
 use Rattle.bit_addressing.proofs.lists.Shown.{length-between}
-use Rattle.bit_addressing.proofs.Binary.{number_bits_none}
+use Rattle.bit_rows.proofs.Binary.{number_bits_none}
 use Rattle.bit_slice.proofs.Writing.{chunk_of_list, bits_of_number, spaced_more}
 use Rattle.bit_slice.proofs.texts.write_more.Goals as goal
 

@@ -1,6 +1,6 @@
 use Rattle.std.proofs.Common.{◌≡◌, length, ◌∙◌, ap}
 use Rattle.bit_addressing.specs.Row.{binary}
-use Rattle.bit_addressing.proofs.Binary.{length-binary}
+use Rattle.bit_rows.proofs.Binary.{length-binary}
 use Rattle.bit_array.proofs.Arrays.{row_whole}
 use Rattle.bit_addressing.specs.Typed.{row}
 use Rattle.bit_array.proofs.array.BitArray.store_be.Goals as goal

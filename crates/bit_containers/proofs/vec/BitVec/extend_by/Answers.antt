@@ -1,7 +1,7 @@
 use Rattle.std.proofs.Common.{[], ◌∷◌, ◌++◌, sym, arith, rules, append-nil}
 use Rattle.std.proofs.lemmas.List.{length_push}
 use Rattle.bit_addressing.proofs.Rows.{width_positive}
-use Rattle.bit_addressing.proofs.Binary.{length-number_bits}
+use Rattle.bit_rows.proofs.Binary.{length-number_bits}
 use Rattle.bit_containers.proofs.Growing.{grew_none, highest_bits_none, wanted_fits}
 use Rattle.bit_boxed.proofs.Pulling.{yields_more}
 use Rattle.bit_containers.proofs.Pulling.{gathers_more, gathers_all, gathers_length}

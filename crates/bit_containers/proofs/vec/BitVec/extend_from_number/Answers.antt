@@ -6,7 +6,7 @@ use Rattle.bit_addressing.specs.Typed.{row}
 use Rattle.bit_addressing.proofs.lists.Shown.{grown_shows}
 use Rattle.bit_addressing.proofs.Rows.{width_positive}
 use Rattle.bit_containers.proofs.Vectors.{kept, shown, no_room_for, refilled}
-use Rattle.bit_addressing.proofs.Binary.{length-number_bits}
+use Rattle.bit_rows.proofs.Binary.{length-number_bits}
 use Rattle.bit_containers.proofs.Growing.{grew_by}
 use Rattle.bit_containers.proofs.Elements.{exactly}
 use Rattle.bit_containers.proofs.vec.BitVec.extend_from_number.Goals as goal

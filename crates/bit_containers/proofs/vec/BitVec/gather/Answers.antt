@@ -1,6 +1,6 @@
 use Rattle.std.proofs.Common.{◌≡◌, [], ◌∷◌, ◌++◌, sym, ◌∙◌, ap, arith, append-nil}
 use Rattle.bit_addressing.specs.Row.{number_bits}
-use Rattle.bit_addressing.proofs.Binary.{length-number_bits}
+use Rattle.bit_rows.proofs.Binary.{length-number_bits}
 use Rattle.bit_containers.proofs.Growing.{grew_none, highest_bits_none, highest_bits_all}
 use Rattle.bit_containers.proofs.vec.BitVec.gather.Goals as goal
 

@@ -1,6 +1,6 @@
 use Rattle.std.proofs.Common.{◌≡◌, ◌+◌, ◌-◌, ◌%◌, [], ◌∷◌, ◌++◌, take, drop, sym, ◌∙◌, ap, arith, append-nil, append_assoc}
 use Rattle.bit_addressing.specs.Row.{number_bits}
-use Rattle.bit_addressing.proofs.Binary.{length-number_bits, number_bits_none}
+use Rattle.bit_rows.proofs.Binary.{length-number_bits, number_bits_none}
 use Rattle.bit_containers.proofs.Removing.{take_put, drop_put}
 use Rattle.bit_containers.proofs.vec.BitVec.keep.Goals as goal
 

@@ -3,7 +3,7 @@ use Rattle.std.proofs.Common.{vec_capacity}
 use Rattle.std.proofs.lemmas.Result.{err_from_is_err_and}
 use Rattle.bit_addressing.specs.Row.{put, sized, words_for, binary}
 use Rattle.bit_addressing.specs.Typed.{row}
-use Rattle.bit_addressing.proofs.Binary.{length-binary}
+use Rattle.bit_rows.proofs.Binary.{length-binary}
 use Rattle.bit_addressing.proofs.lists.Shown.{grown_shows}
 use Rattle.bit_addressing.proofs.Rows.{width_positive}
 use Rattle.bit_containers.proofs.Vectors.{kept, shown, no_room_for}

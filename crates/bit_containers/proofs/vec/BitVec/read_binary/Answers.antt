@@ -1,7 +1,7 @@
 use Rattle.std.proofs.Common.{◌≡◌, ◌+◌, length, slice_range, sym, ◌∙◌, ap, arith}
 use Rattle.bit_addressing.specs.Binary.{value}
 use Rattle.bit_addressing.specs.Typed.{row}
-use Rattle.bit_addressing.proofs.Binary.{value_of_binary}
+use Rattle.bit_rows.proofs.Binary.{value_of_binary}
 use Rattle.bit_containers.proofs.Vectors.{shown}
 use Rattle.bit_addressing.proofs.lists.Shown.{shown_part}
 use Rattle.bit_containers.proofs.vec.BitVec.read_binary.Goals as goal

@@ -2,7 +2,7 @@ use Rattle.std.proofs.Common.{◌≡◌, ℕ, ◌+◌, ◌-◌, ◌*◌, ◌<◌
 use Rattle.std.proofs.lemmas.List.{length-replicate}
 use Rattle.bit_addressing.specs.Row.{words_for, sized}
 use Rattle.bit_addressing.specs.Typed.{row}
-use Rattle.bit_addressing.proofs.Finds.{run_of_one}
+use Rattle.bit_rows.proofs.Finds.{run_of_one}
 use Rattle.bit_addressing.proofs.lists.Sized.{length-sized, room, words_for_all}
 use Rattle.bit_addressing.proofs.Rows.{width_positive, width_small}
 use Rattle.bit_slice.proofs.Shown.{put_all}

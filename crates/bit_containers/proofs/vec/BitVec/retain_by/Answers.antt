@@ -1,6 +1,6 @@
 use Rattle.std.proofs.Common.{◌≡◌, ◌-◌, ◌%◌, ◌≤◌, length, take, refl, ◌∙◌, ap, arith, of_calls}
 use Rattle.bit_addressing.specs.Row.{number_bits}
-use Rattle.bit_addressing.proofs.Binary.{length-number_bits}
+use Rattle.bit_rows.proofs.Binary.{length-number_bits}
 use Rattle.bit_containers.proofs.Removing.{take_put}
 use Rattle.bit_containers.proofs.Calling.{TakesIf, takes_one, takes_not, retains_nothing, retains_more, retains_all}
 use Rattle.bit_containers.proofs.vec.BitVec.retain_by.Goals.{then-f, else-f}

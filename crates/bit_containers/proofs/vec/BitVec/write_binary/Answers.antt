@@ -2,7 +2,7 @@ use Rattle.std.proofs.Common.{◌≡◌, ◌+◌, ◌≤◌, length, take, drop,
 use Rattle.bit_addressing.specs.Binary.{value}
 use Rattle.bit_addressing.specs.Row.{binary, put}
 use Rattle.bit_addressing.specs.Typed.{row}
-use Rattle.bit_addressing.proofs.Binary.{length-binary, value_of_binary}
+use Rattle.bit_rows.proofs.Binary.{length-binary, value_of_binary}
 use Rattle.bit_addressing.proofs.Rows.{width_positive}
 use Rattle.bit_containers.proofs.Vectors.{shown}
 use Rattle.bit_slice.proofs.Clean.{clean_put}

@@ -1,7 +1,7 @@
 use Rattle.std.proofs.Common.{◌≡◌, ◌+◌, length, slice_range, sym, ◌∙◌, ap, arith}
 use Rattle.bit_addressing.specs.Row.{put, number_bits}
 use Rattle.bit_addressing.specs.Typed.{row}
-use Rattle.bit_addressing.proofs.Binary.{length-number_bits}
+use Rattle.bit_rows.proofs.Binary.{length-number_bits}
 use Rattle.bit_addressing.proofs.lists.Shown.{shown_written}
 use Rattle.bit_containers.proofs.Vectors.{shown}
 use Rattle.bit_containers.proofs.vec.BitVec.write_number.Goals as goal

@@ -1,5 +1,5 @@
 use Rattle.std.proofs.Common.{refl, sym, ◌∙◌}
-use Rattle.bit_addressing.proofs.Binary.{number_bits_none}
+use Rattle.bit_rows.proofs.Binary.{number_bits_none}
 use Rattle.bit_containers.proofs.Growing.{highest_bits_none}
 use Rattle.bit_containers.specs.Making.{highest_bits}
 use Rattle.bit_containers.proofs.vec.collect.shifted_down.Goals as goal

@@ -4,7 +4,7 @@ use Rattle.std.proofs.lemmas.List.{length-append}
 use Rattle.bit_addressing.specs.Row.{binary}
 use Rattle.bit_addressing.specs.declared.errors.GrowError.TheVariants.{TooLong}
 use Rattle.bit_addressing.specs.declared.length.TheConstants.{MAX_BITS}
-use Rattle.bit_addressing.proofs.Binary.{length-binary}
+use Rattle.bit_rows.proofs.Binary.{length-binary}
 use Rattle.bit_addressing.proofs.lists.Sized.{one_more_word}
 use Rattle.bit_records.specs.Records.{numbers_in}
 use Rattle.bit_records.proofs.Numbers.{count_of, number_joined}

@@ -1,6 +1,6 @@
 use Rattle.std.proofs.Common.{◌≡◌, ℕ, ◌+◌, ◌*◌, ◌/◌, ◌%◌, ◌≤◌, count_by, slice_range, refl, ◌∙◌, ap, arith}
 use Rattle.std.specs.Prelude.{count_ones}
-use Rattle.bit_addressing.proofs.Counts.{counted, counted_next, counted-le}
+use Rattle.bit_rows.proofs.Counts.{counted, counted_next, counted-le}
 use Rattle.bit_slice.specs.BitSlice.{list_of}
 use Rattle.bit_slice.specs.Operators.{combined}
 use Rattle.bit_slice.proofs.Combining.{length-combined}

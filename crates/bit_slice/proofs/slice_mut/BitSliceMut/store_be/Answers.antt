@@ -3,7 +3,7 @@ use Rattle.bit_addressing.specs.Row.{binary}
 use Rattle.bit_addressing.specs.Typed.{row}
 use Rattle.bit_slice.proofs.Parts.{in_row}
 use Rattle.bit_slice.proofs.Shown.{shown_filled}
-use Rattle.bit_addressing.proofs.Binary.{length-binary}
+use Rattle.bit_rows.proofs.Binary.{length-binary}
 use Rattle.bit_slice.proofs.slice_mut.BitSliceMut.store_be.Goals as goal
 
 pub returns-clause-list : goal.returns-clause-list

@@ -1,0 +1,12 @@
+pub mod Lowest
+pub mod Onto
+pub mod Canon
+pub mod Binary
+pub mod Differs
+pub mod Finds
+pub mod Wholes
+pub mod Combinations
+pub mod Paired
+pub mod Counts
+pub mod Grown
+pub mod Inserted

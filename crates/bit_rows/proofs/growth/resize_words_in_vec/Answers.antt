@@ -1,0 +1,37 @@
+use Rattle.std.proofs.Common.{◌≡◌, ◌∙◌, ap, sym, ◌-◌, ◌*◌, [], ◌∷◌, ◌++◌, take, replicate, length, arith}
+use Rattle.std.proofs.lemmas.List.{take_all}
+use Rattle.bit_addressing.specs.Row.{words_for}
+use Rattle.bit_addressing.specs.Typed.{row}
+use Rattle.bit_addressing.proofs.lists.Sized.{room, sized_same}
+use Rattle.bit_addressing.proofs.Rows.{width_positive}
+use Rattle.bit_addressing.proofs.Typed.{length_row, row_resized}
+use Rattle.bit_rows.proofs.growth.resize_words_in_vec.Goals as goal
+
+pub returns-then-count-old-clause-bits : goal.returns-then-count-old-clause-bits
+returns-then-count-old-clause-bits g c =
+    let w = g.T.BitStore.BITS in
+    let items = c.args.words.now.items in
+    let count : length items ≡ words_for w c.args.bits = sym c.args.words.now.ok.0 ∙ sym c.len-old.ensures ∙ sym c.if-count-old.true ∙ c.elts-count.ensures.value in
+    sym (sized_same w (row g.T.BitStore g.O.BitOrder items) c.args.bits (length_row g.T.BitStore.value g.O.BitOrder.place w items ∙ ap (λ n. w * n) count))
+
+pub returns-then-count-old-eq1-clause-bits : goal.returns-then-count-old-eq1-clause-bits
+returns-then-count-old-eq1-clause-bits g c =
+    let items = c.args.words.now.items in
+    let count = c.elts-count.result in
+    let blank : g.T.BitStore.value c.ZERO.result ≡ 0 = ap g.T.BitStore.value c.ZERO.ensures ∙ g.met.T.BitStore.zero_is in
+    let one : count - length items ≡ 1 = ap (λ n. count - n) (sym (c.len-old.ensures ∙ c.args.words.now.ok.0)) ∙ c.if-count-old-eq1.true in
+    ap (row g.T.BitStore g.O.BitOrder) (c.in_ok-push_word.ensures.items ∙ ap (λ xs. xs ++ c.ZERO.result ∷ []) (sym (take_all count items (omega arith))) ∙ ap (λ m. take count items ++ replicate m c.ZERO.result) (sym one))
+    ∙ row_resized g.T.BitStore.value g.O.BitOrder.place g.T.BitStore.BITS items c.ZERO.result c.args.bits count (width_positive _ g.met.T.BitStore.width) blank c.elts-count.ensures.value
+
+pub returns-clause-bits : goal.returns-clause-bits
+returns-clause-bits g c =
+    let old = c.args.words.now in
+    let count = c.elts-count.result in
+    let blank : g.T.BitStore.value c.ZERO-2.result ≡ 0 = ap g.T.BitStore.value c.ZERO-2.ensures ∙ g.met.T.BitStore.zero_is in
+    ap (row g.T.BitStore g.O.BitOrder) (c.in_ok-resize.ensures.items ∙ ap (λ n. take count old.items ++ replicate (count - n) c.ZERO-2.result) old.ok.0)
+    ∙ row_resized g.T.BitStore.value g.O.BitOrder.place g.T.BitStore.BITS old.items c.ZERO-2.result c.args.bits count (width_positive _ g.met.T.BitStore.width) blank c.elts-count.ensures.value
+
+pub returns-clause-room : goal.returns-clause-room
+returns-clause-room g c =
+    let size : length c.resize.new.self.items ≡ words_for g.T.BitStore.BITS c.args.bits = sym c.resize.new.self.ok.0 ∙ c.in_ok-resize.ensures.len ∙ c.elts-count.ensures.value in
+    rw size ((room g.T.BitStore.BITS c.args.bits (width_positive _ g.met.T.BitStore.width)).0)

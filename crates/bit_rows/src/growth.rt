@@ -1,0 +1,327 @@
+//! Words grown or cut to a number of bits.
+ghost use Rattle.std.specs.Prelude.{◌≡◌, ◌+◌, ◌-◌, ◌*◌, ◌^◌, ◌<◌, ◌≤◌, ◌++◌, [], ◌∷◌, false, length, replicate, take, OnOk, OnErr, vec_capacity};
+ghost use Rattle.bit_addressing.specs.Row.{binary, number_bits, words_for, put, sized};
+ghost use Rattle.bit_addressing.specs.Typed.{row};
+
+use crate::vectors::{fill_bits_in_vec, write_chunk_in_vec};
+use bit_addressing::{BitEnd, BitIdx, BitOrder, BitStore, blend, elts, repeated};
+use std::alloc::AllocError;
+use std::mem::replace;
+
+/// Cuts the words to those for `bits` bits, or fills them up with words of zero. Takes memory.
+/// It is refused only where the capacity, in words, is too small.
+#[inline(always)]
+pub fn resize_words_in_vec<T: BitStore, O: BitOrder>(
+    words: &mut Vec<T>,
+    bits: usize,
+) -> Result<(), AllocError>
+    ensures bits { OnOk result (row T.BitStore O.BitOrder words.new.items
+        ≡ sized T.BITS (row T.BitStore O.BitOrder words.old.items) bits) }
+    ensures size { OnOk result (length words.new.items ≡ words_for T.BITS bits) }
+    ensures room { OnOk result (bits ≤ T.BITS * length words.new.items) }
+    ensures capacity { vec_capacity words.old ≤ vec_capacity words.new }
+    ensures full { OnErr result (vec_capacity words.old < words_for T.BITS bits) }
+    ensures unchanged { OnErr result (words.new.items ≡ words.old.items) }
+{
+    let (count, old) = (elts::<T>(bits), words.len());
+    if count == old {
+        return Ok(());
+    }
+    if count > old && count - old == 1 {
+        push_word(words, T::ZERO)?;
+        return Ok(());
+    }
+    words.resize(count, T::ZERO)?;
+    Ok(())
+}
+
+/// Appends words whose bits are all `bit` until there are `count`. Takes memory only where the capacity is too small, and is
+/// refused only then. Requires that there are no more than `count`. Each of the two words is known to the compiler, which then fills
+/// memory by one call (docs/SPEED.md, resize).
+#[inline(always)]
+fn grow_words_by_bit<T: BitStore, O: BitOrder>(
+    words: &mut Vec<T>,
+    count: usize,
+    bit: bool,
+) -> Result<(), AllocError>
+    requires { length words.old.items ≤ count }
+    ensures bits { OnOk result (row T.BitStore O.BitOrder words.new.items
+        ≡ row T.BitStore O.BitOrder words.old.items ++ replicate (T.BITS * (count - length words.old.items)) bit) }
+    ensures size { OnOk result (length words.new.items ≡ count) }
+    ensures capacity { vec_capacity words.old ≤ vec_capacity words.new }
+    ensures full { OnErr result (vec_capacity words.old < count) }
+    ensures unchanged { OnErr result (words.new.items ≡ words.old.items) }
+{
+    if bit {
+        words.resize(count, repeated::<T>(true))?;
+    } else {
+        words.resize(count, repeated::<T>(false))?;
+    }
+    Ok(())
+}
+
+/// Appends words up to those for `upto` bits, and writes `bit` over the bits from `end` up to `upto`, each word
+/// once; the other bits of a word that is added are false. Takes memory where a word is added. Requires that
+/// `end` is at most `upto`, and that the words are those for `end` bits, and that `upto` is at most one word's
+/// bits below 2 to the power 64. It is refused only where the capacity, in words, is too small.
+///
+/// ```text
+/// of the words 05 by u8 and Lsb0: append_run_in_vec(&mut words, 3, 10, true)? leaves fd 03
+/// ```
+pub fn append_run_in_vec<T: BitStore, O: BitOrder>(
+    words: &mut Vec<T>,
+    end: usize,
+    upto: usize,
+    bit: bool,
+) -> Result<(), AllocError>
+    requires ordered { end ≤ upto }
+    requires count { length words.old.items ≡ words_for T.BITS end }
+    requires fits { upto + T.BITS ≤ 2 ^ 64 }
+    ensures bits { OnOk result (row T.BitStore O.BitOrder words.new.items
+        ≡ put (sized T.BITS (row T.BitStore O.BitOrder words.old.items) upto) end
+        (replicate (upto - end) bit)) }
+    ensures size { OnOk result (length words.new.items ≡ words_for T.BITS upto) }
+    ensures room { OnOk result (upto ≤ T.BITS * length words.new.items) }
+    ensures capacity { vec_capacity words.old ≤ vec_capacity words.new }
+    ensures full { OnErr result (vec_capacity words.old < words_for T.BITS upto) }
+    ensures unchanged { OnErr result (words.new.items ≡ words.old.items) }
+{
+    let (count, old) = (elts::<T>(upto), words.len());
+    if count == old {
+        fill_bits_in_vec::<T, O>(words, end, upto, bit);
+        return Ok(());
+    }
+    let width = T::BITS as usize;
+    grow_words_by_bit::<T, O>(words, count, bit)?;
+    fill_bits_in_vec::<T, O>(words, end, width * old, bit);
+    fill_bits_in_vec::<T, O>(words, upto, width * count, false);
+    Ok(())
+}
+
+/// Cuts the words to those for `bits` bits. Requires that they have room for them.
+pub fn cut_words_in_vec<T: BitStore, O: BitOrder>(words: &mut Vec<T>, bits: usize)
+    requires { bits ≤ T.BITS * length words.old.items }
+    ensures items { words.new.items ≡ take (words_for T.BITS bits) words.old.items }
+    ensures bits { row T.BitStore O.BitOrder words.new.items
+        ≡ sized T.BITS (row T.BitStore O.BitOrder words.old.items) bits }
+    ensures size { length words.new.items ≡ words_for T.BITS bits }
+    ensures room { bits ≤ T.BITS * length words.new.items }
+    ensures capacity { vec_capacity words.new ≡ vec_capacity words.old }
+{
+    let count = elts::<T>(bits);
+    words.truncate(count);
+}
+
+/// Makes room for `more` words after those that are there. Takes memory only where the capacity is too small, and is
+/// refused only then.
+#[inline(always)]
+fn make_room<T: BitStore>(words: &mut Vec<T>, more: usize) -> Result<(), AllocError>
+    ensures items { words.new.items ≡ words.old.items }
+    ensures room { OnOk result (length words.new.items + more ≤ vec_capacity words.new) }
+    ensures capacity { vec_capacity words.old ≤ vec_capacity words.new }
+    ensures no_memory { length words.old.items + more ≤ vec_capacity words.old
+        → vec_capacity words.new ≡ vec_capacity words.old }
+    ensures full { OnErr result (vec_capacity words.old < length words.old.items + more) }
+{
+    if more <= words.capacity() - words.len() {
+        return Ok(());
+    }
+    grow_by(words, more)
+}
+
+/// Like `make_room`, where the capacity may be too small. The words are handed over and handed back: a vector that is
+/// lent to a call stays in memory wherever words are pushed (docs/SPEED.md, push).
+#[inline(always)]
+fn grow_by<T: BitStore>(words: &mut Vec<T>, more: usize) -> Result<(), AllocError>
+    ensures items { words.new.items ≡ words.old.items }
+    ensures room { OnOk result (length words.new.items + more ≤ vec_capacity words.new) }
+    ensures capacity { vec_capacity words.old ≤ vec_capacity words.new }
+    ensures full { OnErr result (vec_capacity words.old < length words.old.items + more) }
+{
+    let alloc = *words.allocator();
+    let (grown, done) = grown_by(replace(words, Vec::new(alloc)), more);
+    let _empty = replace(words, grown);
+    done
+}
+
+/// Like `grow_by`, of a vector by value.
+#[cold]
+#[inline(never)]
+fn grown_by<T: BitStore>(words: Vec<T>, more: usize) -> (Vec<T>, Result<(), AllocError>)
+    ensures items { result.0.items ≡ words.items }
+    ensures room { OnOk result.1 (length result.0.items + more ≤ vec_capacity result.0) }
+    ensures capacity { vec_capacity words ≤ vec_capacity result.0 }
+    ensures full { OnErr result.1 (vec_capacity words < length words.items + more) }
+{
+    let mut words = words;
+    let done = words.reserve(more);
+    (words, done)
+}
+
+/// Appends a word. Takes memory only where the capacity is full.
+#[inline(always)]
+fn push_word<T: BitStore>(words: &mut Vec<T>, word: T) -> Result<(), AllocError>
+    ensures items { OnOk result (words.new.items ≡ words.old.items ++ word ∷ []) }
+    ensures capacity { vec_capacity words.old ≤ vec_capacity words.new }
+    ensures no_memory { length words.old.items < vec_capacity words.old
+        → vec_capacity words.new ≡ vec_capacity words.old }
+    ensures full { OnErr result (vec_capacity words.old ≤ length words.old.items) }
+    ensures unchanged { OnErr result (words.new.items ≡ words.old.items) }
+{
+    make_room(words, 1)?;
+    words.push_reserved(word);
+    Ok(())
+}
+
+/// Appends a bit after the first `end` bits: a word is added only where no word has room for it, and the other bits
+/// of a word that is added are false. Takes memory where a word is added. Requires that the words are those for
+/// `end` bits. It is refused only where the capacity, in words, is too small.
+pub fn push_bit_in_vec<T: BitStore, O: BitOrder>(
+    words: &mut Vec<T>,
+    end: usize,
+    bit: bool,
+) -> Result<(), AllocError>
+    requires count { length words.old.items ≡ words_for T.BITS end }
+    requires fits { end + 1 < 2 ^ 64 }
+    ensures bits { OnOk result (row T.BitStore O.BitOrder words.new.items
+        ≡ put (sized T.BITS (row T.BitStore O.BitOrder words.old.items) (end + 1)) end (bit ∷ [])) }
+    ensures size { OnOk result (length words.new.items ≡ words_for T.BITS (end + 1)) }
+    ensures room { OnOk result (end + 1 ≤ T.BITS * length words.new.items) }
+    ensures capacity { vec_capacity words.old ≤ vec_capacity words.new }
+    ensures no_memory { words_for T.BITS (end + 1) ≤ vec_capacity words.old
+        → vec_capacity words.new ≡ vec_capacity words.old }
+    ensures full { OnErr result (vec_capacity words.old < words_for T.BITS (end + 1)) }
+    ensures unchanged { OnErr result (words.new.items ≡ words.old.items) }
+{
+    let width = T::BITS as usize;
+    let place = O::at(BitIdx::<T>::new_unchecked((end % width) as u8)).into_inner();
+    let k = end / width;
+    if k == words.len() {
+        push_word(words, T::ZERO.with_bit(place, bit))?;
+    } else {
+        let word = words[k];
+        words[k] = word.with_bit(place, bit);
+    }
+    Ok(())
+}
+
+/// Appends a word whose first `n` indices have the lowest bits of a number, that of place 0 first, and whose other bits
+/// are false. Takes memory only where the capacity is full.
+#[inline(always)]
+fn push_part<T: BitStore, O: BitOrder>(
+    words: &mut Vec<T>,
+    n: u8,
+    chunk: u64,
+) -> Result<(), AllocError>
+    requires some { 0 < n }
+    requires within { n ≤ T.BITS }
+    ensures bits { OnOk result (row T.BitStore O.BitOrder words.new.items
+        ≡ row T.BitStore O.BitOrder words.old.items ++ number_bits chunk n ++ replicate (T.BITS - n) false) }
+    ensures size { OnOk result (length words.new.items ≡ length words.old.items + 1) }
+    ensures capacity { vec_capacity words.old ≤ vec_capacity words.new }
+    ensures full { OnErr result (vec_capacity words.old ≤ length words.old.items) }
+    ensures unchanged { OnErr result (words.new.items ≡ words.old.items) }
+{
+    let bits = chunk & (u64::MAX >> (64 - n));
+    push_word(words, O::from_lsb0(T::from_u64(bits)))?;
+    Ok(())
+}
+
+/// Writes the `n` lowest bits of a number at the indices of word `k` from `low` on, that of place 0 first.
+#[inline(always)]
+fn write_in_word<T: BitStore, O: BitOrder>(words: &mut Vec<T>, k: usize, low: u8, n: u8, chunk: u64)
+    requires word { k < length words.old.items }
+    requires some { 0 < n }
+    requires within { low + n ≤ T.BITS }
+    ensures bits { row T.BitStore O.BitOrder words.new.items
+        ≡ put (row T.BitStore O.BitOrder words.old.items) (k * T.BITS + low) (number_bits chunk n) }
+    ensures size { length words.new.items ≡ length words.old.items }
+    ensures capacity { vec_capacity words.new ≡ vec_capacity words.old }
+{
+    let new = O::from_lsb0(T::from_u64(chunk << low));
+    let mask = O::mask(
+        BitIdx::<T>::new_unchecked(low),
+        BitEnd::<T>::new_unchecked(low + n),
+    );
+    let old = words[k];
+    words[k] = blend(old, new, mask);
+}
+
+/// Appends the `n` lowest bits of a number after the first `end` bits, that of place 0 first: words are added only where
+/// those that are there have no room, and the other bits of a word that is added are false. Takes memory where a word is
+/// added. Requires that the words are those for `end` bits, and that `n` is at most 64. It is refused only where the
+/// capacity, in words, is too small.
+///
+/// ```text
+/// of the words 05 by u8 and Lsb0: push_chunk_in_vec(&mut words, 3, 6, 63)? leaves fd 01
+/// ```
+#[inline(always)]
+pub fn push_chunk_in_vec<T: BitStore, O: BitOrder>(
+    words: &mut Vec<T>,
+    end: usize,
+    n: u8,
+    chunk: u64,
+) -> Result<(), AllocError>
+    requires few { n ≤ 64 }
+    requires count { length words.old.items ≡ words_for T.BITS end }
+    requires fits { end + n < 2 ^ 64 }
+    ensures bits { OnOk result (row T.BitStore O.BitOrder words.new.items
+        ≡ put (sized T.BITS (row T.BitStore O.BitOrder words.old.items) (end + n)) end (number_bits chunk n)) }
+    ensures size { OnOk result (length words.new.items ≡ words_for T.BITS (end + n)) }
+    ensures room { OnOk result (end + n ≤ T.BITS * length words.new.items) }
+    ensures capacity { vec_capacity words.old ≤ vec_capacity words.new }
+    ensures full { OnErr result (vec_capacity words.old < words_for T.BITS (end + n)) }
+    ensures unchanged { OnErr result (words.new.items ≡ words.old.items) }
+{
+    if n == 0 {
+        return Ok(());
+    }
+    if T::BITS < 64 && n > T::BITS {
+        resize_words_in_vec::<T, O>(words, end + n as usize)?;
+        write_chunk_in_vec::<T, O>(words, end, n, chunk);
+        return Ok(());
+    }
+    let width = T::BITS as usize;
+    let low = (end % width) as u8;
+    if low == 0 {
+        push_part::<T, O>(words, n, chunk)?;
+        return Ok(());
+    }
+    let room = T::BITS - low;
+    if n <= room {
+        let k = words.len() - 1;
+        write_in_word::<T, O>(words, k, low, n, chunk);
+        return Ok(());
+    }
+    let k = words.len() - 1;
+    push_part::<T, O>(words, n - room, chunk >> room)?;
+    write_in_word::<T, O>(words, k, low, room, chunk);
+    Ok(())
+}
+
+/// Like `push_chunk_in_vec`, of a number in binary, the most significant of the `n` digits first; digits above the `n`
+/// lowest are left out.
+#[inline(always)]
+pub fn push_binary_in_vec<T: BitStore, O: BitOrder>(
+    words: &mut Vec<T>,
+    end: usize,
+    n: u8,
+    number: u64,
+) -> Result<(), AllocError>
+    requires few { n ≤ 64 }
+    requires count { length words.old.items ≡ words_for T.BITS end }
+    requires fits { end + n < 2 ^ 64 }
+    ensures bits { OnOk result (row T.BitStore O.BitOrder words.new.items
+        ≡ put (sized T.BITS (row T.BitStore O.BitOrder words.old.items) (end + n)) end (binary n number)) }
+    ensures size { OnOk result (length words.new.items ≡ words_for T.BITS (end + n)) }
+    ensures room { OnOk result (end + n ≤ T.BITS * length words.new.items) }
+    ensures capacity { vec_capacity words.old ≤ vec_capacity words.new }
+    ensures full { OnErr result (vec_capacity words.old < words_for T.BITS (end + n)) }
+    ensures unchanged { OnErr result (words.new.items ≡ words.old.items) }
+{
+    if n == 0 {
+        return Ok(());
+    }
+    push_chunk_in_vec::<T, O>(words, end, n, number.reverse() >> (64 - n))?;
+    Ok(())
+}

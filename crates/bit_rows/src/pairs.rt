@@ -1,0 +1,138 @@
+//! Bits that an operator makes of two rows, tested by whole words.
+ghost use Rattle.std.specs.Prelude.{◌≡◌, ℕ, ◌+◌, ◌*◌, ◌^◌, ◌<◌, ◌≤◌, false, length, slice_index_or, slice_range};
+ghost use Rattle.std.specs.List.{count_by};
+ghost use Rattle.std.specs.Simd.Lanes.{zip2};
+ghost use Rattle.bit_addressing.specs.Typed.{row};
+
+use crate::chunks::{are_alike, word_alike};
+use crate::combined::BitOperator;
+use bit_addressing::{BitOrder, BitStore, Lsb0};
+
+/// How many turns of `each` words, of the first `count` from words `k` and `l` on, `F` makes into false bits
+/// alone, up to one that it does not. A turn is tested once, so that the compiler takes its words side by side
+/// (docs/SPEED.md, "The bench", is subset). Requires that both kinds of words have one width and order, and
+/// that the words are there.
+#[inline(always)]
+fn false_turns<F: BitOperator, T: BitStore, O: BitOrder, U: BitStore, P: BitOrder>(
+    a: &[T],
+    k: usize,
+    b: &[U],
+    l: usize,
+    count: usize,
+    each: usize,
+) -> usize
+    requires width { U.BITS ≡ T.BITS }
+    requires order { (i : ℕ) → i < T.BITS → O.place T.BITS i ≡ P.place T.BITS i }
+    requires some { 0 < each }
+    requires first { k + count ≤ length a.now }
+    requires second { l + count ≤ length b.now }
+    ensures most { result * each ≤ count }
+    ensures none { (q : ℕ) → q < result * each * T.BITS
+        → F.made (slice_index_or (row T.BitStore O.BitOrder a.now) (k * T.BITS + q) false)
+        (slice_index_or (row U.BitStore P.BitOrder b.now) (l * T.BITS + q) false) ≡ false }
+{
+    for t in 0..count / each {
+        let done = t * each;
+        let mut made = T::ZERO;
+        for i in 0..each {
+            let other = word_alike::<T, O, U, P>(b[l + (done + i)]);
+            made = made.or(F::apply::<T>(a[k + (done + i)], other));
+        }
+        if made.to_u64() != 0 {
+            return t;
+        }
+    }
+    count / each
+}
+
+/// A number of blocks of 64 bits, the first of `n` bits from places `i` and `j` on, of which `F` makes false
+/// bits alone. It tests bits that lie alike where both runs begin with a word, 1024 at a time, so more such
+/// blocks may follow; of others it returns 0. Requires that both runs lie in their words.
+///
+/// ```text
+/// of 1024 false bits and 1024 true ones: false_blocks::<And, ..>(a, 0, b, 0, 1024) == 16
+/// of 8 bits: false_blocks::<And, ..>(a, 0, b, 0, 8) == 0
+/// ```
+pub fn false_blocks<F: BitOperator, T: BitStore, O: BitOrder, U: BitStore, P: BitOrder>(
+    a: &[T],
+    i: usize,
+    b: &[U],
+    j: usize,
+    n: usize,
+) -> usize
+    requires first { i + n ≤ T.BITS * length a.now }
+    requires second { j + n ≤ U.BITS * length b.now }
+    ensures few { result * 64 ≤ n }
+    ensures none { (q : ℕ) → q < result * 64
+        → F.made (slice_index_or (row T.BitStore O.BitOrder a.now) (i + q) false)
+        (slice_index_or (row U.BitStore P.BitOrder b.now) (j + q) false) ≡ false }
+{
+    let width = T::BITS as usize;
+    if !are_alike::<T, O, U, P>() || i % width != 0 || j % width != 0 {
+        return 0;
+    }
+    let (k, l) = (i / width, j / width);
+    false_turns::<F, T, O, U, P>(a, k, b, l, n / width, 1024 / width) * 16
+}
+
+/// How many bits are true of those that `F` makes of `blocks` blocks of 64 bits from words `k` and `l` on. As
+/// many are in each order, so both sides are taken by their places, which takes no turning round
+/// (docs/SPEED.md, "The bench", count xor). Requires that both kinds of words have one width and order, and
+/// that the words are there.
+fn count_alike<F: BitOperator, T: BitStore, O: BitOrder, U: BitStore, P: BitOrder>(
+    a: &[T],
+    k: usize,
+    b: &[U],
+    l: usize,
+    blocks: usize,
+) -> usize
+    requires width { U.BITS ≡ T.BITS }
+    requires order { (i : ℕ) → i < T.BITS → O.place T.BITS i ≡ P.place T.BITS i }
+    requires first { k * T.BITS + blocks * 64 ≤ T.BITS * length a.now }
+    requires second { l * T.BITS + blocks * 64 ≤ T.BITS * length b.now }
+    requires few { blocks * 64 < 2 ^ 64 }
+    ensures { result
+        ≡ count_by (λ b. b) (zip2 F.made
+        (slice_range (row T.BitStore O.BitOrder a.now) (k * T.BITS) (k * T.BITS + blocks * 64))
+        (slice_range (row U.BitStore P.BitOrder b.now) (l * T.BITS) (l * T.BITS + blocks * 64))) }
+{
+    let each = 64 / T::BITS as usize;
+    let mut count = 0;
+    for t in 0..blocks {
+        let old = Lsb0::pack(a, k + t * each);
+        let new = Lsb0::pack(b, l + t * each);
+        count += F::apply::<u64>(old, new).count_ones() as usize;
+    }
+    count
+}
+
+/// How many blocks of 64 bits it counted, of `n` bits from places `i` and `j` on, and how many bits are true
+/// there of those that `F` makes. It counts all whole blocks of bits that lie alike in words that both runs
+/// begin with, and none of others. Requires that both runs lie in their words.
+///
+/// ```text
+/// of 64 bits that are true, twice: count_blocks::<And, ..>(a, 0, b, 0, 64) == (1, 64)
+/// ```
+pub fn count_blocks<F: BitOperator, T: BitStore, O: BitOrder, U: BitStore, P: BitOrder>(
+    a: &[T],
+    i: usize,
+    b: &[U],
+    j: usize,
+    n: usize,
+) -> (usize, usize)
+    requires first { i + n ≤ T.BITS * length a.now }
+    requires second { j + n ≤ U.BITS * length b.now }
+    ensures few { result.0 * 64 ≤ n }
+    ensures count { result.1
+        ≡ count_by (λ b. b) (zip2 F.made
+        (slice_range (row T.BitStore O.BitOrder a.now) i (i + result.0 * 64))
+        (slice_range (row U.BitStore P.BitOrder b.now) j (j + result.0 * 64))) }
+{
+    let width = T::BITS as usize;
+    if !are_alike::<T, O, U, P>() || i % width != 0 || j % width != 0 {
+        return (0, 0);
+    }
+    let blocks = n / 64;
+    let count = count_alike::<F, T, O, U, P>(a, i / width, b, j / width, blocks);
+    (blocks, count)
+}

@@ -1,5 +1,6 @@
-//! Examples, and the public calls that `bit_sweeps` leaves out, once each.
+//! Examples, and each public call of an array once.
 mod callers;
+mod operators;
 mod reading;
 mod slice;
 mod writing;

@@ -10,6 +10,7 @@ mod reverse;
 
 use bit_addressing::{BitOrder, BitStore, Lsb0, move_bits};
 use bit_rows::{BitOperator, combine_bits, copy_bits, fill_bits, read_chunk, write_chunk};
+use reverse::move_to;
 pub use reverse::reverse_words;
 
 /// The bit is true where the old one is and the new one is not.
@@ -99,29 +100,62 @@ fn rotate_all_but_few<T: BitStore, O: BitOrder>(words: &mut [T], head: usize, le
     copy_bits::<T, O, u64, Lsb0>(words, head, &kept, 0, rest);
 }
 
-// Like `rotate_words`, by three reversals.
-fn rotate_by_reversals<T: BitStore, O: BitOrder>(
+// Moves the first `by` of the `count` words from word `first` on after the others.
+fn rotate_whole_words<T: BitStore, O: BitOrder>(
     words: &mut [T],
-    head: usize,
-    len: usize,
+    first: usize,
+    count: usize,
     by: usize,
 )
+    requires within { first + count ≤ length words.old }
+    requires inside { by ≤ count }
+    ensures bits { let at = first * T.BITS
+        in let bits = slice_range (row T.BitStore O.BitOrder words.old) at (at + count * T.BITS)
+        in row T.BitStore O.BitOrder words.new
+        ≡ put (row T.BitStore O.BitOrder words.old) at (drop (by * T.BITS) bits ++ take (by * T.BITS) bits) }
+    ensures size { length words.new ≡ length words.old }
+{
+    words[first..first + count].rotate_left(by);
+}
+
+// Like `rotate_words`, where at least 64 bits are on each side: whole words are rotated, and then each side is moved
+// once. The bits before the whole words, those of the word that has bits of both sides, and those after the whole
+// words are kept meanwhile.
+fn rotate_by_words<T: BitStore, O: BitOrder>(words: &mut [T], head: usize, len: usize, by: usize)
+    requires room { T.BITS * length words.old ≤ MAX_BITS + 2 * T.BITS }
     requires within { head + len ≤ T.BITS * length words.old }
-    requires fits { head + len < 2 ^ 64 }
-    requires inside { by ≤ len }
+    requires front { 64 ≤ by }
+    requires back { by + 64 ≤ len }
     ensures bits { let bits = slice_range (row T.BitStore O.BitOrder words.old) head (head + len)
         in row T.BitStore O.BitOrder words.new
         ≡ put (row T.BitStore O.BitOrder words.old) head (drop by bits ++ take by bits) }
     ensures size { length words.new ≡ length words.old }
 {
-    reverse_words::<T, O>(words, head, by);
-    reverse_words::<T, O>(words, head + by, len - by);
-    reverse_words::<T, O>(words, head, len);
+    let width = T::BITS as usize;
+    let first = head.div_ceil(width);
+    let before = first * width - head;
+    let by_words = (by - before) / width;
+    let front = by_words * width;
+    let shared = by - before - front;
+    let count = (len - before) / width;
+    let after = len - before - count * width;
+    let back = len - by - after;
+    let begin = read_chunk::<T, O>(words, head, before as u8);
+    let middle = read_chunk::<T, O>(words, head + before + front, shared as u8);
+    let end = read_chunk::<T, O>(words, head + by + back, after as u8);
+    rotate_whole_words::<T, O>(words, first, count, by_words);
+    // The back goes first, since the front may go where it stood.
+    let to = head + back + after + before;
+    move_to::<T, O>(words, head + before + shared, head, back);
+    move_to::<T, O>(words, head + before + shared + back, to, front);
+    write_chunk::<T, O>(words, head + back, after as u8, end);
+    write_chunk::<T, O>(words, head + back + after, before as u8, begin);
+    write_chunk::<T, O>(words, to + front, shared as u8, middle);
 }
 
 /// Moves the first `by` of the `len` bits of the words' row from `head` on after the others: by one move where at
-/// most 1024 bits are on one side, else by three reversals. No other bit changes. Requires that the run lies in the
-/// words, and `by` is at most its length.
+/// most 1024 bits are on one side, else by a rotation of whole words and a move of each side. No other bit changes.
+/// Requires that the run lies in the words, and `by` is at most its length.
 pub fn rotate_words<T: BitStore, O: BitOrder>(words: &mut [T], head: usize, len: usize, by: usize)
     requires room { T.BITS * length words.old ≤ MAX_BITS + 2 * T.BITS }
     requires within { head + len ≤ T.BITS * length words.old }
@@ -136,7 +170,7 @@ pub fn rotate_words<T: BitStore, O: BitOrder>(words: &mut [T], head: usize, len:
     } else if len - by <= KEPT {
         rotate_all_but_few::<T, O>(words, head, len, by);
     } else {
-        rotate_by_reversals::<T, O>(words, head, len, by);
+        rotate_by_words::<T, O>(words, head, len, by);
     }
 }
 

@@ -170,6 +170,24 @@ fn written<T: BitStore, O: BitOrder>(rt: &(impl Abort + AllocGlobal), b: &mut Bi
     filled(rt, b, false);
 }
 
+/// A range copied to a place.
+fn moved_to<T: BitStore, O: BitOrder>(
+    rt: &(impl Abort + AllocGlobal),
+    b: &mut BitBox<T, O>,
+    from: usize,
+    count: usize,
+    dest: usize,
+) {
+    let before = owned(rt, b);
+    let (head, len) = (b.head(), b.len());
+    assert!(rt; head < 8 && len < 18);
+    assert!(rt; from <= len && count <= len - from && dest <= len - count);
+    b.copy_within(from..from + count, dest);
+    let after = owned(rt, b);
+    let made = Made::Moved(head + from);
+    check(rt, is_made(&before, &after, head + dest, count, made));
+}
+
 /// Each range that has room at each place, copied there.
 fn moved<T: BitStore, O: BitOrder>(rt: &(impl Abort + AllocGlobal), b: &mut BitBox<T, O>) {
     let (head, len) = (b.head(), b.len());
@@ -178,13 +196,7 @@ fn moved<T: BitStore, O: BitOrder>(rt: &(impl Abort + AllocGlobal), b: &mut BitB
     for from in 0..len + 1 {
         for upto in from..len + 1 {
             for dest in 0..len - (upto - from) + 1 {
-                let before = owned(rt, b);
-                assert!(rt; upto <= b.len());
-                assert!(rt; dest <= b.len() - (upto - from));
-                b.copy_within(from..upto, dest);
-                let after = owned(rt, b);
-                let made = Made::Moved(head + from);
-                check(rt, is_made(&before, &after, head + dest, upto - from, made));
+                moved_to(rt, b, from, upto - from, dest);
             }
         }
     }
@@ -247,29 +259,46 @@ fn worked<T: BitStore, O: BitOrder>(
     b
 }
 
-/// What is written through a view, and through the words, stands in the box.
-fn lent<T: BitStore, O: BitOrder>(rt: &(impl Abort + AllocGlobal), b: &mut BitBox<T, O>) {
+/// What is written through a view stands in the box.
+fn lent_view<T: BitStore, O: BitOrder>(rt: &(impl Abort + AllocGlobal), b: &mut BitBox<T, O>) {
     let (head, len) = (b.head(), b.len());
-    assert!(rt; head < 8);
-    assert!(rt; len < 18);
+    assert!(rt; head + len < 100);
     let before = owned(rt, b);
     b.as_mut_bitslice().fill(true);
-    let after = owned(rt, b);
-    check(rt, is_made(&before, &after, head, len, Made::Bit(true)));
-    check(rt, shows(b, &after, head, len));
-    let count = b.as_raw_slice().len();
-    for at in 0..count {
-        let words = b.as_raw_mut_slice();
-        assert!(rt; at < words.len());
-        words[at] = T::from_u64(0x5a5a_5a5a_5a5a_5a5a);
+    stands(rt, b, &before, head, len, Made::Bit(true));
+}
+
+/// Whether the bits of each word are those of this one.
+fn is_repeated<T: BitStore, O: BitOrder>(
+    rt: &(impl Abort + AllocGlobal),
+    row: &[bool],
+    word: u64,
+) -> bool {
+    let words = words_of::<T>(rt, word);
+    let bits = row_of::<T, O>(rt, words.as_slice());
+    let mut same = true;
+    for (j, bit) in row.iter().enumerate() {
+        same = same && bits.get(j % T::BITS as usize) == Some(bit);
+    }
+    same
+}
+
+/// What is written through the words stands in the box.
+fn lent_words<T: BitStore, O: BitOrder>(rt: &(impl Abort + AllocGlobal), b: &mut BitBox<T, O>) {
+    let (head, len) = (b.head(), b.len());
+    assert!(rt; head + len < 100);
+    for word in b.as_raw_mut_slice() {
+        *word = T::from_u64(0x5a5a_5a5a_5a5a_5a5a);
     }
     let after = owned(rt, b);
-    let five = words_of::<T>(rt, 0x5a5a_5a5a_5a5a_5a5a);
-    let five = row_of::<T, O>(rt, five.as_slice());
-    for (j, bit) in after.iter().enumerate() {
-        check(rt, five.get(j % T::BITS as usize) == Some(bit));
-    }
+    check(rt, is_repeated::<T, O>(rt, &after, 0x5a5a_5a5a_5a5a_5a5a));
     check(rt, shows(b, &after, head, len));
+}
+
+/// What is written through a view, and through the words, stands in the box.
+fn lent<T: BitStore, O: BitOrder>(rt: &(impl Abort + AllocGlobal), b: &mut BitBox<T, O>) {
+    lent_view(rt, b);
+    lent_words(rt, b);
 }
 
 /// Two boxes combined by an operator.

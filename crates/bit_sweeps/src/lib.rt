@@ -1,9 +1,7 @@
-//! Rows, views, arrays, boxes and vectors beside plain lists: each call at every head of a byte, at every length up
+//! Rows, views, boxes and vectors beside plain lists: each call at every head of a byte, at every length up
 //! to 17 bits. All of it is tests.
 #![tactic(auto)]
 
-#[cfg(test)]
-mod arrays;
 #[cfg(test)]
 mod boxes;
 #[cfg(test)]

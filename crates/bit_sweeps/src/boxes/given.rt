@@ -1,5 +1,5 @@
 //! What a box gives: its bits from both ends, its text, its words, copies of it.
-ghost use Rattle.std.specs.Prelude.{◌+◌, ◌<◌};
+ghost use Rattle.std.specs.Prelude.{◌<◌};
 
 use crate::boxes::{copied, owned, shows};
 use crate::common::{check, digits_of, ok, text_of};
@@ -80,6 +80,37 @@ pub(crate) fn told<T: BitStore, O: BitOrder>(rt: &(impl Abort + AllocGlobal), b:
     told_in(rt, b, Radix::UpperHex, 4, b"0123456789ABCDEF");
 }
 
+/// Each bit that is left, read and then written through the view of it.
+fn left_lent<T: BitStore, O: BitOrder>(
+    rt: &(impl Abort + AllocGlobal),
+    bits: &mut IntoIter<T, O>,
+    list: &[bool],
+) {
+    for (i, bit) in list.iter().enumerate() {
+        check(rt, bits.as_bitslice().get(i) == Some(*bit));
+        let mut view = bits.as_mut_bitslice();
+        if i < view.len() {
+            view.set(i, !*bit);
+        }
+    }
+}
+
+/// That an iterator gives these bits, each flipped or each as it is, and then none from either end.
+fn gives<T: BitStore, O: BitOrder>(
+    rt: &(impl Abort + AllocGlobal),
+    bits: IntoIter<T, O>,
+    list: &[bool],
+    flipped: bool,
+) {
+    let mut bits = bits;
+    check(rt, bits.len() == list.len());
+    for bit in list {
+        check(rt, bits.next() == Some(*bit != flipped));
+    }
+    check(rt, bits.next().is_none());
+    check(rt, bits.next_back().is_none());
+}
+
 /// What is left of a list from one place up to another: read, copied, and written through the view of it.
 fn left<T: BitStore, O: BitOrder>(
     rt: &(impl Abort + AllocGlobal),
@@ -87,25 +118,35 @@ fn left<T: BitStore, O: BitOrder>(
     list: &[bool],
 ) {
     let mut bits = bits;
-    check(rt, bits.len() == list.len());
     check(rt, bits.as_slice().len() == list.len());
-    let mut copy = ok(rt, bits.clone());
-    for (i, bit) in list.iter().enumerate() {
-        check(rt, copy.next() == Some(*bit));
-        check(rt, bits.as_bitslice().get(i) == Some(*bit));
-        let mut view = bits.as_mut_bitslice();
-        if i < view.len() {
-            view.set(i, !*bit);
-        }
-    }
-    check(rt, copy.next().is_none());
-    check(rt, copy.next_back().is_none());
-    for bit in list {
-        check(rt, bits.next() == Some(!*bit));
-    }
-    check(rt, bits.next().is_none());
-    check(rt, bits.next_back().is_none());
-    check(rt, bits.len() == 0);
+    gives(rt, ok(rt, bits.clone()), list, false);
+    left_lent(rt, &mut bits, list);
+    gives(rt, bits, list, true);
+}
+
+/// The bits from both ends, after so many from the front and so many from the back are passed over.
+fn given_after<T: BitStore, O: BitOrder>(
+    rt: &(impl Abort + AllocGlobal),
+    bits: IntoIter<T, O>,
+    list: &[bool],
+    front: usize,
+    back: usize,
+)
+    requires front { front < 20 }
+    requires back { back < 20 }
+{
+    let mut bits = bits;
+    let len = list.len();
+    let from = len.min(front + 1);
+    check(rt, bits.nth(front) == list.get(front).copied());
+    let upto = len.saturating_sub(back + 1).max(from);
+    let last = if upto + back < len {
+        list.get(upto).copied()
+    } else {
+        None
+    };
+    check(rt, bits.nth_back(back) == last);
+    left(rt, bits, list.get(from..upto).unwrap_or(&[]));
 }
 
 /// The bits one by one from both ends, past the end too.
@@ -113,26 +154,9 @@ pub(crate) fn given<T: BitStore, O: BitOrder>(rt: &(impl Abort + AllocGlobal), b
     let len = b.len();
     assert!(rt; len < 18);
     let list = list_of(rt, b);
-    assert!(rt; list.len() == len);
     for front in 0..len + 2 {
         for back in 0..len + 2 {
-            let mut bits = copied(rt, b).into_iter();
-            let from = len.min(front + 1);
-            check(rt, bits.nth(front) == list.get(front).copied());
-            let upto = if back < len - from {
-                len - 1 - back
-            } else {
-                from
-            };
-            let last = if back < len - from {
-                list.get(upto).copied()
-            } else {
-                None
-            };
-            check(rt, bits.nth_back(back) == last);
-            assert!(rt; from <= upto);
-            assert!(rt; upto <= list.len());
-            left(rt, bits, &list[from..upto]);
+            given_after(rt, copied(rt, b).into_iter(), &list, front, back);
         }
     }
 }

@@ -275,14 +275,14 @@ module _ (xs : List Bool) (head before front shared back after len by : ℕ) (fi
   in_order =
       let middle : head + before + front + shared ≡ head + by = omega arith in
       let last : head + by + back + after ≡ head + len = omega arith in
-      let behind : back_part ++ end_part ≡ drop by (slice_range xs head (head + len)) =
+      let later : back_part ++ end_part ≡ drop by (slice_range xs head (head + len)) =
       slices_joined xs (head + by) (head + by + back) (head + by + back + after) (omega arith) (omega arith) (omega arith)
       ∙ ap (slice_range xs (head + by)) last ∙ sym (rest_of_run xs head len by (omega arith) room) in
-      let ahead : (begin_part ++ front_part) ++ shared_part ≡ take by (slice_range xs head (head + len)) =
+      let earlier : (begin_part ++ front_part) ++ shared_part ≡ take by (slice_range xs head (head + len)) =
       ap (λ l. l ++ shared_part) (slices_joined xs head at (at + front) (omega arith) (omega arith) (omega arith))
       ∙ slices_joined xs head (at + front) (at + front + shared) (omega arith) (omega arith) (omega arith)
       ∙ ap (slice_range xs head) middle ∙ shows_fewer xs head by len (omega arith) room in
-      five_joined back_part end_part begin_part front_part shared_part ∙ (λ i. behind i ++ ahead i)
+      five_joined back_part end_part begin_part front_part shared_part ∙ (λ i. later i ++ earlier i)
 
   -- a run is rotated, where front and back change places first, both are moved, and the three other parts are written
   pub rotated : put (put (put both_moved (head + back) end_part) (head + back + after) begin_part) (head + back + after + before + front) shared_part

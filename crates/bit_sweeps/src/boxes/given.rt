@@ -124,7 +124,7 @@ fn left<T: BitStore, O: BitOrder>(
     gives(rt, bits, list, true);
 }
 
-/// The bits from both ends, after so many from the front and so many from the back are passed over.
+/// The bits from both ends, after `front` bits from the front and `back` bits from the back are passed over.
 fn given_after<T: BitStore, O: BitOrder>(
     rt: &(impl Abort + AllocGlobal),
     bits: IntoIter<T, O>,

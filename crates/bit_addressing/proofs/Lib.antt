@@ -11,3 +11,4 @@ pub mod Packs
 pub mod Blocks
 pub mod Shifts
 pub mod Tables
+pub mod Lookups

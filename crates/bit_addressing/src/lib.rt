@@ -12,6 +12,7 @@ mod pair_table;
 mod parts;
 mod range;
 mod store;
+mod vectors;
 mod word_read;
 mod word_row;
 

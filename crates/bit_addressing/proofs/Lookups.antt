@@ -164,7 +164,7 @@ module _ (r : List ℕ) (first second : ℕ) (fits : Each1 (λ b. b < 256) r) (s
       ∙ number_bit r fits i q (omega arith)
       ∙ turns i q (omega arith) (omega arith)
       ∙ ap (λ x. has_bit x (7 - q)) (from_end (bytes_of first second) i refl (omega arith) ∙ ap (λ m. get_or (bytes_of first second) m 0) back
-          ∙ get_or_narrower 18446744073709551616 8 256 16 (first ∷ second ∷ []) j (7 - p / 8) refl (small_first, (small_second, tt)) (omega arith) (omega arith))
+      ∙ get_or_narrower 18446744073709551616 8 256 16 (first ∷ second ∷ []) j (7 - p / 8) refl (small_first, (small_second, tt)) (omega arith) (omega arith))
       ∙ byte_bit (get_or (first ∷ second ∷ []) j 0) (7 - p / 8) (7 - q) (omega arith) (omega arith)
       ∙ ap (has_bit (get_or (first ∷ second ∷ []) j 0)) to
 

@@ -4,6 +4,8 @@ ghost use Rattle.std.proofs.Common.{inl, inr};
 ghost use Rattle.bit_addressing.specs.Bits.{has_bit, IsWidth};
 ghost use Rattle.bit_addressing.specs.Row.{AreWords};
 
+use crate::vectors::reverse_both;
+
 /// A word of bits: `u8`, `u16`, `u32`, `u64` or `usize`, which has 64 bits.
 ///
 /// Places are counted from the least significant one: place `p` is worth 2 to the power `p`. Each
@@ -76,6 +78,14 @@ pub trait BitStore: Copy + Drop {
     /// The bits in the opposite places: place `p` gets the bit of place `BITS - 1 - p`.
     fn reverse(self) -> Self
         ensures { (p : ℕ) → p < BITS → has_bit (value result) p ≡ has_bit (value self) (BITS - 1 - p) };
+
+    /// This word and the next in the opposite order, each reversed: first `next.reverse()`, then `self.reverse()`.
+    fn reverse_pair(self, next: Self) -> (Self, Self)
+        ensures front { (p : ℕ) → p < BITS → has_bit (value result.0) p ≡ has_bit (value next) (BITS - 1 - p) }
+        ensures back { (p : ℕ) → p < BITS → has_bit (value result.1) p ≡ has_bit (value self) (BITS - 1 - p) }
+    {
+        (next.reverse(), self.reverse())
+    }
 
     /// The bits at their places in 64, with the places above clear.
     fn to_u64(self) -> u64
@@ -393,6 +403,10 @@ impl BitStore for u64 {
         ((words >> 32) & 0x00000000ffffffff) | ((words & 0x00000000ffffffff) << 32)
     }
 
+    fn reverse_pair(self, next: u64) -> (u64, u64) {
+        reverse_both(self, next)
+    }
+
     fn to_u64(self) -> u64 {
         self
     }
@@ -469,6 +483,11 @@ impl BitStore for usize {
         let halves = ((bytes >> 8) & 0x00ff00ff00ff00ff) | ((bytes & 0x00ff00ff00ff00ff) << 8);
         let words = ((halves >> 16) & 0x0000ffff0000ffff) | ((halves & 0x0000ffff0000ffff) << 16);
         ((words >> 32) & 0x00000000ffffffff) | ((words & 0x00000000ffffffff) << 32)
+    }
+
+    fn reverse_pair(self, next: usize) -> (usize, usize) {
+        let (front, back) = reverse_both(self as u64, next as u64);
+        (front as usize, back as usize)
     }
 
     fn to_u64(self) -> u64 {

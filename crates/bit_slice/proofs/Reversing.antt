@@ -1,5 +1,5 @@
 -- Words and rows that are reversed from both ends, and a run of them that is moved to its head.
-use Rattle.std.proofs.Common.{◌≡◌, ℕ, ◌+◌, ◌-◌, ◌*◌, ◌/◌, ◌%◌, ◌<◌, ◌≤◌, Bool, false, List, ◌++◌, map, set, length, get_or, reverse, slice_range, refl, sym, ◌∙◌, ap, inl, inr, arith}
+use Rattle.std.proofs.Common.{◌≡◌, ℕ, ◌+◌, ◌-◌, ◌*◌, ◌/◌, ◌%◌, ◌<◌, ◌≤◌, Bool, false, List, ◌++◌, map, set, length, get_or, reverse, slice_range, refl, sym, ◌∙◌, ap, subst, inl, inr, arith}
 use Rattle.std.proofs.lemmas.Bool.{cases_lt}
 use Rattle.std.proofs.lemmas.Bool.Decides.{eqb_tells}
 use Rattle.std.proofs.lemmas.List.{ext_get_or, get_or-reverse, get_or-set_same, get_or-set_other, get_or-map, map-set, length-reverse, length-set, length-map, length-append, reverse-append, append_assoc}
@@ -117,6 +117,49 @@ module _ {X : Type 0} (value : X → ℕ) (w : ℕ) where
       let high_is : value old_high ≡ get_or (map value new_high) (length (map value high) - 1 - n) 0 = ap value read_high ∙ sym (get_or-map value new_high j old_high 0 (omega (arith, kept_high, size, size_new_high, at, below))) ∙ ap (λ k. get_or (map value new_high) k 0) e in
       rw (map-set, map-set, e) (exchange_step w (map value low) (map value high) (map value new_low) (map value new_high) n (value u) (value v) (omega (arith, size, size_low, same)) (omega (arith, size, below)) so_far
       (λ p h. from_high p h ∙ ap (λ x. has_bit x (w - 1 - p)) high_is) (λ p h. from_low p h ∙ ap (λ x. has_bit x (w - 1 - p)) low_is))
+
+  -- the bits of a word are those of another in the opposite places
+  abbrev pub IsReversed : X → X → Type 0
+  IsReversed u old = (p : ℕ) → p < w → has_bit (value u) p ≡ has_bit (value old) (w - 1 - p)
+
+  -- a pair of words more from each end
+  exchange_pair : (low high new_low new_high : List X) (n m j k : ℕ) (low_0 low_1 high_0 high_1 u_0 u_1 v_0 v_1 : X) → length low ≡ length high → n + 2 ≤ length high → j ≡ length high - 2 - n → m ≡ n + 1 → k ≡ j + 1
+      → IsExchanged w (map value low) (map value high) (map value new_low) (map value new_high) n
+      → low_0 ≡ get_or new_low n low_0 → low_1 ≡ get_or new_low m low_1 → high_0 ≡ get_or new_high j high_0 → high_1 ≡ get_or new_high k high_1
+      → IsReversed u_0 high_1 → IsReversed u_1 high_0 → IsReversed v_0 low_1 → IsReversed v_1 low_0
+      → IsExchanged w (map value low) (map value high) (map value (set (set new_low n u_0) m u_1)) (map value (set (set new_high k v_1) j v_0)) (n + 2)
+  exchange_pair low high new_low new_high n m j k low_0 low_1 high_0 high_1 u_0 u_1 v_0 v_1 same room at is_m is_k so_far read_low_0 read_low_1 read_high_0 read_high_1 from_high_1 from_high_0 from_low_1 from_low_0 =
+      let first = exchange_word low high new_low new_high n k low_0 high_1 u_0 v_1 same (omega (arith, room)) (omega (arith, at, is_k, room)) so_far read_low_0 read_high_1 from_high_1 from_low_0 in
+      let there : IsExchanged w (map value low) (map value high) (map value (set new_low n u_0)) (map value (set new_high k v_1)) m = subst (λ i. IsExchanged w (map value low) (map value high) (map value (set new_low n u_0)) (map value (set new_high k v_1)) i) (sym is_m) first in
+      let second = exchange_word low high (set new_low n u_0) (set new_high k v_1) m j low_1 high_0 u_1 v_0 same (omega (arith, room, is_m)) (omega (arith, at, is_m, room)) there
+      (read_low_1 ∙ sym (get_or-set_other new_low n m u_0 low_1 (omega (arith, is_m)))) (read_high_0 ∙ sym (get_or-set_other new_high k j v_1 high_0 (omega (arith, is_k)))) from_high_0 from_low_1 in
+      let e : m + 1 ≡ n + 2 = omega (arith, is_m) in
+      subst (λ i. IsExchanged w (map value low) (map value high) (map value (set (set new_low n u_0) m u_1)) (map value (set (set new_high k v_1) j v_0)) i) e second
+
+  -- four words more from each end, which were read before any was written
+  pub exchange_four : (low high new_low new_high : List X) (n m j : ℕ) (low_0 low_1 low_2 low_3 high_0 high_1 high_2 high_3 u_0 u_1 u_2 u_3 v_0 v_1 v_2 v_3 : X) → length low ≡ length high → n + 4 ≤ length high → m ≡ n + 4 → j ≡ length high - 4 - n
+      → IsExchanged w (map value low) (map value high) (map value new_low) (map value new_high) n
+      → low_0 ≡ get_or new_low n low_0 → low_1 ≡ get_or new_low (n + 1) low_1 → low_2 ≡ get_or new_low (n + 2) low_2 → low_3 ≡ get_or new_low (n + 3) low_3
+      → high_0 ≡ get_or new_high j high_0 → high_1 ≡ get_or new_high (j + 1) high_1 → high_2 ≡ get_or new_high (j + 2) high_2 → high_3 ≡ get_or new_high (j + 3) high_3
+      → IsReversed u_0 high_3 → IsReversed u_1 high_2 → IsReversed u_2 high_1 → IsReversed u_3 high_0
+      → IsReversed v_0 low_3 → IsReversed v_1 low_2 → IsReversed v_2 low_1 → IsReversed v_3 low_0
+      → IsExchanged w (map value low) (map value high) (map value (set (set (set (set new_low n u_0) (n + 1) u_1) (n + 2) u_2) (n + 3) u_3))
+      (map value (set (set (set (set new_high (j + 3) v_3) (j + 2) v_2) (j + 1) v_1) j v_0)) m
+  exchange_four low high new_low new_high n m j low_0 low_1 low_2 low_3 high_0 high_1 high_2 high_3 u_0 u_1 u_2 u_3 v_0 v_1 v_2 v_3 same room is_m at so_far
+      read_low_0 read_low_1 read_low_2 read_low_3 read_high_0 read_high_1 read_high_2 read_high_3 u_0_is u_1_is u_2_is u_3_is v_0_is v_1_is v_2_is v_3_is =
+      let lower : List X = set (set new_low n u_0) (n + 1) u_1 in
+      let upper : List X = set (set new_high (j + 3) v_3) (j + 2) v_2 in
+      let outer = exchange_pair low high new_low new_high n (n + 1) (j + 2) (j + 3) low_0 low_1 high_2 high_3 u_0 u_1 v_2 v_3 same (omega (arith, room)) (omega (arith, at, room)) refl (omega arith) so_far
+      read_low_0 read_low_1 read_high_2 read_high_3 u_0_is u_1_is v_2_is v_3_is in
+      let low_stays : (i : ℕ) (x : X) → n + 2 ≤ i → get_or lower i x ≡ get_or new_low i x =
+      λ i x h. get_or-set_other (set new_low n u_0) (n + 1) i u_1 x (omega (arith, h)) ∙ get_or-set_other new_low n i u_0 x (omega (arith, h)) in
+      let high_stays : (i : ℕ) (x : X) → i ≤ j + 1 → get_or upper i x ≡ get_or new_high i x =
+      λ i x h. get_or-set_other (set new_high (j + 3) v_3) (j + 2) i v_2 x (omega (arith, h)) ∙ get_or-set_other new_high (j + 3) i v_3 x (omega (arith, h)) in
+      let inner = exchange_pair low high lower upper (n + 2) (n + 3) j (j + 1) low_2 low_3 high_0 high_1 u_2 u_3 v_0 v_1 same (omega (arith, room)) (omega (arith, at, room)) (omega arith) refl outer
+      (read_low_2 ∙ sym (low_stays (n + 2) low_2 (omega arith))) (read_low_3 ∙ sym (low_stays (n + 3) low_3 (omega arith)))
+      (read_high_0 ∙ sym (high_stays j high_0 (omega arith))) (read_high_1 ∙ sym (high_stays (j + 1) high_1 (omega arith))) u_2_is u_3_is v_0_is v_1_is in
+      let e : n + 2 + 2 ≡ m = omega (arith, is_m) in
+      subst (λ i. IsExchanged w (map value low) (map value high) (map value (set (set lower (n + 2) u_2) (n + 3) u_3)) (map value (set (set upper (j + 1) v_1) j v_0)) i) e inner
 
 module _ (place : ℕ → ℕ → ℕ) (w : ℕ) (positive : 0 < w) (lawful : IsPermutation w (place w)) (mirrored : IsMirrored w (place w)) (low high new_low new_high : List ℕ) (n : ℕ) (same : length low ≡ length high) (most : length high ≤ n) (all : IsExchanged w low high new_low new_high n) where
   pub low_reversed : row_of place w new_low ≡ reverse (row_of place w high)

@@ -64,7 +64,8 @@ fn is_mirrored<T: BitStore, O: BitOrder>() -> bool
 
 // Swaps the words of two slices, the first with the last, each reversed. Requires that the slices have one length.
 // They are two slices, in a function that is not inlined, since the compiler takes several words at once only where
-// it knows that no word is in both (docs/SPEED.md, "The bench", reverse).
+// it knows that no word is in both (docs/SPEED.md, "The bench", reverse). Four words from each end go at once: as two
+// pairs, they are fewer shuffles of bytes than as words.
 #[inline(never)]
 fn swap_words<T: BitStore, O: BitOrder>(low: &mut [T], high: &mut [T])
     requires mirrored { IsMirrored T.BITS (O.place T.BITS) }
@@ -75,7 +76,24 @@ fn swap_words<T: BitStore, O: BitOrder>(low: &mut [T], high: &mut [T])
     ensures high_size { length high.new ≡ length high.old }
 {
     let n = low.len();
-    for i in 0..n {
+    let fours = n / 4;
+    for t in 0..fours {
+        let i = 4 * t;
+        let j = n - 4 - i;
+        let (low_first, low_second) = high[j + 2].reverse_pair(high[j + 3]);
+        let (low_third, low_fourth) = high[j].reverse_pair(high[j + 1]);
+        let (high_first, high_second) = low[i + 2].reverse_pair(low[i + 3]);
+        let (high_third, high_fourth) = low[i].reverse_pair(low[i + 1]);
+        low[i] = low_first;
+        low[i + 1] = low_second;
+        low[i + 2] = low_third;
+        low[i + 3] = low_fourth;
+        high[j + 3] = high_fourth;
+        high[j + 2] = high_third;
+        high[j + 1] = high_second;
+        high[j] = high_first;
+    }
+    for i in 4 * fours..n {
         let j = n - 1 - i;
         let word = low[i].reverse();
         low[i] = high[j].reverse();

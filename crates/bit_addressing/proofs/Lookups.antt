@@ -14,6 +14,7 @@ use Rattle.bit_addressing.proofs.Words.{has_low, has_none, has_shr_low}
 abbrev pub AreBytes : List ℕ → Type 0
 AreBytes v = (length v ≡ 16) × Each1 (Fits w8) v
 
+-- a byte moved down by some places
 abbrev pub down : ℕ → ℕ → ℕ
 down a b = a / 2 ^ b
 
@@ -24,6 +25,7 @@ low_places v = zip2 bit_and v (replicate 16 15)
 abbrev pub high_places : List ℕ → List ℕ
 high_places v = zip2 down v (replicate 16 4)
 
+-- the highest four bits of a byte are a number below 16
 below_sixteen : (v : List ℕ) → AreBytes v → Each1 (λ a. a / 16 < 16) v
 below_sixteen v fits = Each1-weaker (λ a. a < 256) (λ a. a / 16 < 16) (λ a h. omega arith) v (below_from_Fits w8 v fits.1)
 
@@ -52,6 +54,7 @@ turned b = bit_or (get_or HIGHEST_FOUR (bit_and b 15) 0) (get_or FOUR_BITS (b / 
 abbrev same : Bool → Bool → Bool
 same a b = if a then b else not b
 
+-- two tests that agree are one
 same_tells : (a b : Bool) → same a b ≡ true → a ≡ b
 same_tells true true h = refl
 same_tells true false h = cc
@@ -73,9 +76,11 @@ abbrev pub all_turned : List ℕ → List ℕ
 all_turned v = zip2 bit_or (swz_l w8 16 HIGHEST_FOUR 0 (low_places v)) (swz_l w8 16 FOUR_BITS 0 (high_places v))
 
 module _ (v : List ℕ) (fits : AreBytes v) where
+  -- a lane is a byte
   byte_fits : (i : ℕ) → i < 16 → get_or v i 0 < 256
   byte_fits i h = Each1-get_or (λ x. x < 256) v i 0 (omega (arith, fits.0)) (below_from_Fits w8 v fits.1)
 
+  -- there are sixteen places, and sixteen lanes of what was looked up there
   length-low : length (low_places v) ≡ 16
   length-low = length-zip2 bit_and v (replicate 16 15) fits.0 ∙ fits.0
 
@@ -113,6 +118,7 @@ module _ (v : List ℕ) (fits : AreBytes v) where
 
 -- ---- the bytes of two words, in the other order
 
+-- the places of sixteen lanes from the last to the first
 abbrev pub places_back : List ℕ
 places_back = 15 ∷ 14 ∷ 13 ∷ 12 ∷ 11 ∷ 10 ∷ 9 ∷ 8 ∷ 7 ∷ 6 ∷ 5 ∷ 4 ∷ 3 ∷ 2 ∷ 1 ∷ 0 ∷ []
 
@@ -122,6 +128,7 @@ from_end v i long h =
     let at : get_or places_back i 0 ≡ 15 - i = eqb-true (get_or places_back i 0) (15 - i) (below_tells (λ k. eqb (get_or places_back k 0) (15 - k)) 16 refl i h) in
     get_or-map (λ k. get_or (v ++ v) k 0) places_back i 0 0 h ∙ ap (λ k. get_or (v ++ v) k 0) at ∙ get_or_append_left v v 0 (15 - i) (omega (arith, long))
 
+-- a power of 256 is one of 2
 powers : (i : ℕ) → i < 8 → 256 ^ i ≡ 2 ^ (8 * i)
 powers i h = eqb-true (256 ^ i) (2 ^ (8 * i)) (below_tells (λ k. eqb (256 ^ k) (2 ^ (8 * k))) 8 refl i h)
 

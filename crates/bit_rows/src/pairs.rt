@@ -8,9 +8,9 @@ use crate::chunks::{are_alike, word_alike};
 use crate::combined::BitOperator;
 use bit_addressing::{BitOrder, BitStore, Lsb0};
 
-/// How many turns of `each` words, of the first `count` from words `k` and `l` on, `F` makes into false bits
-/// alone, up to one that it does not. A turn is tested once, so that the compiler takes its words side by side
-/// (docs/SPEED.md, "The bench", is subset). Requires that both kinds of words have one width and order, and
+/// How many of the first `count` words from words `k` and `l` on `F` makes into false bits alone, by turns of
+/// `each` words up to one that it does not. A turn is tested once, so that the compiler takes its words side by
+/// side (docs/SPEED.md, "The bench", is subset). Requires that both kinds of words have one width and order, and
 /// that the words are there.
 #[inline(always)]
 fn false_turns<F: BitOperator, T: BitStore, O: BitOrder, U: BitStore, P: BitOrder>(
@@ -26,8 +26,8 @@ fn false_turns<F: BitOperator, T: BitStore, O: BitOrder, U: BitStore, P: BitOrde
     requires some { 0 < each }
     requires first { k + count ≤ length a.now }
     requires second { l + count ≤ length b.now }
-    ensures most { result * each ≤ count }
-    ensures none { (q : ℕ) → q < result * each * T.BITS
+    ensures most { result ≤ count }
+    ensures none { (q : ℕ) → q < result * T.BITS
         → F.made (slice_index_or (row T.BitStore O.BitOrder a.now) (k * T.BITS + q) false)
         (slice_index_or (row U.BitStore P.BitOrder b.now) (l * T.BITS + q) false) ≡ false }
 {
@@ -39,18 +39,18 @@ fn false_turns<F: BitOperator, T: BitStore, O: BitOrder, U: BitStore, P: BitOrde
             made = made.or(F::apply::<T>(a[k + (done + i)], other));
         }
         if made.to_u64() != 0 {
-            return t;
+            return done;
         }
     }
-    count / each
+    count / each * each
 }
 
 /// A number of blocks of 64 bits, the first of `n` bits from places `i` and `j` on, of which `F` makes false
-/// bits alone. It tests bits that lie alike where both runs begin with a word, 1024 at a time, so more such
-/// blocks may follow; of others it returns 0. Requires that both runs lie in their words.
+/// bits alone. It tests bits that lie alike where both runs begin with a word, 2048 at a time and then 512, so
+/// more such blocks may follow; of others it returns 0. Requires that both runs lie in their words.
 ///
 /// ```text
-/// of 1024 false bits and 1024 true ones: false_blocks::<And, ..>(a, 0, b, 0, 1024) == 16
+/// of 512 false bits and 512 true ones: false_blocks::<And, ..>(a, 0, b, 0, 512) == 8
 /// of 8 bits: false_blocks::<And, ..>(a, 0, b, 0, 8) == 0
 /// ```
 pub fn false_blocks<F: BitOperator, T: BitStore, O: BitOrder, U: BitStore, P: BitOrder>(
@@ -71,8 +71,10 @@ pub fn false_blocks<F: BitOperator, T: BitStore, O: BitOrder, U: BitStore, P: Bi
     if !are_alike::<T, O, U, P>() || i % width != 0 || j % width != 0 {
         return 0;
     }
-    let (k, l) = (i / width, j / width);
-    false_turns::<F, T, O, U, P>(a, k, b, l, n / width, 1024 / width) * 16
+    let (k, l, count) = (i / width, j / width, n / width);
+    let far = false_turns::<F, T, O, U, P>(a, k, b, l, count, 2048 / width);
+    let near = false_turns::<F, T, O, U, P>(a, k + far, b, l + far, count - far, 512 / width);
+    (far + near) / (64 / width)
 }
 
 /// How many bits are true of those that `F` makes of `blocks` blocks of 64 bits from words `k` and `l` on. As

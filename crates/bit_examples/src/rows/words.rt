@@ -15,6 +15,9 @@ fn operations<T: BitStore>(rt: &impl Abort) {
     check(rt, !low.not().bit(0));
     check(rt, low.not().bit(1));
     check(rt, !low.with_bit(0, false).bit(0));
+    let (front, back) = low.reverse_pair(high);
+    check(rt, front.bit(0));
+    check(rt, back.bit(T::BITS - 1));
 }
 
 #[test]

@@ -3,7 +3,8 @@ use Rattle.std.proofs.Common.{◌≡◌, ℕ, ◌+◌, ◌-◌, ◌*◌, ◌/◌
 use Rattle.std.specs.Prelude.{count_ones}
 use Rattle.std.specs.Simd.Lanes.{zip2}
 use Rattle.std.proofs.lemmas.List.{take_all}
-use Rattle.std.proofs.lemmas.List.Sums.{sum_by-append}
+use Rattle.std.proofs.lemmas.List.Sums.{sum_by-append, count_by-le-length}
+use Rattle.std.proofs.lemmas.Simd.{length-zip2}
 use Rattle.std.proofs.lemmas.Nat.{div-add-mod', div-mul-add, mod-mul-add}
 use Rattle.std.proofs.Math.Nat.{div-lt_iff_lt-mul}
 use Rattle.bit_addressing.specs.Bits.{has_bit, IsWidth}
@@ -30,6 +31,24 @@ made_next f xs ys i j m n h l =
     ∙ ap ones (sym (zip2-append f (slice_range xs i (i + m)) (slice_range xs (i + m) (i + m + n)) (slice_range ys j (j + m)) (slice_range ys (j + m) (j + m + n)) (length-run xs i m (omega arith) ∙ sym (length-run ys j m (omega arith)))))
     ∙ ap (λ z. ones (zip2 f z (slice_range ys j (j + m) ++ slice_range ys (j + m) (j + m + n)))) (slices_joined xs i (i + m) (i + m + n) (omega arith) (omega arith) h)
     ∙ ap (λ z. ones (zip2 f (slice_range xs i (i + m + n)) z)) (slices_joined ys j (j + m) (j + m + n) (omega arith) (omega arith) l)
+
+-- a count of what is made of a run goes on with that of what is made after it
+pub counted_on : (f : Bool → Bool → Bool) (xs ys : List Bool) (i j m n k l count more : ℕ) → i + m + n ≤ length xs → j + m + n ≤ length ys → k ≡ i + m → l ≡ j + m
+    → count ≡ ones (zip2 f (slice_range xs i (i + m)) (slice_range ys j (j + m))) → more ≡ ones (zip2 f (slice_range xs k (k + n)) (slice_range ys l (l + n)))
+    → count + more ≡ ones (zip2 f (slice_range xs i (i + m + n)) (slice_range ys j (j + m + n)))
+counted_on f xs ys i j m n k l count more h o e d is next =
+    ap (λ x. x + more) is
+    ∙ ap (λ x. ones (zip2 f (slice_range xs i (i + m)) (slice_range ys j (j + m))) + x)
+    (next ∙ ap (λ z. ones (zip2 f (slice_range xs z (z + n)) (slice_range ys l (l + n)))) e ∙ ap (λ z. ones (zip2 f (slice_range xs (i + m) (i + m + n)) (slice_range ys z (z + n)))) d)
+    ∙ made_next f xs ys i j m n h o
+
+-- at most as many are true as places were paired
+pub made_le : (f : Bool → Bool → Bool) (xs ys : List Bool) (i j n count : ℕ) → i + n ≤ length xs → j + n ≤ length ys → count ≡ ones (zip2 f (slice_range xs i (i + n)) (slice_range ys j (j + n))) → count ≤ n
+made_le f xs ys i j n count h o is =
+    let one = length-run xs i n h in
+    let two = length-run ys j n o in
+    let size = length-zip2 f (slice_range xs i (i + n)) (slice_range ys j (j + n)) (one ∙ sym two) ∙ one in
+    omega (arith, is, size, count_by-le-length (λ bit. bit) (zip2 f (slice_range xs i (i + n)) (slice_range ys j (j + n))))
 
 -- the place in a block of 64 bits of the bit at index q, in words of w bits
 abbrev pub in_block : (w : ℕ) → (ℕ → ℕ) → ℕ → ℕ

@@ -78,10 +78,10 @@ pub fn false_blocks<F: BitOperator, T: BitStore, O: BitOrder, U: BitStore, P: Bi
 }
 
 /// How many bits are true of those that `F` makes of `blocks` blocks of 64 bits from words `k` and `l` on. As
-/// many are in each order, so both sides are taken by their places, which takes no turning round
-/// (docs/SPEED.md, "The bench", count xor). Requires that both kinds of words have one width and order, and
-/// that the words are there.
-fn count_alike<F: BitOperator, T: BitStore, O: BitOrder, U: BitStore, P: BitOrder>(
+/// many are in each order, so both sides are taken by their places, which takes no turning round. Requires that
+/// both kinds of words have one width and order, and that the words are there.
+#[inline(always)]
+fn count_run<F: BitOperator, T: BitStore, O: BitOrder, U: BitStore, P: BitOrder>(
     a: &[T],
     k: usize,
     b: &[U],
@@ -106,6 +106,36 @@ fn count_alike<F: BitOperator, T: BitStore, O: BitOrder, U: BitStore, P: BitOrde
         count += F::apply::<u64>(old, new).count_ones() as usize;
     }
     count
+}
+
+/// Like `count_run`, by turns of four blocks, in which the compiler counts words one after another without a test
+/// (docs/SPEED.md, "The bench", count xor).
+fn count_alike<F: BitOperator, T: BitStore, O: BitOrder, U: BitStore, P: BitOrder>(
+    a: &[T],
+    k: usize,
+    b: &[U],
+    l: usize,
+    blocks: usize,
+) -> usize
+    requires width { U.BITS ≡ T.BITS }
+    requires order { (i : ℕ) → i < T.BITS → O.place T.BITS i ≡ P.place T.BITS i }
+    requires first { k * T.BITS + blocks * 64 ≤ T.BITS * length a.now }
+    requires second { l * T.BITS + blocks * 64 ≤ T.BITS * length b.now }
+    requires few { blocks * 64 < 2 ^ 64 }
+    ensures { result
+        ≡ count_by (λ b. b) (zip2 F.made
+        (slice_range (row T.BitStore O.BitOrder a.now) (k * T.BITS) (k * T.BITS + blocks * 64))
+        (slice_range (row U.BitStore P.BitOrder b.now) (l * T.BITS) (l * T.BITS + blocks * 64))) }
+{
+    let each = 64 / T::BITS as usize;
+    let turns = blocks / 4;
+    let mut count = 0;
+    for t in 0..turns {
+        let at = t * 4 * each;
+        count += count_run::<F, T, O, U, P>(a, k + at, b, l + at, 4);
+    }
+    let at = turns * 4 * each;
+    count + count_run::<F, T, O, U, P>(a, k + at, b, l + at, blocks - turns * 4)
 }
 
 /// How many blocks of 64 bits it counted, of `n` bits from places `i` and `j` on, and how many bits are true

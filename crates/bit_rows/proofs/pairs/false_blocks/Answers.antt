@@ -1,25 +1,19 @@
-use Rattle.std.proofs.Common.{◌≡◌, ℕ, ◌+◌, ◌-◌, ◌*◌, ◌/◌, ◌≤◌, false, get_or, length, inl, inr, refl, sym, ap, subst, arith}
+use Rattle.std.proofs.Common.{◌≡◌, ℕ, ◌+◌, ◌-◌, ◌*◌, ◌/◌, ◌≤◌, false, get_or, length, inl, inr, sym, ap, subst, arith}
 use Rattle.std.proofs.lemmas.Bool.{cases_lt}
 use Rattle.std.proofs.lemmas.Nat.{div-add-mod'}
 use Rattle.bit_addressing.specs.Bits.{IsWidth}
 use Rattle.bit_addressing.specs.Typed.{row}
+use Rattle.bit_addressing.proofs.Packs.{pack_fills}
 use Rattle.bit_addressing.proofs.Rows.{width_positive}
 use Rattle.bit_addressing.proofs.Runs.{mul_mono}
 use Rattle.bit_addressing.proofs.lists.Sized.{right_sum}
 use Rattle.bit_rows.proofs.Wholes.{words_there}
 use Rattle.bit_rows.proofs.pairs.false_blocks.Goals as goal
 
--- words of 64 bits
-block_fills : (w : ℕ) → IsWidth w → 64 / w * w ≡ 64
-block_fills w (inl e) = subst (λ v. 64 / v * v ≡ 64) (sym e) refl
-block_fills w (inr (inl e)) = subst (λ v. 64 / v * v ≡ 64) (sym e) refl
-block_fills w (inr (inr (inl e))) = subst (λ v. 64 / v * v ≡ 64) (sym e) refl
-block_fills w (inr (inr (inr e))) = subst (λ v. 64 / v * v ≡ 64) (sym e) refl
-
 -- the blocks that lie whole in m words have no more bits than these
 blocks_in : {w d : ℕ} (m : ℕ) → IsWidth w → d ≡ w → m / (64 / d) * 64 ≤ m * w
 blocks_in {w} {d} m is e =
-    let fills : 64 / d * w ≡ 64 = subst (λ v. 64 / v * w ≡ 64) (sym e) (block_fills w is) in
+    let fills : 64 / d * w ≡ 64 = subst (λ v. 64 / v * w ≡ 64) (sym e) (pack_fills w is) in
     let split = div-add-mod' m (64 / d) in
     let less = mul_mono (m / (64 / d) * (64 / d)) m w (omega arith) in
     let same : m / (64 / d) * (64 / d) * w ≡ m / (64 / d) * (64 / d * w) = grind arith in

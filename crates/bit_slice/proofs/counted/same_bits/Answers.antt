@@ -1,4 +1,4 @@
-use Rattle.std.proofs.Common.{◌≡◌, ◌+◌, ◌-◌, ◌≤◌, slice_range, refl, sym, ◌∙◌, ap, subst, arith}
+use Rattle.std.proofs.Common.{◌≡◌, ◌+◌, ◌-◌, slice_range, refl, sym, ◌∙◌, ap, subst, arith}
 use Rattle.bit_addressing.specs.Typed.{row}
 use Rattle.bit_addressing.proofs.Rows.{width_positive}
 use Rattle.bit_slice.proofs.Counting.{IsRunOf, piece_beside, piece_of, begin_last, word_fits, next_fits, same_more, same_piece, told, not_told, told_false, told_true}

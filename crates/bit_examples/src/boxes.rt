@@ -1,4 +1,4 @@
-//! Examples, and the public calls that `bit_sweeps` leaves out, once each.
+//! Examples of boxes, and public calls, once each.
 ghost use Rattle.std.specs.Prelude.{◌≡◌, length};
 
 mod callers;
@@ -101,6 +101,8 @@ fn made_of_words(rt: HostRuntime) {
 fn made_of_one_word(rt: HostRuntime) {
     let boxed: BoxedSlice<u8> = ok(&rt, vec![in rt.alloc(); 0x05]).into_boxed_slice();
     check(&rt, BitBox::<u8, Lsb0>::try_from(boxed).is_ok());
+    let boxed: BoxedSlice<u8> = ok(&rt, vec![in rt.alloc(); 0x05]).into_boxed_slice();
+    check(&rt, BitBox::<u8, Lsb0>::try_from_boxed_slice(boxed).is_ok());
 }
 
 /// A box of the first bits of a byte.

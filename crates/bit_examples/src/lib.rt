@@ -1,4 +1,4 @@
-//! Examples of the base, of views and of the containers: exact words, lists and replies, and most calls once. All of it
+//! Examples of the base, of views, of arrays and of boxes: exact words and lists, and most calls once. All of it
 //! is tests.
 #![tactic(auto)]
 
@@ -12,7 +12,5 @@ mod common;
 mod radix;
 #[cfg(test)]
 mod rows;
-#[cfg(test)]
-mod vectors;
 #[cfg(test)]
 mod views;

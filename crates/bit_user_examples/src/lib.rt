@@ -1,14 +1,10 @@
-//! Examples of what stands on the containers, and callers that are proved from the contracts alone. All of it
-//! is tests.
+//! Examples of ranks, records and users of bits, and callers that are proved from the contracts alone. All of it is
+//! tests.
 #![tactic(auto)]
 
 #[cfg(test)]
 use std::process::Abort;
 
-#[cfg(test)]
-mod fixed;
-#[cfg(test)]
-mod lines;
 #[cfg(test)]
 mod ranks;
 #[cfg(test)]

@@ -1,5 +1,5 @@
-//! Calls that the sweeps leave out, once each.
-use crate::tests::{check, holds, of, ok, shows};
+//! Calls that the examples leave out, once each.
+use crate::common::{check, holds, of, ok, shows};
 use bit_containers::{BitOrder, BitSlice, BitStore, BitVec, Lsb0, Msb0};
 use std::process::Abort;
 

@@ -1,5 +1,5 @@
 //! Runs of commands: those that grow, that write the words, and that take bits out.
-use crate::tests::{check, shows};
+use crate::common::{check, shows};
 use bit_containers::{BitOrder, BitStore, BitVec, Command, GrowError, Msb0, Reply, Stop, run};
 use std::process::Abort;
 

@@ -3,7 +3,7 @@
 //! The tests pass with ample memory, and whichever request `rt try --test --fail-alloc N` refuses.
 ghost use Rattle.std.specs.Prelude.{◌≡◌, length, IfSome};
 
-use crate::tests::{check, holds};
+use crate::common::{check, holds};
 use bit_containers::array::BitArray;
 use bit_containers::{
     BitOrder, BitSlice, BitStore, BitVec, Command, GrowError, IntoBitVec, Lsb0, Msb0,

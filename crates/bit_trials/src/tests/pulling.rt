@@ -1,7 +1,7 @@
 //! Iterators of a caller's own, with loose hints, whose calls are counted; what is left early.
 ghost use Rattle.std.specs.Iterator.{at_most};
 
-use crate::tests::{check, holds, of, ok};
+use crate::common::{check, holds, of, ok};
 use bit_containers::boxed::BitBox;
 use bit_containers::{BitVec, GrowError, Lsb0, Msb0};
 use std::process::Abort;

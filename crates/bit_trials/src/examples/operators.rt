@@ -1,0 +1,64 @@
+//! Vectors combined, flipped and compared.
+use crate::common::{check, holds, of, ok, shows};
+use bit_containers::{BitSlice, BitVec, Lsb0, Msb0};
+
+#[test]
+fn combined(rt: HostRuntime) {
+    let both = of::<u8, Lsb0>(&rt, b"0011") & of::<u8, Lsb0>(&rt, b"01");
+    holds(&rt, &both, b"0000");
+}
+
+#[test]
+fn either_of_two(rt: HostRuntime) {
+    let either = of::<u8, Lsb0>(&rt, b"0011") | of::<u8, Lsb0>(&rt, b"01");
+    holds(&rt, &either, b"0111");
+    let one_alone = of::<u8, Lsb0>(&rt, b"0011") ^ of::<u8, Lsb0>(&rt, b"01");
+    holds(&rt, &one_alone, b"0111");
+}
+
+#[test]
+fn combined_in_place(rt: HostRuntime) {
+    let mut v = of::<u8, Lsb0>(&rt, b"01");
+    v &= of(&rt, b"1111");
+    holds(&rt, &v, b"01");
+    v ^= of(&rt, b"1111");
+    holds(&rt, &v, b"10");
+    v |= of(&rt, b"1111");
+    holds(&rt, &v, b"11");
+}
+
+#[test]
+fn flipped(rt: HostRuntime) {
+    let v = ok(&rt, BitVec::<u8, Lsb0>::repeat(rt.alloc(), true, 5));
+    let v = !v;
+    holds(&rt, &v, b"00000");
+    shows(&rt, &v, &[0x00]);
+    shows(&rt, &!v, &[0xff]);
+}
+
+#[test]
+fn compared_at_another_head(rt: HostRuntime) {
+    let words = [0xa8, 0x07];
+    let view = BitSlice::<u8, Lsb0>::from_slice(&words).get_range(3..11);
+    let mut headed = ok(&rt, BitVec::from_bitslice_headed(rt.alloc(), view));
+    let aligned = ok(&rt, BitVec::<u8, Lsb0>::from_element(rt.alloc(), 0xf5));
+    check(&rt, headed == aligned);
+    headed.force_align();
+    headed.set_uninitialized(false);
+    shows(&rt, &headed, &[0xf5]);
+}
+
+#[test]
+fn compared_with_a_longer(rt: HostRuntime) {
+    let short = of::<u8, Lsb0>(&rt, b"0");
+    let long = of::<u8, Lsb0>(&rt, b"00");
+    check(&rt, short.as_raw_slice() == long.as_raw_slice());
+    check(&rt, short != long);
+    check(&rt, short < long);
+}
+
+#[test]
+fn compared_by_the_first_bit(rt: HostRuntime) {
+    let (low, high) = (of::<u8, Msb0>(&rt, b"01"), of(&rt, b"1"));
+    check(&rt, low < high);
+}

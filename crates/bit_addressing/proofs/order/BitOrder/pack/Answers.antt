@@ -60,3 +60,9 @@ returns g c =
     let last : c.loop-i.i ≡ 64 / w = omega (arith, c.loop-i-test.false, c.loop-i.auto.i-end) in
     let full : c.loop-i.i * w ≡ 64 = ap (λ n. n * w) last ∙ pack_fills w g.met.T.BitStore.width in
     row_from place 64 c.from_lsb0.result (c.args.k * w) ms (omega arith) (omega (arith, c.requires)) (λ i h. c.from_lsb0.ensures i h ∙ c.loop-i.invariant.shown i (omega arith) h)
+
+pub offset_bounds-words-k : goal.offset_bounds-words-k
+offset_bounds-words-k g c = let p = packed c.args.k c.BITS-i-end.ensures c.loop-i-test.true c.requires in omega arith
+
+pub overflow_cast-bits : goal.overflow_cast-bits
+overflow_cast-bits g c = rw c.BITS.ensures (let p = packed c.args.k c.BITS-i-end.ensures c.loop-i-test.true c.requires in omega arith)

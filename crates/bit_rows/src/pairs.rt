@@ -109,7 +109,9 @@ fn count_run<F: BitOperator, T: BitStore, O: BitOrder, U: BitStore, P: BitOrder>
 }
 
 /// Like `count_run`, by turns of four blocks, in which the compiler counts words one after another without a test
-/// (docs/SPEED.md, "The bench", count xor).
+/// (docs/SPEED.md, "The bench", count xor). It is not inlined, since in a long function its loop would read two
+/// addresses from the stack again each turn.
+#[inline(never)]
 fn count_alike<F: BitOperator, T: BitStore, O: BitOrder, U: BitStore, P: BitOrder>(
     a: &[T],
     k: usize,

@@ -27,3 +27,13 @@ returns g c =
     c.pack-low.ensures (c.pack-high.ensures ∙ ap (λ n. slice_range zs (n * u) (n * u + 64)) same)
     (λ i h. c.window-word.ensures i h ∙ ap (λ n. row_bit place 64 (low ∷ high ∷ []) (n + i)) c.new_unchecked.ensures)
     c.to_lsb0.ensures c.from_lsb0.ensures
+
+pub new_unchecked-requires : goal.new_unchecked-requires
+new_unchecked-requires g c = let small = width_small _ g.met.U.BitStore.width in omega (arith, c.requires.within)
+
+pub pack-high-requires : goal.pack-high-requires
+pack-high-requires g c =
+    let u = g.U.BitStore.BITS in
+    let fills : 64 / u * u ≡ 64 = pack_fills u g.met.U.BitStore.width in
+    let sum = right_sum c.args.k (64 / u) u in
+    rw c.BITS.ensures (omega arith)

@@ -4,6 +4,7 @@ use Rattle.bit_addressing.specs.Row.{put}
 use Rattle.bit_addressing.specs.Typed.{row}
 use Rattle.bit_addressing.proofs.Chunks.{part_is}
 use Rattle.bit_rows.proofs.Combinations.{combined_none, combined_begin, combined_part}
+use Rattle.bit_addressing.proofs.Rows.{width_small}
 use Rattle.bit_addressing.proofs.Runs.{inner}
 use Rattle.bit_addressing.proofs.Typed.{length_row}
 use Rattle.bit_rows.proofs.Wholes.{split_sum}
@@ -111,3 +112,27 @@ returns-clause-bits g c =
     c.combine_ahead-2.ensures.bits
     ∙ combined_part f old (row g.T.BitStore g.O.BitOrder c.combine_part-2.new.words) zs _ at p upto from a (from + c.args.n) p q refl (omega arith) (omega arith) (omega arith) (omega arith) (omega arith) (omega arith) (omega arith)
     (ap (slice_range zs a) (omega arith)) one
+
+pub word_of_run-new-requires-clause-begins : goal.word_of_run-new-requires-clause-begins
+word_of_run-new-requires-clause-begins g c = c.of-first.ensures.low_below
+
+pub word_of_run-new-requires-clause-ends : goal.word_of_run-new-requires-clause-ends
+word_of_run-new-requires-clause-ends g c = let run = c.of-first.ensures in omega (arith, ap (λ k. k * g.T.BitStore.BITS) c.if-first-last.true)
+
+pub overflow_cast-n : goal.overflow_cast-n
+overflow_cast-n g c = let run = c.of-first.ensures in let small = width_small _ g.met.T.BitStore.width in omega (arith, ap (λ k. k * g.T.BitStore.BITS) c.if-first-last.true)
+
+pub combine_part-requires-clause-word : goal.combine_part-requires-clause-word
+combine_part-requires-clause-word g c = rw c.if-first-last.true (c.of-first.ensures.inside _ c.requires.target)
+
+pub combine_part-requires-clause-some : goal.combine_part-requires-clause-some
+combine_part-requires-clause-some g c = let run = c.of-first.ensures in omega (arith, ap (λ k. k * g.T.BitStore.BITS) c.if-first-last.true)
+
+pub word_of_run-new-requires-2-clause-ends : goal.word_of_run-new-requires-2-clause-ends
+word_of_run-new-requires-2-clause-ends g c = let run = c.of-first.ensures in omega arith
+
+pub combine_part-requires-2-clause-word : goal.combine_part-requires-2-clause-word
+combine_part-requires-2-clause-word g c = let run = c.of-first.ensures in let last = c.of-first.ensures.inside _ c.requires.target in omega arith
+
+pub combine_ahead-requires-2-clause-target : goal.combine_ahead-requires-2-clause-target
+combine_ahead-requires-2-clause-target g c = rw c.combine_part-2.ensures.size (c.of-first.ensures.inside _ c.requires.target)

@@ -88,3 +88,15 @@ returns-clause-bits g c =
     c.combine_part.ensures.bits
     ∙ combined_part f old cur zs (slice_range new 0 rest) at p (at + n) from a (from + n) ((first + whole) * w + 0) ((first + whole) * w + rest) (omega arith) (omega arith) (omega arith) (omega arith) (omega arith) (omega arith) (omega arith) (omega arith) part
     (of_words f old cur zs w at from first begin whole head start c.combine_alike.ensures.bits)
+
+pub overflow_add-first : goal.overflow_add-first
+overflow_add-first g c = let t = words_there c.BITS-width.ensures (width_positive _ g.met.T.BitStore.width) c.if-at-width-ne0.false c.requires.target in omega arith
+
+pub overflow_add-first-2 : goal.overflow_add-first-2
+overflow_add-first-2 g c = let t = words_there c.BITS-width.ensures (width_positive _ g.met.T.BitStore.width) c.if-at-width-ne0.false c.requires.target in omega arith
+
+pub overflow_add-begin : goal.overflow_add-begin
+overflow_add-begin g c = let same = (c.are_alike.ensures c.if-not-are_alike.false).0 in let t = words_there (c.BITS-width.ensures ∙ sym same) (width_positive _ g.met.U.BitStore.width) c.if-from-width-ne0.false c.requires.source in omega arith
+
+pub offset_bounds-source-begin : goal.offset_bounds-source-begin
+offset_bounds-source-begin g c = let same = (c.are_alike.ensures c.if-not-are_alike.false).0 in let t = words_there (c.BITS-width.ensures ∙ sym same) (width_positive _ g.met.U.BitStore.width) c.if-from-width-ne0.false c.requires.source in omega arith

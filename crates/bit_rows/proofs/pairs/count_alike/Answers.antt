@@ -1,12 +1,52 @@
-use Rattle.std.proofs.Common.{◌≡◌, ℕ, ◌+◌, ◌-◌, ◌*◌, ◌/◌, ◌≤◌, count_by, length, slice_range, ◌∙◌, ap, arith}
+use Rattle.std.proofs.Common.{◌≡◌, ℕ, ◌+◌, ◌-◌, ◌*◌, ◌/◌, ◌≤◌, count_by, length, slice_range, ◌∙◌, ap, arith, mul_comm}
+use Rattle.std.proofs.Math.Nat.{le_of_mul-le-mul_right}
 use Rattle.std.specs.Simd.Lanes.{zip2}
+use Rattle.bit_addressing.specs.Bits.{IsWidth}
 use Rattle.bit_addressing.specs.Typed.{row}
 use Rattle.bit_addressing.proofs.Blocks.{stands}
+use Rattle.bit_addressing.proofs.Rows.{width_positive}
 use Rattle.bit_addressing.proofs.Typed.{length_row}
 use Rattle.bit_rows.proofs.Paired.{counted_on, made_le}
 use Rattle.bit_rows.proofs.pairs.count_alike.Given as given
 use Rattle.bit_rows.proofs.pairs.count_alike.Goals as goal
 use Rattle.bit_rows.proofs.pairs.count_alike.Goals.{After-count_run-count, After-count_run}
+
+-- the word that some blocks lead to is one of the words, or ends them
+reached : {w each n size : ℕ} (k t : ℕ) → IsWidth w → each ≡ w → k * w + n * 64 ≤ w * size → t ≤ n → k + t * (64 / each) ≤ size
+reached {w} {each} {n} {size} k t is e inside h =
+    let here = stands w each k 0 t is e in
+    let turned = mul_comm w size in
+    le_of_mul-le-mul_right {n = size} {k = w} (omega arith) (width_positive w is)
+
+pub overflow_mul-at-in-loop-t : goal.overflow_mul-at-in-loop-t
+overflow_mul-at-in-loop-t g c = let below = reached c.args.k (c.loop-t.t * 4) g.met.T.BitStore.width c.BITS.ensures c.requires.first (omega arith) in omega arith
+
+pub overflow_add-k : goal.overflow_add-k
+overflow_add-k g c = let below = reached c.args.k (c.loop-t.t * 4) g.met.T.BitStore.width c.BITS.ensures c.requires.first (omega arith) in omega arith
+
+pub overflow_add-l : goal.overflow_add-l
+overflow_add-l g c = let below = reached c.args.l (c.loop-t.t * 4) g.met.T.BitStore.width c.BITS.ensures c.requires.second (omega arith) in omega arith
+
+pub count_run-count-requires-clause-first : goal.count_run-count-requires-clause-first
+count_run-count-requires-clause-first g c = let here = stands g.T.BitStore.BITS c.BITS.result c.args.k 0 (c.loop-t.t * 4) g.met.T.BitStore.width c.BITS.ensures in omega arith
+
+pub count_run-count-requires-clause-second : goal.count_run-count-requires-clause-second
+count_run-count-requires-clause-second g c = let here = stands g.T.BitStore.BITS c.BITS.result c.args.l 0 (c.loop-t.t * 4) g.met.T.BitStore.width c.BITS.ensures in omega arith
+
+pub overflow_mul-at-3 : goal.overflow_mul-at-3
+overflow_mul-at-3 g c = let below = reached c.args.k (c.args.blocks / 4 * 4) g.met.T.BitStore.width c.BITS.ensures c.requires.first (omega arith) in omega arith
+
+pub overflow_add-k-2 : goal.overflow_add-k-2
+overflow_add-k-2 g c = let below = reached c.args.k (c.args.blocks / 4 * 4) g.met.T.BitStore.width c.BITS.ensures c.requires.first (omega arith) in omega arith
+
+pub overflow_add-l-2 : goal.overflow_add-l-2
+overflow_add-l-2 g c = let below = reached c.args.l (c.args.blocks / 4 * 4) g.met.T.BitStore.width c.BITS.ensures c.requires.second (omega arith) in omega arith
+
+pub count_run-requires-clause-first : goal.count_run-requires-clause-first
+count_run-requires-clause-first g c = let here = stands g.T.BitStore.BITS c.BITS.result c.args.k 0 (c.args.blocks / 4 * 4) g.met.T.BitStore.width c.BITS.ensures in omega arith
+
+pub count_run-requires-clause-second : goal.count_run-requires-clause-second
+count_run-requires-clause-second g c = let here = stands g.T.BitStore.BITS c.BITS.result c.args.l 0 (c.args.blocks / 4 * 4) g.met.T.BitStore.width c.BITS.ensures in omega arith
 
 -- four blocks more are counted, and they lie in the rows
 four_more : (g : given.Over) (c : After-count_run-count g) →

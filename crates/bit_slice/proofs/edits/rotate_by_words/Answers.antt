@@ -189,17 +189,11 @@ rotate_whole_words-requires-clause-inside g c =
     let positive : 0 < c.BITS-width.result = omega arith in
     le_of_mul-le-mul_left (omega arith) positive
 
-pub move_to-requires-clause-room : goal.move_to-requires-clause-room
-move_to-requires-clause-room g c = let e = ap (λ n. g.T.BitStore.BITS * n) (c.rotate_whole_words.ensures.size) in omega arith
-
 pub move_to-requires-clause-source : goal.move_to-requires-clause-source
 move_to-requires-clause-source g c = let p = parts g.met.T.BitStore.width c.BITS-width.ensures c.div_ceil-first.ensures c.requires.front c.requires.back in let e = ap (λ n. g.T.BitStore.BITS * n) (c.rotate_whole_words.ensures.size) in omega arith
 
 pub move_to-requires-clause-target : goal.move_to-requires-clause-target
 move_to-requires-clause-target g c = let p = parts g.met.T.BitStore.width c.BITS-width.ensures c.div_ceil-first.ensures c.requires.front c.requires.back in let e = ap (λ n. g.T.BitStore.BITS * n) (c.rotate_whole_words.ensures.size) in omega arith
-
-pub move_to-requires-2-clause-room : goal.move_to-requires-2-clause-room
-move_to-requires-2-clause-room g c = let e = ap (λ n. g.T.BitStore.BITS * n) (c.move_to.ensures.size ∙ c.rotate_whole_words.ensures.size) in omega arith
 
 pub move_to-requires-2-clause-source : goal.move_to-requires-2-clause-source
 move_to-requires-2-clause-source g c = let p = parts g.met.T.BitStore.width c.BITS-width.ensures c.div_ceil-first.ensures c.requires.front c.requires.back in let e = ap (λ n. g.T.BitStore.BITS * n) (c.move_to.ensures.size ∙ c.rotate_whole_words.ensures.size) in omega arith

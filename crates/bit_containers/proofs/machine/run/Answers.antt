@@ -1,4 +1,5 @@
-use Rattle.std.proofs.Common.{rules, append_assoc, false, get_or, subst, sym, inr}
+use Rattle.std.proofs.lemmas.Grind.{common_steps}
+use Rattle.std.proofs.Common.{rules, append_assoc, false, get_or, subst, sym, inr, arith}
 use Rattle.std.proofs.lemmas.Option.{slice_get-get_or}
 use Rattle.bit_containers.specs.Machine.{CanWantMemory}
 use Rattle.bit_containers.specs.declared.machine.Command.TheVariants.{Push}
@@ -34,3 +35,15 @@ returns-in-Err-clause-memory g c is =
       slice_get-get_or commands at.done (Push false) c.loop-done-test.true,
       subst (λ list. CanWantMemory c.args.v.now.capacity list command) (sym c.in-Err.ensures.unchanged) (wants_before c.args.v.now.capacity at.v.capacity at.v.list command at.invariant.capacity (c.in-Err.ensures.memory (search rules))),
     )
+
+pub returns-clause-replies : goal.returns-clause-replies
+returns-clause-replies g c = grind (arith, common_steps)
+
+pub returns-clause-head : goal.returns-clause-head
+returns-clause-head g c = grind (arith, common_steps)
+
+pub returns-clause-list : goal.returns-clause-list
+returns-clause-list g c = grind (arith, common_steps)
+
+pub returns-clause-fit : goal.returns-clause-fit
+returns-clause-fit g c = grind (arith, common_steps)

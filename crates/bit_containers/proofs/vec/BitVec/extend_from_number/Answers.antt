@@ -1,3 +1,5 @@
+use Rattle.bit_slice.proofs.Parts.{shown_length}
+use Rattle.std.proofs.lemmas.Grind.{common_steps}
 use Rattle.std.proofs.Common.{◌≡◌, ◌+◌, ◌<◌, ◌≤◌, ◌++◌, length, slice_range, sym, ◌∙◌, ap, subst, arith, rules}
 use Rattle.std.proofs.Common.{vec_capacity}
 use Rattle.std.proofs.lemmas.Result.{err_from_is_err_and}
@@ -60,3 +62,9 @@ invariant_of-self-2 g c =
     let i = c.self.inside in
     let count = c.in_ok-push_chunk_in_vec.ensures.size ∙ ap (words_for g.T.BitStore.BITS) (omega arith) in
     exactly g.T.BitStore g.O.BitOrder c.push_chunk_in_vec.new.words.items i.head (i.len + c.args.n) g.met.T.BitStore.width c.self.invariant.head_below (omega (arith, c.self.invariant.len_small, c.if-more-self.false)) count
+
+pub returns-in_err-push_chunk_in_vec-clause-capacity : goal.returns-in_err-push_chunk_in_vec-clause-capacity
+returns-in_err-push_chunk_in_vec-clause-capacity g c = grind (arith, common_steps, shown_length)
+
+pub returns-clause-capacity : goal.returns-clause-capacity
+returns-clause-capacity g c = grind (arith, common_steps, shown_length)

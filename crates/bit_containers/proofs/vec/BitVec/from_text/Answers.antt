@@ -1,5 +1,6 @@
+use Rattle.std.proofs.lemmas.Grind.{common_steps}
 use Rattle.std.proofs.lemmas.List.{take_all}
-use Rattle.std.proofs.Common.{take, sym, ap, ◌∙◌, ◌≡◌, Some, length, rules}
+use Rattle.std.proofs.Common.{take, sym, ap, ◌∙◌, ◌≡◌, Some, length, rules, arith}
 use Rattle.bit_containers.specs.Text.{IsFirstWrong, IsTextOf, bits_said, digits_in, part_of}
 use Rattle.bit_containers.proofs.Text.{only_said, said_text, whole_said, wrong_end, wrong_here}
 use Rattle.bit_containers.proofs.vec.BitVec.from_text.Goals as goal
@@ -33,3 +34,6 @@ returns-then-ends-clause-says g c =
     let whole : take c.loop-at.at text ≡ text = take_all c.loop-at.at text c.loop-at-test.false in
     let is : IsTextOf text (digits_in text) = said_text text c.loop-at.part (sym (ap part_of whole) ∙ c.loop-at.invariant.part) (search rules) in
     rw (← c.as_bytes-bytes.ensures.value, c.loop-at.invariant.list, whole) is
+
+pub loop-at-preserved : goal.loop-at-preserved
+loop-at-preserved g c = grind (arith, common_steps)

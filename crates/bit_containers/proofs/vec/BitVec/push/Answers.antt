@@ -1,3 +1,5 @@
+use Rattle.bit_slice.proofs.Parts.{shown_length}
+use Rattle.std.proofs.lemmas.Grind.{common_steps}
 use Rattle.std.proofs.Common.{◌≡◌, ◌+◌, ◌<◌, [], ◌∷◌, ◌++◌, length, slice_range, refl, sym, ◌∙◌, ap, subst, arith}
 use Rattle.std.proofs.lemmas.Result.{err_from_is_err_and}
 use Rattle.bit_addressing.specs.Row.{words_for, put, sized}
@@ -74,3 +76,6 @@ invariant_of-self-2 g c =
     let i = c.self.inside in
     let count = c.in_ok-push_bit_in_vec.ensures.size ∙ ap (words_for g.T.BitStore.BITS) (omega arith) in
     exactly g.T.BitStore g.O.BitOrder c.push_bit_in_vec.new.words.items i.head (i.len + 1) g.met.T.BitStore.width c.self.invariant.head_below (omega (arith, c.self.invariant.len_small, c.if-self-eq-MAX_BITS.false)) count
+
+pub returns-in_err-push_bit_in_vec-clause-capacity : goal.returns-in_err-push_bit_in_vec-clause-capacity
+returns-in_err-push_bit_in_vec-clause-capacity g c = grind (arith, common_steps, shown_length)

@@ -1,3 +1,5 @@
+use Rattle.bit_slice.proofs.Parts.{shown_length}
+use Rattle.std.proofs.lemmas.Grind.{common_steps}
 use Rattle.std.proofs.Common.{◌≡◌, ◌+◌, ◌<◌, ◌≤◌, ◌++◌, length, slice_range, sym, ◌∙◌, ap, subst, arith, rules}
 use Rattle.std.proofs.Common.{vec_capacity}
 use Rattle.std.proofs.lemmas.Result.{err_from_is_err_and}
@@ -57,3 +59,9 @@ returns-clause-clean g c =
 
 pub returns-clause-len : goal.returns-clause-len
 returns-clause-len g c = let digits = length-binary c.args.n c.args.number in omega (arith, (returns-clause-row g c).len)
+
+pub returns-in_err-push_binary_in_vec-clause-capacity : goal.returns-in_err-push_binary_in_vec-clause-capacity
+returns-in_err-push_binary_in_vec-clause-capacity g c = grind (arith, common_steps, shown_length)
+
+pub returns-clause-capacity : goal.returns-clause-capacity
+returns-clause-capacity g c = grind (arith, common_steps, shown_length)

@@ -1,3 +1,4 @@
+use Rattle.std.proofs.lemmas.Grind.{common_steps}
 use Rattle.std.proofs.Common.{◌≡◌, ◌+◌, ◌-◌, ◌<◌, ◌≤◌, length, refl, ◌∙◌, arith, rules}
 use Rattle.std.proofs.Common.{vec_capacity}
 use Rattle.std.proofs.lemmas.Result.{err_from_is_err_and}
@@ -35,3 +36,6 @@ returns-clause-room g c =
     let fits = c.in_ok-words.ensures.fits.0 refl in
     let enough : words_for w (i.head + (i.len + more)) ≤ vec_capacity c.reserve.new.self = omega (arith, words, c.in_ok-reserve.ensures.len, c.in_ok-reserve.ensures.ok) in
     rw (← c.self.view_is, c.self.invariant.shows) (has_room w (vec_capacity c.reserve.new.self) i.head (i.len + more) (width_positive w g.met.T.BitStore.width) (omega (arith, size, fits, low, below)) enough)
+
+pub returns-clause-capacity : goal.returns-clause-capacity
+returns-clause-capacity g c = grind (arith, common_steps)

@@ -1,4 +1,5 @@
-//! Views for reading, for writing and for counted calls.
+//! Views for reading, for writing and for counted calls, and callers that are proved from the contracts alone.
+mod callers;
 mod calls;
 mod compared;
 mod counted;

@@ -1,4 +1,4 @@
-//! Callers that know what they get from the contracts alone: none has a proof of its own, and three loops have an invariant.
+//! Callers that know what they get from the contracts alone: none has a proof of its own, and one loop has an invariant.
 
 mod arrays;
 mod bits;
@@ -11,6 +11,5 @@ mod numbers;
 mod reading;
 mod removing;
 mod rules;
-mod views;
 mod words;
 mod writing;

@@ -1,6 +1,6 @@
 //! Lengths at their limit, reached by what is asked for alone.
-use crate::tests::commands::stops;
 use crate::common::{check, holds, of};
+use crate::tests::commands::stops;
 use bit_containers::{BitVec, Command, GrowError, Lsb0, Msb0};
 use std::process::Abort;
 

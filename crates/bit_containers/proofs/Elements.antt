@@ -1,16 +1,17 @@
 -- Vectors made of words that are there.
 use Rattle.std.proofs.Common.{◌≡◌, ℕ, zero, suc, ◌+◌, ◌*◌, ◌<◌, ◌≤◌, List, [], ◌∷◌, ◌++◌, length, replicate, take, drop, set, slice_range, refl, ap, ◌∙◌, subst, sym, arith}
+use Rattle.std.proofs.Math.Nat.{mul-le-mul_left}
 use Rattle.bit_addressing.specs.Bits.{IsWidth}
 use Rattle.bit_addressing.specs.declared.store.BitStore as store
 use Rattle.bit_addressing.specs.declared.order.BitOrder as order
 use Rattle.bit_addressing.specs.declared.length.TheConstants.{MAX_BITS}
 use Rattle.bit_addressing.specs.Row.{words_for, sized}
 use Rattle.bit_addressing.specs.Typed.{row}
-use Rattle.bit_addressing.proofs.Rows.{width_positive}
+use Rattle.bit_addressing.proofs.Rows.{width_positive, width_small}
 use Rattle.bit_addressing.proofs.lists.Sized.{room}
 use Rattle.bit_addressing.proofs.lists.Shown.{shows_sized}
 use Rattle.bit_addressing.proofs.Typed.{length_row}
-use Rattle.bit_containers.specs.BitVec.{IsVector, Shrank}
+use Rattle.bit_containers.specs.BitVec.{IsVector, Shrank, Stayed, bits_in}
 use Rattle.bit_slice.proofs.Parts.{shown_length}
 
 -- words that are exactly as many as it takes are a vector
@@ -31,6 +32,25 @@ pub run_kept : {X Y : Type 0} (W : store.Ghosts X) (P : order.Ghosts Y) (old new
 run_kept W P old new head n width h is =
     let long : head + n ≤ length (row W P old) = rw (length_row W.value P.place W.BITS old) h in
     ap (λ r. slice_range r head (head + n)) is ∙ shows_sized W.BITS (row W P old) (head + n) head (head + n) (width_positive W.BITS width) (omega arith) long (omega arith)
+
+-- and as many words that were written over are a vector that stayed
+pub stayed : {X Y : Type 0} {size : ℕ} (W : store.Ghosts X) (P : order.Ghosts Y) (old new : List X) (head len cap left : ℕ) → length new ≡ length old → left ≡ cap → IsVector W.BITS (length old) head len size
+    → Stayed (record { words = old; row = row W P old; head = head; list = slice_range (row W P old) head (head + len); capacity = cap })
+    (record { words = new; row = row W P new; head = head; list = slice_range (row W P new) head (head + len); capacity = left })
+stayed W P old new head len cap left size same v =
+    let fits : head + len ≤ W.BITS * length new = rw size v.fits in
+    record { head = refl; len = shown_length W P new head len fits ∙ sym (shown_length W P old head len v.fits); size = size; capacity = same }
+
+-- more words have room for no fewer bits
+pub more_room : (w few many head : ℕ) → few ≤ many → bits_in w few head ≤ bits_in w many head
+more_room w few many head h = let m : w * few ≤ w * many = mul-le-mul_left w h in omega arith
+
+-- the words that are there have room for what is there
+pub room_for_list : {size : ℕ} (w n words head len : ℕ) → IsWidth w → IsVector w n head len size → n ≤ words → len ≤ bits_in w words head
+room_for_list w n words head len width v enough =
+    let small = width_small w width in
+    let m : w * n ≤ w * words = mul-le-mul_left w enough in
+    omega (arith, v.head_below, v.len_small, v.fits)
 
 set_next : {X : Type 0} (ws : List X) (k : ℕ) (word : X) → k < length ws → set (replicate k word ++ drop k ws) k word ≡ replicate (suc k) word ++ drop (suc k) ws
 set_next [] k word h = absurd (omega arith)

@@ -1,6 +1,6 @@
-use Rattle.std.proofs.lemmas.Grind.{common_steps}
 use Rattle.std.proofs.Common.{rules, append_assoc, false, get_or, subst, sym, inr, arith}
 use Rattle.std.proofs.lemmas.Option.{slice_get-get_or}
+use Rattle.std.proofs.lemmas.Grind.{common_steps}
 use Rattle.bit_containers.specs.Machine.{CanWantMemory}
 use Rattle.bit_containers.specs.declared.machine.Command.TheVariants.{Push}
 use Rattle.bit_containers.proofs.Runs.{list_after-next, head_after-next, replies_of-next, AllFit-next, stopped_at, wants_before}

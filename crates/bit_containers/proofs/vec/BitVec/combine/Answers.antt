@@ -7,8 +7,10 @@ use Rattle.bit_slice.proofs.Combining.{length-combined}
 use Rattle.bit_slice.proofs.Shown.{shown_filled}
 use Rattle.bit_slice.specs.BitSlice.{list_of}
 use Rattle.bit_slice.specs.Operators.{combined}
-use Rattle.bit_containers.proofs.Vectors.{shown}
+use Rattle.bit_containers.proofs.Vectors.{shown, refilled}
 use Rattle.bit_slice.proofs.Clean.{clean_whole}
+use Rattle.bit_containers.proofs.Elements.{stayed}
+use Rattle.bit_containers.specs.BitVec.{bits_in}
 use Rattle.bit_containers.proofs.vec.BitVec.combine.Goals as goal
 
 pub returns-clause-row : goal.returns-clause-row
@@ -35,3 +37,13 @@ returns-clause-clean g c =
 
 pub returns-clause-index : goal.returns-clause-index
 returns-clause-index g c i x y left right = ap (λ l. slice_get l i) (returns-clause-list g c) ∙ item_of_combined g.F.BitOperator.made _ _ i x y left right
+
+pub invariant_of-self : goal.invariant_of-self
+invariant_of-self g c =
+    let i = c.self.inside in
+    refilled g.T.BitStore g.O.BitOrder i.words.items c.combine_in_vec.new.words.items i.head i.len c.combine_in_vec.ensures.size c.self.invariant
+
+pub returns-clause-stayed : goal.returns-clause-stayed
+returns-clause-stayed g c =
+    let i = c.self.inside in
+    rw (← c.self.view_is) (stayed g.T.BitStore g.O.BitOrder i.words.items c.combine_in_vec.new.words.items i.head i.len _ _ c.combine_in_vec.ensures.size (ap (λ n. bits_in g.T.BitStore.BITS n i.head) c.combine_in_vec.ensures.capacity) c.self.invariant)

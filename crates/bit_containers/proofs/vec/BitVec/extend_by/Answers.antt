@@ -1,5 +1,6 @@
 use Rattle.std.proofs.Common.{[], ◌∷◌, ◌++◌, sym, arith, rules, append-nil}
 use Rattle.std.proofs.lemmas.List.{length_push}
+use Rattle.std.proofs.lemmas.Grind.{common_steps}
 use Rattle.bit_addressing.proofs.Rows.{width_positive}
 use Rattle.bit_rows.proofs.Binary.{length-number_bits}
 use Rattle.bit_containers.proofs.Growing.{grew_none, highest_bits_none, wanted_fits}
@@ -101,3 +102,9 @@ pub returns-clause-few : goal.returns-clause-few
 returns-clause-few g c =
     let size = length-number_bits c.shifted_down.result c.loop-bit.got in
     omega (arith, c.in_default.ensures.row.len)
+
+pub returns-in-Err-clause-unchanged : goal.returns-in-Err-clause-unchanged
+returns-in-Err-clause-unchanged g c = grind (arith, common_steps)
+
+pub returns-in-Err-extend_from_number-clause-unchanged : goal.returns-in-Err-extend_from_number-clause-unchanged
+returns-in-Err-extend_from_number-clause-unchanged g c = grind (arith, common_steps)

@@ -8,6 +8,7 @@ use Rattle.bit_addressing.proofs.Rows.{width_positive}
 use Rattle.bit_containers.proofs.Vectors.{kept, shown, no_room_for, few_words_for}
 use Rattle.bit_containers.proofs.Clean.{clean_grown}
 use Rattle.bit_containers.proofs.Growing.{part_moved, part_joined, grew_by}
+use Rattle.bit_containers.proofs.Elements.{exactly, more_room}
 use Rattle.bit_containers.proofs.vec.BitVec.extend_from_within.Goals as goal
 
 pub returns-in_err-resize_words_in_vec-clause-refusal : goal.returns-in_err-resize_words_in_vec-clause-refusal
@@ -84,3 +85,15 @@ pub returns-clause-clean : goal.returns-clause-clean
 returns-clause-clean g c clean =
     let grew = returns-clause-row g c in
     clean_grown g.T.BitStore.BITS c.args.self.now _ _ (width_positive g.T.BitStore.BITS g.met.T.BitStore.width) grew.head (returns-clause-list g c) grew.row clean
+
+pub returns-in_err-resize_words_in_vec-clause-capacity : goal.returns-in_err-resize_words_in_vec-clause-capacity
+returns-in_err-resize_words_in_vec-clause-capacity g c = rw (← c.self.view_is) (more_room g.T.BitStore.BITS _ _ c.self.inside.head c.resize_words_in_vec.ensures.capacity)
+
+pub returns-clause-capacity : goal.returns-clause-capacity
+returns-clause-capacity g c = rw (← c.self.view_is) (more_room g.T.BitStore.BITS (vec_capacity c.self.inside.words) (vec_capacity c.move_bits_in_vec.new.words) c.self.inside.head (omega (arith, c.move_bits_in_vec.ensures.capacity, c.resize_words_in_vec.ensures.capacity)))
+
+pub invariant_of-self-2 : goal.invariant_of-self-2
+invariant_of-self-2 g c =
+    let i = c.self.inside in
+    let count = c.move_bits_in_vec.ensures.size ∙ c.in_ok-resize_words_in_vec.ensures.size in
+    exactly g.T.BitStore g.O.BitOrder c.move_bits_in_vec.new.words.items i.head (i.len + (c.normalize-range.result.end - c.normalize-range.result.start)) g.met.T.BitStore.width c.self.invariant.head_below (omega (arith, c.self.invariant.len_small, c.if-more-self.false)) count

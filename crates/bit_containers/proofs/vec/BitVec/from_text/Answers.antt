@@ -1,6 +1,6 @@
-use Rattle.std.proofs.lemmas.Grind.{common_steps}
 use Rattle.std.proofs.lemmas.List.{take_all}
 use Rattle.std.proofs.Common.{take, sym, ap, ◌∙◌, ◌≡◌, Some, length, rules, arith}
+use Rattle.std.proofs.lemmas.Grind.{common_steps}
 use Rattle.bit_containers.specs.Text.{IsFirstWrong, IsTextOf, bits_said, digits_in, part_of}
 use Rattle.bit_containers.proofs.Text.{only_said, said_text, whole_said, wrong_end, wrong_here}
 use Rattle.bit_containers.proofs.vec.BitVec.from_text.Goals as goal

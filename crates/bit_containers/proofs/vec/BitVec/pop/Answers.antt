@@ -1,4 +1,5 @@
-use Rattle.std.proofs.Common.{◌≡◌, ◌+◌, ◌-◌, ◌*◌, [], ◌∷◌, ◌++◌, length, slice_range, refl, sym, ◌∙◌, ap, arith}
+use Rattle.std.proofs.Common.{◌≡◌, ◌+◌, ◌-◌, ◌*◌, ◌≤◌, [], ◌∷◌, ◌++◌, length, slice_range, refl, sym, ◌∙◌, ap, arith, rules}
+use Rattle.std.proofs.Common.{vec_capacity}
 use Rattle.std.proofs.lemmas.List.{take_all}
 use Rattle.bit_addressing.specs.Row.{words_for, sized}
 use Rattle.bit_addressing.specs.Typed.{row}
@@ -8,6 +9,8 @@ use Rattle.bit_addressing.proofs.Rows.{width_positive}
 use Rattle.bit_addressing.proofs.Typed.{length_row}
 use Rattle.bit_containers.proofs.Vectors.{shown}
 use Rattle.bit_containers.proofs.Clean.{clean_popped}
+use Rattle.bit_containers.specs.BitVec.{bits_in}
+use Rattle.bit_containers.proofs.Elements.{exactly, room_for_list, shrank}
 use Rattle.bit_containers.proofs.vec.BitVec.pop.Goals as goal
 
 pub returns-then-self-eq0-clause-row : goal.returns-then-self-eq0-clause-row
@@ -53,3 +56,17 @@ returns-clause-clean g c other =
     let len : i.len ≡ length now.list = sym c.self.invariant.shows ∙ ap (λ v. length v.list) c.self.view_is in
     clean_popped w now _ c.read_bit-bit.result (width_positive w g.met.T.BitStore.width) other (ap (λ v. v.head) c.self.view_is) (returns-clause-popped g c)
     (c.cut_words_in_vec.ensures.bits ∙ ap (λ v. sized w v.row (v.head + (i.len - 1))) c.self.view_is ∙ ap (λ n. sized w now.row (now.head + (n - 1))) len)
+
+pub returns-clause-room : goal.returns-clause-room
+returns-clause-room g c =
+    let i = c.self.inside in
+    let least : length i.words.items ≤ vec_capacity i.words = search rules in
+    rw (← c.self.view_is, c.self.invariant.shows) (room_for_list g.T.BitStore.BITS (length i.words.items) (vec_capacity c.cut_words_in_vec.new.words) i.head i.len g.met.T.BitStore.width c.self.invariant (omega (arith, c.cut_words_in_vec.ensures.capacity)))
+
+pub returns-clause-row : goal.returns-clause-row
+returns-clause-row g c =
+    let i = c.self.inside in
+    rw (← c.self.view_is, c.self.invariant.shows) (shrank g.T.BitStore g.O.BitOrder i.words.items c.cut_words_in_vec.new.words.items i.head i.len (i.len - 1) _ _ c.cut_words_in_vec.ensures.items c.cut_words_in_vec.ensures.bits c.cut_words_in_vec.ensures.room (ap (λ n. bits_in g.T.BitStore.BITS n i.head) c.cut_words_in_vec.ensures.capacity))
+
+pub invariant_of-self : goal.invariant_of-self
+invariant_of-self g c = exactly g.T.BitStore g.O.BitOrder c.cut_words_in_vec.new.words.items c.self.inside.head (c.self.inside.len - 1) g.met.T.BitStore.width c.self.invariant.head_below (omega (arith, c.self.invariant.len_small)) c.cut_words_in_vec.ensures.size

@@ -1,5 +1,3 @@
-use Rattle.bit_slice.proofs.Parts.{shown_length}
-use Rattle.std.proofs.lemmas.Grind.{common_steps}
 use Rattle.std.proofs.Common.{◌≡◌, ◌+◌, ◌<◌, ◌≤◌, ◌++◌, length, slice_range, sym, ◌∙◌, ap, subst, arith, rules}
 use Rattle.std.proofs.Common.{vec_capacity}
 use Rattle.std.proofs.lemmas.Result.{err_from_is_err_and}
@@ -8,9 +6,10 @@ use Rattle.bit_addressing.specs.Typed.{row}
 use Rattle.bit_rows.proofs.Binary.{length-binary}
 use Rattle.bit_addressing.proofs.lists.Shown.{grown_shows}
 use Rattle.bit_addressing.proofs.Rows.{width_positive}
-use Rattle.bit_containers.proofs.Vectors.{kept, shown, no_room_for}
+use Rattle.bit_containers.proofs.Vectors.{kept, shown, no_room_for, refilled}
 use Rattle.bit_containers.proofs.Growing.{grew_by}
 use Rattle.bit_containers.proofs.Clean.{clean_grown}
+use Rattle.bit_containers.proofs.Elements.{exactly, more_room}
 use Rattle.bit_containers.proofs.vec.BitVec.push_binary.Goals as goal
 
 pub returns-in_err-push_binary_in_vec-clause-refusal : goal.returns-in_err-push_binary_in_vec-clause-refusal
@@ -60,8 +59,19 @@ returns-clause-clean g c =
 pub returns-clause-len : goal.returns-clause-len
 returns-clause-len g c = let digits = length-binary c.args.n c.args.number in omega (arith, (returns-clause-row g c).len)
 
+pub invariant_of-self : goal.invariant_of-self
+invariant_of-self g c =
+    let i = c.self.inside in
+    refilled g.T.BitStore g.O.BitOrder i.words.items c.push_binary_in_vec.new.words.items i.head i.len (ap length c.in_err-push_binary_in_vec.ensures.unchanged) c.self.invariant
+
+pub invariant_of-self-2 : goal.invariant_of-self-2
+invariant_of-self-2 g c =
+    let i = c.self.inside in
+    let count : length c.push_binary_in_vec.new.words.items ≡ words_for g.T.BitStore.BITS (i.head + (i.len + c.args.n)) = c.in_ok-push_binary_in_vec.ensures.size ∙ ap (words_for g.T.BitStore.BITS) (omega arith) in
+    exactly g.T.BitStore g.O.BitOrder c.push_binary_in_vec.new.words.items i.head (i.len + c.args.n) g.met.T.BitStore.width c.self.invariant.head_below (omega (arith, c.self.invariant.len_small, c.if-more-self.false)) count
+
 pub returns-in_err-push_binary_in_vec-clause-capacity : goal.returns-in_err-push_binary_in_vec-clause-capacity
-returns-in_err-push_binary_in_vec-clause-capacity g c = grind (arith, common_steps, shown_length)
+returns-in_err-push_binary_in_vec-clause-capacity g c = rw (← c.self.view_is) (more_room g.T.BitStore.BITS _ _ c.self.inside.head c.push_binary_in_vec.ensures.capacity)
 
 pub returns-clause-capacity : goal.returns-clause-capacity
-returns-clause-capacity g c = grind (arith, common_steps, shown_length)
+returns-clause-capacity g c = rw (← c.self.view_is) (more_room g.T.BitStore.BITS _ _ c.self.inside.head c.push_binary_in_vec.ensures.capacity)

@@ -1,10 +1,12 @@
-use Rattle.std.proofs.Common.{◌≡◌, ◌+◌, ◌-◌, [], length, slice_range, sym, ◌∙◌, ap, arith}
+use Rattle.std.proofs.Common.{◌≡◌, ◌+◌, ◌-◌, ◌≤◌, [], length, slice_range, sym, ◌∙◌, ap, arith}
 use Rattle.std.specs.List.{splice}
-use Rattle.bit_addressing.specs.Row.{sized}
+use Rattle.bit_addressing.specs.Row.{sized, words_for}
 use Rattle.bit_addressing.specs.Typed.{row}
 use Rattle.bit_addressing.proofs.Rows.{width_positive}
+use Rattle.bit_addressing.specs.declared.length.TheConstants.{MAX_BITS}
 use Rattle.bit_containers.proofs.Removing.{removed_range_shows}
 use Rattle.bit_containers.proofs.Vectors.{few_words, shown}
+use Rattle.bit_containers.proofs.Elements.{exactly}
 use Rattle.bit_containers.proofs.vec.BitVec.remove_range.Goals as goal
 
 pub move_bits_in_vec-requires-clause-room : goal.move_bits_in_vec-requires-clause-room
@@ -23,3 +25,12 @@ returns-clause-list g c =
     ap (λ r. slice_range r i.head (i.head + (start + beyond))) (c.cut_words_in_vec.ensures.bits ∙ ap (λ r. sized w r (i.head + start + beyond)) c.move_bits_in_vec.ensures.bits)
     ∙ removed_range_shows w bits i.head i.len start end (width_positive w g.met.T.BitStore.width) c.requires.ordered (omega (arith, c.requires.within)) fits
     ∙ ap (λ v. splice v.list start end []) c.self.view_is
+
+pub invariant_of-self : goal.invariant_of-self
+invariant_of-self g c =
+    let i = c.self.inside in
+    let len : i.len ≡ length c.args.self.now.list = sym c.self.invariant.shows ∙ ap (λ v. length v.list) c.self.view_is in
+    let n = c.args.start + (i.len - c.args.end) in
+    let few : n ≤ MAX_BITS = omega (arith, len, c.self.invariant.len_small, c.requires.ordered, c.requires.within) in
+    let count : length c.cut_words_in_vec.new.words.items ≡ words_for g.T.BitStore.BITS (i.head + n) = c.cut_words_in_vec.ensures.size ∙ ap (words_for g.T.BitStore.BITS) (omega arith) in
+    exactly g.T.BitStore g.O.BitOrder c.cut_words_in_vec.new.words.items i.head n g.met.T.BitStore.width c.self.invariant.head_below few count

@@ -9,6 +9,7 @@ use Rattle.bit_addressing.proofs.Rows.{width_positive}
 use Rattle.bit_slice.proofs.Parts.{shown_length}
 use Rattle.bit_containers.proofs.Vectors.{kept, shown, no_room_for}
 use Rattle.bit_containers.proofs.Clean.{clean_grown}
+use Rattle.bit_containers.proofs.Elements.{exactly, more_room}
 use Rattle.bit_containers.proofs.vec.BitVec.resize.Goals as goal
 
 pub returns-in_err-append_run_in_vec-clause-refusal : goal.returns-in_err-append_run_in_vec-clause-refusal
@@ -63,3 +64,15 @@ returns-clause-clean g c longer clean =
     let whole : take c.args.n now.list ≡ now.list = take_all c.args.n now.list (omega arith) in
     clean_grown g.T.BitStore.BITS now _ (replicate (c.args.n - length now.list) c.args.bit) (width_positive g.T.BitStore.BITS g.met.T.BitStore.width) grew.head
     (returns-clause-list g c ∙ ap (λ l. l ++ replicate (c.args.n - length now.list) c.args.bit) whole) grew.row clean
+
+pub returns-in_err-append_run_in_vec-clause-capacity : goal.returns-in_err-append_run_in_vec-clause-capacity
+returns-in_err-append_run_in_vec-clause-capacity g c = rw (← c.self.view_is) (more_room g.T.BitStore.BITS _ _ c.self.inside.head c.append_run_in_vec.ensures.capacity)
+
+pub returns-clause-capacity : goal.returns-clause-capacity
+returns-clause-capacity g c = rw (← c.self.view_is) (more_room g.T.BitStore.BITS _ _ c.self.inside.head c.append_run_in_vec.ensures.capacity)
+
+pub invariant_of-self-2 : goal.invariant_of-self-2
+invariant_of-self-2 g c = exactly g.T.BitStore g.O.BitOrder c.append_run_in_vec.new.words.items c.self.inside.head c.args.n g.met.T.BitStore.width c.self.invariant.head_below (omega (arith, c.if-n-gt-MAX_BITS.false)) c.in_ok-append_run_in_vec.ensures.size
+
+pub returns-clause-len : goal.returns-clause-len
+returns-clause-len g c = shown_length g.T.BitStore g.O.BitOrder c.append_run_in_vec.new.words.items c.self.inside.head c.args.n c.in_ok-append_run_in_vec.ensures.room

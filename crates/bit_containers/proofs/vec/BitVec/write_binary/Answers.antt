@@ -4,11 +4,13 @@ use Rattle.bit_addressing.specs.Row.{binary, put}
 use Rattle.bit_addressing.specs.Typed.{row}
 use Rattle.bit_rows.proofs.Binary.{length-binary, value_of_binary}
 use Rattle.bit_addressing.proofs.Rows.{width_positive}
-use Rattle.bit_containers.proofs.Vectors.{shown}
+use Rattle.bit_containers.proofs.Vectors.{shown, refilled}
 use Rattle.bit_slice.proofs.Clean.{clean_put}
 use Rattle.bit_slice.proofs.Shown.{shown_filled}
 use Rattle.bit_containers.proofs.Removing.{take_before_put, drop_put}
 use Rattle.bit_addressing.proofs.lists.Shown.{shown_written}
+use Rattle.bit_containers.proofs.Elements.{stayed}
+use Rattle.bit_containers.specs.BitVec.{bits_in}
 use Rattle.bit_containers.proofs.vec.BitVec.write_binary.Goals as goal
 
 pub returns-clause-list : goal.returns-clause-list
@@ -51,3 +53,13 @@ returns-clause-after g c =
 
 pub returns-clause-read_back : goal.returns-clause-read_back
 returns-clause-read_back g c = λ fits. ap value (returns-clause-written g c) ∙ value_of_binary c.args.n c.args.number fits
+
+pub invariant_of-self : goal.invariant_of-self
+invariant_of-self g c =
+    let i = c.self.inside in
+    refilled g.T.BitStore g.O.BitOrder i.words.items c.write_binary_in_vec.new.words.items i.head i.len c.write_binary_in_vec.ensures.size c.self.invariant
+
+pub returns-clause-stayed : goal.returns-clause-stayed
+returns-clause-stayed g c =
+    let i = c.self.inside in
+    rw (← c.self.view_is) (stayed g.T.BitStore g.O.BitOrder i.words.items c.write_binary_in_vec.new.words.items i.head i.len _ _ c.write_binary_in_vec.ensures.size (ap (λ n. bits_in g.T.BitStore.BITS n i.head) c.write_binary_in_vec.ensures.capacity) c.self.invariant)

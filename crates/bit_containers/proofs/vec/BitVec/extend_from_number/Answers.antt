@@ -1,5 +1,3 @@
-use Rattle.bit_slice.proofs.Parts.{shown_length}
-use Rattle.std.proofs.lemmas.Grind.{common_steps}
 use Rattle.std.proofs.Common.{◌≡◌, ◌+◌, ◌<◌, ◌≤◌, ◌++◌, length, slice_range, sym, ◌∙◌, ap, subst, arith, rules}
 use Rattle.std.proofs.Common.{vec_capacity}
 use Rattle.std.proofs.lemmas.Result.{err_from_is_err_and}
@@ -10,7 +8,7 @@ use Rattle.bit_addressing.proofs.Rows.{width_positive}
 use Rattle.bit_containers.proofs.Vectors.{kept, shown, no_room_for, refilled}
 use Rattle.bit_rows.proofs.Binary.{length-number_bits}
 use Rattle.bit_containers.proofs.Growing.{grew_by}
-use Rattle.bit_containers.proofs.Elements.{exactly}
+use Rattle.bit_containers.proofs.Elements.{exactly, more_room}
 use Rattle.bit_containers.proofs.vec.BitVec.extend_from_number.Goals as goal
 
 pub returns-in_err-push_chunk_in_vec-clause-refusal : goal.returns-in_err-push_chunk_in_vec-clause-refusal
@@ -64,7 +62,7 @@ invariant_of-self-2 g c =
     exactly g.T.BitStore g.O.BitOrder c.push_chunk_in_vec.new.words.items i.head (i.len + c.args.n) g.met.T.BitStore.width c.self.invariant.head_below (omega (arith, c.self.invariant.len_small, c.if-more-self.false)) count
 
 pub returns-in_err-push_chunk_in_vec-clause-capacity : goal.returns-in_err-push_chunk_in_vec-clause-capacity
-returns-in_err-push_chunk_in_vec-clause-capacity g c = grind (arith, common_steps, shown_length)
+returns-in_err-push_chunk_in_vec-clause-capacity g c = rw (← c.self.view_is) (more_room g.T.BitStore.BITS _ _ c.self.inside.head c.push_chunk_in_vec.ensures.capacity)
 
 pub returns-clause-capacity : goal.returns-clause-capacity
-returns-clause-capacity g c = grind (arith, common_steps, shown_length)
+returns-clause-capacity g c = rw (← c.self.view_is) (more_room g.T.BitStore.BITS _ _ c.self.inside.head c.push_chunk_in_vec.ensures.capacity)

@@ -1,5 +1,3 @@
-use Rattle.bit_slice.proofs.Parts.{shown_length}
-use Rattle.std.proofs.lemmas.Grind.{common_steps}
 use Rattle.std.proofs.Common.{◌≡◌, ◌+◌, ◌<◌, [], ◌∷◌, ◌++◌, length, slice_range, refl, sym, ◌∙◌, ap, subst, arith}
 use Rattle.std.proofs.lemmas.Result.{err_from_is_err_and}
 use Rattle.bit_addressing.specs.Row.{words_for, put, sized}
@@ -10,7 +8,7 @@ use Rattle.bit_addressing.proofs.Rows.{width_positive}
 use Rattle.bit_containers.proofs.Vectors.{kept, shown, no_room, room_in, refilled}
 use Rattle.bit_containers.specs.BitVec.{bits_in}
 use Rattle.bit_containers.proofs.Clean.{clean_joined}
-use Rattle.bit_containers.proofs.Elements.{exactly}
+use Rattle.bit_containers.proofs.Elements.{exactly, more_room}
 use Rattle.bit_containers.proofs.Growing.{grew_by}
 use Rattle.bit_containers.proofs.vec.BitVec.push.Goals as goal
 
@@ -78,4 +76,4 @@ invariant_of-self-2 g c =
     exactly g.T.BitStore g.O.BitOrder c.push_bit_in_vec.new.words.items i.head (i.len + 1) g.met.T.BitStore.width c.self.invariant.head_below (omega (arith, c.self.invariant.len_small, c.if-self-eq-MAX_BITS.false)) count
 
 pub returns-in_err-push_bit_in_vec-clause-capacity : goal.returns-in_err-push_bit_in_vec-clause-capacity
-returns-in_err-push_bit_in_vec-clause-capacity g c = grind (arith, common_steps, shown_length)
+returns-in_err-push_bit_in_vec-clause-capacity g c = rw (← c.self.view_is) (more_room g.T.BitStore.BITS _ _ c.self.inside.head c.push_bit_in_vec.ensures.capacity)

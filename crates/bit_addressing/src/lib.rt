@@ -20,7 +20,7 @@ pub use errors::GrowError;
 pub use index::{BitEnd, BitIdx, BitPos};
 pub use length::{MAX_BITS, Span, elts, in_row, in_word, touched_words};
 pub use meter::Meter;
-pub use move_run::{move_bits, move_bits_counted};
+pub use move_run::{move_bits, move_bits_counted, window_by};
 pub use order::{BitOrder, Lsb0, Msb0};
 pub use pair_table::PairTable;
 pub use parts::{blend, repeated};

@@ -80,9 +80,9 @@ pub(crate) fn move_part<T: BitStore, O: BitOrder>(
     row.store(k, O::with_run(old, word, next, begin, start, end));
 }
 
-/// Like `BitOrder::window`, by a table where there is one.
+/// Like `BitOrder::window`, by a table where there is one: one that `PairTable::new` made for this index.
 #[inline(always)]
-fn window_by<T: BitStore, O: BitOrder>(
+pub fn window_by<T: BitStore, O: BitOrder>(
     table: Option<&PairTable>,
     low: T,
     high: T,

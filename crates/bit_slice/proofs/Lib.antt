@@ -14,6 +14,8 @@ pub mod Pieces
 pub mod Sets
 pub mod Turned
 pub mod Reversing
+pub mod Exchanged
+pub mod Rotating
 pub mod Moved
 pub mod Within
 pub mod Halves

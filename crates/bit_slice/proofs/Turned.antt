@@ -1,17 +1,15 @@
 -- Runs of a row that are reversed and rotated.
-use Rattle.std.proofs.Common.{◌≡◌, ℕ, ◌+◌, ◌-◌, ◌*◌, ◌<◌, ◌≤◌, Bool, false, List, ◌++◌, length, take, drop, reverse, replicate, get_or, slice_range, append_assoc, refl, sym, ◌∙◌, ap, subst, inl, inr, arith, rules}
+use Rattle.std.proofs.Common.{◌≡◌, ℕ, ◌+◌, ◌-◌, ◌*◌, ◌<◌, ◌≤◌, Bool, false, List, ◌++◌, length, take, drop, reverse, replicate, get_or, slice_range, refl, sym, ◌∙◌, ap, subst, inl, inr, arith, rules}
 use Rattle.std.proofs.lemmas.Bool.{cases_lt}
-use Rattle.std.proofs.lemmas.List.{ext_get_or, get_or-reverse, length-reverse, same_lists, places, length-append, length-take, length-take-le, length-drop, length-replicate}
+use Rattle.std.proofs.lemmas.List.{ext_get_or, get_or-reverse, length-reverse, same_lists, places, length-append, length-take, length-drop, length-replicate}
 use Rattle.std.proofs.lemmas.List.FromFn.{get_or-map-range_with_len}
 use Rattle.bit_addressing.specs.Bits.{has_bit}
 use Rattle.bit_addressing.specs.Row.{put, moved, binary, number_bits, row_of}
 use Rattle.bit_rows.proofs.Binary.{length-number_bits}
 use Rattle.bit_addressing.proofs.Rows.{length-row_of}
 use Rattle.bit_addressing.proofs.lists.Put.{length-put, put_before, put_inside, put_after, put_joined}
-use Rattle.bit_addressing.proofs.lists.Shown.{length-run, get_or-run, shown_part}
-use Rattle.bit_rows.proofs.Combinations.{put_later}
+use Rattle.bit_addressing.proofs.lists.Shown.{length-run, get_or-run}
 use Rattle.bit_addressing.proofs.Shifts.{put_moved}
-use Rattle.bit_addressing.proofs.Runs.{slices_joined}
 use Rattle.bit_slice.proofs.Shown.{shown_filled}
 use Rattle.bit_slice.proofs.Combining.{rest_of_run}
 use Rattle.bit_addressing.proofs.lists.Shown.{shows_fewer}
@@ -175,140 +173,6 @@ pub put_front : (xs ys zs : List Bool) (d n : ℕ) → n ≡ d + length ys → n
 unfolding put
 put_front xs ys zs d n is room = same_lists _ _ (search (rules, places)) (λ i e below. grind (arith, places))
 
--- ---- a run that is rotated by whole words
-
--- a run that was put before is written over
-put_covered : (xs ys zs : List Bool) (d n : ℕ) → d ≤ n → n + length ys ≤ d + length zs → d + length zs ≤ length xs → put (put xs n ys) d zs ≡ put xs d zs
-unfolding put
-put_covered xs ys zs d n ordered covers room = same_lists _ _ (search (rules, places)) (λ i e below. grind (arith, places))
-
--- a part of a run that was put
-part_of_put : (xs ys : List Bool) (d i n : ℕ) → i + n ≤ length ys → d + length ys ≤ length xs → slice_range (put xs d ys) (d + i) (d + i + n) ≡ slice_range ys i (i + n)
-unfolding put
-part_of_put xs ys d i n inside room = same_lists _ _ (search (rules, places)) (λ k e below. grind (arith, places))
-
--- parts of two neighbours that changed places
-late_part : (ms : List Bool) (by i n : ℕ) → by + i + n ≤ length ms → slice_range (drop by ms ++ take by ms) i (i + n) ≡ slice_range ms (by + i) (by + i + n)
-late_part ms by i n inside = same_lists _ _ (search (rules, places)) (λ k e below. grind (arith, places))
-
-early_part : (ms : List Bool) (by i : ℕ) → by + i ≡ length ms → slice_range (drop by ms ++ take by ms) i (i + by) ≡ slice_range ms 0 (0 + by)
-early_part ms by i inside = same_lists _ _ (search (rules, places)) (λ k e below. grind (arith, places))
-
-five_joined : (a b c d e : List Bool) → a ++ (((b ++ c) ++ d) ++ e) ≡ (a ++ b) ++ ((c ++ d) ++ e)
-five_joined a b c d e = simp append_assoc
-
--- a run whose first `by` items go after the others: `before` of them, `front`, and `shared`, and then `back` of the others, and `after`
-module _ (xs : List Bool) (head before front shared back after len by : ℕ) (first : by ≡ before + front + shared) (all : len ≡ by + back + after) (room : head + len ≤ length xs) where
-  abbrev at : ℕ
-  at = head + before
-
-  -- all but the first part and the last
-  abbrev inner : List Bool
-  inner = slice_range xs at (at + (front + shared + back))
-
-  abbrev other : List Bool
-  other = drop front inner ++ take front inner
-
-  abbrev swapped : List Bool
-  swapped = put xs at other
-
-  abbrev back_part : List Bool
-  back_part = slice_range xs (head + by) (head + by + back)
-
-  abbrev front_part : List Bool
-  front_part = slice_range xs at (at + front)
-
-  length-inner : length inner ≡ front + shared + back
-  length-inner = length-run xs at (front + shared + back) (omega arith)
-
-  length-other : length other ≡ front + shared + back
-  length-other = omega (arith, length-append (drop front inner) (take front inner), length-drop front inner, length-take-le front inner (omega (arith, length-inner)), length-inner)
-
-  length-swapped : length swapped ≡ length xs
-  length-swapped = length-put xs other at (omega (arith, length-other))
-
-  back_there : slice_range swapped (at + shared) (at + shared + back) ≡ back_part
-  back_there =
-      let begin : at + (front + shared) ≡ head + by = omega arith in
-      part_of_put xs other at shared back (omega (arith, length-other)) (omega (arith, length-other))
-      ∙ late_part inner front shared back (omega (arith, length-inner))
-      ∙ sym (shown_part xs at (front + shared + back) (front + shared) back (omega arith) (omega arith))
-      ∙ ap (λ n. slice_range xs n (n + back)) begin
-
-  front_there : slice_range swapped (at + shared + back) (at + shared + back + front) ≡ front_part
-  front_there =
-      let begin : at + shared + back ≡ at + (shared + back) = omega arith in
-      let none : at + 0 ≡ at = omega arith in
-      ap (λ n. slice_range swapped n (n + front)) begin
-      ∙ part_of_put xs other at (shared + back) front (omega (arith, length-other)) (omega (arith, length-other))
-      ∙ early_part inner front (shared + back) (omega (arith, length-inner))
-      ∙ sym (shown_part xs at (front + shared + back) 0 front (omega arith) (omega arith))
-      ∙ ap (λ n. slice_range xs n (n + front)) none
-
-  abbrev both_moved : List Bool
-  both_moved = moved (moved swapped (at + shared) head back) (at + shared + back) (head + back + after + before) front
-
-  abbrev end_part : List Bool
-  end_part = slice_range xs (head + by + back) (head + by + back + after)
-
-  abbrev begin_part : List Bool
-  begin_part = slice_range xs head (head + before)
-
-  abbrev shared_part : List Bool
-  shared_part = slice_range xs (head + before + front) (head + before + front + shared)
-
-  -- the parts of the front and of the back that are moved
-  is_both_moved : both_moved ≡ put (put swapped head back_part) (head + back + after + before) front_part
-  is_both_moved =
-      let to : ℕ = head + back + after + before in
-      let size : length back_part ≡ back = length-run xs (head + by) back (omega arith) in
-      let once : moved swapped (at + shared) head back ≡ put swapped head back_part =
-      sym (put_moved swapped (at + shared) head back (omega (arith, length-swapped)) (omega (arith, length-swapped))) ∙ ap (put swapped head) back_there in
-      let long : length (put swapped head back_part) ≡ length xs = length-put swapped back_part head (omega (arith, length-swapped, size)) ∙ length-swapped in
-      let later : slice_range (put swapped head back_part) (at + shared + back) (at + shared + back + front) ≡ front_part =
-      put_later swapped back_part head (at + shared + back) (at + shared + back + front) (omega (arith, length-swapped)) (omega (arith, size)) (omega arith) (omega (arith, length-swapped)) ∙ front_there in
-      ap (λ l. moved l (at + shared + back) to front) once
-      ∙ sym (put_moved (put swapped head back_part) (at + shared + back) to front (omega (arith, long)) (omega (arith, long)))
-      ∙ ap (put (put swapped head back_part) to) later
-
-  in_order : back_part ++ (((end_part ++ begin_part) ++ front_part) ++ shared_part) ≡ drop by (slice_range xs head (head + len)) ++ take by (slice_range xs head (head + len))
-  in_order =
-      let middle : head + before + front + shared ≡ head + by = omega arith in
-      let last : head + by + back + after ≡ head + len = omega arith in
-      let later : back_part ++ end_part ≡ drop by (slice_range xs head (head + len)) =
-      slices_joined xs (head + by) (head + by + back) (head + by + back + after) (omega arith) (omega arith) (omega arith)
-      ∙ ap (slice_range xs (head + by)) last ∙ sym (rest_of_run xs head len by (omega arith) room) in
-      let earlier : (begin_part ++ front_part) ++ shared_part ≡ take by (slice_range xs head (head + len)) =
-      ap (λ l. l ++ shared_part) (slices_joined xs head at (at + front) (omega arith) (omega arith) (omega arith))
-      ∙ slices_joined xs head (at + front) (at + front + shared) (omega arith) (omega arith) (omega arith)
-      ∙ ap (slice_range xs head) middle ∙ shows_fewer xs head by len (omega arith) room in
-      five_joined back_part end_part begin_part front_part shared_part ∙ (λ i. later i ++ earlier i)
-
-  -- a run is rotated, where front and back change places first, both are moved, and the three other parts are written
-  pub rotated : put (put (put both_moved (head + back) end_part) (head + back + after) begin_part) (head + back + after + before + front) shared_part
-      ≡ put xs head (drop by (slice_range xs head (head + len)) ++ take by (slice_range xs head (head + len)))
-  rotated =
-      let to : ℕ = head + back + after + before in
-      let lb : length back_part ≡ back = length-run xs (head + by) back (omega arith) in
-      let lf : length front_part ≡ front = length-run xs at front (omega arith) in
-      let le : length end_part ≡ after = length-run xs (head + by + back) after (omega arith) in
-      let lg : length begin_part ≡ before = length-run xs head before (omega arith) in
-      let ls : length shared_part ≡ shared = length-run xs (at + front) shared (omega arith) in
-      let l1 : length (end_part ++ begin_part) ≡ after + before = omega (arith, length-append end_part begin_part, le, lg) in
-      let l2 : length ((end_part ++ begin_part) ++ front_part) ≡ after + before + front = omega (arith, length-append (end_part ++ begin_part) front_part, l1, lf) in
-      let l3 : length (((end_part ++ begin_part) ++ front_part) ++ shared_part) ≡ after + before + front + shared = omega (arith, length-append ((end_part ++ begin_part) ++ front_part) shared_part, l2, ls) in
-      let l4 : length (back_part ++ (((end_part ++ begin_part) ++ front_part) ++ shared_part)) ≡ len = omega (arith, length-append back_part (((end_part ++ begin_part) ++ front_part) ++ shared_part), l3, lb) in
-      let one : List Bool = put swapped head back_part in
-      let long : length one ≡ length xs = length-put swapped back_part head (omega (arith, length-swapped, lb)) ∙ length-swapped in
-      let two : length (put one to front_part) ≡ length xs = length-put one front_part to (omega (arith, long, lf)) ∙ long in
-      ap (λ l. put (put (put l (head + back) end_part) (head + back + after) begin_part) (to + front) shared_part) is_both_moved
-      ∙ ap (λ l. put l (to + front) shared_part) (put_joined (put one to front_part) end_part begin_part (head + back) (head + back + after) (omega (arith, le)) (omega (arith, two, lg))
-      ∙ put_front one (end_part ++ begin_part) front_part (head + back) to (omega (arith, l1)) (omega (arith, long, lf)))
-      ∙ put_joined one ((end_part ++ begin_part) ++ front_part) shared_part (head + back) (to + front) (omega (arith, l2)) (omega (arith, long, ls))
-      ∙ put_joined swapped back_part (((end_part ++ begin_part) ++ front_part) ++ shared_part) head (head + back) (omega (arith, lb)) (omega (arith, length-swapped, l3))
-      ∙ put_covered xs other (back_part ++ (((end_part ++ begin_part) ++ front_part) ++ shared_part)) head at (omega arith) (omega (arith, length-other, l4)) (omega (arith, l4))
-      ∙ ap (put xs head) in_order
-
 -- ---- shifted runs
 
 module _ (xs : List Bool) (head len by : ℕ) (inside : by ≤ len) (room : head + len ≤ length xs) where
@@ -342,7 +206,7 @@ module _ (xs : List Bool) (head len by : ℕ) (inside : by ≤ len) (room : head
       ap (λ k. put (moved xs head (head + by) (len - by)) head (replicate k false)) count ∙ moved_back (replicate by false) (length-replicate by false)
 
 -- bits kept in words of 64 are read back
-pub kept_back : (words : List ℕ) (ys : List Bool) (n : ℕ) → length ys ≡ n → n ≤ 64 * length words → slice_range (put (row_of (λ w i. i) 64 words) 0 ys) 0 (0 + n) ≡ ys
-kept_back words ys n size room =
-    let all : length (row_of (λ w i. i) 64 words) ≡ 64 * length words = length-row_of (λ w i. i) 64 words in
-    shown_filled (row_of (λ w i. i) 64 words) ys 0 n (sym size) (omega arith)
+pub kept_back : (place : ℕ → ℕ → ℕ) (words : List ℕ) (ys : List Bool) (n : ℕ) → length ys ≡ n → n ≤ 64 * length words → slice_range (put (row_of place 64 words) 0 ys) 0 (0 + n) ≡ ys
+kept_back place words ys n size room =
+    let all : length (row_of place 64 words) ≡ 64 * length words = length-row_of place 64 words in
+    shown_filled (row_of place 64 words) ys 0 n (sym size) (omega arith)

@@ -3,6 +3,7 @@ use Rattle.std.proofs.Common.{◌≡◌, ℕ, suc, ◌+◌, ◌-◌, ◌<◌, �
 use Rattle.std.proofs.lemmas.List.{append_assoc, ext_get_or, take_all}
 use Rattle.std.proofs.lemmas.List.FromFn.{length-map-range_with_len, get_or-map-range_with_len, map-range_with_len_more}
 use Rattle.bit_addressing.specs.Bits.{has_bit}
+use Rattle.bit_addressing.proofs.lists.Shown.{length-run}
 use Rattle.bit_addressing.specs.Row.{number_bits, number_of}
 use Rattle.bit_addressing.specs.Text.{digit_of, joined, list_text}
 use Rattle.bit_addressing.proofs.Chunks.{has_number}
@@ -22,6 +23,10 @@ unfolding number_bits
 bits_of_number ms n size =
     ext_get_or false (number_bits (number_of ms) n) ms (length-map-range_with_len (has_bit (number_of ms)) 0 n ∙ sym size)
     (λ i h. get_or-map-range_with_len (has_bit (number_of ms)) 0 n i i false (omega (arith, h, length-map-range_with_len (has_bit (number_of ms)) 0 n)) (omega arith) ∙ has_number ms i)
+
+-- a number that was read is written
+pub run_of_number : (zs : List Bool) (x at n : ℕ) → at + n ≤ length zs → x ≡ number_of (slice_range zs at (at + n)) → number_bits x n ≡ slice_range zs at (at + n)
+run_of_number zs x at n inside is = ap (λ y. number_bits y n) is ∙ bits_of_number (slice_range zs at (at + n)) n (length-run zs at n inside)
 
 pub number_bits_more : (x n : ℕ) → number_bits x (n + 1) ≡ number_bits x n ++ has_bit x n ∷ []
 unfolding number_bits

@@ -7,11 +7,12 @@ ghost use Rattle.bit_addressing.specs.Typed.{row};
 ghost use Rattle.bit_slice.specs.Operators.{combined};
 
 mod reverse;
+mod rotate;
 
-use bit_addressing::{BitOrder, BitStore, Lsb0, move_bits};
+use bit_addressing::{BitOrder, BitStore, move_bits};
 use bit_rows::{BitOperator, combine_bits, copy_bits, fill_bits, read_chunk, write_chunk};
-use reverse::move_to;
 pub use reverse::reverse_words;
+pub use rotate::rotate_words;
 
 /// The bit is true where the old one is and the new one is not.
 pub struct AndNot;
@@ -62,117 +63,8 @@ pub fn flip_in_vec<T: BitStore, O: BitOrder>(words: &mut Vec<T>, from: usize, up
     flip_words::<T, O>(words.as_mut_slice(), from, upto);
 }
 
-// How many bits a call keeps beside the words at most: 16 words of 64 bits.
+// How many bits a combination keeps beside the words at most: 16 words of 64 bits.
 const KEPT: usize = 1024;
-
-// Like `rotate_words`, of at most 1024 bits that move after the others: they are kept while the others move.
-fn rotate_few<T: BitStore, O: BitOrder>(words: &mut [T], head: usize, len: usize, by: usize)
-    requires room { T.BITS * length words.old ≤ MAX_BITS + 2 * T.BITS }
-    requires within { head + len ≤ T.BITS * length words.old }
-    requires inside { by ≤ len }
-    requires few { by ≤ 1024 }
-    ensures bits { let bits = slice_range (row T.BitStore O.BitOrder words.old) head (head + len)
-        in row T.BitStore O.BitOrder words.new
-        ≡ put (row T.BitStore O.BitOrder words.old) head (drop by bits ++ take by bits) }
-    ensures size { length words.new ≡ length words.old }
-{
-    let mut kept = [0u64; 16];
-    copy_bits::<u64, Lsb0, T, O>(&mut kept, 0, words, head, by);
-    move_bits::<T, O>(words, head + by, head, len - by);
-    copy_bits::<T, O, u64, Lsb0>(words, head + (len - by), &kept, 0, by);
-}
-
-// Like `rotate_words`, where all but at most 1024 bits move after the others: these are kept while the first move.
-fn rotate_all_but_few<T: BitStore, O: BitOrder>(words: &mut [T], head: usize, len: usize, by: usize)
-    requires room { T.BITS * length words.old ≤ MAX_BITS + 2 * T.BITS }
-    requires within { head + len ≤ T.BITS * length words.old }
-    requires inside { by ≤ len }
-    requires few { len - by ≤ 1024 }
-    ensures bits { let bits = slice_range (row T.BitStore O.BitOrder words.old) head (head + len)
-        in row T.BitStore O.BitOrder words.new
-        ≡ put (row T.BitStore O.BitOrder words.old) head (drop by bits ++ take by bits) }
-    ensures size { length words.new ≡ length words.old }
-{
-    let rest = len - by;
-    let mut kept = [0u64; 16];
-    copy_bits::<u64, Lsb0, T, O>(&mut kept, 0, words, head + by, rest);
-    move_bits::<T, O>(words, head, head + rest, by);
-    copy_bits::<T, O, u64, Lsb0>(words, head, &kept, 0, rest);
-}
-
-// Moves the first `by` of the `count` words from word `first` on after the others.
-fn rotate_whole_words<T: BitStore, O: BitOrder>(
-    words: &mut [T],
-    first: usize,
-    count: usize,
-    by: usize,
-)
-    requires within { first + count ≤ length words.old }
-    requires inside { by ≤ count }
-    ensures bits { let at = first * T.BITS
-        in let bits = slice_range (row T.BitStore O.BitOrder words.old) at (at + count * T.BITS)
-        in row T.BitStore O.BitOrder words.new
-        ≡ put (row T.BitStore O.BitOrder words.old) at (drop (by * T.BITS) bits ++ take (by * T.BITS) bits) }
-    ensures size { length words.new ≡ length words.old }
-{
-    words[first..first + count].rotate_left(by);
-}
-
-// Like `rotate_words`, where at least 64 bits are on each side: whole words are rotated, and then each side is moved
-// once. The bits before the whole words, those of the word that has bits of both sides, and those after the whole
-// words are kept meanwhile.
-fn rotate_by_words<T: BitStore, O: BitOrder>(words: &mut [T], head: usize, len: usize, by: usize)
-    requires room { T.BITS * length words.old ≤ MAX_BITS + 2 * T.BITS }
-    requires within { head + len ≤ T.BITS * length words.old }
-    requires front { 64 ≤ by }
-    requires back { by + 64 ≤ len }
-    ensures bits { let bits = slice_range (row T.BitStore O.BitOrder words.old) head (head + len)
-        in row T.BitStore O.BitOrder words.new
-        ≡ put (row T.BitStore O.BitOrder words.old) head (drop by bits ++ take by bits) }
-    ensures size { length words.new ≡ length words.old }
-{
-    let width = T::BITS as usize;
-    let first = head.div_ceil(width);
-    let before = first * width - head;
-    let by_words = (by - before) / width;
-    let front = by_words * width;
-    let shared = by - before - front;
-    let count = (len - before) / width;
-    let after = len - before - count * width;
-    let back = len - by - after;
-    let begin = read_chunk::<T, O>(words, head, before as u8);
-    let middle = read_chunk::<T, O>(words, head + before + front, shared as u8);
-    let end = read_chunk::<T, O>(words, head + by + back, after as u8);
-    rotate_whole_words::<T, O>(words, first, count, by_words);
-    // The back goes first, since the front may go where it stood.
-    let to = head + back + after + before;
-    move_to::<T, O>(words, head + before + shared, head, back);
-    move_to::<T, O>(words, head + before + shared + back, to, front);
-    write_chunk::<T, O>(words, head + back, after as u8, end);
-    write_chunk::<T, O>(words, head + back + after, before as u8, begin);
-    write_chunk::<T, O>(words, to + front, shared as u8, middle);
-}
-
-/// Moves the first `by` of the `len` bits of the words' row from `head` on after the others: by one move where at
-/// most 1024 bits are on one side, else by a rotation of whole words and a move of each side. No other bit changes.
-/// Requires that the run lies in the words, and `by` is at most its length.
-pub fn rotate_words<T: BitStore, O: BitOrder>(words: &mut [T], head: usize, len: usize, by: usize)
-    requires room { T.BITS * length words.old ≤ MAX_BITS + 2 * T.BITS }
-    requires within { head + len ≤ T.BITS * length words.old }
-    requires inside { by ≤ len }
-    ensures bits { let bits = slice_range (row T.BitStore O.BitOrder words.old) head (head + len)
-        in row T.BitStore O.BitOrder words.new
-        ≡ put (row T.BitStore O.BitOrder words.old) head (drop by bits ++ take by bits) }
-    ensures size { length words.new ≡ length words.old }
-{
-    if by <= KEPT {
-        rotate_few::<T, O>(words, head, len, by);
-    } else if len - by <= KEPT {
-        rotate_all_but_few::<T, O>(words, head, len, by);
-    } else {
-        rotate_by_words::<T, O>(words, head, len, by);
-    }
-}
 
 /// Moves the `len` bits of the words' row from `head` on by `by` indices towards the front. The first `by` bits are
 /// dropped, and the last `by` become false. No other bit changes. Requires that the run lies in the words, and `by`
@@ -236,8 +128,8 @@ fn combine_piece<F: BitOperator, T: BitStore, O: BitOrder>(
     ensures size { length words.new ≡ length words.old }
 {
     let mut kept = [0u64; 16];
-    copy_bits::<u64, Lsb0, T, O>(&mut kept, 0, words, from, n);
-    combine_bits::<F, T, O, u64, Lsb0>(words, at, &kept, 0, n);
+    copy_bits::<u64, O, T, O>(&mut kept, 0, words, from, n);
+    combine_bits::<F, T, O, u64, O>(words, at, &kept, 0, n);
 }
 
 // Like `combine_within`, from the front on. Requires that `at` is not after `from`.

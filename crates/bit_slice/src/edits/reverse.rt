@@ -128,7 +128,7 @@ fn reverse_all<T: BitStore, O: BitOrder>(words: &mut [T])
 }
 
 // Like `move_bits`, but does nothing where source and target are the same.
-pub(super) fn move_to<T: BitStore, O: BitOrder>(words: &mut [T], from: usize, at: usize, n: usize)
+fn move_to<T: BitStore, O: BitOrder>(words: &mut [T], from: usize, at: usize, n: usize)
     requires room { T.BITS * length words.old ≤ MAX_BITS + 2 * T.BITS }
     requires source { from + n ≤ T.BITS * length words.old }
     requires target { at + n ≤ T.BITS * length words.old }

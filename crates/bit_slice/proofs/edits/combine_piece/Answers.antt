@@ -19,5 +19,5 @@ returns-clause-bits g c =
     let new = slice_range xs from (from + n) in
     let a : length old ≡ n = length-run xs at n (in_row g.T.BitStore g.O.BitOrder c.args.words.now (at + n) c.requires.target) in
     let b : length new ≡ n = length-run xs from n (in_row g.T.BitStore g.O.BitOrder c.args.words.now (from + n) c.requires.source) in
-    let kept = ap (λ l. slice_range l 0 (0 + n)) c.copy_bits.ensures.bits ∙ kept_back _ new n b c.requires.few in
+    let kept = ap (λ l. slice_range l 0 (0 + n)) c.copy_bits.ensures.bits ∙ kept_back g.O.BitOrder.place _ new n b c.requires.few in
     c.combine_bits.ensures.bits ∙ ap (λ l. put xs at (zip2 f old l)) kept ∙ ap (put xs at) (sym (zipped f old new (a ∙ sym b)))

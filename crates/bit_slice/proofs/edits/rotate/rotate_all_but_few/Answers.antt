@@ -1,11 +1,12 @@
 use Rattle.std.proofs.Common.{◌≡◌, ◌+◌, ◌-◌, ◌++◌, take, length, slice_range, sym, ◌∙◌, ap, arith}
+use Rattle.std.proofs.lemmas.List.{length-map}
 use Rattle.bit_addressing.specs.Row.{moved, put}
 use Rattle.bit_addressing.specs.Typed.{row}
 use Rattle.bit_addressing.proofs.lists.Shown.{length-run}
 use Rattle.bit_slice.proofs.Combining.{rest_of_run}
 use Rattle.bit_slice.proofs.Parts.{in_row}
 use Rattle.bit_slice.proofs.Turned.{kept_back, moved_back}
-use Rattle.bit_slice.proofs.edits.rotate_all_but_few.Goals as goal
+use Rattle.bit_slice.proofs.edits.rotate.rotate_all_but_few.Goals as goal
 
 pub returns-clause-bits : goal.returns-clause-bits
 returns-clause-bits g c =
@@ -20,7 +21,7 @@ returns-clause-bits g c =
     let count : length rest ≡ n = length-run xs (head + by) n (omega arith) in
     let end : head + by + n ≡ head + len = omega arith in
     let others : len - n ≡ by = omega arith in
-    let back = ap (λ l. slice_range l 0 (0 + n)) c.copy_bits.ensures.bits ∙ kept_back _ rest n count c.requires.few in
+    let back = ap (λ l. slice_range l 0 (0 + n)) c.copy_bits.ensures.bits ∙ kept_back g.O.BitOrder.place _ rest n count (omega (arith, length-map c.args.kept.now (λ x. x), c.requires.few)) in
     c.copy_bits-2.ensures.bits
     ∙ ap (put (row g.T.BitStore g.O.BitOrder c.move_bits.new.words) head) back
     ∙ ap (λ l. put l head rest) (c.move_bits.ensures.bits ∙ ap (moved xs head (head + n)) (sym others))

@@ -1,10 +1,11 @@
 use Rattle.std.proofs.Common.{◌≡◌, ◌+◌, ◌-◌, ◌++◌, drop, length, slice_range, ◌∙◌, ap, arith}
+use Rattle.std.proofs.lemmas.List.{length-map}
 use Rattle.bit_addressing.specs.Row.{put}
 use Rattle.bit_addressing.specs.Typed.{row}
 use Rattle.bit_addressing.proofs.lists.Shown.{shows_fewer, length-run}
 use Rattle.bit_slice.proofs.Parts.{in_row}
 use Rattle.bit_slice.proofs.Turned.{kept_back, moved_front}
-use Rattle.bit_slice.proofs.edits.rotate_few.Goals as goal
+use Rattle.bit_slice.proofs.edits.rotate.rotate_few.Goals as goal
 
 pub returns-clause-bits : goal.returns-clause-bits
 returns-clause-bits g c =
@@ -15,7 +16,7 @@ returns-clause-bits g c =
     let room = in_row g.T.BitStore g.O.BitOrder c.args.words.now (head + len) c.requires.within in
     let front = slice_range xs head (head + by) in
     let count : length front ≡ by = length-run xs head by (omega arith) in
-    let back = ap (λ l. slice_range l 0 (0 + by)) c.copy_bits.ensures.bits ∙ kept_back _ front by count c.requires.few in
+    let back = ap (λ l. slice_range l 0 (0 + by)) c.copy_bits.ensures.bits ∙ kept_back g.O.BitOrder.place _ front by count (omega (arith, length-map c.args.kept.now (λ x. x), c.requires.few)) in
     c.copy_bits-2.ensures.bits
     ∙ ap (put (row g.T.BitStore g.O.BitOrder c.move_bits.new.words) (head + (len - by))) back
     ∙ ap (λ l. put l (head + (len - by)) front) c.move_bits.ensures.bits

@@ -1,7 +1,10 @@
 -- Runs of a row that are rotated by exchanges of whole words.
-use Rattle.std.proofs.Common.{◌≡◌, ℕ, ◌+◌, ◌-◌, ◌<◌, ◌≤◌, Bool, List, ◌++◌, length, take, drop, get_or, slice_range, arith, rules}
+use Rattle.std.proofs.Common.{◌≡◌, ℕ, ◌+◌, ◌-◌, ◌*◌, ◌<◌, ◌≤◌, Bool, List, ◌++◌, length, take, drop, get_or, slice_range, ap, inl, inr, arith, rules, mul_comm}
+use Rattle.std.proofs.lemmas.Bool.{cases_lt}
 use Rattle.std.proofs.lemmas.List.{same_lists, places}
 use Rattle.bit_addressing.specs.Row.{put}
+use Rattle.bit_addressing.proofs.Runs.{mul_mono}
+use Rattle.bit_addressing.proofs.lists.Sized.{one_more_word, right_sum}
 
 -- the first `by` of the `len` items from `at` on moved after the others of them
 unfoldable pub rotated_run : List Bool → ℕ → ℕ → ℕ → List Bool
@@ -72,3 +75,44 @@ unfolding put
 slid_down xs at skip by others few_first few_others room =
     let size = length-rotated xs (at + skip) (by + others) by (omega arith) (omega arith) in
     same_lists _ _ (grind (arith, length-rotated, places)) (λ i e below. grind (arith, rotated_before, rotated_front, rotated_back, rotated_after, length-rotated, places))
+
+-- ---- where the words lie that are carried
+
+-- words whose bits reach less than a word beyond others' are no more than those
+pub no_more_words : (k n w : ℕ) → k * w < n * w + w → k ≤ n
+no_more_words k n w below = elim (cases_lt n k) [
+  | inl over ↦ absurd (let far = mul_mono (n + 1) k w (omega (arith, over)) in let next = one_more_word n w in omega arith)
+  | inr under ↦ under
+]
+
+-- a run of `n` bits and the words' worth of bits before them, which end before a word's last `skip` bits
+pub record AreLast (w count last skip end n words : ℕ) : Type 0 where
+  pub enough : count + count ≤ last
+  pub there : last ≤ words
+  pub low : (last - (count + count)) * w + (count * w + count * w) ≡ end + skip
+  pub within : end + skip ≤ w * words
+
+pub are_last : (w count last skip end n words : ℕ) → last * w ≡ end + skip → skip < w → count * w < n + w → n + count * w ≤ end → end ≤ w * words → AreLast w count last skip end n words
+are_last w count last skip end n words ends few least inside within =
+    let twice = right_sum count count w in
+    let commuted = mul_comm w words in
+    let enough : count + count ≤ last = no_more_words (count + count) last w (omega arith) in
+    let there : last ≤ words = no_more_words last words w (omega arith) in
+    let split : last - (count + count) + (count + count) ≡ last = omega arith in
+    record {
+      enough = enough;
+      there = there;
+      low = omega (arith, right_sum (last - (count + count)) (count + count) w, ap (λ k. k * w) split);
+      within = omega (arith, mul_mono last words w there);
+    }
+
+-- a run that goes up by whole words ends before the last of the words, or with it
+pub up_fits : (w first count skip head by words : ℕ) → first * w + skip ≡ head → count * w ≤ by → head + (by + count * w) ≤ w * words → 0 < w → first + 2 * count ≤ words
+up_fits w first count skip head by words begins whole within positive =
+    let sum : (first + 2 * count) * w ≡ first * w + (count * w + count * w) = grind arith in
+    no_more_words (first + 2 * count) words w (omega (arith, sum, mul_comm w words))
+
+pub up_follows : (w first count skip head by words : ℕ) → first * w + skip ≡ head → count * w < by → head + (by + count * w) ≤ w * words → first + 2 * count < words
+up_follows w first count skip head by words begins whole within =
+    let sum : (first + 2 * count + 1) * w ≡ first * w + (count * w + count * w) + w = grind arith in
+    omega (arith, no_more_words (first + 2 * count + 1) words w (omega (arith, sum, mul_comm w words)))

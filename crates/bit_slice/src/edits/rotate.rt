@@ -1,6 +1,6 @@
 //! Rotates runs of bits: the first bits of a run change places with the others.
-ghost use Rattle.std.specs.Prelude.{◌≡◌, ℕ, ◌+◌, ◌*◌, ◌/◌, ◌-◌, ◌^◌, ◌<◌, ◌≤◌, [], ◌∷◌, ◌++◌, drop, length, slice_range, take, IfSome, min};
-ghost use Rattle.bit_addressing.specs.Row.{put, words_for};
+ghost use Rattle.std.specs.Prelude.{◌≡◌, ◌+◌, ◌*◌, ◌-◌, ◌^◌, ◌<◌, ◌≤◌, [], ◌∷◌, ◌++◌, drop, length, slice_range, take, IfSome, min};
+ghost use Rattle.bit_addressing.specs.Row.{put};
 ghost use Rattle.bit_addressing.specs.Table.{IsPairTable};
 ghost use Rattle.bit_addressing.specs.declared.length.TheConstants.{MAX_BITS};
 ghost use Rattle.bit_addressing.specs.Typed.{row};
@@ -196,9 +196,9 @@ fn exchange_down<T: BitStore, O: BitOrder>(words: &mut [T], first: usize, count:
     exchange::<T, O>(high, low, next, at);
 }
 
-// Moves the `by` bits from `head` on after the `count` words' worth of bits that follow: the first go up by whole words,
-// and the others down by `by` places. The bits at the edges are kept meanwhile. Requires that `count` is how many whole
-// words the `by` bits make up.
+// Moves the `by` bits from `head` on after the bits that follow them, as many as `count` words have: the first go up by
+// whole words, and the others down by `by` places. The bits at the edges of words are kept meanwhile. Requires that
+// `count` is the number of whole words that `by` bits fill.
 fn carry_up<T: BitStore, O: BitOrder>(words: &mut [T], head: usize, by: usize, count: usize)
     requires some { 0 < count }
     requires whole { count * T.BITS ≤ by }
@@ -225,9 +225,9 @@ fn carry_up<T: BitStore, O: BitOrder>(words: &mut [T], head: usize, by: usize, c
     write_chunk::<T, O>(words, start + by + size, skip, end);
 }
 
-// Moves the `n` bits that end before bit `end` before the `count` words' worth of bits that precede them: the last go
-// down by whole words, and the others up by `n` places. The bits at the edges are kept meanwhile. Requires that `count`
-// is the least number of words for `n` bits.
+// Moves the `n` bits that end at `end` before the bits that precede them, as many as `count` words have: the last go
+// down by whole words, and the others up by `n` places. The bits at the edges of words are kept meanwhile. Requires that
+// `count` is the least number of words for `n` bits.
 fn carry_down<T: BitStore, O: BitOrder>(words: &mut [T], end: usize, n: usize, count: usize)
     requires some { 0 < count }
     requires full { T.BITS ≤ n }

@@ -1,11 +1,18 @@
 use Rattle.std.proofs.Common.{◌≡◌, ℕ, ◌+◌, ◌-◌, ◌*◌, length, slice_range, sym, ◌∙◌, ap, arith}
 use Rattle.bit_addressing.specs.Row.{put}
 use Rattle.bit_addressing.specs.Typed.{row}
+use Rattle.bit_addressing.proofs.Rows.{width_positive}
 use Rattle.bit_addressing.proofs.Runs.{mul_mono}
 use Rattle.bit_slice.proofs.Parts.{row_size}
-use Rattle.bit_slice.proofs.Rotating.{rotated_run, exchanged_up, slid_up}
+use Rattle.bit_slice.proofs.Rotating.{rotated_run, exchanged_up, slid_up, up_fits, up_follows}
 use Rattle.bit_slice.proofs.Writing.{run_of_number}
 use Rattle.bit_slice.proofs.edits.rotate.carry_up.Goals as goal
+
+pub exchange_up-requires-clause-inside : goal.exchange_up-requires-clause-inside
+exchange_up-requires-clause-inside g c = up_fits g.T.BitStore.BITS c.in_word-first.result.0 c.args.count c.in_word-first.result.1 c.args.head c.args.by (length c.args.words.now) c.in_word-first.ensures.index c.requires.whole c.requires.within (width_positive g.T.BitStore.BITS g.met.T.BitStore.width)
+
+pub exchange_up-requires-clause-next : goal.exchange_up-requires-clause-next
+exchange_up-requires-clause-next g c = λ some. up_follows g.T.BitStore.BITS c.in_word-first.result.0 c.args.count c.in_word-first.result.1 c.args.head c.args.by (length c.args.words.now) c.in_word-first.ensures.index (omega (arith, some, ap (λ n. c.args.count * n) c.BITS.ensures)) c.requires.within
 
 pub returns-clause-bits : goal.returns-clause-bits
 unfolding rotated_run

@@ -1,18 +1,13 @@
-use Rattle.std.proofs.Common.{◌≡◌, ℕ, ◌+◌, ◌-◌, ◌*◌, ◌<◌, ◌≤◌, length, ◌∙◌, ap, inl, inr, arith}
-use Rattle.std.proofs.lemmas.Bool.{cases_lt}
+use Rattle.std.proofs.Common.{◌≡◌, ℕ, ◌+◌, ◌-◌, ◌*◌, ◌<◌, ◌≤◌, length, ◌∙◌, ap, arith}
 use Rattle.bit_addressing.specs.Typed.{row}
 use Rattle.bit_addressing.proofs.Runs.{mul_mono}
-use Rattle.bit_addressing.proofs.lists.Sized.{one_more_word}
 use Rattle.bit_slice.proofs.Parts.{row_size}
-use Rattle.bit_slice.proofs.Rotating.{rotated_run, rotated_up, rotated_down}
+use Rattle.bit_slice.proofs.Rotating.{rotated_run, rotated_up, rotated_down, no_more_words}
 use Rattle.bit_slice.proofs.edits.rotate.rotate_long.Goals as goal
 
 -- the least number of words for more bits than others have is at most theirs
 fewest : (k m w back size : ℕ) → m * w ≡ size → size < back + w → back < k * w → size ≤ k * w
-fewest k m w back size all least more = elim (cases_lt k m) [
-  | inl over ↦ absurd (let far = mul_mono (k + 1) m w (omega (arith, over)) in let next = one_more_word k w in omega arith)
-  | inr under ↦ let near = mul_mono m k w under in omega arith
-]
+fewest k m w back size all least more = omega (arith, all, mul_mono m k w (no_more_words m k w (omega arith)))
 
 pub loop-back-preserved-then-size-back : goal.loop-back-preserved-then-size-back
 unfolding rotated_run

@@ -359,6 +359,10 @@ fn small(n: usize, r: usize) {
     let ones = |all: &[Bits]| (0..64).map(|_| all.iter().map(|v| v.count_ones()).sum::<usize>()).sum::<usize>();
     println!("bits {n} 0");
     timed("small_equal", r, none, |_| all.iter().map(|a| all.iter().filter(|b| a.len == b.len && a.words == b.words).count()).sum::<usize>(), |_, t| t);
+    let inside = |a: &Bits, b: &Bits| a.words.iter().zip(&b.words).all(|(x, y)| x & !y == 0);
+    timed("small_subset", r, none, |_| black_box(&all).iter().map(|a| all.iter().filter(|b| inside(a, b)).count()).sum::<usize>(), |_, t| t);
+    let apart = |a: &Bits, b: &Bits| a.words.iter().zip(&b.words).map(|(x, y)| (x ^ y).count_ones() as usize).sum::<usize>();
+    timed("small_xor", r, none, |_| black_box(&all).iter().map(|a| all.iter().map(|b| apart(a, b)).sum::<usize>()).sum::<usize>(), |_, t| t);
     let before = |a: &Bits, b: &Bits| {
         for (x, y) in a.words.iter().zip(&b.words) {
             if x != y {

@@ -53,6 +53,8 @@ fn false_turns<F: BitOperator, T: BitStore, O: BitOrder, U: BitStore, P: BitOrde
 /// of 512 false bits and 512 true ones: false_blocks::<And, ..>(a, 0, b, 0, 512) == 8
 /// of 8 bits: false_blocks::<And, ..>(a, 0, b, 0, 8) == 0
 /// ```
+// It is not inlined, for the reason that `count_alike` names.
+#[inline(never)]
 pub fn false_blocks<F: BitOperator, T: BitStore, O: BitOrder, U: BitStore, P: BitOrder>(
     a: &[T],
     i: usize,

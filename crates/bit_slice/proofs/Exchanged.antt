@@ -10,8 +10,9 @@ use Rattle.bit_addressing.proofs.Rows.{row_append}
 use Rattle.bit_addressing.proofs.Runs.{mul_mono, slices_joined}
 use Rattle.bit_addressing.proofs.lists.Sized.{one_more_word}
 use Rattle.bit_addressing.proofs.Shifts.{pair_row}
-use Rattle.bit_addressing.proofs.lists.Shown.{shown_part}
+use Rattle.bit_addressing.proofs.lists.Shown.{length-run, shown_part}
 use Rattle.bit_addressing.proofs.Typed.{length_row, row_replaced, row_whole}
+use Rattle.bit_rows.proofs.Combinations.{put_later}
 use Rattle.bit_slice.proofs.Halves.{row_halves}
 use Rattle.bit_slice.proofs.Parts.{row_size}
 
@@ -20,11 +21,6 @@ more_written : (xs zs : List Bool) (from d n : ℕ) → d + n ≤ length xs → 
     → put (put xs 0 (slice_range zs from (from + d))) d (slice_range zs (from + d) (from + d + n)) ≡ put xs 0 (slice_range zs from (from + (d + n)))
 unfolding put
 more_written xs zs from d n inside there = same_lists _ _ (search (rules, places)) (λ i e below. grind (arith, places))
-
--- what stands after a run that was written
-part_after : (xs zs : List Bool) (from d a n : ℕ) → d ≤ a → d ≤ length xs → from + d ≤ length zs → slice_range (put xs 0 (slice_range zs from (from + d))) a (a + n) ≡ slice_range xs a (a + n)
-unfolding put
-part_after xs zs from d a n later inside there = same_lists _ _ (search (rules, places)) (λ i e below. grind (arith, places))
 
 nothing_written : (xs zs : List Bool) (from n : ℕ) → n ≡ 0 → xs ≡ put xs 0 (slice_range zs from (from + n))
 unfolding put
@@ -72,11 +68,11 @@ module _ {X : Type 0} (value : X → ℕ) (place : ℕ → ℕ → ℕ) (w : ℕ
         pair_row value place place w w (value made) i at (cy ++ next ∷ []) low high positive refl long within (read_low ∙ sym (get_or_append_left cy (next ∷ []) low i there_y)) read_high window in
         let later : bits (made ∷ []) ≡ slice_range (bits (ys ++ next ∷ [])) (at + i * w) (at + i * w + w) =
         made_of ∙ ap (λ l. slice_range l (i * w + at) (i * w + at + w)) so_far.plain
-        ∙ part_after (bits (ys ++ next ∷ [])) (bits xs) 0 (i * w) (i * w + at) w (omega arith) (omega (arith, size_y)) (omega (arith, size_x))
+        ∙ put_later (bits (ys ++ next ∷ [])) (slice_range (bits xs) 0 (0 + i * w)) 0 (i * w + at) (i * w + at + w) (omega arith) (omega (arith, length-run (bits xs) 0 (i * w) (omega (arith, size_x)))) (omega arith) (omega (arith, size_y))
         ∙ ap (λ a. slice_range (bits (ys ++ next ∷ [])) a (a + w)) (omega arith) in
         let kept : bits (old ∷ []) ≡ slice_range (bits xs) (0 + i * w) (0 + i * w + w) =
         row_whole value place w cx i (i * w) (i * w + w) old positive there_x read_old refl refl ∙ ap (λ l. slice_range l (i * w) (i * w + w)) so_far.shifted
-        ∙ part_after (bits xs) (bits (ys ++ next ∷ [])) at (i * w) (i * w) w (omega arith) (omega (arith, size_x)) (omega (arith, size_y))
+        ∙ put_later (bits xs) (slice_range (bits (ys ++ next ∷ [])) at (at + i * w)) 0 (i * w) (i * w + w) (omega arith) (omega (arith, length-run (bits (ys ++ next ∷ [])) at (i * w) (omega (arith, size_y)))) (omega arith) (omega (arith, size_x))
         ∙ ap (λ a. slice_range (bits xs) a (a + w)) (omega arith) in
         record {
           shifted = row_replaced value place w cx i made positive there_x

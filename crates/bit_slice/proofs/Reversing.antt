@@ -18,7 +18,7 @@ use Rattle.bit_addressing.proofs.lists.Shown.{length-run, get_or-run}
 use Rattle.bit_slice.specs.Mirrored.{IsMirrored}
 use Rattle.bit_slice.proofs.Halves.{row_halves, run_of_front, run_of_back, put_front, put_back}
 use Rattle.bit_slice.proofs.Turned.{reversed_item}
-use Rattle.bit_slice.proofs.Writing.{bits_of_number}
+use Rattle.bit_slice.proofs.Writing.{run_of_number}
 
 -- the index as far from the end of the row of n words as index j is from its beginning
 across : (w n j : ℕ) → 0 < w → j < w * n → w * n - 1 - j ≡ (n - 1 - j / w) * w + (w - 1 - j % w)
@@ -229,8 +229,8 @@ module _ (xs : List Bool) (before len after : ℕ) (whole : before + len + after
   pub put_back_around : (all shifted begun new : List Bool) (f b : ℕ) → all ≡ reverse xs → shifted ≡ moved all after before len → f ≡ number_of front → b ≡ number_of back
       → begun ≡ put shifted 0 (number_bits f before) → new ≡ put begun (before + len) (number_bits b after) → new ≡ put xs before turned
   put_back_around all shifted begun new f b is_all is_shifted is_f is_b is_begun is_new =
-      let begins : number_bits f before ≡ front = ap (λ x. number_bits x before) is_f ∙ bits_of_number front before (length-run xs 0 before (omega (arith, whole))) in
-      let ends : number_bits b after ≡ back = ap (λ x. number_bits x after) is_b ∙ bits_of_number back after (length-run xs (before + len) after (omega (arith, whole))) in
+      let begins : number_bits f before ≡ front = run_of_number xs f 0 before (omega (arith, whole)) is_f in
+      let ends : number_bits b after ≡ back = run_of_number xs b (before + len) after (omega (arith, whole)) is_b in
       let moves : shifted ≡ moved (reverse xs) after before len = is_shifted ∙ ap (λ l. moved l after before len) is_all in
       let fronts : begun ≡ put (moved (reverse xs) after before len) 0 front = is_begun ∙ ap (put shifted 0) begins ∙ ap (λ l. put l 0 front) moves in
       is_new ∙ ap (put begun (before + len)) ends ∙ ap (λ l. put l (before + len) back) fronts ∙ put_around

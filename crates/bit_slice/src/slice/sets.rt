@@ -31,9 +31,8 @@ fn pair_chunk<F: BitOperator, T: BitStore, O: BitOrder, U: BitStore, P: BitOrder
     F::apply::<u64>(old, new)
 }
 
-// Of the first `upto` bits that the operator makes of two views, how many are true: first those of words that lie
-// alike, then the others 64 at a time.
-fn count_pairs<F: BitOperator, T: BitStore, O: BitOrder, U: BitStore, P: BitOrder>(
+// Like `count_pairs`: first the bits of words that lie alike, then the others 64 at a time.
+fn count_long<F: BitOperator, T: BitStore, O: BitOrder, U: BitStore, P: BitOrder>(
     left: BitSlice<'_, T, O>,
     right: BitSlice<'_, U, P>,
     upto: usize,
@@ -57,9 +56,30 @@ fn count_pairs<F: BitOperator, T: BitStore, O: BitOrder, U: BitStore, P: BitOrde
     count + rest.count_ones() as usize
 }
 
-// Of the first `upto` bits that the operator makes of two views, whether one is true: first by many words at a time,
-// up to words that have one, then 64 bits at a time.
-fn any_pair<F: BitOperator, T: BitStore, O: BitOrder, U: BitStore, P: BitOrder>(
+// Of the first `upto` bits that the operator makes of two views, how many are true. Up to 64 are one number, whose
+// bits are counted without a call (docs/SPEED.md, "The bench", small xor).
+#[inline(always)]
+fn count_pairs<F: BitOperator, T: BitStore, O: BitOrder, U: BitStore, P: BitOrder>(
+    left: BitSlice<'_, T, O>,
+    right: BitSlice<'_, U, P>,
+    upto: usize,
+) -> usize
+    requires quiet { F.made false false ≡ false }
+    requires left { upto ≤ len_of left }
+    requires right { upto ≤ len_of right }
+    ensures value { result ≡ count_by (λ b. b)
+        (slice_range (combined F.made (list_of left.entry) (list_of right.entry)) 0 upto) }
+    ensures few { result ≤ upto }
+{
+    if upto <= 64 {
+        return pair_chunk::<F, T, O, U, P>(left, right, 0, upto as u8).count_ones() as usize;
+    }
+    count_long::<F, T, O, U, P>(left, right, upto)
+}
+
+// Like `any_pair`: first by many words at a time, up to words that have such a bit, then 64 bits at a time.
+#[inline(never)]
+fn any_long<F: BitOperator, T: BitStore, O: BitOrder, U: BitStore, P: BitOrder>(
     left: BitSlice<'_, T, O>,
     right: BitSlice<'_, U, P>,
     upto: usize,
@@ -81,6 +101,26 @@ fn any_pair<F: BitOperator, T: BitStore, O: BitOrder, U: BitStore, P: BitOrder>(
     pair_chunk::<F, T, O, U, P>(left, right, blocks * 64, (upto % 64) as u8) != 0
 }
 
+// Of the first `upto` bits that the operator makes of two views, whether one is true. Up to 64 are one number, as in
+// `count_pairs`.
+#[inline(always)]
+fn any_pair<F: BitOperator, T: BitStore, O: BitOrder, U: BitStore, P: BitOrder>(
+    left: BitSlice<'_, T, O>,
+    right: BitSlice<'_, U, P>,
+    upto: usize,
+) -> bool
+    requires quiet { F.made false false ≡ false }
+    requires left { upto ≤ len_of left }
+    requires right { upto ≤ len_of right }
+    ensures { result ≡ list_any (λ b. b)
+        (slice_range (combined F.made (list_of left.entry) (list_of right.entry)) 0 upto) }
+{
+    if upto <= 64 {
+        return pair_chunk::<F, T, O, U, P>(left, right, 0, upto as u8) != 0;
+    }
+    any_long::<F, T, O, U, P>(left, right, upto)
+}
+
 impl<'a, T: BitStore, O: BitOrder> BitSlice<'a, T, O> {
     /// How many indices are true in both views.
     ///
@@ -92,6 +132,20 @@ impl<'a, T: BitStore, O: BitOrder> BitSlice<'a, T, O> {
         ensures few { result ≤ len_of self.entry }
     {
         count_pairs::<And, T, O, U, P>(self, other, self.len.min(other.len))
+    }
+
+    // How many bits are true from index `from` on, without a search where the view ends there.
+    #[inline(always)]
+    fn ones_from(self, from: usize) -> usize
+        requires { from ≤ len_of self }
+        ensures value { result
+            ≡ count_by (λ b. b) (slice_range (list_of self.entry) from (len_of self.entry)) }
+        ensures few { result ≤ len_of self.entry - from }
+    {
+        if from == self.len {
+            return 0;
+        }
+        self.get_range(from..self.len).count_ones()
     }
 
     /// How many indices are true in one of the views or in both. The shorter view counts as filled up
@@ -108,9 +162,7 @@ impl<'a, T: BitStore, O: BitOrder> BitSlice<'a, T, O> {
     {
         let both = self.len.min(other.len);
         let shared = count_pairs::<Or, T, O, U, P>(self, other, both);
-        let left = self.get_range(both..self.len).count_ones();
-        let right = other.get_range(both..other.len).count_ones();
-        shared + left + right
+        shared + self.ones_from(both) + other.ones_from(both)
     }
 
     /// How many indices differ. The shorter view counts as filled up with false.
@@ -126,9 +178,7 @@ impl<'a, T: BitStore, O: BitOrder> BitSlice<'a, T, O> {
     {
         let both = self.len.min(other.len);
         let shared = count_pairs::<Xor, T, O, U, P>(self, other, both);
-        let left = self.get_range(both..self.len).count_ones();
-        let right = other.get_range(both..other.len).count_ones();
-        shared + left + right
+        shared + self.ones_from(both) + other.ones_from(both)
     }
 
     // Whether an index is true that is false in `other` or past its end.
@@ -139,7 +189,7 @@ impl<'a, T: BitStore, O: BitOrder> BitSlice<'a, T, O> {
         if any_pair::<AndNot, T, O, U, P>(self, other, both) {
             return true;
         }
-        self.get_range(both..self.len).any()
+        both < self.len && self.get_range(both..self.len).any()
     }
 
     /// Whether each index that is true is true in `other`. An index past the end of `other` counts as

@@ -1,4 +1,4 @@
-use Rattle.std.proofs.Common.{◌||◌, count_by, ◌∙◌, ap, arith}
+use Rattle.std.proofs.Common.{◌||◌, arith}
 use Rattle.bit_slice.specs.BitSlice.{list_of}
 use Rattle.bit_slice.proofs.Parts.{shown_length}
 use Rattle.bit_slice.proofs.Sets.{counted_both, or_and, or_keeps}
@@ -10,9 +10,7 @@ returns-clause-value g c =
     let u = c.args.other in
     let long = shown_length g.T.BitStore g.O.BitOrder v.words.now v.head v.len v.fits.room in
     let wide = shown_length g.U.BitStore g.P.BitOrder u.words.now u.head u.len u.fits.room in
-    let left = c.count_ones-left.ensures.value ∙ ap (count_by (λ b. b)) c.get_range.ensures.list in
-    let right = c.count_ones-right.ensures.value ∙ ap (count_by (λ b. b)) c.get_range-2.ensures.list in
-    counted_both (λ x y. x || y) (list_of v) (list_of u) v.len u.len _ long wide or_keeps (omega arith) _ _ _ c.count_pairs-shared.ensures.value left right
+    counted_both (λ x y. x || y) (list_of v) (list_of u) v.len u.len _ long wide or_keeps (omega arith) _ _ _ c.count_pairs-shared.ensures.value c.ones_from.ensures.value c.ones_from-2.ensures.value
 
 pub returns-clause-with_and : goal.returns-clause-with_and
 returns-clause-with_and g c =

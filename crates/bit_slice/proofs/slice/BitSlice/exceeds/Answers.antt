@@ -1,9 +1,11 @@
 use Rattle.std.proofs.Common.{◌&&◌, ◌||◌, not, length, slice_range, sym, ◌∙◌, ap, arith}
 use Rattle.std.specs.List.{list_any}
+use Rattle.std.proofs.lemmas.Bool.{le-ltb}
 use Rattle.bit_slice.specs.BitSlice.{list_of}
 use Rattle.bit_slice.proofs.Parts.{shown_length}
 use Rattle.bit_slice.proofs.Ranges.{and_not_keeps}
 use Rattle.bit_slice.proofs.Sets.{any_kept}
+use Rattle.bit_slice.proofs.Shown.{run_none}
 use Rattle.bit_slice.proofs.slice.BitSlice.exceeds.Goals as goal
 
 pub returns-then-any_pair : goal.returns-then-any_pair
@@ -18,8 +20,8 @@ returns-then-any_pair g c =
     let kept = any_kept (λ x y. x && not y) xs ys n and_not_keeps (omega (arith, left, right)) in
     sym (sym kept ∙ ap (λ b. b || list_any (λ b. b) (slice_range xs n (length xs))) (sym c.any_pair.ensures ∙ c.if-any_pair.true))
 
-pub returns : goal.returns
-returns g c =
+pub returns-then-both-self : goal.returns-then-both-self
+returns-then-both-self g c =
     let v = c.args.self in
     let u = c.args.other in
     let xs = list_of v in
@@ -29,4 +31,17 @@ returns g c =
     let n = c.min-both.result in
     let kept = any_kept (λ x y. x && not y) xs ys n and_not_keeps (omega (arith, left, right)) in
     c.any.ensures.value ∙ ap (list_any (λ b. b)) (c.get_range.ensures.list ∙ ap (slice_range xs n) (sym left))
+    ∙ ap (λ b. b || list_any (λ b. b) (slice_range xs n (length xs))) (sym c.if-any_pair.false ∙ c.any_pair.ensures) ∙ kept
+
+pub returns-else-both-self : goal.returns-else-both-self
+returns-else-both-self g c =
+    let v = c.args.self in
+    let u = c.args.other in
+    let xs = list_of v in
+    let ys = list_of u in
+    let left = shown_length g.T.BitStore g.O.BitOrder v.words.now v.head v.len v.fits.room in
+    let right = shown_length g.U.BitStore g.P.BitOrder u.words.now u.head u.len u.fits.room in
+    let n = c.min-both.result in
+    let kept = any_kept (λ x y. x && not y) xs ys n and_not_keeps (omega (arith, left, right)) in
+    le-ltb n v.len c.if-both-self.false ∙ sym (ap (list_any (λ b. b)) (run_none xs n (length xs) (omega (arith, left))))
     ∙ ap (λ b. b || list_any (λ b. b) (slice_range xs n (length xs))) (sym c.if-any_pair.false ∙ c.any_pair.ensures) ∙ kept

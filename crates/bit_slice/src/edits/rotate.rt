@@ -80,6 +80,29 @@ fn rotate_kept<T: BitStore, O: BitOrder>(
     }
 }
 
+// Like `rotate_words`, where one of the two sides has at most 64 bits: they are kept as a number while the other moves.
+fn rotate_chunk<T: BitStore, O: BitOrder>(words: &mut [T], head: usize, len: usize, by: usize)
+    requires room { T.BITS * length words.old ≤ MAX_BITS + 2 * T.BITS }
+    requires within { head + len ≤ T.BITS * length words.old }
+    requires inside { by ≤ len }
+    requires few { min by (len - by) ≤ 64 }
+    ensures bits { let bits = slice_range (row T.BitStore O.BitOrder words.old) head (head + len)
+        in row T.BitStore O.BitOrder words.new
+        ≡ put (row T.BitStore O.BitOrder words.old) head (drop by bits ++ take by bits) }
+    ensures size { length words.new ≡ length words.old }
+{
+    let rest = len - by;
+    if by <= rest {
+        let kept = read_chunk::<T, O>(words, head, by as u8);
+        move_bits::<T, O>(words, head + by, head, rest);
+        write_chunk::<T, O>(words, head + rest, by as u8, kept);
+    } else {
+        let kept = read_chunk::<T, O>(words, head + by, rest as u8);
+        move_bits::<T, O>(words, head, head + rest, by);
+        write_chunk::<T, O>(words, head, rest as u8, kept);
+    }
+}
+
 // Exchanges two slices of one length, one of them shifted: `shifted` gets the bits of `plain` and of the word `next`
 // after it, from index `at` on, and `plain` gets the words of `shifted`. Each word is read and written once.
 #[inline(always)]
@@ -333,8 +356,11 @@ pub fn rotate_words<T: BitStore, O: BitOrder>(words: &mut [T], head: usize, len:
         ≡ put (row T.BitStore O.BitOrder words.old) head (drop by bits ++ take by bits) }
     ensures size { length words.new ≡ length words.old }
 {
-    if by.min(len - by) <= 1024 {
-        rotate_kept::<T, O>(words, head, len, by, &mut [0u64; 16]);
+    let few = by.min(len - by);
+    if few <= 64 {
+        rotate_chunk::<T, O>(words, head, len, by);
+    } else if few <= 2048 {
+        rotate_kept::<T, O>(words, head, len, by, &mut [0u64; 32]);
     } else {
         rotate_long::<T, O>(words, head, len, by);
     }

@@ -134,7 +134,7 @@ impl<'a, T: BitStore, O: BitOrder> BitSlice<'a, T, O> {
         count_pairs::<And, T, O, U, P>(self, other, self.len.min(other.len))
     }
 
-    // How many bits are true from index `from` on, without a search where the view ends there.
+    // How many bits are true from index `from` on: 0, without a call, where the view ends there.
     #[inline(always)]
     fn ones_from(self, from: usize) -> usize
         requires { from ≤ len_of self }

@@ -9,12 +9,8 @@ use bit_rows::exact_words;
 use std::marker::{Model, PhantomData};
 
 mod iter;
-mod moves;
+mod lists;
 mod ops;
-mod parts;
-mod ranges;
-mod search;
-mod sets;
 mod slice;
 mod traits;
 mod views;

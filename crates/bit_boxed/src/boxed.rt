@@ -21,12 +21,8 @@ use std::boxed::BoxedSlice;
 use std::marker::{Model, PhantomData};
 
 mod iter;
-mod moves;
+mod lists;
 mod ops;
-mod parts;
-mod ranges;
-mod search;
-mod sets;
 mod slice;
 mod traits;
 mod views;

@@ -13,8 +13,8 @@ pub use bit_array as array;
 pub use bit_boxed as boxed;
 pub use bit_rows::{And, BitOperator, Or, Xor, combine_bits, equal_words, find_bit};
 pub use bit_slice::{
-    AndNot, BitSlice, BitSliceMut, Chunks, ChunksExact, Counted, CountedMut, Iter, IterOnes,
-    IterZeros, RChunks, Windows, combine_words, run_mut, split_run_mut,
+    AndNot, BitList, BitListMut, BitSlice, BitSliceMut, Chunks, ChunksExact, Counted, CountedMut,
+    Iter, IterOnes, IterZeros, RChunks, Windows, combine_words, run_mut, split_run_mut,
 };
 pub use machine::{Command, Reply, Stop, run};
 pub use vec::{

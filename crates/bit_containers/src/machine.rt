@@ -5,6 +5,7 @@ ghost use Rattle.bit_containers.specs.Machine.{list_after_one, reply_to, list_af
 
 use crate::vec::BitVec;
 use bit_addressing::{BitOrder, BitStore, GrowError};
+use bit_slice::BitListMut;
 
 /// What to do to a list of bits.
 #[derive(Clone, Copy, PartialEq, Eq, Debug)]

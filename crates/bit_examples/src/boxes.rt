@@ -10,7 +10,7 @@ mod writing;
 use crate::common::{check, ok};
 use bit_addressing::{BitOrder, BitStore, Lsb0, Msb0};
 use bit_boxed::{BitBox, IntoIter};
-use bit_slice::BitSlice;
+use bit_slice::{BitList, BitSlice};
 use std::boxed::BoxedSlice;
 use std::process::Abort;
 

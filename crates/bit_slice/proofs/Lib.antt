@@ -27,3 +27,4 @@ pub mod Rules
 pub mod Parting
 pub mod Overwritten
 pub mod RangeInRow
+pub mod Kept

@@ -1,5 +1,5 @@
 -- What was written in a list that stands in words from a head on, told by the row of the words.
-use Rattle.std.proofs.Common.{◌≡◌, ℕ, ◌+◌, ◌*◌, ◌≤◌, Bool, List, length, slice_range, refl, sym, ◌∙◌, ap, arith}
+use Rattle.std.proofs.Common.{◌≡◌, ℕ, ◌+◌, ◌*◌, ◌≤◌, Bool, List, length, slice_range, refl, sym, ◌∙◌, ap, subst, arith}
 use Rattle.std.specs.List.{refill}
 use Rattle.bit_addressing.specs.Bits.{IsWidth}
 use Rattle.bit_addressing.specs.declared.store.BitStore as store
@@ -67,3 +67,11 @@ module _ {X Y : Type 0} (W : store.Ghosts X) (P : order.Ghosts Y) (old new : Lis
         clean = clean_moved W.BITS (record { head = head; row = row W P old; list = shown }) (record { head = head; row = row W P new; list = list_in W P new head len }) s d n (width_positive W.BITS width) inside there refl list is;
         size = size;
       }
+
+module _ {X Y : Type 0} (W : store.Ghosts X) (P : order.Ghosts Y) (old ws : List X) (head len : ℕ) (width : IsWidth W.BITS) (room : head + len ≤ W.BITS * length old) (size : length ws ≡ length old) where
+  -- the same for the words of a slice
+  pub written_in : (start : ℕ) (bits : List Bool) → start + length bits ≤ len → row W P ws ≡ put (row W P old) (head + start) bits → IsWritten W P old ws head len start bits
+  written_in start bits fits seen = subst (λ new. IsWritten W P old new head len start bits) (refilled (length old) old ws size) (written W P old (length old) refl ws head len width room size start bits fits seen)
+
+  pub rewritten_in : (bits : List Bool) → length bits ≡ len → row W P ws ≡ put (row W P old) head bits → IsRewritten W P old ws head len bits
+  rewritten_in bits full seen = subst (λ new. IsRewritten W P old new head len bits) (refilled (length old) old ws size) (rewritten W P old (length old) refl ws head len width room size bits full seen)

@@ -7,6 +7,7 @@ pub mod BitSlice
 pub mod BitSliceMut
 pub mod Iter
 pub mod Lends
+pub mod Lists
 pub mod Counted
 pub mod CountedMut
 pub mod Operators

@@ -1,6 +1,6 @@
 //! Changes of runs of bits in words: they are flipped, reversed, rotated, and combined with another
 //! run of the same words.
-ghost use Rattle.std.specs.Prelude.{◌≡◌, ◌+◌, ◌-◌, ◌*◌, ◌/◌, ◌^◌, ◌<◌, ◌≤◌, ◌++◌, drop, false, length, map, not, replicate, slice_range, take, vec_capacity};
+ghost use Rattle.std.specs.Prelude.{◌≡◌, ◌+◌, ◌-◌, ◌*◌, ◌/◌, ◌^◌, ◌<◌, ◌≤◌, ◌++◌, drop, false, length, map, not, replicate, slice_range, take};
 ghost use Rattle.bit_addressing.specs.declared.length.TheConstants.{MAX_BITS};
 ghost use Rattle.bit_addressing.specs.Row.{put};
 ghost use Rattle.bit_addressing.specs.Typed.{row};
@@ -48,19 +48,6 @@ pub fn flip_words<T: BitStore, O: BitOrder>(words: &mut [T], from: usize, upto: 
         write_chunk::<T, O>(words, at, n, !chunk);
         at += n as usize;
     }
-}
-
-/// Like `flip_words`, in the words of a vector, whose capacity stays.
-pub fn flip_in_vec<T: BitStore, O: BitOrder>(words: &mut Vec<T>, from: usize, upto: usize)
-    requires ordered { from ≤ upto }
-    requires within { upto ≤ T.BITS * length words.old.items }
-    ensures bits { row T.BitStore O.BitOrder words.new.items
-        ≡ put (row T.BitStore O.BitOrder words.old.items) from
-        (map not (slice_range (row T.BitStore O.BitOrder words.old.items) from upto)) }
-    ensures size { length words.new.items ≡ length words.old.items }
-    ensures capacity { vec_capacity words.new ≡ vec_capacity words.old }
-{
-    flip_words::<T, O>(words.as_mut_slice(), from, upto);
 }
 
 // How many bits a combination keeps beside the words at most: 16 words of 64 bits.

@@ -1,5 +1,5 @@
 //! Two views compared, and one combined into the other, whatever their words, orders and heads.
-ghost use Rattle.std.specs.Prelude.{◌≡◌, ◌+◌, ◌*◌, ◌^◌, ◌<◌, ◌≤◌, ◌↔◌, IsTrue, MatchOption, length, slice_range, take, vec_capacity};
+ghost use Rattle.std.specs.Prelude.{◌≡◌, ◌+◌, ◌*◌, ◌^◌, ◌<◌, ◌≤◌, ◌↔◌, IsTrue, MatchOption, length, slice_range, take};
 ghost use Rattle.bit_addressing.specs.Row.{put, IsFirstDifference};
 ghost use Rattle.bit_addressing.specs.Typed.{row};
 ghost use Rattle.bit_addressing.specs.declared.length.TheConstants.{MAX_BITS};
@@ -189,23 +189,4 @@ impl<'a, T: BitStore, O: BitOrder> BitSliceMut<'a, T, O> {
     {
         self.combine::<Xor, U, P>(other);
     }
-}
-
-/// Like `combine_words`, in the words of a vector, whose capacity stays.
-pub fn combine_in_vec<F: BitOperator, T: BitStore, O: BitOrder, U: BitStore, P: BitOrder>(
-    words: &mut Vec<T>,
-    head: usize,
-    len: usize,
-    other: BitSlice<'_, U, P>,
-)
-    requires within { head + len ≤ T.BITS * length words.old.items }
-    requires fits { head + len < 2 ^ 64 }
-    ensures bits { row T.BitStore O.BitOrder words.new.items
-        ≡ put (row T.BitStore O.BitOrder words.old.items) head
-        (combined F.made (slice_range (row T.BitStore O.BitOrder words.old.items) head (head + len))
-        (list_seen other.entry)) }
-    ensures size { length words.new.items ≡ length words.old.items }
-    ensures capacity { vec_capacity words.new ≡ vec_capacity words.old }
-{
-    combine_words::<F, T, O, U, P>(words.as_mut_slice(), head, len, other);
 }

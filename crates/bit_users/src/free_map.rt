@@ -10,7 +10,7 @@ mod fits;
 mod serving;
 
 use bit_addressing::{GrowError, Lsb0};
-use bit_containers::BitVec;
+use bit_containers::{BitList, BitListMut, BitVec};
 pub use serving::{Reply, Request};
 use std::alloc::Global;
 use std::marker::Model;

@@ -15,7 +15,7 @@ mod traits;
 mod transpose;
 
 use bit_addressing::{GrowError, Lsb0};
-use bit_containers::{BitSlice, BitVec};
+use bit_containers::{BitListMut, BitSlice, BitVec};
 pub use iter::{Column, Rows};
 use std::alloc::Global;
 use std::marker::Model;

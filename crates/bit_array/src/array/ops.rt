@@ -2,13 +2,13 @@
 ghost use Rattle.std.specs.Prelude.{◌≡◌, ◌↔◌, IsTrue, not, map};
 ghost use Rattle.bit_addressing.specs.Typed.{row};
 ghost use Rattle.bit_slice.specs.BitSlice.{list_of};
-ghost use Rattle.bit_slice.specs.Operators.{bits_cmp, combined, and_of, or_of, xor_of, AndsEach, OrsEach, XorsEach, CombinesEach, FlipsEach};
+ghost use Rattle.bit_slice.specs.Operators.{bits_cmp, and_of, or_of, xor_of, AndsEach, OrsEach, XorsEach, FlipsEach};
 
 use crate::array::BitArray;
 use crate::sized::{BitViewSized, BitWords};
 use bit_addressing::{BitOrder, BitStore};
-use bit_rows::{And, BitOperator, Or, Xor, flip_bits};
-use bit_slice::{BitSlice, combine_words};
+use bit_rows::flip_bits;
+use bit_slice::{BitListMut, BitSlice};
 use std::cmp::Ordering;
 use std::ops::{BitAnd, BitAndAssign, BitOr, BitOrAssign, BitXor, BitXorAssign, Index, Not};
 
@@ -39,62 +39,6 @@ impl<A: BitWords, O: BitOrder> BitArray<A, O> {
 }
 
 impl<A: BitViewSized, O: BitOrder> BitArray<A, O> {
-    /// Combines each bit, by `F`, with the bit at its index in a view, or with false past the view's end.
-    pub(crate) fn combine<F: BitOperator, U: BitStore, P: BitOrder>(
-        &mut self,
-        other: BitSlice<'_, U, P>,
-    )
-        ensures list { row A.Store.BitStore O.BitOrder (A.words self.new)
-            ≡ combined F.made (row A.Store.BitStore O.BitOrder (A.words self.old)) (list_of other.entry) }
-        ensures index { CombinesEach F.made (row A.Store.BitStore O.BitOrder (A.words self.old))
-            (list_of other.entry) (row A.Store.BitStore O.BitOrder (A.words self.new)) }
-    {
-        let len = self.len();
-        combine_words::<F, A::Store, O, U, P>(self.inner.as_raw_mut_slice(), 0, len, other);
-    }
-
-    /// Clears each bit that is false in a view, and each past the view's end.
-    ///
-    /// ```text
-    /// of 01101001 and 01010101: bits.and_bits(other) leaves 01000001
-    /// ```
-    pub fn and_bits<U: BitStore, P: BitOrder>(&mut self, other: BitSlice<'_, U, P>)
-        ensures list { row A.Store.BitStore O.BitOrder (A.words self.new)
-            ≡ and_of (row A.Store.BitStore O.BitOrder (A.words self.old)) (list_of other.entry) }
-        ensures index { AndsEach (row A.Store.BitStore O.BitOrder (A.words self.old)) (list_of other.entry)
-            (row A.Store.BitStore O.BitOrder (A.words self.new)) }
-    {
-        self.combine::<And, U, P>(other);
-    }
-
-    /// Sets each bit that is true in a view; bits of the view past the length don't count.
-    ///
-    /// ```text
-    /// of 01101001 and 01010101: bits.or_bits(other) leaves 01111101
-    /// ```
-    pub fn or_bits<U: BitStore, P: BitOrder>(&mut self, other: BitSlice<'_, U, P>)
-        ensures list { row A.Store.BitStore O.BitOrder (A.words self.new)
-            ≡ or_of (row A.Store.BitStore O.BitOrder (A.words self.old)) (list_of other.entry) }
-        ensures index { OrsEach (row A.Store.BitStore O.BitOrder (A.words self.old)) (list_of other.entry)
-            (row A.Store.BitStore O.BitOrder (A.words self.new)) }
-    {
-        self.combine::<Or, U, P>(other);
-    }
-
-    /// Flips each bit that is true in a view; bits of the view past the length don't count.
-    ///
-    /// ```text
-    /// of 01101001 and 01010101: bits.xor_bits(other) leaves 00111100
-    /// ```
-    pub fn xor_bits<U: BitStore, P: BitOrder>(&mut self, other: BitSlice<'_, U, P>)
-        ensures list { row A.Store.BitStore O.BitOrder (A.words self.new)
-            ≡ xor_of (row A.Store.BitStore O.BitOrder (A.words self.old)) (list_of other.entry) }
-        ensures index { XorsEach (row A.Store.BitStore O.BitOrder (A.words self.old)) (list_of other.entry)
-            (row A.Store.BitStore O.BitOrder (A.words self.new)) }
-    {
-        self.combine::<Xor, U, P>(other);
-    }
-
     /// Flips every bit.
     ///
     /// ```text

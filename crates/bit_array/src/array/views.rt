@@ -1,5 +1,6 @@
 //! Views of the array, and its words.
 ghost use Rattle.std.specs.Prelude.{◌≡◌, ℕ, ◌+◌, ◌-◌, ◌*◌, ◌/◌, ◌%◌, ◌≤◌, length, slice_range};
+ghost use Rattle.bit_addressing.specs.declared.length.TheConstants.{MAX_BITS};
 ghost use Rattle.bit_addressing.specs.Row.{words_for};
 ghost use Rattle.std.specs.Borrow.{sem};
 ghost use Rattle.bit_addressing.specs.Typed.{row, words_from, words_for_list};
@@ -133,6 +134,7 @@ impl<A: BitViewSized, O: BitOrder> BitArray<A, O> {
             (A.refilled self.old) result) }
         ensures words { result.now ≡ A.words self.old }
         ensures len { length result.now ≡ A.count }
+        ensures few { A.Store.BITS * A.count ≤ MAX_BITS }
     {
         self.inner.as_raw_mut_slice()
     }

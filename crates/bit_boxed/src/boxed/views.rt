@@ -1,6 +1,7 @@
 //! Views of the box, and its words.
 ghost use Rattle.std.specs.Prelude.{◌≡◌, ◌+◌, ◌-◌, ◌*◌, ◌/◌, ◌%◌, ◌≤◌, length, slice_range, take};
 ghost use Rattle.std.specs.Borrow.{sem};
+ghost use Rattle.bit_addressing.specs.declared.length.TheConstants.{MAX_BITS};
 ghost use Rattle.bit_addressing.specs.Row.{words_for};
 ghost use Rattle.bit_addressing.specs.Typed.{row, words_from};
 ghost use Rattle.bit_slice.specs.BitSlice.{words_of, head_of, len_of, list_of};
@@ -116,6 +117,9 @@ impl<T: BitStore, O: BitOrder> BitBox<T, O> {
         ensures value { result.now ≡ self.old.words }
         ensures row { row T.BitStore O.BitOrder result.now ≡ self.old.row }
         ensures fits { self.old.head + length self.old.list ≤ T.BITS * length self.old.words }
+        ensures few { T.BITS * length self.old.words ≤ MAX_BITS + 2 * T.BITS }
+        ensures shows { slice_range (row T.BitStore O.BitOrder self.old.words) self.old.head
+            (self.old.head + length self.old.list) ≡ self.old.list }
     {
         self.words.as_mut_slice()
     }

@@ -9,7 +9,7 @@ ghost use Rattle.bit_containers.specs.Making.{marked};
 use crate::vec::BitVec;
 use crate::vec::boxes::bytes_of;
 use bit_addressing::{BitOrder, BitStore, GrowError};
-use bit_slice::BitSlice;
+use bit_slice::{BitListMut, BitSlice};
 use std::alloc::{AllocError, Global};
 
 impl<T: BitStore, O: BitOrder> BitVec<T, O> {

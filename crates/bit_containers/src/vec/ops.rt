@@ -4,12 +4,12 @@ ghost use Rattle.bit_addressing.specs.Row.{put, sized};
 ghost use Rattle.bit_containers.specs.BitVec.{Stayed, IsClean, RefusesOnly};
 ghost use Rattle.bit_containers.specs.Making.{filled_up, CombinesAll};
 ghost use Rattle.bit_slice.specs.BitSlice.{len_of, list_of};
-ghost use Rattle.bit_slice.specs.Operators.{bits_cmp, combined, and_of, or_of, xor_of, AndsEach, OrsEach, XorsEach, CombinesEach, FlipsEach};
+ghost use Rattle.bit_slice.specs.Operators.{bits_cmp, combined, and_of, or_of, xor_of, AndsEach, OrsEach, XorsEach, FlipsEach};
 
 use crate::vec::BitVec;
 use bit_addressing::{BitOrder, BitStore, GrowError};
-use bit_rows::{And, BitOperator, Or, Xor, flip_bits_in_vec};
-use bit_slice::{BitSlice, combine_in_vec};
+use bit_rows::{And, BitOperator, Or, Xor};
+use bit_slice::{BitListMut, BitSlice};
 use std::cmp::Ordering;
 use std::ops::{BitAnd, BitAndAssign, BitOr, BitOrAssign, BitXor, BitXorAssign, Index, Not};
 
@@ -36,71 +36,6 @@ impl<T: BitStore, O: BitOrder> BitVec<T, O> {
         ensures { result ≡ bits_cmp self.now.list (list_of other.entry) }
     {
         self.as_bitslice().cmp_bits(other)
-    }
-
-    /// Combines each bit, by `F`, with the bit at its index in a view, or with false past the view's end.
-    #[tactic(auto, using(bit_slice::proofs::Parts::shown_length))]
-    pub(crate) fn combine<F: BitOperator, U: BitStore, P: BitOrder>(
-        &mut self,
-        other: BitSlice<'_, U, P>,
-    )
-        ensures list { self.new.list ≡ combined F.made self.old.list (list_of other.entry) }
-        ensures index { CombinesEach F.made self.old.list (list_of other.entry) self.new.list }
-        ensures row { self.new.row
-            ≡ put self.old.row self.old.head (combined F.made self.old.list (list_of other.entry)) }
-        ensures clean { IsClean T.BITS self.old → IsClean T.BITS self.new }
-        ensures stayed { Stayed self.old self.new }
-    {
-        let (head, len) = (self.head, self.len);
-        combine_in_vec::<F, T, O, U, P>(&mut self.words, head, len, other);
-    }
-
-    /// Clears each bit that is false in a view, and each past the view's end. No dead bit changes. Takes no
-    /// memory.
-    ///
-    /// ```text
-    /// of 01101001 and 01010101: bits.and_bits(other) leaves 01000001
-    /// ```
-    pub fn and_bits<U: BitStore, P: BitOrder>(&mut self, other: BitSlice<'_, U, P>)
-        ensures list { self.new.list ≡ and_of self.old.list (list_of other.entry) }
-        ensures index { AndsEach self.old.list (list_of other.entry) self.new.list }
-        ensures row { self.new.row ≡ put self.old.row self.old.head (and_of self.old.list (list_of other.entry)) }
-        ensures clean { IsClean T.BITS self.old → IsClean T.BITS self.new }
-        ensures stayed { Stayed self.old self.new }
-    {
-        self.combine::<And, U, P>(other);
-    }
-
-    /// Sets each bit that is true in a view; bits of the view past the length don't count. No dead bit
-    /// changes. Takes no memory.
-    ///
-    /// ```text
-    /// of 01101001 and 01010101: bits.or_bits(other) leaves 01111101
-    /// ```
-    pub fn or_bits<U: BitStore, P: BitOrder>(&mut self, other: BitSlice<'_, U, P>)
-        ensures list { self.new.list ≡ or_of self.old.list (list_of other.entry) }
-        ensures index { OrsEach self.old.list (list_of other.entry) self.new.list }
-        ensures row { self.new.row ≡ put self.old.row self.old.head (or_of self.old.list (list_of other.entry)) }
-        ensures clean { IsClean T.BITS self.old → IsClean T.BITS self.new }
-        ensures stayed { Stayed self.old self.new }
-    {
-        self.combine::<Or, U, P>(other);
-    }
-
-    /// Flips each bit that is true in a view; bits of the view past the length don't count. No dead bit
-    /// changes. Takes no memory.
-    ///
-    /// ```text
-    /// of 01101001 and 01010101: bits.xor_bits(other) leaves 00111100
-    /// ```
-    pub fn xor_bits<U: BitStore, P: BitOrder>(&mut self, other: BitSlice<'_, U, P>)
-        ensures list { self.new.list ≡ xor_of self.old.list (list_of other.entry) }
-        ensures index { XorsEach self.old.list (list_of other.entry) self.new.list }
-        ensures row { self.new.row ≡ put self.old.row self.old.head (xor_of self.old.list (list_of other.entry)) }
-        ensures clean { IsClean T.BITS self.old → IsClean T.BITS self.new }
-        ensures stayed { Stayed self.old self.new }
-    {
-        self.combine::<Xor, U, P>(other);
     }
 
     // Appends false until there are `n` bits.
@@ -204,21 +139,6 @@ impl<T: BitStore, O: BitOrder> BitVec<T, O> {
             → IsOk result × (self.new.capacity ≡ self.old.capacity) }
     {
         self.combine_growing::<Xor, U, P>(other)
-    }
-
-    /// Flips the whole row: the bits of the list, and the dead ones too. Takes no memory.
-    ///
-    /// ```text
-    /// of 01101001: bits.flip_all() leaves 10010110
-    /// ```
-    #[tactic(auto, using(bit_slice::proofs::Parts::shown_length, bit_addressing::proofs::lists::Shown::shows_map, bit_slice::proofs::Rules::item_of_not))]
-    pub fn flip_all(&mut self)
-        ensures list { self.new.list ≡ map not self.old.list }
-        ensures index { FlipsEach self.old.list self.new.list }
-        ensures row { self.new.row ≡ map not self.old.row }
-        ensures stayed { Stayed self.old self.new }
-    {
-        flip_bits_in_vec::<T, O>(&mut self.words);
     }
 }
 

@@ -11,7 +11,7 @@ ghost use Rattle.bit_containers.specs.BitVec.{IsClean, IsKept, RefusesOnly, Shra
 use crate::vec::collect::shifted_down;
 use crate::vec::{BitVec, Items};
 use bit_addressing::{BitOrder, BitStore, GrowError, Lsb0, MAX_BITS, RangeExt};
-use bit_slice::BitSlice;
+use bit_slice::{BitListMut, BitSlice};
 use std::alloc::{AllocError, Global};
 
 /// The bits of a range of a vector, from both ends, and what is to replace them.

@@ -1,6 +1,7 @@
 //! The views of the vector, and its words.
 ghost use Rattle.std.specs.Prelude.{◌≡◌, ◌+◌, ◌-◌, ◌*◌, ◌/◌, ◌%◌, ◌≤◌, length, slice_range};
 ghost use Rattle.std.specs.Borrow.{sem};
+ghost use Rattle.bit_addressing.specs.declared.length.TheConstants.{MAX_BITS};
 ghost use Rattle.bit_addressing.specs.Range.{LiesIn};
 ghost use Rattle.bit_addressing.specs.Row.{words_for};
 ghost use Rattle.bit_addressing.specs.Typed.{row, words_from, words_for_list};
@@ -154,6 +155,9 @@ impl<T: BitStore, O: BitOrder> BitVec<T, O> {
         ensures value { result.now ≡ self.old.words }
         ensures row { row T.BitStore O.BitOrder result.now ≡ self.old.row }
         ensures fits { self.old.head + length self.old.list ≤ T.BITS * length self.old.words }
+        ensures few { T.BITS * length self.old.words ≤ MAX_BITS + 2 * T.BITS }
+        ensures shows { slice_range (row T.BitStore O.BitOrder self.old.words) self.old.head
+            (self.old.head + length self.old.list) ≡ self.old.list }
         ensures exact { length result.now ≡ words_for T.BITS (self.old.head + length self.old.list) }
     {
         self.words.as_mut_slice()

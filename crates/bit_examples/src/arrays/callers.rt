@@ -7,7 +7,7 @@ ghost use Rattle.bit_slice.specs.Operators.{and_of};
 
 use bit_addressing::{BitOrder, BitStore, Lsb0, Msb0};
 use bit_array::{BitArray, BitViewSized, TryFromBitSliceError};
-use bit_slice::BitSlice;
+use bit_slice::{BitList, BitListMut, BitSlice};
 
 #[tactic(auto, unfolding(bit_addressing::specs::Row::row_of))]
 pub fn first_and_last() -> (Option<bool>, Option<bool>)

@@ -3,6 +3,7 @@ use crate::common::check;
 use crate::rows::orders::Xor4;
 use bit_addressing::{Lsb0, Msb0};
 use bit_array::BitArray;
+use bit_slice::BitListMut;
 
 const LEFT: [u8; 2] = [0xb1, 0x6d];
 

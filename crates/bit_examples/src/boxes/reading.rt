@@ -4,7 +4,7 @@ ghost use Rattle.std.specs.Prelude.{◌≡◌, length};
 use crate::common::{check, ok};
 use bit_addressing::{Lsb0, Msb0};
 use bit_boxed::BitBox;
-use bit_slice::BitSlice;
+use bit_slice::{BitList, BitSlice};
 use std::process::Abort;
 
 /// A box of ten bits at head 3, of which bits 1, 2 and 4 are set.

@@ -2,7 +2,7 @@
 use crate::boxes::{headed, shows};
 use crate::common::check;
 use bit_addressing::{Lsb0, Msb0};
-use bit_slice::BitSlice;
+use bit_slice::{BitList, BitListMut, BitSlice};
 use std::cmp::Ordering;
 
 #[test]

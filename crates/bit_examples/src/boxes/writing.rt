@@ -1,7 +1,7 @@
 //! The writing calls of a view that the box has itself: at a head, and dead bits stay.
 use crate::boxes::{headed, shows};
 use bit_addressing::Lsb0;
-use bit_slice::BitSlice;
+use bit_slice::{BitListMut, BitSlice};
 
 #[test]
 fn parts_filled_and_flipped(rt: HostRuntime) {

@@ -11,7 +11,7 @@ ghost use Rattle.bit_ranks.specs.declared.sorted.errors.SortedError.TheVariants 
 use crate::ranks::Ranks;
 use crate::sorted::SortedNumbers;
 use crate::sorted::errors::SortedError;
-use bit_containers::{BitVec, GrowError, Lsb0, MAX_BITS};
+use bit_containers::{BitListMut, BitVec, GrowError, Lsb0, MAX_BITS};
 use std::alloc::Global;
 
 impl SortedNumbers {

@@ -2,7 +2,7 @@
 ghost use Rattle.std.specs.Prelude.{◌≡◌, ◌↔◌, ◌*◌, IsTrue, IsSome, true, false, [], ◌∷◌, length, if◌then◌else◌};
 
 use bit_containers::array::{BitArray, BitViewSized, BitWords};
-use bit_containers::{BitOrder, BitStore, BitVec, Lsb0, Msb0, equal_words};
+use bit_containers::{BitListMut, BitOrder, BitStore, BitVec, Lsb0, Msb0, equal_words};
 
 /// Two bits set in two bytes.
 pub fn two_flags() -> [u8; 2]

@@ -2,7 +2,7 @@
 ghost use Rattle.std.specs.Prelude.{◌≡◌, ◌+◌, ◌-◌, ◌*◌, ◌<◌, ◌≤◌, ◌↔◌, Some, Ok, Err, true, false, [], ◌∷◌, ◌++◌, length, set, insert, swap, slice_get, slice_range, OnOk, OnErr, IfOk, not};
 ghost use Rattle.bit_addressing.specs.declared.length.TheConstants.{MAX_BITS};
 
-use bit_containers::{BitOrder, BitStore, BitVec, GrowError, Lsb0, Msb0};
+use bit_containers::{BitList, BitListMut, BitOrder, BitStore, BitVec, GrowError, Lsb0, Msb0};
 use bit_rows::write_bit;
 use std::alloc::{AllocError, Global};
 

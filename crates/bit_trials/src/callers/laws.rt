@@ -10,7 +10,7 @@ use bit_containers::array::{BitArray, BitViewSized};
 use bit_containers::boxed::BitBox;
 use bit_containers::vec::IntoIter;
 use bit_containers::{
-    BitOrder, BitStore, BitVec, Command, GrowError, IntoBitVec, Meter, Reply, Stop, run,
+    BitListMut, BitOrder, BitStore, BitVec, Command, GrowError, IntoBitVec, Meter, Reply, Stop, run,
 };
 use std::alloc::{AllocError, Global};
 use std::boxed::BoxedSlice;

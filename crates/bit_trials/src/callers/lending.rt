@@ -2,7 +2,7 @@
 ghost use Rattle.std.specs.Prelude.{◌≡◌, ◌<◌, length};
 
 use bit_boxed::{BitBox, IntoIter};
-use bit_containers::{BitOrder, BitStore};
+use bit_containers::{BitListMut, BitOrder, BitStore};
 
 /// Whatever is written through the view of a box, its head and its lengths stay.
 pub fn through_the_box<T: BitStore, O: BitOrder>(b: &mut BitBox<T, O>)

@@ -9,7 +9,7 @@ ghost use Rattle.bit_slice.specs.Pieces.{chunk_count, chunks_of};
 use bit_addressing::{BitOrder, BitStore, Msb0};
 use bit_array::BitArray;
 use bit_boxed::BitBox;
-use bit_containers::BitVec;
+use bit_containers::{BitList, BitListMut, BitVec};
 use bit_slice::BitSlice;
 use std::alloc::{AllocError, Global};
 

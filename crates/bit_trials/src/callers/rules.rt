@@ -4,7 +4,7 @@
 ghost use Rattle.std.specs.Prelude.{◌≡◌, ◌↔◌, ◌+◌, ◌*◌, ◌<◌, ◌≤◌, IsTrue, IfOk, Some, true, false, not, map, length, replicate, count_by, slice_get};
 ghost use Rattle.bit_slice.specs.Operators.{and_of, or_of};
 
-use bit_containers::{BitOrder, BitSlice, BitStore, BitVec, Lsb0};
+use bit_containers::{BitList, BitListMut, BitOrder, BitSlice, BitStore, BitVec, Lsb0};
 
 /// Vectors are equal exactly where their lists are.
 pub fn same_bits<T: BitStore, O: BitOrder>(a: &BitVec<T, O>, b: &BitVec<T, O>) -> bool

@@ -5,7 +5,7 @@ ghost use Rattle.bit_addressing.specs.Typed.{row};
 ghost use Rattle.bit_addressing.specs.declared.length.TheConstants.{MAX_BITS};
 
 use bit_addressing::move_bits;
-use bit_containers::{BitOrder, BitStore, BitVec, GrowError, Lsb0, Msb0};
+use bit_containers::{BitListMut, BitOrder, BitStore, BitVec, GrowError, Lsb0, Msb0};
 use bit_rows::{flip_bits, write_bit};
 use std::alloc::{AllocError, Global};
 

@@ -4,7 +4,7 @@ ghost use Rattle.bit_slice.specs.BitSlice.{len_of, list_of};
 
 use bit_containers::array::BitArray;
 use bit_containers::boxed::BitBox;
-use bit_containers::{BitOrder, BitStore, BitVec, Lsb0};
+use bit_containers::{BitListMut, BitOrder, BitStore, BitVec, Lsb0};
 use bit_slice::BitSlice;
 
 /// The last three bits are cleared.

@@ -1,6 +1,6 @@
 //! Moves inside a vector.
 use crate::common::{of_words, shows};
-use bit_containers::Lsb0;
+use bit_containers::{BitListMut, Lsb0};
 
 #[test]
 fn copying_and_aligning(rt: HostRuntime) {

@@ -1,6 +1,6 @@
 //! Searches, sets and parts.
 use crate::common::{check, of};
-use bit_containers::{BitSlice, Lsb0, Msb0};
+use bit_containers::{BitList, BitSlice, Lsb0, Msb0};
 
 #[test]
 fn searched(rt: HostRuntime) {

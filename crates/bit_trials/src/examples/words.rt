@@ -1,6 +1,6 @@
 //! The words of a vector.
 use crate::common::{check, holds, of_words, ok, shows};
-use bit_containers::{BitVec, Lsb0, MAX_BITS, Msb0};
+use bit_containers::{BitList, BitVec, Lsb0, MAX_BITS, Msb0};
 
 #[test]
 fn words_are_kept(rt: HostRuntime) {

@@ -1,6 +1,6 @@
 //! The writing calls of a view that the vector has itself.
 use crate::common::{holds, of};
-use bit_containers::{BitVec, Lsb0};
+use bit_containers::{BitListMut, BitVec, Lsb0};
 use bit_slice::BitSlice;
 
 #[test]

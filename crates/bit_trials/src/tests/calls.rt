@@ -1,6 +1,6 @@
 //! Calls that the examples leave out, once each.
 use crate::common::{check, holds, of, ok, shows};
-use bit_containers::{BitOrder, BitSlice, BitStore, BitVec, Lsb0, Msb0};
+use bit_containers::{BitList, BitListMut, BitOrder, BitSlice, BitStore, BitVec, Lsb0, Msb0};
 use std::process::Abort;
 
 /// That a vector of these bits begins at head 0 and has these words.

@@ -6,7 +6,7 @@ ghost use Rattle.std.specs.Prelude.{◌≡◌, length, IfSome};
 use crate::common::{check, holds};
 use bit_containers::array::BitArray;
 use bit_containers::{
-    BitOrder, BitSlice, BitStore, BitVec, Command, GrowError, IntoBitVec, Lsb0, Msb0,
+    BitList, BitOrder, BitSlice, BitStore, BitVec, Command, GrowError, IntoBitVec, Lsb0, Msb0,
     ParseBitsError, Reply, ToBits, run,
 };
 use std::alloc::AllocError;

@@ -4,6 +4,7 @@ ghost use Rattle.bit_addressing.specs.Row.{put};
 ghost use Rattle.bit_users.specs.FreeMap.{AreFree, IsBestBelow, IsBestFit, IsFirstAligned};
 
 use crate::free_map::FreeMap;
+use bit_containers::BitList;
 
 impl FreeMap {
     /// Like `take_run`, but the first frame is a multiple of `align`. Requires that `count` and `align` are at least 1.

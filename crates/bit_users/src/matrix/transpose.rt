@@ -7,7 +7,7 @@ ghost use Rattle.bit_users.specs.Squares.{square_bit};
 use crate::matrix::Matrix;
 use crate::matrix::squares::turn;
 use bit_addressing::Lsb0;
-use bit_containers::BitSlice;
+use bit_containers::{BitListMut, BitSlice};
 use std::alloc::{AllocError, Global};
 
 impl Matrix {

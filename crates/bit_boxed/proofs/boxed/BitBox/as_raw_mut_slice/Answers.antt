@@ -21,5 +21,7 @@ returns g c =
         value = c.as_mut_slice.ensures.value ∙ ap (λ v. v.words) c.self.view_is;
         row = ap (row g.T.BitStore g.O.BitOrder) c.as_mut_slice.ensures.value ∙ ap (λ v. v.row) c.self.view_is;
         fits = rw (← c.self.view_is, c.self.invariant.shows) c.self.invariant.fits;
+        few = rw (← c.self.view_is) c.self.invariant.few;
+        shows = rw (← c.self.view_is, c.self.invariant.shows) refl;
       },
     )

@@ -1,0 +1,54 @@
+//! The box as a list of bits.
+ghost use Rattle.std.specs.Prelude.{length, refl};
+ghost use Rattle.bit_boxed.specs.Lends.{with_words};
+ghost use Rattle.bit_slice.proofs.Kept.{kept_words, kept_row, kept_list, kept_len, kept_count};
+
+use crate::boxed::BitBox;
+use bit_addressing::{BitOrder, BitStore};
+use bit_slice::{BitList, BitListMut, BitSlice};
+
+impl<T: BitStore, O: BitOrder> BitList for BitBox<T, O> {
+    type Store = T;
+
+    type Order = O;
+
+    ghost head = { λ b. b.head };
+
+    ghost len = { λ b. length b.list };
+
+    ghost list = { λ b. b.list };
+
+    fn as_bitslice(&self) -> BitSlice<'_, T, O> {
+        BitBox::as_bitslice(self)
+    }
+}
+
+impl<T: BitStore, O: BitOrder> BitListMut for BitBox<T, O> {
+    ghost words = { λ b. b.words };
+
+    ghost count = { λ b. length b.words };
+
+    ghost bits = { λ b. b.row };
+
+    ghost capacity = { λ b. length b.list };
+
+    ghost rewritten = { λ b ws. with_words T.BitStore O.BitOrder b ws };
+
+    fn as_raw_mut_slice(&mut self) -> &mut [T] {
+        BitBox::as_raw_mut_slice(self)
+    }
+
+    ghost words_rewritten = { λ b ws e. kept_words T.value O.place T.BITS b.words b.head b.list ws e };
+
+    ghost bits_rewritten = { λ b ws e. kept_row T.value O.place T.BITS b.words b.head b.list ws e };
+
+    ghost list_rewritten = { λ b ws e f. kept_list T.value O.place T.BITS b.words b.head b.list ws e f };
+
+    ghost head_rewritten = { λ b ws. refl };
+
+    ghost len_rewritten = { λ b ws. kept_len T.value O.place T.BITS b.words b.head b.list ws };
+
+    ghost count_rewritten = { λ b ws. kept_count T.value O.place T.BITS b.words b.head b.list ws };
+
+    ghost capacity_rewritten = { λ b ws. kept_len T.value O.place T.BITS b.words b.head b.list ws };
+}

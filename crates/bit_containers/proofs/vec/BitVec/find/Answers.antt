@@ -1,7 +1,0 @@
-use Rattle.bit_containers.proofs.vec.BitVec.find.Goals as goal
-
-pub returns-clause-before : goal.returns-clause-before
-returns-clause-before g c = rw (← c.as_bitslice.ensures.list) c.find.ensures.before
-
-pub returns-clause-none : goal.returns-clause-none
-returns-clause-none g c = rw (← c.as_bitslice.ensures.len, ← c.as_bitslice.ensures.list) c.find.ensures.none

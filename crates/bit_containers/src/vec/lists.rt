@@ -1,0 +1,54 @@
+//! The vector as a list of bits.
+ghost use Rattle.std.specs.Prelude.{length, refl};
+ghost use Rattle.bit_containers.specs.Lends.{with_words};
+ghost use Rattle.bit_slice.proofs.Kept.{kept_words, kept_row, kept_list, kept_len, kept_count};
+
+use crate::vec::BitVec;
+use bit_addressing::{BitOrder, BitStore};
+use bit_slice::{BitList, BitListMut, BitSlice};
+
+impl<T: BitStore, O: BitOrder> BitList for BitVec<T, O> {
+    type Store = T;
+
+    type Order = O;
+
+    ghost head = { λ v. v.head };
+
+    ghost len = { λ v. length v.list };
+
+    ghost list = { λ v. v.list };
+
+    fn as_bitslice(&self) -> BitSlice<'_, T, O> {
+        BitVec::as_bitslice(self)
+    }
+}
+
+impl<T: BitStore, O: BitOrder> BitListMut for BitVec<T, O> {
+    ghost words = { λ v. v.words };
+
+    ghost count = { λ v. length v.words };
+
+    ghost bits = { λ v. v.row };
+
+    ghost capacity = { λ v. v.capacity };
+
+    ghost rewritten = { λ v ws. with_words T.BitStore O.BitOrder v ws };
+
+    fn as_raw_mut_slice(&mut self) -> &mut [T] {
+        BitVec::as_raw_mut_slice(self)
+    }
+
+    ghost words_rewritten = { λ v ws e. kept_words T.value O.place T.BITS v.words v.head v.list ws e };
+
+    ghost bits_rewritten = { λ v ws e. kept_row T.value O.place T.BITS v.words v.head v.list ws e };
+
+    ghost list_rewritten = { λ v ws e f. kept_list T.value O.place T.BITS v.words v.head v.list ws e f };
+
+    ghost head_rewritten = { λ v ws. refl };
+
+    ghost len_rewritten = { λ v ws. kept_len T.value O.place T.BITS v.words v.head v.list ws };
+
+    ghost count_rewritten = { λ v ws. kept_count T.value O.place T.BITS v.words v.head v.list ws };
+
+    ghost capacity_rewritten = { λ v ws. refl };
+}

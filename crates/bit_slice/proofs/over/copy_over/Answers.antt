@@ -1,0 +1,24 @@
+use Rattle.std.proofs.Common.{◌+◌, length, slice_range, sym, ◌∙◌, ap, rules}
+use Rattle.bit_addressing.specs.Row.{put}
+use Rattle.bit_addressing.specs.Typed.{row}
+use Rattle.bit_slice.specs.BitSlice.{list_of}
+use Rattle.bit_slice.proofs.Overwritten.{rewritten_in}
+use Rattle.bit_slice.proofs.Parts.{shown_length}
+use Rattle.bit_slice.proofs.over.copy_over.Goals as goal
+
+pub returns : goal.returns
+returns g c =
+    let old = c.args.words.now in
+    let head = c.args.head in
+    let len = c.args.len in
+    let W = g.T.BitStore in
+    let P = g.O.BitOrder in
+    let bits = row W P old in
+    let v = c.args.source in
+    let seen = row g.U.BitStore g.P.BitOrder in
+    let size = shown_length g.U.BitStore g.P.BitOrder v.words.now v.head v.len v.fits.room in
+    rewritten_in W P old c.copy_bits.new.words head len g.met.T.BitStore.width c.requires.within c.copy_bits.ensures.size (list_of v) (size ∙ c.requires.same_len)
+    (c.copy_bits.ensures.bits
+    ∙ ap (λ ws. put bits head (slice_range (seen ws) c.head-from.result (c.head-from.result + len))) c.as_raw_slice.ensures.words
+    ∙ ap (λ h. put bits head (slice_range (seen v.words.now) h (h + len))) c.head-from.ensures.value
+    ∙ ap (λ l. put bits head (slice_range (seen v.words.now) v.head (v.head + l))) (sym c.requires.same_len))

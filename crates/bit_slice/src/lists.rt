@@ -1,0 +1,779 @@
+//! The calls that read, once for views, arrays, boxes and vectors.
+ghost use Rattle.std.specs.Iterator.{YieldsFirst, YieldsFirstBy, YieldsLast, YieldsLastBy};
+ghost use Rattle.std.specs.Iterator.Runs.{EveryRun, ItemsMapTo, ItemsMapToReversed, YieldsInOrder, YieldsInReverse};
+ghost use Rattle.std.specs.List.{list_any, list_all, position, prefix_len, suffix_len, All};
+ghost use Rattle.std.specs.Prelude.{◌≡◌, ◌≢◌, ℕ, ◌+◌, ◌-◌, ◌*◌, ◌/◌, ◌%◌, ◌^◌, ◌<◌, ◌≤◌, ◌&&◌, ◌↔◌, ◌++◌, ◌∷◌, [], Bool, List, IsNone, IsTrue, IfNone, IfSome, EachIndex, SomeIndex, Some, count_by, drop, false, length, not, slice_get, slice_range, take, true};
+ghost use Rattle.bit_addressing.specs.declared.length.TheConstants.{MAX_BITS};
+ghost use Rattle.bit_addressing.specs.Binary.{value};
+ghost use Rattle.bit_addressing.specs.Range.{LiesIn};
+ghost use Rattle.bit_addressing.specs.Row.{binary, number_bits, number_of};
+ghost use Rattle.bit_slice.specs.BitSlice.{head_of, len_of, list_of};
+ghost use Rattle.bit_slice.specs.Indices.{ones_left, zeros_left};
+ghost use Rattle.bit_slice.specs.Operators.{and_of, or_of, xor_of, and_not_of};
+ghost use Rattle.bit_slice.specs.Pieces.{part, chunk_count, chunks_of, exact_chunks_of, back_chunks_of, windows_of};
+ghost use Rattle.bit_slice.specs.PiecesLeft.{chunks_left, exact_chunks_left, back_chunks_left, windows_left};
+ghost use Rattle.bit_slice.specs.Places.{ones_of, zeros_of};
+
+use crate::slice::BitSlice;
+use crate::slice::chunks::{Chunks, ChunksExact, RChunks, Windows};
+use crate::slice::indices::{IterOnes, IterZeros};
+use crate::slice_mut::BitSliceMut;
+use bit_addressing::{BitOrder, BitStore, RangeExt};
+
+/// What shows a list of bits.
+pub trait BitList {
+    type Store: BitStore;
+
+    type Order: BitOrder;
+
+    // The index, in its first word, at which the list begins.
+    ghost head: { Self → ℕ };
+
+    // How many bits the list has.
+    ghost len: { Self → ℕ };
+
+    // The bits, the first first.
+    ghost list: { Self → List Bool };
+
+    /// The view of the bits, for reading.
+    fn as_bitslice(&self) -> BitSlice<'_, Self::Store, Self::Order>
+        ensures head { head_of result ≡ head self.now }
+        ensures len { len_of result ≡ len self.now }
+        ensures list { list_of result ≡ list self.now }
+        ensures size { len self.now ≡ length (list self.now) };
+
+    /// The index, in the first word, at which the list begins.
+    ///
+    /// ```text
+    /// of 01101001: bits.head() == 0
+    /// ```
+    final fn head(&self) -> usize
+        ensures value { result ≡ head self.now }
+        ensures in_word { result < Self.Store.BITS }
+    {
+        self.as_bitslice().head()
+    }
+
+    /// How many bits there are.
+    ///
+    /// ```text
+    /// of 01101001: bits.len() == 8
+    /// ```
+    final fn len(&self) -> usize
+        ensures value { result ≡ len self.now }
+        ensures list { result ≡ length (list self.now) }
+        ensures few { result ≤ MAX_BITS }
+    {
+        self.as_bitslice().len()
+    }
+
+    /// Whether there is no bit.
+    ///
+    /// ```text
+    /// of 01101001: bits.is_empty() == false
+    /// ```
+    final fn is_empty(&self) -> bool
+        ensures { IsTrue result ↔ (len self.now ≡ 0) }
+    {
+        self.as_bitslice().is_empty()
+    }
+
+    /// The bit at `i`. None exactly where `i` is the length or more.
+    ///
+    /// ```text
+    /// of 01101001: bits.get(1) == Some(true)
+    /// ```
+    final fn get(&self, i: usize) -> Option<bool>
+        ensures { result ≡ slice_get (list self.now) i }
+    {
+        self.as_bitslice().get(i)
+    }
+
+    /// The view of the bits at a range of indices, for reading. Requires that the range lies in the length.
+    ///
+    /// ```text
+    /// of 01101001: bits.get_range(1..5) shows 1101
+    /// ```
+    final fn get_range<R: RangeExt>(&self, range: R) -> BitSlice<'_, Self::Store, Self::Order>
+        requires lies { LiesIn (R.start_of range) (R.end_of range (len self.now)) (len self.now) }
+        ensures list { list_of result
+            ≡ slice_range (list self.now) (R.start_of range) (R.end_of range (len self.now)) }
+        ensures head { head_of result ≡ (head self.now + R.start_of range) % Self.Store.BITS }
+        ensures len { len_of result ≡ R.end_of range (len self.now) - R.start_of range }
+    {
+        self.as_bitslice().get_range(range)
+    }
+
+    /// The first bit. None exactly where the list is empty.
+    ///
+    /// ```text
+    /// of 01101001: bits.first() == Some(false)
+    /// ```
+    final fn first(&self) -> Option<bool>
+        ensures { result ≡ slice_get (list self.now) 0 }
+    {
+        self.as_bitslice().first()
+    }
+
+    /// The last bit. None exactly where the list is empty.
+    ///
+    /// ```text
+    /// of 01101001: bits.last() == Some(true)
+    /// ```
+    final fn last(&self) -> Option<bool>
+        ensures { result ≡ slice_get (list self.now) (len self.now - 1) }
+    {
+        self.as_bitslice().last()
+    }
+
+    /// How many bits are true.
+    ///
+    /// ```text
+    /// of 01101001: bits.count_ones() == 4
+    /// ```
+    final fn count_ones(&self) -> usize
+        ensures value { result ≡ count_by (λ bit. bit) (list self.now) }
+        ensures few { result ≤ len self.now }
+    {
+        self.as_bitslice().count_ones()
+    }
+
+    /// How many bits are false.
+    ///
+    /// ```text
+    /// of 01101001: bits.count_zeros() == 4
+    /// ```
+    final fn count_zeros(&self) -> usize
+        ensures value { result ≡ count_by not (list self.now) }
+        ensures with_ones { result + count_by (λ bit. bit) (list self.now) ≡ len self.now }
+        ensures few { result ≤ len self.now }
+    {
+        self.as_bitslice().count_zeros()
+    }
+
+    /// Whether some bit is true. Of an empty box it is false.
+    ///
+    /// ```text
+    /// of 01101001: bits.any() == true
+    /// ```
+    final fn any(&self) -> bool
+        ensures value { result ≡ list_any (λ bit. bit) (list self.now) }
+        ensures index { IsTrue result ↔ SomeIndex (list self.now) (λ i. slice_get (list self.now) i ≡ Some true) }
+    {
+        self.as_bitslice().any()
+    }
+
+    /// Whether every bit is true. Of an empty box it is true.
+    ///
+    /// ```text
+    /// of 01101001: bits.all() == false
+    /// ```
+    final fn all(&self) -> bool
+        ensures value { result ≡ list_all (λ bit. bit) (list self.now) }
+        ensures index { IsTrue result ↔ EachIndex (list self.now) (λ i. slice_get (list self.now) i ≡ Some true) }
+    {
+        self.as_bitslice().all()
+    }
+
+    /// Whether each index that is true is true in `other`. An index past the end of `other` counts as false
+    /// there.
+    ///
+    /// ```text
+    /// of 01101001 and 01101111: bits.is_subset(other) == true
+    /// ```
+    final fn is_subset<U: BitStore, P: BitOrder>(&self, other: BitSlice<'_, U, P>) -> bool
+        ensures value { result ≡ not (list_any (λ b. b) (and_not_of (list self.now) (list_of other.entry))) }
+        ensures index { IsTrue result
+            ↔ ((j : ℕ) → slice_get (list self.now) j ≡ Some true
+            → slice_get (list_of other.entry) j ≡ Some true) }
+        ensures and { IsTrue result ↔ (and_of (list self.now) (list_of other.entry) ≡ (list self.now)) }
+    {
+        self.as_bitslice().is_subset(other)
+    }
+
+    /// Whether each index that is true in `other` is true.
+    ///
+    /// ```text
+    /// of 01101001 and 01000001: bits.is_superset(other) == true
+    /// ```
+    final fn is_superset<U: BitStore, P: BitOrder>(&self, other: BitSlice<'_, U, P>) -> bool
+        ensures value { result ≡ not (list_any (λ b. b) (and_not_of (list_of other.entry) (list self.now))) }
+        ensures index { IsTrue result
+            ↔ ((j : ℕ) → slice_get (list_of other.entry) j ≡ Some true
+            → slice_get (list self.now) j ≡ Some true) }
+        ensures and { IsTrue result ↔ (and_of (list_of other.entry) (list self.now) ≡ list_of other.entry) }
+    {
+        self.as_bitslice().is_superset(other)
+    }
+
+    /// Whether no index is true both here and in `other`.
+    ///
+    /// ```text
+    /// of 01101001 and 10010110: bits.is_disjoint(other) == true
+    /// ```
+    final fn is_disjoint<U: BitStore, P: BitOrder>(&self, other: BitSlice<'_, U, P>) -> bool
+        ensures value { result ≡ not (list_any (λ b. b) (and_of (list self.now) (list_of other.entry))) }
+        ensures index { IsTrue result
+            ↔ ((j : ℕ) → slice_get (list self.now) j ≡ Some true
+            → slice_get (list_of other.entry) j ≢ Some true) }
+    {
+        self.as_bitslice().is_disjoint(other)
+    }
+
+    /// Whether an index is true both here and in `other`.
+    ///
+    /// ```text
+    /// of 01101001 and 11110000: bits.intersects(other) == true
+    /// ```
+    final fn intersects<U: BitStore, P: BitOrder>(&self, other: BitSlice<'_, U, P>) -> bool
+        ensures value { result ≡ list_any (λ b. b) (and_of (list self.now) (list_of other.entry)) }
+        ensures index { IsTrue result
+            ↔ SomeIndex (list self.now) (λ j. (slice_get (list self.now) j ≡ Some true)
+            × (slice_get (list_of other.entry) j ≡ Some true)) }
+    {
+        self.as_bitslice().intersects(other)
+    }
+
+    /// How many indices are true both here and in `other`.
+    ///
+    /// ```text
+    /// of 01101001 and 11110000: bits.count_and(other) == 2
+    /// ```
+    final fn count_and<U: BitStore, P: BitOrder>(&self, other: BitSlice<'_, U, P>) -> usize
+        ensures value { result ≡ count_by (λ b. b) (and_of (list self.now) (list_of other.entry)) }
+        ensures few { result ≤ len self.now }
+    {
+        self.as_bitslice().count_and(other)
+    }
+
+    /// How many indices are true here or in `other`. The shorter list counts as filled up with false.
+    ///
+    /// ```text
+    /// of 01101001 and 11110000: bits.count_or(other) == 6
+    /// ```
+    final fn count_or<U: BitStore, P: BitOrder>(&self, other: BitSlice<'_, U, P>) -> usize
+        ensures value { result
+            ≡ count_by (λ b. b) (or_of (list self.now) (list_of other.entry))
+            + count_by (λ b. b) (drop (len self.now) (list_of other.entry)) }
+        ensures with_and { result + count_by (λ b. b) (and_of (list self.now) (list_of other.entry))
+            ≡ count_by (λ b. b) (list self.now) + count_by (λ b. b) (list_of other.entry) }
+    {
+        self.as_bitslice().count_or(other)
+    }
+
+    /// How many indices differ from those of `other`. The shorter list counts as filled up with false.
+    ///
+    /// ```text
+    /// of 01101001 and 11110000: bits.count_xor(other) == 4
+    /// ```
+    final fn count_xor<U: BitStore, P: BitOrder>(&self, other: BitSlice<'_, U, P>) -> usize
+        ensures value { result
+            ≡ count_by (λ b. b) (xor_of (list self.now) (list_of other.entry))
+            + count_by (λ b. b) (drop (len self.now) (list_of other.entry)) }
+        ensures with_and { result + 2 * count_by (λ b. b) (and_of (list self.now) (list_of other.entry))
+            ≡ count_by (λ b. b) (list self.now) + count_by (λ b. b) (list_of other.entry) }
+    {
+        self.as_bitslice().count_xor(other)
+    }
+
+    /// The index of the first bit that is true. None exactly where none is.
+    ///
+    /// ```text
+    /// of 01101001: bits.first_one() == Some(1)
+    /// ```
+    final fn first_one(&self) -> Option<usize>
+        ensures value { result ≡ position (λ b. b) (list self.now) }
+        ensures inside { IfSome result (λ i. i < len self.now) }
+        ensures few { IfSome result (λ i. i < MAX_BITS) }
+        ensures found { IfSome result (λ i. slice_get (list self.now) i ≡ Some true) }
+        ensures before { IfSome result (λ i. (j : ℕ) → j < i → slice_get (list self.now) j ≡ Some false) }
+        ensures none { IfNone result (EachIndex (list self.now) (λ j. slice_get (list self.now) j ≡ Some false)) }
+    {
+        self.as_bitslice().first_one()
+    }
+
+    /// The index of the first bit that is false. None exactly where none is.
+    ///
+    /// ```text
+    /// of 01101001: bits.first_zero() == Some(0)
+    /// ```
+    final fn first_zero(&self) -> Option<usize>
+        ensures value { result ≡ position not (list self.now) }
+        ensures inside { IfSome result (λ i. i < len self.now) }
+        ensures few { IfSome result (λ i. i < MAX_BITS) }
+        ensures found { IfSome result (λ i. slice_get (list self.now) i ≡ Some false) }
+        ensures before { IfSome result (λ i. (j : ℕ) → j < i → slice_get (list self.now) j ≡ Some true) }
+        ensures none { IfNone result (EachIndex (list self.now) (λ j. slice_get (list self.now) j ≡ Some true)) }
+    {
+        self.as_bitslice().first_zero()
+    }
+
+    /// The index of the last bit that is true. None exactly where none is.
+    ///
+    /// ```text
+    /// of 01101001: bits.last_one() == Some(7)
+    /// ```
+    final fn last_one(&self) -> Option<usize>
+        ensures inside { IfSome result (λ i. i < len self.now) }
+        ensures few { IfSome result (λ i. i < MAX_BITS) }
+        ensures found { IfSome result (λ i. slice_get (list self.now) i ≡ Some true) }
+        ensures after { IfSome result
+            (λ i. (j : ℕ) → i < j → j < len self.now → slice_get (list self.now) j ≡ Some false) }
+        ensures none { IfNone result (EachIndex (list self.now) (λ j. slice_get (list self.now) j ≡ Some false)) }
+    {
+        self.as_bitslice().last_one()
+    }
+
+    /// The index of the last bit that is false. None exactly where none is.
+    ///
+    /// ```text
+    /// of 01101001: bits.last_zero() == Some(6)
+    /// ```
+    final fn last_zero(&self) -> Option<usize>
+        ensures inside { IfSome result (λ i. i < len self.now) }
+        ensures few { IfSome result (λ i. i < MAX_BITS) }
+        ensures found { IfSome result (λ i. slice_get (list self.now) i ≡ Some false) }
+        ensures after { IfSome result
+            (λ i. (j : ℕ) → i < j → j < len self.now → slice_get (list self.now) j ≡ Some true) }
+        ensures none { IfNone result (EachIndex (list self.now) (λ j. slice_get (list self.now) j ≡ Some true)) }
+    {
+        self.as_bitslice().last_zero()
+    }
+
+    /// The index of the first bit from index `from` on that is true. None exactly where none is, as where
+    /// `from` is the length or more.
+    ///
+    /// ```text
+    /// of 01101001: bits.next_one(3) == Some(4)
+    /// ```
+    final fn next_one(&self, from: usize) -> Option<usize>
+        ensures begins { IfSome result (λ i. from ≤ i) }
+        ensures inside { IfSome result (λ i. i < len self.now) }
+        ensures few { IfSome result (λ i. i < MAX_BITS) }
+        ensures found { IfSome result (λ i. slice_get (list self.now) i ≡ Some true) }
+        ensures before { IfSome result (λ i. (j : ℕ) → from ≤ j → j < i → slice_get (list self.now) j ≡ Some false) }
+        ensures none { IfNone result
+            ((j : ℕ) → from ≤ j → j < len self.now → slice_get (list self.now) j ≡ Some false) }
+    {
+        self.as_bitslice().next_one(from)
+    }
+
+    /// The index of the first bit from index `from` on that is false. None exactly where none is, as where
+    /// `from` is the length or more.
+    ///
+    /// ```text
+    /// of 01101001: bits.next_zero(1) == Some(3)
+    /// ```
+    final fn next_zero(&self, from: usize) -> Option<usize>
+        ensures begins { IfSome result (λ i. from ≤ i) }
+        ensures inside { IfSome result (λ i. i < len self.now) }
+        ensures few { IfSome result (λ i. i < MAX_BITS) }
+        ensures found { IfSome result (λ i. slice_get (list self.now) i ≡ Some false) }
+        ensures before { IfSome result (λ i. (j : ℕ) → from ≤ j → j < i → slice_get (list self.now) j ≡ Some true) }
+        ensures none { IfNone result
+            ((j : ℕ) → from ≤ j → j < len self.now → slice_get (list self.now) j ≡ Some true) }
+    {
+        self.as_bitslice().next_zero(from)
+    }
+
+    /// How many bits at the front are true, up to the first that is false.
+    ///
+    /// ```text
+    /// of 01101001: bits.leading_ones() == 0
+    /// ```
+    final fn leading_ones(&self) -> usize
+        ensures value { result ≡ prefix_len (λ b. b) (list self.now) }
+        ensures most { result ≤ len self.now }
+        ensures each { (j : ℕ) → j < result → slice_get (list self.now) j ≡ Some true }
+        ensures next { result < len self.now → slice_get (list self.now) result ≡ Some false }
+    {
+        self.as_bitslice().leading_ones()
+    }
+
+    /// How many bits at the front are false, up to the first that is true.
+    ///
+    /// ```text
+    /// of 01101001: bits.leading_zeros() == 1
+    /// ```
+    final fn leading_zeros(&self) -> usize
+        ensures value { result ≡ prefix_len not (list self.now) }
+        ensures most { result ≤ len self.now }
+        ensures each { (j : ℕ) → j < result → slice_get (list self.now) j ≡ Some false }
+        ensures next { result < len self.now → slice_get (list self.now) result ≡ Some true }
+    {
+        self.as_bitslice().leading_zeros()
+    }
+
+    /// How many bits at the end are true, after the last that is false.
+    ///
+    /// ```text
+    /// of 01101001: bits.trailing_ones() == 1
+    /// ```
+    final fn trailing_ones(&self) -> usize
+        ensures value { result ≡ suffix_len (λ b. b) (list self.now) }
+        ensures most { result ≤ len self.now }
+        ensures each { (j : ℕ) → j < result → slice_get (list self.now) (len self.now - 1 - j) ≡ Some true }
+        ensures next { result < len self.now
+            → slice_get (list self.now) (len self.now - 1 - result) ≡ Some false }
+    {
+        self.as_bitslice().trailing_ones()
+    }
+
+    /// How many bits at the end are false, after the last that is true.
+    ///
+    /// ```text
+    /// of 01101001: bits.trailing_zeros() == 0
+    /// ```
+    final fn trailing_zeros(&self) -> usize
+        ensures value { result ≡ suffix_len not (list self.now) }
+        ensures most { result ≤ len self.now }
+        ensures each { (j : ℕ) → j < result → slice_get (list self.now) (len self.now - 1 - j) ≡ Some false }
+        ensures next { result < len self.now
+            → slice_get (list self.now) (len self.now - 1 - result) ≡ Some true }
+    {
+        self.as_bitslice().trailing_zeros()
+    }
+
+    /// Whether no bit is true. Of an empty list it is true.
+    ///
+    /// ```text
+    /// of 01101001: bits.not_any() == false
+    /// ```
+    final fn not_any(&self) -> bool
+        ensures value { result ≡ not (list_any (λ b. b) (list self.now)) }
+        ensures index { IsTrue result ↔ EachIndex (list self.now) (λ i. slice_get (list self.now) i ≡ Some false) }
+    {
+        self.as_bitslice().not_any()
+    }
+
+    /// Whether some bit is false. Of an empty list it is false.
+    ///
+    /// ```text
+    /// of 01101001: bits.not_all() == true
+    /// ```
+    final fn not_all(&self) -> bool
+        ensures value { result ≡ not (list_all (λ b. b) (list self.now)) }
+        ensures index { IsTrue result ↔ SomeIndex (list self.now) (λ i. slice_get (list self.now) i ≡ Some false) }
+    {
+        self.as_bitslice().not_all()
+    }
+
+    /// Whether some bit is true and some bit is false.
+    ///
+    /// ```text
+    /// of 01101001: bits.some() == true
+    /// ```
+    final fn some(&self) -> bool
+        ensures value { result ≡ (list_any (λ b. b) (list self.now) && not (list_all (λ b. b) (list self.now))) }
+        ensures one { IsTrue result → SomeIndex (list self.now) (λ i. slice_get (list self.now) i ≡ Some true) }
+        ensures zero { IsTrue result → SomeIndex (list self.now) (λ i. slice_get (list self.now) i ≡ Some false) }
+    {
+        self.as_bitslice().some()
+    }
+
+    /// The indices of the bits that are true, ascending, from both ends. Bits are read 64 at a time.
+    ///
+    /// ```text
+    /// of 01101001: bits.iter_ones() gives 1, 2, 4, 7
+    /// ```
+    final fn iter_ones(&self) -> IterOnes<'_, Self::Store, Self::Order>
+        ensures list { ones_left result ≡ ones_of (list self.now) }
+        ensures count { length (ones_left result) ≡ count_by (λ b. b) (list self.now) }
+        ensures few { length (ones_left result) ≤ MAX_BITS }
+        ensures set { All (λ i. slice_get (list self.now) i ≡ Some true) (ones_left result) }
+        ensures inside { All (λ i. i < len self.now) (ones_left result) }
+        ensures runs { YieldsInOrder
+            (YieldsFirst (ones_left {X = Self.Store} {Y = Self.Order} {W = Self.Store.BitStore} {P = Self.Order.BitOrder})) ones_left }
+        ensures runs_back { YieldsInReverse
+            (YieldsLast (ones_left {X = Self.Store} {Y = Self.Order} {W = Self.Store.BitStore} {P = Self.Order.BitOrder})) ones_left }
+    {
+        self.as_bitslice().iter_ones()
+    }
+
+    /// The indices of the bits that are false, ascending, from both ends. Each step is a search.
+    ///
+    /// ```text
+    /// of 01101001: bits.iter_zeros() gives 0, 3, 5, 6
+    /// ```
+    final fn iter_zeros(&self) -> IterZeros<'_, Self::Store, Self::Order>
+        ensures list { zeros_left result ≡ zeros_of (list self.now) }
+        ensures count { length (zeros_left result) ≡ count_by not (list self.now) }
+        ensures few { length (zeros_left result) ≤ MAX_BITS }
+        ensures set { All (λ i. slice_get (list self.now) i ≡ Some false) (zeros_left result) }
+        ensures inside { All (λ i. i < len self.now) (zeros_left result) }
+        ensures runs { YieldsInOrder
+            (YieldsFirst (zeros_left {X = Self.Store} {Y = Self.Order} {W = Self.Store.BitStore} {P = Self.Order.BitOrder})) zeros_left }
+        ensures runs_back { YieldsInReverse
+            (YieldsLast (zeros_left {X = Self.Store} {Y = Self.Order} {W = Self.Store.BitStore} {P = Self.Order.BitOrder})) zeros_left }
+    {
+        self.as_bitslice().iter_zeros()
+    }
+
+    /// The first index at which the bits of `other`, of any word type and order, begin in the list. None
+    /// exactly where they begin nowhere. Each index is tried in turn.
+    ///
+    /// ```text
+    /// of 01101001 and 001: bits.find(other) == Some(5)
+    /// ```
+    final fn find<U: BitStore, P: BitOrder>(&self, other: BitSlice<'_, U, P>) -> Option<usize>
+        ensures inside { IfSome result (λ i. i + len_of other.entry ≤ len self.now) }
+        ensures few { IfSome result (λ i. i + len_of other.entry ≤ MAX_BITS) }
+        ensures found { IfSome result (λ i. part (len_of other.entry) (list self.now) i ≡ list_of other.entry) }
+        ensures before { IfSome result
+            (λ i. (j : ℕ) → j < i → part (len_of other.entry) (list self.now) j ≢ list_of other.entry) }
+        ensures none { IfNone result ((j : ℕ) → j + len_of other.entry ≤ len self.now
+            → part (len_of other.entry) (list self.now) j ≢ list_of other.entry) }
+    {
+        self.as_bitslice().find(other)
+    }
+
+    /// Whether the bits of `other` begin somewhere in the list.
+    ///
+    /// ```text
+    /// of 01101001 and 001: bits.contains(other) == true
+    /// ```
+    final fn contains<U: BitStore, P: BitOrder>(&self, other: BitSlice<'_, U, P>) -> bool
+        ensures found { IsTrue result → ((i : ℕ) × (part (len_of other.entry) (list self.now) i ≡ list_of other.entry)) }
+        ensures none { (j : ℕ) → j + len_of other.entry ≤ len self.now
+            → part (len_of other.entry) (list self.now) j ≡ list_of other.entry → IsTrue result }
+    {
+        self.as_bitslice().contains(other)
+    }
+
+    /// The views of the bits before index `mid`, and of those from it on. Requires that `mid` is at most the
+    /// length.
+    ///
+    /// ```text
+    /// of 01101001: bits.split_at(3).1 shows 01001
+    /// ```
+    final fn split_at(
+        &self,
+        mid: usize,
+    ) -> (
+        BitSlice<'_, Self::Store, Self::Order>,
+        BitSlice<'_, Self::Store, Self::Order>,
+    )
+        requires { mid ≤ len self.now }
+        ensures front { list_of result.0 ≡ take mid (list self.now) }
+        ensures back { list_of result.1 ≡ drop mid (list self.now) }
+        ensures both { (list self.now) ≡ list_of result.0 ++ list_of result.1 }
+        ensures front_len { len_of result.0 ≡ mid }
+        ensures back_len { len_of result.1 + mid ≡ len self.now }
+    {
+        self.as_bitslice().split_at(mid)
+    }
+
+    /// The first bit, and a view of the others. None exactly where the list is empty.
+    ///
+    /// ```text
+    /// of 01101001: bits.split_first().is_some() == true
+    /// ```
+    final fn split_first(&self) -> Option<(bool, BitSlice<'_, Self::Store, Self::Order>)>
+        ensures none { IsNone result ↔ (len self.now ≡ 0) }
+        ensures both { IfSome result (λ r. (list self.now) ≡ r.0 ∷ list_of r.1) }
+        ensures rest_len { IfSome result (λ r. len_of r.1 + 1 ≡ len self.now) }
+    {
+        self.as_bitslice().split_first()
+    }
+
+    /// The last bit, and a view of the others. None exactly where the list is empty.
+    ///
+    /// ```text
+    /// of 01101001: bits.split_last().is_some() == true
+    /// ```
+    final fn split_last(&self) -> Option<(bool, BitSlice<'_, Self::Store, Self::Order>)>
+        ensures none { IsNone result ↔ (len self.now ≡ 0) }
+        ensures both { IfSome result (λ r. (list self.now) ≡ list_of r.1 ++ r.0 ∷ []) }
+        ensures rest_len { IfSome result (λ r. len_of r.1 + 1 ≡ len self.now) }
+    {
+        self.as_bitslice().split_last()
+    }
+
+    /// Whether the list begins with the bits of `other`.
+    ///
+    /// ```text
+    /// of 01101001 and 0110: bits.starts_with(other) == true
+    /// ```
+    final fn starts_with<U: BitStore, P: BitOrder>(&self, other: BitSlice<'_, U, P>) -> bool
+        ensures { IsTrue result ↔ (take (len_of other.entry) (list self.now) ≡ list_of other.entry) }
+    {
+        self.as_bitslice().starts_with(other)
+    }
+
+    /// Whether the list ends with the bits of `other`.
+    ///
+    /// ```text
+    /// of 01101001 and 001: bits.ends_with(other) == true
+    /// ```
+    final fn ends_with<U: BitStore, P: BitOrder>(&self, other: BitSlice<'_, U, P>) -> bool
+        ensures { IsTrue result
+            ↔ (drop (len self.now - len_of other.entry) (list self.now) ≡ list_of other.entry) }
+    {
+        self.as_bitslice().ends_with(other)
+    }
+
+    /// The chunk of number `k`: the view that `chunks(size)` gives after `k` others. Requires that `size` is
+    /// not 0, and that the chunk begins before the end.
+    ///
+    /// ```text
+    /// of 01101001: bits.chunk(3, 1) shows 010
+    /// ```
+    final fn chunk(&self, size: usize, k: usize) -> BitSlice<'_, Self::Store, Self::Order>
+        requires some { 0 < size }
+        requires begins { k * size < len self.now }
+        ensures list { list_of result ≡ part size (list self.now) (k * size) }
+        ensures most { len_of result ≤ size }
+    {
+        self.as_bitslice().chunk(size, k)
+    }
+
+    /// Views of the parts of `size` bits side by side, from the front and from the end. The last has the bits
+    /// that are left, so it may be shorter. Requires that `size` is not 0.
+    ///
+    /// ```text
+    /// of 01101001: bits.chunks(3).len() == 3
+    /// ```
+    final fn chunks(&self, size: usize) -> Chunks<'_, Self::Store, Self::Order>
+        requires some { 0 < size }
+        ensures list { chunks_left result ≡ chunks_of size (list self.now) }
+        ensures count { length (chunks_left result) ≡ chunk_count (len self.now) size }
+        ensures runs { EveryRun (YieldsFirstBy (list_of {X = Self.Store} {Y = Self.Order} {W = Self.Store.BitStore} {P = Self.Order.BitOrder})
+            (chunks_left {X = Self.Store} {Y = Self.Order} {W = Self.Store.BitStore} {P = Self.Order.BitOrder}))
+            (λ p. ItemsMapTo p list_of (chunks_left p.from)) }
+        ensures runs_back { EveryRun (YieldsLastBy
+            (list_of {X = Self.Store} {Y = Self.Order} {W = Self.Store.BitStore} {P = Self.Order.BitOrder})
+            (chunks_left {X = Self.Store} {Y = Self.Order} {W = Self.Store.BitStore} {P = Self.Order.BitOrder}))
+            (λ p. ItemsMapToReversed p list_of (chunks_left p.from)) }
+    {
+        self.as_bitslice().chunks(size)
+    }
+
+    /// Views of the parts of `size` bits side by side, from the front and from the end, as long as there are
+    /// that many bits. The bits that are left are the iterator's `remainder`. Requires that `size` is not 0.
+    ///
+    /// ```text
+    /// of 01101001: bits.chunks_exact(3).len() == 2
+    /// ```
+    final fn chunks_exact(&self, size: usize) -> ChunksExact<'_, Self::Store, Self::Order>
+        requires some { 0 < size }
+        ensures list { exact_chunks_left result ≡ exact_chunks_of size (list self.now) }
+        ensures count { length (exact_chunks_left result) ≡ len self.now / size }
+        ensures runs { EveryRun (YieldsFirstBy (list_of {X = Self.Store} {Y = Self.Order} {W = Self.Store.BitStore} {P = Self.Order.BitOrder})
+            (exact_chunks_left {X = Self.Store} {Y = Self.Order} {W = Self.Store.BitStore} {P = Self.Order.BitOrder}))
+            (λ p. ItemsMapTo p list_of (exact_chunks_left p.from)) }
+        ensures runs_back { EveryRun (YieldsLastBy
+            (list_of {X = Self.Store} {Y = Self.Order} {W = Self.Store.BitStore} {P = Self.Order.BitOrder})
+            (exact_chunks_left {X = Self.Store} {Y = Self.Order} {W = Self.Store.BitStore} {P = Self.Order.BitOrder}))
+            (λ p. ItemsMapToReversed p list_of (exact_chunks_left p.from)) }
+    {
+        self.as_bitslice().chunks_exact(size)
+    }
+
+    /// Views of the parts of `size` bits side by side, beginning at the end. The last, at the front, has the
+    /// bits that are left, so it may be shorter. Requires that `size` is not 0.
+    ///
+    /// ```text
+    /// of 01101001: bits.rchunks(3).len() == 3
+    /// ```
+    final fn rchunks(&self, size: usize) -> RChunks<'_, Self::Store, Self::Order>
+        requires some { 0 < size }
+        ensures list { back_chunks_left result ≡ back_chunks_of size (list self.now) }
+        ensures count { length (back_chunks_left result) ≡ chunk_count (len self.now) size }
+        ensures runs { EveryRun (YieldsFirstBy (list_of {X = Self.Store} {Y = Self.Order} {W = Self.Store.BitStore} {P = Self.Order.BitOrder})
+            (back_chunks_left {X = Self.Store} {Y = Self.Order} {W = Self.Store.BitStore} {P = Self.Order.BitOrder}))
+            (λ p. ItemsMapTo p list_of (back_chunks_left p.from)) }
+        ensures runs_back { EveryRun (YieldsLastBy
+            (list_of {X = Self.Store} {Y = Self.Order} {W = Self.Store.BitStore} {P = Self.Order.BitOrder})
+            (back_chunks_left {X = Self.Store} {Y = Self.Order} {W = Self.Store.BitStore} {P = Self.Order.BitOrder}))
+            (λ p. ItemsMapToReversed p list_of (back_chunks_left p.from)) }
+    {
+        self.as_bitslice().rchunks(size)
+    }
+
+    /// Views of each run of `size` bits, one for each index at which one begins. There are none where the
+    /// vector is shorter. Requires that `size` is not 0.
+    ///
+    /// ```text
+    /// of 01101001: bits.windows(3).len() == 6
+    /// ```
+    final fn windows(&self, size: usize) -> Windows<'_, Self::Store, Self::Order>
+        requires some { 0 < size }
+        ensures list { windows_left result ≡ windows_of size (list self.now) }
+        ensures count { length (windows_left result) ≡ len self.now + 1 - size }
+        ensures runs { EveryRun (YieldsFirstBy (list_of {X = Self.Store} {Y = Self.Order} {W = Self.Store.BitStore} {P = Self.Order.BitOrder})
+            (windows_left {X = Self.Store} {Y = Self.Order} {W = Self.Store.BitStore} {P = Self.Order.BitOrder}))
+            (λ p. ItemsMapTo p list_of (windows_left p.from)) }
+        ensures runs_back { EveryRun (YieldsLastBy
+            (list_of {X = Self.Store} {Y = Self.Order} {W = Self.Store.BitStore} {P = Self.Order.BitOrder})
+            (windows_left {X = Self.Store} {Y = Self.Order} {W = Self.Store.BitStore} {P = Self.Order.BitOrder}))
+            (λ p. ItemsMapToReversed p list_of (windows_left p.from)) }
+    {
+        self.as_bitslice().windows(size)
+    }
+
+    /// The list as a number, the first bit the least significant, whatever the order of bits in a word.
+    /// Requires that the list has at most 64 bits.
+    ///
+    /// ```text
+    /// of 01101001: bits.load_le() == 150
+    /// ```
+    final fn load_le(&self) -> u64
+        requires { len self.now ≤ 64 }
+        ensures value { result ≡ number_of (list self.now) }
+        ensures bits { number_bits result (len self.now) ≡ (list self.now) }
+    {
+        self.as_bitslice().load_le()
+    }
+
+    /// The list as a number, the first bit the most significant, whatever the order of bits in a word. Requires
+    /// that the list has at most 64 bits.
+    ///
+    /// ```text
+    /// of 01101001: bits.load_be() == 105
+    /// ```
+    final fn load_be(&self) -> u64
+        requires { len self.now ≤ 64 }
+        ensures value { result ≡ value (list self.now) }
+        ensures digits { binary (len self.now) result ≡ (list self.now) }
+        ensures below { result < 2 ^ len self.now }
+    {
+        self.as_bitslice().load_be()
+    }
+}
+
+impl<'a, T: BitStore, O: BitOrder> BitList for BitSlice<'a, T, O> {
+    type Store = T;
+
+    type Order = O;
+
+    ghost head = { λ v. head_of v };
+
+    ghost len = { λ v. len_of v };
+
+    ghost list = { λ v. list_of v };
+
+    fn as_bitslice(&self) -> BitSlice<'_, T, O> {
+        let view = *self;
+        let _len = view.len();
+        view
+    }
+}
+
+impl<'a, T: BitStore, O: BitOrder> BitList for BitSliceMut<'a, T, O> {
+    ghost use Rattle.bit_slice.specs.BitSliceMut.{head_of as lent_head, len_of as lent_len, list_of as lent_list};
+
+    type Store = T;
+
+    type Order = O;
+
+    ghost head = { λ v. lent_head v };
+
+    ghost len = { λ v. lent_len v };
+
+    ghost list = { λ v. lent_list v };
+
+    fn as_bitslice(&self) -> BitSlice<'_, T, O> {
+        let _len = BitSliceMut::len(self);
+        BitSliceMut::as_bitslice(self)
+    }
+}

@@ -1,0 +1,883 @@
+//! The calls that write, once for arrays, boxes and vectors.
+ghost use Rattle.std.specs.Prelude.{◌≡◌, ℕ, ◌+◌, ◌-◌, ◌*◌, ◌<◌, ◌≤◌, ◌++◌, Bool, List, Some, drop, false, length, map, not, replicate, reverse, set, slice_get, slice_index_or, slice_range, swap, take, true};
+ghost use Rattle.std.specs.Borrow.{sem};
+ghost use Rattle.std.specs.Option.{option_map};
+ghost use Rattle.bit_addressing.specs.declared.length.TheConstants.{MAX_BITS};
+ghost use Rattle.bit_addressing.specs.Range.{LiesIn};
+ghost use Rattle.bit_addressing.specs.Row.{binary, moved, number_bits, put, touched};
+ghost use Rattle.bit_addressing.specs.Typed.{row as row_of};
+ghost use Rattle.bit_slice.specs.BitSlice.{len_of, list_of};
+ghost use Rattle.bit_slice.specs.Clean.{IsCleanRow};
+ghost use Rattle.bit_slice.specs.Lists.{lends_to};
+ghost use Rattle.bit_slice.specs.Operators.{and_not_of, and_of, combined, or_of, part_onto, xor_of, AndsEach, OrsEach, XorsEach, CombinesEach, FlipsEach};
+ghost use Rattle.bit_slice.specs.Overwritten.{list_in};
+
+use crate::edits::AndNot;
+use crate::lists::BitList;
+use crate::over::{
+    combine_over, combine_range_over, combine_within_over, copy_into_over, copy_over, fill_over,
+    fill_range_over, flip_range_over, move_within_over, reverse_over, rotate_over, set_over,
+    shift_left_over, shift_right_over, store_be_over, store_le_over, swap_over,
+};
+use crate::slice::BitSlice;
+use bit_addressing::{BitOrder, BitStore, Meter, RangeExt};
+use bit_rows::{And, BitOperator, Or, Xor, flip_bits};
+
+/// A list of bits in words of its own, for writing.
+pub trait BitListMut: BitList {
+    // All its words.
+    ghost words: { Self → List Self.Store };
+
+    // How many there are.
+    ghost count: { Self → ℕ };
+
+    // Their bits in a row.
+    ghost bits: { Self → List Bool };
+
+    // How many bits it has room for without new memory.
+    ghost capacity: { Self → ℕ };
+
+    // What it becomes when its words are these.
+    ghost rewritten: { Self → List Self.Store → Self };
+
+    /// All its words, for writing: what is written lands in it.
+    fn as_raw_mut_slice(&mut self) -> &mut [Self::Store]
+        ensures* writes_back { sem 𝓛 (lends_to Self.row Self.Store.row self.entry (rewritten self.old) result) }
+        ensures value { result.now ≡ words self.old }
+        ensures len { length result.now ≡ count self.old }
+        ensures row { row_of Self.Store.BitStore Self.Order.BitOrder result.now ≡ bits self.old }
+        ensures fits { Self.head self.old + Self.len self.old ≤ Self.Store.BITS * length result.now }
+        ensures few { Self.Store.BITS * length result.now ≤ MAX_BITS + 2 * Self.Store.BITS }
+        ensures shows { list_in Self.Store.BitStore Self.Order.BitOrder result.now (Self.head self.old) (Self.len self.old) ≡ Self.list self.old };
+
+    ghost words_rewritten: { (s : Self) (ws : List Self.Store) → length ws ≡ count s → words (rewritten s ws) ≡ ws };
+
+    ghost bits_rewritten: { (s : Self) (ws : List Self.Store) → length ws ≡ count s
+        → bits (rewritten s ws) ≡ row_of Self.Store.BitStore Self.Order.BitOrder ws };
+
+    ghost list_rewritten: { (s : Self) (ws : List Self.Store) → length ws ≡ count s
+        → Self.head s + Self.len s ≤ Self.Store.BITS * length ws
+        → Self.list (rewritten s ws) ≡ list_in Self.Store.BitStore Self.Order.BitOrder ws (Self.head s) (Self.len s) };
+
+    ghost head_rewritten: { (s : Self) (ws : List Self.Store) → Self.head (rewritten s ws) ≡ Self.head s };
+
+    ghost len_rewritten: { (s : Self) (ws : List Self.Store) → Self.len (rewritten s ws) ≡ Self.len s };
+
+    ghost count_rewritten: { (s : Self) (ws : List Self.Store) → count (rewritten s ws) ≡ count s };
+
+    ghost capacity_rewritten: { (s : Self) (ws : List Self.Store) → capacity (rewritten s ws) ≡ capacity s };
+
+    /// Writes the bit at `i`, and no other bit. Takes no memory. Requires that `i` is below the length.
+    ///
+    /// ```text
+    /// of 01101001: bits.set(0, true) leaves 11101001
+    /// ```
+    final fn set(&mut self, i: usize, bit: bool)
+        requires { i < Self.len self.old }
+        ensures list { (Self.list self.new) ≡ set (Self.list self.old) i bit }
+        ensures row { (bits self.new) ≡ set (bits self.old) ((Self.head self.old) + i) bit }
+        ensures clean { IsCleanRow Self.Store.BITS (Self.head self.old) (bits self.old) (Self.list self.old)
+            → IsCleanRow Self.Store.BITS (Self.head self.new) (bits self.new) (Self.list self.new) }
+        ensures head { Self.head self.new ≡ Self.head self.old }
+        ensures len { Self.len self.new ≡ Self.len self.old }
+        ensures size { count self.new ≡ count self.old }
+        ensures capacity { capacity self.new ≡ capacity self.old }
+    {
+        let (head, len) = (self.head(), self.len());
+        set_over::<Self::Store, Self::Order>(self.as_raw_mut_slice(), head, len, i, bit);
+    }
+
+    /// Writes the bit at `i`, and returns the one that was there. Takes no memory. Requires that `i` is below
+    /// the length.
+    ///
+    /// ```text
+    /// of 01101001: bits.replace(0, true) == false
+    /// ```
+    final fn replace(&mut self, i: usize, bit: bool) -> bool
+        requires { i < Self.len self.old }
+        ensures old { slice_get (Self.list self.old) i ≡ Some result }
+        ensures list { (Self.list self.new) ≡ set (Self.list self.old) i bit }
+        ensures row { (bits self.new) ≡ set (bits self.old) ((Self.head self.old) + i) bit }
+        ensures head { Self.head self.new ≡ Self.head self.old }
+        ensures len { Self.len self.new ≡ Self.len self.old }
+        ensures size { count self.new ≡ count self.old }
+        ensures capacity { capacity self.new ≡ capacity self.old }
+        ensures clean { IsCleanRow Self.Store.BITS (Self.head self.old) (bits self.old) (Self.list self.old)
+            → IsCleanRow Self.Store.BITS (Self.head self.new) (bits self.new) (Self.list self.new) }
+    {
+        let old = self.as_bitslice()[i];
+        self.set(i, bit);
+        old
+    }
+
+    /// Swaps the bits at `i` and `j`, and changes no other bit. Takes no memory. Requires that both are below
+    /// the length.
+    ///
+    /// ```text
+    /// of 01101001: bits.swap(0, 1) leaves 10101001
+    /// ```
+    final fn swap(&mut self, i: usize, j: usize)
+        requires first { i < Self.len self.old }
+        requires second { j < Self.len self.old }
+        ensures list { (Self.list self.new) ≡ swap (Self.list self.old) i j }
+        ensures row { (bits self.new) ≡ swap (bits self.old) ((Self.head self.old) + i) ((Self.head self.old) + j) }
+        ensures clean { IsCleanRow Self.Store.BITS (Self.head self.old) (bits self.old) (Self.list self.old)
+            → IsCleanRow Self.Store.BITS (Self.head self.new) (bits self.new) (Self.list self.new) }
+        ensures head { Self.head self.new ≡ Self.head self.old }
+        ensures len { Self.len self.new ≡ Self.len self.old }
+        ensures size { count self.new ≡ count self.old }
+        ensures capacity { capacity self.new ≡ capacity self.old }
+    {
+        let (head, len) = (self.head(), self.len());
+        swap_over::<Self::Store, Self::Order>(self.as_raw_mut_slice(), head, len, i, j);
+    }
+
+    /// Flips the bit at `i`, and no other bit. Takes no memory. Requires that `i` is below the length.
+    ///
+    /// ```text
+    /// of 01101001: bits.flip(2) leaves 01001001
+    /// ```
+    final fn flip(&mut self, i: usize)
+        requires { i < Self.len self.old }
+        ensures list { (Self.list self.new) ≡ set (Self.list self.old) i (not (slice_index_or (Self.list self.old) i false)) }
+        ensures row { (bits self.new)
+            ≡ set (bits self.old) ((Self.head self.old) + i) (not (slice_index_or (Self.list self.old) i false)) }
+        ensures item { slice_get (Self.list self.new) i ≡ option_map not (slice_get (Self.list self.old) i) }
+        ensures clean { IsCleanRow Self.Store.BITS (Self.head self.old) (bits self.old) (Self.list self.old)
+            → IsCleanRow Self.Store.BITS (Self.head self.new) (bits self.new) (Self.list self.new) }
+        ensures head { Self.head self.new ≡ Self.head self.old }
+        ensures len { Self.len self.new ≡ Self.len self.old }
+        ensures size { count self.new ≡ count self.old }
+        ensures capacity { capacity self.new ≡ capacity self.old }
+    {
+        let bit = self.as_bitslice()[i];
+        self.set(i, !bit);
+    }
+
+    /// Makes every bit of the list `bit`, and changes no dead bit. Takes no memory.
+    ///
+    /// ```text
+    /// of 01101001: bits.fill(true) leaves 11111111
+    /// ```
+    final fn fill(&mut self, bit: bool)
+        ensures list { (Self.list self.new) ≡ replicate (Self.len self.old) bit }
+        ensures row { (bits self.new) ≡ put (bits self.old) (Self.head self.old) (replicate (Self.len self.old) bit) }
+        ensures clean { IsCleanRow Self.Store.BITS (Self.head self.old) (bits self.old) (Self.list self.old)
+            → IsCleanRow Self.Store.BITS (Self.head self.new) (bits self.new) (Self.list self.new) }
+        ensures head { Self.head self.new ≡ Self.head self.old }
+        ensures len { Self.len self.new ≡ Self.len self.old }
+        ensures size { count self.new ≡ count self.old }
+        ensures capacity { capacity self.new ≡ capacity self.old }
+    {
+        let (head, len) = (self.head(), self.len());
+        fill_over::<Self::Store, Self::Order>(self.as_raw_mut_slice(), head, len, bit);
+    }
+
+    /// Writes `bit` at each index of a range, and no other bit. Takes no memory. Requires that the range lies in
+    /// the length.
+    ///
+    /// ```text
+    /// of 01101001: bits.fill_range(2..6, true) leaves 01111101
+    /// ```
+    final fn fill_range<R: RangeExt>(&mut self, range: R, bit: bool)
+        requires lies { LiesIn (R.start_of range) (R.end_of range (Self.len self.old)) (Self.len self.old) }
+        ensures list { (Self.list self.new)
+            ≡ put (Self.list self.old) (R.start_of range)
+            (replicate (R.end_of range (Self.len self.old) - R.start_of range) bit) }
+        ensures row { (bits self.new)
+            ≡ put (bits self.old) ((Self.head self.old) + R.start_of range)
+            (replicate (R.end_of range (Self.len self.old) - R.start_of range) bit) }
+        ensures clean { IsCleanRow Self.Store.BITS (Self.head self.old) (bits self.old) (Self.list self.old)
+            → IsCleanRow Self.Store.BITS (Self.head self.new) (bits self.new) (Self.list self.new) }
+        ensures head { Self.head self.new ≡ Self.head self.old }
+        ensures len { Self.len self.new ≡ Self.len self.old }
+        ensures size { count self.new ≡ count self.old }
+        ensures capacity { capacity self.new ≡ capacity self.old }
+    {
+        let (head, len) = (self.head(), self.len());
+        fill_range_over::<Self::Store, Self::Order, R>(
+            self.as_raw_mut_slice(),
+            head,
+            len,
+            range,
+            bit,
+        );
+    }
+
+    /// Flips the bit at each index of a range, and no other bit. Takes no memory. Requires that the range lies in
+    /// the length.
+    ///
+    /// ```text
+    /// of 01101001: bits.flip_range(1..4) leaves 00011001
+    /// ```
+    final fn flip_range<R: RangeExt>(&mut self, range: R)
+        requires lies { LiesIn (R.start_of range) (R.end_of range (Self.len self.old)) (Self.len self.old) }
+        ensures list { (Self.list self.new)
+            ≡ put (Self.list self.old) (R.start_of range) (map not
+            (slice_range (Self.list self.old) (R.start_of range) (R.end_of range (Self.len self.old)))) }
+        ensures row { (bits self.new)
+            ≡ put (bits self.old) ((Self.head self.old) + R.start_of range)
+            (map not
+            (slice_range (Self.list self.old) (R.start_of range) (R.end_of range (Self.len self.old)))) }
+        ensures clean { IsCleanRow Self.Store.BITS (Self.head self.old) (bits self.old) (Self.list self.old)
+            → IsCleanRow Self.Store.BITS (Self.head self.new) (bits self.new) (Self.list self.new) }
+        ensures head { Self.head self.new ≡ Self.head self.old }
+        ensures len { Self.len self.new ≡ Self.len self.old }
+        ensures size { count self.new ≡ count self.old }
+        ensures capacity { capacity self.new ≡ capacity self.old }
+    {
+        let (head, len) = (self.head(), self.len());
+        flip_range_over::<Self::Store, Self::Order, R>(self.as_raw_mut_slice(), head, len, range);
+    }
+
+    // Combines each bit at the indices of a range, by `F`, with the bit of a view for it, or with false past the
+    // view's end. Requires that the range lies in the length.
+    final fn combine_range<F: BitOperator, R: RangeExt, U: BitStore, P: BitOrder>(
+        &mut self,
+        range: R,
+        other: BitSlice<'_, U, P>,
+    )
+        requires lies { LiesIn (R.start_of range) (R.end_of range (Self.len self.old)) (Self.len self.old) }
+        ensures list { (Self.list self.new)
+            ≡ put (Self.list self.old) (R.start_of range) (combined F.made
+            (slice_range (Self.list self.old) (R.start_of range) (R.end_of range (Self.len self.old)))
+            (list_of other.entry)) }
+        ensures row { (bits self.new)
+            ≡ put (bits self.old) ((Self.head self.old) + R.start_of range)
+            (combined F.made
+            (slice_range (Self.list self.old) (R.start_of range) (R.end_of range (Self.len self.old)))
+            (list_of other.entry)) }
+        ensures clean { IsCleanRow Self.Store.BITS (Self.head self.old) (bits self.old) (Self.list self.old)
+            → IsCleanRow Self.Store.BITS (Self.head self.new) (bits self.new) (Self.list self.new) }
+        ensures head { Self.head self.new ≡ Self.head self.old }
+        ensures len { Self.len self.new ≡ Self.len self.old }
+        ensures size { count self.new ≡ count self.old }
+        ensures capacity { capacity self.new ≡ capacity self.old }
+    {
+        let (head, len) = (self.head(), self.len());
+        combine_range_over::<F, Self::Store, Self::Order, R, U, P>(
+            self.as_raw_mut_slice(),
+            head,
+            len,
+            range,
+            other,
+        );
+    }
+
+    /// Clears each bit at the indices of a range that is false in a view, and each past the view's end. The
+    /// first bit of the view is for the first of the range. Takes no memory. Requires that the range lies in the
+    /// length.
+    ///
+    /// ```text
+    /// of 01101001 and 0101: bits.and_range(1..5, other) leaves 00101001
+    /// ```
+    final fn and_range<R: RangeExt, U: BitStore, P: BitOrder>(
+        &mut self,
+        range: R,
+        other: BitSlice<'_, U, P>,
+    )
+        requires lies { LiesIn (R.start_of range) (R.end_of range (Self.len self.old)) (Self.len self.old) }
+        ensures list { (Self.list self.new)
+            ≡ put (Self.list self.old) (R.start_of range) (and_of
+            (slice_range (Self.list self.old) (R.start_of range) (R.end_of range (Self.len self.old)))
+            (list_of other.entry)) }
+        ensures row { (bits self.new)
+            ≡ put (bits self.old) ((Self.head self.old) + R.start_of range)
+            (and_of (slice_range (Self.list self.old) (R.start_of range) (R.end_of range (Self.len self.old)))
+            (list_of other.entry)) }
+        ensures clean { IsCleanRow Self.Store.BITS (Self.head self.old) (bits self.old) (Self.list self.old)
+            → IsCleanRow Self.Store.BITS (Self.head self.new) (bits self.new) (Self.list self.new) }
+        ensures head { Self.head self.new ≡ Self.head self.old }
+        ensures len { Self.len self.new ≡ Self.len self.old }
+        ensures size { count self.new ≡ count self.old }
+        ensures capacity { capacity self.new ≡ capacity self.old }
+    {
+        self.combine_range::<And, R, U, P>(range, other);
+    }
+
+    /// Sets each bit at the indices of a range that is true in a view. The first bit of the view is for the first
+    /// of the range. Takes no memory. Requires that the range lies in the length.
+    ///
+    /// ```text
+    /// of 01101001 and 0101: bits.or_range(1..5, other) leaves 01101001
+    /// ```
+    final fn or_range<R: RangeExt, U: BitStore, P: BitOrder>(
+        &mut self,
+        range: R,
+        other: BitSlice<'_, U, P>,
+    )
+        requires lies { LiesIn (R.start_of range) (R.end_of range (Self.len self.old)) (Self.len self.old) }
+        ensures list { (Self.list self.new)
+            ≡ put (Self.list self.old) (R.start_of range) (or_of
+            (slice_range (Self.list self.old) (R.start_of range) (R.end_of range (Self.len self.old)))
+            (list_of other.entry)) }
+        ensures row { (bits self.new)
+            ≡ put (bits self.old) ((Self.head self.old) + R.start_of range)
+            (or_of (slice_range (Self.list self.old) (R.start_of range) (R.end_of range (Self.len self.old)))
+            (list_of other.entry)) }
+        ensures clean { IsCleanRow Self.Store.BITS (Self.head self.old) (bits self.old) (Self.list self.old)
+            → IsCleanRow Self.Store.BITS (Self.head self.new) (bits self.new) (Self.list self.new) }
+        ensures head { Self.head self.new ≡ Self.head self.old }
+        ensures len { Self.len self.new ≡ Self.len self.old }
+        ensures size { count self.new ≡ count self.old }
+        ensures capacity { capacity self.new ≡ capacity self.old }
+    {
+        self.combine_range::<Or, R, U, P>(range, other);
+    }
+
+    /// Flips each bit at the indices of a range that is true in a view. The first bit of the view is for the first
+    /// of the range. Takes no memory. Requires that the range lies in the length.
+    ///
+    /// ```text
+    /// of 01101001 and 0101: bits.xor_range(1..5, other) leaves 01000001
+    /// ```
+    final fn xor_range<R: RangeExt, U: BitStore, P: BitOrder>(
+        &mut self,
+        range: R,
+        other: BitSlice<'_, U, P>,
+    )
+        requires lies { LiesIn (R.start_of range) (R.end_of range (Self.len self.old)) (Self.len self.old) }
+        ensures list { (Self.list self.new)
+            ≡ put (Self.list self.old) (R.start_of range) (xor_of
+            (slice_range (Self.list self.old) (R.start_of range) (R.end_of range (Self.len self.old)))
+            (list_of other.entry)) }
+        ensures row { (bits self.new)
+            ≡ put (bits self.old) ((Self.head self.old) + R.start_of range)
+            (xor_of (slice_range (Self.list self.old) (R.start_of range) (R.end_of range (Self.len self.old)))
+            (list_of other.entry)) }
+        ensures clean { IsCleanRow Self.Store.BITS (Self.head self.old) (bits self.old) (Self.list self.old)
+            → IsCleanRow Self.Store.BITS (Self.head self.new) (bits self.new) (Self.list self.new) }
+        ensures head { Self.head self.new ≡ Self.head self.old }
+        ensures len { Self.len self.new ≡ Self.len self.old }
+        ensures size { count self.new ≡ count self.old }
+        ensures capacity { capacity self.new ≡ capacity self.old }
+    {
+        self.combine_range::<Xor, R, U, P>(range, other);
+    }
+
+    /// Writes the bits of a view, with any word type and order, at the indices of a range, and no other bit.
+    /// Takes no memory. Requires that the range lies in the length, and is as long as the view.
+    ///
+    /// ```text
+    /// of 01101001 and 0101: bits.copy_into(1..5, other) leaves 00101001
+    /// ```
+    final fn copy_into<R: RangeExt, U: BitStore, P: BitOrder>(
+        &mut self,
+        range: R,
+        source: BitSlice<'_, U, P>,
+    )
+        requires lies { LiesIn (R.start_of range) (R.end_of range (Self.len self.old)) (Self.len self.old) }
+        requires same_len { len_of source ≡ R.end_of range (Self.len self.old) - R.start_of range }
+        ensures list { (Self.list self.new) ≡ put (Self.list self.old) (R.start_of range) (list_of source.entry) }
+        ensures row { (bits self.new) ≡ put (bits self.old) ((Self.head self.old) + R.start_of range) (list_of source.entry) }
+        ensures clean { IsCleanRow Self.Store.BITS (Self.head self.old) (bits self.old) (Self.list self.old)
+            → IsCleanRow Self.Store.BITS (Self.head self.new) (bits self.new) (Self.list self.new) }
+        ensures head { Self.head self.new ≡ Self.head self.old }
+        ensures len { Self.len self.new ≡ Self.len self.old }
+        ensures size { count self.new ≡ count self.old }
+        ensures capacity { capacity self.new ≡ capacity self.old }
+    {
+        let (head, len) = (self.head(), self.len());
+        copy_into_over::<Self::Store, Self::Order, R, U, P>(
+            self.as_raw_mut_slice(),
+            head,
+            len,
+            range,
+            source,
+        );
+    }
+
+    /// Writes the lowest bits of a number over the list, the least significant first. No dead bit changes. Takes
+    /// no memory. Requires that the list has at most 64 bits.
+    ///
+    /// ```text
+    /// of 01101001: bits.store_le(5) leaves 10100000
+    /// ```
+    final fn store_le(&mut self, number: u64)
+        requires { Self.len self.old ≤ 64 }
+        ensures list { (Self.list self.new) ≡ number_bits number (Self.len self.old) }
+        ensures row { (bits self.new) ≡ put (bits self.old) (Self.head self.old) (number_bits number (Self.len self.old)) }
+        ensures clean { IsCleanRow Self.Store.BITS (Self.head self.old) (bits self.old) (Self.list self.old)
+            → IsCleanRow Self.Store.BITS (Self.head self.new) (bits self.new) (Self.list self.new) }
+        ensures head { Self.head self.new ≡ Self.head self.old }
+        ensures len { Self.len self.new ≡ Self.len self.old }
+        ensures size { count self.new ≡ count self.old }
+        ensures capacity { capacity self.new ≡ capacity self.old }
+    {
+        let (head, len) = (self.head(), self.len());
+        store_le_over::<Self::Store, Self::Order>(self.as_raw_mut_slice(), head, len, number);
+    }
+
+    /// Writes the lowest bits of a number over the list, the most significant first. No dead bit changes. Takes
+    /// no memory. Requires that the list has at most 64 bits.
+    ///
+    /// ```text
+    /// of 01101001: bits.store_be(5) leaves 00000101
+    /// ```
+    final fn store_be(&mut self, number: u64)
+        requires { Self.len self.old ≤ 64 }
+        ensures list { (Self.list self.new) ≡ binary (Self.len self.old) number }
+        ensures row { (bits self.new) ≡ put (bits self.old) (Self.head self.old) (binary (Self.len self.old) number) }
+        ensures clean { IsCleanRow Self.Store.BITS (Self.head self.old) (bits self.old) (Self.list self.old)
+            → IsCleanRow Self.Store.BITS (Self.head self.new) (bits self.new) (Self.list self.new) }
+        ensures head { Self.head self.new ≡ Self.head self.old }
+        ensures len { Self.len self.new ≡ Self.len self.old }
+        ensures size { count self.new ≡ count self.old }
+        ensures capacity { capacity self.new ≡ capacity self.old }
+    {
+        let (head, len) = (self.head(), self.len());
+        store_be_over::<Self::Store, Self::Order>(self.as_raw_mut_slice(), head, len, number);
+    }
+
+    /// Clears each bit that is true in a view. No dead bit changes. Takes no memory.
+    ///
+    /// ```text
+    /// of 01101001 and 01010101: bits.and_not_bits(other) leaves 00101000
+    /// ```
+    final fn and_not_bits<U: BitStore, P: BitOrder>(&mut self, other: BitSlice<'_, U, P>)
+        ensures list { (Self.list self.new) ≡ and_not_of (Self.list self.old) (list_of other.entry) }
+        ensures row { (bits self.new) ≡ put (bits self.old) (Self.head self.old) (and_not_of (Self.list self.old) (list_of other.entry)) }
+        ensures clean { IsCleanRow Self.Store.BITS (Self.head self.old) (bits self.old) (Self.list self.old)
+            → IsCleanRow Self.Store.BITS (Self.head self.new) (bits self.new) (Self.list self.new) }
+        ensures head { Self.head self.new ≡ Self.head self.old }
+        ensures len { Self.len self.new ≡ Self.len self.old }
+        ensures size { count self.new ≡ count self.old }
+        ensures capacity { capacity self.new ≡ capacity self.old }
+    {
+        self.combine::<AndNot, U, P>(other);
+    }
+
+    /// Combines each bit, by `F`, with the bit at its index in a view, or with false past the view's end.
+    #[tactic(auto, using(crate::proofs::Rules::item_of_combined))]
+    final fn combine<F: BitOperator, U: BitStore, P: BitOrder>(&mut self, other: BitSlice<'_, U, P>)
+        ensures list { (Self.list self.new) ≡ combined F.made (Self.list self.old) (list_of other.entry) }
+        ensures index { CombinesEach F.made (Self.list self.old) (list_of other.entry) (Self.list self.new) }
+        ensures row { (bits self.new)
+            ≡ put (bits self.old) (Self.head self.old) (combined F.made (Self.list self.old) (list_of other.entry)) }
+        ensures clean { IsCleanRow Self.Store.BITS (Self.head self.old) (bits self.old) (Self.list self.old)
+            → IsCleanRow Self.Store.BITS (Self.head self.new) (bits self.new) (Self.list self.new) }
+        ensures head { Self.head self.new ≡ Self.head self.old }
+        ensures len { Self.len self.new ≡ Self.len self.old }
+        ensures size { count self.new ≡ count self.old }
+        ensures capacity { capacity self.new ≡ capacity self.old }
+    {
+        let (head, len) = (self.head(), self.len());
+        combine_over::<F, Self::Store, Self::Order, U, P>(
+            self.as_raw_mut_slice(),
+            head,
+            len,
+            other,
+        );
+    }
+
+    /// Clears each bit that is false in a view, and each past the view's end. No dead bit changes. Takes no
+    /// memory.
+    ///
+    /// ```text
+    /// of 01101001 and 01010101: bits.and_bits(other) leaves 01000001
+    /// ```
+    final fn and_bits<U: BitStore, P: BitOrder>(&mut self, other: BitSlice<'_, U, P>)
+        ensures list { (Self.list self.new) ≡ and_of (Self.list self.old) (list_of other.entry) }
+        ensures index { AndsEach (Self.list self.old) (list_of other.entry) (Self.list self.new) }
+        ensures row { (bits self.new) ≡ put (bits self.old) (Self.head self.old) (and_of (Self.list self.old) (list_of other.entry)) }
+        ensures clean { IsCleanRow Self.Store.BITS (Self.head self.old) (bits self.old) (Self.list self.old)
+            → IsCleanRow Self.Store.BITS (Self.head self.new) (bits self.new) (Self.list self.new) }
+        ensures head { Self.head self.new ≡ Self.head self.old }
+        ensures len { Self.len self.new ≡ Self.len self.old }
+        ensures size { count self.new ≡ count self.old }
+        ensures capacity { capacity self.new ≡ capacity self.old }
+    {
+        self.combine::<And, U, P>(other);
+    }
+
+    /// Sets each bit that is true in a view; bits of the view past the length don't count. No dead bit
+    /// changes. Takes no memory.
+    ///
+    /// ```text
+    /// of 01101001 and 01010101: bits.or_bits(other) leaves 01111101
+    /// ```
+    final fn or_bits<U: BitStore, P: BitOrder>(&mut self, other: BitSlice<'_, U, P>)
+        ensures list { (Self.list self.new) ≡ or_of (Self.list self.old) (list_of other.entry) }
+        ensures index { OrsEach (Self.list self.old) (list_of other.entry) (Self.list self.new) }
+        ensures row { (bits self.new) ≡ put (bits self.old) (Self.head self.old) (or_of (Self.list self.old) (list_of other.entry)) }
+        ensures clean { IsCleanRow Self.Store.BITS (Self.head self.old) (bits self.old) (Self.list self.old)
+            → IsCleanRow Self.Store.BITS (Self.head self.new) (bits self.new) (Self.list self.new) }
+        ensures head { Self.head self.new ≡ Self.head self.old }
+        ensures len { Self.len self.new ≡ Self.len self.old }
+        ensures size { count self.new ≡ count self.old }
+        ensures capacity { capacity self.new ≡ capacity self.old }
+    {
+        self.combine::<Or, U, P>(other);
+    }
+
+    /// Flips each bit that is true in a view; bits of the view past the length don't count. No dead bit
+    /// changes. Takes no memory.
+    ///
+    /// ```text
+    /// of 01101001 and 01010101: bits.xor_bits(other) leaves 00111100
+    /// ```
+    final fn xor_bits<U: BitStore, P: BitOrder>(&mut self, other: BitSlice<'_, U, P>)
+        ensures list { (Self.list self.new) ≡ xor_of (Self.list self.old) (list_of other.entry) }
+        ensures index { XorsEach (Self.list self.old) (list_of other.entry) (Self.list self.new) }
+        ensures row { (bits self.new) ≡ put (bits self.old) (Self.head self.old) (xor_of (Self.list self.old) (list_of other.entry)) }
+        ensures clean { IsCleanRow Self.Store.BITS (Self.head self.old) (bits self.old) (Self.list self.old)
+            → IsCleanRow Self.Store.BITS (Self.head self.new) (bits self.new) (Self.list self.new) }
+        ensures head { Self.head self.new ≡ Self.head self.old }
+        ensures len { Self.len self.new ≡ Self.len self.old }
+        ensures size { count self.new ≡ count self.old }
+        ensures capacity { capacity self.new ≡ capacity self.old }
+    {
+        self.combine::<Xor, U, P>(other);
+    }
+
+    /// Writes the bits of a view, with any word type and order, over those of the list. No dead bit
+    /// changes. Takes no memory. Requires that the view has as many bits as the list.
+    ///
+    /// ```text
+    /// of 01101001 and 01010101: bits.clone_from_bitslice(other) leaves 01010101
+    /// ```
+    final fn clone_from_bitslice<U: BitStore, P: BitOrder>(&mut self, source: BitSlice<'_, U, P>)
+        requires { len_of source ≡ Self.len self.old }
+        ensures list { (Self.list self.new) ≡ list_of source.entry }
+        ensures row { (bits self.new) ≡ put (bits self.old) (Self.head self.old) (list_of source.entry) }
+        ensures clean { IsCleanRow Self.Store.BITS (Self.head self.old) (bits self.old) (Self.list self.old)
+            → IsCleanRow Self.Store.BITS (Self.head self.new) (bits self.new) (Self.list self.new) }
+        ensures head { Self.head self.new ≡ Self.head self.old }
+        ensures len { Self.len self.new ≡ Self.len self.old }
+        ensures size { count self.new ≡ count self.old }
+        ensures capacity { capacity self.new ≡ capacity self.old }
+    {
+        let (head, len) = (self.head(), self.len());
+        copy_over::<Self::Store, Self::Order, U, P>(self.as_raw_mut_slice(), head, len, source);
+    }
+
+    /// Copies the bits of a range to index `dest`, as if they were copied out first. No other bit changes, dead
+    /// bits included. Takes no memory. Requires that the range lies in the length and that its bits have room
+    /// from `dest` on.
+    ///
+    /// ```text
+    /// of 01101001: bits.copy_within(2..5, 0) leaves 10101001
+    /// ```
+    final fn copy_within<R: RangeExt>(&mut self, range: R, dest: usize)
+        requires lies { LiesIn (R.start_of range) (R.end_of range (Self.len self.old)) (Self.len self.old) }
+        requires room { dest + (R.end_of range (Self.len self.old) - R.start_of range) ≤ Self.len self.old }
+        ensures list { (Self.list self.new)
+            ≡ moved (Self.list self.old) (R.start_of range) dest
+            (R.end_of range (Self.len self.old) - R.start_of range) }
+        ensures row { (bits self.new)
+            ≡ moved (bits self.old) ((Self.head self.old) + R.start_of range) ((Self.head self.old) + dest)
+            (R.end_of range (Self.len self.old) - R.start_of range) }
+        ensures landed { let n = R.end_of range (Self.len self.old)
+            - R.start_of range in slice_range (Self.list self.new) dest (dest + n)
+            ≡ slice_range (Self.list self.old) (R.start_of range) (R.start_of range + n) }
+        ensures clean { IsCleanRow Self.Store.BITS (Self.head self.old) (bits self.old) (Self.list self.old)
+            → IsCleanRow Self.Store.BITS (Self.head self.new) (bits self.new) (Self.list self.new) }
+        ensures head { Self.head self.new ≡ Self.head self.old }
+        ensures len { Self.len self.new ≡ Self.len self.old }
+        ensures size { count self.new ≡ count self.old }
+        ensures capacity { capacity self.new ≡ capacity self.old }
+    {
+        let _meter = self.copy_within_counted(range, dest);
+    }
+
+    /// Like `copy_within`, but returns the meter of the words that were read and written: at most one write for
+    /// each word that holds a bit of the target, and at most three reads for each.
+    ///
+    /// ```text
+    /// let meter = v.copy_within_counted(0..9, 3);   // 12 bits in bytes: meter.writes ≤ 2, meter.reads ≤ 6
+    /// ```
+    final fn copy_within_counted<R: RangeExt>(&mut self, range: R, dest: usize) -> Meter
+        requires lies { LiesIn (R.start_of range) (R.end_of range (Self.len self.old)) (Self.len self.old) }
+        requires room { dest + (R.end_of range (Self.len self.old) - R.start_of range) ≤ Self.len self.old }
+        ensures list { (Self.list self.new)
+            ≡ moved (Self.list self.old) (R.start_of range) dest
+            (R.end_of range (Self.len self.old) - R.start_of range) }
+        ensures row { (bits self.new)
+            ≡ moved (bits self.old) ((Self.head self.old) + R.start_of range) ((Self.head self.old) + dest)
+            (R.end_of range (Self.len self.old) - R.start_of range) }
+        ensures landed { let n = R.end_of range (Self.len self.old)
+            - R.start_of range in slice_range (Self.list self.new) dest (dest + n)
+            ≡ slice_range (Self.list self.old) (R.start_of range) (R.start_of range + n) }
+        ensures clean { IsCleanRow Self.Store.BITS (Self.head self.old) (bits self.old) (Self.list self.old)
+            → IsCleanRow Self.Store.BITS (Self.head self.new) (bits self.new) (Self.list self.new) }
+        ensures head { Self.head self.new ≡ Self.head self.old }
+        ensures len { Self.len self.new ≡ Self.len self.old }
+        ensures size { count self.new ≡ count self.old }
+        ensures capacity { capacity self.new ≡ capacity self.old }
+        ensures writes { result.writes
+            ≤ touched Self.Store.BITS ((Self.head self.old) + dest)
+            (R.end_of range (Self.len self.old) - R.start_of range) }
+        ensures reads { result.reads
+            ≤ 3
+            * touched Self.Store.BITS ((Self.head self.old) + dest)
+            (R.end_of range (Self.len self.old) - R.start_of range) }
+    {
+        let (head, len) = (self.head(), self.len());
+        move_within_over::<Self::Store, Self::Order, R>(
+            self.as_raw_mut_slice(),
+            head,
+            len,
+            range,
+            dest,
+        )
+    }
+
+    /// Reverses the list. No dead bit changes. Takes no memory.
+    ///
+    /// ```text
+    /// of 01101001: bits.reverse() leaves 10010110
+    /// ```
+    #[tactic(auto, using(crate::proofs::Moved::reversed_at))]
+    final fn reverse(&mut self)
+        ensures list { (Self.list self.new) ≡ reverse (Self.list self.old) }
+        ensures index { (j : ℕ) → j < Self.len self.old
+            → slice_get (Self.list self.new) j ≡ slice_get (Self.list self.old) (Self.len self.old - 1 - j) }
+        ensures row { (bits self.new) ≡ put (bits self.old) (Self.head self.old) (reverse (Self.list self.old)) }
+        ensures clean { IsCleanRow Self.Store.BITS (Self.head self.old) (bits self.old) (Self.list self.old)
+            → IsCleanRow Self.Store.BITS (Self.head self.new) (bits self.new) (Self.list self.new) }
+        ensures head { Self.head self.new ≡ Self.head self.old }
+        ensures len { Self.len self.new ≡ Self.len self.old }
+        ensures size { count self.new ≡ count self.old }
+        ensures capacity { capacity self.new ≡ capacity self.old }
+    {
+        let (head, len) = (self.head(), self.len());
+        reverse_over::<Self::Store, Self::Order>(self.as_raw_mut_slice(), head, len);
+    }
+
+    /// Moves the first `by` bits after the others. No dead bit changes. Takes no memory. Requires that `by` is at
+    /// most the length.
+    ///
+    /// ```text
+    /// of 01101001: bits.rotate_left(2) leaves 10100101
+    /// ```
+    #[tactic(auto, using(crate::proofs::Moved::rotated_front, crate::proofs::Moved::rotated_back))]
+    final fn rotate_left(&mut self, by: usize)
+        requires { by ≤ Self.len self.old }
+        ensures list { (Self.list self.new) ≡ drop by (Self.list self.old) ++ take by (Self.list self.old) }
+        ensures front { (j : ℕ) → j + by < Self.len self.old
+            → slice_get (Self.list self.new) j ≡ slice_get (Self.list self.old) (j + by) }
+        ensures back { (j : ℕ) → j < by
+            → slice_get (Self.list self.new) (Self.len self.old - by + j) ≡ slice_get (Self.list self.old) j }
+        ensures row { (bits self.new) ≡ put (bits self.old) (Self.head self.old) (drop by (Self.list self.old) ++ take by (Self.list self.old)) }
+        ensures clean { IsCleanRow Self.Store.BITS (Self.head self.old) (bits self.old) (Self.list self.old)
+            → IsCleanRow Self.Store.BITS (Self.head self.new) (bits self.new) (Self.list self.new) }
+        ensures head { Self.head self.new ≡ Self.head self.old }
+        ensures len { Self.len self.new ≡ Self.len self.old }
+        ensures size { count self.new ≡ count self.old }
+        ensures capacity { capacity self.new ≡ capacity self.old }
+    {
+        let (head, len) = (self.head(), self.len());
+        rotate_over::<Self::Store, Self::Order>(self.as_raw_mut_slice(), head, len, by);
+    }
+
+    /// Moves the last `by` bits before the others. No dead bit changes. Takes no memory. Requires that `by` is at
+    /// most the length.
+    ///
+    /// ```text
+    /// of 01101001: bits.rotate_right(2) leaves 01011010
+    /// ```
+    #[tactic(auto, using(crate::proofs::Moved::rotated_right_front, crate::proofs::Moved::rotated_right_back))]
+    final fn rotate_right(&mut self, by: usize)
+        requires { by ≤ Self.len self.old }
+        ensures list { (Self.list self.new)
+            ≡ drop (Self.len self.old - by) (Self.list self.old)
+            ++ take (Self.len self.old - by) (Self.list self.old) }
+        ensures front { (j : ℕ) → j < by
+            → slice_get (Self.list self.new) j ≡ slice_get (Self.list self.old) (Self.len self.old - by + j) }
+        ensures back { (j : ℕ) → j + by < Self.len self.old
+            → slice_get (Self.list self.new) (j + by) ≡ slice_get (Self.list self.old) j }
+        ensures row { (bits self.new)
+            ≡ put (bits self.old) (Self.head self.old) (drop (Self.len self.old - by) (Self.list self.old)
+            ++ take (Self.len self.old - by) (Self.list self.old)) }
+        ensures clean { IsCleanRow Self.Store.BITS (Self.head self.old) (bits self.old) (Self.list self.old)
+            → IsCleanRow Self.Store.BITS (Self.head self.new) (bits self.new) (Self.list self.new) }
+        ensures head { Self.head self.new ≡ Self.head self.old }
+        ensures len { Self.len self.new ≡ Self.len self.old }
+        ensures size { count self.new ≡ count self.old }
+        ensures capacity { capacity self.new ≡ capacity self.old }
+    {
+        let (head, len) = (self.head(), self.len());
+        rotate_over::<Self::Store, Self::Order>(self.as_raw_mut_slice(), head, len, len - by);
+    }
+
+    /// Moves each bit by `by` indices towards the front. The first `by` bits are dropped, and the last `by`
+    /// become false. No dead bit changes. Takes no memory. Requires that `by` is at most the length.
+    ///
+    /// ```text
+    /// of 01101001: bits.shift_left(2) leaves 10100100
+    /// ```
+    #[tactic(auto, using(crate::proofs::Moved::shifted_left_at, crate::proofs::Moved::shifted_left_end))]
+    final fn shift_left(&mut self, by: usize)
+        requires { by ≤ Self.len self.old }
+        ensures list { (Self.list self.new) ≡ drop by (Self.list self.old) ++ replicate by false }
+        ensures kept { (j : ℕ) → j + by < Self.len self.old
+            → slice_get (Self.list self.new) j ≡ slice_get (Self.list self.old) (j + by) }
+        ensures cleared { (j : ℕ) → Self.len self.old ≤ j + by → j < Self.len self.old
+            → slice_get (Self.list self.new) j ≡ Some false }
+        ensures row { (bits self.new) ≡ put (bits self.old) (Self.head self.old) (drop by (Self.list self.old) ++ replicate by false) }
+        ensures clean { IsCleanRow Self.Store.BITS (Self.head self.old) (bits self.old) (Self.list self.old)
+            → IsCleanRow Self.Store.BITS (Self.head self.new) (bits self.new) (Self.list self.new) }
+        ensures head { Self.head self.new ≡ Self.head self.old }
+        ensures len { Self.len self.new ≡ Self.len self.old }
+        ensures size { count self.new ≡ count self.old }
+        ensures capacity { capacity self.new ≡ capacity self.old }
+    {
+        let (head, len) = (self.head(), self.len());
+        shift_left_over::<Self::Store, Self::Order>(self.as_raw_mut_slice(), head, len, by);
+    }
+
+    /// Moves each bit by `by` indices towards the end. The last `by` bits are dropped, and the first `by`
+    /// become false. No dead bit changes. Takes no memory. Requires that `by` is at most the length.
+    ///
+    /// ```text
+    /// of 01101001: bits.shift_right(2) leaves 00011010
+    /// ```
+    #[tactic(auto, using(crate::proofs::Moved::shifted_right_at, crate::proofs::Moved::shifted_right_front))]
+    final fn shift_right(&mut self, by: usize)
+        requires { by ≤ Self.len self.old }
+        ensures list { (Self.list self.new) ≡ replicate by false ++ take (Self.len self.old - by) (Self.list self.old) }
+        ensures kept { (j : ℕ) → j + by < Self.len self.old
+            → slice_get (Self.list self.new) (j + by) ≡ slice_get (Self.list self.old) j }
+        ensures cleared { (j : ℕ) → j < by → slice_get (Self.list self.new) j ≡ Some false }
+        ensures row { (bits self.new)
+            ≡ put (bits self.old) (Self.head self.old)
+            (replicate by false ++ take (Self.len self.old - by) (Self.list self.old)) }
+        ensures clean { IsCleanRow Self.Store.BITS (Self.head self.old) (bits self.old) (Self.list self.old)
+            → IsCleanRow Self.Store.BITS (Self.head self.new) (bits self.new) (Self.list self.new) }
+        ensures head { Self.head self.new ≡ Self.head self.old }
+        ensures len { Self.len self.new ≡ Self.len self.old }
+        ensures size { count self.new ≡ count self.old }
+        ensures capacity { capacity self.new ≡ capacity self.old }
+    {
+        let (head, len) = (self.head(), self.len());
+        shift_right_over::<Self::Store, Self::Order>(self.as_raw_mut_slice(), head, len, by);
+    }
+
+    // Combines each bit at `dest + k`, by `F`, with bit `k` of a range, as if the range was read before any
+    // bit is written. Requires that the range lies in the length, and that its bits have room from `dest` on.
+    final fn combine_within<F: BitOperator, R: RangeExt>(&mut self, range: R, dest: usize)
+        requires lies { LiesIn (R.start_of range) (R.end_of range (Self.len self.old)) (Self.len self.old) }
+        requires room { dest + (R.end_of range (Self.len self.old) - R.start_of range) ≤ Self.len self.old }
+        ensures list { (Self.list self.new)
+            ≡ put (Self.list self.old) dest (part_onto (combined F.made) (Self.list self.old) (R.start_of range)
+            (R.end_of range (Self.len self.old)) dest) }
+        ensures row { (bits self.new)
+            ≡ put (bits self.old) ((Self.head self.old) + dest)
+            (part_onto (combined F.made) (Self.list self.old) (R.start_of range)
+            (R.end_of range (Self.len self.old)) dest) }
+        ensures clean { IsCleanRow Self.Store.BITS (Self.head self.old) (bits self.old) (Self.list self.old)
+            → IsCleanRow Self.Store.BITS (Self.head self.new) (bits self.new) (Self.list self.new) }
+        ensures head { Self.head self.new ≡ Self.head self.old }
+        ensures len { Self.len self.new ≡ Self.len self.old }
+        ensures size { count self.new ≡ count self.old }
+        ensures capacity { capacity self.new ≡ capacity self.old }
+    {
+        let (head, len) = (self.head(), self.len());
+        combine_within_over::<F, Self::Store, Self::Order, R>(
+            self.as_raw_mut_slice(),
+            head,
+            len,
+            range,
+            dest,
+        );
+    }
+
+    /// Clears each bit at `dest + k` where bit `k` of a range is false, as if the range was read before any bit
+    /// is written. The two runs may overlap. Takes no memory. Requires that the range lies in the length, and
+    /// that its bits have room from `dest` on.
+    ///
+    /// ```text
+    /// of 01101001: bits.and_within(4..8, 0) leaves 00001001
+    /// ```
+    final fn and_within<R: RangeExt>(&mut self, range: R, dest: usize)
+        requires lies { LiesIn (R.start_of range) (R.end_of range (Self.len self.old)) (Self.len self.old) }
+        requires room { dest + (R.end_of range (Self.len self.old) - R.start_of range) ≤ Self.len self.old }
+        ensures list { (Self.list self.new)
+            ≡ put (Self.list self.old) dest (part_onto and_of (Self.list self.old) (R.start_of range)
+            (R.end_of range (Self.len self.old)) dest) }
+        ensures row { (bits self.new)
+            ≡ put (bits self.old) ((Self.head self.old) + dest)
+            (part_onto and_of (Self.list self.old) (R.start_of range) (R.end_of range (Self.len self.old))
+            dest) }
+        ensures clean { IsCleanRow Self.Store.BITS (Self.head self.old) (bits self.old) (Self.list self.old)
+            → IsCleanRow Self.Store.BITS (Self.head self.new) (bits self.new) (Self.list self.new) }
+        ensures head { Self.head self.new ≡ Self.head self.old }
+        ensures len { Self.len self.new ≡ Self.len self.old }
+        ensures size { count self.new ≡ count self.old }
+        ensures capacity { capacity self.new ≡ capacity self.old }
+    {
+        self.combine_within::<And, R>(range, dest);
+    }
+
+    /// Sets each bit at `dest + k` where bit `k` of a range is true, as if the range was read before any bit is
+    /// written. The two runs may overlap. Takes no memory. Requires that the range lies in the length, and that
+    /// its bits have room from `dest` on.
+    ///
+    /// ```text
+    /// of 01101001: bits.or_within(4..8, 0) leaves 11111001
+    /// ```
+    final fn or_within<R: RangeExt>(&mut self, range: R, dest: usize)
+        requires lies { LiesIn (R.start_of range) (R.end_of range (Self.len self.old)) (Self.len self.old) }
+        requires room { dest + (R.end_of range (Self.len self.old) - R.start_of range) ≤ Self.len self.old }
+        ensures list { (Self.list self.new)
+            ≡ put (Self.list self.old) dest (part_onto or_of (Self.list self.old) (R.start_of range)
+            (R.end_of range (Self.len self.old)) dest) }
+        ensures row { (bits self.new)
+            ≡ put (bits self.old) ((Self.head self.old) + dest)
+            (part_onto or_of (Self.list self.old) (R.start_of range) (R.end_of range (Self.len self.old))
+            dest) }
+        ensures clean { IsCleanRow Self.Store.BITS (Self.head self.old) (bits self.old) (Self.list self.old)
+            → IsCleanRow Self.Store.BITS (Self.head self.new) (bits self.new) (Self.list self.new) }
+        ensures head { Self.head self.new ≡ Self.head self.old }
+        ensures len { Self.len self.new ≡ Self.len self.old }
+        ensures size { count self.new ≡ count self.old }
+        ensures capacity { capacity self.new ≡ capacity self.old }
+    {
+        self.combine_within::<Or, R>(range, dest);
+    }
+
+    /// Flips each bit at `dest + k` where bit `k` of a range is true, as if the range was read before any bit is
+    /// written. The two runs may overlap. Takes no memory. Requires that the range lies in the length, and that
+    /// its bits have room from `dest` on.
+    ///
+    /// ```text
+    /// of 01101001: bits.xor_within(4..8, 0) leaves 11111001
+    /// ```
+    final fn xor_within<R: RangeExt>(&mut self, range: R, dest: usize)
+        requires lies { LiesIn (R.start_of range) (R.end_of range (Self.len self.old)) (Self.len self.old) }
+        requires room { dest + (R.end_of range (Self.len self.old) - R.start_of range) ≤ Self.len self.old }
+        ensures list { (Self.list self.new)
+            ≡ put (Self.list self.old) dest (part_onto xor_of (Self.list self.old) (R.start_of range)
+            (R.end_of range (Self.len self.old)) dest) }
+        ensures row { (bits self.new)
+            ≡ put (bits self.old) ((Self.head self.old) + dest)
+            (part_onto xor_of (Self.list self.old) (R.start_of range) (R.end_of range (Self.len self.old))
+            dest) }
+        ensures clean { IsCleanRow Self.Store.BITS (Self.head self.old) (bits self.old) (Self.list self.old)
+            → IsCleanRow Self.Store.BITS (Self.head self.new) (bits self.new) (Self.list self.new) }
+        ensures head { Self.head self.new ≡ Self.head self.old }
+        ensures len { Self.len self.new ≡ Self.len self.old }
+        ensures size { count self.new ≡ count self.old }
+        ensures capacity { capacity self.new ≡ capacity self.old }
+    {
+        self.combine_within::<Xor, R>(range, dest);
+    }
+
+    /// Flips the whole row: the bits of the list, and the dead ones too. Takes no memory.
+    ///
+    /// ```text
+    /// of 01101001: bits.flip_all() leaves 10010110
+    /// ```
+    #[tactic(auto, using(crate::proofs::Parts::shown_length, bit_addressing::proofs::lists::Shown::shows_map, crate::proofs::Rules::item_of_not))]
+    final fn flip_all(&mut self)
+        ensures list { (Self.list self.new) ≡ map not (Self.list self.old) }
+        ensures index { FlipsEach (Self.list self.old) (Self.list self.new) }
+        ensures row { (bits self.new) ≡ map not (bits self.old) }
+        ensures head { Self.head self.new ≡ Self.head self.old }
+        ensures len { Self.len self.new ≡ Self.len self.old }
+        ensures size { count self.new ≡ count self.old }
+        ensures capacity { capacity self.new ≡ capacity self.old }
+    {
+        flip_bits::<Self::Store, Self::Order>(self.as_raw_mut_slice());
+    }
+}

@@ -1,11 +1,12 @@
 //! Runs of up to 64 bits as numbers, whatever the words and the order that they lie in.
 //!
 //! Calls between words of two types or orders go through these numbers, 64 bits at a time.
-ghost use Rattle.std.specs.Prelude.{◌≡◌, ℕ, true, ◌+◌, ◌*◌, ◌/◌, ◌%◌, ◌^◌, ◌<◌, ◌≤◌, [], ◌∷◌, length, slice_range};
+ghost use Rattle.std.specs.Prelude.{◌≡◌, ℕ, true, ◌+◌, ◌*◌, ◌/◌, ◌%◌, ◌^◌, ◌<◌, ◌≤◌, [], ◌∷◌, length};
 ghost use Rattle.bit_addressing.specs.Binary.{value};
 ghost use Rattle.bit_addressing.specs.Row.{binary, number_bits, number_of, put, row_of};
 ghost use Rattle.bit_addressing.specs.Table.{IsPairTable};
 ghost use Rattle.bit_addressing.specs.Typed.{row};
+ghost use Rattle.bit_rows.specs.Runs.{run_at, AreAlike, AreEqualRuns};
 
 use crate::copies::copy_bits;
 use crate::single::write_part;
@@ -23,7 +24,7 @@ pub(crate) fn word_number<T: BitStore, O: BitOrder>(word: T) -> u64
 fn read_over<T: BitStore, O: BitOrder>(words: &[T], at: usize, n: u8) -> u64
     requires few { n ≤ 64 }
     requires within { at + n ≤ T.BITS * length words.now }
-    ensures { result ≡ number_of (slice_range (row T.BitStore O.BitOrder words.now) at (at + n)) }
+    ensures { result ≡ number_of (run_at (row T.BitStore O.BitOrder words.now) at n) }
 {
     if n == 0 {
         return 0;
@@ -49,7 +50,7 @@ fn read_over<T: BitStore, O: BitOrder>(words: &[T], at: usize, n: u8) -> u64
 /// Whether two kinds of words have one width, and their bits lie in one order.
 #[inline(always)]
 pub(crate) fn are_alike<T: BitStore, O: BitOrder, U: BitStore, P: BitOrder>() -> bool
-    ensures { result ≡ true → (U.BITS ≡ T.BITS) × ((i : ℕ) → i < T.BITS → O.place T.BITS i ≡ P.place T.BITS i) }
+    ensures { result ≡ true → AreAlike T.BITS U.BITS O.place P.place }
 {
     if T::BITS != U::BITS {
         return false;
@@ -66,8 +67,7 @@ pub(crate) fn are_alike<T: BitStore, O: BitOrder, U: BitStore, P: BitOrder>() ->
 /// The word of another kind that is alike. Requires that both kinds have one width, and their bits lie in one order.
 #[inline(always)]
 pub(crate) fn word_alike<T: BitStore, O: BitOrder, U: BitStore, P: BitOrder>(word: U) -> T
-    requires width { U.BITS ≡ T.BITS }
-    requires order { (i : ℕ) → i < T.BITS → O.place T.BITS i ≡ P.place T.BITS i }
+    requires alike { AreAlike T.BITS U.BITS O.place P.place }
     ensures { row T.BitStore O.BitOrder (result ∷ []) ≡ row U.BitStore P.BitOrder (word ∷ []) }
 {
     T::from_u64(word.to_u64())
@@ -83,7 +83,7 @@ pub(crate) fn word_alike<T: BitStore, O: BitOrder, U: BitStore, P: BitOrder>(wor
 pub fn read_block<T: BitStore, O: BitOrder>(words: &[T], at: usize) -> u64
     requires begins { at % T.BITS ≡ 0 }
     requires within { at + 64 ≤ T.BITS * length words.now }
-    ensures { result ≡ number_of (slice_range (row T.BitStore O.BitOrder words.now) at (at + 64)) }
+    ensures { result ≡ number_of (run_at (row T.BitStore O.BitOrder words.now) at 64) }
 {
     word_number::<u64, O>(O::pack(words, at / T::BITS as usize))
 }
@@ -94,7 +94,7 @@ pub fn read_block<T: BitStore, O: BitOrder>(words: &[T], at: usize) -> u64
 pub fn read_chunk<T: BitStore, O: BitOrder>(words: &[T], at: usize, n: u8) -> u64
     requires few { n ≤ 64 }
     requires within { at + n ≤ T.BITS * length words.now }
-    ensures { result ≡ number_of (slice_range (row T.BitStore O.BitOrder words.now) at (at + n)) }
+    ensures { result ≡ number_of (run_at (row T.BitStore O.BitOrder words.now) at n) }
 {
     if n == 0 {
         return 0;
@@ -168,8 +168,8 @@ fn write_over<T: BitStore, O: BitOrder>(words: &mut [T], at: usize, n: u8, chunk
 pub fn read_binary<T: BitStore, O: BitOrder>(words: &[T], at: usize, n: u8) -> u64
     requires few { n ≤ 64 }
     requires within { at + n ≤ T.BITS * length words.now }
-    ensures digits { binary n result ≡ slice_range (row T.BitStore O.BitOrder words.now) at (at + n) }
-    ensures value { result ≡ value (slice_range (row T.BitStore O.BitOrder words.now) at (at + n)) }
+    ensures digits { binary n result ≡ run_at (row T.BitStore O.BitOrder words.now) at n }
+    ensures value { result ≡ value (run_at (row T.BitStore O.BitOrder words.now) at n) }
     ensures below { result < 2 ^ n }
 {
     if n == 0 {
@@ -207,8 +207,7 @@ pub(crate) fn word_of_run<T: BitStore, O: BitOrder, U: BitStore, P: BitOrder>(
     requires begins { low < T.BITS }
     requires ends { low + n ≤ T.BITS }
     requires source { from + n ≤ U.BITS * length source.now }
-    ensures { slice_range (row T.BitStore O.BitOrder (result ∷ [])) low (low + n)
-        ≡ slice_range (row U.BitStore P.BitOrder source.now) from (from + n) }
+    ensures { AreEqualRuns (row T.BitStore O.BitOrder (result ∷ [])) low (row U.BitStore P.BitOrder source.now) from n }
 {
     O::from_lsb0(T::from_u64(read_chunk::<U, P>(source, from, n) << low))
 }
@@ -224,9 +223,7 @@ fn word_of_window<T: BitStore, O: BitOrder, U: BitStore, P: BitOrder>(
     requires width { U.BITS ≡ T.BITS }
     requires word { k + 1 < length source.now }
     requires within { skip < U.BITS }
-    ensures { row T.BitStore O.BitOrder (result ∷ [])
-        ≡ slice_range (row U.BitStore P.BitOrder source.now) (k * U.BITS + skip)
-        (k * U.BITS + skip + U.BITS) }
+    ensures { row T.BitStore O.BitOrder (result ∷ []) ≡ run_at (row U.BitStore P.BitOrder source.now) (k * U.BITS + skip) U.BITS }
 {
     let begin = BitIdx::<U>::new_unchecked(skip);
     let bits = P::window_lsb0(source[k], source[k + 1], begin).to_u64();
@@ -243,9 +240,7 @@ fn word_by_bits<T: BitStore, O: BitOrder, U: BitStore, P: BitOrder>(
     requires width { U.BITS ≡ T.BITS }
     requires word { k + 1 < length source.now }
     requires within { skip < U.BITS }
-    ensures { row T.BitStore O.BitOrder (result ∷ [])
-        ≡ slice_range (row U.BitStore P.BitOrder source.now) (k * U.BITS + skip)
-        (k * U.BITS + skip + U.BITS) }
+    ensures { row T.BitStore O.BitOrder (result ∷ []) ≡ run_at (row U.BitStore P.BitOrder source.now) (k * U.BITS + skip) U.BITS }
 {
     let (low, high) = (source[k], source[k + 1]);
     let mut word = T::ZERO;
@@ -268,9 +263,7 @@ pub(crate) fn word_by_table<T: BitStore, O: BitOrder, U: BitStore, P: BitOrder>(
     requires word { k + 1 < length source.now }
     requires within { skip < U.BITS }
     requires table { IsPairTable (O.place T.BITS) (P.place T.BITS) T.BITS skip table.now.low table.now.high }
-    ensures { row T.BitStore O.BitOrder (result ∷ [])
-        ≡ slice_range (row U.BitStore P.BitOrder source.now) (k * U.BITS + skip)
-        (k * U.BITS + skip + U.BITS) }
+    ensures { row T.BitStore O.BitOrder (result ∷ []) ≡ run_at (row U.BitStore P.BitOrder source.now) (k * U.BITS + skip) U.BITS }
 {
     table.window::<T, O, U, P>(source[k], source[k + 1])
 }
@@ -285,9 +278,7 @@ fn word_after_by_bits<T: BitStore, O: BitOrder, U: BitStore, P: BitOrder>(
     requires within { skip < U.BITS }
     requires source { begin * U.BITS + skip + t * T.BITS + T.BITS < U.BITS * length source.now }
     requires fits { begin * U.BITS + skip + t * T.BITS + T.BITS < 2 ^ 64 }
-    ensures { row T.BitStore O.BitOrder (result ∷ [])
-        ≡ slice_range (row U.BitStore P.BitOrder source.now) (begin * U.BITS + skip + t * T.BITS)
-        (begin * U.BITS + skip + t * T.BITS + T.BITS) }
+    ensures { row T.BitStore O.BitOrder (result ∷ []) ≡ run_at (row U.BitStore P.BitOrder source.now) (begin * U.BITS + skip + t * T.BITS) T.BITS }
 {
     if U::BITS == T::BITS {
         if O::goes_by_shifts() {
@@ -317,8 +308,7 @@ pub(crate) fn block_at<O: BitOrder, U: BitStore, P: BitOrder>(
 ) -> u64
     requires within { skip < U.BITS }
     requires words { k * U.BITS + 128 ≤ U.BITS * length source.now }
-    ensures { row_of O.place 64 (result ∷ [])
-        ≡ slice_range (row U.BitStore P.BitOrder source.now) (k * U.BITS + skip) (k * U.BITS + skip + 64) }
+    ensures { row_of O.place 64 (result ∷ []) ≡ run_at (row U.BitStore P.BitOrder source.now) (k * U.BITS + skip) 64 }
 {
     let low = P::pack(source, k);
     let high = P::pack(source, k + (64 / U::BITS) as usize);
@@ -336,9 +326,7 @@ pub(crate) fn block_after<O: BitOrder, U: BitStore, P: BitOrder>(
 ) -> u64
     requires within { skip < U.BITS }
     requires words { (k + t * (64 / U.BITS)) * U.BITS + 128 ≤ U.BITS * length source.now }
-    ensures { row_of O.place 64 (result ∷ [])
-        ≡ slice_range (row U.BitStore P.BitOrder source.now) (k * U.BITS + skip + t * 64)
-        (k * U.BITS + skip + t * 64 + 64) }
+    ensures { row_of O.place 64 (result ∷ []) ≡ run_at (row U.BitStore P.BitOrder source.now) (k * U.BITS + skip + t * 64) 64 }
 {
     block_at::<O, U, P>(source, k + t * (64 / U::BITS) as usize, skip)
 }
@@ -347,8 +335,7 @@ pub(crate) fn block_after<O: BitOrder, U: BitStore, P: BitOrder>(
 #[inline(always)]
 pub(crate) fn word_of_block<T: BitStore, O: BitOrder>(block: u64, i: u8) -> T
     requires { i < 64 / T.BITS }
-    ensures { row T.BitStore O.BitOrder (result ∷ [])
-        ≡ slice_range (row_of O.place 64 (block ∷ [])) (i * T.BITS) (i * T.BITS + T.BITS) }
+    ensures { row T.BitStore O.BitOrder (result ∷ []) ≡ run_at (row_of O.place 64 (block ∷ [])) (i * T.BITS) T.BITS }
 {
     T::from_u64(O::unpack::<T>(block) >> (i * T::BITS))
 }
@@ -357,8 +344,7 @@ pub(crate) fn word_of_block<T: BitStore, O: BitOrder>(block: u64, i: u8) -> T
 #[inline(always)]
 fn word_at<T: BitStore, O: BitOrder, U: BitStore, P: BitOrder>(source: &[U], at: usize) -> T
     requires { at + T.BITS ≤ U.BITS * length source.now }
-    ensures { row T.BitStore O.BitOrder (result ∷ [])
-        ≡ slice_range (row U.BitStore P.BitOrder source.now) at (at + T.BITS) }
+    ensures { row T.BitStore O.BitOrder (result ∷ []) ≡ run_at (row U.BitStore P.BitOrder source.now) at T.BITS }
 {
     let width = U::BITS as usize;
     let k = at / width;
@@ -382,9 +368,7 @@ pub(crate) fn word_after<T: BitStore, O: BitOrder, U: BitStore, P: BitOrder>(
     requires within { skip < U.BITS }
     requires source { begin * U.BITS + skip + t * T.BITS + T.BITS < U.BITS * length source.now }
     requires fits { begin * U.BITS + skip + t * T.BITS + T.BITS < 2 ^ 64 }
-    ensures { row T.BitStore O.BitOrder (result ∷ [])
-        ≡ slice_range (row U.BitStore P.BitOrder source.now) (begin * U.BITS + skip + t * T.BITS)
-        (begin * U.BITS + skip + t * T.BITS + T.BITS) }
+    ensures { row T.BitStore O.BitOrder (result ∷ []) ≡ run_at (row U.BitStore P.BitOrder source.now) (begin * U.BITS + skip + t * T.BITS) T.BITS }
 {
     if !P::goes_by_shifts() {
         return word_after_by_bits::<T, O, U, P>(source, begin, skip, t);

@@ -4,6 +4,7 @@ ghost use Rattle.std.specs.Simd.Lanes.{zip2};
 ghost use Rattle.bit_addressing.specs.Bits.{has_bit};
 ghost use Rattle.bit_addressing.specs.Row.{put, row_of};
 ghost use Rattle.bit_addressing.specs.Typed.{row};
+ghost use Rattle.bit_rows.specs.Runs.{AreAlike, combined_run};
 
 use crate::chunks::{
     are_alike, block_after, followed_blocks, word_after, word_alike, word_by_table, word_of_block,
@@ -99,10 +100,7 @@ fn combine_part<F: BitOperator, T: BitStore, O: BitOrder>(
     requires some { low < high }
     requires within { high ≤ T.BITS }
     ensures bits { row T.BitStore O.BitOrder words.new
-        ≡ put (row T.BitStore O.BitOrder words.old) (k * T.BITS + low)
-        (zip2 F.made
-        (slice_range (row T.BitStore O.BitOrder words.old) (k * T.BITS + low) (k * T.BITS + high))
-        (slice_range (row T.BitStore O.BitOrder (new ∷ [])) low high)) }
+        ≡ combined_run F.made (row T.BitStore O.BitOrder words.old) (k * T.BITS + low) (k * T.BITS + high) (row T.BitStore O.BitOrder (new ∷ [])) low high }
     ensures size { length words.new ≡ length words.old }
 {
     let word = F::apply(words[k], new);
@@ -127,10 +125,7 @@ fn combine_after<F: BitOperator, T: BitStore, O: BitOrder, U: BitStore, P: BitOr
     requires source { begin * U.BITS + skip + (last - first) * T.BITS < U.BITS * length source.now }
     requires source_fits { begin * U.BITS + skip + (last - first) * T.BITS < 2 ^ 64 }
     ensures bits { row T.BitStore O.BitOrder words.new
-        ≡ put (row T.BitStore O.BitOrder words.old) (first * T.BITS)
-        (zip2 F.made (slice_range (row T.BitStore O.BitOrder words.old) (first * T.BITS) (last * T.BITS))
-        (slice_range (row U.BitStore P.BitOrder source.now) (begin * U.BITS + skip)
-        (begin * U.BITS + skip + (last - first) * T.BITS))) }
+        ≡ combined_run F.made (row T.BitStore O.BitOrder words.old) (first * T.BITS) (last * T.BITS) (row U.BitStore P.BitOrder source.now) (begin * U.BITS + skip) (begin * U.BITS + skip + (last - first) * T.BITS) }
     ensures size { length words.new ≡ length words.old }
 {
     for k in first..last {
@@ -156,10 +151,7 @@ fn combine_by_table<F: BitOperator, T: BitStore, O: BitOrder, U: BitStore, P: Bi
     requires within { skip < U.BITS }
     requires source { begin * U.BITS + skip + (last - first) * T.BITS < U.BITS * length source.now }
     ensures bits { row T.BitStore O.BitOrder words.new
-        ≡ put (row T.BitStore O.BitOrder words.old) (first * T.BITS)
-        (zip2 F.made (slice_range (row T.BitStore O.BitOrder words.old) (first * T.BITS) (last * T.BITS))
-        (slice_range (row U.BitStore P.BitOrder source.now) (begin * U.BITS + skip)
-        (begin * U.BITS + skip + (last - first) * T.BITS))) }
+        ≡ combined_run F.made (row T.BitStore O.BitOrder words.old) (first * T.BITS) (last * T.BITS) (row U.BitStore P.BitOrder source.now) (begin * U.BITS + skip) (begin * U.BITS + skip + (last - first) * T.BITS) }
     ensures size { length words.new ≡ length words.old }
 {
     let table = PairTable::new::<T, O, U, P>(skip);
@@ -202,11 +194,7 @@ fn combine_blocks<F: BitOperator, T: BitStore, O: BitOrder, U: BitStore, P: BitO
     requires within { skip < U.BITS }
     requires source { (t : ℕ) → t < blocks → (begin + t * (64 / U.BITS)) * U.BITS + 128 ≤ U.BITS * length source.now }
     ensures bits { row T.BitStore O.BitOrder words.new
-        ≡ put (row T.BitStore O.BitOrder words.old) (first * T.BITS)
-        (zip2 F.made
-        (slice_range (row T.BitStore O.BitOrder words.old) (first * T.BITS) (first * T.BITS + blocks * 64))
-        (slice_range (row U.BitStore P.BitOrder source.now) (begin * U.BITS + skip)
-        (begin * U.BITS + skip + blocks * 64))) }
+        ≡ combined_run F.made (row T.BitStore O.BitOrder words.old) (first * T.BITS) (first * T.BITS + blocks * 64) (row U.BitStore P.BitOrder source.now) (begin * U.BITS + skip) (begin * U.BITS + skip + blocks * 64) }
     ensures size { length words.new ≡ length words.old }
 {
     let each = (64 / T::BITS) as usize;
@@ -232,10 +220,7 @@ fn combine_unlike<F: BitOperator, T: BitStore, O: BitOrder, U: BitStore, P: BitO
     requires source { begin * U.BITS + skip + (last - first) * T.BITS < U.BITS * length source.now }
     requires source_fits { begin * U.BITS + skip + (last - first) * T.BITS < 2 ^ 64 }
     ensures bits { row T.BitStore O.BitOrder words.new
-        ≡ put (row T.BitStore O.BitOrder words.old) (first * T.BITS)
-        (zip2 F.made (slice_range (row T.BitStore O.BitOrder words.old) (first * T.BITS) (last * T.BITS))
-        (slice_range (row U.BitStore P.BitOrder source.now) (begin * U.BITS + skip)
-        (begin * U.BITS + skip + (last - first) * T.BITS))) }
+        ≡ combined_run F.made (row T.BitStore O.BitOrder words.old) (first * T.BITS) (last * T.BITS) (row U.BitStore P.BitOrder source.now) (begin * U.BITS + skip) (begin * U.BITS + skip + (last - first) * T.BITS) }
     ensures size { length words.new ≡ length words.old }
 {
     let (each, others) = ((64 / T::BITS) as usize, (64 / U::BITS) as usize);
@@ -263,10 +248,7 @@ fn combine_shifted<F: BitOperator, T: BitStore, O: BitOrder, U: BitStore, P: Bit
     requires source { begin * U.BITS + skip + (last - first) * T.BITS < U.BITS * length source.now }
     requires source_fits { begin * U.BITS + skip + (last - first) * T.BITS < 2 ^ 64 }
     ensures bits { row T.BitStore O.BitOrder words.new
-        ≡ put (row T.BitStore O.BitOrder words.old) (first * T.BITS)
-        (zip2 F.made (slice_range (row T.BitStore O.BitOrder words.old) (first * T.BITS) (last * T.BITS))
-        (slice_range (row U.BitStore P.BitOrder source.now) (begin * U.BITS + skip)
-        (begin * U.BITS + skip + (last - first) * T.BITS))) }
+        ≡ combined_run F.made (row T.BitStore O.BitOrder words.old) (first * T.BITS) (last * T.BITS) (row U.BitStore P.BitOrder source.now) (begin * U.BITS + skip) (begin * U.BITS + skip + (last - first) * T.BITS) }
     ensures size { length words.new ≡ length words.old }
 {
     each_shift!(skip, by => combine_after::<F, T, O, U, P>(words, first, last, source, begin, by));
@@ -302,9 +284,7 @@ fn combine_whole<F: BitOperator, T: BitStore, O: BitOrder, U: BitStore, P: BitOr
     requires source { from + (last - first) * T.BITS < U.BITS * length source.now }
     requires source_fits { from + (last - first) * T.BITS < 2 ^ 64 }
     ensures bits { row T.BitStore O.BitOrder words.new
-        ≡ put (row T.BitStore O.BitOrder words.old) (first * T.BITS)
-        (zip2 F.made (slice_range (row T.BitStore O.BitOrder words.old) (first * T.BITS) (last * T.BITS))
-        (slice_range (row U.BitStore P.BitOrder source.now) from (from + (last - first) * T.BITS))) }
+        ≡ combined_run F.made (row T.BitStore O.BitOrder words.old) (first * T.BITS) (last * T.BITS) (row U.BitStore P.BitOrder source.now) from (from + (last - first) * T.BITS) }
     ensures size { length words.new ≡ length words.old }
 {
     let (begin, skip) = in_word::<U>(from);
@@ -335,16 +315,12 @@ fn combine_alike<F: BitOperator, T: BitStore, O: BitOrder, U: BitStore, P: BitOr
     source: &[U],
     begin: usize,
 )
-    requires width { U.BITS ≡ T.BITS }
-    requires order { (i : ℕ) → i < T.BITS → O.place T.BITS i ≡ P.place T.BITS i }
+    requires alike { AreAlike T.BITS U.BITS O.place P.place }
     requires ordered { first ≤ last }
     requires target { last ≤ length words.old }
     requires source { begin + (last - first) ≤ length source.now }
     ensures bits { row T.BitStore O.BitOrder words.new
-        ≡ put (row T.BitStore O.BitOrder words.old) (first * T.BITS)
-        (zip2 F.made (slice_range (row T.BitStore O.BitOrder words.old) (first * T.BITS) (last * T.BITS))
-        (slice_range (row U.BitStore P.BitOrder source.now) (begin * T.BITS)
-        (begin * T.BITS + (last - first) * T.BITS))) }
+        ≡ combined_run F.made (row T.BitStore O.BitOrder words.old) (first * T.BITS) (last * T.BITS) (row U.BitStore P.BitOrder source.now) (begin * T.BITS) (begin * T.BITS + (last - first) * T.BITS) }
     ensures size { length words.new ≡ length words.old }
 {
     for k in first..last {
@@ -370,9 +346,7 @@ fn combine_ahead<F: BitOperator, T: BitStore, O: BitOrder, U: BitStore, P: BitOr
     requires source { from + (last - first) * T.BITS + end ≤ U.BITS * length source.now }
     requires source_fits { from + (last - first) * T.BITS + end < 2 ^ 64 }
     ensures bits { row T.BitStore O.BitOrder words.new
-        ≡ put (row T.BitStore O.BitOrder words.old) (first * T.BITS)
-        (zip2 F.made (slice_range (row T.BitStore O.BitOrder words.old) (first * T.BITS) (last * T.BITS + end))
-        (slice_range (row U.BitStore P.BitOrder source.now) from (from + (last - first) * T.BITS + end))) }
+        ≡ combined_run F.made (row T.BitStore O.BitOrder words.old) (first * T.BITS) (last * T.BITS + end) (row U.BitStore P.BitOrder source.now) from (from + (last - first) * T.BITS + end) }
     ensures size { length words.new ≡ length words.old }
 {
     combine_whole::<F, T, O, U, P>(words, first, last, source, from);
@@ -395,9 +369,7 @@ fn combine_apart<F: BitOperator, T: BitStore, O: BitOrder, U: BitStore, P: BitOr
     requires target_fits { at + n < 2 ^ 64 }
     requires source_fits { from + n < 2 ^ 64 }
     ensures bits { row T.BitStore O.BitOrder words.new
-        ≡ put (row T.BitStore O.BitOrder words.old) at
-        (zip2 F.made (slice_range (row T.BitStore O.BitOrder words.old) at (at + n))
-        (slice_range (row U.BitStore P.BitOrder source.now) from (from + n))) }
+        ≡ combined_run F.made (row T.BitStore O.BitOrder words.old) at (at + n) (row U.BitStore P.BitOrder source.now) from (from + n) }
     ensures size { length words.new ≡ length words.old }
 {
     if n == 0 {
@@ -440,9 +412,7 @@ pub fn combine_bits<F: BitOperator, T: BitStore, O: BitOrder, U: BitStore, P: Bi
     requires target_fits { at + n < 2 ^ 64 }
     requires source_fits { from + n < 2 ^ 64 }
     ensures bits { row T.BitStore O.BitOrder words.new
-        ≡ put (row T.BitStore O.BitOrder words.old) at
-        (zip2 F.made (slice_range (row T.BitStore O.BitOrder words.old) at (at + n))
-        (slice_range (row U.BitStore P.BitOrder source.now) from (from + n))) }
+        ≡ combined_run F.made (row T.BitStore O.BitOrder words.old) at (at + n) (row U.BitStore P.BitOrder source.now) from (from + n) }
     ensures size { length words.new ≡ length words.old }
 {
     let width = T::BITS as usize;

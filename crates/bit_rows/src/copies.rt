@@ -1,7 +1,8 @@
 //! Runs of bits copied from one row into another, by whole words of the target.
-ghost use Rattle.std.specs.Prelude.{◌≡◌, ◌+◌, ◌*◌, ◌^◌, ◌<◌, ◌≤◌, length, slice_range};
+ghost use Rattle.std.specs.Prelude.{◌≡◌, ◌+◌, ◌*◌, ◌^◌, ◌<◌, ◌≤◌, length};
 ghost use Rattle.bit_addressing.specs.Row.{put};
 ghost use Rattle.bit_addressing.specs.Typed.{row};
+ghost use Rattle.bit_rows.specs.Runs.{run_at};
 
 use crate::combined::{Second, combine_bits};
 use bit_addressing::{BitOrder, BitStore};
@@ -20,9 +21,7 @@ pub fn copy_bits<T: BitStore, O: BitOrder, U: BitStore, P: BitOrder>(
     requires source { from + n ≤ U.BITS * length source.now }
     requires target_fits { at + n < 2 ^ 64 }
     requires source_fits { from + n < 2 ^ 64 }
-    ensures bits { row T.BitStore O.BitOrder words.new
-        ≡ put (row T.BitStore O.BitOrder words.old) at
-        (slice_range (row U.BitStore P.BitOrder source.now) from (from + n)) }
+    ensures bits { row T.BitStore O.BitOrder words.new ≡ put (row T.BitStore O.BitOrder words.old) at (run_at (row U.BitStore P.BitOrder source.now) from n) }
     ensures size { length words.new ≡ length words.old }
 {
     combine_bits::<Second, T, O, U, P>(words, at, source, from, n);

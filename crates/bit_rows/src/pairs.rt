@@ -1,8 +1,9 @@
 //! Bits that an operator makes of two rows, tested by whole words.
-ghost use Rattle.std.specs.Prelude.{◌≡◌, ℕ, ◌+◌, ◌*◌, ◌^◌, ◌<◌, ◌≤◌, false, length, slice_index_or, slice_range};
+ghost use Rattle.std.specs.Prelude.{◌≡◌, ℕ, ◌+◌, ◌*◌, ◌^◌, ◌<◌, ◌≤◌, false, length, slice_index_or};
 ghost use Rattle.std.specs.List.{count_by};
 ghost use Rattle.std.specs.Simd.Lanes.{zip2};
 ghost use Rattle.bit_addressing.specs.Typed.{row};
+ghost use Rattle.bit_rows.specs.Runs.{run_at, AreAlike};
 
 use crate::chunks::{are_alike, word_alike};
 use crate::combined::BitOperator;
@@ -21,8 +22,7 @@ fn false_turns<F: BitOperator, T: BitStore, O: BitOrder, U: BitStore, P: BitOrde
     count: usize,
     each: usize,
 ) -> usize
-    requires width { U.BITS ≡ T.BITS }
-    requires order { (i : ℕ) → i < T.BITS → O.place T.BITS i ≡ P.place T.BITS i }
+    requires alike { AreAlike T.BITS U.BITS O.place P.place }
     requires some { 0 < each }
     requires first { k + count ≤ length a.now }
     requires second { l + count ≤ length b.now }
@@ -90,15 +90,11 @@ fn count_run<F: BitOperator, T: BitStore, O: BitOrder, U: BitStore, P: BitOrder>
     l: usize,
     blocks: usize,
 ) -> usize
-    requires width { U.BITS ≡ T.BITS }
-    requires order { (i : ℕ) → i < T.BITS → O.place T.BITS i ≡ P.place T.BITS i }
+    requires alike { AreAlike T.BITS U.BITS O.place P.place }
     requires first { k * T.BITS + blocks * 64 ≤ T.BITS * length a.now }
     requires second { l * T.BITS + blocks * 64 ≤ T.BITS * length b.now }
     requires few { blocks * 64 < 2 ^ 64 }
-    ensures { result
-        ≡ count_by (λ b. b) (zip2 F.made
-        (slice_range (row T.BitStore O.BitOrder a.now) (k * T.BITS) (k * T.BITS + blocks * 64))
-        (slice_range (row U.BitStore P.BitOrder b.now) (l * T.BITS) (l * T.BITS + blocks * 64))) }
+    ensures { result ≡ count_by (λ b. b) (zip2 F.made (run_at (row T.BitStore O.BitOrder a.now) (k * T.BITS) (blocks * 64)) (run_at (row U.BitStore P.BitOrder b.now) (l * T.BITS) (blocks * 64))) }
 {
     let each = 64 / T::BITS as usize;
     let mut count = 0;
@@ -121,15 +117,11 @@ fn count_alike<F: BitOperator, T: BitStore, O: BitOrder, U: BitStore, P: BitOrde
     l: usize,
     blocks: usize,
 ) -> usize
-    requires width { U.BITS ≡ T.BITS }
-    requires order { (i : ℕ) → i < T.BITS → O.place T.BITS i ≡ P.place T.BITS i }
+    requires alike { AreAlike T.BITS U.BITS O.place P.place }
     requires first { k * T.BITS + blocks * 64 ≤ T.BITS * length a.now }
     requires second { l * T.BITS + blocks * 64 ≤ T.BITS * length b.now }
     requires few { blocks * 64 < 2 ^ 64 }
-    ensures { result
-        ≡ count_by (λ b. b) (zip2 F.made
-        (slice_range (row T.BitStore O.BitOrder a.now) (k * T.BITS) (k * T.BITS + blocks * 64))
-        (slice_range (row U.BitStore P.BitOrder b.now) (l * T.BITS) (l * T.BITS + blocks * 64))) }
+    ensures { result ≡ count_by (λ b. b) (zip2 F.made (run_at (row T.BitStore O.BitOrder a.now) (k * T.BITS) (blocks * 64)) (run_at (row U.BitStore P.BitOrder b.now) (l * T.BITS) (blocks * 64))) }
 {
     let each = 64 / T::BITS as usize;
     let turns = blocks / 4;
@@ -159,10 +151,7 @@ pub fn count_blocks<F: BitOperator, T: BitStore, O: BitOrder, U: BitStore, P: Bi
     requires first { i + n ≤ T.BITS * length a.now }
     requires second { j + n ≤ U.BITS * length b.now }
     ensures few { result.0 * 64 ≤ n }
-    ensures count { result.1
-        ≡ count_by (λ b. b) (zip2 F.made
-        (slice_range (row T.BitStore O.BitOrder a.now) i (i + result.0 * 64))
-        (slice_range (row U.BitStore P.BitOrder b.now) j (j + result.0 * 64))) }
+    ensures count { result.1 ≡ count_by (λ b. b) (zip2 F.made (run_at (row T.BitStore O.BitOrder a.now) i (result.0 * 64)) (run_at (row U.BitStore P.BitOrder b.now) j (result.0 * 64))) }
 {
     let width = T::BITS as usize;
     if !are_alike::<T, O, U, P>() || i % width != 0 || j % width != 0 {

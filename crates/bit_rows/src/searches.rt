@@ -1,9 +1,9 @@
 //! Bits counted and compared, by whole words.
-ghost use Rattle.std.specs.Prelude.{◌≡◌, ℕ, true, ◌+◌, ◌-◌, ◌*◌, ◌/◌, ◌%◌, ◌^◌, ◌<◌, ◌≤◌, length, slice_range, MatchOption, not, replicate, [], ◌∷◌, if◌then◌else◌, ◌&&◌, false, ltb, slice_index_or};
+ghost use Rattle.std.specs.Prelude.{◌≡◌, ℕ, true, ◌+◌, ◌-◌, ◌*◌, ◌/◌, ◌%◌, ◌^◌, ◌<◌, ◌≤◌, length, slice_range, not, [], ◌∷◌, if◌then◌else◌, ◌&&◌, false, ltb, slice_index_or};
 ghost use Rattle.std.specs.List.{count_by};
 ghost use Rattle.bit_addressing.specs.Bits.{has_bit};
-ghost use Rattle.bit_addressing.specs.Row.{IsFirst, IsFirstDifference};
 ghost use Rattle.bit_addressing.specs.Typed.{row};
+ghost use Rattle.bit_rows.specs.Runs.{run_at, AreAlike, AreEqualRuns, AreAll, DiffersFirst, FindsFirst};
 
 use crate::chunks::{are_alike, block_after, followed_blocks, read_chunk, word_alike, word_number};
 use bit_addressing::{BitEnd, BitIdx, BitOrder, BitStore, Lsb0, Span, in_row, in_word};
@@ -36,9 +36,7 @@ fn count_words<T: BitStore, O: BitOrder>(words: &[T], first: usize, last: usize)
 fn count_front<T: BitStore, O: BitOrder>(words: &[T], first: usize, n: usize) -> usize
     requires within { first * T.BITS + n ≤ T.BITS * length words.now }
     requires fits { first * T.BITS + n < 2 ^ 64 }
-    ensures { result
-        ≡ count_by (λ b. b)
-        (slice_range (row T.BitStore O.BitOrder words.now) (first * T.BITS) (first * T.BITS + n)) }
+    ensures { result ≡ count_by (λ b. b) (run_at (row T.BitStore O.BitOrder words.now) (first * T.BITS) n) }
 {
     let width = T::BITS as usize;
     let last = first + n / width;
@@ -101,9 +99,7 @@ fn equal_blocks<T: BitStore, O: BitOrder, U: BitStore, P: BitOrder>(
     requires more { (t : ℕ) → t < count → (k + t * (64 / T.BITS)) * T.BITS + 128 ≤ T.BITS * length a.now }
     requires other_more { (t : ℕ) → t < count → (l + t * (64 / U.BITS)) * U.BITS + 128 ≤ U.BITS * length b.now }
     ensures most { result ≤ count }
-    ensures alike { slice_range (row T.BitStore O.BitOrder a.now) (k * T.BITS + skip)
-        (k * T.BITS + skip + result * 64)
-        ≡ slice_range (row U.BitStore P.BitOrder b.now) (l * U.BITS + over) (l * U.BITS + over + result * 64) }
+    ensures alike { AreEqualRuns (row T.BitStore O.BitOrder a.now) (k * T.BITS + skip) (row U.BitStore P.BitOrder b.now) (l * U.BITS + over) (result * 64) }
 {
     for t in 0..count / 16 {
         let done = t * 16;
@@ -138,12 +134,7 @@ fn differ_from<T: BitStore, O: BitOrder, U: BitStore, P: BitOrder>(
     requires second { l * U.BITS + over + n ≤ U.BITS * length b.now }
     requires first_fits { k * T.BITS + skip + n < 2 ^ 64 }
     requires second_fits { l * U.BITS + over + n < 2 ^ 64 }
-    ensures { MatchOption result (slice_range (row T.BitStore O.BitOrder a.now) (k * T.BITS + skip)
-        (k * T.BITS + skip + n)
-        ≡ slice_range (row U.BitStore P.BitOrder b.now) (l * U.BITS + over) (l * U.BITS + over + n))
-        (λ d. IsFirstDifference
-        (slice_range (row T.BitStore O.BitOrder a.now) (k * T.BITS + skip) (k * T.BITS + skip + n))
-        (slice_range (row U.BitStore P.BitOrder b.now) (l * U.BITS + over) (l * U.BITS + over + n)) d) }
+    ensures { DiffersFirst result (run_at (row T.BitStore O.BitOrder a.now) (k * T.BITS + skip) n) (run_at (row U.BitStore P.BitOrder b.now) (l * U.BITS + over) n) }
 {
     let (i, j) = (in_row::<T>(k, skip), in_row::<U>(l, over));
     let room = followed_blocks::<T>(a.len(), k).min(followed_blocks::<U>(b.len(), l));
@@ -191,15 +182,12 @@ fn equal_turns<T: BitStore, O: BitOrder, U: BitStore, P: BitOrder>(
     count: usize,
     each: usize,
 ) -> usize
-    requires width { U.BITS ≡ T.BITS }
-    requires order { (i : ℕ) → i < T.BITS → O.place T.BITS i ≡ P.place T.BITS i }
+    requires alike { AreAlike T.BITS U.BITS O.place P.place }
     requires some { 0 < each }
     requires first { k + count ≤ length a.now }
     requires second { l + count ≤ length b.now }
     ensures most { result ≤ count }
-    ensures alike { slice_range (row T.BitStore O.BitOrder a.now) (k * T.BITS)
-        (k * T.BITS + result * T.BITS)
-        ≡ slice_range (row U.BitStore P.BitOrder b.now) (l * T.BITS) (l * T.BITS + result * T.BITS) }
+    ensures alike { AreEqualRuns (row T.BitStore O.BitOrder a.now) (k * T.BITS) (row U.BitStore P.BitOrder b.now) (l * T.BITS) (result * T.BITS) }
 {
     for t in 0..count / each {
         let done = t * each;
@@ -226,18 +214,14 @@ fn equal_after<T: BitStore, O: BitOrder, U: BitStore, P: BitOrder>(
     far: usize,
     each: usize,
 ) -> usize
-    requires width { U.BITS ≡ T.BITS }
-    requires order { (i : ℕ) → i < T.BITS → O.place T.BITS i ≡ P.place T.BITS i }
+    requires alike { AreAlike T.BITS U.BITS O.place P.place }
     requires some { 0 < each }
     requires first { k + count ≤ length a.now }
     requires second { l + count ≤ length b.now }
     requires within { far ≤ count }
-    requires known { slice_range (row T.BitStore O.BitOrder a.now) (k * T.BITS) (k * T.BITS + far * T.BITS)
-        ≡ slice_range (row U.BitStore P.BitOrder b.now) (l * T.BITS) (l * T.BITS + far * T.BITS) }
+    requires known { AreEqualRuns (row T.BitStore O.BitOrder a.now) (k * T.BITS) (row U.BitStore P.BitOrder b.now) (l * T.BITS) (far * T.BITS) }
     ensures most { result ≤ count }
-    ensures alike { slice_range (row T.BitStore O.BitOrder a.now) (k * T.BITS)
-        (k * T.BITS + result * T.BITS)
-        ≡ slice_range (row U.BitStore P.BitOrder b.now) (l * T.BITS) (l * T.BITS + result * T.BITS) }
+    ensures alike { AreEqualRuns (row T.BitStore O.BitOrder a.now) (k * T.BITS) (row U.BitStore P.BitOrder b.now) (l * T.BITS) (result * T.BITS) }
 {
     far + equal_turns::<T, O, U, P>(a, k + far, b, l + far, count - far, each)
 }
@@ -253,14 +237,11 @@ fn equal_front<T: BitStore, O: BitOrder, U: BitStore, P: BitOrder>(
     count: usize,
     long: bool,
 ) -> usize
-    requires width { U.BITS ≡ T.BITS }
-    requires order { (i : ℕ) → i < T.BITS → O.place T.BITS i ≡ P.place T.BITS i }
+    requires alike { AreAlike T.BITS U.BITS O.place P.place }
     requires first { k + count ≤ length a.now }
     requires second { l + count ≤ length b.now }
     ensures most { result ≤ count }
-    ensures alike { slice_range (row T.BitStore O.BitOrder a.now) (k * T.BITS)
-        (k * T.BITS + result * T.BITS)
-        ≡ slice_range (row U.BitStore P.BitOrder b.now) (l * T.BITS) (l * T.BITS + result * T.BITS) }
+    ensures alike { AreEqualRuns (row T.BitStore O.BitOrder a.now) (k * T.BITS) (row U.BitStore P.BitOrder b.now) (l * T.BITS) (result * T.BITS) }
 {
     let width = T::BITS as usize;
     let far = if long {
@@ -283,8 +264,7 @@ fn first_bits_apart<T: BitStore, O: BitOrder, U: BitStore, P: BitOrder>(
     right: U,
     n: u8,
 ) -> T
-    requires width { U.BITS ≡ T.BITS }
-    requires order { (i : ℕ) → i < T.BITS → O.place T.BITS i ≡ P.place T.BITS i }
+    requires alike { AreAlike T.BITS U.BITS O.place P.place }
     requires few { n ≤ T.BITS }
     ensures { (i : ℕ) → i < T.BITS
         → has_bit (T.value result) (O.place T.BITS i)
@@ -307,17 +287,12 @@ fn differ_alike<T: BitStore, O: BitOrder, U: BitStore, P: BitOrder>(
     n: usize,
     long: bool,
 ) -> Option<usize>
-    requires width { U.BITS ≡ T.BITS }
-    requires order { (i : ℕ) → i < T.BITS → O.place T.BITS i ≡ P.place T.BITS i }
+    requires alike { AreAlike T.BITS U.BITS O.place P.place }
     requires first { k * T.BITS + n ≤ T.BITS * length a.now }
     requires second { l * T.BITS + n ≤ T.BITS * length b.now }
     requires first_fits { k * T.BITS + n < 2 ^ 64 }
     requires second_fits { l * T.BITS + n < 2 ^ 64 }
-    ensures { MatchOption result (slice_range (row T.BitStore O.BitOrder a.now) (k * T.BITS)
-        (k * T.BITS + n) ≡ slice_range (row U.BitStore P.BitOrder b.now) (l * T.BITS) (l * T.BITS + n))
-        (λ d. IsFirstDifference
-        (slice_range (row T.BitStore O.BitOrder a.now) (k * T.BITS) (k * T.BITS + n))
-        (slice_range (row U.BitStore P.BitOrder b.now) (l * T.BITS) (l * T.BITS + n)) d) }
+    ensures { DiffersFirst result (run_at (row T.BitStore O.BitOrder a.now) (k * T.BITS) n) (run_at (row U.BitStore P.BitOrder b.now) (l * T.BITS) n) }
 {
     let width = T::BITS as usize;
     let whole = n / width;
@@ -352,17 +327,12 @@ fn differ_long<T: BitStore, O: BitOrder, U: BitStore, P: BitOrder>(
     l: usize,
     n: usize,
 ) -> Option<usize>
-    requires width { U.BITS ≡ T.BITS }
-    requires order { (i : ℕ) → i < T.BITS → O.place T.BITS i ≡ P.place T.BITS i }
+    requires alike { AreAlike T.BITS U.BITS O.place P.place }
     requires first { k * T.BITS + n ≤ T.BITS * length a.now }
     requires second { l * T.BITS + n ≤ T.BITS * length b.now }
     requires first_fits { k * T.BITS + n < 2 ^ 64 }
     requires second_fits { l * T.BITS + n < 2 ^ 64 }
-    ensures { MatchOption result (slice_range (row T.BitStore O.BitOrder a.now) (k * T.BITS)
-        (k * T.BITS + n) ≡ slice_range (row U.BitStore P.BitOrder b.now) (l * T.BITS) (l * T.BITS + n))
-        (λ d. IsFirstDifference
-        (slice_range (row T.BitStore O.BitOrder a.now) (k * T.BITS) (k * T.BITS + n))
-        (slice_range (row U.BitStore P.BitOrder b.now) (l * T.BITS) (l * T.BITS + n)) d) }
+    ensures { DiffersFirst result (run_at (row T.BitStore O.BitOrder a.now) (k * T.BITS) n) (run_at (row U.BitStore P.BitOrder b.now) (l * T.BITS) n) }
 {
     differ_alike::<T, O, U, P>(a, k, b, l, n, true)
 }
@@ -384,12 +354,7 @@ fn differ_apart<T: BitStore, O: BitOrder, U: BitStore, P: BitOrder>(
     requires second { l * U.BITS + over + n ≤ U.BITS * length b.now }
     requires first_fits { k * T.BITS + skip + n < 2 ^ 64 }
     requires second_fits { l * U.BITS + over + n < 2 ^ 64 }
-    ensures { MatchOption result (slice_range (row T.BitStore O.BitOrder a.now) (k * T.BITS + skip)
-        (k * T.BITS + skip + n)
-        ≡ slice_range (row U.BitStore P.BitOrder b.now) (l * U.BITS + over) (l * U.BITS + over + n))
-        (λ d. IsFirstDifference
-        (slice_range (row T.BitStore O.BitOrder a.now) (k * T.BITS + skip) (k * T.BITS + skip + n))
-        (slice_range (row U.BitStore P.BitOrder b.now) (l * U.BITS + over) (l * U.BITS + over + n)) d) }
+    ensures { DiffersFirst result (run_at (row T.BitStore O.BitOrder a.now) (k * T.BITS + skip) n) (run_at (row U.BitStore P.BitOrder b.now) (l * U.BITS + over) n) }
 {
     if skip == 0 && over == 0 {
         return differ_from::<T, O, U, P>(a, k, 0, b, l, 0, n);
@@ -411,10 +376,7 @@ pub fn differ_at<T: BitStore, O: BitOrder, U: BitStore, P: BitOrder>(
     requires second { j + n ≤ U.BITS * length b.now }
     requires first_fits { i + n < 2 ^ 64 }
     requires second_fits { j + n < 2 ^ 64 }
-    ensures { MatchOption result (slice_range (row T.BitStore O.BitOrder a.now) i (i + n)
-        ≡ slice_range (row U.BitStore P.BitOrder b.now) j (j + n))
-        (λ k. IsFirstDifference (slice_range (row T.BitStore O.BitOrder a.now) i (i + n))
-        (slice_range (row U.BitStore P.BitOrder b.now) j (j + n)) k) }
+    ensures { DiffersFirst result (run_at (row T.BitStore O.BitOrder a.now) i n) (run_at (row U.BitStore P.BitOrder b.now) j n) }
 {
     let (k, skip) = in_word::<T>(i);
     let (l, over) = in_word::<U>(j);
@@ -439,8 +401,7 @@ fn blocks_without<T: BitStore, O: BitOrder>(
     requires ordered { from ≤ upto }
     requires within { upto ≤ T.BITS * length words.now }
     ensures few { result * 64 ≤ upto - from }
-    ensures others { slice_range (row T.BitStore O.BitOrder words.now) from (from + result * 64)
-        ≡ replicate (result * 64) (not bit) }
+    ensures others { AreAll (not bit) (row T.BitStore O.BitOrder words.now) from (result * 64) }
 {
     if upto - from < 64 || upto - from < 4 * T::BITS as usize {
         return 0;
@@ -471,8 +432,7 @@ fn turns_without<T: BitStore, O: BitOrder>(
     requires within { k + count ≤ length words.now }
     requires same { (p : ℕ) → p < T.BITS → has_bit (T.value other) p ≡ has_bit (T.value other) 0 }
     ensures most { result ≤ count }
-    ensures others { slice_range (row T.BitStore O.BitOrder words.now) (k * T.BITS) (k * T.BITS + result * T.BITS)
-        ≡ replicate (result * T.BITS) (has_bit (T.value other) 0) }
+    ensures others { AreAll (has_bit (T.value other) 0) (row T.BitStore O.BitOrder words.now) (k * T.BITS) (result * T.BITS) }
 {
     for t in 0..count / each {
         let done = t * each;
@@ -493,8 +453,7 @@ fn bits_without<T: BitStore, O: BitOrder>(words: &[T], from: usize, upto: usize,
     requires ordered { from ≤ upto }
     requires within { upto ≤ T.BITS * length words.now }
     ensures few { result ≤ upto - from }
-    ensures others { slice_range (row T.BitStore O.BitOrder words.now) from (from + result)
-        ≡ replicate result (not bit) }
+    ensures others { AreAll (not bit) (row T.BitStore O.BitOrder words.now) from result }
 {
     let width = T::BITS as usize;
     if from % width != 0 {
@@ -514,9 +473,7 @@ fn find_by_chunks<T: BitStore, O: BitOrder>(
 ) -> Option<usize>
     requires ordered { from ≤ upto }
     requires within { upto ≤ T.BITS * length words.now }
-    ensures { MatchOption result
-        (slice_range (row T.BitStore O.BitOrder words.now) from upto ≡ replicate (upto - from) (not bit))
-        (λ k. IsFirst bit (slice_range (row T.BitStore O.BitOrder words.now) from upto) k) }
+    ensures { FindsFirst result bit (slice_range (row T.BitStore O.BitOrder words.now) from upto) (upto - from) }
 {
     let others = if bit { 0 } else { u64::MAX };
     let n = upto - from;
@@ -544,8 +501,7 @@ fn bits_passed<T: BitStore, O: BitOrder>(words: &[T], from: usize, upto: usize, 
     requires ordered { from ≤ upto }
     requires within { upto ≤ T.BITS * length words.now }
     ensures few { result ≤ upto - from }
-    ensures others { slice_range (row T.BitStore O.BitOrder words.now) from (from + result)
-        ≡ replicate result (not bit) }
+    ensures others { AreAll (not bit) (row T.BitStore O.BitOrder words.now) from result }
 {
     let near = blocks_without::<T, O>(words, from, from + (upto - from).min(1024), bit) * 64;
     if near < 1024 {
@@ -565,9 +521,7 @@ fn find_after<T: BitStore, O: BitOrder>(
 ) -> Option<usize>
     requires ordered { from ≤ upto }
     requires within { upto ≤ T.BITS * length words.now }
-    ensures { MatchOption result
-        (slice_range (row T.BitStore O.BitOrder words.now) from upto ≡ replicate (upto - from) (not bit))
-        (λ k. IsFirst bit (slice_range (row T.BitStore O.BitOrder words.now) from upto) k) }
+    ensures { FindsFirst result bit (slice_range (row T.BitStore O.BitOrder words.now) from upto) (upto - from) }
 {
     let passed = bits_passed::<T, O>(words, from, upto, bit);
     let Some(at) = find_by_chunks::<T, O>(words, from + passed, upto, bit) else {
@@ -587,9 +541,7 @@ pub fn find_bit<T: BitStore, O: BitOrder>(
 ) -> Option<usize>
     requires ordered { from ≤ upto }
     requires within { upto ≤ T.BITS * length words.now }
-    ensures { MatchOption result
-        (slice_range (row T.BitStore O.BitOrder words.now) from upto ≡ replicate (upto - from) (not bit))
-        (λ k. IsFirst bit (slice_range (row T.BitStore O.BitOrder words.now) from upto) k) }
+    ensures { FindsFirst result bit (slice_range (row T.BitStore O.BitOrder words.now) from upto) (upto - from) }
 {
     if from == upto {
         return None;

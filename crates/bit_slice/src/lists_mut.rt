@@ -7,8 +7,8 @@ ghost use Rattle.bit_addressing.specs.Range.{LiesIn};
 ghost use Rattle.bit_addressing.specs.Row.{binary, moved, number_bits, put, touched};
 ghost use Rattle.bit_addressing.specs.Typed.{row as row_of};
 ghost use Rattle.bit_slice.specs.BitSlice.{len_of, list_of};
-ghost use Rattle.bit_slice.specs.Clean.{IsCleanRow};
-ghost use Rattle.bit_slice.specs.Lists.{lends_to};
+ghost use Rattle.bit_slice.specs.Clean.{StaysClean};
+ghost use Rattle.bit_slice.specs.Lists.{lends_to, Stays};
 ghost use Rattle.bit_slice.specs.Operators.{and_not_of, and_of, combined, or_of, part_onto, xor_of, AndsEach, OrsEach, XorsEach, CombinesEach, FlipsEach};
 ghost use Rattle.bit_slice.specs.Overwritten.{list_in};
 
@@ -36,6 +36,10 @@ pub trait BitListMut: BitList {
 
     // How many bits it has room for without new memory.
     ghost capacity: { Self → ℕ };
+
+    // The loan of its words, where they are borrowed: what is written lands in the words that were lent under this
+    // name. 0 where it owns them.
+    ghost loan: { Self → ℕ };
 
     // What it becomes when its words are these.
     ghost rewritten: { Self → List Self.Store → Self };
@@ -67,6 +71,8 @@ pub trait BitListMut: BitList {
 
     ghost capacity_rewritten: { (s : Self) (ws : List Self.Store) → capacity (rewritten s ws) ≡ capacity s };
 
+    ghost loan_rewritten: { (s : Self) (ws : List Self.Store) → loan (rewritten s ws) ≡ loan s };
+
     /// Writes the bit at `i`, and no other bit. Takes no memory. Requires that `i` is below the length.
     ///
     /// ```text
@@ -74,14 +80,10 @@ pub trait BitListMut: BitList {
     /// ```
     final fn set(&mut self, i: usize, bit: bool)
         requires { i < Self.len self.old }
-        ensures list { (Self.list self.new) ≡ set (Self.list self.old) i bit }
-        ensures row { (bits self.new) ≡ set (bits self.old) ((Self.head self.old) + i) bit }
-        ensures clean { IsCleanRow Self.Store.BITS (Self.head self.old) (bits self.old) (Self.list self.old)
-            → IsCleanRow Self.Store.BITS (Self.head self.new) (bits self.new) (Self.list self.new) }
-        ensures head { Self.head self.new ≡ Self.head self.old }
-        ensures len { Self.len self.new ≡ Self.len self.old }
-        ensures size { count self.new ≡ count self.old }
-        ensures capacity { capacity self.new ≡ capacity self.old }
+        ensures list { Self.list self.new ≡ set (Self.list self.old) i bit }
+        ensures row { bits self.new ≡ set (bits self.old) (Self.head self.old + i) bit }
+        ensures clean { StaysClean Self.Store.BITS Self.head bits Self.list self.old self.new }
+        ensures stays { Stays Self.head Self.len count capacity loan self.old self.new }
     {
         let (head, len) = (self.head(), self.len());
         set_over::<Self::Store, Self::Order>(self.as_raw_mut_slice(), head, len, i, bit);
@@ -96,14 +98,10 @@ pub trait BitListMut: BitList {
     final fn replace(&mut self, i: usize, bit: bool) -> bool
         requires { i < Self.len self.old }
         ensures old { slice_get (Self.list self.old) i ≡ Some result }
-        ensures list { (Self.list self.new) ≡ set (Self.list self.old) i bit }
-        ensures row { (bits self.new) ≡ set (bits self.old) ((Self.head self.old) + i) bit }
-        ensures head { Self.head self.new ≡ Self.head self.old }
-        ensures len { Self.len self.new ≡ Self.len self.old }
-        ensures size { count self.new ≡ count self.old }
-        ensures capacity { capacity self.new ≡ capacity self.old }
-        ensures clean { IsCleanRow Self.Store.BITS (Self.head self.old) (bits self.old) (Self.list self.old)
-            → IsCleanRow Self.Store.BITS (Self.head self.new) (bits self.new) (Self.list self.new) }
+        ensures list { Self.list self.new ≡ set (Self.list self.old) i bit }
+        ensures row { bits self.new ≡ set (bits self.old) (Self.head self.old + i) bit }
+        ensures stays { Stays Self.head Self.len count capacity loan self.old self.new }
+        ensures clean { StaysClean Self.Store.BITS Self.head bits Self.list self.old self.new }
     {
         let old = self.as_bitslice()[i];
         self.set(i, bit);
@@ -119,14 +117,10 @@ pub trait BitListMut: BitList {
     final fn swap(&mut self, i: usize, j: usize)
         requires first { i < Self.len self.old }
         requires second { j < Self.len self.old }
-        ensures list { (Self.list self.new) ≡ swap (Self.list self.old) i j }
-        ensures row { (bits self.new) ≡ swap (bits self.old) ((Self.head self.old) + i) ((Self.head self.old) + j) }
-        ensures clean { IsCleanRow Self.Store.BITS (Self.head self.old) (bits self.old) (Self.list self.old)
-            → IsCleanRow Self.Store.BITS (Self.head self.new) (bits self.new) (Self.list self.new) }
-        ensures head { Self.head self.new ≡ Self.head self.old }
-        ensures len { Self.len self.new ≡ Self.len self.old }
-        ensures size { count self.new ≡ count self.old }
-        ensures capacity { capacity self.new ≡ capacity self.old }
+        ensures list { Self.list self.new ≡ swap (Self.list self.old) i j }
+        ensures row { bits self.new ≡ swap (bits self.old) (Self.head self.old + i) (Self.head self.old + j) }
+        ensures clean { StaysClean Self.Store.BITS Self.head bits Self.list self.old self.new }
+        ensures stays { Stays Self.head Self.len count capacity loan self.old self.new }
     {
         let (head, len) = (self.head(), self.len());
         swap_over::<Self::Store, Self::Order>(self.as_raw_mut_slice(), head, len, i, j);
@@ -139,16 +133,12 @@ pub trait BitListMut: BitList {
     /// ```
     final fn flip(&mut self, i: usize)
         requires { i < Self.len self.old }
-        ensures list { (Self.list self.new) ≡ set (Self.list self.old) i (not (slice_index_or (Self.list self.old) i false)) }
-        ensures row { (bits self.new)
-            ≡ set (bits self.old) ((Self.head self.old) + i) (not (slice_index_or (Self.list self.old) i false)) }
+        ensures list { Self.list self.new ≡ set (Self.list self.old) i (not (slice_index_or (Self.list self.old) i false)) }
+        ensures row { bits self.new
+            ≡ set (bits self.old) (Self.head self.old + i) (not (slice_index_or (Self.list self.old) i false)) }
         ensures item { slice_get (Self.list self.new) i ≡ option_map not (slice_get (Self.list self.old) i) }
-        ensures clean { IsCleanRow Self.Store.BITS (Self.head self.old) (bits self.old) (Self.list self.old)
-            → IsCleanRow Self.Store.BITS (Self.head self.new) (bits self.new) (Self.list self.new) }
-        ensures head { Self.head self.new ≡ Self.head self.old }
-        ensures len { Self.len self.new ≡ Self.len self.old }
-        ensures size { count self.new ≡ count self.old }
-        ensures capacity { capacity self.new ≡ capacity self.old }
+        ensures clean { StaysClean Self.Store.BITS Self.head bits Self.list self.old self.new }
+        ensures stays { Stays Self.head Self.len count capacity loan self.old self.new }
     {
         let bit = self.as_bitslice()[i];
         self.set(i, !bit);
@@ -160,14 +150,12 @@ pub trait BitListMut: BitList {
     /// of 01101001: bits.fill(true) leaves 11111111
     /// ```
     final fn fill(&mut self, bit: bool)
-        ensures list { (Self.list self.new) ≡ replicate (Self.len self.old) bit }
-        ensures row { (bits self.new) ≡ put (bits self.old) (Self.head self.old) (replicate (Self.len self.old) bit) }
-        ensures clean { IsCleanRow Self.Store.BITS (Self.head self.old) (bits self.old) (Self.list self.old)
-            → IsCleanRow Self.Store.BITS (Self.head self.new) (bits self.new) (Self.list self.new) }
-        ensures head { Self.head self.new ≡ Self.head self.old }
-        ensures len { Self.len self.new ≡ Self.len self.old }
-        ensures size { count self.new ≡ count self.old }
-        ensures capacity { capacity self.new ≡ capacity self.old }
+        ensures list { Self.list self.new ≡ replicate (Self.len self.old) bit }
+        ensures row { bits self.new ≡ put (bits self.old) (Self.head self.old) (replicate (Self.len self.old) bit) }
+        ensures whole { Self.head self.old ≡ 0 → Self.len self.old ≡ Self.Store.BITS * count self.old
+            → bits self.new ≡ replicate (Self.len self.old) bit }
+        ensures clean { StaysClean Self.Store.BITS Self.head bits Self.list self.old self.new }
+        ensures stays { Stays Self.head Self.len count capacity loan self.old self.new }
     {
         let (head, len) = (self.head(), self.len());
         fill_over::<Self::Store, Self::Order>(self.as_raw_mut_slice(), head, len, bit);
@@ -181,18 +169,14 @@ pub trait BitListMut: BitList {
     /// ```
     final fn fill_range<R: RangeExt>(&mut self, range: R, bit: bool)
         requires lies { LiesIn (R.start_of range) (R.end_of range (Self.len self.old)) (Self.len self.old) }
-        ensures list { (Self.list self.new)
+        ensures list { Self.list self.new
             ≡ put (Self.list self.old) (R.start_of range)
             (replicate (R.end_of range (Self.len self.old) - R.start_of range) bit) }
-        ensures row { (bits self.new)
-            ≡ put (bits self.old) ((Self.head self.old) + R.start_of range)
+        ensures row { bits self.new
+            ≡ put (bits self.old) (Self.head self.old + R.start_of range)
             (replicate (R.end_of range (Self.len self.old) - R.start_of range) bit) }
-        ensures clean { IsCleanRow Self.Store.BITS (Self.head self.old) (bits self.old) (Self.list self.old)
-            → IsCleanRow Self.Store.BITS (Self.head self.new) (bits self.new) (Self.list self.new) }
-        ensures head { Self.head self.new ≡ Self.head self.old }
-        ensures len { Self.len self.new ≡ Self.len self.old }
-        ensures size { count self.new ≡ count self.old }
-        ensures capacity { capacity self.new ≡ capacity self.old }
+        ensures clean { StaysClean Self.Store.BITS Self.head bits Self.list self.old self.new }
+        ensures stays { Stays Self.head Self.len count capacity loan self.old self.new }
     {
         let (head, len) = (self.head(), self.len());
         fill_range_over::<Self::Store, Self::Order, R>(
@@ -212,19 +196,15 @@ pub trait BitListMut: BitList {
     /// ```
     final fn flip_range<R: RangeExt>(&mut self, range: R)
         requires lies { LiesIn (R.start_of range) (R.end_of range (Self.len self.old)) (Self.len self.old) }
-        ensures list { (Self.list self.new)
+        ensures list { Self.list self.new
             ≡ put (Self.list self.old) (R.start_of range) (map not
             (slice_range (Self.list self.old) (R.start_of range) (R.end_of range (Self.len self.old)))) }
-        ensures row { (bits self.new)
-            ≡ put (bits self.old) ((Self.head self.old) + R.start_of range)
+        ensures row { bits self.new
+            ≡ put (bits self.old) (Self.head self.old + R.start_of range)
             (map not
             (slice_range (Self.list self.old) (R.start_of range) (R.end_of range (Self.len self.old)))) }
-        ensures clean { IsCleanRow Self.Store.BITS (Self.head self.old) (bits self.old) (Self.list self.old)
-            → IsCleanRow Self.Store.BITS (Self.head self.new) (bits self.new) (Self.list self.new) }
-        ensures head { Self.head self.new ≡ Self.head self.old }
-        ensures len { Self.len self.new ≡ Self.len self.old }
-        ensures size { count self.new ≡ count self.old }
-        ensures capacity { capacity self.new ≡ capacity self.old }
+        ensures clean { StaysClean Self.Store.BITS Self.head bits Self.list self.old self.new }
+        ensures stays { Stays Self.head Self.len count capacity loan self.old self.new }
     {
         let (head, len) = (self.head(), self.len());
         flip_range_over::<Self::Store, Self::Order, R>(self.as_raw_mut_slice(), head, len, range);
@@ -238,21 +218,17 @@ pub trait BitListMut: BitList {
         other: BitSlice<'_, U, P>,
     )
         requires lies { LiesIn (R.start_of range) (R.end_of range (Self.len self.old)) (Self.len self.old) }
-        ensures list { (Self.list self.new)
+        ensures list { Self.list self.new
             ≡ put (Self.list self.old) (R.start_of range) (combined F.made
             (slice_range (Self.list self.old) (R.start_of range) (R.end_of range (Self.len self.old)))
             (list_of other.entry)) }
-        ensures row { (bits self.new)
-            ≡ put (bits self.old) ((Self.head self.old) + R.start_of range)
+        ensures row { bits self.new
+            ≡ put (bits self.old) (Self.head self.old + R.start_of range)
             (combined F.made
             (slice_range (Self.list self.old) (R.start_of range) (R.end_of range (Self.len self.old)))
             (list_of other.entry)) }
-        ensures clean { IsCleanRow Self.Store.BITS (Self.head self.old) (bits self.old) (Self.list self.old)
-            → IsCleanRow Self.Store.BITS (Self.head self.new) (bits self.new) (Self.list self.new) }
-        ensures head { Self.head self.new ≡ Self.head self.old }
-        ensures len { Self.len self.new ≡ Self.len self.old }
-        ensures size { count self.new ≡ count self.old }
-        ensures capacity { capacity self.new ≡ capacity self.old }
+        ensures clean { StaysClean Self.Store.BITS Self.head bits Self.list self.old self.new }
+        ensures stays { Stays Self.head Self.len count capacity loan self.old self.new }
     {
         let (head, len) = (self.head(), self.len());
         combine_range_over::<F, Self::Store, Self::Order, R, U, P>(
@@ -277,20 +253,16 @@ pub trait BitListMut: BitList {
         other: BitSlice<'_, U, P>,
     )
         requires lies { LiesIn (R.start_of range) (R.end_of range (Self.len self.old)) (Self.len self.old) }
-        ensures list { (Self.list self.new)
+        ensures list { Self.list self.new
             ≡ put (Self.list self.old) (R.start_of range) (and_of
             (slice_range (Self.list self.old) (R.start_of range) (R.end_of range (Self.len self.old)))
             (list_of other.entry)) }
-        ensures row { (bits self.new)
-            ≡ put (bits self.old) ((Self.head self.old) + R.start_of range)
+        ensures row { bits self.new
+            ≡ put (bits self.old) (Self.head self.old + R.start_of range)
             (and_of (slice_range (Self.list self.old) (R.start_of range) (R.end_of range (Self.len self.old)))
             (list_of other.entry)) }
-        ensures clean { IsCleanRow Self.Store.BITS (Self.head self.old) (bits self.old) (Self.list self.old)
-            → IsCleanRow Self.Store.BITS (Self.head self.new) (bits self.new) (Self.list self.new) }
-        ensures head { Self.head self.new ≡ Self.head self.old }
-        ensures len { Self.len self.new ≡ Self.len self.old }
-        ensures size { count self.new ≡ count self.old }
-        ensures capacity { capacity self.new ≡ capacity self.old }
+        ensures clean { StaysClean Self.Store.BITS Self.head bits Self.list self.old self.new }
+        ensures stays { Stays Self.head Self.len count capacity loan self.old self.new }
     {
         self.combine_range::<And, R, U, P>(range, other);
     }
@@ -307,20 +279,16 @@ pub trait BitListMut: BitList {
         other: BitSlice<'_, U, P>,
     )
         requires lies { LiesIn (R.start_of range) (R.end_of range (Self.len self.old)) (Self.len self.old) }
-        ensures list { (Self.list self.new)
+        ensures list { Self.list self.new
             ≡ put (Self.list self.old) (R.start_of range) (or_of
             (slice_range (Self.list self.old) (R.start_of range) (R.end_of range (Self.len self.old)))
             (list_of other.entry)) }
-        ensures row { (bits self.new)
-            ≡ put (bits self.old) ((Self.head self.old) + R.start_of range)
+        ensures row { bits self.new
+            ≡ put (bits self.old) (Self.head self.old + R.start_of range)
             (or_of (slice_range (Self.list self.old) (R.start_of range) (R.end_of range (Self.len self.old)))
             (list_of other.entry)) }
-        ensures clean { IsCleanRow Self.Store.BITS (Self.head self.old) (bits self.old) (Self.list self.old)
-            → IsCleanRow Self.Store.BITS (Self.head self.new) (bits self.new) (Self.list self.new) }
-        ensures head { Self.head self.new ≡ Self.head self.old }
-        ensures len { Self.len self.new ≡ Self.len self.old }
-        ensures size { count self.new ≡ count self.old }
-        ensures capacity { capacity self.new ≡ capacity self.old }
+        ensures clean { StaysClean Self.Store.BITS Self.head bits Self.list self.old self.new }
+        ensures stays { Stays Self.head Self.len count capacity loan self.old self.new }
     {
         self.combine_range::<Or, R, U, P>(range, other);
     }
@@ -337,20 +305,16 @@ pub trait BitListMut: BitList {
         other: BitSlice<'_, U, P>,
     )
         requires lies { LiesIn (R.start_of range) (R.end_of range (Self.len self.old)) (Self.len self.old) }
-        ensures list { (Self.list self.new)
+        ensures list { Self.list self.new
             ≡ put (Self.list self.old) (R.start_of range) (xor_of
             (slice_range (Self.list self.old) (R.start_of range) (R.end_of range (Self.len self.old)))
             (list_of other.entry)) }
-        ensures row { (bits self.new)
-            ≡ put (bits self.old) ((Self.head self.old) + R.start_of range)
+        ensures row { bits self.new
+            ≡ put (bits self.old) (Self.head self.old + R.start_of range)
             (xor_of (slice_range (Self.list self.old) (R.start_of range) (R.end_of range (Self.len self.old)))
             (list_of other.entry)) }
-        ensures clean { IsCleanRow Self.Store.BITS (Self.head self.old) (bits self.old) (Self.list self.old)
-            → IsCleanRow Self.Store.BITS (Self.head self.new) (bits self.new) (Self.list self.new) }
-        ensures head { Self.head self.new ≡ Self.head self.old }
-        ensures len { Self.len self.new ≡ Self.len self.old }
-        ensures size { count self.new ≡ count self.old }
-        ensures capacity { capacity self.new ≡ capacity self.old }
+        ensures clean { StaysClean Self.Store.BITS Self.head bits Self.list self.old self.new }
+        ensures stays { Stays Self.head Self.len count capacity loan self.old self.new }
     {
         self.combine_range::<Xor, R, U, P>(range, other);
     }
@@ -368,14 +332,10 @@ pub trait BitListMut: BitList {
     )
         requires lies { LiesIn (R.start_of range) (R.end_of range (Self.len self.old)) (Self.len self.old) }
         requires same_len { len_of source ≡ R.end_of range (Self.len self.old) - R.start_of range }
-        ensures list { (Self.list self.new) ≡ put (Self.list self.old) (R.start_of range) (list_of source.entry) }
-        ensures row { (bits self.new) ≡ put (bits self.old) ((Self.head self.old) + R.start_of range) (list_of source.entry) }
-        ensures clean { IsCleanRow Self.Store.BITS (Self.head self.old) (bits self.old) (Self.list self.old)
-            → IsCleanRow Self.Store.BITS (Self.head self.new) (bits self.new) (Self.list self.new) }
-        ensures head { Self.head self.new ≡ Self.head self.old }
-        ensures len { Self.len self.new ≡ Self.len self.old }
-        ensures size { count self.new ≡ count self.old }
-        ensures capacity { capacity self.new ≡ capacity self.old }
+        ensures list { Self.list self.new ≡ put (Self.list self.old) (R.start_of range) (list_of source.entry) }
+        ensures row { bits self.new ≡ put (bits self.old) (Self.head self.old + R.start_of range) (list_of source.entry) }
+        ensures clean { StaysClean Self.Store.BITS Self.head bits Self.list self.old self.new }
+        ensures stays { Stays Self.head Self.len count capacity loan self.old self.new }
     {
         let (head, len) = (self.head(), self.len());
         copy_into_over::<Self::Store, Self::Order, R, U, P>(
@@ -395,14 +355,10 @@ pub trait BitListMut: BitList {
     /// ```
     final fn store_le(&mut self, number: u64)
         requires { Self.len self.old ≤ 64 }
-        ensures list { (Self.list self.new) ≡ number_bits number (Self.len self.old) }
-        ensures row { (bits self.new) ≡ put (bits self.old) (Self.head self.old) (number_bits number (Self.len self.old)) }
-        ensures clean { IsCleanRow Self.Store.BITS (Self.head self.old) (bits self.old) (Self.list self.old)
-            → IsCleanRow Self.Store.BITS (Self.head self.new) (bits self.new) (Self.list self.new) }
-        ensures head { Self.head self.new ≡ Self.head self.old }
-        ensures len { Self.len self.new ≡ Self.len self.old }
-        ensures size { count self.new ≡ count self.old }
-        ensures capacity { capacity self.new ≡ capacity self.old }
+        ensures list { Self.list self.new ≡ number_bits number (Self.len self.old) }
+        ensures row { bits self.new ≡ put (bits self.old) (Self.head self.old) (number_bits number (Self.len self.old)) }
+        ensures clean { StaysClean Self.Store.BITS Self.head bits Self.list self.old self.new }
+        ensures stays { Stays Self.head Self.len count capacity loan self.old self.new }
     {
         let (head, len) = (self.head(), self.len());
         store_le_over::<Self::Store, Self::Order>(self.as_raw_mut_slice(), head, len, number);
@@ -416,14 +372,10 @@ pub trait BitListMut: BitList {
     /// ```
     final fn store_be(&mut self, number: u64)
         requires { Self.len self.old ≤ 64 }
-        ensures list { (Self.list self.new) ≡ binary (Self.len self.old) number }
-        ensures row { (bits self.new) ≡ put (bits self.old) (Self.head self.old) (binary (Self.len self.old) number) }
-        ensures clean { IsCleanRow Self.Store.BITS (Self.head self.old) (bits self.old) (Self.list self.old)
-            → IsCleanRow Self.Store.BITS (Self.head self.new) (bits self.new) (Self.list self.new) }
-        ensures head { Self.head self.new ≡ Self.head self.old }
-        ensures len { Self.len self.new ≡ Self.len self.old }
-        ensures size { count self.new ≡ count self.old }
-        ensures capacity { capacity self.new ≡ capacity self.old }
+        ensures list { Self.list self.new ≡ binary (Self.len self.old) number }
+        ensures row { bits self.new ≡ put (bits self.old) (Self.head self.old) (binary (Self.len self.old) number) }
+        ensures clean { StaysClean Self.Store.BITS Self.head bits Self.list self.old self.new }
+        ensures stays { Stays Self.head Self.len count capacity loan self.old self.new }
     {
         let (head, len) = (self.head(), self.len());
         store_be_over::<Self::Store, Self::Order>(self.as_raw_mut_slice(), head, len, number);
@@ -435,14 +387,10 @@ pub trait BitListMut: BitList {
     /// of 01101001 and 01010101: bits.and_not_bits(other) leaves 00101000
     /// ```
     final fn and_not_bits<U: BitStore, P: BitOrder>(&mut self, other: BitSlice<'_, U, P>)
-        ensures list { (Self.list self.new) ≡ and_not_of (Self.list self.old) (list_of other.entry) }
-        ensures row { (bits self.new) ≡ put (bits self.old) (Self.head self.old) (and_not_of (Self.list self.old) (list_of other.entry)) }
-        ensures clean { IsCleanRow Self.Store.BITS (Self.head self.old) (bits self.old) (Self.list self.old)
-            → IsCleanRow Self.Store.BITS (Self.head self.new) (bits self.new) (Self.list self.new) }
-        ensures head { Self.head self.new ≡ Self.head self.old }
-        ensures len { Self.len self.new ≡ Self.len self.old }
-        ensures size { count self.new ≡ count self.old }
-        ensures capacity { capacity self.new ≡ capacity self.old }
+        ensures list { Self.list self.new ≡ and_not_of (Self.list self.old) (list_of other.entry) }
+        ensures row { bits self.new ≡ put (bits self.old) (Self.head self.old) (and_not_of (Self.list self.old) (list_of other.entry)) }
+        ensures clean { StaysClean Self.Store.BITS Self.head bits Self.list self.old self.new }
+        ensures stays { Stays Self.head Self.len count capacity loan self.old self.new }
     {
         self.combine::<AndNot, U, P>(other);
     }
@@ -450,16 +398,12 @@ pub trait BitListMut: BitList {
     /// Combines each bit, by `F`, with the bit at its index in a view, or with false past the view's end.
     #[tactic(auto, using(crate::proofs::Rules::item_of_combined))]
     final fn combine<F: BitOperator, U: BitStore, P: BitOrder>(&mut self, other: BitSlice<'_, U, P>)
-        ensures list { (Self.list self.new) ≡ combined F.made (Self.list self.old) (list_of other.entry) }
+        ensures list { Self.list self.new ≡ combined F.made (Self.list self.old) (list_of other.entry) }
         ensures index { CombinesEach F.made (Self.list self.old) (list_of other.entry) (Self.list self.new) }
-        ensures row { (bits self.new)
+        ensures row { bits self.new
             ≡ put (bits self.old) (Self.head self.old) (combined F.made (Self.list self.old) (list_of other.entry)) }
-        ensures clean { IsCleanRow Self.Store.BITS (Self.head self.old) (bits self.old) (Self.list self.old)
-            → IsCleanRow Self.Store.BITS (Self.head self.new) (bits self.new) (Self.list self.new) }
-        ensures head { Self.head self.new ≡ Self.head self.old }
-        ensures len { Self.len self.new ≡ Self.len self.old }
-        ensures size { count self.new ≡ count self.old }
-        ensures capacity { capacity self.new ≡ capacity self.old }
+        ensures clean { StaysClean Self.Store.BITS Self.head bits Self.list self.old self.new }
+        ensures stays { Stays Self.head Self.len count capacity loan self.old self.new }
     {
         let (head, len) = (self.head(), self.len());
         combine_over::<F, Self::Store, Self::Order, U, P>(
@@ -477,15 +421,11 @@ pub trait BitListMut: BitList {
     /// of 01101001 and 01010101: bits.and_bits(other) leaves 01000001
     /// ```
     final fn and_bits<U: BitStore, P: BitOrder>(&mut self, other: BitSlice<'_, U, P>)
-        ensures list { (Self.list self.new) ≡ and_of (Self.list self.old) (list_of other.entry) }
+        ensures list { Self.list self.new ≡ and_of (Self.list self.old) (list_of other.entry) }
         ensures index { AndsEach (Self.list self.old) (list_of other.entry) (Self.list self.new) }
-        ensures row { (bits self.new) ≡ put (bits self.old) (Self.head self.old) (and_of (Self.list self.old) (list_of other.entry)) }
-        ensures clean { IsCleanRow Self.Store.BITS (Self.head self.old) (bits self.old) (Self.list self.old)
-            → IsCleanRow Self.Store.BITS (Self.head self.new) (bits self.new) (Self.list self.new) }
-        ensures head { Self.head self.new ≡ Self.head self.old }
-        ensures len { Self.len self.new ≡ Self.len self.old }
-        ensures size { count self.new ≡ count self.old }
-        ensures capacity { capacity self.new ≡ capacity self.old }
+        ensures row { bits self.new ≡ put (bits self.old) (Self.head self.old) (and_of (Self.list self.old) (list_of other.entry)) }
+        ensures clean { StaysClean Self.Store.BITS Self.head bits Self.list self.old self.new }
+        ensures stays { Stays Self.head Self.len count capacity loan self.old self.new }
     {
         self.combine::<And, U, P>(other);
     }
@@ -497,15 +437,11 @@ pub trait BitListMut: BitList {
     /// of 01101001 and 01010101: bits.or_bits(other) leaves 01111101
     /// ```
     final fn or_bits<U: BitStore, P: BitOrder>(&mut self, other: BitSlice<'_, U, P>)
-        ensures list { (Self.list self.new) ≡ or_of (Self.list self.old) (list_of other.entry) }
+        ensures list { Self.list self.new ≡ or_of (Self.list self.old) (list_of other.entry) }
         ensures index { OrsEach (Self.list self.old) (list_of other.entry) (Self.list self.new) }
-        ensures row { (bits self.new) ≡ put (bits self.old) (Self.head self.old) (or_of (Self.list self.old) (list_of other.entry)) }
-        ensures clean { IsCleanRow Self.Store.BITS (Self.head self.old) (bits self.old) (Self.list self.old)
-            → IsCleanRow Self.Store.BITS (Self.head self.new) (bits self.new) (Self.list self.new) }
-        ensures head { Self.head self.new ≡ Self.head self.old }
-        ensures len { Self.len self.new ≡ Self.len self.old }
-        ensures size { count self.new ≡ count self.old }
-        ensures capacity { capacity self.new ≡ capacity self.old }
+        ensures row { bits self.new ≡ put (bits self.old) (Self.head self.old) (or_of (Self.list self.old) (list_of other.entry)) }
+        ensures clean { StaysClean Self.Store.BITS Self.head bits Self.list self.old self.new }
+        ensures stays { Stays Self.head Self.len count capacity loan self.old self.new }
     {
         self.combine::<Or, U, P>(other);
     }
@@ -517,15 +453,11 @@ pub trait BitListMut: BitList {
     /// of 01101001 and 01010101: bits.xor_bits(other) leaves 00111100
     /// ```
     final fn xor_bits<U: BitStore, P: BitOrder>(&mut self, other: BitSlice<'_, U, P>)
-        ensures list { (Self.list self.new) ≡ xor_of (Self.list self.old) (list_of other.entry) }
+        ensures list { Self.list self.new ≡ xor_of (Self.list self.old) (list_of other.entry) }
         ensures index { XorsEach (Self.list self.old) (list_of other.entry) (Self.list self.new) }
-        ensures row { (bits self.new) ≡ put (bits self.old) (Self.head self.old) (xor_of (Self.list self.old) (list_of other.entry)) }
-        ensures clean { IsCleanRow Self.Store.BITS (Self.head self.old) (bits self.old) (Self.list self.old)
-            → IsCleanRow Self.Store.BITS (Self.head self.new) (bits self.new) (Self.list self.new) }
-        ensures head { Self.head self.new ≡ Self.head self.old }
-        ensures len { Self.len self.new ≡ Self.len self.old }
-        ensures size { count self.new ≡ count self.old }
-        ensures capacity { capacity self.new ≡ capacity self.old }
+        ensures row { bits self.new ≡ put (bits self.old) (Self.head self.old) (xor_of (Self.list self.old) (list_of other.entry)) }
+        ensures clean { StaysClean Self.Store.BITS Self.head bits Self.list self.old self.new }
+        ensures stays { Stays Self.head Self.len count capacity loan self.old self.new }
     {
         self.combine::<Xor, U, P>(other);
     }
@@ -538,14 +470,12 @@ pub trait BitListMut: BitList {
     /// ```
     final fn clone_from_bitslice<U: BitStore, P: BitOrder>(&mut self, source: BitSlice<'_, U, P>)
         requires { len_of source ≡ Self.len self.old }
-        ensures list { (Self.list self.new) ≡ list_of source.entry }
-        ensures row { (bits self.new) ≡ put (bits self.old) (Self.head self.old) (list_of source.entry) }
-        ensures clean { IsCleanRow Self.Store.BITS (Self.head self.old) (bits self.old) (Self.list self.old)
-            → IsCleanRow Self.Store.BITS (Self.head self.new) (bits self.new) (Self.list self.new) }
-        ensures head { Self.head self.new ≡ Self.head self.old }
-        ensures len { Self.len self.new ≡ Self.len self.old }
-        ensures size { count self.new ≡ count self.old }
-        ensures capacity { capacity self.new ≡ capacity self.old }
+        ensures list { Self.list self.new ≡ list_of source.entry }
+        ensures row { bits self.new ≡ put (bits self.old) (Self.head self.old) (list_of source.entry) }
+        ensures whole { Self.head self.old ≡ 0 → Self.len self.old ≡ Self.Store.BITS * count self.old
+            → bits self.new ≡ list_of source.entry }
+        ensures clean { StaysClean Self.Store.BITS Self.head bits Self.list self.old self.new }
+        ensures stays { Stays Self.head Self.len count capacity loan self.old self.new }
     {
         let (head, len) = (self.head(), self.len());
         copy_over::<Self::Store, Self::Order, U, P>(self.as_raw_mut_slice(), head, len, source);
@@ -561,21 +491,17 @@ pub trait BitListMut: BitList {
     final fn copy_within<R: RangeExt>(&mut self, range: R, dest: usize)
         requires lies { LiesIn (R.start_of range) (R.end_of range (Self.len self.old)) (Self.len self.old) }
         requires room { dest + (R.end_of range (Self.len self.old) - R.start_of range) ≤ Self.len self.old }
-        ensures list { (Self.list self.new)
+        ensures list { Self.list self.new
             ≡ moved (Self.list self.old) (R.start_of range) dest
             (R.end_of range (Self.len self.old) - R.start_of range) }
-        ensures row { (bits self.new)
-            ≡ moved (bits self.old) ((Self.head self.old) + R.start_of range) ((Self.head self.old) + dest)
+        ensures row { bits self.new
+            ≡ moved (bits self.old) (Self.head self.old + R.start_of range) (Self.head self.old + dest)
             (R.end_of range (Self.len self.old) - R.start_of range) }
         ensures landed { let n = R.end_of range (Self.len self.old)
             - R.start_of range in slice_range (Self.list self.new) dest (dest + n)
             ≡ slice_range (Self.list self.old) (R.start_of range) (R.start_of range + n) }
-        ensures clean { IsCleanRow Self.Store.BITS (Self.head self.old) (bits self.old) (Self.list self.old)
-            → IsCleanRow Self.Store.BITS (Self.head self.new) (bits self.new) (Self.list self.new) }
-        ensures head { Self.head self.new ≡ Self.head self.old }
-        ensures len { Self.len self.new ≡ Self.len self.old }
-        ensures size { count self.new ≡ count self.old }
-        ensures capacity { capacity self.new ≡ capacity self.old }
+        ensures clean { StaysClean Self.Store.BITS Self.head bits Self.list self.old self.new }
+        ensures stays { Stays Self.head Self.len count capacity loan self.old self.new }
     {
         let _meter = self.copy_within_counted(range, dest);
     }
@@ -589,27 +515,23 @@ pub trait BitListMut: BitList {
     final fn copy_within_counted<R: RangeExt>(&mut self, range: R, dest: usize) -> Meter
         requires lies { LiesIn (R.start_of range) (R.end_of range (Self.len self.old)) (Self.len self.old) }
         requires room { dest + (R.end_of range (Self.len self.old) - R.start_of range) ≤ Self.len self.old }
-        ensures list { (Self.list self.new)
+        ensures list { Self.list self.new
             ≡ moved (Self.list self.old) (R.start_of range) dest
             (R.end_of range (Self.len self.old) - R.start_of range) }
-        ensures row { (bits self.new)
-            ≡ moved (bits self.old) ((Self.head self.old) + R.start_of range) ((Self.head self.old) + dest)
+        ensures row { bits self.new
+            ≡ moved (bits self.old) (Self.head self.old + R.start_of range) (Self.head self.old + dest)
             (R.end_of range (Self.len self.old) - R.start_of range) }
         ensures landed { let n = R.end_of range (Self.len self.old)
             - R.start_of range in slice_range (Self.list self.new) dest (dest + n)
             ≡ slice_range (Self.list self.old) (R.start_of range) (R.start_of range + n) }
-        ensures clean { IsCleanRow Self.Store.BITS (Self.head self.old) (bits self.old) (Self.list self.old)
-            → IsCleanRow Self.Store.BITS (Self.head self.new) (bits self.new) (Self.list self.new) }
-        ensures head { Self.head self.new ≡ Self.head self.old }
-        ensures len { Self.len self.new ≡ Self.len self.old }
-        ensures size { count self.new ≡ count self.old }
-        ensures capacity { capacity self.new ≡ capacity self.old }
+        ensures clean { StaysClean Self.Store.BITS Self.head bits Self.list self.old self.new }
+        ensures stays { Stays Self.head Self.len count capacity loan self.old self.new }
         ensures writes { result.writes
-            ≤ touched Self.Store.BITS ((Self.head self.old) + dest)
+            ≤ touched Self.Store.BITS (Self.head self.old + dest)
             (R.end_of range (Self.len self.old) - R.start_of range) }
         ensures reads { result.reads
             ≤ 3
-            * touched Self.Store.BITS ((Self.head self.old) + dest)
+            * touched Self.Store.BITS (Self.head self.old + dest)
             (R.end_of range (Self.len self.old) - R.start_of range) }
     {
         let (head, len) = (self.head(), self.len());
@@ -629,16 +551,12 @@ pub trait BitListMut: BitList {
     /// ```
     #[tactic(auto, using(crate::proofs::Moved::reversed_at))]
     final fn reverse(&mut self)
-        ensures list { (Self.list self.new) ≡ reverse (Self.list self.old) }
+        ensures list { Self.list self.new ≡ reverse (Self.list self.old) }
         ensures index { (j : ℕ) → j < Self.len self.old
             → slice_get (Self.list self.new) j ≡ slice_get (Self.list self.old) (Self.len self.old - 1 - j) }
-        ensures row { (bits self.new) ≡ put (bits self.old) (Self.head self.old) (reverse (Self.list self.old)) }
-        ensures clean { IsCleanRow Self.Store.BITS (Self.head self.old) (bits self.old) (Self.list self.old)
-            → IsCleanRow Self.Store.BITS (Self.head self.new) (bits self.new) (Self.list self.new) }
-        ensures head { Self.head self.new ≡ Self.head self.old }
-        ensures len { Self.len self.new ≡ Self.len self.old }
-        ensures size { count self.new ≡ count self.old }
-        ensures capacity { capacity self.new ≡ capacity self.old }
+        ensures row { bits self.new ≡ put (bits self.old) (Self.head self.old) (reverse (Self.list self.old)) }
+        ensures clean { StaysClean Self.Store.BITS Self.head bits Self.list self.old self.new }
+        ensures stays { Stays Self.head Self.len count capacity loan self.old self.new }
     {
         let (head, len) = (self.head(), self.len());
         reverse_over::<Self::Store, Self::Order>(self.as_raw_mut_slice(), head, len);
@@ -653,18 +571,14 @@ pub trait BitListMut: BitList {
     #[tactic(auto, using(crate::proofs::Moved::rotated_front, crate::proofs::Moved::rotated_back))]
     final fn rotate_left(&mut self, by: usize)
         requires { by ≤ Self.len self.old }
-        ensures list { (Self.list self.new) ≡ drop by (Self.list self.old) ++ take by (Self.list self.old) }
+        ensures list { Self.list self.new ≡ drop by (Self.list self.old) ++ take by (Self.list self.old) }
         ensures front { (j : ℕ) → j + by < Self.len self.old
             → slice_get (Self.list self.new) j ≡ slice_get (Self.list self.old) (j + by) }
         ensures back { (j : ℕ) → j < by
             → slice_get (Self.list self.new) (Self.len self.old - by + j) ≡ slice_get (Self.list self.old) j }
-        ensures row { (bits self.new) ≡ put (bits self.old) (Self.head self.old) (drop by (Self.list self.old) ++ take by (Self.list self.old)) }
-        ensures clean { IsCleanRow Self.Store.BITS (Self.head self.old) (bits self.old) (Self.list self.old)
-            → IsCleanRow Self.Store.BITS (Self.head self.new) (bits self.new) (Self.list self.new) }
-        ensures head { Self.head self.new ≡ Self.head self.old }
-        ensures len { Self.len self.new ≡ Self.len self.old }
-        ensures size { count self.new ≡ count self.old }
-        ensures capacity { capacity self.new ≡ capacity self.old }
+        ensures row { bits self.new ≡ put (bits self.old) (Self.head self.old) (drop by (Self.list self.old) ++ take by (Self.list self.old)) }
+        ensures clean { StaysClean Self.Store.BITS Self.head bits Self.list self.old self.new }
+        ensures stays { Stays Self.head Self.len count capacity loan self.old self.new }
     {
         let (head, len) = (self.head(), self.len());
         rotate_over::<Self::Store, Self::Order>(self.as_raw_mut_slice(), head, len, by);
@@ -679,22 +593,18 @@ pub trait BitListMut: BitList {
     #[tactic(auto, using(crate::proofs::Moved::rotated_right_front, crate::proofs::Moved::rotated_right_back))]
     final fn rotate_right(&mut self, by: usize)
         requires { by ≤ Self.len self.old }
-        ensures list { (Self.list self.new)
+        ensures list { Self.list self.new
             ≡ drop (Self.len self.old - by) (Self.list self.old)
             ++ take (Self.len self.old - by) (Self.list self.old) }
         ensures front { (j : ℕ) → j < by
             → slice_get (Self.list self.new) j ≡ slice_get (Self.list self.old) (Self.len self.old - by + j) }
         ensures back { (j : ℕ) → j + by < Self.len self.old
             → slice_get (Self.list self.new) (j + by) ≡ slice_get (Self.list self.old) j }
-        ensures row { (bits self.new)
+        ensures row { bits self.new
             ≡ put (bits self.old) (Self.head self.old) (drop (Self.len self.old - by) (Self.list self.old)
             ++ take (Self.len self.old - by) (Self.list self.old)) }
-        ensures clean { IsCleanRow Self.Store.BITS (Self.head self.old) (bits self.old) (Self.list self.old)
-            → IsCleanRow Self.Store.BITS (Self.head self.new) (bits self.new) (Self.list self.new) }
-        ensures head { Self.head self.new ≡ Self.head self.old }
-        ensures len { Self.len self.new ≡ Self.len self.old }
-        ensures size { count self.new ≡ count self.old }
-        ensures capacity { capacity self.new ≡ capacity self.old }
+        ensures clean { StaysClean Self.Store.BITS Self.head bits Self.list self.old self.new }
+        ensures stays { Stays Self.head Self.len count capacity loan self.old self.new }
     {
         let (head, len) = (self.head(), self.len());
         rotate_over::<Self::Store, Self::Order>(self.as_raw_mut_slice(), head, len, len - by);
@@ -709,18 +619,14 @@ pub trait BitListMut: BitList {
     #[tactic(auto, using(crate::proofs::Moved::shifted_left_at, crate::proofs::Moved::shifted_left_end))]
     final fn shift_left(&mut self, by: usize)
         requires { by ≤ Self.len self.old }
-        ensures list { (Self.list self.new) ≡ drop by (Self.list self.old) ++ replicate by false }
+        ensures list { Self.list self.new ≡ drop by (Self.list self.old) ++ replicate by false }
         ensures kept { (j : ℕ) → j + by < Self.len self.old
             → slice_get (Self.list self.new) j ≡ slice_get (Self.list self.old) (j + by) }
         ensures cleared { (j : ℕ) → Self.len self.old ≤ j + by → j < Self.len self.old
             → slice_get (Self.list self.new) j ≡ Some false }
-        ensures row { (bits self.new) ≡ put (bits self.old) (Self.head self.old) (drop by (Self.list self.old) ++ replicate by false) }
-        ensures clean { IsCleanRow Self.Store.BITS (Self.head self.old) (bits self.old) (Self.list self.old)
-            → IsCleanRow Self.Store.BITS (Self.head self.new) (bits self.new) (Self.list self.new) }
-        ensures head { Self.head self.new ≡ Self.head self.old }
-        ensures len { Self.len self.new ≡ Self.len self.old }
-        ensures size { count self.new ≡ count self.old }
-        ensures capacity { capacity self.new ≡ capacity self.old }
+        ensures row { bits self.new ≡ put (bits self.old) (Self.head self.old) (drop by (Self.list self.old) ++ replicate by false) }
+        ensures clean { StaysClean Self.Store.BITS Self.head bits Self.list self.old self.new }
+        ensures stays { Stays Self.head Self.len count capacity loan self.old self.new }
     {
         let (head, len) = (self.head(), self.len());
         shift_left_over::<Self::Store, Self::Order>(self.as_raw_mut_slice(), head, len, by);
@@ -735,19 +641,15 @@ pub trait BitListMut: BitList {
     #[tactic(auto, using(crate::proofs::Moved::shifted_right_at, crate::proofs::Moved::shifted_right_front))]
     final fn shift_right(&mut self, by: usize)
         requires { by ≤ Self.len self.old }
-        ensures list { (Self.list self.new) ≡ replicate by false ++ take (Self.len self.old - by) (Self.list self.old) }
+        ensures list { Self.list self.new ≡ replicate by false ++ take (Self.len self.old - by) (Self.list self.old) }
         ensures kept { (j : ℕ) → j + by < Self.len self.old
             → slice_get (Self.list self.new) (j + by) ≡ slice_get (Self.list self.old) j }
         ensures cleared { (j : ℕ) → j < by → slice_get (Self.list self.new) j ≡ Some false }
-        ensures row { (bits self.new)
+        ensures row { bits self.new
             ≡ put (bits self.old) (Self.head self.old)
             (replicate by false ++ take (Self.len self.old - by) (Self.list self.old)) }
-        ensures clean { IsCleanRow Self.Store.BITS (Self.head self.old) (bits self.old) (Self.list self.old)
-            → IsCleanRow Self.Store.BITS (Self.head self.new) (bits self.new) (Self.list self.new) }
-        ensures head { Self.head self.new ≡ Self.head self.old }
-        ensures len { Self.len self.new ≡ Self.len self.old }
-        ensures size { count self.new ≡ count self.old }
-        ensures capacity { capacity self.new ≡ capacity self.old }
+        ensures clean { StaysClean Self.Store.BITS Self.head bits Self.list self.old self.new }
+        ensures stays { Stays Self.head Self.len count capacity loan self.old self.new }
     {
         let (head, len) = (self.head(), self.len());
         shift_right_over::<Self::Store, Self::Order>(self.as_raw_mut_slice(), head, len, by);
@@ -758,19 +660,15 @@ pub trait BitListMut: BitList {
     final fn combine_within<F: BitOperator, R: RangeExt>(&mut self, range: R, dest: usize)
         requires lies { LiesIn (R.start_of range) (R.end_of range (Self.len self.old)) (Self.len self.old) }
         requires room { dest + (R.end_of range (Self.len self.old) - R.start_of range) ≤ Self.len self.old }
-        ensures list { (Self.list self.new)
+        ensures list { Self.list self.new
             ≡ put (Self.list self.old) dest (part_onto (combined F.made) (Self.list self.old) (R.start_of range)
             (R.end_of range (Self.len self.old)) dest) }
-        ensures row { (bits self.new)
-            ≡ put (bits self.old) ((Self.head self.old) + dest)
+        ensures row { bits self.new
+            ≡ put (bits self.old) (Self.head self.old + dest)
             (part_onto (combined F.made) (Self.list self.old) (R.start_of range)
             (R.end_of range (Self.len self.old)) dest) }
-        ensures clean { IsCleanRow Self.Store.BITS (Self.head self.old) (bits self.old) (Self.list self.old)
-            → IsCleanRow Self.Store.BITS (Self.head self.new) (bits self.new) (Self.list self.new) }
-        ensures head { Self.head self.new ≡ Self.head self.old }
-        ensures len { Self.len self.new ≡ Self.len self.old }
-        ensures size { count self.new ≡ count self.old }
-        ensures capacity { capacity self.new ≡ capacity self.old }
+        ensures clean { StaysClean Self.Store.BITS Self.head bits Self.list self.old self.new }
+        ensures stays { Stays Self.head Self.len count capacity loan self.old self.new }
     {
         let (head, len) = (self.head(), self.len());
         combine_within_over::<F, Self::Store, Self::Order, R>(
@@ -792,19 +690,15 @@ pub trait BitListMut: BitList {
     final fn and_within<R: RangeExt>(&mut self, range: R, dest: usize)
         requires lies { LiesIn (R.start_of range) (R.end_of range (Self.len self.old)) (Self.len self.old) }
         requires room { dest + (R.end_of range (Self.len self.old) - R.start_of range) ≤ Self.len self.old }
-        ensures list { (Self.list self.new)
+        ensures list { Self.list self.new
             ≡ put (Self.list self.old) dest (part_onto and_of (Self.list self.old) (R.start_of range)
             (R.end_of range (Self.len self.old)) dest) }
-        ensures row { (bits self.new)
-            ≡ put (bits self.old) ((Self.head self.old) + dest)
+        ensures row { bits self.new
+            ≡ put (bits self.old) (Self.head self.old + dest)
             (part_onto and_of (Self.list self.old) (R.start_of range) (R.end_of range (Self.len self.old))
             dest) }
-        ensures clean { IsCleanRow Self.Store.BITS (Self.head self.old) (bits self.old) (Self.list self.old)
-            → IsCleanRow Self.Store.BITS (Self.head self.new) (bits self.new) (Self.list self.new) }
-        ensures head { Self.head self.new ≡ Self.head self.old }
-        ensures len { Self.len self.new ≡ Self.len self.old }
-        ensures size { count self.new ≡ count self.old }
-        ensures capacity { capacity self.new ≡ capacity self.old }
+        ensures clean { StaysClean Self.Store.BITS Self.head bits Self.list self.old self.new }
+        ensures stays { Stays Self.head Self.len count capacity loan self.old self.new }
     {
         self.combine_within::<And, R>(range, dest);
     }
@@ -819,19 +713,15 @@ pub trait BitListMut: BitList {
     final fn or_within<R: RangeExt>(&mut self, range: R, dest: usize)
         requires lies { LiesIn (R.start_of range) (R.end_of range (Self.len self.old)) (Self.len self.old) }
         requires room { dest + (R.end_of range (Self.len self.old) - R.start_of range) ≤ Self.len self.old }
-        ensures list { (Self.list self.new)
+        ensures list { Self.list self.new
             ≡ put (Self.list self.old) dest (part_onto or_of (Self.list self.old) (R.start_of range)
             (R.end_of range (Self.len self.old)) dest) }
-        ensures row { (bits self.new)
-            ≡ put (bits self.old) ((Self.head self.old) + dest)
+        ensures row { bits self.new
+            ≡ put (bits self.old) (Self.head self.old + dest)
             (part_onto or_of (Self.list self.old) (R.start_of range) (R.end_of range (Self.len self.old))
             dest) }
-        ensures clean { IsCleanRow Self.Store.BITS (Self.head self.old) (bits self.old) (Self.list self.old)
-            → IsCleanRow Self.Store.BITS (Self.head self.new) (bits self.new) (Self.list self.new) }
-        ensures head { Self.head self.new ≡ Self.head self.old }
-        ensures len { Self.len self.new ≡ Self.len self.old }
-        ensures size { count self.new ≡ count self.old }
-        ensures capacity { capacity self.new ≡ capacity self.old }
+        ensures clean { StaysClean Self.Store.BITS Self.head bits Self.list self.old self.new }
+        ensures stays { Stays Self.head Self.len count capacity loan self.old self.new }
     {
         self.combine_within::<Or, R>(range, dest);
     }
@@ -846,19 +736,15 @@ pub trait BitListMut: BitList {
     final fn xor_within<R: RangeExt>(&mut self, range: R, dest: usize)
         requires lies { LiesIn (R.start_of range) (R.end_of range (Self.len self.old)) (Self.len self.old) }
         requires room { dest + (R.end_of range (Self.len self.old) - R.start_of range) ≤ Self.len self.old }
-        ensures list { (Self.list self.new)
+        ensures list { Self.list self.new
             ≡ put (Self.list self.old) dest (part_onto xor_of (Self.list self.old) (R.start_of range)
             (R.end_of range (Self.len self.old)) dest) }
-        ensures row { (bits self.new)
-            ≡ put (bits self.old) ((Self.head self.old) + dest)
+        ensures row { bits self.new
+            ≡ put (bits self.old) (Self.head self.old + dest)
             (part_onto xor_of (Self.list self.old) (R.start_of range) (R.end_of range (Self.len self.old))
             dest) }
-        ensures clean { IsCleanRow Self.Store.BITS (Self.head self.old) (bits self.old) (Self.list self.old)
-            → IsCleanRow Self.Store.BITS (Self.head self.new) (bits self.new) (Self.list self.new) }
-        ensures head { Self.head self.new ≡ Self.head self.old }
-        ensures len { Self.len self.new ≡ Self.len self.old }
-        ensures size { count self.new ≡ count self.old }
-        ensures capacity { capacity self.new ≡ capacity self.old }
+        ensures clean { StaysClean Self.Store.BITS Self.head bits Self.list self.old self.new }
+        ensures stays { Stays Self.head Self.len count capacity loan self.old self.new }
     {
         self.combine_within::<Xor, R>(range, dest);
     }
@@ -870,14 +756,49 @@ pub trait BitListMut: BitList {
     /// ```
     #[tactic(auto, using(crate::proofs::Parts::shown_length, bit_addressing::proofs::lists::Shown::shows_map, crate::proofs::Rules::item_of_not))]
     final fn flip_all(&mut self)
-        ensures list { (Self.list self.new) ≡ map not (Self.list self.old) }
+        ensures list { Self.list self.new ≡ map not (Self.list self.old) }
         ensures index { FlipsEach (Self.list self.old) (Self.list self.new) }
-        ensures row { (bits self.new) ≡ map not (bits self.old) }
-        ensures head { Self.head self.new ≡ Self.head self.old }
-        ensures len { Self.len self.new ≡ Self.len self.old }
-        ensures size { count self.new ≡ count self.old }
-        ensures capacity { capacity self.new ≡ capacity self.old }
+        ensures row { bits self.new ≡ map not (bits self.old) }
+        ensures stays { Stays Self.head Self.len count capacity loan self.old self.new }
     {
         flip_bits::<Self::Store, Self::Order>(self.as_raw_mut_slice());
     }
+}
+
+impl<'a, T: BitStore, O: BitOrder> BitListMut for BitSliceMut<'a, T, O> {
+    ghost use Rattle.bit_slice.specs.BitSliceMut.{words_of, len_of, row_of, loan_of};
+    ghost use Rattle.bit_slice.specs.Lends.{with_words};
+    ghost use Rattle.bit_slice.proofs.Kept.{words_kept, row_kept, list_kept, count_kept};
+
+    ghost words = { λ v. words_of v };
+
+    ghost count = { λ v. length (words_of v) };
+
+    ghost bits = { λ v. row_of v };
+
+    ghost capacity = { λ v. len_of v };
+
+    ghost loan = { λ v. loan_of v };
+
+    ghost rewritten = { λ v ws. with_words T.BitStore O.BitOrder v ws };
+
+    fn as_raw_mut_slice(&mut self) -> &mut [T] {
+        BitSliceMut::as_raw_mut_slice(self)
+    }
+
+    ghost words_rewritten = { λ v ws e. refilled (length (words_of v)) (words_of v) ws e };
+
+    ghost bits_rewritten = { λ v ws e. Prim.rw (refilled (length (words_of v)) (words_of v) ws e) refl };
+
+    ghost list_rewritten = { λ v ws e f. Prim.rw (refilled (length (words_of v)) (words_of v) ws e) refl };
+
+    ghost head_rewritten = { λ v ws. refl };
+
+    ghost len_rewritten = { λ v ws. refl };
+
+    ghost count_rewritten = { λ v ws. sym (length_refill (length (words_of v)) (words_of v) ws refl) };
+
+    ghost capacity_rewritten = { λ v ws. refl };
+
+    ghost loan_rewritten = { λ v ws. refl };
 }

@@ -23,4 +23,4 @@ pub returns : goal.returns
 returns g c =
     let w = g.T.BitStore.BITS in
     let width : g.U.BitStore.BITS ≡ w = sym c.BITS-2.ensures ∙ sym c.if-BITS.false ∙ c.BITS.ensures in
-    λ e. (width, (λ i h. c.loop-i.invariant.alike i (omega arith)))
+    λ e. record { width = width; order = λ i h. c.loop-i.invariant.alike i (omega arith) }

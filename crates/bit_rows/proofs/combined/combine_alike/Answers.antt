@@ -19,7 +19,7 @@ loop-k-preserved g c =
     let from : ℕ = c.args.begin * w in
     let source = c.args.source.now in
     let zs = row g.U.BitStore g.P.BitOrder source in
-    let long : length zs ≡ w * length source = length_row g.U.BitStore.value g.P.BitOrder.place u source ∙ ap (λ n. n * length source) c.requires.width in
+    let long : length zs ≡ w * length source = length_row g.U.BitStore.value g.P.BitOrder.place u source ∙ ap (λ n. n * length source) c.requires.alike.width in
     let further = mul_mono (j + 1) (length source) w (omega arith) in
     let next = one_more_word j w in
     let steps : k + 1 - c.args.first ≡ (k - c.args.first) + 1 = omega arith in
@@ -27,7 +27,7 @@ loop-k-preserved g c =
     let a : ℕ = from + (k - c.args.first) * w in
     let at : a ≡ j * w = sym (right_sum c.args.begin (k - c.args.first) w) in
     let word : row g.T.BitStore g.O.BitOrder (c.word_alike-new.result ∷ []) ≡ slice_range zs a (a + w) = c.word_alike-new.ensures
-    ∙ row_whole g.U.BitStore.value g.P.BitOrder.place u source j a (a + w) c.index-source-begin.result (width_positive u g.met.U.BitStore.width) (omega arith) c.index-source-begin.is (at ∙ ap (λ n. j * n) (sym c.requires.width)) (ap (λ n. n + w) at ∙ ap (λ n. j * n + n) (sym c.requires.width)) in
+    ∙ row_whole g.U.BitStore.value g.P.BitOrder.place u source j a (a + w) c.index-source-begin.result (width_positive u g.met.U.BitStore.width) (omega arith) c.index-source-begin.is (at ∙ ap (λ n. j * n) (sym c.requires.alike.width)) (ap (λ n. n + w) at ∙ ap (λ n. j * n + n) (sym c.requires.alike.width)) in
     record {
       bits = combined_word g.T.BitStore.value g.O.BitOrder.place w g.F.BitOperator.made c.args.words.now c.loop-k.words zs _ _ _ c.args.first k from (width_positive w g.met.T.BitStore.width) (g.met.O.BitOrder.lawful w g.met.T.BitStore.width) c.loop-k.invariant.size c.loop-k.auto.k (omega arith) (omega arith) c.index-words-k.is c.apply.ensures word c.loop-k.invariant.bits;
       size = search rules;

@@ -28,10 +28,10 @@ pub combine_alike-requires-clause-target : goal.combine_alike-requires-clause-ta
 combine_alike-requires-clause-target g c = (words_there c.BITS-width.ensures (width_positive _ g.met.T.BitStore.width) c.if-at-width-ne0.false c.requires.target).most
 
 pub combine_alike-requires-clause-source : goal.combine_alike-requires-clause-source
-combine_alike-requires-clause-source g c = let same = (c.are_alike.ensures c.if-not-are_alike.false).0 in let t = words_there (c.BITS-width.ensures ∙ sym same) (width_positive _ g.met.U.BitStore.width) c.if-from-width-ne0.false c.requires.source in omega arith
+combine_alike-requires-clause-source g c = let same = (c.are_alike.ensures c.if-not-are_alike.false).width in let t = words_there (c.BITS-width.ensures ∙ sym same) (width_positive _ g.met.U.BitStore.width) c.if-from-width-ne0.false c.requires.source in omega arith
 
 pub bounds-source-begin : goal.bounds-source-begin
-bounds-source-begin g c = let same = (c.are_alike.ensures c.if-not-are_alike.false).0 in (words_there (c.BITS-width.ensures ∙ sym same) (width_positive _ g.met.U.BitStore.width) c.if-from-width-ne0.false c.requires.source).rest c.if-rest-eq0.false
+bounds-source-begin g c = let same = (c.are_alike.ensures c.if-not-are_alike.false).width in (words_there (c.BITS-width.ensures ∙ sym same) (width_positive _ g.met.U.BitStore.width) c.if-from-width-ne0.false c.requires.source).rest c.if-rest-eq0.false
 
 pub combine_part-requires-clause-word : goal.combine_part-requires-clause-word
 combine_part-requires-clause-word g c = rw c.combine_alike.ensures.size ((words_there c.BITS-width.ensures (width_positive _ g.met.T.BitStore.width) c.if-at-width-ne0.false c.requires.target).rest c.if-rest-eq0.false)
@@ -64,7 +64,7 @@ returns-clause-bits g c =
     let old = row g.T.BitStore g.O.BitOrder c.args.words.now in
     let cur = row g.T.BitStore g.O.BitOrder c.combine_alike.new.words in
     let new = row g.T.BitStore g.O.BitOrder (c.word_alike-new.result ∷ []) in
-    let same = (c.are_alike.ensures c.if-not-are_alike.false).0 in
+    let same = (c.are_alike.ensures c.if-not-are_alike.false).width in
     let first : ℕ = at / d in
     let begin : ℕ = from / d in
     let whole : ℕ = n / d in
@@ -96,7 +96,7 @@ pub overflow_add-first-2 : goal.overflow_add-first-2
 overflow_add-first-2 g c = let t = words_there c.BITS-width.ensures (width_positive _ g.met.T.BitStore.width) c.if-at-width-ne0.false c.requires.target in omega arith
 
 pub overflow_add-begin : goal.overflow_add-begin
-overflow_add-begin g c = let same = (c.are_alike.ensures c.if-not-are_alike.false).0 in let t = words_there (c.BITS-width.ensures ∙ sym same) (width_positive _ g.met.U.BitStore.width) c.if-from-width-ne0.false c.requires.source in omega arith
+overflow_add-begin g c = let same = (c.are_alike.ensures c.if-not-are_alike.false).width in let t = words_there (c.BITS-width.ensures ∙ sym same) (width_positive _ g.met.U.BitStore.width) c.if-from-width-ne0.false c.requires.source in omega arith
 
 pub offset_bounds-source-begin : goal.offset_bounds-source-begin
-offset_bounds-source-begin g c = let same = (c.are_alike.ensures c.if-not-are_alike.false).0 in let t = words_there (c.BITS-width.ensures ∙ sym same) (width_positive _ g.met.U.BitStore.width) c.if-from-width-ne0.false c.requires.source in omega arith
+offset_bounds-source-begin g c = let same = (c.are_alike.ensures c.if-not-are_alike.false).width in let t = words_there (c.BITS-width.ensures ∙ sym same) (width_positive _ g.met.U.BitStore.width) c.if-from-width-ne0.false c.requires.source in omega arith

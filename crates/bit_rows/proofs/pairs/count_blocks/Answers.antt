@@ -8,7 +8,7 @@ count_alike-count-requires-clause-first g c = let begins = begins_word c.args.i 
 pub count_alike-count-requires-clause-second : goal.count_alike-count-requires-clause-second
 count_alike-count-requires-clause-second g c =
     let begins = begins_word c.args.j c.BITS-width.result g.T.BitStore.BITS c.BITS-width.ensures c.if-j-width-ne0.false in
-    let inside = subst (λ m. c.args.j + c.args.n ≤ m * length c.args.b.now) (c.are_alike.ensures c.if-not-are_alike.false).0 c.requires.second in
+    let inside = subst (λ m. c.args.j + c.args.n ≤ m * length c.args.b.now) (c.are_alike.ensures c.if-not-are_alike.false).width c.requires.second in
     omega arith
 
 pub returns-clause-count : goal.returns-clause-count

@@ -30,7 +30,7 @@ pub overflow_add-l : goal.overflow_add-l
 overflow_add-l g c = let below = (block_there c.args.l c.loop-t.t g.met.T.BitStore.width c.BITS.ensures c.loop-t-test.true c.requires.second).1 in omega arith
 
 pub pack-new-requires : goal.pack-new-requires
-pack-new-requires g c = rw c.requires.width (block_there c.args.l c.loop-t.t g.met.T.BitStore.width c.BITS.ensures c.loop-t-test.true c.requires.second).0
+pack-new-requires g c = rw c.requires.alike.width (block_there c.args.l c.loop-t.t g.met.T.BitStore.width c.BITS.ensures c.loop-t-test.true c.requires.second).0
 
 -- one block more is counted
 more : (g : given.Over) (c : After-apply g) → c.loop-t.count + count_ones c.apply.result ≡ count_by (λ b. b) (zip2 g.F.BitOperator.made (slice_range (row g.T.BitStore g.O.BitOrder c.args.a.now) (c.args.k * g.T.BitStore.BITS) (c.args.k * g.T.BitStore.BITS + (c.loop-t.t + 1) * 64)) (slice_range (row g.U.BitStore g.P.BitOrder c.args.b.now) (c.args.l * g.T.BitStore.BITS) (c.args.l * g.T.BitStore.BITS + (c.loop-t.t + 1) * 64)))
@@ -53,7 +53,7 @@ more g c =
     let x = c.pack-old.result in
     let y = c.pack-new.result in
     let z = c.apply.result in
-    let wide = c.requires.width in
+    let wide = c.requires.alike.width in
     let positive = width_positive w g.met.T.BitStore.width in
     let other_positive = width_positive u g.met.U.BitStore.width in
     let lawful = g.met.O.BitOrder.lawful w g.met.T.BitStore.width in
@@ -75,7 +75,7 @@ more g c =
     let left : (q : ℕ) → q < 64 → get_or sx q false ≡ has_bit x (in_block w (place w) q) =
     λ q h. ap (λ n. get_or (slice_range xs n (n + 64)) q false) (sym at) ∙ block_bit place w (map g.T.BitStore.value a) k q x positive g.met.T.BitStore.width lawful h (omega arith) c.pack-old.ensures in
     let same : (q : ℕ) → in_block u (other u) q ≡ in_block w (place w) q =
-    λ q. ap (λ v. in_block v (other v) q) wide ∙ ap (λ n. q / w * w + n) (sym (c.requires.order (q % w) (mod-lt q positive))) in
+    λ q. ap (λ v. in_block v (other v) q) wide ∙ ap (λ n. q / w * w + n) (sym (c.requires.alike.order (q % w) (mod-lt q positive))) in
     let right : (q : ℕ) → q < 64 → get_or sy q false ≡ has_bit y (in_block w (place w) q) =
     λ q h. ap (λ n. get_or (slice_range ys n (n + 64)) q false) (sym other_at) ∙ block_bit other u (map g.U.BitStore.value b) l q y other_positive g.met.U.BitStore.width other_lawful h (omega arith) c.pack-new.ensures ∙ ap (has_bit y) (same q) in
     let blocked = block_lawful w (place w) g.met.T.BitStore.width positive lawful in
@@ -98,7 +98,7 @@ overflow_add-count g c =
     let xs = row g.T.BitStore g.O.BitOrder a in
     let ys = row g.U.BitStore g.P.BitOrder b in
     let first : length xs ≡ w * length a = length_row g.T.BitStore.value g.O.BitOrder.place w a in
-    let second : length ys ≡ w * length b = length_row g.U.BitStore.value g.P.BitOrder.place g.U.BitStore.BITS b ∙ ap (λ m. m * length b) c.requires.width in
+    let second : length ys ≡ w * length b = length_row g.U.BitStore.value g.P.BitOrder.place g.U.BitStore.BITS b ∙ ap (λ m. m * length b) c.requires.alike.width in
     let most = made_le g.F.BitOperator.made xs ys (c.args.k * w) (c.args.l * w) ((c.loop-t.t + 1) * 64) _ (omega arith) (omega arith) (more g c) in
     omega arith
 

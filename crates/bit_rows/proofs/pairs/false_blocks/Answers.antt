@@ -32,13 +32,13 @@ pub false_turns-far-requires-clause-first : goal.false_turns-far-requires-clause
 false_turns-far-requires-clause-first g c = (words_there c.BITS-width.ensures (width_positive g.T.BitStore.BITS g.met.T.BitStore.width) c.if-i-width-ne0.false c.requires.first).most
 
 pub false_turns-far-requires-clause-second : goal.false_turns-far-requires-clause-second
-false_turns-far-requires-clause-second g c = (words_there c.BITS-width.ensures (width_positive g.T.BitStore.BITS g.met.T.BitStore.width) c.if-j-width-ne0.false (subst (λ m. c.args.j + c.args.n ≤ m * length c.args.b.now) (c.are_alike.ensures c.if-not-are_alike.false).0 c.requires.second)).most
+false_turns-far-requires-clause-second g c = (words_there c.BITS-width.ensures (width_positive g.T.BitStore.BITS g.met.T.BitStore.width) c.if-j-width-ne0.false (subst (λ m. c.args.j + c.args.n ≤ m * length c.args.b.now) (c.are_alike.ensures c.if-not-are_alike.false).width c.requires.second)).most
 
 pub false_turns-near-requires-clause-first : goal.false_turns-near-requires-clause-first
 false_turns-near-requires-clause-first g c = let most = (words_there c.BITS-width.ensures (width_positive g.T.BitStore.BITS g.met.T.BitStore.width) c.if-i-width-ne0.false c.requires.first).most in omega arith
 
 pub false_turns-near-requires-clause-second : goal.false_turns-near-requires-clause-second
-false_turns-near-requires-clause-second g c = let most = (words_there c.BITS-width.ensures (width_positive g.T.BitStore.BITS g.met.T.BitStore.width) c.if-j-width-ne0.false (subst (λ m. c.args.j + c.args.n ≤ m * length c.args.b.now) (c.are_alike.ensures c.if-not-are_alike.false).0 c.requires.second)).most in omega arith
+false_turns-near-requires-clause-second g c = let most = (words_there c.BITS-width.ensures (width_positive g.T.BitStore.BITS g.met.T.BitStore.width) c.if-j-width-ne0.false (subst (λ m. c.args.j + c.args.n ≤ m * length c.args.b.now) (c.are_alike.ensures c.if-not-are_alike.false).width c.requires.second)).most in omega arith
 
 pub returns-clause-few : goal.returns-clause-few
 returns-clause-few g c =

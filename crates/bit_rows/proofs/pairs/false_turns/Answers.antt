@@ -35,7 +35,7 @@ loop-i-preserved g c =
     let left : (q : ℕ) → q < w → get_or xs (i + (m * w + q)) false ≡ has_bit x (place w q) =
     λ q h. sym (bit_here g.T.BitStore.value place w w c.args.a.now c.args.k m c.index-a-k.result positive refl (omega arith) c.index-a-k.is q h) ∙ get_or-row_one place w x q positive h in
     let right : (q : ℕ) → q < w → get_or ys (j + (m * w + q)) false ≡ has_bit o (place w q) =
-    λ q h. sym (bit_here g.U.BitStore.value g.P.BitOrder.place w u c.args.b.now c.args.l m c.index-b-l.result positive c.requires.width (omega arith) c.index-b-l.is q h)
+    λ q h. sym (bit_here g.U.BitStore.value g.P.BitOrder.place w u c.args.b.now c.args.l m c.index-b-l.result positive c.requires.alike.width (omega arith) c.index-b-l.is q h)
     ∙ ap (λ l. get_or l q false) (sym c.word_alike-other.ensures) ∙ get_or-row_one place w o q positive h in
     record {
       turn = c.loop-i.invariant.turn;

@@ -159,7 +159,7 @@ first_in g c =
     let n = c.args.n in
     let xs = row g.T.BitStore g.O.BitOrder c.args.a.now in
     let ys = row g.U.BitStore g.P.BitOrder c.args.b.now in
-    let r = rest_of_runs g.T.BitStore.value g.U.BitStore.value g.O.BitOrder.place g.P.BitOrder.place w g.U.BitStore.BITS c.BITS-width.result c.args.a.now c.args.b.now c.args.k c.args.l c.args.n (width_positive w g.met.T.BitStore.width) c.requires.width c.BITS-width.ensures c.requires.first c.requires.second in
+    let r = rest_of_runs g.T.BitStore.value g.U.BitStore.value g.O.BitOrder.place g.P.BitOrder.place w g.U.BitStore.BITS c.BITS-width.result c.args.a.now c.args.b.now c.args.k c.args.l c.args.n (width_positive w g.met.T.BitStore.width) c.requires.alike.width c.BITS-width.ensures c.requires.first c.requires.second in
     let t = c.loop-t.t in
     let i : ℕ = c.args.k * w in
     let j : ℕ = c.args.l * w in
@@ -169,7 +169,7 @@ first_in g c =
     let positive = width_positive w g.met.T.BitStore.width in
     let within = word_in_run d w n t e (omega arith) in
     let left = word_of_run g.T.BitStore.value g.O.BitOrder.place w positive c.args.a.now w d c.args.k n t c.index-a-k.result refl e (omega arith) c.requires.first c.index-a-k.is in
-    let right = c.word_alike-right.ensures ∙ word_of_run g.U.BitStore.value g.P.BitOrder.place w positive c.args.b.now u d c.args.l n t c.index-b-l.result c.requires.width e (omega arith) (omega arith) c.index-b-l.is in
+    let right = c.word_alike-right.ensures ∙ word_of_run g.U.BitStore.value g.P.BitOrder.place w positive c.args.b.now u d c.args.l n t c.index-b-l.result c.requires.alike.width e (omega arith) (omega arith) c.index-b-l.is in
     subst (λ m. IsFirstDifference (slice_range xs i (i + n)) (slice_range ys j (j + n)) (t * m + trailing_zeros w64 (bit_xor x y))) (sym e)
     (differ_here xs ys i j k w x y (i + k) (j + k) refl refl (c.word_number.ensures ∙ ap number_of left) (c.word_number-then-to_u64.ensures ∙ ap number_of right)
     n c.if-apart-ne0.true (xor_lt 64 x y c.word_number.type_inv c.word_number-then-to_u64.type_inv) (omega arith) r.inside r.beside c.loop-t.invariant.alike)
@@ -198,7 +198,7 @@ loop-t-preserved g c =
     let other_positive = width_positive u g.met.U.BitStore.width in
     let next : k + w ≡ (t + 1) * w = sym (one_more_word t w) in
     let left = word_of_run g.T.BitStore.value g.O.BitOrder.place w positive c.args.a.now w d c.args.k c.args.n t c.index-a-k.result refl c.BITS-width.ensures (omega arith) c.requires.first c.index-a-k.is in
-    let right = c.word_alike-right.ensures ∙ word_of_run g.U.BitStore.value g.P.BitOrder.place w positive c.args.b.now u d c.args.l c.args.n t c.index-b-l.result c.requires.width c.BITS-width.ensures (omega arith) (omega arith) c.index-b-l.is in
+    let right = c.word_alike-right.ensures ∙ word_of_run g.U.BitStore.value g.P.BitOrder.place w positive c.args.b.now u d c.args.l c.args.n t c.index-b-l.result c.requires.alike.width c.BITS-width.ensures (omega arith) (omega arith) c.index-b-l.is in
     let alike : AreAlike xs ys i j (k + w) = elim c.if-to_u64.branch [
       | then-to_u64+else-apart-ne0 v ↦
           alike_more xs ys i j k w v.word_number.result v.word_number-then-to_u64.result (i + k) (j + k) refl refl (v.word_number.ensures ∙ ap number_of left) (v.word_number-then-to_u64.ensures ∙ ap number_of right) v.if-apart-ne0.false c.loop-t.invariant.alike
@@ -214,7 +214,7 @@ loop-t-preserved g c =
 pub returns-then-rest-eq0 : goal.returns-then-rest-eq0
 returns-then-rest-eq0 g c =
     let w = g.T.BitStore.BITS in
-    let r = rest_of_runs g.T.BitStore.value g.U.BitStore.value g.O.BitOrder.place g.P.BitOrder.place w g.U.BitStore.BITS c.BITS-width.result c.args.a.now c.args.b.now c.args.k c.args.l c.args.n (width_positive w g.met.T.BitStore.width) c.requires.width c.BITS-width.ensures c.requires.first c.requires.second in
+    let r = rest_of_runs g.T.BitStore.value g.U.BitStore.value g.O.BitOrder.place g.P.BitOrder.place w g.U.BitStore.BITS c.BITS-width.result c.args.a.now c.args.b.now c.args.k c.args.l c.args.n (width_positive w g.met.T.BitStore.width) c.requires.alike.width c.BITS-width.ensures c.requires.first c.requires.second in
     let all : c.loop-t.t ≡ c.args.n / c.BITS-width.result = omega arith in
     alike_all _ _ (c.args.k * w) (c.args.l * w) c.args.n (c.args.n / c.BITS-width.result * w) (omega (arith, r.sum)) r.inside r.beside (rw all at c.loop-t.invariant.alike)
 
@@ -282,7 +282,7 @@ returns-then-to_u64-eq0 g c =
     let clear : (q : ℕ) → q < w → has_bit (g.T.BitStore.value c.first_bits_apart-apart.result) (place w q) ≡ false = λ q h.
     let below = (g.met.O.BitOrder.lawful w g.met.T.BitStore.width).in_range q h in
     sym (c.to_u64-2.ensures.low (place w q) below) ∙ ap (λ m. has_bit m (place w q)) c.if-to_u64-eq0.true ∙ has_none (place w q) in
-    equal_after g.T.BitStore.value g.U.BitStore.value g.O.BitOrder.place g.P.BitOrder.place w g.U.BitStore.BITS c.BITS-width.result c.args.a.now c.args.b.now c.args.k c.args.l c.args.n (width_positive w g.met.T.BitStore.width) c.requires.width c.BITS-width.ensures c.requires.first c.requires.second (omega arith) _ c.index-a-k-2.result c.index-b-l-2.result c.index-a-k-2.is c.index-b-l-2.is c.first_bits_apart-apart.ensures
+    equal_after g.T.BitStore.value g.U.BitStore.value g.O.BitOrder.place g.P.BitOrder.place w g.U.BitStore.BITS c.BITS-width.result c.args.a.now c.args.b.now c.args.k c.args.l c.args.n (width_positive w g.met.T.BitStore.width) c.requires.alike.width c.BITS-width.ensures c.requires.first c.requires.second (omega arith) _ c.index-a-k-2.result c.index-b-l-2.result c.index-a-k-2.is c.index-b-l-2.is c.first_bits_apart-apart.ensures
     clear (rw all at c.loop-t.invariant.alike)
 
 pub returns : goal.returns
@@ -299,7 +299,7 @@ returns g c =
     let number : (q : ℕ) → has_bit z q ≡ get_or one q false = λ q. ap (λ m. has_bit m q) c.word_number-2.ensures ∙ has_number one q in
     let turned : (q : ℕ) → q < w → has_bit z q ≡ has_bit v (place w q) = λ q h. number q ∙ get_or-row_one place w v q positive h in
     let left : z ≢ 0 = λ none. c.if-to_u64-eq0.false (turned_none w (place w) v z c.to_u64-2.result lawful turned c.to_u64-2.ensures.low c.to_u64-2.ensures.high c.to_u64-2.type_inv none) in
-    differ_after g.T.BitStore.value g.U.BitStore.value g.O.BitOrder.place g.P.BitOrder.place w g.U.BitStore.BITS c.BITS-width.result c.args.a.now c.args.b.now c.args.k c.args.l c.args.n (width_positive w g.met.T.BitStore.width) c.requires.width c.BITS-width.ensures c.requires.first c.requires.second (omega arith) v c.index-a-k-2.result c.index-b-l-2.result c.index-a-k-2.is c.index-b-l-2.is c.first_bits_apart-apart.ensures
+    differ_after g.T.BitStore.value g.U.BitStore.value g.O.BitOrder.place g.P.BitOrder.place w g.U.BitStore.BITS c.BITS-width.result c.args.a.now c.args.b.now c.args.k c.args.l c.args.n (width_positive w g.met.T.BitStore.width) c.requires.alike.width c.BITS-width.ensures c.requires.first c.requires.second (omega arith) v c.index-a-k-2.result c.index-b-l-2.result c.index-a-k-2.is c.index-b-l-2.is c.first_bits_apart-apart.ensures
     z turned (λ q m. number q ∙ get_or_past one q false (omega (arith, m, size))) left c.word_number-2.type_inv (rw all at c.loop-t.invariant.alike)
 
 pub overflow_add-result-2 : goal.overflow_add-result-2

@@ -31,7 +31,7 @@ loop-i-preserved g c =
     let next : (m + 1) * w ≡ (c.loop-t.t * c.args.each + (c.loop-i.i + 1)) * w = ap (λ v. v * w) (omega arith) in
     let positive = width_positive w g.met.T.BitStore.width in
     let left = word_here g.T.BitStore.value g.O.BitOrder.place w w c.args.a.now c.args.k m c.index-a-k.result positive refl (omega arith) c.index-a-k.is in
-    let right = c.word_alike-other.ensures ∙ word_here g.U.BitStore.value g.P.BitOrder.place w u c.args.b.now c.args.l m c.index-b-l.result positive c.requires.width (omega arith) c.index-b-l.is in
+    let right = c.word_alike-other.ensures ∙ word_here g.U.BitStore.value g.P.BitOrder.place w u c.args.b.now c.args.l m c.index-b-l.result positive c.requires.alike.width (omega arith) c.index-b-l.is in
     record {
       turn = c.loop-i.invariant.turn;
       alike = λ none.
@@ -60,7 +60,7 @@ returns-then-to_u64-ne0-clause-alike g c =
     let xs = row g.T.BitStore g.O.BitOrder c.args.a.now in
     let ys = row g.U.BitStore g.P.BitOrder c.args.b.now in
     let first : length xs ≡ w * length c.args.a.now = length_row g.T.BitStore.value g.O.BitOrder.place w c.args.a.now in
-    let second : length ys ≡ w * length c.args.b.now = length_row g.U.BitStore.value g.P.BitOrder.place u c.args.b.now ∙ ap (λ v. v * length c.args.b.now) c.requires.width in
+    let second : length ys ≡ w * length c.args.b.now = length_row g.U.BitStore.value g.P.BitOrder.place u c.args.b.now ∙ ap (λ v. v * length c.args.b.now) c.requires.alike.width in
     let left = words_inside w c.args.k m (length c.args.a.now) (omega arith) in
     let right = words_inside w c.args.l m (length c.args.b.now) (omega arith) in
     alike_all xs ys (c.args.k * w) (c.args.l * w) (m * w) (m * w) (omega arith) (omega arith) (omega arith) c.loop-t.invariant.alike
@@ -75,7 +75,7 @@ returns-clause-alike g c =
     let xs = row g.T.BitStore g.O.BitOrder c.args.a.now in
     let ys = row g.U.BitStore g.P.BitOrder c.args.b.now in
     let first : length xs ≡ w * length c.args.a.now = length_row g.T.BitStore.value g.O.BitOrder.place w c.args.a.now in
-    let second : length ys ≡ w * length c.args.b.now = length_row g.U.BitStore.value g.P.BitOrder.place u c.args.b.now ∙ ap (λ v. v * length c.args.b.now) c.requires.width in
+    let second : length ys ≡ w * length c.args.b.now = length_row g.U.BitStore.value g.P.BitOrder.place u c.args.b.now ∙ ap (λ v. v * length c.args.b.now) c.requires.alike.width in
     let left = words_inside w c.args.k m (length c.args.a.now) (omega arith) in
     let right = words_inside w c.args.l m (length c.args.b.now) (omega arith) in
     alike_all xs ys (c.args.k * w) (c.args.l * w) (m * w) (m * w) (omega arith) (omega arith) (omega arith)

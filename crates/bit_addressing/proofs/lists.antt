@@ -2,3 +2,4 @@ pub mod Sized
 pub mod Put
 pub mod Shown
 pub mod Moved
+pub mod Refilled

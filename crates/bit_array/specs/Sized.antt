@@ -1,13 +1,9 @@
 -- Words that are lent as a slice, and what becomes of their lender.
 use Rattle.std.specs.Prelude.{◌≡◌, List, [], ◌∷◌, length, slice_index_or, refl}
-use Rattle.std.specs.Borrow.{Lends, follows, MutBor, Fml, RattleType, Array, GName}
+use Rattle.std.specs.Borrow.{follows, MutBor, Fml, RattleType, Array, GName}
 use Rattle.std.proofs.Common.{arith}
 
--- the lender ends as F of the words that the slice has last
-abbrev pub lends_words : (R T : RattleType) → MutBor R.Denot → (List T.Denot → R.Denot) → MutBor (List T.Denot) → Fml
-lends_words R T s F r = Lends R (Array T 0) s r F
-
--- the same for words that are known by their ghost name alone, as those of a view
+-- the lender ends as F of the last words under a name, as those of a view
 abbrev pub lends_view : (R T : RattleType) → MutBor R.Denot → (List T.Denot → R.Denot) → GName → Fml
 lends_view R T s F n = follows R (Array T 0) s.ghost_name n F
 

@@ -16,9 +16,10 @@ use Rattle.bit_addressing.proofs.Rows.{width_positive}
 use Rattle.bit_addressing.proofs.Typed.{row_kept}
 use Rattle.bit_slice.proofs.Parts.{in_row, shown_length}
 use Rattle.std.specs.List.{refill, length_refill}
-use Rattle.bit_slice.proofs.Parts.{refilled as over_all, refilled_front}
-use Rattle.bit_boxed.specs.BitBox.{Held, IsBox, Stayed}
-use Rattle.bit_boxed.specs.Lends.{with_words}
+use Rattle.bit_addressing.proofs.lists.Refilled.{refilled as over_all, refilled_front}
+use Rattle.bit_boxed.specs.BitBox.{IsBox}
+use Rattle.bit_slice.specs.Held.{Held, Stayed}
+use Rattle.bit_slice.specs.Held.{with_words}
 
 module _ {X Y : Type 0} (W : store.Ghosts X) (P : order.Ghosts Y) where
   -- other words, as many, are a box with the same head and length
@@ -48,10 +49,10 @@ module _ {X Y : Type 0} (W : store.Ghosts X) (P : order.Ghosts Y) where
       ap (λ r. slice_range r head (head + len)) (row_kept W.value P.place W.BITS ws (head + len) n positive refl (visible ws head len width b))
       ∙ shows_sized W.BITS (row W P ws) (head + len) head (head + len) positive (omega arith) (in_row W P ws (head + len) b.fits) (omega arith)
 
-module _ {X Y : Type 0} (W : store.Ghosts X) (P : order.Ghosts Y) (head len : ℕ) where
+module _ {X Y : Type 0} (W : store.Ghosts X) (P : order.Ghosts Y) (head len cap : ℕ) where
   -- a box of these words, where its invariant holds
   abbrev shown : List X → Held X
-  shown ws = record { words = ws; row = row W P ws; head = head; list = slice_range (row W P ws) head (head + len) }
+  shown ws = record { words = ws; row = row W P ws; head = head; list = slice_range (row W P ws) head (head + len); capacity = cap }
 
   -- other words, as many
   pub lands : {size : ℕ} (n : ℕ) (xs : List X) → n ≡ length xs → IsBox W.BITS (length xs) head len size → (ws : List X) → shown (refill n xs ws) ≡ with_words W P (shown xs) ws
@@ -63,14 +64,14 @@ module _ {X Y : Type 0} (W : store.Ghosts X) (P : order.Ghosts Y) (head len : �
       let seen : List Bool = slice_range (row W P now) head (head + len) in
       let alike : length seen ≡ length old = shown_length W P now head len fits ∙ sym size in
       ap (λ k. shown (refill k xs ws)) e
-      ∙ ap (λ l. record { words = now; row = row W P now; head = head; list = l })
+      ∙ ap (λ l. record { words = now; row = row W P now; head = head; list = l; capacity = cap })
       (sym (ap (λ k. refill (length old) old (slice_range (row W P now) head (head + k))) size ∙ over_all (length old) old seen alike))
 
   -- other words, as many: the list is as long as before
   pub stayed : {size : ℕ} (old new : List X) → length new ≡ length old → IsBox W.BITS (length old) head len size → Stayed (shown old) (shown new)
   stayed old new same b =
       let fits : head + len ≤ W.BITS * length new = rw same b.fits in
-      record { head = refl; len = shown_length W P new head len fits ∙ sym (shown_length W P old head len b.fits); size = same }
+      record { head = refl; len = shown_length W P new head len fits ∙ sym (shown_length W P old head len b.fits); size = same; capacity = refl }
 
   -- a front of the words is written over
   pub front_lands : {size : ℕ} (n : ℕ) (xs : List X) → n ≡ length xs → IsBox W.BITS (length xs) head len size → (ws : List X) → shown (refill n xs (ws ++ drop (length ws) xs)) ≡ with_words W P (shown xs) ws

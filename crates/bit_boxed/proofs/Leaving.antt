@@ -5,7 +5,8 @@ use Rattle.bit_addressing.specs.declared.store.BitStore as store
 use Rattle.bit_addressing.specs.declared.order.BitOrder as order
 use Rattle.bit_addressing.specs.Typed.{row}
 use Rattle.bit_addressing.proofs.lists.Shown.{length-between}
-use Rattle.bit_slice.proofs.Parts.{in_row, shown_length, run_in_run, refilled}
+use Rattle.bit_addressing.proofs.lists.Refilled.{refilled}
+use Rattle.bit_slice.proofs.Parts.{in_row, shown_length, run_in_run}
 
 module _ {X Y : Type 0} (W : store.Ghosts X) (P : order.Ghosts Y) where
   pub left_lands : (xs ws : List X) (old : List Bool) (head from upto : ℕ) → head + length old ≤ W.BITS * length xs → from ≤ upto → upto ≤ length old

@@ -1,17 +1,10 @@
 -- Where writes through lent words land.
-use Rattle.std.specs.Prelude.{ℕ, ◌+◌, List, ◌++◌, length, take, drop, slice_range}
+use Rattle.std.specs.Prelude.{ℕ, List, ◌++◌, length, take, drop}
 use Rattle.std.specs.Borrow.{Lends, follows, Fml, RattleType, MutBor, Array, GName}
-use Rattle.std.specs.List.{refill}
 use Rattle.bit_addressing.specs.declared.store.BitStore as store
 use Rattle.bit_addressing.specs.declared.order.BitOrder as order
-use Rattle.bit_addressing.specs.Typed.{row}
-use Rattle.bit_boxed.specs.BitBox.{Held}
+use Rattle.bit_slice.specs.Held.{Held, with_words}
 use Rattle.bit_boxed.specs.contracts.boxed.BitBox.{the_row}
-
--- the box with other words, as many; its list is that part of their row, and `refill` shows that it is as long as before
-abbrev pub with_words : {X Y : Type 0} → store.Ghosts X → order.Ghosts Y → Held X → List X → Held X
-with_words W P v ws =
-    record { words = refill (length v.words) v.words ws; row = row W P (refill (length v.words) v.words ws); head = v.head; list = refill (length v.list) v.list (slice_range (row W P (refill (length v.words) v.words ws)) v.head (v.head + length v.list)) }
 
 -- words with others written over as many from word `first` on
 abbrev pub written_over : {X : Type 0} → List X → ℕ → List X → List X

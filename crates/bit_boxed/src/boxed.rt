@@ -6,7 +6,7 @@ ghost use Rattle.bit_addressing.specs.declared.length.TheConstants.{MAX_BITS};
 ghost use Rattle.bit_addressing.specs.Row.{filled, moved, words_for};
 ghost use Rattle.bit_addressing.specs.Typed.{row, words_from};
 ghost use Rattle.bit_slice.specs.BitSlice.{words_of, head_of, len_of, row_of, list_of};
-ghost use Rattle.bit_boxed.specs.BitBox.{IsClean, Stayed};
+ghost use Rattle.bit_slice.specs.Held.{IsClean, Stayed};
 ghost use Rattle.bit_slice.specs.Pulls.{GivesAll, GivesFirst, RunsThrough};
 
 use bit_addressing::{BitOrder, BitStore, GrowError, Lsb0, MAX_BITS};
@@ -52,9 +52,10 @@ pub struct BitBox<T: BitStore = usize, O: BitOrder = Lsb0> {
 }
 
 impl<T: BitStore, O: BitOrder> Model for BitBox<T, O> {
-    ghost use Rattle.std.specs.Prelude.{◌+◌, length, slice_range};
+    ghost use Rattle.std.specs.Prelude.{◌+◌, length, slice_range, vec_capacity};
     ghost use Rattle.bit_addressing.specs.Typed.{row};
-    ghost use Rattle.bit_boxed.specs.BitBox.{Held, IsBox, held_code};
+    ghost use Rattle.bit_boxed.specs.BitBox.{IsBox};
+    ghost use Rattle.bit_slice.specs.Held.{Held, bits_in, held_code};
 
     ghost Value = { Held T };
 
@@ -65,6 +66,7 @@ impl<T: BitStore, O: BitOrder> Model for BitBox<T, O> {
       row = row T.BitStore O.BitOrder b.words.items;
       head = b.head;
       list = slice_range (row T.BitStore O.BitOrder b.words.items) b.head (b.head + b.len);
+      capacity = bits_in T.BITS (vec_capacity b.words) b.head;
     } };
 
     ghost invariant = { λ b. IsBox T.BITS (length b.words.items) b.head b.len

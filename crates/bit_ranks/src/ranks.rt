@@ -38,7 +38,7 @@ pub struct Ranks<T: BitStore = usize, O: BitOrder = Lsb0> {
 }
 
 impl<T: BitStore, O: BitOrder> Model for Ranks<T, O> {
-    ghost use Rattle.bit_boxed.specs.BitBox.{Held, held_code};
+    ghost use Rattle.bit_slice.specs.Held.{Held, held_code};
     ghost use Rattle.bit_ranks.specs.Ranks.{IsIndex};
 
     ghost Value = { Held T };

@@ -2,9 +2,9 @@
 use Rattle.std.proofs.Common.{◌≡◌, ℕ, ◌+◌, ◌*◌, ◌≤◌, Bool, List, length, map, slice_range, refl, sym, ◌∙◌, ap, arith}
 use Rattle.std.specs.List.{refill, length_refill}
 use Rattle.bit_addressing.specs.Row.{row_of}
+use Rattle.bit_addressing.proofs.lists.Refilled.{refilled}
 use Rattle.bit_addressing.proofs.Typed.{length_row}
 use Rattle.bit_addressing.proofs.lists.Shown.{length-run}
-use Rattle.bit_slice.proofs.Parts.{refilled}
 
 -- words with a list that begins at a head, and other words, as many: of a box and of a vector
 module _ {X : Type 0} (value : X → ℕ) (place : ℕ → ℕ → ℕ) (w : ℕ) (words : List X) (head : ℕ) (list : List Bool) (ws : List X) where

@@ -33,7 +33,7 @@ use Rattle.bit_slice.specs.declared.slice_mut.BitSliceMut.{BitSliceMut}
 use Rattle.bit_slice.specs.contracts.slice_mut.BitSliceMut.{the_row, the_type, struct}
 use Rattle.bit_slice.proofs.slice_mut.BitSliceMut.TheLaws.{the_loose}
 use Rattle.bit_slice.specs.Lends.{with_words}
-use Rattle.bit_slice.proofs.Parts.{refilled}
+use Rattle.bit_addressing.proofs.lists.Refilled.{refilled}
 
 module _ {M : Type 1} {𝓤 : Ura M} (𝓛 : Logic 𝓤) (T O : RattleType) (L : Laws T) (L' : Laws O) (W : store.Ghosts T.Denot) (P : order.Ghosts O.Denot) (a : NamedLft) (d : BitSliceMut T.Denot O.Denot W P) (b o : ℕ) where
   open 𝓛 use {H, A}

@@ -1,6 +1,5 @@
 -- What was written in a list that stands in words from a head on, told by the row of the words.
-use Rattle.std.proofs.Common.{◌≡◌, ℕ, ◌+◌, ◌*◌, ◌≤◌, Bool, List, length, slice_range, refl, sym, ◌∙◌, ap, subst, arith}
-use Rattle.std.specs.List.{refill}
+use Rattle.std.proofs.Common.{◌≡◌, ℕ, ◌+◌, ◌*◌, ◌≤◌, Bool, List, length, slice_range, refl, sym, ◌∙◌, ap, arith}
 use Rattle.bit_addressing.specs.Bits.{IsWidth}
 use Rattle.bit_addressing.specs.declared.store.BitStore as store
 use Rattle.bit_addressing.specs.declared.order.BitOrder as order
@@ -10,24 +9,16 @@ use Rattle.bit_addressing.proofs.Rows.{width_positive}
 use Rattle.bit_addressing.proofs.lists.Moved.{shows_moved}
 use Rattle.bit_addressing.proofs.lists.Shown.{shown_written}
 use Rattle.bit_slice.proofs.Clean.{Seen, clean_moved, clean_put, clean_whole}
-use Rattle.bit_slice.proofs.Parts.{in_row, refilled, shown_length}
-use Rattle.bit_slice.proofs.Shown.{moved_lands, shown_filled}
+use Rattle.bit_slice.proofs.Parts.{in_row, row_size, shown_length}
+use Rattle.bit_slice.proofs.Shown.{moved_lands, put_all, shown_filled}
 use Rattle.bit_slice.specs.Overwritten.{list_in, IsMovedWithin, IsRewritten, IsWritten}
 
-module _ {X Y : Type 0} (W : store.Ghosts X) (P : order.Ghosts Y) (old : List X) (n : ℕ) (count : n ≡ length old) (ws : List X) (head len : ℕ) (width : IsWidth W.BITS) (room : head + len ≤ W.BITS * length old) (size : length ws ≡ length old) where
+module _ {X Y : Type 0} (W : store.Ghosts X) (P : order.Ghosts Y) (old new : List X) (head len : ℕ) (width : IsWidth W.BITS) (room : head + len ≤ W.BITS * length old) (size : length new ≡ length old) where
   abbrev seen_in : List X → Seen
   seen_in ws = record { head = head; row = row W P ws; list = list_in W P ws head len }
 
-  -- what a vector of n words has after the writes
-  abbrev new : List X
-  new = refill n old ws
-
-  same : ws ≡ new
-  same = sym (refilled n old ws (size ∙ sym count))
-
-  pub written : (start : ℕ) (bits : List Bool) → start + length bits ≤ len → row W P ws ≡ put (row W P old) (head + start) bits → IsWritten W P old new head len start bits
-  written start bits fits seen =
-      let is : row W P new ≡ put (row W P old) (head + start) bits = sym (ap (row W P) same) ∙ seen in
+  pub written_in : (start : ℕ) (bits : List Bool) → start + length bits ≤ len → row W P new ≡ put (row W P old) (head + start) bits → IsWritten W P old new head len start bits
+  written_in start bits fits is =
       let long : length (list_in W P old head len) ≡ len = shown_length W P old head len room in
       let list : list_in W P new head len ≡ put (list_in W P old head len) start bits =
       ap (λ r. slice_range r head (head + len)) is ∙ shown_written (row W P old) bits head len start fits (in_row W P old (head + len) room) in
@@ -35,23 +26,22 @@ module _ {X Y : Type 0} (W : store.Ghosts X) (P : order.Ghosts Y) (old : List X)
         row = is;
         list = list;
         clean = clean_put W.BITS (seen_in old) (seen_in new) start bits (width_positive W.BITS width) (omega (arith, long, fits)) refl list is;
-        size = sym (ap length same) ∙ size;
+        size = size;
       }
 
-  pub rewritten : (bits : List Bool) → length bits ≡ len → row W P ws ≡ put (row W P old) head bits → IsRewritten W P old new head len bits
-  rewritten bits full seen =
-      let is : row W P new ≡ put (row W P old) head bits = sym (ap (row W P) same) ∙ seen in
+  pub rewritten_in : (bits : List Bool) → length bits ≡ len → row W P new ≡ put (row W P old) head bits → IsRewritten W P old new head len bits
+  rewritten_in bits full is =
       let long : length (list_in W P old head len) ≡ len = shown_length W P old head len room in
       let list : list_in W P new head len ≡ bits =
       ap (λ r. slice_range r head (head + len)) is ∙ shown_filled (row W P old) bits head len (sym full) (in_row W P old (head + len) room) in
       record {
         row = is;
         list = list;
+        whole = λ begins all. is ∙ put_all (row W P old) bits head begins (full ∙ all ∙ sym (row_size W P old));
         clean = clean_whole W.BITS (seen_in old) (seen_in new) bits (width_positive W.BITS width) (full ∙ sym long) refl list is;
-        size = sym (ap length same) ∙ size;
+        size = size;
       }
 
-module _ {X Y : Type 0} (W : store.Ghosts X) (P : order.Ghosts Y) (old new : List X) (head len : ℕ) (width : IsWidth W.BITS) (room : head + len ≤ W.BITS * length old) (size : length new ≡ length old) where
   pub moved_within : (s d n : ℕ) → s + n ≤ len → d + n ≤ len → row W P new ≡ moved (row W P old) (head + s) (head + d) n → IsMovedWithin W P old new head len s d n
   moved_within s d n from to is =
       let shown : List Bool = list_in W P old head len in
@@ -67,11 +57,3 @@ module _ {X Y : Type 0} (W : store.Ghosts X) (P : order.Ghosts Y) (old new : Lis
         clean = clean_moved W.BITS (record { head = head; row = row W P old; list = shown }) (record { head = head; row = row W P new; list = list_in W P new head len }) s d n (width_positive W.BITS width) inside there refl list is;
         size = size;
       }
-
-module _ {X Y : Type 0} (W : store.Ghosts X) (P : order.Ghosts Y) (old ws : List X) (head len : ℕ) (width : IsWidth W.BITS) (room : head + len ≤ W.BITS * length old) (size : length ws ≡ length old) where
-  -- the same for the words of a slice
-  pub written_in : (start : ℕ) (bits : List Bool) → start + length bits ≤ len → row W P ws ≡ put (row W P old) (head + start) bits → IsWritten W P old ws head len start bits
-  written_in start bits fits seen = subst (λ new. IsWritten W P old new head len start bits) (refilled (length old) old ws size) (written W P old (length old) refl ws head len width room size start bits fits seen)
-
-  pub rewritten_in : (bits : List Bool) → length bits ≡ len → row W P ws ≡ put (row W P old) head bits → IsRewritten W P old ws head len bits
-  rewritten_in bits full seen = subst (λ new. IsRewritten W P old new head len bits) (refilled (length old) old ws size) (rewritten W P old (length old) refl ws head len width room size bits full seen)

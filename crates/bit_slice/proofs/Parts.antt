@@ -1,7 +1,5 @@
 -- Words of a view, and of a part of it.
 use Rattle.std.proofs.Common.{◌≡◌, ℕ, ◌+◌, ◌-◌, ◌*◌, ◌/◌, ◌%◌, ◌<◌, ◌≤◌, Bool, List, ◌++◌, map, length, take, drop, slice_range, sym, ◌∙◌, ap, subst, arith, rules, mul_comm}
-use Rattle.std.specs.List.{refill}
-use Rattle.std.proofs.Math.Seq.{take-append_seam}
 use Rattle.std.proofs.lemmas.List.{places, same_lists, take_all, take-append-le, length-append, drop-take, take-take, drop_at, take-append-drop, length-take-le, take-map, drop-map, length-map, length-drop, length-take}
 use Rattle.std.proofs.Math.Nat.{mul-le-mul_left, le_of_mul-le-mul_left, le-mul_of_pos_right, lt_of_mul-lt-mul_left}
 use Rattle.std.proofs.lemmas.Nat.{div-add-mod'}
@@ -105,16 +103,6 @@ module _ {X Y : Type 0} (W : store.Ghosts X) (P : order.Ghosts Y) where
   -- all bits of the words are shown
   pub all_shown : (ws : List X) (n : ℕ) → n ≡ W.BITS * length ws → slice_range (row W P ws) 0 (0 + n) ≡ row W P ws
   all_shown ws n all = let size = row_size ws in take_all (0 + n - 0) (row W P ws) (omega arith)
-
--- a whole list written over one of its length
-pub refilled : {X : Type 0} (n : ℕ) (xs ws : List X) → length ws ≡ n → refill n xs ws ≡ ws
-refilled n xs ws e = ap (λ (k : ℕ). take k (ws ++ drop (length ws) xs)) (sym e) ∙ take-append_seam ws (drop (length ws) xs)
-
--- what comes after a front that is written over stays, whether that is said or not
-pub refilled_front : {X : Type 0} (n : ℕ) (xs ws : List X) → n ≡ length xs → refill n xs (ws ++ drop (length ws) xs) ≡ refill n xs ws
-refilled_front {X = X} n xs ws e =
-    let front : List X = ws ++ drop (length ws) xs in
-    take-append-le n front (drop (length front) xs) (omega (arith, length-append ws (drop (length ws) xs), length-drop (length ws) xs))
 
 -- a part of a front is that part of the whole
 pub part_of_front : {X : Type 0} (n a b : ℕ) (xs : List X) → a ≤ b → b ≤ n → slice_range (take n xs) a b ≡ slice_range xs a b

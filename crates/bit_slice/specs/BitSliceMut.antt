@@ -1,9 +1,10 @@
 -- Views for writing: their words, head, length, row and list.
 use Rattle.std.specs.Borrow.{GName}
-use Rattle.std.specs.Prelude.{◌≡◌, ℕ, ◌+◌, Bool, List, slice_range}
+use Rattle.std.specs.Prelude.{ℕ, ◌+◌, Bool, List, length, slice_range}
 use Rattle.bit_addressing.specs.declared.store.BitStore as store
 use Rattle.bit_addressing.specs.declared.order.BitOrder as order
 use Rattle.bit_addressing.specs.Typed.{row}
+use Rattle.bit_slice.specs.Lists as list
 use Rattle.bit_slice.specs.declared.slice_mut.BitSliceMut.{BitSliceMut}
 
 -- the words that a view borrows
@@ -30,8 +31,10 @@ list_of {X} {Y} {W} {P} v = slice_range (row W P v.words.now) v.head (v.head + v
 abbrev pub loan_of : {X Y : Type 0} {W : store.Ghosts X} {P : order.Ghosts Y} → BitSliceMut X Y W P → GName
 loan_of v = v.words.ghost_name
 
--- what each write keeps: the words that the view writes to, its head and its length
-pub record Stays {X Y : Type 0} {W : store.Ghosts X} {P : order.Ghosts Y} (old new : BitSliceMut X Y W P) : Type 0 where
-  pub same_words : loan_of new ≡ loan_of old
-  pub head : head_of new ≡ head_of old
-  pub len : len_of new ≡ len_of old
+-- how many words it borrows
+abbrev pub count_of : {X Y : Type 0} {W : store.Ghosts X} {P : order.Ghosts Y} → BitSliceMut X Y W P → ℕ
+count_of v = length v.words.now
+
+-- what each write keeps
+abbrev pub Stays : {X Y : Type 0} {W : store.Ghosts X} {P : order.Ghosts Y} → BitSliceMut X Y W P → BitSliceMut X Y W P → Type 0
+Stays {X} {Y} {W} {P} = list.Stays (head_of {X = X} {Y = Y} {W = W} {P = P}) len_of count_of len_of loan_of

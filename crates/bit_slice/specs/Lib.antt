@@ -18,3 +18,4 @@ pub mod Owned
 pub mod Pulls
 pub mod Clean
 pub mod Overwritten
+pub mod Held

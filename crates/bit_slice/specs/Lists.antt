@@ -1,5 +1,5 @@
 -- Where writes through a container's words land.
-use Rattle.std.specs.Prelude.{◌≡◌, ℕ, List}
+use Rattle.std.specs.Prelude.{◌≡◌, ℕ, ◌*◌, Bool, List}
 use Rattle.std.specs.Borrow.{Lends, MutBor, Fml, RattleType, Array}
 
 -- the lender ends as F of the words that the slice has last
@@ -13,3 +13,7 @@ pub record Stays {S : Type 0} (head_in len_in count_in capacity_in loan_in : S �
   pub size : count_in new ≡ count_in old
   pub capacity : capacity_in new ≡ capacity_in old
   pub same_words : loan_in new ≡ loan_in old
+
+-- where the list is the whole row, with no dead bit, a write over all of it leaves the row of these bits
+abbrev pub BecomesWhole : {S : Type 0} → ℕ → (S → ℕ) → (S → ℕ) → (S → ℕ) → (S → List Bool) → S → S → List Bool → Type 0
+BecomesWhole w head len count row old new bits = head old ≡ 0 → len old ≡ w * count old → row new ≡ bits

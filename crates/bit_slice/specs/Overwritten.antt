@@ -1,5 +1,5 @@
 -- The list that a container keeps in words from a head on, and what is written in it.
-use Rattle.std.specs.Prelude.{◌≡◌, ℕ, ◌+◌, Bool, List, length, slice_range}
+use Rattle.std.specs.Prelude.{◌≡◌, ℕ, ◌+◌, ◌*◌, Bool, List, length, slice_range}
 use Rattle.bit_addressing.specs.declared.store.BitStore as store
 use Rattle.bit_addressing.specs.declared.order.BitOrder as order
 use Rattle.bit_addressing.specs.Row.{moved, put}
@@ -17,10 +17,11 @@ pub record IsWritten {X Y : Type 0} (W : store.Ghosts X) (P : order.Ghosts Y) (o
   pub clean : IsCleanRow W.BITS head (row_of W P old) (list_in W P old head len) → IsCleanRow W.BITS head (row_of W P new) (list_in W P new head len)
   pub size : length new ≡ length old
 
--- the list was written over by another: the words are as many, each other bit of their row stays, and a clean row is clean afterwards
+-- the list was written over by another: the words are as many, each other bit of their row stays, a row that the list was all of is the new list, and a clean row is clean afterwards
 pub record IsRewritten {X Y : Type 0} (W : store.Ghosts X) (P : order.Ghosts Y) (old new : List X) (head len : ℕ) (bits : List Bool) : Type 0 where
   pub row : row_of W P new ≡ put (row_of W P old) head bits
   pub list : list_in W P new head len ≡ bits
+  pub whole : head ≡ 0 → len ≡ W.BITS * length old → row_of W P new ≡ bits
   pub clean : IsCleanRow W.BITS head (row_of W P old) (list_in W P old head len) → IsCleanRow W.BITS head (row_of W P new) (list_in W P new head len)
   pub size : length new ≡ length old
 

@@ -9,7 +9,7 @@ ghost use Rattle.bit_addressing.specs.Range.{LiesIn};
 ghost use Rattle.bit_addressing.specs.Row.{binary, number_bits, number_of};
 ghost use Rattle.bit_slice.specs.BitSlice.{head_of, len_of, list_of};
 ghost use Rattle.bit_slice.specs.Indices.{ones_left, zeros_left};
-ghost use Rattle.bit_slice.specs.Operators.{and_of, or_of, xor_of, and_not_of};
+ghost use Rattle.bit_slice.specs.Operators.{bits_cmp, and_of, or_of, xor_of, and_not_of};
 ghost use Rattle.bit_slice.specs.Pieces.{part, chunk_count, chunks_of, exact_chunks_of, back_chunks_of, windows_of};
 ghost use Rattle.bit_slice.specs.PiecesLeft.{chunks_left, exact_chunks_left, back_chunks_left, windows_left};
 ghost use Rattle.bit_slice.specs.Places.{ones_of, zeros_of};
@@ -19,6 +19,7 @@ use crate::slice::chunks::{Chunks, ChunksExact, RChunks, Windows};
 use crate::slice::indices::{IterOnes, IterZeros};
 use crate::slice_mut::BitSliceMut;
 use bit_addressing::{BitOrder, BitStore, RangeExt};
+use std::cmp::Ordering;
 
 /// What shows a list of bits.
 pub trait BitList {
@@ -151,7 +152,7 @@ pub trait BitList {
         self.as_bitslice().count_zeros()
     }
 
-    /// Whether some bit is true. Of an empty box it is false.
+    /// Whether some bit is true. Of an empty list it is false.
     ///
     /// ```text
     /// of 01101001: bits.any() == true
@@ -163,7 +164,7 @@ pub trait BitList {
         self.as_bitslice().any()
     }
 
-    /// Whether every bit is true. Of an empty box it is true.
+    /// Whether every bit is true. Of an empty list it is true.
     ///
     /// ```text
     /// of 01101001: bits.all() == false
@@ -173,6 +174,30 @@ pub trait BitList {
         ensures index { IsTrue result ↔ EachIndex (list self.now) (λ i. slice_get (list self.now) i ≡ Some true) }
     {
         self.as_bitslice().all()
+    }
+
+    /// Whether the list and that of `other`, of any word type and order, are equal. Heads and dead bits don't
+    /// count.
+    ///
+    /// ```text
+    /// of 01101001 and 01101001: bits.eq_bits(other) == true
+    /// ```
+    final fn eq_bits<U: BitStore, P: BitOrder>(&self, other: BitSlice<'_, U, P>) -> bool
+        ensures { IsTrue result ↔ (list self.now ≡ list_of other.entry) }
+    {
+        self.as_bitslice().eq_bits(other)
+    }
+
+    /// How the list and that of `other` are ordered: the first bits that differ decide, false before true, and where
+    /// none do the shorter list comes first.
+    ///
+    /// ```text
+    /// of 01101001 and 0111: bits.cmp_bits(other) == Ordering::Less
+    /// ```
+    final fn cmp_bits<U: BitStore, P: BitOrder>(&self, other: BitSlice<'_, U, P>) -> Ordering
+        ensures { result ≡ bits_cmp (list self.now) (list_of other.entry) }
+    {
+        self.as_bitslice().cmp_bits(other)
     }
 
     /// Whether each index that is true is true in `other`. An index past the end of `other` counts as false
@@ -691,7 +716,7 @@ pub trait BitList {
     }
 
     /// Views of each run of `size` bits, one for each index at which one begins. There are none where the
-    /// vector is shorter. Requires that `size` is not 0.
+    /// list is shorter. Requires that `size` is not 0.
     ///
     /// ```text
     /// of 01101001: bits.windows(3).len() == 6

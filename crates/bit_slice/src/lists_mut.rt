@@ -1,4 +1,4 @@
-//! The calls that write, once for arrays, boxes and vectors.
+//! The calls that write, once for views, arrays, boxes and vectors.
 ghost use Rattle.std.specs.Prelude.{◌≡◌, ℕ, ◌+◌, ◌-◌, ◌*◌, ◌<◌, ◌≤◌, ◌++◌, Bool, List, Some, drop, false, length, map, not, replicate, reverse, set, slice_get, slice_index_or, slice_range, swap, take, true};
 ghost use Rattle.std.specs.Borrow.{sem};
 ghost use Rattle.std.specs.Option.{option_map};
@@ -8,8 +8,8 @@ ghost use Rattle.bit_addressing.specs.Row.{binary, moved, number_bits, put, touc
 ghost use Rattle.bit_addressing.specs.Typed.{row as row_of};
 ghost use Rattle.bit_slice.specs.BitSlice.{len_of, list_of};
 ghost use Rattle.bit_slice.specs.Clean.{StaysClean};
-ghost use Rattle.bit_slice.specs.Lists.{lends_to, Stays};
-ghost use Rattle.bit_slice.specs.Operators.{and_not_of, and_of, combined, or_of, part_onto, xor_of, AndsEach, OrsEach, XorsEach, CombinesEach, FlipsEach};
+ghost use Rattle.bit_slice.specs.Lists.{lends_to, BecomesWhole, Stays};
+ghost use Rattle.bit_slice.specs.Operators.{and_not_of, and_of, combined, or_of, part_onto, xor_of, AndsEach, OrsEach, XorsEach, CombinesEach};
 ghost use Rattle.bit_slice.specs.Overwritten.{list_in};
 
 use crate::edits::AndNot;
@@ -20,10 +20,11 @@ use crate::over::{
     shift_left_over, shift_right_over, store_be_over, store_le_over, swap_over,
 };
 use crate::slice::BitSlice;
+use crate::slice_mut::BitSliceMut;
 use bit_addressing::{BitOrder, BitStore, Meter, RangeExt};
-use bit_rows::{And, BitOperator, Or, Xor, flip_bits};
+use bit_rows::{And, BitOperator, Or, Xor};
 
-/// A list of bits in words of its own, for writing.
+/// A list of bits that is written: a view for writing, an array, a box or a vector.
 pub trait BitListMut: BitList {
     // All its words.
     ghost words: { Self → List Self.Store };
@@ -152,8 +153,8 @@ pub trait BitListMut: BitList {
     final fn fill(&mut self, bit: bool)
         ensures list { Self.list self.new ≡ replicate (Self.len self.old) bit }
         ensures row { bits self.new ≡ put (bits self.old) (Self.head self.old) (replicate (Self.len self.old) bit) }
-        ensures whole { Self.head self.old ≡ 0 → Self.len self.old ≡ Self.Store.BITS * count self.old
-            → bits self.new ≡ replicate (Self.len self.old) bit }
+        ensures whole { BecomesWhole Self.Store.BITS Self.head Self.len count bits self.old self.new
+            (replicate (Self.len self.old) bit) }
         ensures clean { StaysClean Self.Store.BITS Self.head bits Self.list self.old self.new }
         ensures stays { Stays Self.head Self.len count capacity loan self.old self.new }
     {
@@ -402,6 +403,8 @@ pub trait BitListMut: BitList {
         ensures index { CombinesEach F.made (Self.list self.old) (list_of other.entry) (Self.list self.new) }
         ensures row { bits self.new
             ≡ put (bits self.old) (Self.head self.old) (combined F.made (Self.list self.old) (list_of other.entry)) }
+        ensures whole { BecomesWhole Self.Store.BITS Self.head Self.len count bits self.old self.new
+            (combined F.made (Self.list self.old) (list_of other.entry)) }
         ensures clean { StaysClean Self.Store.BITS Self.head bits Self.list self.old self.new }
         ensures stays { Stays Self.head Self.len count capacity loan self.old self.new }
     {
@@ -424,6 +427,8 @@ pub trait BitListMut: BitList {
         ensures list { Self.list self.new ≡ and_of (Self.list self.old) (list_of other.entry) }
         ensures index { AndsEach (Self.list self.old) (list_of other.entry) (Self.list self.new) }
         ensures row { bits self.new ≡ put (bits self.old) (Self.head self.old) (and_of (Self.list self.old) (list_of other.entry)) }
+        ensures whole { BecomesWhole Self.Store.BITS Self.head Self.len count bits self.old self.new
+            (and_of (Self.list self.old) (list_of other.entry)) }
         ensures clean { StaysClean Self.Store.BITS Self.head bits Self.list self.old self.new }
         ensures stays { Stays Self.head Self.len count capacity loan self.old self.new }
     {
@@ -440,6 +445,8 @@ pub trait BitListMut: BitList {
         ensures list { Self.list self.new ≡ or_of (Self.list self.old) (list_of other.entry) }
         ensures index { OrsEach (Self.list self.old) (list_of other.entry) (Self.list self.new) }
         ensures row { bits self.new ≡ put (bits self.old) (Self.head self.old) (or_of (Self.list self.old) (list_of other.entry)) }
+        ensures whole { BecomesWhole Self.Store.BITS Self.head Self.len count bits self.old self.new
+            (or_of (Self.list self.old) (list_of other.entry)) }
         ensures clean { StaysClean Self.Store.BITS Self.head bits Self.list self.old self.new }
         ensures stays { Stays Self.head Self.len count capacity loan self.old self.new }
     {
@@ -456,6 +463,8 @@ pub trait BitListMut: BitList {
         ensures list { Self.list self.new ≡ xor_of (Self.list self.old) (list_of other.entry) }
         ensures index { XorsEach (Self.list self.old) (list_of other.entry) (Self.list self.new) }
         ensures row { bits self.new ≡ put (bits self.old) (Self.head self.old) (xor_of (Self.list self.old) (list_of other.entry)) }
+        ensures whole { BecomesWhole Self.Store.BITS Self.head Self.len count bits self.old self.new
+            (xor_of (Self.list self.old) (list_of other.entry)) }
         ensures clean { StaysClean Self.Store.BITS Self.head bits Self.list self.old self.new }
         ensures stays { Stays Self.head Self.len count capacity loan self.old self.new }
     {
@@ -472,8 +481,8 @@ pub trait BitListMut: BitList {
         requires { len_of source ≡ Self.len self.old }
         ensures list { Self.list self.new ≡ list_of source.entry }
         ensures row { bits self.new ≡ put (bits self.old) (Self.head self.old) (list_of source.entry) }
-        ensures whole { Self.head self.old ≡ 0 → Self.len self.old ≡ Self.Store.BITS * count self.old
-            → bits self.new ≡ list_of source.entry }
+        ensures whole { BecomesWhole Self.Store.BITS Self.head Self.len count bits self.old self.new
+            (list_of source.entry) }
         ensures clean { StaysClean Self.Store.BITS Self.head bits Self.list self.old self.new }
         ensures stays { Stays Self.head Self.len count capacity loan self.old self.new }
     {
@@ -748,42 +757,30 @@ pub trait BitListMut: BitList {
     {
         self.combine_within::<Xor, R>(range, dest);
     }
-
-    /// Flips the whole row: the bits of the list, and the dead ones too. Takes no memory.
-    ///
-    /// ```text
-    /// of 01101001: bits.flip_all() leaves 10010110
-    /// ```
-    #[tactic(auto, using(crate::proofs::Parts::shown_length, bit_addressing::proofs::lists::Shown::shows_map, crate::proofs::Rules::item_of_not))]
-    final fn flip_all(&mut self)
-        ensures list { Self.list self.new ≡ map not (Self.list self.old) }
-        ensures index { FlipsEach (Self.list self.old) (Self.list self.new) }
-        ensures row { bits self.new ≡ map not (bits self.old) }
-        ensures stays { Stays Self.head Self.len count capacity loan self.old self.new }
-    {
-        flip_bits::<Self::Store, Self::Order>(self.as_raw_mut_slice());
-    }
 }
 
 impl<'a, T: BitStore, O: BitOrder> BitListMut for BitSliceMut<'a, T, O> {
-    ghost use Rattle.bit_slice.specs.BitSliceMut.{words_of, len_of, row_of, loan_of};
+    ghost use Rattle.bit_slice.specs.BitSliceMut.{words_of, len_of as lent_len, row_of as lent_row, loan_of};
     ghost use Rattle.bit_slice.specs.Lends.{with_words};
-    ghost use Rattle.bit_slice.proofs.Kept.{words_kept, row_kept, list_kept, count_kept};
+    ghost use Rattle.std.specs.Prelude.{refl};
+    ghost use Rattle.std.specs.List.{length_refill};
+    ghost use Rattle.std.proofs.Common.{sym};
+    ghost use Rattle.bit_addressing.proofs.lists.Refilled.{refilled};
 
     ghost words = { λ v. words_of v };
 
     ghost count = { λ v. length (words_of v) };
 
-    ghost bits = { λ v. row_of v };
+    ghost bits = { λ v. lent_row v };
 
-    ghost capacity = { λ v. len_of v };
+    ghost capacity = { λ v. lent_len v };
 
     ghost loan = { λ v. loan_of v };
 
     ghost rewritten = { λ v ws. with_words T.BitStore O.BitOrder v ws };
 
     fn as_raw_mut_slice(&mut self) -> &mut [T] {
-        BitSliceMut::as_raw_mut_slice(self)
+        &mut *self.words
     }
 
     ghost words_rewritten = { λ v ws e. refilled (length (words_of v)) (words_of v) ws e };

@@ -1,25 +1,24 @@
 //! Views of bits for writing.
 ghost use Rattle.std.specs.Iterator.{YieldsFirst, YieldsLast};
 ghost use Rattle.std.specs.Iterator.Runs.{YieldsInOrder, YieldsInReverse};
-ghost use Rattle.std.specs.Prelude.{◌≡◌, ℕ, ◌+◌, ◌-◌, ◌*◌, ◌/◌, ◌%◌, ◌<◌, ◌≤◌, ◌↔◌, Bool, true, false, EachIndex, SomeIndex, not, length, count_by, replicate, set, slice_get, slice_index_or, slice_range, swap, IsTrue};
-ghost use Rattle.std.specs.List.{list_any, list_all};
+ghost use Rattle.std.specs.Prelude.{◌≡◌, ℕ, ◌+◌, ◌-◌, ◌*◌, ◌/◌, ◌%◌, ◌<◌, ◌≤◌, ◌↔◌, Bool, true, false, length, map, not, count_by, replicate, set, slice_get, slice_index_or, slice_range, swap, IsTrue};
 ghost use Rattle.std.specs.Borrow.{sem};
 ghost use Rattle.bit_addressing.specs.Range.{LiesIn};
 ghost use Rattle.bit_addressing.specs.Row.{words_for, put, moved};
 ghost use Rattle.bit_addressing.specs.Typed.{row, words_from};
 ghost use Rattle.bit_addressing.specs.declared.length.TheConstants.{MAX_BITS};
 ghost use Rattle.bit_slice.specs.Fits.{IsView};
+ghost use Rattle.bit_slice.specs.Lists.{BecomesWhole};
 
-mod fields;
-mod moves;
 mod parts;
-mod ranges;
 
 use crate::counted_mut::CountedMut;
+use crate::edits::flip_words;
 use crate::iter::Iter;
+use crate::lists_mut::BitListMut;
 use crate::slice::BitSlice;
-use bit_addressing::{BitOrder, BitStore, RangeExt, move_bits};
-use bit_rows::{copy_bits, exact_words, fill_bits, swap_bits, write_bit};
+use bit_addressing::{BitOrder, BitStore, RangeExt};
+use bit_rows::exact_words;
 use std::marker::PhantomData;
 use std::ops::Index;
 
@@ -45,7 +44,7 @@ pub struct BitSliceMut<'a, T: BitStore, O: BitOrder> {
 
 impl<'a, T: BitStore, O: BitOrder> BitSliceMut<'a, T, O> {
     ghost use Rattle.bit_slice.specs.BitSlice.{words_of as words_seen, head_of as head_seen, len_of as len_seen, list_of as list_seen};
-    ghost use Rattle.bit_slice.specs.BitSliceMut.{words_of, head_of, len_of, row_of, list_of, loan_of, Stays};
+    ghost use Rattle.bit_slice.specs.BitSliceMut.{words_of, head_of, len_of, count_of, row_of, list_of, loan_of, Stays};
     ghost use Rattle.bit_slice.specs.Iter.{rest_of};
     ghost use Rattle.bit_slice.specs.Lends.{lends_words};
     ghost use Rattle.bit_slice.specs.CountedMut.{list_of as list_counted};
@@ -205,25 +204,6 @@ impl<'a, T: BitStore, O: BitOrder> BitSliceMut<'a, T, O> {
         self.as_bitslice().get(i)
     }
 
-    /// The part of the view at a range of indices, for reading. Requires that the range lies in the
-    /// view's length.
-    ///
-    /// ```text
-    /// of 01101001: bits.get_range(1..5) shows 1101
-    /// ```
-    pub fn get_range<R: RangeExt>(&self, range: R) -> BitSlice<'_, T, O>
-        requires lies { LiesIn (R.start_of range) (R.end_of range (len_of self.now)) (len_of self.now) }
-        ensures list { list_seen result
-            ≡ slice_range (list_of self.now) (R.start_of range) (R.end_of range (len_of self.now)) }
-        ensures head { head_seen result ≡ (head_of self.now + R.start_of range) % T.BITS }
-        ensures len { len_seen result ≡ R.end_of range (len_of self.now) - R.start_of range }
-        ensures words { let first = (head_of self.now + R.start_of range) / T.BITS
-            in words_seen result ≡ slice_range (words_of self.now) first
-            (first + words_for T.BITS (head_seen result + len_seen result)) }
-    {
-        self.as_bitslice().get_range(range)
-    }
-
     /// The first bit. None exactly where the view is empty.
     ///
     /// ```text
@@ -273,43 +253,6 @@ impl<'a, T: BitStore, O: BitOrder> BitSliceMut<'a, T, O> {
         self.as_bitslice().count_ones()
     }
 
-    /// How many bits are false.
-    ///
-    /// ```text
-    /// of 01101001: bits.count_zeros() == 4
-    /// ```
-    pub fn count_zeros(&self) -> usize
-        ensures value { result ≡ count_by not (list_of self.now) }
-        ensures with_ones { result + count_by (λ b. b) (list_of self.now) ≡ length (list_of self.now) }
-        ensures few { result ≤ len_of self.now }
-    {
-        self.as_bitslice().count_zeros()
-    }
-
-    /// Whether some bit is true. Of an empty view it is false.
-    ///
-    /// ```text
-    /// of 01101001: bits.any() == true
-    /// ```
-    pub fn any(&self) -> bool
-        ensures value { result ≡ list_any (λ b. b) (list_of self.now) }
-        ensures index { IsTrue result ↔ SomeIndex (list_of self.now) (λ i. slice_get (list_of self.now) i ≡ Some true) }
-    {
-        self.as_bitslice().any()
-    }
-
-    /// Whether every bit is true. Of an empty view it is true.
-    ///
-    /// ```text
-    /// of 01101001: bits.all() == false
-    /// ```
-    pub fn all(&self) -> bool
-        ensures value { result ≡ list_all (λ b. b) (list_of self.now) }
-        ensures index { IsTrue result ↔ EachIndex (list_of self.now) (λ i. slice_get (list_of self.now) i ≡ Some true) }
-    {
-        self.as_bitslice().all()
-    }
-
     /// Writes `b` at index `i`. Requires that `i` is below the length.
     ///
     /// ```text
@@ -321,40 +264,7 @@ impl<'a, T: BitStore, O: BitOrder> BitSliceMut<'a, T, O> {
         ensures list { list_of self.new ≡ set (list_of self.old) i b }
         ensures stays { Stays self.old self.new }
     {
-        write_bit::<T, O>(self.words, self.head + i, b);
-    }
-
-    /// Writes `b` at index `i`, and returns the bit that was there. Requires that `i` is below the
-    /// length.
-    ///
-    /// ```text
-    /// of 01101001: bits.replace(0, true) == false
-    /// ```
-    pub fn replace(&mut self, i: usize, b: bool) -> bool
-        requires { i < len_of self.old }
-        ensures old { slice_get (list_of self.old) i ≡ Some result }
-        ensures row { row_of self.new ≡ set (row_of self.old) (head_of self.old + i) b }
-        ensures list { list_of self.new ≡ set (list_of self.old) i b }
-        ensures stays { Stays self.old self.new }
-    {
-        let old = self.as_bitslice().bit(i);
-        self.set(i, b);
-        old
-    }
-
-    /// Swaps the bits at indices `i` and `j`. Requires that both are below the length.
-    ///
-    /// ```text
-    /// of 01101001: bits.swap(0, 1) leaves 10101001
-    /// ```
-    pub fn swap(&mut self, i: usize, j: usize)
-        requires first { i < len_of self.old }
-        requires second { j < len_of self.old }
-        ensures row { row_of self.new ≡ swap (row_of self.old) (head_of self.old + i) (head_of self.old + j) }
-        ensures list { list_of self.new ≡ swap (list_of self.old) i j }
-        ensures stays { Stays self.old self.new }
-    {
-        swap_bits::<T, O>(self.words, self.head + i, self.head + j);
+        BitListMut::set(self, i, b);
     }
 
     /// Writes `b` at every index, by whole words where it can.
@@ -365,11 +275,11 @@ impl<'a, T: BitStore, O: BitOrder> BitSliceMut<'a, T, O> {
     pub fn fill(&mut self, b: bool)
         ensures row { row_of self.new ≡ put (row_of self.old) (head_of self.old) (replicate (len_of self.old) b) }
         ensures list { list_of self.new ≡ replicate (len_of self.old) b }
-        ensures whole { head_of self.old ≡ 0 → len_of self.old ≡ T.BITS * length (words_of self.old)
-            → row_of self.new ≡ replicate (len_of self.old) b }
+        ensures whole { BecomesWhole T.BITS head_of len_of count_of row_of self.old self.new
+            (replicate (len_of self.old) b) }
         ensures stays { Stays self.old self.new }
     {
-        fill_bits::<T, O>(self.words, self.head, self.head + self.len, b);
+        BitListMut::fill(self, b);
     }
 
     /// Copies the bits at a range of indices to the indices from `dest` on, as if they were read
@@ -379,7 +289,6 @@ impl<'a, T: BitStore, O: BitOrder> BitSliceMut<'a, T, O> {
     /// ```text
     /// of 01101001: bits.copy_within(2..5, 0) leaves 10101001
     /// ```
-    #[tactic(auto, using(crate::proofs::Parts::roomy))]
     pub fn copy_within<R: RangeExt>(&mut self, range: R, dest: usize)
         requires lies { LiesIn (R.start_of range) (R.end_of range (len_of self.old)) (len_of self.old) }
         requires room { dest + (R.end_of range (len_of self.old) - R.start_of range) ≤ len_of self.old }
@@ -389,27 +298,23 @@ impl<'a, T: BitStore, O: BitOrder> BitSliceMut<'a, T, O> {
             ≡ moved (list_of self.old) (R.start_of range) dest (R.end_of range (len_of self.old) - R.start_of range) }
         ensures stays { Stays self.old self.new }
     {
-        let range = range.normalize(self.len);
-        let (from, to) = (self.head + range.start, self.head + dest);
-        move_bits::<T, O>(self.words, from, to, range.end - range.start);
+        BitListMut::copy_within(self, range, dest);
     }
 
-    /// Writes the bits of another view, of any word type and order. Requires that the other view has
-    /// as many bits.
+    /// Flips every bit of the view, 64 at a time. Unlike `flip_all` of an array, a box or a vector, it changes no
+    /// bit of the words outside the list.
     ///
     /// ```text
-    /// of 01101001 and 01010101: bits.clone_from_bitslice(other) leaves 01010101
+    /// of 01101001: bits.flip_all() leaves 10010110
     /// ```
-    pub fn clone_from_bitslice<U: BitStore, P: BitOrder>(&mut self, source: BitSlice<'_, U, P>)
-        requires { len_seen source ≡ len_of self.old }
-        ensures row { row_of self.new ≡ put (row_of self.old) (head_of self.old) (list_seen source.entry) }
-        ensures list { list_of self.new ≡ list_seen source.entry }
-        ensures whole { head_of self.old ≡ 0 → len_of self.old ≡ T.BITS * length (words_of self.old)
-            → row_of self.new ≡ list_seen source.entry }
+    pub fn flip_all(&mut self)
+        ensures row { row_of self.new ≡ put (row_of self.old) (head_of self.old) (map not (list_of self.old)) }
+        ensures list { list_of self.new ≡ map not (list_of self.old) }
+        ensures whole { BecomesWhole T.BITS head_of len_of count_of row_of self.old self.new
+            (map not (list_of self.old)) }
         ensures stays { Stays self.old self.new }
     {
-        let from = source.head();
-        copy_bits::<T, O, U, P>(self.words, self.head, source.as_raw_slice(), from, self.len);
+        flip_words::<T, O>(self.words, self.head, self.head + self.len);
     }
 }
 

@@ -34,6 +34,8 @@ impl<A: BitViewSized, O: BitOrder> BitListMut for BitArray<A, O> {
 
     ghost capacity = { λ _. A.Store.BITS * A.count };
 
+    ghost loan = { λ _. 0 };
+
     ghost rewritten = { λ a ws. A.refilled a ws };
 
     fn as_raw_mut_slice(&mut self) -> &mut [A::Store] {
@@ -54,4 +56,6 @@ impl<A: BitViewSized, O: BitOrder> BitListMut for BitArray<A, O> {
     ghost count_rewritten = { λ a ws. refl };
 
     ghost capacity_rewritten = { λ a ws. refl };
+
+    ghost loan_rewritten = { λ a ws. refl };
 }

@@ -1,42 +1,14 @@
-//! The array compared and combined with views, and its operators.
-ghost use Rattle.std.specs.Prelude.{◌≡◌, ◌↔◌, IsTrue, not, map};
+//! The operators of the array.
+ghost use Rattle.std.specs.Prelude.{◌≡◌, not, map};
 ghost use Rattle.bit_addressing.specs.Typed.{row};
-ghost use Rattle.bit_slice.specs.BitSlice.{list_of};
-ghost use Rattle.bit_slice.specs.Operators.{bits_cmp, and_of, or_of, xor_of, AndsEach, OrsEach, XorsEach, FlipsEach};
+ghost use Rattle.bit_slice.specs.Operators.{and_of, or_of, xor_of, AndsEach, OrsEach, XorsEach, FlipsEach};
 
 use crate::array::BitArray;
 use crate::sized::{BitViewSized, BitWords};
-use bit_addressing::{BitOrder, BitStore};
+use bit_addressing::BitOrder;
 use bit_rows::flip_bits;
-use bit_slice::{BitListMut, BitSlice};
-use std::cmp::Ordering;
+use bit_slice::BitListMut;
 use std::ops::{BitAnd, BitAndAssign, BitOr, BitOrAssign, BitXor, BitXorAssign, Index, Not};
-
-impl<A: BitWords, O: BitOrder> BitArray<A, O> {
-    /// Whether the array and a view, with any word type and order, have the same bits. The view's head
-    /// doesn't count.
-    ///
-    /// ```text
-    /// of 01101001 and 01101001: bits.eq_bits(other) == true
-    /// ```
-    pub fn eq_bits<U: BitStore, P: BitOrder>(&self, other: BitSlice<'_, U, P>) -> bool
-        ensures { IsTrue result ↔ (row A.Store.BitStore O.BitOrder (A.words self.now) ≡ list_of other.entry) }
-    {
-        self.as_bitslice().eq_bits(other)
-    }
-
-    /// How the bits of the array and those of a view are ordered: the first that differ decide, false before
-    /// true, and where none do the shorter comes first.
-    ///
-    /// ```text
-    /// of 01101001 and 0111: bits.cmp_bits(other) == Ordering::Less
-    /// ```
-    pub fn cmp_bits<U: BitStore, P: BitOrder>(&self, other: BitSlice<'_, U, P>) -> Ordering
-        ensures { result ≡ bits_cmp (row A.Store.BitStore O.BitOrder (A.words self.now)) (list_of other.entry) }
-    {
-        self.as_bitslice().cmp_bits(other)
-    }
-}
 
 impl<A: BitViewSized, O: BitOrder> BitArray<A, O> {
     /// Flips every bit.

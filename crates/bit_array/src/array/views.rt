@@ -6,7 +6,8 @@ ghost use Rattle.std.specs.Borrow.{sem};
 ghost use Rattle.bit_addressing.specs.Typed.{row, words_from, words_for_list};
 ghost use Rattle.bit_slice.specs.BitSlice.{words_of, head_of, len_of, list_of};
 ghost use Rattle.bit_slice.specs.BitSliceMut.{words_of as lent_words, head_of as lent_head, len_of as lent_len, list_of as lent_list, loan_of};
-ghost use Rattle.bit_array.specs.Sized.{lends_words, lends_view};
+ghost use Rattle.bit_array.specs.Sized.{lends_view};
+ghost use Rattle.bit_slice.specs.Lists.{lends_to};
 ghost use Rattle.bit_array.specs.contracts.array.BitArray.{the_row};
 
 use crate::array::BitArray;
@@ -129,7 +130,7 @@ impl<A: BitViewSized, O: BitOrder> BitArray<A, O> {
     /// of 01101001: bits.as_raw_mut_slice()[0] = 3 leaves 11000000
     /// ```
     pub fn as_raw_mut_slice(&mut self) -> &mut [A::Store]
-        ensures* writes_back { sem 𝓛 (lends_words
+        ensures* writes_back { sem 𝓛 (lends_to
             (the_row A.row O.row A.Store.row A.BitWords A.Store.BitStore O.BitOrder) A.Store.row self.entry
             (A.refilled self.old) result) }
         ensures words { result.now ≡ A.words self.old }

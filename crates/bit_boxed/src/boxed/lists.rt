@@ -1,6 +1,6 @@
 //! The box as a list of bits.
 ghost use Rattle.std.specs.Prelude.{length, refl};
-ghost use Rattle.bit_boxed.specs.Lends.{with_words};
+ghost use Rattle.bit_slice.specs.Held.{with_words};
 ghost use Rattle.bit_slice.proofs.Kept.{kept_words, kept_row, kept_list, kept_len, kept_count};
 
 use crate::boxed::BitBox;
@@ -30,7 +30,9 @@ impl<T: BitStore, O: BitOrder> BitListMut for BitBox<T, O> {
 
     ghost bits = { λ b. b.row };
 
-    ghost capacity = { λ b. length b.list };
+    ghost capacity = { λ b. b.capacity };
+
+    ghost loan = { λ _. 0 };
 
     ghost rewritten = { λ b ws. with_words T.BitStore O.BitOrder b ws };
 
@@ -50,5 +52,7 @@ impl<T: BitStore, O: BitOrder> BitListMut for BitBox<T, O> {
 
     ghost count_rewritten = { λ b ws. kept_count T.value O.place T.BITS b.words b.head b.list ws };
 
-    ghost capacity_rewritten = { λ b ws. kept_len T.value O.place T.BITS b.words b.head b.list ws };
+    ghost capacity_rewritten = { λ b ws. refl };
+
+    ghost loan_rewritten = { λ b ws. refl };
 }

@@ -1,39 +1,29 @@
-//! The box compared and combined with views, and its operators.
-ghost use Rattle.std.specs.Prelude.{◌≡◌, ◌↔◌, IsTrue, not, map};
+//! The operators of the box.
+ghost use Rattle.std.specs.Prelude.{◌≡◌, not, map};
 ghost use Rattle.bit_addressing.specs.Row.{put};
-ghost use Rattle.bit_boxed.specs.BitBox.{IsClean, Stayed};
-ghost use Rattle.bit_slice.specs.BitSlice.{list_of};
-ghost use Rattle.bit_slice.specs.Operators.{bits_cmp, and_of, or_of, xor_of, AndsEach, OrsEach, XorsEach, FlipsEach};
+ghost use Rattle.bit_slice.specs.Held.{IsClean, Stayed};
+ghost use Rattle.bit_slice.specs.Operators.{and_of, or_of, xor_of, AndsEach, OrsEach, XorsEach, FlipsEach};
 
 use crate::boxed::BitBox;
 use bit_addressing::{BitOrder, BitStore};
-use bit_slice::{BitListMut, BitSlice};
-use std::cmp::Ordering;
+use bit_rows::flip_bits;
+use bit_slice::BitListMut;
 use std::ops::{BitAnd, BitAndAssign, BitOr, BitOrAssign, BitXor, BitXorAssign, Index, Not};
 
 impl<T: BitStore, O: BitOrder> BitBox<T, O> {
-    /// Whether the box and a view, with any word type and order, have the same bits. Heads and
-    /// dead bits don't count.
+    /// Flips every bit of all the words, dead bits included.
     ///
     /// ```text
-    /// of 01101001 and 01101001: bits.eq_bits(other) == true
+    /// of 01101001: bits.flip_all() leaves 10010110
     /// ```
-    pub fn eq_bits<U: BitStore, P: BitOrder>(&self, other: BitSlice<'_, U, P>) -> bool
-        ensures { IsTrue result ↔ (self.now.list ≡ list_of other.entry) }
+    #[tactic(auto, using(bit_slice::proofs::Parts::shown_length, bit_slice::proofs::Rules::item_of_not))]
+    pub fn flip_all(&mut self)
+        ensures list { self.new.list ≡ map not self.old.list }
+        ensures index { FlipsEach self.old.list self.new.list }
+        ensures row { self.new.row ≡ map not self.old.row }
+        ensures stayed { Stayed self.old self.new }
     {
-        self.as_bitslice().eq_bits(other)
-    }
-
-    /// How the bits of the box and those of a view are ordered: the first that differ decide, false before
-    /// true, and where none do the shorter comes first.
-    ///
-    /// ```text
-    /// of 01101001 and 0111: bits.cmp_bits(other) == Ordering::Less
-    /// ```
-    pub fn cmp_bits<U: BitStore, P: BitOrder>(&self, other: BitSlice<'_, U, P>) -> Ordering
-        ensures { result ≡ bits_cmp self.now.list (list_of other.entry) }
-    {
-        self.as_bitslice().cmp_bits(other)
+        flip_bits::<T, O>(self.words.as_mut_slice());
     }
 }
 

@@ -5,7 +5,8 @@ ghost use Rattle.std.specs.Hash.{on_Alike};
 ghost use Rattle.bit_addressing.specs.Text.{list_text};
 ghost use Rattle.bit_slice.specs.Operators.{bits_cmp};
 ghost use Rattle.bit_slice.specs.Comparisons.{bits_equal, bits_equiv, bits_total, bits_partial, bits_tie, bits_fed, bits_alike};
-ghost use Rattle.bit_boxed.specs.BitBox.{Held, list_in};
+ghost use Rattle.bit_boxed.specs.BitBox.{list_in};
+ghost use Rattle.bit_slice.specs.Held.{Held};
 
 use crate::boxed::BitBox;
 use bit_addressing::{BitOrder, BitStore};
@@ -18,7 +19,7 @@ use std::hash::{Hash, Hasher};
 
 impl<T: BitStore, O: BitOrder> Clone for BitBox<T, O> {
     ghost use Rattle.std.specs.Prelude.{◌≡◌, []};
-    ghost use Rattle.bit_boxed.specs.BitBox.{IsCopy};
+    ghost use Rattle.bit_slice.specs.Held.{IsCopy};
 
     ghost is_clone = { IsCopy T.BITS };
 

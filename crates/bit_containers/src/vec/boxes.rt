@@ -3,7 +3,7 @@ ghost use Rattle.std.specs.Prelude.{◌≡◌, ℕ, ◌*◌, ◌<◌, ◌↔◌,
 ghost use Rattle.bit_addressing.specs.Row.{words_for};
 ghost use Rattle.bit_addressing.specs.Typed.{row, words_for_list};
 ghost use Rattle.bit_addressing.specs.declared.length.TheConstants.{MAX_BITS};
-ghost use Rattle.bit_boxed.specs.BitBox.{IsClean};
+ghost use Rattle.bit_slice.specs.Held.{IsClean};
 ghost use Rattle.bit_slice.specs.BitSlice.{len_of, list_of};
 ghost use Rattle.bit_containers.specs.Making.{marked};
 ghost use Rattle.bit_containers.specs.Text.{IsTextOf, IsWrongAt, bits_said};

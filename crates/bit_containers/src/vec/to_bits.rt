@@ -1,6 +1,6 @@
 //! Views copied into a vector or a box of their own.
 ghost use Rattle.std.specs.Prelude.{◌≡◌, ◌<◌, IfOk, OnErr, length};
-ghost use Rattle.bit_boxed.specs.BitBox.{Held as HeldBox, IsClean as IsCleanBox};
+ghost use Rattle.bit_slice.specs.Held.{Held as HeldBox, IsClean as IsCleanBox};
 ghost use Rattle.bit_containers.specs.BitVec.{Held, IsClean};
 ghost use Rattle.bit_slice.specs.BitSlice.{len_of, list_of};
 

@@ -3,7 +3,7 @@ ghost use Rattle.std.specs.Prelude.{◌≡◌, ◌↔◌, ◌*◌, ◌≤◌, If
 ghost use Rattle.std.specs.Box.{boxed_slice_items};
 ghost use Rattle.bit_addressing.specs.declared.length.TheConstants.{MAX_BITS};
 ghost use Rattle.bit_addressing.specs.Typed.{row};
-ghost use Rattle.bit_boxed.specs.BitBox.{IsClean};
+ghost use Rattle.bit_slice.specs.Held.{IsClean};
 ghost use Rattle.bit_slice.specs.BitSlice.{len_of, list_of};
 
 use bit_addressing::{BitOrder, BitStore};

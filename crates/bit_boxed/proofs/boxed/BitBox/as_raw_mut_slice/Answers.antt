@@ -1,7 +1,7 @@
-use Rattle.std.proofs.Common.{◌≡◌, length, refl, sym, ◌∙◌, ap, rules}
+use Rattle.std.proofs.Common.{◌≡◌, length, refl, sym, ◌∙◌, ap, rules, vec_capacity}
 use Rattle.std.specs.List.{refill, length_refill}
 use Rattle.bit_addressing.specs.Typed.{row}
-use Rattle.bit_boxed.specs.Lends.{with_words}
+use Rattle.bit_slice.specs.Held.{bits_in, with_words}
 use Rattle.bit_boxed.proofs.Boxes.{lands, refilled}
 use Rattle.bit_boxed.proofs.boxed.BitBox.as_raw_mut_slice.Goals as goal
 
@@ -15,7 +15,7 @@ pub returns : goal.returns
 returns g c =
     let i = c.self.inside in
     let n : i.words.len ≡ length i.words.items = search rules in (
-      (refl, λ w. lands g.T.BitStore g.O.BitOrder i.head i.len i.words.len i.words.items n c.self.invariant w ∙ ap (λ v. with_words g.T.BitStore g.O.BitOrder v w) c.self.view_is),
+      (refl, λ w. lands g.T.BitStore g.O.BitOrder i.head i.len (bits_in g.T.BitStore.BITS (vec_capacity i.words) i.head) i.words.len i.words.items n c.self.invariant w ∙ ap (λ v. with_words g.T.BitStore g.O.BitOrder v w) c.self.view_is),
       record {
         writes_back = tt;
         value = c.as_mut_slice.ensures.value ∙ ap (λ v. v.words) c.self.view_is;

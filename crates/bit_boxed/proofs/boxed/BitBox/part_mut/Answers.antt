@@ -1,4 +1,4 @@
-use Rattle.std.proofs.Common.{◌≡◌, ℕ, ◌+◌, ◌-◌, ◌*◌, ◌/◌, ◌%◌, ◌≤◌, List, length, slice_range, sym, ◌∙◌, ap, subst, rules, arith}
+use Rattle.std.proofs.Common.{◌≡◌, ℕ, ◌+◌, ◌-◌, ◌*◌, ◌/◌, ◌%◌, ◌≤◌, List, length, slice_range, sym, ◌∙◌, ap, subst, rules, arith, vec_capacity}
 use Rattle.std.proofs.lemmas.Nat.{div-add-mod'}
 use Rattle.std.specs.List.{refill, length_refill}
 use Rattle.bit_addressing.specs.Row.{words_for}
@@ -7,7 +7,8 @@ use Rattle.bit_addressing.proofs.lists.Sized.{room}
 use Rattle.bit_addressing.proofs.Rows.{width_positive}
 use Rattle.bit_slice.specs.BitSliceMut.{head_of, len_of}
 use Rattle.bit_slice.proofs.Parts.{part_room, part_shows}
-use Rattle.bit_boxed.specs.Lends.{with_words, written_over}
+use Rattle.bit_slice.specs.Held.{bits_in, with_words}
+use Rattle.bit_boxed.specs.Lends.{written_over}
 use Rattle.bit_boxed.proofs.Boxes.{refilled, lands}
 use Rattle.bit_boxed.proofs.boxed.BitBox.part_mut.Goals as goal
 
@@ -63,8 +64,8 @@ returns g c =
       (
         sym made.same_words,
         λ ws.
-            lands W P i.head i.len i.words.len xs n b (written_over xs (at / c.BITS-width.result) ws)
-            ∙ ap (λ k. with_words W P (record { words = xs; row = bits xs; head = i.head; list = slice_range (bits xs) i.head (i.head + i.len) }) (written_over xs (at / k) ws)) is
+            lands W P i.head i.len (bits_in w (vec_capacity i.words) i.head) i.words.len xs n b (written_over xs (at / c.BITS-width.result) ws)
+            ∙ ap (λ k. with_words W P (record { words = xs; row = bits xs; head = i.head; list = slice_range (bits xs) i.head (i.head + i.len); capacity = bits_in w (vec_capacity i.words) i.head }) (written_over xs (at / k) ws)) is
             ∙ ap (λ v. with_words W P v (written_over v.words ((v.head + from) / w) ws)) c.self.view_is,
       ),
       record {

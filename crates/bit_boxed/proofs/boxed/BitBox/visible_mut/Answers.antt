@@ -1,9 +1,9 @@
-use Rattle.std.proofs.Common.{◌≡◌, ◌+◌, ◌-◌, List, ◌++◌, length, take, drop, slice_range, refl, sym, ◌∙◌, ap, rules, arith}
+use Rattle.std.proofs.Common.{◌≡◌, ◌+◌, ◌-◌, List, ◌++◌, length, take, drop, slice_range, refl, sym, ◌∙◌, ap, rules, arith, vec_capacity}
 use Rattle.std.proofs.lemmas.List.{length-take-le}
 use Rattle.bit_addressing.specs.Row.{words_for}
 use Rattle.bit_addressing.specs.Typed.{row}
 use Rattle.std.specs.List.{refill, length_refill}
-use Rattle.bit_boxed.specs.Lends.{with_words}
+use Rattle.bit_slice.specs.Held.{bits_in, with_words}
 use Rattle.bit_boxed.proofs.Boxes.{refilled, visible, visible_show, front_lands}
 use Rattle.bit_boxed.proofs.boxed.BitBox.visible_mut.Goals as goal
 
@@ -33,7 +33,7 @@ returns g c =
     let count : c.elts-count.result - 0 ≡ words_for w (i.head + i.len) = omega (arith, c.elts-count.ensures.value) in
     let words : c.slice_mut.result.now ≡ take (words_for w (i.head + i.len)) i.words.items = c.slice_mut.ensures.value ∙ ap (λ n. take n i.words.items) count in
     let seen : c.slice_mut.result.now ≡ take (words_for w (now.head + length now.list)) now.words = words ∙ ap (λ v. take (words_for w (v.head + i.len)) v.words) c.self.view_is ∙ ap (λ n. take (words_for w (now.head + n)) now.words) len in (
-      (refl, λ ws. front_lands g.T.BitStore g.O.BitOrder i.head i.len i.words.len i.words.items n c.self.invariant ws ∙ ap (λ v. with_words g.T.BitStore g.O.BitOrder v ws) c.self.view_is),
+      (refl, λ ws. front_lands g.T.BitStore g.O.BitOrder i.head i.len (bits_in g.T.BitStore.BITS (vec_capacity i.words) i.head) i.words.len i.words.items n c.self.invariant ws ∙ ap (λ v. with_words g.T.BitStore g.O.BitOrder v ws) c.self.view_is),
       record {
         writes_back = tt;
         words = seen;

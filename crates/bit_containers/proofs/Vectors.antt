@@ -70,17 +70,16 @@ module _ {X Y : Type 0} (W : store.Ghosts X) (P : order.Ghosts Y) (head len cap 
   abbrev holding : List X → Held X
   holding ws = record { words = ws; row = row W P ws; head = head; list = slice_range (row W P ws) head (head + len); capacity = cap }
 
-  -- other words, as many: like those of a box, with a capacity beside them
+  -- other words, as many: like those of a box
   pub lands : {size : ℕ} (n : ℕ) (xs : List X) → n ≡ length xs → 0 < W.BITS → IsVector W.BITS (length xs) head len size → (ws : List X) → holding (refill n xs ws) ≡ with_words W P (holding xs) ws
   lands n xs e positive v ws =
-      ap (λ b. record { words = b.words; row = b.row; head = b.head; list = b.list; capacity = cap })
-      (box_lands W P head len n xs e (record {
+      box_lands W P head len cap n xs e (record {
         head_below = v.head_below;
         len_small = v.len_small;
         fits = v.fits;
         few = few W.BITS (length xs) head len MAX_BITS positive v.head_below v.len_small v.count;
         shows = v.shows;
-      }) ws)
+      }) ws
 
 -- a bit more than those of the list has room within the capacity
 pub room_in : (w words head len : ℕ) → 0 < w → len < bits_in w words head → words_for w (head + len + 1) ≤ words

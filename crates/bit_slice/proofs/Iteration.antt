@@ -8,7 +8,7 @@ use Rattle.bit_addressing.specs.declared.order.BitOrder as order
 use Rattle.bit_slice.specs.Iter.{rest_of}
 use Rattle.bit_slice.specs.BitSlice.{list_of}
 use Rattle.bit_slice.specs.Indices.{ones_left, zeros_left}
-use Rattle.bit_slice.specs.PiecesLeft.{chunks_left, exact_chunks_left, back_chunks_left, windows_left}
+use Rattle.bit_slice.specs.PiecesLeft.{chunks_left, exact_chunks_left, back_chunks_left, windows_left, exact_first, exact_last}
 
 module _ {X Y : Type 0} (W : store.Ghosts X) (P : order.Ghosts Y) where
   pub bit_runs : YieldsInOrder (YieldsFirst (rest_of {X = X} {Y = Y} {W = W} {P = P})) rest_of
@@ -37,11 +37,11 @@ module _ {X Y : Type 0} (W : store.Ghosts X) (P : order.Ghosts Y) where
   pub chunks_runs_back : EveryRun (YieldsLastBy (list_of {X = X} {Y = Y} {W = W} {P = P}) (chunks_left {X = X} {Y = Y} {W = W} {P = P})) (λ p. ItemsMapToReversed p list_of (chunks_left p.from))
   chunks_runs_back p s = from_back (YieldsLastBy (list_of {X = X} {Y = Y} {W = W} {P = P}) (chunks_left {X = X} {Y = Y} {W = W} {P = P})) list_of chunks_left (λ s t h. ap length h.0) (λ s x t h. h) p s
 
-  pub chunks_exact_runs : EveryRun (YieldsFirstBy (list_of {X = X} {Y = Y} {W = W} {P = P}) (exact_chunks_left {X = X} {Y = Y} {W = W} {P = P})) (λ p. ItemsMapTo p list_of (exact_chunks_left p.from))
-  chunks_exact_runs p s = from_front (YieldsFirstBy (list_of {X = X} {Y = Y} {W = W} {P = P}) (exact_chunks_left {X = X} {Y = Y} {W = W} {P = P})) list_of exact_chunks_left (λ s t h. ap length h.0) (λ s x t h. h) p s
+  pub chunks_exact_runs : EveryRun (exact_first {X = X} {Y = Y} {W = W} {P = P}) (λ p. ItemsMapTo p list_of (exact_chunks_left p.from))
+  chunks_exact_runs p s = from_front (exact_first {X = X} {Y = Y} {W = W} {P = P}) list_of exact_chunks_left (λ s t h. ap length h.0.0) (λ s x t h. h.0) p s
 
-  pub chunks_exact_runs_back : EveryRun (YieldsLastBy (list_of {X = X} {Y = Y} {W = W} {P = P}) (exact_chunks_left {X = X} {Y = Y} {W = W} {P = P})) (λ p. ItemsMapToReversed p list_of (exact_chunks_left p.from))
-  chunks_exact_runs_back p s = from_back (YieldsLastBy (list_of {X = X} {Y = Y} {W = W} {P = P}) (exact_chunks_left {X = X} {Y = Y} {W = W} {P = P})) list_of exact_chunks_left (λ s t h. ap length h.0) (λ s x t h. h) p s
+  pub chunks_exact_runs_back : EveryRun (exact_last {X = X} {Y = Y} {W = W} {P = P}) (λ p. ItemsMapToReversed p list_of (exact_chunks_left p.from))
+  chunks_exact_runs_back p s = from_back (exact_last {X = X} {Y = Y} {W = W} {P = P}) list_of exact_chunks_left (λ s t h. ap length h.0.0) (λ s x t h. h.0) p s
 
   pub rchunks_runs : EveryRun (YieldsFirstBy (list_of {X = X} {Y = Y} {W = W} {P = P}) (back_chunks_left {X = X} {Y = Y} {W = W} {P = P})) (λ p. ItemsMapTo p list_of (back_chunks_left p.from))
   rchunks_runs p s = from_front (YieldsFirstBy (list_of {X = X} {Y = Y} {W = W} {P = P}) (back_chunks_left {X = X} {Y = Y} {W = W} {P = P})) list_of back_chunks_left (λ s t h. ap length h.0) (λ s x t h. h) p s

@@ -3,6 +3,7 @@ use Rattle.std.proofs.Common.{◌≡◌, ℕ, ◌+◌, ◌-◌, ◌*◌, ◌/◌
 use Rattle.std.proofs.lemmas.List.{places, same_lists, take_all, take-append-le, length-append, drop-take, take-take, drop_at, take-append-drop, length-take-le, take-map, drop-map, length-map, length-drop, length-take}
 use Rattle.std.proofs.Math.Nat.{mul-le-mul_left, le_of_mul-le-mul_left, le-mul_of_pos_right, lt_of_mul-lt-mul_left}
 use Rattle.std.proofs.lemmas.Nat.{div-add-mod'}
+use Rattle.std.specs.Prelude.{IfSome, Option, Some, None}
 use Rattle.bit_addressing.specs.Bits.{IsWidth}
 use Rattle.bit_addressing.specs.declared.store.BitStore as store
 use Rattle.bit_addressing.specs.declared.order.BitOrder as order
@@ -14,6 +15,8 @@ use Rattle.bit_addressing.proofs.lists.Sized.{few_words, room, words_for_all, wo
 use Rattle.bit_addressing.proofs.Rows.{mul_add, width_positive, row_append, row_take, length-row_of}
 use Rattle.bit_addressing.proofs.Typed.{length_row}
 use Rattle.bit_slice.specs.Fits.{IsView}
+use Rattle.bit_slice.specs.declared.slice.BitSlice.{BitSlice}
+use Rattle.bit_slice.specs.BitSlice.{head_of, len_of, IsPlaced}
 
 pub made : (w words head len : ℕ) → IsWidth w → head < w → len ≤ MAX_BITS → words ≡ words_for w (head + len) → IsView w words head len
 made w words head len width below few exact = record {
@@ -122,3 +125,24 @@ run_end w from upto positive ordered =
     let below : w * n < w * (upto + 1) = omega (arith, d, m, most, sum, ordered, wide, mul_comm w upto, mul_add w upto 1) in
     let few : n < upto + 1 = lt_of_mul-lt-mul_left w below in
     omega (arith, few)
+
+-- a part of a view of the words that a list takes stands at the same place in all words
+pub placed_on : {X Y : Type 0} {W : store.Ghosts X} {P : order.Ghosts Y} (words seen : List X) (start len from : ℕ) (part : BitSlice X Y W P) → IsWidth W.BITS → seen ≡ take (words_for W.BITS (start + len)) words → from + len_of part ≤ len → IsPlaced seen start from part → IsPlaced words start from part
+placed_on {W = W} words seen start len from part width cut inside p =
+    let w = W.BITS in
+    let positive = width_positive w width in
+    let n = words_for w (start + len) in
+    let r = (room w (start + len) positive).0 in
+    let first = (start + from) / w in
+    let count = words_for w (head_of part + len_of part) in
+    let there : first + words_for w ((start + from) % w + len_of part) ≤ n = part_room w n (start + from) (len_of part) positive (omega (arith, inside, r)) in
+    let ends : first + count ≤ n = subst (λ h. first + words_for w (h + len_of part) ≤ n) (sym p.head) there in
+    record {
+      head = p.head;
+      taken = p.taken ∙ ap (λ xs. slice_range xs first (first + count)) cut ∙ part_of_front n first (first + count) words (omega arith) ends;
+    }
+
+-- a fact of what is there, where two others are known of it
+pub if_both : {A : Type 0} {F G H : A → Type 0} (o : Option A) → ((x : A) → F x → G x → H x) → IfSome o F → IfSome o G → IfSome o H
+if_both None f p q = tt
+if_both (Some x) f p q = f x p q

@@ -24,7 +24,7 @@ pub use edits::{
 };
 pub use iter::Iter;
 pub use lists::BitList;
-pub use lists_mut::BitListMut;
+pub use lists_mut::{BitListMut, flip_row};
 pub use ops::{combine_words, order_of_bits};
 pub use run::{run_mut, split_run_mut};
 pub use slice::BitSlice;

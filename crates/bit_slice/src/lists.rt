@@ -6,12 +6,13 @@ ghost use Rattle.std.specs.Prelude.{◌≡◌, ◌≢◌, ℕ, ◌+◌, ◌-◌,
 ghost use Rattle.bit_addressing.specs.declared.length.TheConstants.{MAX_BITS};
 ghost use Rattle.bit_addressing.specs.Binary.{value};
 ghost use Rattle.bit_addressing.specs.Range.{LiesIn};
-ghost use Rattle.bit_addressing.specs.Row.{binary, number_bits, number_of};
-ghost use Rattle.bit_slice.specs.BitSlice.{head_of, len_of, list_of};
+ghost use Rattle.bit_addressing.specs.Row.{binary, number_bits, number_of, words_for};
+ghost use Rattle.bit_addressing.specs.Typed.{row as row_in};
+ghost use Rattle.bit_slice.specs.BitSlice.{words_of, head_of, len_of, row_of, list_of, IsPlaced};
 ghost use Rattle.bit_slice.specs.Indices.{ones_left, zeros_left};
 ghost use Rattle.bit_slice.specs.Operators.{bits_cmp, and_of, or_of, xor_of, and_not_of};
 ghost use Rattle.bit_slice.specs.Pieces.{part, chunk_count, chunks_of, exact_chunks_of, back_chunks_of, windows_of};
-ghost use Rattle.bit_slice.specs.PiecesLeft.{chunks_left, exact_chunks_left, back_chunks_left, windows_left};
+ghost use Rattle.bit_slice.specs.PiecesLeft.{chunks_left, exact_chunks_left, exact_first, exact_last, remainder_of, back_chunks_left, windows_left};
 ghost use Rattle.bit_slice.specs.Places.{ones_of, zeros_of};
 
 use crate::slice::BitSlice;
@@ -36,12 +37,22 @@ pub trait BitList {
     // The bits, the first first.
     ghost list: { Self → List Bool };
 
-    /// The view of the bits, for reading.
+    // All its words. There may be more than the head and the length take.
+    ghost words: { Self → List Self.Store };
+
+    // All bits of its words in a row.
+    ghost bits: { Self → List Bool };
+
+    /// The view of the bits, for reading: it borrows the words that the head and the length take.
     fn as_bitslice(&self) -> BitSlice<'_, Self::Store, Self::Order>
         ensures head { head_of result ≡ head self.now }
         ensures len { len_of result ≡ len self.now }
         ensures list { list_of result ≡ list self.now }
-        ensures size { len self.now ≡ length (list self.now) };
+        ensures size { len self.now ≡ length (list self.now) }
+        ensures words { words_of result
+            ≡ take (words_for Self.Store.BITS (head self.now + len self.now)) (words self.now) }
+        ensures row { bits self.now ≡ row_in Self.Store.BitStore Self.Order.BitOrder (words self.now) }
+        ensures room { words_for Self.Store.BITS (head self.now + len self.now) ≤ length (words self.now) };
 
     /// The index, in the first word, at which the list begins.
     ///
@@ -101,6 +112,7 @@ pub trait BitList {
             ≡ slice_range (list self.now) (R.start_of range) (R.end_of range (len self.now)) }
         ensures head { head_of result ≡ (head self.now + R.start_of range) % Self.Store.BITS }
         ensures len { len_of result ≡ R.end_of range (len self.now) - R.start_of range }
+        ensures place { IsPlaced (words self.now) (head self.now) (R.start_of range) result }
     {
         self.as_bitslice().get_range(range)
     }
@@ -581,9 +593,11 @@ pub trait BitList {
         requires { mid ≤ len self.now }
         ensures front { list_of result.0 ≡ take mid (list self.now) }
         ensures back { list_of result.1 ≡ drop mid (list self.now) }
-        ensures both { (list self.now) ≡ list_of result.0 ++ list_of result.1 }
+        ensures both { list self.now ≡ list_of result.0 ++ list_of result.1 }
         ensures front_len { len_of result.0 ≡ mid }
         ensures back_len { len_of result.1 + mid ≡ len self.now }
+        ensures front_place { IsPlaced (words self.now) (head self.now) 0 result.0 }
+        ensures back_place { IsPlaced (words self.now) (head self.now) mid result.1 }
     {
         self.as_bitslice().split_at(mid)
     }
@@ -595,8 +609,9 @@ pub trait BitList {
     /// ```
     final fn split_first(&self) -> Option<(bool, BitSlice<'_, Self::Store, Self::Order>)>
         ensures none { IsNone result ↔ (len self.now ≡ 0) }
-        ensures both { IfSome result (λ r. (list self.now) ≡ r.0 ∷ list_of r.1) }
+        ensures both { IfSome result (λ r. list self.now ≡ r.0 ∷ list_of r.1) }
         ensures rest_len { IfSome result (λ r. len_of r.1 + 1 ≡ len self.now) }
+        ensures rest_place { IfSome result (λ r. IsPlaced (words self.now) (head self.now) 1 r.1) }
     {
         self.as_bitslice().split_first()
     }
@@ -608,8 +623,9 @@ pub trait BitList {
     /// ```
     final fn split_last(&self) -> Option<(bool, BitSlice<'_, Self::Store, Self::Order>)>
         ensures none { IsNone result ↔ (len self.now ≡ 0) }
-        ensures both { IfSome result (λ r. (list self.now) ≡ list_of r.1 ++ r.0 ∷ []) }
+        ensures both { IfSome result (λ r. list self.now ≡ list_of r.1 ++ r.0 ∷ []) }
         ensures rest_len { IfSome result (λ r. len_of r.1 + 1 ≡ len self.now) }
+        ensures rest_place { IfSome result (λ r. IsPlaced (words self.now) (head self.now) 0 r.1) }
     {
         self.as_bitslice().split_last()
     }
@@ -648,6 +664,8 @@ pub trait BitList {
         requires begins { k * size < len self.now }
         ensures list { list_of result ≡ part size (list self.now) (k * size) }
         ensures most { len_of result ≤ size }
+        ensures inside { k * size + len_of result ≤ len self.now }
+        ensures place { IsPlaced (words self.now) (head self.now) (k * size) result }
     {
         self.as_bitslice().chunk(size, k)
     }
@@ -683,12 +701,10 @@ pub trait BitList {
         requires some { 0 < size }
         ensures list { exact_chunks_left result ≡ exact_chunks_of size (list self.now) }
         ensures count { length (exact_chunks_left result) ≡ len self.now / size }
-        ensures runs { EveryRun (YieldsFirstBy (list_of {X = Self.Store} {Y = Self.Order} {W = Self.Store.BitStore} {P = Self.Order.BitOrder})
-            (exact_chunks_left {X = Self.Store} {Y = Self.Order} {W = Self.Store.BitStore} {P = Self.Order.BitOrder}))
+        ensures remainder { remainder_of result ≡ drop (len self.now / size * size) (list self.now) }
+        ensures runs { EveryRun (exact_first {X = Self.Store} {Y = Self.Order} {W = Self.Store.BitStore} {P = Self.Order.BitOrder})
             (λ p. ItemsMapTo p list_of (exact_chunks_left p.from)) }
-        ensures runs_back { EveryRun (YieldsLastBy
-            (list_of {X = Self.Store} {Y = Self.Order} {W = Self.Store.BitStore} {P = Self.Order.BitOrder})
-            (exact_chunks_left {X = Self.Store} {Y = Self.Order} {W = Self.Store.BitStore} {P = Self.Order.BitOrder}))
+        ensures runs_back { EveryRun (exact_last {X = Self.Store} {Y = Self.Order} {W = Self.Store.BitStore} {P = Self.Order.BitOrder})
             (λ p. ItemsMapToReversed p list_of (exact_chunks_left p.from)) }
     {
         self.as_bitslice().chunks_exact(size)
@@ -745,7 +761,7 @@ pub trait BitList {
     final fn load_le(&self) -> u64
         requires { len self.now ≤ 64 }
         ensures value { result ≡ number_of (list self.now) }
-        ensures bits { number_bits result (len self.now) ≡ (list self.now) }
+        ensures bits { number_bits result (len self.now) ≡ list self.now }
     {
         self.as_bitslice().load_le()
     }
@@ -759,7 +775,7 @@ pub trait BitList {
     final fn load_be(&self) -> u64
         requires { len self.now ≤ 64 }
         ensures value { result ≡ value (list self.now) }
-        ensures digits { binary (len self.now) result ≡ (list self.now) }
+        ensures digits { binary (len self.now) result ≡ list self.now }
         ensures below { result < 2 ^ len self.now }
     {
         self.as_bitslice().load_be()
@@ -777,15 +793,21 @@ impl<'a, T: BitStore, O: BitOrder> BitList for BitSlice<'a, T, O> {
 
     ghost list = { λ v. list_of v };
 
+    ghost words = { λ v. words_of v };
+
+    ghost bits = { λ v. row_of v };
+
     fn as_bitslice(&self) -> BitSlice<'_, T, O> {
         let view = *self;
+        // Proof only: the length of the list, and how many words there are.
         let _len = view.len();
+        let _words = view.as_raw_slice();
         view
     }
 }
 
 impl<'a, T: BitStore, O: BitOrder> BitList for BitSliceMut<'a, T, O> {
-    ghost use Rattle.bit_slice.specs.BitSliceMut.{head_of as lent_head, len_of as lent_len, list_of as lent_list};
+    ghost use Rattle.bit_slice.specs.BitSliceMut.{words_of as lent_words, head_of as lent_head, len_of as lent_len, row_of as lent_row, list_of as lent_list};
 
     type Store = T;
 
@@ -797,8 +819,14 @@ impl<'a, T: BitStore, O: BitOrder> BitList for BitSliceMut<'a, T, O> {
 
     ghost list = { λ v. lent_list v };
 
+    ghost words = { λ v. lent_words v };
+
+    ghost bits = { λ v. lent_row v };
+
     fn as_bitslice(&self) -> BitSlice<'_, T, O> {
+        // Proof only: the length of the list, and how many words there are.
         let _len = BitSliceMut::len(self);
+        let _words = BitSliceMut::as_raw_slice(self);
         BitSliceMut::as_bitslice(self)
     }
 }

@@ -9,7 +9,7 @@ ghost use Rattle.bit_addressing.specs.Typed.{row as row_of};
 ghost use Rattle.bit_slice.specs.BitSlice.{len_of, list_of};
 ghost use Rattle.bit_slice.specs.Clean.{StaysClean};
 ghost use Rattle.bit_slice.specs.Lists.{lends_to, BecomesWhole, Stays};
-ghost use Rattle.bit_slice.specs.Operators.{and_not_of, and_of, combined, or_of, part_onto, xor_of, AndsEach, OrsEach, XorsEach, CombinesEach};
+ghost use Rattle.bit_slice.specs.Operators.{and_not_of, and_of, combined, or_of, part_onto, xor_of, AndsEach, OrsEach, XorsEach, CombinesEach, FlipsEach};
 ghost use Rattle.bit_slice.specs.Overwritten.{list_in};
 
 use crate::edits::AndNot;
@@ -22,18 +22,12 @@ use crate::over::{
 use crate::slice::BitSlice;
 use crate::slice_mut::BitSliceMut;
 use bit_addressing::{BitOrder, BitStore, Meter, RangeExt};
-use bit_rows::{And, BitOperator, Or, Xor};
+use bit_rows::{And, BitOperator, Or, Xor, flip_bits};
 
 /// A list of bits that is written: a view for writing, an array, a box or a vector.
 pub trait BitListMut: BitList {
-    // All its words.
-    ghost words: { Self → List Self.Store };
-
-    // How many there are.
+    // How many words there are.
     ghost count: { Self → ℕ };
-
-    // Their bits in a row.
-    ghost bits: { Self → List Bool };
 
     // How many bits it has room for without new memory.
     ghost capacity: { Self → ℕ };
@@ -48,17 +42,17 @@ pub trait BitListMut: BitList {
     /// All its words, for writing: what is written lands in it.
     fn as_raw_mut_slice(&mut self) -> &mut [Self::Store]
         ensures* writes_back { sem 𝓛 (lends_to Self.row Self.Store.row self.entry (rewritten self.old) result) }
-        ensures value { result.now ≡ words self.old }
+        ensures value { result.now ≡ Self.words self.old }
         ensures len { length result.now ≡ count self.old }
-        ensures row { row_of Self.Store.BitStore Self.Order.BitOrder result.now ≡ bits self.old }
+        ensures row { row_of Self.Store.BitStore Self.Order.BitOrder result.now ≡ Self.bits self.old }
         ensures fits { Self.head self.old + Self.len self.old ≤ Self.Store.BITS * length result.now }
         ensures few { Self.Store.BITS * length result.now ≤ MAX_BITS + 2 * Self.Store.BITS }
         ensures shows { list_in Self.Store.BitStore Self.Order.BitOrder result.now (Self.head self.old) (Self.len self.old) ≡ Self.list self.old };
 
-    ghost words_rewritten: { (s : Self) (ws : List Self.Store) → length ws ≡ count s → words (rewritten s ws) ≡ ws };
+    ghost words_rewritten: { (s : Self) (ws : List Self.Store) → length ws ≡ count s → Self.words (rewritten s ws) ≡ ws };
 
     ghost bits_rewritten: { (s : Self) (ws : List Self.Store) → length ws ≡ count s
-        → bits (rewritten s ws) ≡ row_of Self.Store.BitStore Self.Order.BitOrder ws };
+        → Self.bits (rewritten s ws) ≡ row_of Self.Store.BitStore Self.Order.BitOrder ws };
 
     ghost list_rewritten: { (s : Self) (ws : List Self.Store) → length ws ≡ count s
         → Self.head s + Self.len s ≤ Self.Store.BITS * length ws
@@ -82,8 +76,8 @@ pub trait BitListMut: BitList {
     final fn set(&mut self, i: usize, bit: bool)
         requires { i < Self.len self.old }
         ensures list { Self.list self.new ≡ set (Self.list self.old) i bit }
-        ensures row { bits self.new ≡ set (bits self.old) (Self.head self.old + i) bit }
-        ensures clean { StaysClean Self.Store.BITS Self.head bits Self.list self.old self.new }
+        ensures row { Self.bits self.new ≡ set (Self.bits self.old) (Self.head self.old + i) bit }
+        ensures clean { StaysClean Self.Store.BITS Self.head Self.bits Self.list self.old self.new }
         ensures stays { Stays Self.head Self.len count capacity loan self.old self.new }
     {
         let (head, len) = (self.head(), self.len());
@@ -100,9 +94,9 @@ pub trait BitListMut: BitList {
         requires { i < Self.len self.old }
         ensures old { slice_get (Self.list self.old) i ≡ Some result }
         ensures list { Self.list self.new ≡ set (Self.list self.old) i bit }
-        ensures row { bits self.new ≡ set (bits self.old) (Self.head self.old + i) bit }
+        ensures row { Self.bits self.new ≡ set (Self.bits self.old) (Self.head self.old + i) bit }
         ensures stays { Stays Self.head Self.len count capacity loan self.old self.new }
-        ensures clean { StaysClean Self.Store.BITS Self.head bits Self.list self.old self.new }
+        ensures clean { StaysClean Self.Store.BITS Self.head Self.bits Self.list self.old self.new }
     {
         let old = self.as_bitslice()[i];
         self.set(i, bit);
@@ -119,8 +113,8 @@ pub trait BitListMut: BitList {
         requires first { i < Self.len self.old }
         requires second { j < Self.len self.old }
         ensures list { Self.list self.new ≡ swap (Self.list self.old) i j }
-        ensures row { bits self.new ≡ swap (bits self.old) (Self.head self.old + i) (Self.head self.old + j) }
-        ensures clean { StaysClean Self.Store.BITS Self.head bits Self.list self.old self.new }
+        ensures row { Self.bits self.new ≡ swap (Self.bits self.old) (Self.head self.old + i) (Self.head self.old + j) }
+        ensures clean { StaysClean Self.Store.BITS Self.head Self.bits Self.list self.old self.new }
         ensures stays { Stays Self.head Self.len count capacity loan self.old self.new }
     {
         let (head, len) = (self.head(), self.len());
@@ -135,10 +129,10 @@ pub trait BitListMut: BitList {
     final fn flip(&mut self, i: usize)
         requires { i < Self.len self.old }
         ensures list { Self.list self.new ≡ set (Self.list self.old) i (not (slice_index_or (Self.list self.old) i false)) }
-        ensures row { bits self.new
-            ≡ set (bits self.old) (Self.head self.old + i) (not (slice_index_or (Self.list self.old) i false)) }
+        ensures row { Self.bits self.new
+            ≡ set (Self.bits self.old) (Self.head self.old + i) (not (slice_index_or (Self.list self.old) i false)) }
         ensures item { slice_get (Self.list self.new) i ≡ option_map not (slice_get (Self.list self.old) i) }
-        ensures clean { StaysClean Self.Store.BITS Self.head bits Self.list self.old self.new }
+        ensures clean { StaysClean Self.Store.BITS Self.head Self.bits Self.list self.old self.new }
         ensures stays { Stays Self.head Self.len count capacity loan self.old self.new }
     {
         let bit = self.as_bitslice()[i];
@@ -152,10 +146,10 @@ pub trait BitListMut: BitList {
     /// ```
     final fn fill(&mut self, bit: bool)
         ensures list { Self.list self.new ≡ replicate (Self.len self.old) bit }
-        ensures row { bits self.new ≡ put (bits self.old) (Self.head self.old) (replicate (Self.len self.old) bit) }
-        ensures whole { BecomesWhole Self.Store.BITS Self.head Self.len count bits self.old self.new
+        ensures row { Self.bits self.new ≡ put (Self.bits self.old) (Self.head self.old) (replicate (Self.len self.old) bit) }
+        ensures whole { BecomesWhole Self.Store.BITS Self.head Self.len count Self.bits self.old self.new
             (replicate (Self.len self.old) bit) }
-        ensures clean { StaysClean Self.Store.BITS Self.head bits Self.list self.old self.new }
+        ensures clean { StaysClean Self.Store.BITS Self.head Self.bits Self.list self.old self.new }
         ensures stays { Stays Self.head Self.len count capacity loan self.old self.new }
     {
         let (head, len) = (self.head(), self.len());
@@ -173,10 +167,10 @@ pub trait BitListMut: BitList {
         ensures list { Self.list self.new
             ≡ put (Self.list self.old) (R.start_of range)
             (replicate (R.end_of range (Self.len self.old) - R.start_of range) bit) }
-        ensures row { bits self.new
-            ≡ put (bits self.old) (Self.head self.old + R.start_of range)
+        ensures row { Self.bits self.new
+            ≡ put (Self.bits self.old) (Self.head self.old + R.start_of range)
             (replicate (R.end_of range (Self.len self.old) - R.start_of range) bit) }
-        ensures clean { StaysClean Self.Store.BITS Self.head bits Self.list self.old self.new }
+        ensures clean { StaysClean Self.Store.BITS Self.head Self.bits Self.list self.old self.new }
         ensures stays { Stays Self.head Self.len count capacity loan self.old self.new }
     {
         let (head, len) = (self.head(), self.len());
@@ -200,11 +194,11 @@ pub trait BitListMut: BitList {
         ensures list { Self.list self.new
             ≡ put (Self.list self.old) (R.start_of range) (map not
             (slice_range (Self.list self.old) (R.start_of range) (R.end_of range (Self.len self.old)))) }
-        ensures row { bits self.new
-            ≡ put (bits self.old) (Self.head self.old + R.start_of range)
+        ensures row { Self.bits self.new
+            ≡ put (Self.bits self.old) (Self.head self.old + R.start_of range)
             (map not
             (slice_range (Self.list self.old) (R.start_of range) (R.end_of range (Self.len self.old)))) }
-        ensures clean { StaysClean Self.Store.BITS Self.head bits Self.list self.old self.new }
+        ensures clean { StaysClean Self.Store.BITS Self.head Self.bits Self.list self.old self.new }
         ensures stays { Stays Self.head Self.len count capacity loan self.old self.new }
     {
         let (head, len) = (self.head(), self.len());
@@ -223,12 +217,12 @@ pub trait BitListMut: BitList {
             ≡ put (Self.list self.old) (R.start_of range) (combined F.made
             (slice_range (Self.list self.old) (R.start_of range) (R.end_of range (Self.len self.old)))
             (list_of other.entry)) }
-        ensures row { bits self.new
-            ≡ put (bits self.old) (Self.head self.old + R.start_of range)
+        ensures row { Self.bits self.new
+            ≡ put (Self.bits self.old) (Self.head self.old + R.start_of range)
             (combined F.made
             (slice_range (Self.list self.old) (R.start_of range) (R.end_of range (Self.len self.old)))
             (list_of other.entry)) }
-        ensures clean { StaysClean Self.Store.BITS Self.head bits Self.list self.old self.new }
+        ensures clean { StaysClean Self.Store.BITS Self.head Self.bits Self.list self.old self.new }
         ensures stays { Stays Self.head Self.len count capacity loan self.old self.new }
     {
         let (head, len) = (self.head(), self.len());
@@ -258,11 +252,11 @@ pub trait BitListMut: BitList {
             ≡ put (Self.list self.old) (R.start_of range) (and_of
             (slice_range (Self.list self.old) (R.start_of range) (R.end_of range (Self.len self.old)))
             (list_of other.entry)) }
-        ensures row { bits self.new
-            ≡ put (bits self.old) (Self.head self.old + R.start_of range)
+        ensures row { Self.bits self.new
+            ≡ put (Self.bits self.old) (Self.head self.old + R.start_of range)
             (and_of (slice_range (Self.list self.old) (R.start_of range) (R.end_of range (Self.len self.old)))
             (list_of other.entry)) }
-        ensures clean { StaysClean Self.Store.BITS Self.head bits Self.list self.old self.new }
+        ensures clean { StaysClean Self.Store.BITS Self.head Self.bits Self.list self.old self.new }
         ensures stays { Stays Self.head Self.len count capacity loan self.old self.new }
     {
         self.combine_range::<And, R, U, P>(range, other);
@@ -284,11 +278,11 @@ pub trait BitListMut: BitList {
             ≡ put (Self.list self.old) (R.start_of range) (or_of
             (slice_range (Self.list self.old) (R.start_of range) (R.end_of range (Self.len self.old)))
             (list_of other.entry)) }
-        ensures row { bits self.new
-            ≡ put (bits self.old) (Self.head self.old + R.start_of range)
+        ensures row { Self.bits self.new
+            ≡ put (Self.bits self.old) (Self.head self.old + R.start_of range)
             (or_of (slice_range (Self.list self.old) (R.start_of range) (R.end_of range (Self.len self.old)))
             (list_of other.entry)) }
-        ensures clean { StaysClean Self.Store.BITS Self.head bits Self.list self.old self.new }
+        ensures clean { StaysClean Self.Store.BITS Self.head Self.bits Self.list self.old self.new }
         ensures stays { Stays Self.head Self.len count capacity loan self.old self.new }
     {
         self.combine_range::<Or, R, U, P>(range, other);
@@ -310,11 +304,11 @@ pub trait BitListMut: BitList {
             ≡ put (Self.list self.old) (R.start_of range) (xor_of
             (slice_range (Self.list self.old) (R.start_of range) (R.end_of range (Self.len self.old)))
             (list_of other.entry)) }
-        ensures row { bits self.new
-            ≡ put (bits self.old) (Self.head self.old + R.start_of range)
+        ensures row { Self.bits self.new
+            ≡ put (Self.bits self.old) (Self.head self.old + R.start_of range)
             (xor_of (slice_range (Self.list self.old) (R.start_of range) (R.end_of range (Self.len self.old)))
             (list_of other.entry)) }
-        ensures clean { StaysClean Self.Store.BITS Self.head bits Self.list self.old self.new }
+        ensures clean { StaysClean Self.Store.BITS Self.head Self.bits Self.list self.old self.new }
         ensures stays { Stays Self.head Self.len count capacity loan self.old self.new }
     {
         self.combine_range::<Xor, R, U, P>(range, other);
@@ -334,8 +328,8 @@ pub trait BitListMut: BitList {
         requires lies { LiesIn (R.start_of range) (R.end_of range (Self.len self.old)) (Self.len self.old) }
         requires same_len { len_of source ≡ R.end_of range (Self.len self.old) - R.start_of range }
         ensures list { Self.list self.new ≡ put (Self.list self.old) (R.start_of range) (list_of source.entry) }
-        ensures row { bits self.new ≡ put (bits self.old) (Self.head self.old + R.start_of range) (list_of source.entry) }
-        ensures clean { StaysClean Self.Store.BITS Self.head bits Self.list self.old self.new }
+        ensures row { Self.bits self.new ≡ put (Self.bits self.old) (Self.head self.old + R.start_of range) (list_of source.entry) }
+        ensures clean { StaysClean Self.Store.BITS Self.head Self.bits Self.list self.old self.new }
         ensures stays { Stays Self.head Self.len count capacity loan self.old self.new }
     {
         let (head, len) = (self.head(), self.len());
@@ -357,8 +351,8 @@ pub trait BitListMut: BitList {
     final fn store_le(&mut self, number: u64)
         requires { Self.len self.old ≤ 64 }
         ensures list { Self.list self.new ≡ number_bits number (Self.len self.old) }
-        ensures row { bits self.new ≡ put (bits self.old) (Self.head self.old) (number_bits number (Self.len self.old)) }
-        ensures clean { StaysClean Self.Store.BITS Self.head bits Self.list self.old self.new }
+        ensures row { Self.bits self.new ≡ put (Self.bits self.old) (Self.head self.old) (number_bits number (Self.len self.old)) }
+        ensures clean { StaysClean Self.Store.BITS Self.head Self.bits Self.list self.old self.new }
         ensures stays { Stays Self.head Self.len count capacity loan self.old self.new }
     {
         let (head, len) = (self.head(), self.len());
@@ -374,8 +368,8 @@ pub trait BitListMut: BitList {
     final fn store_be(&mut self, number: u64)
         requires { Self.len self.old ≤ 64 }
         ensures list { Self.list self.new ≡ binary (Self.len self.old) number }
-        ensures row { bits self.new ≡ put (bits self.old) (Self.head self.old) (binary (Self.len self.old) number) }
-        ensures clean { StaysClean Self.Store.BITS Self.head bits Self.list self.old self.new }
+        ensures row { Self.bits self.new ≡ put (Self.bits self.old) (Self.head self.old) (binary (Self.len self.old) number) }
+        ensures clean { StaysClean Self.Store.BITS Self.head Self.bits Self.list self.old self.new }
         ensures stays { Stays Self.head Self.len count capacity loan self.old self.new }
     {
         let (head, len) = (self.head(), self.len());
@@ -389,8 +383,8 @@ pub trait BitListMut: BitList {
     /// ```
     final fn and_not_bits<U: BitStore, P: BitOrder>(&mut self, other: BitSlice<'_, U, P>)
         ensures list { Self.list self.new ≡ and_not_of (Self.list self.old) (list_of other.entry) }
-        ensures row { bits self.new ≡ put (bits self.old) (Self.head self.old) (and_not_of (Self.list self.old) (list_of other.entry)) }
-        ensures clean { StaysClean Self.Store.BITS Self.head bits Self.list self.old self.new }
+        ensures row { Self.bits self.new ≡ put (Self.bits self.old) (Self.head self.old) (and_not_of (Self.list self.old) (list_of other.entry)) }
+        ensures clean { StaysClean Self.Store.BITS Self.head Self.bits Self.list self.old self.new }
         ensures stays { Stays Self.head Self.len count capacity loan self.old self.new }
     {
         self.combine::<AndNot, U, P>(other);
@@ -401,11 +395,11 @@ pub trait BitListMut: BitList {
     final fn combine<F: BitOperator, U: BitStore, P: BitOrder>(&mut self, other: BitSlice<'_, U, P>)
         ensures list { Self.list self.new ≡ combined F.made (Self.list self.old) (list_of other.entry) }
         ensures index { CombinesEach F.made (Self.list self.old) (list_of other.entry) (Self.list self.new) }
-        ensures row { bits self.new
-            ≡ put (bits self.old) (Self.head self.old) (combined F.made (Self.list self.old) (list_of other.entry)) }
-        ensures whole { BecomesWhole Self.Store.BITS Self.head Self.len count bits self.old self.new
+        ensures row { Self.bits self.new
+            ≡ put (Self.bits self.old) (Self.head self.old) (combined F.made (Self.list self.old) (list_of other.entry)) }
+        ensures whole { BecomesWhole Self.Store.BITS Self.head Self.len count Self.bits self.old self.new
             (combined F.made (Self.list self.old) (list_of other.entry)) }
-        ensures clean { StaysClean Self.Store.BITS Self.head bits Self.list self.old self.new }
+        ensures clean { StaysClean Self.Store.BITS Self.head Self.bits Self.list self.old self.new }
         ensures stays { Stays Self.head Self.len count capacity loan self.old self.new }
     {
         let (head, len) = (self.head(), self.len());
@@ -426,10 +420,10 @@ pub trait BitListMut: BitList {
     final fn and_bits<U: BitStore, P: BitOrder>(&mut self, other: BitSlice<'_, U, P>)
         ensures list { Self.list self.new ≡ and_of (Self.list self.old) (list_of other.entry) }
         ensures index { AndsEach (Self.list self.old) (list_of other.entry) (Self.list self.new) }
-        ensures row { bits self.new ≡ put (bits self.old) (Self.head self.old) (and_of (Self.list self.old) (list_of other.entry)) }
-        ensures whole { BecomesWhole Self.Store.BITS Self.head Self.len count bits self.old self.new
+        ensures row { Self.bits self.new ≡ put (Self.bits self.old) (Self.head self.old) (and_of (Self.list self.old) (list_of other.entry)) }
+        ensures whole { BecomesWhole Self.Store.BITS Self.head Self.len count Self.bits self.old self.new
             (and_of (Self.list self.old) (list_of other.entry)) }
-        ensures clean { StaysClean Self.Store.BITS Self.head bits Self.list self.old self.new }
+        ensures clean { StaysClean Self.Store.BITS Self.head Self.bits Self.list self.old self.new }
         ensures stays { Stays Self.head Self.len count capacity loan self.old self.new }
     {
         self.combine::<And, U, P>(other);
@@ -444,10 +438,10 @@ pub trait BitListMut: BitList {
     final fn or_bits<U: BitStore, P: BitOrder>(&mut self, other: BitSlice<'_, U, P>)
         ensures list { Self.list self.new ≡ or_of (Self.list self.old) (list_of other.entry) }
         ensures index { OrsEach (Self.list self.old) (list_of other.entry) (Self.list self.new) }
-        ensures row { bits self.new ≡ put (bits self.old) (Self.head self.old) (or_of (Self.list self.old) (list_of other.entry)) }
-        ensures whole { BecomesWhole Self.Store.BITS Self.head Self.len count bits self.old self.new
+        ensures row { Self.bits self.new ≡ put (Self.bits self.old) (Self.head self.old) (or_of (Self.list self.old) (list_of other.entry)) }
+        ensures whole { BecomesWhole Self.Store.BITS Self.head Self.len count Self.bits self.old self.new
             (or_of (Self.list self.old) (list_of other.entry)) }
-        ensures clean { StaysClean Self.Store.BITS Self.head bits Self.list self.old self.new }
+        ensures clean { StaysClean Self.Store.BITS Self.head Self.bits Self.list self.old self.new }
         ensures stays { Stays Self.head Self.len count capacity loan self.old self.new }
     {
         self.combine::<Or, U, P>(other);
@@ -462,10 +456,10 @@ pub trait BitListMut: BitList {
     final fn xor_bits<U: BitStore, P: BitOrder>(&mut self, other: BitSlice<'_, U, P>)
         ensures list { Self.list self.new ≡ xor_of (Self.list self.old) (list_of other.entry) }
         ensures index { XorsEach (Self.list self.old) (list_of other.entry) (Self.list self.new) }
-        ensures row { bits self.new ≡ put (bits self.old) (Self.head self.old) (xor_of (Self.list self.old) (list_of other.entry)) }
-        ensures whole { BecomesWhole Self.Store.BITS Self.head Self.len count bits self.old self.new
+        ensures row { Self.bits self.new ≡ put (Self.bits self.old) (Self.head self.old) (xor_of (Self.list self.old) (list_of other.entry)) }
+        ensures whole { BecomesWhole Self.Store.BITS Self.head Self.len count Self.bits self.old self.new
             (xor_of (Self.list self.old) (list_of other.entry)) }
-        ensures clean { StaysClean Self.Store.BITS Self.head bits Self.list self.old self.new }
+        ensures clean { StaysClean Self.Store.BITS Self.head Self.bits Self.list self.old self.new }
         ensures stays { Stays Self.head Self.len count capacity loan self.old self.new }
     {
         self.combine::<Xor, U, P>(other);
@@ -480,10 +474,10 @@ pub trait BitListMut: BitList {
     final fn clone_from_bitslice<U: BitStore, P: BitOrder>(&mut self, source: BitSlice<'_, U, P>)
         requires { len_of source ≡ Self.len self.old }
         ensures list { Self.list self.new ≡ list_of source.entry }
-        ensures row { bits self.new ≡ put (bits self.old) (Self.head self.old) (list_of source.entry) }
-        ensures whole { BecomesWhole Self.Store.BITS Self.head Self.len count bits self.old self.new
+        ensures row { Self.bits self.new ≡ put (Self.bits self.old) (Self.head self.old) (list_of source.entry) }
+        ensures whole { BecomesWhole Self.Store.BITS Self.head Self.len count Self.bits self.old self.new
             (list_of source.entry) }
-        ensures clean { StaysClean Self.Store.BITS Self.head bits Self.list self.old self.new }
+        ensures clean { StaysClean Self.Store.BITS Self.head Self.bits Self.list self.old self.new }
         ensures stays { Stays Self.head Self.len count capacity loan self.old self.new }
     {
         let (head, len) = (self.head(), self.len());
@@ -503,13 +497,13 @@ pub trait BitListMut: BitList {
         ensures list { Self.list self.new
             ≡ moved (Self.list self.old) (R.start_of range) dest
             (R.end_of range (Self.len self.old) - R.start_of range) }
-        ensures row { bits self.new
-            ≡ moved (bits self.old) (Self.head self.old + R.start_of range) (Self.head self.old + dest)
+        ensures row { Self.bits self.new
+            ≡ moved (Self.bits self.old) (Self.head self.old + R.start_of range) (Self.head self.old + dest)
             (R.end_of range (Self.len self.old) - R.start_of range) }
         ensures landed { let n = R.end_of range (Self.len self.old)
             - R.start_of range in slice_range (Self.list self.new) dest (dest + n)
             ≡ slice_range (Self.list self.old) (R.start_of range) (R.start_of range + n) }
-        ensures clean { StaysClean Self.Store.BITS Self.head bits Self.list self.old self.new }
+        ensures clean { StaysClean Self.Store.BITS Self.head Self.bits Self.list self.old self.new }
         ensures stays { Stays Self.head Self.len count capacity loan self.old self.new }
     {
         let _meter = self.copy_within_counted(range, dest);
@@ -527,13 +521,13 @@ pub trait BitListMut: BitList {
         ensures list { Self.list self.new
             ≡ moved (Self.list self.old) (R.start_of range) dest
             (R.end_of range (Self.len self.old) - R.start_of range) }
-        ensures row { bits self.new
-            ≡ moved (bits self.old) (Self.head self.old + R.start_of range) (Self.head self.old + dest)
+        ensures row { Self.bits self.new
+            ≡ moved (Self.bits self.old) (Self.head self.old + R.start_of range) (Self.head self.old + dest)
             (R.end_of range (Self.len self.old) - R.start_of range) }
         ensures landed { let n = R.end_of range (Self.len self.old)
             - R.start_of range in slice_range (Self.list self.new) dest (dest + n)
             ≡ slice_range (Self.list self.old) (R.start_of range) (R.start_of range + n) }
-        ensures clean { StaysClean Self.Store.BITS Self.head bits Self.list self.old self.new }
+        ensures clean { StaysClean Self.Store.BITS Self.head Self.bits Self.list self.old self.new }
         ensures stays { Stays Self.head Self.len count capacity loan self.old self.new }
         ensures writes { result.writes
             ≤ touched Self.Store.BITS (Self.head self.old + dest)
@@ -563,8 +557,8 @@ pub trait BitListMut: BitList {
         ensures list { Self.list self.new ≡ reverse (Self.list self.old) }
         ensures index { (j : ℕ) → j < Self.len self.old
             → slice_get (Self.list self.new) j ≡ slice_get (Self.list self.old) (Self.len self.old - 1 - j) }
-        ensures row { bits self.new ≡ put (bits self.old) (Self.head self.old) (reverse (Self.list self.old)) }
-        ensures clean { StaysClean Self.Store.BITS Self.head bits Self.list self.old self.new }
+        ensures row { Self.bits self.new ≡ put (Self.bits self.old) (Self.head self.old) (reverse (Self.list self.old)) }
+        ensures clean { StaysClean Self.Store.BITS Self.head Self.bits Self.list self.old self.new }
         ensures stays { Stays Self.head Self.len count capacity loan self.old self.new }
     {
         let (head, len) = (self.head(), self.len());
@@ -585,8 +579,8 @@ pub trait BitListMut: BitList {
             → slice_get (Self.list self.new) j ≡ slice_get (Self.list self.old) (j + by) }
         ensures back { (j : ℕ) → j < by
             → slice_get (Self.list self.new) (Self.len self.old - by + j) ≡ slice_get (Self.list self.old) j }
-        ensures row { bits self.new ≡ put (bits self.old) (Self.head self.old) (drop by (Self.list self.old) ++ take by (Self.list self.old)) }
-        ensures clean { StaysClean Self.Store.BITS Self.head bits Self.list self.old self.new }
+        ensures row { Self.bits self.new ≡ put (Self.bits self.old) (Self.head self.old) (drop by (Self.list self.old) ++ take by (Self.list self.old)) }
+        ensures clean { StaysClean Self.Store.BITS Self.head Self.bits Self.list self.old self.new }
         ensures stays { Stays Self.head Self.len count capacity loan self.old self.new }
     {
         let (head, len) = (self.head(), self.len());
@@ -609,10 +603,10 @@ pub trait BitListMut: BitList {
             → slice_get (Self.list self.new) j ≡ slice_get (Self.list self.old) (Self.len self.old - by + j) }
         ensures back { (j : ℕ) → j + by < Self.len self.old
             → slice_get (Self.list self.new) (j + by) ≡ slice_get (Self.list self.old) j }
-        ensures row { bits self.new
-            ≡ put (bits self.old) (Self.head self.old) (drop (Self.len self.old - by) (Self.list self.old)
+        ensures row { Self.bits self.new
+            ≡ put (Self.bits self.old) (Self.head self.old) (drop (Self.len self.old - by) (Self.list self.old)
             ++ take (Self.len self.old - by) (Self.list self.old)) }
-        ensures clean { StaysClean Self.Store.BITS Self.head bits Self.list self.old self.new }
+        ensures clean { StaysClean Self.Store.BITS Self.head Self.bits Self.list self.old self.new }
         ensures stays { Stays Self.head Self.len count capacity loan self.old self.new }
     {
         let (head, len) = (self.head(), self.len());
@@ -633,8 +627,8 @@ pub trait BitListMut: BitList {
             → slice_get (Self.list self.new) j ≡ slice_get (Self.list self.old) (j + by) }
         ensures cleared { (j : ℕ) → Self.len self.old ≤ j + by → j < Self.len self.old
             → slice_get (Self.list self.new) j ≡ Some false }
-        ensures row { bits self.new ≡ put (bits self.old) (Self.head self.old) (drop by (Self.list self.old) ++ replicate by false) }
-        ensures clean { StaysClean Self.Store.BITS Self.head bits Self.list self.old self.new }
+        ensures row { Self.bits self.new ≡ put (Self.bits self.old) (Self.head self.old) (drop by (Self.list self.old) ++ replicate by false) }
+        ensures clean { StaysClean Self.Store.BITS Self.head Self.bits Self.list self.old self.new }
         ensures stays { Stays Self.head Self.len count capacity loan self.old self.new }
     {
         let (head, len) = (self.head(), self.len());
@@ -654,10 +648,10 @@ pub trait BitListMut: BitList {
         ensures kept { (j : ℕ) → j + by < Self.len self.old
             → slice_get (Self.list self.new) (j + by) ≡ slice_get (Self.list self.old) j }
         ensures cleared { (j : ℕ) → j < by → slice_get (Self.list self.new) j ≡ Some false }
-        ensures row { bits self.new
-            ≡ put (bits self.old) (Self.head self.old)
+        ensures row { Self.bits self.new
+            ≡ put (Self.bits self.old) (Self.head self.old)
             (replicate by false ++ take (Self.len self.old - by) (Self.list self.old)) }
-        ensures clean { StaysClean Self.Store.BITS Self.head bits Self.list self.old self.new }
+        ensures clean { StaysClean Self.Store.BITS Self.head Self.bits Self.list self.old self.new }
         ensures stays { Stays Self.head Self.len count capacity loan self.old self.new }
     {
         let (head, len) = (self.head(), self.len());
@@ -672,11 +666,11 @@ pub trait BitListMut: BitList {
         ensures list { Self.list self.new
             ≡ put (Self.list self.old) dest (part_onto (combined F.made) (Self.list self.old) (R.start_of range)
             (R.end_of range (Self.len self.old)) dest) }
-        ensures row { bits self.new
-            ≡ put (bits self.old) (Self.head self.old + dest)
+        ensures row { Self.bits self.new
+            ≡ put (Self.bits self.old) (Self.head self.old + dest)
             (part_onto (combined F.made) (Self.list self.old) (R.start_of range)
             (R.end_of range (Self.len self.old)) dest) }
-        ensures clean { StaysClean Self.Store.BITS Self.head bits Self.list self.old self.new }
+        ensures clean { StaysClean Self.Store.BITS Self.head Self.bits Self.list self.old self.new }
         ensures stays { Stays Self.head Self.len count capacity loan self.old self.new }
     {
         let (head, len) = (self.head(), self.len());
@@ -702,11 +696,11 @@ pub trait BitListMut: BitList {
         ensures list { Self.list self.new
             ≡ put (Self.list self.old) dest (part_onto and_of (Self.list self.old) (R.start_of range)
             (R.end_of range (Self.len self.old)) dest) }
-        ensures row { bits self.new
-            ≡ put (bits self.old) (Self.head self.old + dest)
+        ensures row { Self.bits self.new
+            ≡ put (Self.bits self.old) (Self.head self.old + dest)
             (part_onto and_of (Self.list self.old) (R.start_of range) (R.end_of range (Self.len self.old))
             dest) }
-        ensures clean { StaysClean Self.Store.BITS Self.head bits Self.list self.old self.new }
+        ensures clean { StaysClean Self.Store.BITS Self.head Self.bits Self.list self.old self.new }
         ensures stays { Stays Self.head Self.len count capacity loan self.old self.new }
     {
         self.combine_within::<And, R>(range, dest);
@@ -725,11 +719,11 @@ pub trait BitListMut: BitList {
         ensures list { Self.list self.new
             ≡ put (Self.list self.old) dest (part_onto or_of (Self.list self.old) (R.start_of range)
             (R.end_of range (Self.len self.old)) dest) }
-        ensures row { bits self.new
-            ≡ put (bits self.old) (Self.head self.old + dest)
+        ensures row { Self.bits self.new
+            ≡ put (Self.bits self.old) (Self.head self.old + dest)
             (part_onto or_of (Self.list self.old) (R.start_of range) (R.end_of range (Self.len self.old))
             dest) }
-        ensures clean { StaysClean Self.Store.BITS Self.head bits Self.list self.old self.new }
+        ensures clean { StaysClean Self.Store.BITS Self.head Self.bits Self.list self.old self.new }
         ensures stays { Stays Self.head Self.len count capacity loan self.old self.new }
     {
         self.combine_within::<Or, R>(range, dest);
@@ -748,30 +742,41 @@ pub trait BitListMut: BitList {
         ensures list { Self.list self.new
             ≡ put (Self.list self.old) dest (part_onto xor_of (Self.list self.old) (R.start_of range)
             (R.end_of range (Self.len self.old)) dest) }
-        ensures row { bits self.new
-            ≡ put (bits self.old) (Self.head self.old + dest)
+        ensures row { Self.bits self.new
+            ≡ put (Self.bits self.old) (Self.head self.old + dest)
             (part_onto xor_of (Self.list self.old) (R.start_of range) (R.end_of range (Self.len self.old))
             dest) }
-        ensures clean { StaysClean Self.Store.BITS Self.head bits Self.list self.old self.new }
+        ensures clean { StaysClean Self.Store.BITS Self.head Self.bits Self.list self.old self.new }
         ensures stays { Stays Self.head Self.len count capacity loan self.old self.new }
     {
         self.combine_within::<Xor, R>(range, dest);
     }
 }
 
+/// Flips every bit of the words of a list of bits, those outside the list too. Takes no memory.
+///
+/// ```text
+/// of the words 01101001, with the list 101 from head 2 on: flip_row(&mut bits) leaves the words 10010110
+/// ```
+#[tactic(auto, using(crate::proofs::Parts::shown_length, bit_addressing::proofs::lists::Shown::shows_map, crate::proofs::Rules::item_of_not))]
+pub fn flip_row<B: BitListMut>(bits: &mut B)
+    ensures list { B.list bits.new ≡ map not (B.list bits.old) }
+    ensures index { FlipsEach (B.list bits.old) (B.list bits.new) }
+    ensures row { B.bits bits.new ≡ map not (B.bits bits.old) }
+    ensures stays { Stays B.head B.len B.count B.capacity B.loan bits.old bits.new }
+{
+    flip_bits::<B::Store, B::Order>(bits.as_raw_mut_slice());
+}
+
 impl<'a, T: BitStore, O: BitOrder> BitListMut for BitSliceMut<'a, T, O> {
-    ghost use Rattle.bit_slice.specs.BitSliceMut.{words_of, len_of as lent_len, row_of as lent_row, loan_of};
+    ghost use Rattle.bit_slice.specs.BitSliceMut.{words_of, len_of as lent_len, loan_of};
     ghost use Rattle.bit_slice.specs.Lends.{with_words};
     ghost use Rattle.std.specs.Prelude.{refl};
     ghost use Rattle.std.specs.List.{length_refill};
     ghost use Rattle.std.proofs.Common.{sym};
     ghost use Rattle.bit_addressing.proofs.lists.Refilled.{refilled};
 
-    ghost words = { λ v. words_of v };
-
     ghost count = { λ v. length (words_of v) };
-
-    ghost bits = { λ v. lent_row v };
 
     ghost capacity = { λ v. lent_len v };
 

@@ -2,6 +2,7 @@
 
 mod arrays;
 mod bits;
+mod generic;
 mod growing;
 mod iterating;
 mod laws;

@@ -19,6 +19,10 @@ impl<A: BitWords, O: BitOrder> BitList for BitArray<A, O> {
 
     ghost list = { λ a. row A.Store.BitStore O.BitOrder (A.words a) };
 
+    ghost words = { λ a. A.words a };
+
+    ghost bits = { λ a. row A.Store.BitStore O.BitOrder (A.words a) };
+
     fn as_bitslice(&self) -> BitSlice<'_, A::Store, O> {
         let _len = BitArray::len(self);
         BitArray::as_bitslice(self)
@@ -26,11 +30,7 @@ impl<A: BitWords, O: BitOrder> BitList for BitArray<A, O> {
 }
 
 impl<A: BitViewSized, O: BitOrder> BitListMut for BitArray<A, O> {
-    ghost words = { λ a. A.words a };
-
     ghost count = { λ _. A.count };
-
-    ghost bits = { λ a. row A.Store.BitStore O.BitOrder (A.words a) };
 
     ghost capacity = { λ _. A.Store.BITS * A.count };
 

@@ -128,6 +128,8 @@ impl<A: BitViewSized, O: BitOrder> BitArray<A, O> {
         ensures len { length (row A.Store.BitStore O.BitOrder (A.words self.new)) ≡ A.Store.BITS * A.count }
     {
         BitListMut::set(self, i, bit);
+        // Proof only: how many bits there are.
+        let _len = self.len();
     }
 
     /// Makes every bit `bit`.

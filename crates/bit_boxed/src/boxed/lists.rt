@@ -18,17 +18,19 @@ impl<T: BitStore, O: BitOrder> BitList for BitBox<T, O> {
 
     ghost list = { λ b. b.list };
 
+    ghost words = { λ b. b.words };
+
+    ghost bits = { λ b. b.row };
+
     fn as_bitslice(&self) -> BitSlice<'_, T, O> {
+        // Proof only: the row is that of the words.
+        let _words = BitBox::as_raw_slice(self);
         BitBox::as_bitslice(self)
     }
 }
 
 impl<T: BitStore, O: BitOrder> BitListMut for BitBox<T, O> {
-    ghost words = { λ b. b.words };
-
     ghost count = { λ b. length b.words };
-
-    ghost bits = { λ b. b.row };
 
     ghost capacity = { λ b. b.capacity };
 

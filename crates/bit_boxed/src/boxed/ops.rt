@@ -6,8 +6,7 @@ ghost use Rattle.bit_slice.specs.Operators.{and_of, or_of, xor_of, AndsEach, Ors
 
 use crate::boxed::BitBox;
 use bit_addressing::{BitOrder, BitStore};
-use bit_rows::flip_bits;
-use bit_slice::BitListMut;
+use bit_slice::{BitListMut, flip_row};
 use std::ops::{BitAnd, BitAndAssign, BitOr, BitOrAssign, BitXor, BitXorAssign, Index, Not};
 
 impl<T: BitStore, O: BitOrder> BitBox<T, O> {
@@ -16,14 +15,13 @@ impl<T: BitStore, O: BitOrder> BitBox<T, O> {
     /// ```text
     /// of 01101001: bits.flip_all() leaves 10010110
     /// ```
-    #[tactic(auto, using(bit_slice::proofs::Parts::shown_length, bit_slice::proofs::Rules::item_of_not))]
     pub fn flip_all(&mut self)
         ensures list { self.new.list ≡ map not self.old.list }
         ensures index { FlipsEach self.old.list self.new.list }
         ensures row { self.new.row ≡ map not self.old.row }
         ensures stayed { Stayed self.old self.new }
     {
-        flip_bits::<T, O>(self.words.as_mut_slice());
+        flip_row(self);
     }
 }
 

@@ -1,6 +1,6 @@
 //! The vector as a list of bits.
 ghost use Rattle.std.specs.Prelude.{length, refl};
-ghost use Rattle.bit_containers.specs.Lends.{with_words};
+ghost use Rattle.bit_slice.specs.Held.{with_words};
 ghost use Rattle.bit_slice.proofs.Kept.{kept_words, kept_row, kept_list, kept_len, kept_count};
 
 use crate::vec::BitVec;
@@ -18,19 +18,23 @@ impl<T: BitStore, O: BitOrder> BitList for BitVec<T, O> {
 
     ghost list = { λ v. v.list };
 
+    ghost words = { λ v. v.words };
+
+    ghost bits = { λ v. v.row };
+
     fn as_bitslice(&self) -> BitSlice<'_, T, O> {
+        // Proof only: the row is that of the words, and how many they are.
+        let _words = BitVec::as_raw_slice(self);
         BitVec::as_bitslice(self)
     }
 }
 
 impl<T: BitStore, O: BitOrder> BitListMut for BitVec<T, O> {
-    ghost words = { λ v. v.words };
-
     ghost count = { λ v. length v.words };
 
-    ghost bits = { λ v. v.row };
-
     ghost capacity = { λ v. v.capacity };
+
+    ghost loan = { λ _. 0 };
 
     ghost rewritten = { λ v ws. with_words T.BitStore O.BitOrder v ws };
 
@@ -51,4 +55,6 @@ impl<T: BitStore, O: BitOrder> BitListMut for BitVec<T, O> {
     ghost count_rewritten = { λ v ws. kept_count T.value O.place T.BITS v.words v.head v.list ws };
 
     ghost capacity_rewritten = { λ v ws. refl };
+
+    ghost loan_rewritten = { λ v ws. refl };
 }

@@ -1,43 +1,18 @@
-//! The vector compared and combined with views, and its operators.
+//! The vector combined with views, and its operators.
 ghost use Rattle.std.specs.Prelude.{◌≡◌, ◌+◌, ◌-◌, ◌≤◌, ◌<◌, ◌↔◌, false, ◌||◌, if◌then◌else◌, IsTrue, IsOk, OnOk, length, max, not, map, replicate};
 ghost use Rattle.bit_addressing.specs.Row.{put, sized};
 ghost use Rattle.bit_containers.specs.BitVec.{Stayed, IsClean, RefusesOnly};
 ghost use Rattle.bit_containers.specs.Making.{filled_up, CombinesAll};
 ghost use Rattle.bit_slice.specs.BitSlice.{len_of, list_of};
-ghost use Rattle.bit_slice.specs.Operators.{bits_cmp, combined, and_of, or_of, xor_of, AndsEach, OrsEach, XorsEach, FlipsEach};
+ghost use Rattle.bit_slice.specs.Operators.{combined, and_of, or_of, xor_of, AndsEach, OrsEach, XorsEach, FlipsEach};
 
 use crate::vec::BitVec;
 use bit_addressing::{BitOrder, BitStore, GrowError};
 use bit_rows::{And, BitOperator, Or, Xor};
-use bit_slice::{BitListMut, BitSlice};
-use std::cmp::Ordering;
+use bit_slice::{BitListMut, BitSlice, flip_row};
 use std::ops::{BitAnd, BitAndAssign, BitOr, BitOrAssign, BitXor, BitXorAssign, Index, Not};
 
 impl<T: BitStore, O: BitOrder> BitVec<T, O> {
-    /// Whether the vector and a view, with any word type and order, have the same bits. Heads and
-    /// dead bits don't count.
-    ///
-    /// ```text
-    /// of 01101001 and 01101001: bits.eq_bits(other) == true
-    /// ```
-    pub fn eq_bits<U: BitStore, P: BitOrder>(&self, other: BitSlice<'_, U, P>) -> bool
-        ensures { IsTrue result ↔ (self.now.list ≡ list_of other.entry) }
-    {
-        self.as_bitslice().eq_bits(other)
-    }
-
-    /// How the bits of the vector and those of a view are ordered: the first that differ decide, false before
-    /// true, and where none do the shorter comes first.
-    ///
-    /// ```text
-    /// of 01101001 and 0111: bits.cmp_bits(other) == Ordering::Less
-    /// ```
-    pub fn cmp_bits<U: BitStore, P: BitOrder>(&self, other: BitSlice<'_, U, P>) -> Ordering
-        ensures { result ≡ bits_cmp self.now.list (list_of other.entry) }
-    {
-        self.as_bitslice().cmp_bits(other)
-    }
-
     // Appends false until there are `n` bits.
     #[tactic(auto, using(crate::proofs::Making::not_filled))]
     fn fill_up(&mut self, n: usize) -> Result<(), GrowError>
@@ -139,6 +114,20 @@ impl<T: BitStore, O: BitOrder> BitVec<T, O> {
             → IsOk result × (self.new.capacity ≡ self.old.capacity) }
     {
         self.combine_growing::<Xor, U, P>(other)
+    }
+
+    /// Flips the whole row: the bits of the list, and the dead ones too. Takes no memory.
+    ///
+    /// ```text
+    /// of 01101001: bits.flip_all() leaves 10010110
+    /// ```
+    pub fn flip_all(&mut self)
+        ensures list { self.new.list ≡ map not self.old.list }
+        ensures index { FlipsEach self.old.list self.new.list }
+        ensures row { self.new.row ≡ map not self.old.row }
+        ensures stayed { Stayed self.old self.new }
+    {
+        flip_row(self);
     }
 }
 

@@ -2,7 +2,7 @@
 ghost use Rattle.std.specs.Iterator.{YieldsFirstBy, YieldsLastBy};
 ghost use Rattle.std.specs.Iterator.Runs.{EveryRun, ItemsMapTo, ItemsMapToReversed};
 ghost use Rattle.std.specs.Prelude.{◌≡◌, ℕ, ◌+◌, ◌-◌, ◌*◌, ◌/◌, ◌%◌, ◌<◌, ◌≤◌, IfSome, Some, drop, length, take};
-ghost use Rattle.bit_slice.specs.BitSlice.{len_of, list_of};
+ghost use Rattle.bit_slice.specs.BitSlice.{words_of, head_of, len_of, list_of, IsPlaced};
 ghost use Rattle.bit_slice.specs.Pieces.{part, part_back, chunk_count, chunks_of, exact_chunks_of, back_chunks_of, windows_of};
 
 use crate::slice::BitSlice;
@@ -10,7 +10,7 @@ use bit_addressing::{BitOrder, BitStore};
 use std::iter::{DoubleEndedIterator, ExactSizeIterator, FusedIterator, Iterator};
 
 impl<'a, T: BitStore, O: BitOrder> BitSlice<'a, T, O> {
-    ghost use Rattle.bit_slice.specs.PiecesLeft.{chunks_left, exact_chunks_left, back_chunks_left, windows_left};
+    ghost use Rattle.bit_slice.specs.PiecesLeft.{chunks_left, exact_chunks_left, exact_first, exact_last, remainder_of, back_chunks_left, windows_left};
 
     /// The chunk of number `k`: the one that `chunks(size)` gives after `k` others. Requires that `size`
     /// is not 0, and that the chunk begins before the end.
@@ -23,6 +23,8 @@ impl<'a, T: BitStore, O: BitOrder> BitSlice<'a, T, O> {
         requires begins { k * size < len_of self }
         ensures list { list_of result ≡ part size (list_of self.entry) (k * size) }
         ensures most { len_of result ≤ size }
+        ensures inside { k * size + len_of result ≤ len_of self.entry }
+        ensures place { IsPlaced (words_of self.entry) (head_of self.entry) (k * size) result }
     {
         let start = k * size;
         let count = size.min(self.len - start);
@@ -64,11 +66,10 @@ impl<'a, T: BitStore, O: BitOrder> BitSlice<'a, T, O> {
         requires some { 0 < size }
         ensures list { exact_chunks_left result ≡ exact_chunks_of size (list_of self.entry) }
         ensures count { length (exact_chunks_left result) ≡ len_of self.entry / size }
-        ensures runs { EveryRun (YieldsFirstBy (list_of {X = T} {Y = O} {W = T.BitStore} {P = O.BitOrder})
-            (exact_chunks_left {X = T} {Y = O} {W = T.BitStore} {P = O.BitOrder}))
+        ensures remainder { remainder_of result ≡ drop (len_of self.entry / size * size) (list_of self.entry) }
+        ensures runs { EveryRun (exact_first {X = T} {Y = O} {W = T.BitStore} {P = O.BitOrder})
             (λ p. ItemsMapTo p list_of (exact_chunks_left p.from)) }
-        ensures runs_back { EveryRun (YieldsLastBy (list_of {X = T} {Y = O} {W = T.BitStore} {P = O.BitOrder})
-            (exact_chunks_left {X = T} {Y = O} {W = T.BitStore} {P = O.BitOrder}))
+        ensures runs_back { EveryRun (exact_last {X = T} {Y = O} {W = T.BitStore} {P = O.BitOrder})
             (λ p. ItemsMapToReversed p list_of (exact_chunks_left p.from)) }
     {
         ChunksExact {
@@ -237,12 +238,11 @@ pub struct ChunksExact<'a, T: BitStore, O: BitOrder> {
 }
 
 impl<'a, T: BitStore, O: BitOrder> ChunksExact<'a, T, O> {
-    ghost use Rattle.bit_slice.specs.PiecesLeft.{exact_chunks_left};
+    ghost use Rattle.bit_slice.specs.PiecesLeft.{exact_chunks_left, remainder_of};
 
     /// The bits at the end of the view that no chunk has, fewer than a chunk has.
     pub fn remainder(&self) -> BitSlice<'a, T, O>
-        ensures list { list_of result ≡ drop (len_of self.now.view / self.now.size * self.now.size)
-            (list_of self.now.view) }
+        ensures list { list_of result ≡ remainder_of self.now }
         ensures few { len_of result < self.now.size }
     {
         let len = self.view.len();
@@ -267,18 +267,17 @@ impl<'a, T: BitStore, O: BitOrder> ChunksExact<'a, T, O> {
 }
 
 impl<'a, T: BitStore, O: BitOrder> Iterator for ChunksExact<'a, T, O> {
-    ghost use Rattle.std.specs.Iterator.{YieldsFirstBy, UpTo, at_most, item_count};
+    ghost use Rattle.std.specs.Iterator.{UpTo, at_most, item_count};
     ghost use Rattle.std.specs.Iterator.SizeHint.{IsWithinCount};
-    ghost use Rattle.bit_slice.specs.BitSlice.{list_of};
-    ghost use Rattle.bit_slice.specs.PiecesLeft.{exact_chunks_left};
+    ghost use Rattle.bit_slice.specs.PiecesLeft.{exact_chunks_left, exact_first};
 
     type Item = BitSlice<'a, T, O>;
 
-    ghost next_gives = { YieldsFirstBy list_of exact_chunks_left };
+    ghost next_gives = { exact_first };
 
     ghost remaining = { item_count exact_chunks_left };
 
-    /// The first chunk that is left. None exactly where none is.
+    /// The first chunk that is left. None exactly where none is. The remainder stays.
     fn next(&mut self) -> Option<BitSlice<'a, T, O>> {
         if self.from == self.upto {
             return None;
@@ -300,13 +299,11 @@ impl<'a, T: BitStore, O: BitOrder> Iterator for ChunksExact<'a, T, O> {
 }
 
 impl<'a, T: BitStore, O: BitOrder> DoubleEndedIterator for ChunksExact<'a, T, O> {
-    ghost use Rattle.std.specs.Iterator.{YieldsLastBy};
-    ghost use Rattle.bit_slice.specs.BitSlice.{list_of};
-    ghost use Rattle.bit_slice.specs.PiecesLeft.{exact_chunks_left};
+    ghost use Rattle.bit_slice.specs.PiecesLeft.{exact_last};
 
-    ghost next_back_gives = { YieldsLastBy list_of exact_chunks_left };
+    ghost next_back_gives = { exact_last };
 
-    /// The last chunk that is left. None exactly where none is.
+    /// The last chunk that is left. None exactly where none is. The remainder stays.
     fn next_back(&mut self) -> Option<BitSlice<'a, T, O>> {
         if self.upto == self.from {
             return None;

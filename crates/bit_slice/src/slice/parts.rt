@@ -1,6 +1,6 @@
 //! Views cut in two, and their beginnings and ends compared.
 ghost use Rattle.std.specs.Prelude.{◌≡◌, ◌+◌, ◌-◌, ◌<◌, ◌≤◌, ◌↔◌, ◌++◌, ◌∷◌, [], IfSome, IsTrue, IsNone, drop, length, take};
-ghost use Rattle.bit_slice.specs.BitSlice.{len_of, list_of};
+ghost use Rattle.bit_slice.specs.BitSlice.{words_of, head_of, len_of, list_of, IsPlaced};
 
 use crate::slice::BitSlice;
 use bit_addressing::{BitOrder, BitStore};
@@ -18,6 +18,8 @@ impl<'a, T: BitStore, O: BitOrder> BitSlice<'a, T, O> {
         ensures both { list_of self.entry ≡ list_of result.0 ++ list_of result.1 }
         ensures front_len { len_of result.0 ≡ mid }
         ensures back_len { len_of result.1 + mid ≡ len_of self.entry }
+        ensures front_place { IsPlaced (words_of self.entry) (head_of self.entry) 0 result.0 }
+        ensures back_place { IsPlaced (words_of self.entry) (head_of self.entry) mid result.1 }
     {
         (self.get_range(0..mid), self.get_range(mid..self.len))
     }
@@ -31,6 +33,7 @@ impl<'a, T: BitStore, O: BitOrder> BitSlice<'a, T, O> {
         ensures none { IsNone result ↔ (len_of self.entry ≡ 0) }
         ensures both { IfSome result (λ r. list_of self.entry ≡ r.0 ∷ list_of r.1) }
         ensures rest_len { IfSome result (λ r. len_of r.1 + 1 ≡ len_of self.entry) }
+        ensures rest_place { IfSome result (λ r. IsPlaced (words_of self.entry) (head_of self.entry) 1 r.1) }
     {
         if self.len == 0 {
             return None;
@@ -47,6 +50,7 @@ impl<'a, T: BitStore, O: BitOrder> BitSlice<'a, T, O> {
         ensures none { IsNone result ↔ (len_of self.entry ≡ 0) }
         ensures both { IfSome result (λ r. list_of self.entry ≡ list_of r.1 ++ r.0 ∷ []) }
         ensures rest_len { IfSome result (λ r. len_of r.1 + 1 ≡ len_of self.entry) }
+        ensures rest_place { IfSome result (λ r. IsPlaced (words_of self.entry) (head_of self.entry) 0 r.1) }
     {
         if self.len == 0 {
             return None;

@@ -1,4 +1,4 @@
-use Rattle.std.proofs.Common.{◌*◌, arith}
+use Rattle.std.proofs.Common.{◌*◌, refl, arith}
 use Rattle.bit_slice.specs.BitSlice.{list_of}
 use Rattle.bit_slice.specs.Pieces.{part}
 use Rattle.bit_slice.proofs.Pieces.{part_ends, part_fewer}
@@ -7,7 +7,7 @@ use Rattle.bit_slice.proofs.slice.chunks.ChunksExactDoubleEndedIterator.next_bac
 pub returns-clause-steps : goal.returns-clause-steps
 returns-clause-steps g c =
     let s = c.args.self.now in
-    part_ends _ s.from s.upto (omega (arith, s.fits.0)) _ c.part-part.ensures
+    (part_ends _ s.from s.upto (omega (arith, s.fits.0)) _ c.part-part.ensures, refl)
 
 pub returns-clause-goes : goal.returns-clause-goes
 returns-clause-goes g c =

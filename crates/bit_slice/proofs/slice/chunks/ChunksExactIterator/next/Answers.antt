@@ -1,4 +1,4 @@
-use Rattle.std.proofs.Common.{◌*◌, arith}
+use Rattle.std.proofs.Common.{◌*◌, refl, arith}
 use Rattle.bit_slice.specs.BitSlice.{list_of}
 use Rattle.bit_slice.specs.Pieces.{part}
 use Rattle.bit_slice.proofs.Pieces.{part_begins, part_shorter}
@@ -7,7 +7,7 @@ use Rattle.bit_slice.proofs.slice.chunks.ChunksExactIterator.next.Goals as goal
 pub returns-clause-steps : goal.returns-clause-steps
 returns-clause-steps g c =
     let s = c.args.self.now in
-    part_begins _ s.from s.upto (omega (arith, s.fits.0)) _ c.part-part.ensures
+    (part_begins _ s.from s.upto (omega (arith, s.fits.0)) _ c.part-part.ensures, refl)
 
 pub returns-clause-goes : goal.returns-clause-goes
 returns-clause-goes g c =

@@ -50,6 +50,7 @@ impl<T: BitStore, O: BitOrder> BitVec<T, O> {
         ensures clean { OnOk result (IsClean T.BITS self.old → IsClean T.BITS self.new) }
         ensures refusal { RefusesOnly result n self.old self.new }
         ensures capacity { self.old.capacity ≤ self.new.capacity }
+        ensures within { n ≤ self.old.capacity → self.new.capacity ≡ self.old.capacity }
         ensures no_memory { n ≤ length self.old.list → IsOk result × (self.new ≡ self.old) }
     {
         self.in_words();
@@ -76,6 +77,7 @@ impl<T: BitStore, O: BitOrder> BitVec<T, O> {
         ensures clean { OnOk result (IsClean T.BITS self.old → IsClean T.BITS self.new) }
         ensures refusal { RefusesOnly result (len_of other.entry) self.old self.new }
         ensures capacity { self.old.capacity ≤ self.new.capacity }
+        ensures within { len_of other.entry ≤ self.old.capacity → self.new.capacity ≡ self.old.capacity }
         ensures no_memory { len_of other.entry ≤ length self.old.list
             → IsOk result × (self.new.capacity ≡ self.old.capacity) }
     {
@@ -107,6 +109,7 @@ impl<T: BitStore, O: BitOrder> BitVec<T, O> {
         ensures clean { OnOk result (IsClean T.BITS self.old → IsClean T.BITS self.new) }
         ensures refusal { RefusesOnly result (len_of other.entry) self.old self.new }
         ensures capacity { self.old.capacity ≤ self.new.capacity }
+        ensures within { len_of other.entry ≤ self.old.capacity → self.new.capacity ≡ self.old.capacity }
         ensures no_memory { len_of other.entry ≤ length self.old.list
             → IsOk result × (self.new.capacity ≡ self.old.capacity) }
     {
@@ -135,6 +138,7 @@ impl<T: BitStore, O: BitOrder> BitVec<T, O> {
         ensures clean { OnOk result (IsClean T.BITS self.old → IsClean T.BITS self.new) }
         ensures refusal { RefusesOnly result (len_of other.entry) self.old self.new }
         ensures capacity { self.old.capacity ≤ self.new.capacity }
+        ensures within { len_of other.entry ≤ self.old.capacity → self.new.capacity ≡ self.old.capacity }
         ensures no_memory { len_of other.entry ≤ length self.old.list
             → IsOk result × (self.new.capacity ≡ self.old.capacity) }
     {

@@ -1,5 +1,5 @@
 -- One more call of a function that keeps a state.
-use Rattle.std.proofs.Common.{◌≡◌, ℕ, suc, ◌+◌, ◌-◌, ◌*◌, ◌<◌, ◌≤◌, refl, sym, ap, ◌∙◌, Bool, true, false, cond, List, [], ◌∷◌, ◌++◌, length, get_or, take, drop, ◌%◌, append-nil, map, arith}
+use Rattle.std.proofs.Common.{◌≡◌, ℕ, zero, suc, ◌+◌, ◌-◌, ◌*◌, ◌<◌, ◌≤◌, refl, sym, ap, ◌∙◌, Bool, true, false, cond, List, [], ◌∷◌, ◌++◌, length, get_or, take, drop, ◌%◌, append-nil, map, arith}
 use Rattle.std.proofs.lemmas.List.{take_more, drop_more, drop-drop, take_all, length-take-le}
 use Rattle.std.specs.Borrow.{Bor}
 use Rattle.std.specs.List.{filter, range_with_len}
@@ -132,3 +132,19 @@ module _ {F : Type 0} (step : F → ℕ → Bor Bool → Bool → F → Type 0) 
   retains_all first old f now count number index past was =
       let whole = take_all index old past in
       (was.results, rw whole at was.gave, rw whole at was.front)
+
+-- a list is its front, an item of it and the rest
+pub parted_at : (xs : List Bool) (i : ℕ) → i < length xs → xs ≡ take i xs ++ get_or xs i false ∷ drop (i + 1) xs
+parted_at (x ∷ xs) zero h = refl
+parted_at (x ∷ xs) (suc i) h =
+    let next : suc (i + 1) ≡ suc i + 1 = omega arith in
+    ap (λ l. x ∷ l) (parted_at xs i (omega arith)) ∙ ap (λ k. x ∷ (take i xs ++ get_or xs i false ∷ drop k (x ∷ xs))) next
+parted_at [] i h = absurd (omega arith)
+
+-- where the rests of two lists are equal, the items there are
+pub same_there : (xs ys : List Bool) (i : ℕ) {bit : Bool} → i < length xs → i < length ys → drop i ys ≡ drop i xs → bit ≡ get_or ys i false → bit ≡ get_or xs i false
+same_there xs ys i short long rest is =
+    let left = drop_more xs i false short in
+    let right = drop_more ys i false long in
+    let both = sym right ∙ rest ∙ left in
+    is ∙ cc

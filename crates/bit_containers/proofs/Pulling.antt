@@ -1,12 +1,14 @@
 -- Items pulled out of an iterator, one after another.
-use Rattle.std.proofs.Common.{map, false, ◌≡◌, ℕ, ◌+◌, ◌*◌, ◌<◌, ◌≤◌, Bool, List, [], ◌∷◌, ◌++◌, length, subst, sym, ◌∙◌, ap, arith, append_assoc, refl}
+use Rattle.std.proofs.Common.{map, false, ◌≡◌, ℕ, ◌+◌, ◌*◌, ◌<◌, ◌≤◌, Bool, List, [], ◌∷◌, ◌++◌, length, inl, inr, subst, sym, ◌∙◌, ap, arith, append_assoc, refl}
 use Rattle.std.specs.Prelude.{Option, Result, Ok, Err, IsOk}
+use Rattle.std.specs.Iterator.{Yields}
 use Rattle.std.specs.Iterator.Runs.{EachRunFrom}
 use Rattle.std.proofs.iter.runs.Made.{along_from_runs}
 use Rattle.bit_addressing.specs.declared.length.TheConstants.{MAX_BITS}
 use Rattle.bit_addressing.specs.declared.errors.GrowError.{GrowError}
 use Rattle.bit_addressing.specs.declared.errors.GrowError.TheVariants.{TooLong, OutOfMemory}
 use Rattle.bit_slice.specs.Pulls.{GivesFirst}
+use Rattle.std.proofs.lemmas.Bool.{cases_lt}
 use Rattle.std.proofs.lemmas.List.{length-append, map-append, ext_get_or}
 use Rattle.std.proofs.lemmas.List.FromFn.{length-map-range_with_len, get_or-map-range_with_len}
 use Rattle.bit_addressing.specs.Bits.{has_bit}
@@ -62,6 +64,44 @@ module _ {U S : Type 0} (becomes : U → S → Type 0) (steps : S → Option Boo
       let gave = wants refl in
       let bound = along_from_runs steps gave.0 (λ items. (len + length items ≤ capacity) × (len + length items ≤ MAX_BITS)) (fits gave.0 gave.3) gave.1 gave.2 gave.4 in
       absurd (omega (arith, gave.5.0, bound.0))
+
+-- where no run has more items than the capacity has room for, the capacity stays
+module _ {U S A : Type 0} (becomes : U → S → Type 0) (steps : S → Option A → S → Type 0) (iter : U) (size : List A → ℕ) where
+  pub never_grown : (before after : ℕ) → before ≤ after → (before < after → GivesFirst becomes steps iter (λ items. before < size items)) → ((it : S) → becomes iter it → EachRunFrom steps it (λ run. size run.items ≤ before)) → after ≡ before
+  never_grown before after more gave fits = elim (cases_lt before after) [
+    | inl past ↦
+        let g = gave past in
+        let bound = along_from_runs steps g.0 (λ items. size items ≤ before) (fits g.0 g.3) g.1 g.2 g.4 in
+        absurd (omega (arith, g.5, bound))
+    | inr few ↦ omega arith
+  ]
+
+module _ {S A : Type 0} (steps : S → Option A → S → Type 0) (it : S) (size : List A → ℕ) where
+  pub never_past : (before after : ℕ) → before ≤ after → (before < after → (items : List A) × (rest : S) × Yields steps it items rest × (before < size items)) → EachRunFrom steps it (λ run. size run.items ≤ before) → after ≡ before
+  never_past before after more gave fits = elim (cases_lt before after) [
+    | inl past ↦
+        let g = gave past in
+        let bound = along_from_runs steps it (λ items. size items ≤ before) fits g.0 g.1 g.2 in
+        absurd (omega (arith, g.3, bound))
+    | inr few ↦ omega arith
+  ]
+
+-- where the capacity grew, it had no room for what was wanted
+pub past_room : (cap later want : ℕ) → (want ≤ cap → later ≡ cap) → cap < later → cap < want
+past_room cap later want stays past = elim (cases_lt cap want) [
+  | inl few ↦ few
+  | inr room ↦ let so = stays room in absurd (omega arith)
+]
+
+-- where memory was taken, what came before passed the capacity that there was first
+pub grown_more : (first mid last had want : ℕ) → first ≤ mid → (had ≤ mid → last ≡ mid) → (first < mid → first < had) → had ≤ want → first < last → first < want
+grown_more first mid last had want kept stays grown more past = elim (cases_lt first mid) [
+  | inl before ↦ let so = grown before in omega arith
+  | inr same ↦ elim (cases_lt mid had) [
+    | inl full ↦ omega arith
+    | inr room ↦ let so = stays room in omega arith
+  ]
+]
 
 -- ---- words
 

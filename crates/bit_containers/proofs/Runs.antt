@@ -1,12 +1,12 @@
 -- Executions of commands, one after another.
-use Rattle.std.proofs.Common.{◌≡◌, ℕ, ◌+◌, ◌<◌, ◌≤◌, List, Bool, [], ◌∷◌, ◌++◌, refl, ap, sym, subst, ◌∙◌, length, take, get_or}
+use Rattle.std.proofs.Common.{◌≡◌, ℕ, ◌+◌, ◌<◌, ◌≤◌, List, Bool, [], ◌∷◌, ◌++◌, refl, ap, sym, subst, ◌∙◌, length, max, take, get_or}
 use Rattle.std.proofs.Common.{inl, inr, arith}
 use Rattle.std.proofs.lemmas.Option.{slice_get-get_or}
 use Rattle.bit_addressing.specs.declared.errors.GrowError.{GrowError}
 use Rattle.std.proofs.lemmas.List.{take_more}
 use Rattle.bit_addressing.specs.declared.length.TheConstants.{MAX_BITS}
 use Rattle.bit_containers.specs.declared.machine.Command.{Command}
-use Rattle.bit_containers.specs.Machine.{list_after_one, reply_to, list_after, replies_of, head_after_one, head_after, AllFit, new_length, IsRefusal, IsStopReason, CanWantMemory}
+use Rattle.bit_containers.specs.Machine.{list_after_one, reply_to, list_after, asked_room, room_after, replies_of, head_after_one, head_after, AllFit, new_length, IsRefusal, IsStopReason, CanWantMemory}
 
 -- an execution goes on where another ended
 pub list_after-append : (list : List Bool) (xs ys : List Command) → list_after list (xs ++ ys) ≡ list_after (list_after list xs) ys
@@ -28,10 +28,22 @@ pub AllFit-append : (list : List Bool) (xs ys : List Command) → AllFit list xs
 AllFit-append list [] ys h k = k
 AllFit-append list (x ∷ xs) ys h k = (h.0, AllFit-append (list_after_one list x) xs ys h.1 k)
 
+pub room_after-append : (room : ℕ) (list : List Bool) (xs ys : List Command) → room_after room list (xs ++ ys) ≡ room_after (room_after room list xs) (list_after list xs) ys
+room_after-append room list [] ys = refl
+room_after-append room list (x ∷ xs) ys = room_after-append (max room (max (length (list_after_one list x)) (asked_room list x))) (list_after_one list x) xs ys
+
 -- one command more
 module _ (list : List Bool) (cs : List Command) (i : ℕ) (d : Command) (h : i < length cs) where
   pub list_after-next : list_after list (take (i + 1) cs) ≡ list_after_one (list_after list (take i cs)) (get_or cs i d)
   list_after-next = ap (λ xs. list_after list xs) (take_more cs i d h) ∙ list_after-append list (take i cs) (get_or cs i d ∷ [])
+
+  -- where there is room for the list after the command, and for what it asked for
+  pub room_after-next : (room mid last : ℕ) (now later : List Bool) → now ≡ list_after list (take i cs) → later ≡ list_after_one now (get_or cs i d) → room_after room list (take i cs) ≤ mid → mid ≤ last → length later ≤ last → asked_room now (get_or cs i d) ≤ last → room_after room list (take (i + 1) cs) ≤ last
+  room_after-next room mid last now later is then before kept fits asked =
+      let next = ap (λ xs. room_after room list xs) (take_more cs i d h) ∙ room_after-append room list (take i cs) (get_or cs i d ∷ []) in
+      let long : length (list_after_one (list_after list (take i cs)) (get_or cs i d)) ≤ last = rw (← is, ← then) fits in
+      let want : asked_room (list_after list (take i cs)) (get_or cs i d) ≤ last = rw (← is) asked in
+      rw next (omega (arith, long, want, before, kept))
 
   pub replies_of-next : replies_of list (take (i + 1) cs) ≡ replies_of list (take i cs) ++ reply_to (list_after list (take i cs)) (get_or cs i d) ∷ []
   replies_of-next = ap (λ xs. replies_of list xs) (take_more cs i d h) ∙ replies_of-append list (take i cs) (get_or cs i d ∷ [])

@@ -120,3 +120,15 @@ few_words w n head len positive v = few w n head len MAX_BITS positive v.head_be
 -- and so have the words for a head and a list of at most `MAX_BITS` bits
 pub few_words_for : (w head len n : ℕ) → 0 < w → head < w → len ≤ MAX_BITS → n ≡ words_for w (head + len) → w * n ≤ MAX_BITS + 2 * w
 few_words_for w head len n positive below few_bits exact = few w n head len MAX_BITS positive below few_bits exact
+
+-- bits that have room within the capacity take no more words than it has
+pub room_for : {size : ℕ} (w n words head len wanted : ℕ) → 0 < w → IsVector w n head len size → n ≤ words → len ≤ wanted → wanted ≤ bits_in w words head → words_for w (head + wanted) ≤ words
+room_for w n words head len wanted positive v enough more h = elim (cases_lt words (words_for w (head + wanted))) [
+  | inl few ↦ let full = no_room_for w n words head len wanted positive v enough more few in absurd (omega (arith, h, full))
+  | inr room ↦ room
+]
+
+-- where the words stay in the memory that they have, the capacity stays
+pub same_room : {size : ℕ} (w n words later head len wanted : ℕ) → 0 < w → IsVector w n head len size → n ≤ words → len ≤ wanted → (words_for w (head + wanted) ≤ words → later ≡ words) → wanted ≤ bits_in w words head → bits_in w later head ≡ bits_in w words head
+same_room w n words later head len wanted positive v enough more stays h =
+    ap (λ m. bits_in w m head) (stays (room_for w n words head len wanted positive v enough more h))

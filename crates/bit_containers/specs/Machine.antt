@@ -1,5 +1,5 @@
 -- What commands, and executions of them, do to a list of bits and reply.
-use Rattle.std.specs.Prelude.{◌≡◌, ℕ, ◌+◌, ◌-◌, ◌<◌, ◌≤◌, ◌⊎◌, ◌&&◌, not, map, Option, List, Bool, false, [], ◌∷◌, ◌++◌, length, take, replicate, slice_range, slice_set, slice_get, insert, remove, nat_lt, nat_le, if◌then◌else◌, Some, None, count_by}
+use Rattle.std.specs.Prelude.{◌≡◌, ℕ, ◌+◌, ◌-◌, ◌<◌, ◌≤◌, ◌⊎◌, ◌&&◌, not, map, Option, List, Bool, false, [], ◌∷◌, ◌++◌, length, max, take, replicate, slice_range, slice_set, slice_get, insert, remove, nat_lt, nat_le, if◌then◌else◌, Some, None, count_by}
 use Rattle.std.specs.List.{swap_remove, splice}
 use Rattle.bit_addressing.specs.Row.{moved}
 use Rattle.bit_addressing.specs.declared.errors.GrowError.{GrowError}
@@ -110,6 +110,16 @@ head_after head (command ∷ commands) = head_after (head_after_one head command
 abbrev pub replies_of : List Bool → List Command → List Reply
 replies_of list [] = []
 replies_of list (command ∷ commands) = reply_to list command ∷ replies_of (list_after_one list command) commands
+
+-- the room that a command asks for beside that for the list after it
+abbrev pub asked_room : List Bool → Command → ℕ
+asked_room list (Reserve k) = length list + k
+asked_room list command = 0
+
+-- how many bits the vector has room for at least after commands, where it had room for `room`: no command gives room back, and after each there is room for the list and for what it asked for
+abbrev pub room_after : ℕ → List Bool → List Command → ℕ
+room_after room list [] = room
+room_after room list (command ∷ commands) = room_after (max room (max (length (list_after_one list command)) (asked_room list command))) (list_after_one list command) commands
 
 -- the length that a command asks for; where its index is out of range, that of the list
 abbrev pub new_length : List Bool → Command → ℕ

@@ -1,7 +1,7 @@
 //! Executions of commands.
 ghost use Rattle.std.specs.Prelude.{◌⊎◌, Err, Some, slice_get, ◌≡◌, ◌≢◌, ◌+◌, ◌-◌, ◌<◌, ◌≤◌, ◌++◌, length, take, vec_capacity, OnOk, OnErr, IfOk, IfErr};
 ghost use Rattle.bit_addressing.specs.declared.length.TheConstants.{MAX_BITS};
-ghost use Rattle.bit_containers.specs.Machine.{list_after_one, reply_to, list_after, replies_of, head_after_one, head_after, AllFit, IsRefusal, IsStopReason, new_length, CanWantMemory};
+ghost use Rattle.bit_containers.specs.Machine.{list_after_one, reply_to, list_after, replies_of, head_after_one, head_after, AllFit, IsRefusal, IsStopReason, asked_room, new_length, room_after, CanWantMemory};
 
 use crate::vec::BitVec;
 use bit_addressing::{BitOrder, BitStore, GrowError};
@@ -263,6 +263,7 @@ fn reserve_for<T: BitStore, O: BitOrder>(
     ensures head { v.new.head ≡ v.old.head }
     ensures capacity { v.old.capacity ≤ v.new.capacity }
     ensures memory { result ≡ Err GrowError.OutOfMemory → v.old.capacity < length v.old.list + more }
+    ensures asked { OnOk result (asked_room v.old.list (Command.Reserve more) ≤ v.new.capacity) }
     ensures list { v.new.list ≡ v.old.list }
     ensures fits { OnOk result (length v.old.list + more ≤ MAX_BITS) }
     ensures why { IfErr result (λ why. IsRefusal v.old.list (Command.Reserve more) why) }
@@ -303,6 +304,7 @@ fn step<T: BitStore, O: BitOrder>(
     ensures head { OnOk result (v.new.head ≡ head_after_one v.old.head command) }
     ensures head_kept { OnErr result (v.new.head ≡ v.old.head) }
     ensures capacity { v.old.capacity ≤ v.new.capacity }
+    ensures asked { OnOk result (asked_room v.old.list command ≤ v.new.capacity) }
     ensures memory { result ≡ Err GrowError.OutOfMemory → CanWantMemory v.old.capacity v.old.list command }
     ensures list { OnOk result (v.new.list ≡ list_after_one v.old.list command) }
     ensures fits { OnOk result (new_length v.old.list command ≤ MAX_BITS) }
@@ -355,9 +357,10 @@ fn step<T: BitStore, O: BitOrder>(
 /// Does the commands in order, and appends the reply to each.
 ///
 /// Memory for all replies is taken first: where it is refused, the execution stops with `done` 0 and
-/// `OutOfMemory`, and the vector is as it was, dead bits too. A command whose index or range is out of range
-/// replies `OutOfRange`, and the execution goes on. It stops at the first command that is refused, for its
-/// length or for memory.
+/// `OutOfMemory`, and the vector is as it was, dead bits and capacity too. A command whose index or range is out of
+/// range replies `OutOfRange`, and the execution goes on. It stops at the first command that is refused, for its
+/// length or for memory; memory is wanted only past the room that the commands before it leave, so not by a `Push`
+/// after a `Reserve` that was done.
 pub fn run<T: BitStore, O: BitOrder>(
     v: &mut BitVec<T, O>,
     commands: &[Command],
@@ -367,11 +370,13 @@ pub fn run<T: BitStore, O: BitOrder>(
     ensures head { OnOk result (v.new.head ≡ head_after v.old.head commands.now) }
     ensures stopped_head { IfErr result (λ stop. v.new.head ≡ head_after v.old.head (take stop.done commands.now)) }
     ensures capacity { v.old.capacity ≤ v.new.capacity }
+    ensures room { OnOk result (room_after v.old.capacity v.old.list commands.now ≤ v.new.capacity) }
+    ensures no_replies { vec_capacity replies.new < length replies.old.items + length commands.now → v.new ≡ v.old }
     ensures memory { IfErr result (λ stop. stop.why ≡ GrowError.OutOfMemory
         → ((stop.done ≡ 0) × (vec_capacity replies.old < length replies.old.items + length commands.now)
         × (v.new ≡ v.old))
         ⊎ ((command : Command) × (slice_get commands.now stop.done ≡ Some command)
-        × CanWantMemory v.old.capacity v.new.list command)) }
+        × CanWantMemory (room_after v.old.capacity v.old.list (take stop.done commands.now)) v.new.list command)) }
     ensures list { OnOk result (v.new.list ≡ list_after v.old.list commands.now) }
     ensures fit { OnOk result (AllFit v.old.list commands.now) }
     ensures stopped_replies { IfErr result (λ stop.
@@ -388,7 +393,10 @@ pub fn run<T: BitStore, O: BitOrder>(
     }
     for (done, command) in commands.iter().enumerate() {
         match step(v, *command) {
-            Ok(reply) => replies.push_reserved(reply),
+            Ok(reply) => {
+                v.in_words();
+                replies.push_reserved(reply);
+            }
             Err(why) => return Err(Stop { done, why }),
         }
     }

@@ -127,7 +127,7 @@ impl<T: BitStore, O: BitOrder> BitVec<T, O> {
         Self::new(alloc)
     }
 
-    /// The empty vector, with room for `n` bits. Returns `TooLong` exactly where `n` passes
+    /// The empty vector, with room for exactly the words that `n` bits take. Returns `TooLong` exactly where `n` passes
     /// `MAX_BITS`. Takes no memory where `n` is 0.
     ///
     /// ```text
@@ -139,6 +139,7 @@ impl<T: BitStore, O: BitOrder> BitVec<T, O> {
         ensures list { IfOk result (λ v. v.list ≡ []) }
         ensures clean { IfOk result (λ v. IsClean T.BITS v) }
         ensures capacity { IfOk result (λ v. n ≤ v.capacity) }
+        ensures exact { IfOk result (λ v. v.capacity ≡ bits_in T.BITS (words_for T.BITS n) 0) }
         ensures too_long { (result ≡ Err GrowError.TooLong) ↔ (MAX_BITS < n) }
         ensures memory { result ≡ Err GrowError.OutOfMemory → 0 < n }
     {

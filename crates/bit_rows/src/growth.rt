@@ -8,8 +8,8 @@ use bit_addressing::{BitEnd, BitIdx, BitOrder, BitStore, blend, elts, repeated};
 use std::alloc::AllocError;
 use std::mem::replace;
 
-/// Cuts the words to those for `bits` bits, or fills them up with words of zero. Takes memory.
-/// It is refused only where the capacity, in words, is too small.
+/// Cuts the words to those for `bits` bits, or fills them up with words of zero. Takes memory only where the capacity, in
+/// words, is too small, and is refused only then.
 #[inline(always)]
 pub fn resize_words_in_vec<T: BitStore, O: BitOrder>(
     words: &mut Vec<T>,
@@ -20,6 +20,8 @@ pub fn resize_words_in_vec<T: BitStore, O: BitOrder>(
     ensures size { OnOk result (length words.new.items ≡ words_for T.BITS bits) }
     ensures room { OnOk result (bits ≤ T.BITS * length words.new.items) }
     ensures capacity { vec_capacity words.old ≤ vec_capacity words.new }
+    ensures no_memory { words_for T.BITS bits ≤ vec_capacity words.old
+        → vec_capacity words.new ≡ vec_capacity words.old }
     ensures full { OnErr result (vec_capacity words.old < words_for T.BITS bits) }
     ensures unchanged { OnErr result (words.new.items ≡ words.old.items) }
 {
@@ -27,11 +29,15 @@ pub fn resize_words_in_vec<T: BitStore, O: BitOrder>(
     if count == old {
         return Ok(());
     }
-    if count > old && count - old == 1 {
+    if count < old {
+        words.truncate(count);
+        return Ok(());
+    }
+    if count - old == 1 {
         push_word(words, T::ZERO)?;
         return Ok(());
     }
-    words.resize(count, T::ZERO)?;
+    push_words(words, count - old, T::ZERO)?;
     Ok(())
 }
 
@@ -49,13 +55,15 @@ fn grow_words_by_bit<T: BitStore, O: BitOrder>(
         ≡ row T.BitStore O.BitOrder words.old.items ++ replicate (T.BITS * (count - length words.old.items)) bit) }
     ensures size { OnOk result (length words.new.items ≡ count) }
     ensures capacity { vec_capacity words.old ≤ vec_capacity words.new }
+    ensures no_memory { count ≤ vec_capacity words.old → vec_capacity words.new ≡ vec_capacity words.old }
     ensures full { OnErr result (vec_capacity words.old < count) }
     ensures unchanged { OnErr result (words.new.items ≡ words.old.items) }
 {
+    let more = count - words.len();
     if bit {
-        words.resize(count, repeated::<T>(true))?;
+        push_words(words, more, repeated::<T>(true))?;
     } else {
-        words.resize(count, repeated::<T>(false))?;
+        push_words(words, more, repeated::<T>(false))?;
     }
     Ok(())
 }
@@ -83,6 +91,8 @@ pub fn append_run_in_vec<T: BitStore, O: BitOrder>(
     ensures size { OnOk result (length words.new.items ≡ words_for T.BITS upto) }
     ensures room { OnOk result (upto ≤ T.BITS * length words.new.items) }
     ensures capacity { vec_capacity words.old ≤ vec_capacity words.new }
+    ensures no_memory { words_for T.BITS upto ≤ vec_capacity words.old
+        → vec_capacity words.new ≡ vec_capacity words.old }
     ensures full { OnErr result (vec_capacity words.old < words_for T.BITS upto) }
     ensures unchanged { OnErr result (words.new.items ≡ words.old.items) }
 {
@@ -173,6 +183,39 @@ fn push_word<T: BitStore>(words: &mut Vec<T>, word: T) -> Result<(), AllocError>
     Ok(())
 }
 
+/// Appends `more` times a word. Takes memory only where the capacity is too small, and is refused only then.
+#[inline(always)]
+fn push_words<T: BitStore>(words: &mut Vec<T>, more: usize, word: T) -> Result<(), AllocError>
+    ensures items { OnOk result (words.new.items ≡ words.old.items ++ replicate more word) }
+    ensures size { OnOk result (length words.new.items ≡ length words.old.items + more) }
+    ensures capacity { vec_capacity words.old ≤ vec_capacity words.new }
+    ensures no_memory { length words.old.items + more ≤ vec_capacity words.old
+        → vec_capacity words.new ≡ vec_capacity words.old }
+    ensures full { OnErr result (vec_capacity words.old < length words.old.items + more) }
+    ensures unchanged { OnErr result (words.new.items ≡ words.old.items) }
+{
+    make_room(words, more)?;
+    let alloc = *words.allocator();
+    let filled = with_words(replace(words, Vec::new(alloc)), more, word);
+    let _empty = replace(words, filled);
+    Ok(())
+}
+
+/// A vector with `more` times a word appended. It is handed over, so that its length and its address stay in registers
+/// while the words are written. Takes no memory. Requires that the capacity has room.
+#[inline(always)]
+fn with_words<T: BitStore>(words: Vec<T>, more: usize, word: T) -> Vec<T>
+    requires { length words.items + more ≤ vec_capacity words }
+    ensures items { result.items ≡ words.items ++ replicate more word }
+    ensures capacity { vec_capacity result ≡ vec_capacity words }
+{
+    let mut words = words;
+    for _ in 0..more {
+        words.push_reserved(word);
+    }
+    words
+}
+
 /// Appends a bit after the first `end` bits: a word is added only where no word has room for it, and the other bits
 /// of a word that is added are false. Takes memory where a word is added. Requires that the words are those for
 /// `end` bits. It is refused only where the capacity, in words, is too small.
@@ -219,6 +262,8 @@ fn push_part<T: BitStore, O: BitOrder>(
         ≡ row T.BitStore O.BitOrder words.old.items ++ number_bits chunk n ++ replicate (T.BITS - n) false) }
     ensures size { OnOk result (length words.new.items ≡ length words.old.items + 1) }
     ensures capacity { vec_capacity words.old ≤ vec_capacity words.new }
+    ensures no_memory { length words.old.items < vec_capacity words.old
+        → vec_capacity words.new ≡ vec_capacity words.old }
     ensures full { OnErr result (vec_capacity words.old ≤ length words.old.items) }
     ensures unchanged { OnErr result (words.new.items ≡ words.old.items) }
 {
@@ -248,8 +293,8 @@ fn write_in_word<T: BitStore, O: BitOrder>(words: &mut Vec<T>, k: usize, low: u8
 }
 
 /// Appends the `n` lowest bits of a number after the first `end` bits, that of place 0 first: words are added only where
-/// those that are there have no room, and the other bits of a word that is added are false. Takes memory where a word is
-/// added. Requires that the words are those for `end` bits, and that `n` is at most 64. It is refused only where the
+/// those that are there have no room, and the other bits of a word that is added are false. Takes memory only where the
+/// capacity is too small. Requires that the words are those for `end` bits, and that `n` is at most 64. It is refused only where the
 /// capacity, in words, is too small.
 ///
 /// ```text
@@ -270,6 +315,8 @@ pub fn push_chunk_in_vec<T: BitStore, O: BitOrder>(
     ensures size { OnOk result (length words.new.items ≡ words_for T.BITS (end + n)) }
     ensures room { OnOk result (end + n ≤ T.BITS * length words.new.items) }
     ensures capacity { vec_capacity words.old ≤ vec_capacity words.new }
+    ensures no_memory { words_for T.BITS (end + n) ≤ vec_capacity words.old
+        → vec_capacity words.new ≡ vec_capacity words.old }
     ensures full { OnErr result (vec_capacity words.old < words_for T.BITS (end + n)) }
     ensures unchanged { OnErr result (words.new.items ≡ words.old.items) }
 {
@@ -316,6 +363,8 @@ pub fn push_binary_in_vec<T: BitStore, O: BitOrder>(
     ensures size { OnOk result (length words.new.items ≡ words_for T.BITS (end + n)) }
     ensures room { OnOk result (end + n ≤ T.BITS * length words.new.items) }
     ensures capacity { vec_capacity words.old ≤ vec_capacity words.new }
+    ensures no_memory { words_for T.BITS (end + n) ≤ vec_capacity words.old
+        → vec_capacity words.new ≡ vec_capacity words.old }
     ensures full { OnErr result (vec_capacity words.old < words_for T.BITS (end + n)) }
     ensures unchanged { OnErr result (words.new.items ≡ words.old.items) }
 {

@@ -136,6 +136,7 @@ impl<T: BitStore, O: BitOrder> BitVec<T, O> {
         ensures clean { OnOk result (IsClean T.BITS self.old → IsClean T.BITS self.new) }
         ensures refusal { RefusesOnly result (length self.old.list + 1) self.old self.new }
         ensures capacity { self.old.capacity ≤ self.new.capacity }
+        ensures no_memory { length self.old.list < self.old.capacity → self.new.capacity ≡ self.old.capacity }
     {
         self.push(bit)?;
         let at = self.head + i;

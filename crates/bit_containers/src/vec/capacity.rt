@@ -1,8 +1,8 @@
 //! How much room the vector has.
-ghost use Rattle.std.specs.Prelude.{◌≡◌, ◌+◌, ◌-◌, ◌≤◌, ◌↔◌, length, Err, IfOk, OnOk, OnErr, IsOk};
+ghost use Rattle.std.specs.Prelude.{◌≡◌, ◌+◌, ◌-◌, ◌≤◌, ◌↔◌, length, max, Err, IfOk, OnOk, OnErr, IsOk};
 ghost use Rattle.bit_addressing.specs.Row.{words_for};
 ghost use Rattle.bit_addressing.specs.declared.length.TheConstants.{MAX_BITS};
-ghost use Rattle.bit_containers.specs.BitVec.{IsKept, RefusesOnly};
+ghost use Rattle.bit_containers.specs.BitVec.{IsKept, RefusesOnly, bits_in};
 
 use crate::vec::BitVec;
 use bit_addressing::{BitOrder, BitStore, GrowError, MAX_BITS, elts};
@@ -39,7 +39,7 @@ impl<T: BitStore, O: BitOrder> BitVec<T, O> {
 
     /// Makes room for `more` further bits, and for some beyond them where memory is taken. Words and list
     /// stay. Returns `TooLong` exactly where the length would pass `MAX_BITS`, and `OutOfMemory` only where
-    /// it would pass the capacity.
+    /// it would pass the capacity. A refusal leaves the capacity too.
     ///
     /// ```text
     /// of 0110: bits.reserve(100)? leaves 0110
@@ -50,13 +50,18 @@ impl<T: BitStore, O: BitOrder> BitVec<T, O> {
         ensures fits { OnOk result (length self.old.list + more ≤ MAX_BITS) }
         ensures refusal { RefusesOnly result (length self.old.list + more) self.old self.new }
         ensures capacity { self.old.capacity ≤ self.new.capacity }
+        ensures no_memory { length self.old.list + more ≤ self.old.capacity
+            → self.new.capacity ≡ self.old.capacity }
+        ensures refused { OnErr result (self.new.capacity ≡ self.old.capacity) }
     {
         let words = self.words_to_add(more)?;
-        self.words.reserve(words)?;
+        if words > self.words.capacity() - self.words.len() {
+            self.words.reserve(words)?;
+        }
         Ok(())
     }
 
-    /// Like `reserve`, but takes memory for no word beyond those that the bits take.
+    /// Like `reserve`, but where memory is taken it is for exactly the words that the bits take.
     ///
     /// ```text
     /// of 0110: bits.reserve_exact(100)? leaves 0110
@@ -67,13 +72,17 @@ impl<T: BitStore, O: BitOrder> BitVec<T, O> {
         ensures fits { OnOk result (length self.old.list + more ≤ MAX_BITS) }
         ensures refusal { RefusesOnly result (length self.old.list + more) self.old self.new }
         ensures capacity { self.old.capacity ≤ self.new.capacity }
+        ensures exact { OnOk result (self.new.capacity ≡ max self.old.capacity
+            (bits_in T.BITS (words_for T.BITS (self.old.head + (length self.old.list + more))) self.old.head)) }
+        ensures refused { OnErr result (self.new.capacity ≡ self.old.capacity) }
     {
         let words = self.words_to_add(more)?;
         self.words.reserve_exact(words)?;
         Ok(())
     }
 
-    /// Gives back memory that no visible word takes, where it can. Words and list stay. It always succeeds.
+    /// Gives back memory that no visible word takes, where the allocator can: all of it where there is no word. Words
+    /// and list stay. It always succeeds.
     ///
     /// ```text
     /// of 0110: bits.shrink_to_fit()? leaves 0110
@@ -82,6 +91,7 @@ impl<T: BitStore, O: BitOrder> BitVec<T, O> {
         ensures kept { IsKept self.old self.new }
         ensures succeeds { IsOk result }
         ensures capacity { self.new.capacity ≤ self.old.capacity }
+        ensures frees { length self.old.words ≡ 0 → self.new.capacity ≡ 0 }
     {
         self.words.shrink_to_fit();
         Ok(())

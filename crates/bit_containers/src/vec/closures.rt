@@ -3,7 +3,7 @@ ghost use Rattle.std.specs.Prelude.{◌≡◌, ◌+◌, ◌-◌, ◌%◌, ◌<�
 ghost use Rattle.bit_addressing.specs.Row.{number_bits, put};
 ghost use Rattle.bit_addressing.specs.declared.length.TheConstants.{MAX_BITS};
 ghost use Rattle.bit_containers.specs.BitVec.{Grew, Shrank, Stayed, RefusesOnly};
-ghost use Rattle.bit_containers.specs.Closures.{ResultsFrom, ResultsAtEach, kept};
+ghost use Rattle.bit_containers.specs.Closures.{CallableAtEach, CallableFrom, ResultsFrom, ResultsAtEach, kept};
 
 use crate::vec::BitVec;
 use crate::vec::collect::with_next;
@@ -14,7 +14,7 @@ impl<T: BitStore, O: BitOrder> BitVec<T, O> {
     /// Keeps the first `n` bits, or appends what `f` returns at each new index until there are `n`. Memory is taken
     /// first; then `f` is called once for each new index, in order. Where it grows it is refused like `push`, and a
     /// refusal makes no call and changes nothing but perhaps the capacity. Where it shrinks it is like `truncate`,
-    /// and makes no call. Requires that `f` can always be called.
+    /// and makes no call. Requires that `f` can be called at the new indices, where the length is not too large.
     ///
     /// ```text
     /// of 0110: bits.resize_with(6, |i| i == 5)? leaves 011001
@@ -24,7 +24,7 @@ impl<T: BitStore, O: BitOrder> BitVec<T, O> {
         n: usize,
         mut f: F,
     ) -> Result<(), GrowError>
-        requires { F.IsAlwaysCallable f }
+        requires { n ≤ MAX_BITS → CallableFrom F.pre F.step f (length self.old.list) n }
         ensures cut { n ≤ length self.old.list → OnOk result (self.new.list ≡ take n self.old.list) }
         ensures shrank { n ≤ length self.old.list → Shrank T.BITS self.old self.new n }
         ensures filled { length self.old.list < n
@@ -35,6 +35,7 @@ impl<T: BitStore, O: BitOrder> BitVec<T, O> {
         ensures succeeds { n ≤ length self.old.list → IsOk result }
         ensures refusal { RefusesOnly result n self.old self.new }
         ensures capacity { self.old.capacity ≤ self.new.capacity }
+        ensures no_memory { n ≤ self.old.capacity → self.new.capacity ≡ self.old.capacity }
     {
         self.resize_by(n, &mut f)
     }
@@ -50,7 +51,7 @@ impl<T: BitStore, O: BitOrder> BitVec<T, O> {
         n: usize,
         f: &mut F,
     ) -> Result<(), GrowError>
-        requires { F.IsAlwaysCallable f.old }
+        requires { n ≤ MAX_BITS → CallableFrom F.pre F.step f.old (length self.old.list) n }
         ensures cut { n ≤ length self.old.list → OnOk result (self.new.list ≡ take n self.old.list) }
         ensures shrank { n ≤ length self.old.list → Shrank T.BITS self.old self.new n }
         ensures filled { length self.old.list < n
@@ -63,6 +64,7 @@ impl<T: BitStore, O: BitOrder> BitVec<T, O> {
         ensures succeeds { n ≤ length self.old.list → IsOk result }
         ensures refusal { RefusesOnly result n self.old self.new }
         ensures capacity { self.old.capacity ≤ self.new.capacity }
+        ensures no_memory { n ≤ self.old.capacity → self.new.capacity ≡ self.old.capacity }
     {
         self.in_words();
         let len = self.len();
@@ -84,20 +86,20 @@ impl<T: BitStore, O: BitOrder> BitVec<T, O> {
         requires few { length self.old.list < MAX_BITS }
         ensures list { self.new.list ≡ self.old.list ++ bit ∷ [] }
         ensures row { Grew T.BITS self.old self.new (bit ∷ []) }
-        ensures capacity { self.old.capacity ≤ self.new.capacity }
+        ensures capacity { self.new.capacity ≡ self.old.capacity }
     {
         let _there_is_room = self.push(bit);
     }
 
     /// Keeps the bits at which `f` returns true, in order. `f` is called once for each bit, with its index and the
     /// bit, by ascending index. The bits that stay are gathered in words, and each word is stored once. Takes no
-    /// memory. What becomes of dead bits is open. Requires that `f` can always be called.
+    /// memory. What becomes of dead bits is open. Requires that `f` can be called at each bit.
     ///
     /// ```text
     /// of 0110: bits.retain(|i, bit| *bit || i == 0) leaves 011
     /// ```
     pub fn retain<F: FnMut(usize, &bool) -> bool>(&mut self, mut f: F)
-        requires { F.IsAlwaysCallable f }
+        requires { CallableAtEach F.pre F.step f self.old.list }
         ensures list { (results : List Bool) × (last : F)
             × ResultsAtEach F.step f 0 self.old.list results last
             × (self.new.list ≡ kept self.old.list results) }
@@ -114,7 +116,7 @@ impl<T: BitStore, O: BitOrder> BitVec<T, O> {
     /// of 0110: bits.retain_by(&mut |_i: usize, bit: &bool| *bit) leaves 11
     /// ```
     pub fn retain_by<F: FnMut(usize, &bool) -> bool>(&mut self, f: &mut F)
-        requires { F.IsAlwaysCallable f.old }
+        requires { CallableAtEach F.pre F.step f.old self.old.list }
         ensures list { (results : List Bool) × ResultsAtEach F.step f.old 0 self.old.list results f.new
             × (self.new.list ≡ kept self.old.list results) }
         ensures head { self.new.head ≡ self.old.head }

@@ -76,6 +76,10 @@ impl<T: BitStore, O: BitOrder> BitVec<T, O> {
         ensures unchanged { OnErr result (self.new.list ≡ self.old.list) }
         ensures head { self.new.head ≡ self.old.head }
         ensures capacity { self.old.capacity ≤ self.new.capacity }
+        ensures no_memory { ((it : I.IntoIter) → I.into_iter_gives iter it
+            → EachRunFrom I.IntoIter.next_gives it
+            (λ run. length self.old.list + length run.items ≤ self.old.capacity))
+            → self.new.capacity ≡ self.old.capacity }
     {
         self.extend_by(iter)
     }
@@ -96,6 +100,9 @@ impl<T: BitStore, O: BitOrder> BitVec<T, O> {
         ensures unchanged { OnErr result (self.new.list ≡ self.old.list) }
         ensures head { self.new.head ≡ self.old.head }
         ensures capacity { self.old.capacity ≤ self.new.capacity }
+        ensures grown { self.old.capacity < self.new.capacity
+            → GivesFirst I.into_iter_gives I.IntoIter.next_gives iter
+            (λ bits. self.old.capacity < length self.old.list + length bits) }
     {
         let len = self.len();
         let (mut number, mut got) = (0, 0);
@@ -163,6 +170,8 @@ impl<T: BitStore, O: BitOrder> BitVec<T, O> {
         ensures full { IfOk result (λ next. next.2 < 64 → length self.new.list + next.2 ≡ MAX_BITS) }
         ensures refusal { RefusesOnly result (length self.old.list + (got + 1)) self.old self.new }
         ensures capacity { self.old.capacity ≤ self.new.capacity }
+        ensures no_memory { length self.old.list + got ≤ self.old.capacity
+            → self.new.capacity ≡ self.old.capacity }
     {
         self.in_words();
         if got < most {
@@ -231,6 +240,10 @@ impl<T: BitStore, O: BitOrder> BitVec<T, O> {
         ensures unchanged { OnErr result (self.new.list ≡ self.old.list) }
         ensures head { self.new.head ≡ self.old.head }
         ensures capacity { self.old.capacity ≤ self.new.capacity }
+        ensures no_memory { ((it : I.IntoIter) → I.into_iter_gives iter it
+            → EachRunFrom I.IntoIter.next_gives it
+            (λ run. length self.old.list + T.BITS * length run.items ≤ self.old.capacity))
+            → self.new.capacity ≡ self.old.capacity }
     {
         self.extend_by_words(iter)
     }
@@ -241,6 +254,8 @@ impl<T: BitStore, O: BitOrder> BitVec<T, O> {
         ensures row { OnOk result (Grew T.BITS self.old self.new (row T.BitStore O.BitOrder (word ∷ []))) }
         ensures refusal { RefusesOnly result (length self.old.list + T.BITS) self.old self.new }
         ensures capacity { self.old.capacity ≤ self.new.capacity }
+        ensures no_memory { length self.old.list + T.BITS ≤ self.old.capacity
+            → self.new.capacity ≡ self.old.capacity }
     {
         self.extend_from_number(O::to_lsb0(word).to_u64(), T::BITS)
     }
@@ -262,6 +277,9 @@ impl<T: BitStore, O: BitOrder> BitVec<T, O> {
         ensures unchanged { OnErr result (self.new.list ≡ self.old.list) }
         ensures head { self.new.head ≡ self.old.head }
         ensures capacity { self.old.capacity ≤ self.new.capacity }
+        ensures grown { self.old.capacity < self.new.capacity
+            → GivesFirst I.into_iter_gives I.IntoIter.next_gives iter
+            (λ words. self.old.capacity < length self.old.list + T.BITS * length words) }
     {
         let len = self.len();
         self.in_words();

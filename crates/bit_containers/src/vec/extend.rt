@@ -32,6 +32,8 @@ impl<T: BitStore, O: BitOrder> BitVec<T, O> {
         ensures clean { OnOk result (IsClean T.BITS self.old → IsClean T.BITS self.new) }
         ensures refusal { RefusesOnly result (length self.old.list + len_of view.entry) self.old self.new }
         ensures capacity { self.old.capacity ≤ self.new.capacity }
+        ensures no_memory { length self.old.list + len_of view.entry ≤ self.old.capacity
+            → self.new.capacity ≡ self.old.capacity }
     {
         let more = view.len();
         if more > MAX_BITS - self.len {
@@ -59,6 +61,8 @@ impl<T: BitStore, O: BitOrder> BitVec<T, O> {
         ensures clean { OnOk result (IsClean T.BITS self.old → IsClean T.BITS self.new) }
         ensures refusal { RefusesOnly result (length self.old.list + len_of view.entry) self.old self.new }
         ensures capacity { self.old.capacity ≤ self.new.capacity }
+        ensures no_memory { length self.old.list + len_of view.entry ≤ self.old.capacity
+            → self.new.capacity ≡ self.old.capacity }
     {
         self.extend_from_bitslice(view)
     }
@@ -81,6 +85,8 @@ impl<T: BitStore, O: BitOrder> BitVec<T, O> {
         ensures refusal { RefusesOnly result (length self.old.list + length other.old.list) self.old self.new }
         ensures other_unchanged { OnErr result (other.new ≡ other.old) }
         ensures capacity { self.old.capacity ≤ self.new.capacity }
+        ensures no_memory { length self.old.list + length other.old.list ≤ self.old.capacity
+            → self.new.capacity ≡ self.old.capacity }
     {
         self.extend_from_bitslice(other.as_bitslice())?;
         other.truncate(0);
@@ -105,6 +111,7 @@ impl<T: BitStore, O: BitOrder> BitVec<T, O> {
         ensures clean { OnOk result (length self.old.list < n → IsClean T.BITS self.old → IsClean T.BITS self.new) }
         ensures refusal { RefusesOnly result n self.old self.new }
         ensures capacity { self.old.capacity ≤ self.new.capacity }
+        ensures no_memory { n ≤ self.old.capacity → self.new.capacity ≡ self.old.capacity }
     {
         if n <= self.len {
             self.truncate(n);
@@ -136,6 +143,8 @@ impl<T: BitStore, O: BitOrder> BitVec<T, O> {
         ensures clean { OnOk result (IsClean T.BITS self.old → IsClean T.BITS self.new) }
         ensures refusal { RefusesOnly result (length self.old.list + T.BITS * length words.now) self.old self.new }
         ensures capacity { self.old.capacity ≤ self.new.capacity }
+        ensures no_memory { length self.old.list + T.BITS * length words.now ≤ self.old.capacity
+            → self.new.capacity ≡ self.old.capacity }
     {
         if !Self::fits(words.len()) {
             return Err(GrowError::TooLong);
@@ -166,6 +175,8 @@ impl<T: BitStore, O: BitOrder> BitVec<T, O> {
             (length self.old.list + (R.end_of range (length self.old.list) - R.start_of range)) self.old
             self.new }
         ensures capacity { self.old.capacity ≤ self.new.capacity }
+        ensures no_memory { length self.old.list + (R.end_of range (length self.old.list) - R.start_of range) ≤ self.old.capacity
+            → self.new.capacity ≡ self.old.capacity }
     {
         let range = range.normalize(self.len);
         let more = range.end - range.start;
@@ -188,6 +199,8 @@ impl<T: BitStore, O: BitOrder> BitVec<T, O> {
         ensures row { OnOk result (Grew T.BITS self.old self.new (number_bits number n)) }
         ensures refusal { RefusesOnly result (length self.old.list + n) self.old self.new }
         ensures capacity { self.old.capacity ≤ self.new.capacity }
+        ensures no_memory { length self.old.list + n ≤ self.old.capacity
+            → self.new.capacity ≡ self.old.capacity }
     {
         let more = n as usize;
         if more > MAX_BITS - self.len {

@@ -67,6 +67,8 @@ impl<T: BitStore, O: BitOrder> BitVec<T, O> {
         ensures clean { OnOk result (IsClean T.BITS self.old → IsClean T.BITS self.new) }
         ensures refusal { RefusesOnly result (length self.old.list + n) self.old self.new }
         ensures capacity { self.old.capacity ≤ self.new.capacity }
+        ensures no_memory { length self.old.list + n ≤ self.old.capacity
+            → self.new.capacity ≡ self.old.capacity }
     {
         let more = n as usize;
         if more > MAX_BITS - self.len {

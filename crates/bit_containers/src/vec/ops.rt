@@ -25,6 +25,7 @@ impl<T: BitStore, O: BitOrder> BitVec<T, O> {
         ensures clean { OnOk result (IsClean T.BITS self.old → IsClean T.BITS self.new) }
         ensures refusal { RefusesOnly result n self.old self.new }
         ensures capacity { self.old.capacity ≤ self.new.capacity }
+        ensures within { n ≤ self.old.capacity → self.new.capacity ≡ self.old.capacity }
         ensures no_memory { n ≤ length self.old.list → IsOk result × (self.new ≡ self.old) }
     {
         self.in_words();
@@ -51,6 +52,7 @@ impl<T: BitStore, O: BitOrder> BitVec<T, O> {
         ensures clean { OnOk result (IsClean T.BITS self.old → IsClean T.BITS self.new) }
         ensures refusal { RefusesOnly result (len_of other.entry) self.old self.new }
         ensures capacity { self.old.capacity ≤ self.new.capacity }
+        ensures within { len_of other.entry ≤ self.old.capacity → self.new.capacity ≡ self.old.capacity }
         ensures no_memory { len_of other.entry ≤ length self.old.list
             → IsOk result × (self.new.capacity ≡ self.old.capacity) }
     {
@@ -82,6 +84,7 @@ impl<T: BitStore, O: BitOrder> BitVec<T, O> {
         ensures clean { OnOk result (IsClean T.BITS self.old → IsClean T.BITS self.new) }
         ensures refusal { RefusesOnly result (len_of other.entry) self.old self.new }
         ensures capacity { self.old.capacity ≤ self.new.capacity }
+        ensures within { len_of other.entry ≤ self.old.capacity → self.new.capacity ≡ self.old.capacity }
         ensures no_memory { len_of other.entry ≤ length self.old.list
             → IsOk result × (self.new.capacity ≡ self.old.capacity) }
     {
@@ -110,6 +113,7 @@ impl<T: BitStore, O: BitOrder> BitVec<T, O> {
         ensures clean { OnOk result (IsClean T.BITS self.old → IsClean T.BITS self.new) }
         ensures refusal { RefusesOnly result (len_of other.entry) self.old self.new }
         ensures capacity { self.old.capacity ≤ self.new.capacity }
+        ensures within { len_of other.entry ≤ self.old.capacity → self.new.capacity ≡ self.old.capacity }
         ensures no_memory { len_of other.entry ≤ length self.old.list
             → IsOk result × (self.new.capacity ≡ self.old.capacity) }
     {

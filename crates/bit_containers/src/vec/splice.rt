@@ -1,7 +1,7 @@
 //! Calls that replace a range of bits, and that cut a vector in two.
 ghost use Rattle.std.specs.Prelude.{◌≡◌, ◌≢◌, ◌+◌, ◌-◌, ◌<◌, ◌≤◌, Bool, List, [], length, take, drop, replicate, reverse, slice_get, slice_range, Err, IfOk, OnOk, OnErr};
 ghost use Rattle.std.specs.Iterator.{IsFinite, Drains, Yields, YieldsFirst, YieldsLast};
-ghost use Rattle.std.specs.Iterator.Runs.{WholeRun, YieldsInOrder, YieldsInReverse};
+ghost use Rattle.std.specs.Iterator.Runs.{EachRunFrom, WholeRun, YieldsInOrder, YieldsInReverse};
 ghost use Rattle.std.specs.List.{splice};
 ghost use Rattle.bit_addressing.specs.Range.{LiesIn};
 ghost use Rattle.bit_addressing.specs.declared.length.TheConstants.{MAX_BITS};
@@ -127,6 +127,8 @@ impl<T: BitStore, O: BitOrder> BitVec<T, O> {
         ensures refusal { RefusesOnly result (length self.old.list
             - (R.end_of range (length self.old.list) - R.start_of range) + len_of view.entry) self.old self.new }
         ensures capacity { self.old.capacity ≤ self.new.capacity }
+        ensures no_memory { length self.old.list - (R.end_of range (length self.old.list) - R.start_of range)
+            + len_of view.entry ≤ self.old.capacity → self.new.capacity ≡ self.old.capacity }
     {
         let len = self.len();
         let range = range.normalize(len);
@@ -155,6 +157,8 @@ impl<T: BitStore, O: BitOrder> BitVec<T, O> {
             → self.old.capacity < length self.old.list - (end - start) + len_of view.entry }
         ensures unchanged { OnErr result (IsKept self.old self.new) }
         ensures capacity { self.old.capacity ≤ self.new.capacity }
+        ensures no_memory { length self.old.list - (end - start) + len_of view.entry ≤ self.old.capacity
+            → self.new.capacity ≡ self.old.capacity }
     {
         let (len, more) = (self.len(), view.len());
         if more <= end - start {
@@ -187,6 +191,8 @@ impl<T: BitStore, O: BitOrder> BitVec<T, O> {
         ensures small { result ≡ Err GrowError.OutOfMemory → length self.old.list - (end - start) + n ≤ MAX_BITS }
         ensures unchanged { OnErr result (self.new.list ≡ self.old.list) }
         ensures capacity { self.old.capacity ≤ self.new.capacity }
+        ensures no_memory { length self.old.list - (end - start) + n ≤ self.old.capacity
+            → self.new.capacity ≡ self.old.capacity }
     {
         let kept = self.len() - (end - start);
         if n > MAX_BITS - kept {
@@ -248,6 +254,9 @@ impl<T: BitStore, O: BitOrder> BitVec<T, O> {
             × (0 < length bits) × (length self.old.list - (end - start) + length bits ≤ MAX_BITS) }
         ensures unchanged { OnErr result (self.new.list ≡ self.old.list) }
         ensures capacity { self.old.capacity ≤ self.new.capacity }
+        ensures grown { self.old.capacity < self.new.capacity
+            → (bits : List Bool) × (rest : I) × Yields I.next_gives replacement bits rest
+            × (self.old.capacity < length self.old.list - (end - start) + length bits) }
     {
         let kept = self.len() - (end - start);
         let alloc = self.allocator();
@@ -379,6 +388,9 @@ impl<'a, T: BitStore, O: BitOrder, I: Iterator<Item = bool>> Splice<'a, T, O, I>
             ≤ MAX_BITS) }
         ensures unchanged { OnErr result (self.exit.0.now.list ≡ self.entry.vec.now.list) }
         ensures capacity { self.entry.vec.now.capacity ≤ self.exit.0.now.capacity }
+        ensures no_memory { EachRunFrom I.next_gives self.entry.replacement
+            (λ run. length self.entry.vec.now.list - (self.entry.end - self.entry.start) + length run.items
+            ≤ self.entry.vec.now.capacity) → self.exit.0.now.capacity ≡ self.entry.vec.now.capacity }
     {
         let Splice {
             vec,

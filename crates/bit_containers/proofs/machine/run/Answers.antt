@@ -1,9 +1,9 @@
-use Rattle.std.proofs.Common.{rules, append_assoc, false, get_or, subst, sym, inr, arith}
+use Rattle.std.proofs.Common.{rules, append_assoc, false, get_or, take, subst, sym, inr, arith}
 use Rattle.std.proofs.lemmas.Option.{slice_get-get_or}
 use Rattle.std.proofs.lemmas.Grind.{common_steps}
-use Rattle.bit_containers.specs.Machine.{CanWantMemory}
+use Rattle.bit_containers.specs.Machine.{CanWantMemory, room_after}
 use Rattle.bit_containers.specs.declared.machine.Command.TheVariants.{Push}
-use Rattle.bit_containers.proofs.Runs.{list_after-next, head_after-next, replies_of-next, AllFit-next, stopped_at, wants_before}
+use Rattle.bit_containers.proofs.Runs.{list_after-next, head_after-next, replies_of-next, AllFit-next, room_after-next, stopped_at, wants_before}
 use Rattle.bit_containers.proofs.machine.run.Goals as goal
 
 pub loop-done-preserved : goal.loop-done-preserved
@@ -16,6 +16,7 @@ loop-done-preserved g c =
       replies = rw (replies, ← append_assoc, ← c.loop-done.invariant.replies, ← c.loop-done.invariant.list, ← c.in-Ok.ensures.reply) c.push_reserved.ensures.items;
       head = rw (heads, ← c.loop-done.invariant.head) c.in-Ok.ensures.head;
       capacity = search rules;
+      spare = room_after-next c.args.v.now.list c.args.commands.now c.loop-done.done (Push false) c.loop-done-test.true c.args.v.now.capacity c.loop-done.v.capacity c.step.new.v.capacity c.loop-done.v.list c.step.new.v.list c.loop-done.invariant.list c.in-Ok.ensures.list c.loop-done.invariant.spare c.step.ensures.capacity c.in_words.ensures.room c.in-Ok.ensures.asked;
       list = rw (lists, ← c.loop-done.invariant.list) c.in-Ok.ensures.list;
       fit = fits (rw (← c.loop-done.invariant.list) c.in-Ok.ensures.fits);
       room = search rules;
@@ -33,7 +34,7 @@ returns-in-Err-clause-memory g c is =
     inr (
       command,
       slice_get-get_or commands at.done (Push false) c.loop-done-test.true,
-      subst (λ list. CanWantMemory c.args.v.now.capacity list command) (sym c.in-Err.ensures.unchanged) (wants_before c.args.v.now.capacity at.v.capacity at.v.list command at.invariant.capacity (c.in-Err.ensures.memory (search rules))),
+      subst (λ list. CanWantMemory (room_after c.args.v.now.capacity c.args.v.now.list (take at.done commands)) list command) (sym c.in-Err.ensures.unchanged) (wants_before (room_after c.args.v.now.capacity c.args.v.now.list (take at.done commands)) at.v.capacity at.v.list command at.invariant.spare (c.in-Err.ensures.memory (search rules))),
     )
 
 pub returns-clause-replies : goal.returns-clause-replies

@@ -11,6 +11,8 @@ use Rattle.bit_addressing.proofs.lists.Put.{put_none}
 use Rattle.bit_addressing.proofs.lists.Sized.{room, sized_same}
 use Rattle.std.proofs.lemmas.Result.{err_from_is_err_and}
 use Rattle.bit_rows.proofs.growth.push_chunk_in_vec.Goals as goal
+use Rattle.bit_rows.proofs.growth.push_chunk_in_vec.Goals.{After-push_part, After-push_part-2}
+use Rattle.bit_rows.proofs.growth.push_chunk_in_vec.Given.{Over}
 use Rattle.bit_rows.proofs.growth.push_chunk_in_vec.Goals.{else-BITS-lt64-via-then-BITS-lt64+else-n-BITS, else-BITS-lt64-via-else-BITS-lt64}
 
 pub returns-then-n-eq0-clause-bits : goal.returns-then-n-eq0-clause-bits
@@ -199,3 +201,46 @@ returns-then-n-eq0-clause-room g c =
     let w = g.T.BitStore.BITS in
     let r = (room w c.args.end (width_positive w g.met.T.BitStore.width)).0 in
     rw c.requires.count (omega arith)
+
+-- where the bits begin a word, they take one word more
+one_more_even : (g : Over) (c : After-push_part g) → words_for g.T.BitStore.BITS (c.args.end + c.args.n) ≡ length c.args.words.now.items + 1
+one_more_even g c =
+    let w = g.T.BitStore.BITS in
+    let end = c.args.end in
+    let n = c.args.n in
+    let count = length c.args.words.now.items in
+    let small = width_small w g.met.T.BitStore.width in
+    let few : n ≤ w = elim c.else-BITS-lt64.branch [ else-BITS-lt64-via-then-BITS-lt64+else-n-BITS b ↦ omega arith | else-BITS-lt64-via-else-BITS-lt64 b ↦ omega arith ] in
+    let even : end % w ≡ 0 = ap (λ m. end % m) (sym c.BITS-width.ensures) ∙ c.if-low-eq0.true in
+    let full : w * count ≡ end = full_words w end count (width_positive w g.met.T.BitStore.width) c.requires.count even in
+    words_for_is w (end + n) count (width_positive w g.met.T.BitStore.width) (omega arith) (omega arith)
+
+-- where they pass the end of a word, they take one word more too
+one_more_odd : (g : Over) (c : After-push_part-2 g) → words_for g.T.BitStore.BITS (c.args.end + c.args.n) ≡ length c.args.words.now.items + 1
+one_more_odd g c =
+    let w = g.T.BitStore.BITS in
+    let small = width_small w g.met.T.BitStore.width in
+    let odd : c.args.end % w ≢ 0 = λ e. c.if-low-eq0.false (ap (λ m. c.args.end % m) c.BITS-width.ensures ∙ e) in
+    let few : c.args.n ≤ w = elim c.else-BITS-lt64.branch [ else-BITS-lt64-via-then-BITS-lt64+else-n-BITS b ↦ omega arith | else-BITS-lt64-via-else-BITS-lt64 b ↦ omega arith ] in
+    let over : w - c.args.end % w < c.args.n = rw c.BITS-width.ensures at (rw c.BITS-2.ensures at c.if-n-room.false) in
+    more_words w c.args.end c.args.n (length c.args.words.now.items) (width_positive w g.met.T.BitStore.width) c.requires.count odd over few
+
+pub returns-in_err-push_part-clause-no_memory : goal.returns-in_err-push_part-clause-no_memory
+returns-in_err-push_part-clause-no_memory g c h =
+    let next : words_for g.T.BitStore.BITS (c.args.end + c.args.n) ≡ length c.args.words.now.items + 1 = one_more_even g c.before.before.before in
+    c.push_part.ensures.no_memory (omega arith)
+
+pub returns-then-low-eq0-clause-no_memory : goal.returns-then-low-eq0-clause-no_memory
+returns-then-low-eq0-clause-no_memory g c h =
+    let next : words_for g.T.BitStore.BITS (c.args.end + c.args.n) ≡ length c.args.words.now.items + 1 = one_more_even g c.before.before in
+    c.push_part.ensures.no_memory (omega arith)
+
+pub returns-in_err-push_part-2-clause-no_memory : goal.returns-in_err-push_part-2-clause-no_memory
+returns-in_err-push_part-2-clause-no_memory g c h =
+    let next : words_for g.T.BitStore.BITS (c.args.end + c.args.n) ≡ length c.args.words.now.items + 1 = one_more_odd g c.before.before.before in
+    c.push_part-2.ensures.no_memory (omega arith)
+
+pub returns-clause-no_memory : goal.returns-clause-no_memory
+returns-clause-no_memory g c h =
+    let next : words_for g.T.BitStore.BITS (c.args.end + c.args.n) ≡ length c.args.words.now.items + 1 = one_more_odd g c.before.before.before.before in
+    c.write_in_word-2.ensures.capacity ∙ c.push_part-2.ensures.no_memory (omega arith)

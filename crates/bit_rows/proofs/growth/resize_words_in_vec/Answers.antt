@@ -1,10 +1,10 @@
-use Rattle.std.proofs.Common.{◌≡◌, ◌∙◌, ap, sym, ◌-◌, ◌*◌, [], ◌∷◌, ◌++◌, take, replicate, length, arith}
+use Rattle.std.proofs.Common.{◌≡◌, ◌∙◌, ap, sym, ◌-◌, ◌*◌, [], ◌∷◌, ◌++◌, ◌≤◌, take, replicate, length, arith}
 use Rattle.std.proofs.lemmas.List.{take_all}
 use Rattle.bit_addressing.specs.Row.{words_for}
 use Rattle.bit_addressing.specs.Typed.{row}
-use Rattle.bit_addressing.proofs.lists.Sized.{room, sized_same}
+use Rattle.bit_addressing.proofs.lists.Sized.{sized_same}
 use Rattle.bit_addressing.proofs.Rows.{width_positive}
-use Rattle.bit_addressing.proofs.Typed.{length_row, row_resized}
+use Rattle.bit_addressing.proofs.Typed.{length_row, row_kept, row_resized}
 use Rattle.bit_rows.proofs.growth.resize_words_in_vec.Goals as goal
 
 pub returns-then-count-old-clause-bits : goal.returns-then-count-old-clause-bits
@@ -13,6 +13,13 @@ returns-then-count-old-clause-bits g c =
     let items = c.args.words.now.items in
     let count : length items ≡ words_for w c.args.bits = sym c.args.words.now.ok.0 ∙ sym c.len-old.ensures ∙ sym c.if-count-old.true ∙ c.elts-count.ensures.value in
     sym (sized_same w (row g.T.BitStore g.O.BitOrder items) c.args.bits (length_row g.T.BitStore.value g.O.BitOrder.place w items ∙ ap (λ n. w * n) count))
+
+pub returns-then-count-old-2-clause-bits : goal.returns-then-count-old-2-clause-bits
+returns-then-count-old-2-clause-bits g c =
+    let items = c.args.words.now.items in
+    let count = c.elts-count.result in
+    ap (row g.T.BitStore g.O.BitOrder) (c.truncate.ensures.items)
+    ∙ row_kept g.T.BitStore.value g.O.BitOrder.place g.T.BitStore.BITS items c.args.bits count (width_positive _ g.met.T.BitStore.width) c.elts-count.ensures.value (omega (arith, c.len-old.ensures, c.args.words.now.ok.0, c.if-count-old-2.true))
 
 pub returns-then-count-old-eq1-clause-bits : goal.returns-then-count-old-eq1-clause-bits
 returns-then-count-old-eq1-clause-bits g c =
@@ -25,13 +32,10 @@ returns-then-count-old-eq1-clause-bits g c =
 
 pub returns-clause-bits : goal.returns-clause-bits
 returns-clause-bits g c =
-    let old = c.args.words.now in
+    let items = c.args.words.now.items in
     let count = c.elts-count.result in
     let blank : g.T.BitStore.value c.ZERO-2.result ≡ 0 = ap g.T.BitStore.value c.ZERO-2.ensures ∙ g.met.T.BitStore.zero_is in
-    ap (row g.T.BitStore g.O.BitOrder) (c.in_ok-resize.ensures.items ∙ ap (λ n. take count old.items ++ replicate (count - n) c.ZERO-2.result) old.ok.0)
-    ∙ row_resized g.T.BitStore.value g.O.BitOrder.place g.T.BitStore.BITS old.items c.ZERO-2.result c.args.bits count (width_positive _ g.met.T.BitStore.width) blank c.elts-count.ensures.value
-
-pub returns-clause-room : goal.returns-clause-room
-returns-clause-room g c =
-    let size : length c.resize.new.self.items ≡ words_for g.T.BitStore.BITS c.args.bits = sym c.resize.new.self.ok.0 ∙ c.in_ok-resize.ensures.len ∙ c.elts-count.ensures.value in
-    rw size ((room g.T.BitStore.BITS c.args.bits (width_positive _ g.met.T.BitStore.width)).0)
+    let old : c.len-old.result ≡ length items = c.len-old.ensures ∙ c.args.words.now.ok.0 in
+    let longer : length items ≤ count = omega (arith, old, c.if-count-old-2.false) in
+    ap (row g.T.BitStore g.O.BitOrder) (c.in_ok-push_words.ensures.items ∙ ap (λ xs. xs ++ replicate (count - c.len-old.result) c.ZERO-2.result) (sym (take_all count items longer)) ∙ ap (λ n. take count items ++ replicate (count - n) c.ZERO-2.result) old)
+    ∙ row_resized g.T.BitStore.value g.O.BitOrder.place g.T.BitStore.BITS items c.ZERO-2.result c.args.bits count (width_positive _ g.met.T.BitStore.width) blank c.elts-count.ensures.value

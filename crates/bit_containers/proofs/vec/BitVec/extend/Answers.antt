@@ -1,9 +1,9 @@
-use Rattle.std.proofs.Common.{◌≡◌, ◌++◌, length}
+use Rattle.std.proofs.Common.{◌≡◌, ◌+◌, ◌++◌, length}
 use Rattle.std.proofs.lemmas.Result.{on_ok_weaker}
 use Rattle.std.proofs.iter.runs.Consumers.{total_runs}
 use Rattle.bit_addressing.proofs.Rows.{width_positive}
 use Rattle.bit_containers.proofs.Clean.{clean_grown}
-use Rattle.bit_containers.proofs.Pulling.{never_refused}
+use Rattle.bit_containers.proofs.Pulling.{never_grown, never_refused}
 use Rattle.bit_containers.proofs.vec.BitVec.extend.Goals as goal
 
 pub returns-clause-runs : goal.returns-clause-runs
@@ -21,3 +21,7 @@ returns-clause-clean g c =
 pub returns-clause-fits : goal.returns-clause-fits
 returns-clause-fits g c =
     never_refused g.I.IntoIterator.into_iter_gives g.I.IntoIter.Iterator.next_gives c.args.iter (length c.args.self.now.list) c.args.self.now.capacity c.extend_by.result c.extend_by.ensures.too_long c.extend_by.ensures.memory
+
+pub returns-clause-no_memory : goal.returns-clause-no_memory
+returns-clause-no_memory g c =
+    never_grown g.I.IntoIterator.into_iter_gives g.I.IntoIter.Iterator.next_gives c.args.iter (λ bits. length c.args.self.now.list + length bits) c.args.self.now.capacity c.extend_by.new.self.capacity c.extend_by.ensures.capacity c.extend_by.ensures.grown

@@ -13,4 +13,5 @@ invariant-loop-bit g l = record {
   few : length l.self.list + l.most ≤ MAX_BITS;
   full : l.most < 64 → length l.self.list + l.most ≡ MAX_BITS;
   capacity : l.fn.self.capacity ≤ l.self.capacity;
+  grown : l.fn.self.capacity < l.self.capacity → l.fn.self.capacity < length l.self.list + l.got;
 }

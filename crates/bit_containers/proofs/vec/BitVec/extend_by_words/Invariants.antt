@@ -1,4 +1,4 @@
-use Rattle.std.proofs.Common.{◌≡◌, ◌++◌, ◌≤◌}
+use Rattle.std.proofs.Common.{◌≡◌, ◌++◌, ◌<◌, ◌≤◌, length}
 use Rattle.bit_addressing.specs.Typed.{row}
 use Rattle.bit_containers.specs.BitVec.{Grew}
 use Rattle.bit_containers.proofs.vec.BitVec.extend_by_words.Given as goal
@@ -10,4 +10,5 @@ invariant-loop-word g l = record {
   list : l.self.list ≡ l.fn.self.list ++ row g.T.BitStore g.O.BitOrder l.yielded;
   grew : Grew g.T.BitStore.BITS l.fn.self l.self (row g.T.BitStore g.O.BitOrder l.yielded);
   capacity : l.fn.self.capacity ≤ l.self.capacity;
+  grown : l.fn.self.capacity < l.self.capacity → l.fn.self.capacity < length l.self.list;
 }

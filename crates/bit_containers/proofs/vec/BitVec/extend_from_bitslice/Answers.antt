@@ -1,4 +1,4 @@
-use Rattle.std.proofs.Common.{◌≡◌, ◌+◌, ◌≤◌, length, sym, ◌∙◌, ap, arith, rules}
+use Rattle.std.proofs.Common.{◌≡◌, ◌+◌, ◌≤◌, length, sym, ◌∙◌, ap, subst, arith, rules}
 use Rattle.std.proofs.Common.{vec_capacity}
 use Rattle.std.proofs.lemmas.Result.{err_from_is_err_and}
 use Rattle.bit_addressing.specs.Row.{put, sized}
@@ -6,8 +6,9 @@ use Rattle.bit_addressing.specs.Typed.{row}
 use Rattle.bit_addressing.proofs.lists.Shown.{joined_shows, length-run}
 use Rattle.bit_addressing.proofs.Rows.{width_positive, width_small}
 use Rattle.bit_slice.proofs.Parts.{in_row}
-use Rattle.bit_slice.specs.BitSlice.{list_of}
-use Rattle.bit_containers.proofs.Vectors.{kept, shown, no_room_for}
+use Rattle.bit_slice.specs.BitSlice.{len_of, list_of}
+use Rattle.bit_containers.proofs.Vectors.{kept, shown, no_room_for, same_room}
+use Rattle.bit_containers.specs.BitVec.{bits_in}
 use Rattle.bit_containers.proofs.Clean.{clean_grown}
 use Rattle.bit_containers.proofs.Elements.{exactly, more_room}
 use Rattle.bit_containers.proofs.Growing.{grew_by}
@@ -72,3 +73,22 @@ invariant_of-self-2 g c =
     let i = c.self.inside in
     let count = c.copy_bits_in_vec.ensures.size ∙ c.in_ok-resize_words_in_vec.ensures.size in
     exactly g.T.BitStore g.O.BitOrder c.copy_bits_in_vec.new.words.items i.head (i.len + c.len-more.result) g.met.T.BitStore.width c.self.invariant.head_below (omega (arith, c.self.invariant.len_small, c.if-more-self.false)) count
+
+pub returns-in_err-resize_words_in_vec-clause-no_memory : goal.returns-in_err-resize_words_in_vec-clause-no_memory
+returns-in_err-resize_words_in_vec-clause-no_memory g c h =
+    let i = c.self.inside in
+    let w = g.T.BitStore.BITS in
+    let least : length i.words.items ≤ vec_capacity i.words = search rules in
+    let few = subst (λ v. length v.list + len_of c.args.view ≤ v.capacity) (sym c.self.view_is) h in
+    same_room w (length i.words.items) (vec_capacity i.words) (vec_capacity c.resize_words_in_vec.new.words) i.head i.len (i.len + c.len-more.result) (width_positive w g.met.T.BitStore.width) c.self.invariant least (omega arith) c.resize_words_in_vec.ensures.no_memory (omega (arith, few, c.self.invariant.shows, c.len-more.ensures.value))
+    ∙ ap (λ v. v.capacity) c.self.view_is
+
+pub returns-clause-no_memory : goal.returns-clause-no_memory
+returns-clause-no_memory g c h =
+    let i = c.self.inside in
+    let w = g.T.BitStore.BITS in
+    let least : length i.words.items ≤ vec_capacity i.words = search rules in
+    let few = subst (λ v. length v.list + len_of c.args.view ≤ v.capacity) (sym c.self.view_is) h in
+    ap (λ m. bits_in w m i.head) c.copy_bits_in_vec.ensures.capacity
+    ∙ same_room w (length i.words.items) (vec_capacity i.words) (vec_capacity c.resize_words_in_vec.new.words) i.head i.len (i.len + c.len-more.result) (width_positive w g.met.T.BitStore.width) c.self.invariant least (omega arith) c.resize_words_in_vec.ensures.no_memory (omega (arith, few, c.self.invariant.shows, c.len-more.ensures.value))
+    ∙ ap (λ v. v.capacity) c.self.view_is

@@ -1,11 +1,11 @@
-use Rattle.std.proofs.Common.{◌≡◌, ◌+◌, ◌<◌, ◌≤◌, ◌++◌, length, slice_range, sym, ◌∙◌, ap, subst, arith, rules}
+use Rattle.std.proofs.Common.{◌≡◌, ℕ, ◌+◌, ◌<◌, ◌≤◌, ◌++◌, length, slice_range, sym, ◌∙◌, ap, subst, arith, rules}
 use Rattle.std.proofs.Common.{vec_capacity}
 use Rattle.std.proofs.lemmas.Result.{err_from_is_err_and}
 use Rattle.bit_addressing.specs.Row.{put, sized, words_for, number_bits}
 use Rattle.bit_addressing.specs.Typed.{row}
 use Rattle.bit_addressing.proofs.lists.Shown.{grown_shows}
 use Rattle.bit_addressing.proofs.Rows.{width_positive}
-use Rattle.bit_containers.proofs.Vectors.{kept, shown, no_room_for, refilled}
+use Rattle.bit_containers.proofs.Vectors.{kept, shown, no_room_for, refilled, same_room}
 use Rattle.bit_rows.proofs.Binary.{length-number_bits}
 use Rattle.bit_containers.proofs.Growing.{grew_by}
 use Rattle.bit_containers.proofs.Elements.{exactly, more_room}
@@ -66,3 +66,25 @@ returns-in_err-push_chunk_in_vec-clause-capacity g c = rw (← c.self.view_is) (
 
 pub returns-clause-capacity : goal.returns-clause-capacity
 returns-clause-capacity g c = rw (← c.self.view_is) (more_room g.T.BitStore.BITS _ _ c.self.inside.head c.push_chunk_in_vec.ensures.capacity)
+
+pub returns-in_err-push_chunk_in_vec-clause-no_memory : goal.returns-in_err-push_chunk_in_vec-clause-no_memory
+returns-in_err-push_chunk_in_vec-clause-no_memory g c h =
+    let i = c.self.inside in
+    let w = g.T.BitStore.BITS in
+    let later : ℕ = vec_capacity c.push_chunk_in_vec.new.words in
+    let least : length i.words.items ≤ vec_capacity i.words = search rules in
+    let few = subst (λ v. length v.list + c.args.n ≤ v.capacity) (sym c.self.view_is) h in
+    let stays : words_for w (i.head + (i.len + c.args.n)) ≤ vec_capacity i.words → later ≡ vec_capacity i.words = subst (λ m. words_for w m ≤ vec_capacity i.words → later ≡ vec_capacity i.words) (omega arith) c.push_chunk_in_vec.ensures.no_memory in
+    same_room w (length i.words.items) (vec_capacity i.words) later i.head i.len (i.len + c.args.n) (width_positive w g.met.T.BitStore.width) c.self.invariant least (omega arith) stays (omega (arith, few, c.self.invariant.shows))
+    ∙ ap (λ v. v.capacity) c.self.view_is
+
+pub returns-clause-no_memory : goal.returns-clause-no_memory
+returns-clause-no_memory g c h =
+    let i = c.self.inside in
+    let w = g.T.BitStore.BITS in
+    let later : ℕ = vec_capacity c.push_chunk_in_vec.new.words in
+    let least : length i.words.items ≤ vec_capacity i.words = search rules in
+    let few = subst (λ v. length v.list + c.args.n ≤ v.capacity) (sym c.self.view_is) h in
+    let stays : words_for w (i.head + (i.len + c.args.n)) ≤ vec_capacity i.words → later ≡ vec_capacity i.words = subst (λ m. words_for w m ≤ vec_capacity i.words → later ≡ vec_capacity i.words) (omega arith) c.push_chunk_in_vec.ensures.no_memory in
+    same_room w (length i.words.items) (vec_capacity i.words) later i.head i.len (i.len + c.args.n) (width_positive w g.met.T.BitStore.width) c.self.invariant least (omega arith) stays (omega (arith, few, c.self.invariant.shows))
+    ∙ ap (λ v. v.capacity) c.self.view_is

@@ -1,11 +1,12 @@
-use Rattle.std.proofs.Common.{◌≡◌, ◌+◌, ◌-◌, ◌≤◌, ◌++◌, length, slice_range, sym, ◌∙◌, ap, arith, rules}
+use Rattle.std.proofs.Common.{◌≡◌, ◌+◌, ◌-◌, ◌≤◌, ◌++◌, length, slice_range, sym, ◌∙◌, ap, subst, arith, rules}
 use Rattle.std.proofs.Common.{vec_capacity}
 use Rattle.std.proofs.lemmas.Result.{err_from_is_err_and}
 use Rattle.bit_addressing.specs.Row.{put, sized, moved}
 use Rattle.bit_addressing.specs.Typed.{row}
 use Rattle.bit_addressing.proofs.lists.Shown.{length-between}
 use Rattle.bit_addressing.proofs.Rows.{width_positive}
-use Rattle.bit_containers.proofs.Vectors.{kept, shown, no_room_for, few_words_for}
+use Rattle.bit_containers.proofs.Vectors.{kept, shown, no_room_for, few_words_for, same_room}
+use Rattle.bit_containers.specs.BitVec.{bits_in}
 use Rattle.bit_containers.proofs.Clean.{clean_grown}
 use Rattle.bit_containers.proofs.Growing.{part_moved, part_joined, grew_by}
 use Rattle.bit_containers.proofs.Elements.{exactly, more_room}
@@ -97,3 +98,34 @@ invariant_of-self-2 g c =
     let i = c.self.inside in
     let count = c.move_bits_in_vec.ensures.size ∙ c.in_ok-resize_words_in_vec.ensures.size in
     exactly g.T.BitStore g.O.BitOrder c.move_bits_in_vec.new.words.items i.head (i.len + (c.normalize-range.result.end - c.normalize-range.result.start)) g.met.T.BitStore.width c.self.invariant.head_below (omega (arith, c.self.invariant.len_small, c.if-more-self.false)) count
+
+pub returns-in_err-resize_words_in_vec-clause-no_memory : goal.returns-in_err-resize_words_in_vec-clause-no_memory
+returns-in_err-resize_words_in_vec-clause-no_memory g c h =
+    let i = c.self.inside in
+    let w = g.T.BitStore.BITS in
+    let now = c.args.self.now in
+    let more = c.normalize-range.result.end - c.normalize-range.result.start in
+    let least : length i.words.items ≤ vec_capacity i.words = search rules in
+    let len : i.len ≡ length now.list = sym c.self.invariant.shows ∙ ap (λ v. length v.list) c.self.view_is in
+    let end : c.normalize-range.result.end ≡ g.R.RangeExt.end_of c.args.range (length now.list) = c.normalize-range.ensures.end ∙ ap (g.R.RangeExt.end_of c.args.range) len in
+    let start = c.normalize-range.ensures.start in
+    let wanted : length now.list + (g.R.RangeExt.end_of c.args.range (length now.list) - g.R.RangeExt.start_of c.args.range) ≡ i.len + more = omega arith in
+    let few = subst (λ n. n ≤ bits_in w (vec_capacity i.words) i.head) wanted (subst (λ v. length now.list + (g.R.RangeExt.end_of c.args.range (length now.list) - g.R.RangeExt.start_of c.args.range) ≤ v.capacity) (sym c.self.view_is) h) in
+    same_room w (length i.words.items) (vec_capacity i.words) (vec_capacity c.resize_words_in_vec.new.words) i.head i.len (i.len + more) (width_positive w g.met.T.BitStore.width) c.self.invariant least (omega arith) c.resize_words_in_vec.ensures.no_memory few
+    ∙ ap (λ v. v.capacity) c.self.view_is
+
+pub returns-clause-no_memory : goal.returns-clause-no_memory
+returns-clause-no_memory g c h =
+    let i = c.self.inside in
+    let w = g.T.BitStore.BITS in
+    let now = c.args.self.now in
+    let more = c.normalize-range.result.end - c.normalize-range.result.start in
+    let least : length i.words.items ≤ vec_capacity i.words = search rules in
+    let len : i.len ≡ length now.list = sym c.self.invariant.shows ∙ ap (λ v. length v.list) c.self.view_is in
+    let end : c.normalize-range.result.end ≡ g.R.RangeExt.end_of c.args.range (length now.list) = c.normalize-range.ensures.end ∙ ap (g.R.RangeExt.end_of c.args.range) len in
+    let start = c.normalize-range.ensures.start in
+    let wanted : length now.list + (g.R.RangeExt.end_of c.args.range (length now.list) - g.R.RangeExt.start_of c.args.range) ≡ i.len + more = omega arith in
+    let few = subst (λ n. n ≤ bits_in w (vec_capacity i.words) i.head) wanted (subst (λ v. length now.list + (g.R.RangeExt.end_of c.args.range (length now.list) - g.R.RangeExt.start_of c.args.range) ≤ v.capacity) (sym c.self.view_is) h) in
+    ap (λ m. bits_in w m i.head) c.move_bits_in_vec.ensures.capacity
+    ∙ same_room w (length i.words.items) (vec_capacity i.words) (vec_capacity c.resize_words_in_vec.new.words) i.head i.len (i.len + more) (width_positive w g.met.T.BitStore.width) c.self.invariant least (omega arith) c.resize_words_in_vec.ensures.no_memory few
+    ∙ ap (λ v. v.capacity) c.self.view_is

@@ -1,9 +1,10 @@
-use Rattle.std.proofs.Common.{◌≡◌, ◌++◌}
+use Rattle.std.proofs.Common.{◌≡◌, ◌+◌, ◌*◌, ◌++◌, length}
 use Rattle.std.proofs.lemmas.Result.{on_ok_weaker}
 use Rattle.std.proofs.iter.runs.Consumers.{total_runs}
 use Rattle.bit_addressing.specs.Typed.{row}
 use Rattle.bit_addressing.proofs.Rows.{width_positive}
 use Rattle.bit_containers.proofs.Clean.{clean_grown}
+use Rattle.bit_containers.proofs.Pulling.{never_grown}
 use Rattle.bit_containers.proofs.vec.BitVec.extend_words.Goals as goal
 
 pub returns-clause-runs : goal.returns-clause-runs
@@ -17,3 +18,7 @@ returns-clause-clean g c =
     on_ok_weaker c.extend_by_words.result
     (λ h clean. clean_grown g.T.BitStore.BITS c.args.self.now _ (row g.T.BitStore g.O.BitOrder h.1) (width_positive g.T.BitStore.BITS g.met.T.BitStore.width) h.4.1.head h.4.0 h.4.1.row clean)
     c.extend_by_words.ensures.joined
+
+pub returns-clause-no_memory : goal.returns-clause-no_memory
+returns-clause-no_memory g c =
+    never_grown g.I.IntoIterator.into_iter_gives g.I.IntoIter.Iterator.next_gives c.args.iter (λ words. length c.args.self.now.list + g.T.BitStore.BITS * length words) c.args.self.now.capacity c.extend_by_words.new.self.capacity c.extend_by_words.ensures.capacity c.extend_by_words.ensures.grown

@@ -1,4 +1,4 @@
-use Rattle.std.proofs.Common.{◌≡◌, ◌+◌, ◌-◌, ◌≤◌, ◌++◌, length, replicate, take, sym, ◌∙◌, ap, arith, rules}
+use Rattle.std.proofs.Common.{◌≡◌, ◌+◌, ◌-◌, ◌≤◌, ◌++◌, length, replicate, take, sym, ◌∙◌, ap, subst, arith, rules}
 use Rattle.std.proofs.Common.{vec_capacity}
 use Rattle.std.proofs.lemmas.List.{length-replicate, take_all}
 use Rattle.std.proofs.lemmas.Result.{err_from_is_err_and}
@@ -7,7 +7,7 @@ use Rattle.bit_addressing.specs.Typed.{row}
 use Rattle.bit_addressing.proofs.lists.Shown.{resized_shows}
 use Rattle.bit_addressing.proofs.Rows.{width_positive}
 use Rattle.bit_slice.proofs.Parts.{shown_length}
-use Rattle.bit_containers.proofs.Vectors.{kept, shown, no_room_for}
+use Rattle.bit_containers.proofs.Vectors.{kept, shown, no_room_for, same_room}
 use Rattle.bit_containers.proofs.Clean.{clean_grown}
 use Rattle.bit_containers.proofs.Elements.{exactly, more_room}
 use Rattle.bit_containers.proofs.vec.BitVec.resize.Goals as goal
@@ -76,3 +76,21 @@ invariant_of-self-2 g c = exactly g.T.BitStore g.O.BitOrder c.append_run_in_vec.
 
 pub returns-clause-len : goal.returns-clause-len
 returns-clause-len g c = shown_length g.T.BitStore g.O.BitOrder c.append_run_in_vec.new.words.items c.self.inside.head c.args.n c.in_ok-append_run_in_vec.ensures.room
+
+pub returns-in_err-append_run_in_vec-clause-no_memory : goal.returns-in_err-append_run_in_vec-clause-no_memory
+returns-in_err-append_run_in_vec-clause-no_memory g c h =
+    let i = c.self.inside in
+    let w = g.T.BitStore.BITS in
+    let least : length i.words.items ≤ vec_capacity i.words = search rules in
+    let few = subst (λ v. c.args.n ≤ v.capacity) (sym c.self.view_is) h in
+    same_room w (length i.words.items) (vec_capacity i.words) (vec_capacity c.append_run_in_vec.new.words) i.head i.len (c.args.n) (width_positive w g.met.T.BitStore.width) c.self.invariant least (omega arith) c.append_run_in_vec.ensures.no_memory (omega (arith, few))
+    ∙ ap (λ v. v.capacity) c.self.view_is
+
+pub returns-clause-no_memory : goal.returns-clause-no_memory
+returns-clause-no_memory g c h =
+    let i = c.self.inside in
+    let w = g.T.BitStore.BITS in
+    let least : length i.words.items ≤ vec_capacity i.words = search rules in
+    let few = subst (λ v. c.args.n ≤ v.capacity) (sym c.self.view_is) h in
+    same_room w (length i.words.items) (vec_capacity i.words) (vec_capacity c.append_run_in_vec.new.words) i.head i.len (c.args.n) (width_positive w g.met.T.BitStore.width) c.self.invariant least (omega arith) c.append_run_in_vec.ensures.no_memory (omega (arith, few))
+    ∙ ap (λ v. v.capacity) c.self.view_is

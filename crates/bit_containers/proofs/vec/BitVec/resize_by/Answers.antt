@@ -1,4 +1,4 @@
-use Rattle.std.proofs.Common.{◌∷◌, [], ◌++◌, length, refl, sym, ap, ◌∙◌, arith, append_assoc, length-append, append-nil, of_calls}
+use Rattle.std.proofs.Common.{◌∷◌, [], ◌++◌, length, refl, sym, ap, ◌∙◌, arith, append_assoc, length-append, append-nil}
 use Rattle.std.proofs.lemmas.List.{length_push}
 use Rattle.bit_addressing.proofs.Rows.{width_positive}
 use Rattle.bit_containers.proofs.Calling.{results_more, grew_kept}
@@ -11,11 +11,11 @@ loop-index-init g c =
     let same = c.in_ok-reserve.ensures.kept in
     let long = ap length same.list in
     record {
-      callable = c.requires;
       room = omega (arith, c.in_ok-reserve.ensures.room, c.len-len.ensures.value, c.if-n-len.false);
       few = omega (arith, c.in_ok-reserve.ensures.fits, c.len-len.ensures.value, c.if-n-len.false);
       size = omega (arith, c.len-len.ensures.value);
       capacity = c.reserve.ensures.capacity;
+      no_memory = λ h. c.reserve.ensures.no_memory (omega (arith, h, c.len-len.ensures.value, c.if-n-len.false));
       joined = ([], refl, same.list ∙ sym (append-nil now.list), grew_kept g.T.BitStore.BITS now c.reserve.new.self c.in_words.ensures.size same);
     }
 
@@ -30,11 +30,11 @@ loop-index-preserved g c =
     let long = ap length put.list ∙ length_push at.self.list bit in
     let whole = ap length run.2 ∙ length-append now.list run.0 in
     record {
-      callable = search of_calls;
       room = omega (arith, at.invariant.room, put.capacity);
       few = at.invariant.few;
       size = omega (arith, at.invariant.size);
       capacity = omega (arith, at.invariant.capacity, put.capacity);
+      no_memory = λ h. put.capacity ∙ at.invariant.no_memory h;
       joined = (
         run.0 ++ bit ∷ [],
         results_more (goal.F-step g) _ _ run.0 at.f at.index bit _ run.1 c.f-bit.ensures (omega (arith, at.invariant.size)),
@@ -42,3 +42,10 @@ loop-index-preserved g c =
         grew_twice w now at.self c.push_reserved.new.self run.0 (bit ∷ []) (width_positive w g.met.T.BitStore.width) c.in_words.ensures.size run.3 put.row,
       );
     }
+
+pub f-bit-requires : goal.f-bit-requires
+f-bit-requires g c =
+    let at = c.loop-index in
+    let run = at.invariant.joined in
+    let whole = ap length run.2 ∙ length-append c.args.self.now.list run.0 in
+    (c.requires at.invariant.few).at run.0 at.f at.index (omega (arith, whole, at.invariant.size)) c.loop-index-test.true run.1

@@ -4,7 +4,6 @@ use Rattle.bit_containers.proofs.vec.BitVec.retain_by.Given as goal
 
 abbrev pub invariant-loop-index : goal.invariant-loop-index
 invariant-loop-index g l = record {
-  callable : goal.F-IsAlwaysCallable g l.f;
   head : l.self.head ≡ l.fn.self.head;
   capacity : l.self.capacity ≡ l.fn.self.capacity;
   retains : RetainsUpTo (goal.F-step g) l.fn.f l.fn.self.list l.f l.self.list l.count l.number l.index;

@@ -5,7 +5,7 @@ ghost use Rattle.bit_addressing.specs.Typed.{row, words_for_list};
 
 use crate::sized::{BitViewSized, BitWords};
 use bit_addressing::{BitOrder, BitStore, Lsb0, MAX_BITS};
-use bit_rows::exact_words;
+use bit_rows::prove_exact_words;
 use std::marker::{Model, PhantomData};
 
 mod iter;
@@ -93,7 +93,7 @@ impl<A: BitWords, O: BitOrder> BitArray<A, O> {
         ensures value { result ≡ inner }
         ensures len { length (row A.Store.BitStore O.BitOrder (A.words result)) ≡ A.Store.BITS * A.count }
     {
-        exact_words::<A::Store, O>(inner.as_raw_slice());
+        prove_exact_words::<A::Store, O>(inner.as_raw_slice());
         BitArray {
             inner,
             order: PhantomData,

@@ -12,7 +12,7 @@ ghost use Rattle.bit_slice.specs.Pulls.{GivesAll, GivesFirst, RunsThrough};
 use bit_addressing::{BitOrder, BitStore, GrowError, Lsb0, MAX_BITS};
 use bit_array::{BitArray, BitWords};
 use bit_rows::{
-    copy_bits_in_vec, exact_words, fill_outside_in_vec, move_bits_in_vec, push_bit_in_vec,
+    copy_bits_in_vec, prove_exact_words, fill_outside_in_vec, move_bits_in_vec, push_bit_in_vec,
     resize_words_in_vec,
 };
 use bit_slice::BitSlice;
@@ -333,7 +333,7 @@ impl<T: BitStore, O: BitOrder> BitBox<T, O> {
         ensures row { row T.BitStore O.BitOrder (boxed_slice_items result) ≡ self.row }
         ensures from_row { boxed_slice_items result ≡ words_from T.BitStore O.BitOrder self.row }
     {
-        exact_words::<T, O>(self.words.as_slice());
+        prove_exact_words::<T, O>(self.words.as_slice());
         self.words.into_boxed_slice()
     }
 

@@ -25,8 +25,8 @@ mul_one_more : (w n : ℕ) → w * (n + 1) ≡ w * n + w
 mul_one_more w n = grind arith
 
 -- the indices up to the list's end are in the words
-pub in_words : (w n head len size : ℕ) → IsWidth w → IsVector w n head len size → head + len ≤ w * n
-in_words w n head len size width v = v.fits
+pub prove_in_words : (w n head len size : ℕ) → IsWidth w → IsVector w n head len size → head + len ≤ w * n
+prove_in_words w n head len size width v = v.fits
 
 pub shown : {X Y : Type 0} {size : ℕ} (W : store.Ghosts X) (P : order.Ghosts Y) (ws : List X) (head len : ℕ) → IsWidth W.BITS → IsVector W.BITS (length ws) head len size → head + len ≤ length (row W P ws)
 shown W P ws head len width v = in_row W P ws (head + len) v.fits

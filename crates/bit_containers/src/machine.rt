@@ -180,7 +180,7 @@ fn splice_at<T: BitStore, O: BitOrder>(
     ensures unchanged { OnErr result (v.new.list ≡ v.old.list) }
     ensures why { IfErr result (λ why. IsRefusal v.old.list (Command.Splice from upto bit n) why) }
 {
-    v.in_words();
+    v.prove_in_words();
     if from <= upto && upto <= v.len() {
         v.replace_by(from, upto, bit, n)?;
         Ok(Reply::Done)
@@ -200,7 +200,7 @@ fn split_at<T: BitStore, O: BitOrder>(v: &mut BitVec<T, O>, at: usize) -> Result
     ensures why { IfErr result (λ why. IsRefusal v.old.list (Command.SplitOff at) why) }
     ensures fits { OnOk result (new_length v.old.list (Command.SplitOff at) ≤ MAX_BITS) }
 {
-    v.in_words();
+    v.prove_in_words();
     if at <= v.len() {
         let rest = v.split_off(at)?;
         Ok(Reply::Number(rest.len()))
@@ -225,7 +225,7 @@ fn extend_at<T: BitStore, O: BitOrder>(
     ensures unchanged { OnErr result (v.new.list ≡ v.old.list) }
     ensures why { IfErr result (λ why. IsRefusal v.old.list (Command.ExtendWithin from upto) why) }
 {
-    v.in_words();
+    v.prove_in_words();
     if from <= upto && upto <= v.len() {
         v.extend_from_within(from..upto)?;
         Ok(Reply::Done)
@@ -249,7 +249,7 @@ fn resize_to<T: BitStore, O: BitOrder>(
     ensures unchanged { OnErr result (v.new.list ≡ v.old.list) }
     ensures why { IfErr result (λ why. IsRefusal v.old.list (Command.Resize n bit) why) }
 {
-    v.in_words();
+    v.prove_in_words();
     v.resize(n, bit)?;
     Ok(Reply::Done)
 }
@@ -268,7 +268,7 @@ fn reserve_for<T: BitStore, O: BitOrder>(
     ensures fits { OnOk result (length v.old.list + more ≤ MAX_BITS) }
     ensures why { IfErr result (λ why. IsRefusal v.old.list (Command.Reserve more) why) }
 {
-    v.in_words();
+    v.prove_in_words();
     v.reserve(more)?;
     Ok(Reply::Done)
 }
@@ -394,7 +394,7 @@ pub fn run<T: BitStore, O: BitOrder>(
     for (done, command) in commands.iter().enumerate() {
         match step(v, *command) {
             Ok(reply) => {
-                v.in_words();
+                v.prove_in_words();
                 replies.push_reserved(reply);
             }
             Err(why) => return Err(Stop { done, why }),

@@ -8,7 +8,7 @@ ghost use Rattle.bit_slice.specs.BitSlice.{words_of, head_of, len_of, row_of, li
 
 use bit_addressing::{BitOrder, BitStore, GrowError, Lsb0, MAX_BITS, elts};
 use bit_rows::{
-    append_run_in_vec, cut_words_in_vec, exact_words, fill_outside_in_vec, move_bits_in_vec,
+    append_run_in_vec, cut_words_in_vec, fill_outside_in_vec, move_bits_in_vec, prove_exact_words,
 };
 use bit_slice::BitSlice;
 use std::alloc::{AllocError, Global};
@@ -364,7 +364,7 @@ impl<T: BitStore, O: BitOrder> BitVec<T, O> {
             (self.head + length self.list) ≡ self.list }
         ensures capacity { bits_in T.BITS (vec_capacity result) self.head ≡ self.capacity }
     {
-        exact_words::<T, O>(self.words.as_slice());
+        prove_exact_words::<T, O>(self.words.as_slice());
         self.words
     }
 

@@ -6,7 +6,7 @@ ghost use Rattle.bit_addressing.specs.Typed.{row, words_from};
 use bit_addressing::{BitEnd, BitIdx, BitOrder, BitStore, Span, blend, repeated};
 
 /// Does nothing: words are those of their row.
-pub fn exact_words<T: BitStore, O: BitOrder>(words: &[T])
+pub fn prove_exact_words<T: BitStore, O: BitOrder>(words: &[T])
     ensures { words.now ≡ words_from T.BitStore O.BitOrder (row T.BitStore O.BitOrder words.now) }
 {
     T::are_words(words);
@@ -116,7 +116,7 @@ pub fn fill_outside<T: BitStore, O: BitOrder>(words: &mut [T], head: usize, len:
 }
 
 /// Flips every bit of the row.
-pub fn flip_bits<T: BitStore, O: BitOrder>(words: &mut [T])
+pub fn flip_words<T: BitStore, O: BitOrder>(words: &mut [T])
     ensures bits { row T.BitStore O.BitOrder words.new ≡ map not (row T.BitStore O.BitOrder words.old) }
     ensures size { length words.new ≡ length words.old }
 {

@@ -1,12 +1,12 @@
 //! The calls on words that lie in a vector, which keeps its capacity.
-ghost use Rattle.std.specs.Prelude.{◌≡◌, ◌+◌, ◌-◌, ◌*◌, ◌%◌, ◌^◌, ◌<◌, ◌≤◌, not, map, length, replicate, slice_range, set, swap, vec_capacity};
+ghost use Rattle.std.specs.Prelude.{◌≡◌, ◌+◌, ◌-◌, ◌*◌, ◌%◌, ◌^◌, ◌<◌, ◌≤◌, length, replicate, slice_range, set, vec_capacity};
 ghost use Rattle.bit_addressing.specs.Row.{binary, filled, moved, number_bits, put, touched};
 ghost use Rattle.bit_addressing.specs.declared.length.TheConstants.{MAX_BITS};
 ghost use Rattle.bit_addressing.specs.Typed.{row};
 
 use crate::chunks::{write_binary, write_chunk};
 use crate::copies::copy_bits;
-use crate::single::{fill_bits, fill_outside, flip_bits, swap_bits, write_bit};
+use crate::single::{fill_bits, fill_outside, write_bit};
 use bit_addressing::{BitEnd, BitIdx, BitOrder, BitStore, Meter, move_bits, move_bits_counted};
 
 /// Like `write_bit`, in the words of a vector.
@@ -19,19 +19,8 @@ pub fn write_bit_in_vec<T: BitStore, O: BitOrder>(words: &mut Vec<T>, at: usize,
     write_bit::<T, O>(words.as_mut_slice(), at, bit);
 }
 
-/// Like `swap_bits`, in the words of a vector.
-pub fn swap_bits_in_vec<T: BitStore, O: BitOrder>(words: &mut Vec<T>, i: usize, j: usize)
-    requires first { i < T.BITS * length words.old.items }
-    requires second { j < T.BITS * length words.old.items }
-    ensures bits { row T.BitStore O.BitOrder words.new.items ≡ swap (row T.BitStore O.BitOrder words.old.items) i j }
-    ensures size { length words.new.items ≡ length words.old.items }
-    ensures capacity { vec_capacity words.new ≡ vec_capacity words.old }
-{
-    swap_bits::<T, O>(words.as_mut_slice(), i, j);
-}
-
 /// Like `fill_bits`, in the words of a vector.
-pub fn fill_bits_in_vec<T: BitStore, O: BitOrder>(
+pub(crate) fn fill_bits_in_vec<T: BitStore, O: BitOrder>(
     words: &mut Vec<T>,
     from: usize,
     upto: usize,
@@ -62,15 +51,6 @@ pub fn fill_outside_in_vec<T: BitStore, O: BitOrder>(
     ensures capacity { vec_capacity words.new ≡ vec_capacity words.old }
 {
     fill_outside::<T, O>(words.as_mut_slice(), head, len, bit);
-}
-
-/// Like `flip_bits`, in the words of a vector.
-pub fn flip_bits_in_vec<T: BitStore, O: BitOrder>(words: &mut Vec<T>)
-    ensures bits { row T.BitStore O.BitOrder words.new.items ≡ map not (row T.BitStore O.BitOrder words.old.items) }
-    ensures size { length words.new.items ≡ length words.old.items }
-    ensures capacity { vec_capacity words.new ≡ vec_capacity words.old }
-{
-    flip_bits::<T, O>(words.as_mut_slice());
 }
 
 /// Like `copy_bits`, into the words of a vector.

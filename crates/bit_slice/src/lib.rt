@@ -19,13 +19,12 @@ mod texts;
 pub use counted::Counted;
 pub use counted_mut::CountedMut;
 pub use edits::{
-    AndNot, combine_within, flip_words, reverse_words, rotate_words, shift_words_left,
-    shift_words_right,
+    AndNot, combine_within, flip_bits, reverse_bits, rotate_bits, shift_bits_left, shift_bits_right,
 };
 pub use iter::Iter;
 pub use lists::BitList;
 pub use lists_mut::{BitListMut, flip_row};
-pub use ops::{combine_words, order_of_bits};
+pub use ops::{combine_view, order_of_bits};
 pub use run::{run_mut, split_run_mut};
 pub use slice::BitSlice;
 pub use slice::chunks::{Chunks, ChunksExact, RChunks, Windows};

@@ -22,7 +22,7 @@ use crate::over::{
 use crate::slice::BitSlice;
 use crate::slice_mut::BitSliceMut;
 use bit_addressing::{BitOrder, BitStore, Meter, RangeExt};
-use bit_rows::{And, BitOperator, Or, Xor, flip_bits};
+use bit_rows::{And, BitOperator, Or, Xor, flip_words};
 
 /// A list of bits that is written: a view for writing, an array, a box or a vector.
 pub trait BitListMut: BitList {
@@ -765,7 +765,7 @@ pub fn flip_row<B: BitListMut>(bits: &mut B)
     ensures row { B.bits bits.new ≡ map not (B.bits bits.old) }
     ensures stays { Stays B.head B.len B.count B.capacity B.loan bits.old bits.new }
 {
-    flip_bits::<B::Store, B::Order>(bits.as_raw_mut_slice());
+    flip_words::<B::Store, B::Order>(bits.as_raw_mut_slice());
 }
 
 impl<'a, T: BitStore, O: BitOrder> BitListMut for BitSliceMut<'a, T, O> {

@@ -76,7 +76,7 @@ pub fn order_of_bits()
 /// Combines each of the `len` bits of the words' row from `head` on, by `F`, with the bit of `other` for it, or
 /// with false past the end of `other`. The first bit of `other` is for the first of the run. No other bit
 /// changes. Requires that the run lies in the words.
-pub fn combine_words<F: BitOperator, T: BitStore, O: BitOrder, U: BitStore, P: BitOrder>(
+pub fn combine_view<F: BitOperator, T: BitStore, O: BitOrder, U: BitStore, P: BitOrder>(
     words: &mut [T],
     head: usize,
     len: usize,

@@ -11,9 +11,9 @@ ghost use Rattle.bit_slice.specs.Overwritten.{list_in, IsMovedWithin, IsRewritte
 ghost use Rattle.bit_slice.specs.Operators.{combined, part_onto};
 
 use crate::edits::{
-    combine_within, flip_words, reverse_words, rotate_words, shift_words_left, shift_words_right,
+    combine_within, flip_bits, reverse_bits, rotate_bits, shift_bits_left, shift_bits_right,
 };
-use crate::ops::combine_words;
+use crate::ops::combine_view;
 use crate::slice::BitSlice;
 use bit_addressing::{BitOrder, BitStore, Meter, RangeExt, move_bits_counted};
 use bit_rows::{
@@ -105,7 +105,7 @@ pub fn flip_range_over<T: BitStore, O: BitOrder, R: RangeExt>(
         (R.end_of range len))) }
 {
     let range = range.normalize(len);
-    flip_words::<T, O>(words, head + range.start, head + range.end);
+    flip_bits::<T, O>(words, head + range.start, head + range.end);
 }
 
 /// Writes the bits of a view, with any word type and order, at the indices of a range of the list.
@@ -150,7 +150,7 @@ pub fn combine_range_over<
 {
     let range = range.normalize(len);
     let count = range.end - range.start;
-    combine_words::<F, T, O, U, P>(words, head + range.start, count, other);
+    combine_view::<F, T, O, U, P>(words, head + range.start, count, other);
 }
 
 /// Reverses the list.
@@ -160,7 +160,7 @@ pub fn reverse_over<T: BitStore, O: BitOrder>(words: &mut [T], head: usize, len:
     ensures { IsRewritten T.BitStore O.BitOrder words.old words.new head len
         (reverse (list_in T.BitStore O.BitOrder words.old head len)) }
 {
-    reverse_words::<T, O>(words, head, len);
+    reverse_bits::<T, O>(words, head, len);
 }
 
 /// Moves the first `by` bits of the list after the others. Requires that `by` is at most the length.
@@ -172,7 +172,7 @@ pub fn rotate_over<T: BitStore, O: BitOrder>(words: &mut [T], head: usize, len: 
         (drop by (list_in T.BitStore O.BitOrder words.old head len)
         ++ take by (list_in T.BitStore O.BitOrder words.old head len)) }
 {
-    rotate_words::<T, O>(words, head, len, by);
+    rotate_bits::<T, O>(words, head, len, by);
 }
 
 /// Moves each bit of the list by `by` indices towards the front. The first `by` bits are dropped, and the
@@ -189,7 +189,7 @@ pub fn shift_left_over<T: BitStore, O: BitOrder>(
     ensures { IsRewritten T.BitStore O.BitOrder words.old words.new head len
         (drop by (list_in T.BitStore O.BitOrder words.old head len) ++ replicate by false) }
 {
-    shift_words_left::<T, O>(words, head, len, by);
+    shift_bits_left::<T, O>(words, head, len, by);
 }
 
 /// Moves each bit of the list by `by` indices towards the end. The last `by` bits are dropped, and the
@@ -206,7 +206,7 @@ pub fn shift_right_over<T: BitStore, O: BitOrder>(
     ensures { IsRewritten T.BitStore O.BitOrder words.old words.new head len
         (replicate by false ++ take (len - by) (list_in T.BitStore O.BitOrder words.old head len)) }
 {
-    shift_words_right::<T, O>(words, head, len, by);
+    shift_bits_right::<T, O>(words, head, len, by);
 }
 
 /// Combines each bit of the list at `dest + k`, by `F`, with bit `k` of a range of the list, as if the range
@@ -277,7 +277,7 @@ pub fn combine_over<F: BitOperator, T: BitStore, O: BitOrder, U: BitStore, P: Bi
     ensures { IsRewritten T.BitStore O.BitOrder words.old words.new head len
         (combined F.made (list_in T.BitStore O.BitOrder words.old head len) (list_seen other.entry)) }
 {
-    combine_words::<F, T, O, U, P>(words, head, len, other);
+    combine_view::<F, T, O, U, P>(words, head, len, other);
 }
 
 /// Writes the bit at index `i` of the list, and no other bit. Requires that `i` is below the length.

@@ -11,9 +11,9 @@ ghost use Rattle.bit_slice.specs.Fits.{IsView};
 
 pub(crate) mod chunks;
 mod fields;
-mod find;
 pub(crate) mod indices;
 mod parts;
+mod pattern;
 mod search;
 mod sets;
 mod traits;
@@ -21,7 +21,7 @@ mod traits;
 use crate::counted::Counted;
 use crate::iter::Iter;
 use bit_addressing::{BitOrder, BitStore, GrowError, MAX_BITS, RangeExt, elts};
-use bit_rows::{count_bits, exact_words, find_bit, read_bit};
+use bit_rows::{count_bits, find_bit, prove_exact_words, read_bit};
 use std::alloc::AllocError;
 use std::marker::PhantomData;
 use std::ops::Index;
@@ -136,7 +136,7 @@ impl<'a, T: BitStore, O: BitOrder> BitSlice<'a, T, O> {
         ensures exact { length result.now ≡ words_for T.BITS (head_of self.entry + len_of self.entry) }
         ensures from_row { result.now ≡ words_from T.BitStore O.BitOrder (row_of self.entry) }
     {
-        exact_words::<T, O>(self.words);
+        prove_exact_words::<T, O>(self.words);
         self.words
     }
 

@@ -13,12 +13,12 @@ ghost use Rattle.bit_slice.specs.Lists.{BecomesWhole};
 mod parts;
 
 use crate::counted_mut::CountedMut;
-use crate::edits::flip_words;
+use crate::edits::flip_bits;
 use crate::iter::Iter;
 use crate::lists_mut::BitListMut;
 use crate::slice::BitSlice;
 use bit_addressing::{BitOrder, BitStore, RangeExt};
-use bit_rows::exact_words;
+use bit_rows::prove_exact_words;
 use std::marker::PhantomData;
 use std::ops::Index;
 
@@ -120,7 +120,7 @@ impl<'a, T: BitStore, O: BitOrder> BitSliceMut<'a, T, O> {
         ensures exact { length result.now ≡ words_for T.BITS (head_of self.now + len_of self.now) }
         ensures from_row { result.now ≡ words_from T.BitStore O.BitOrder (row_of self.now) }
     {
-        exact_words::<T, O>(self.words);
+        prove_exact_words::<T, O>(self.words);
         self.words
     }
 
@@ -314,7 +314,7 @@ impl<'a, T: BitStore, O: BitOrder> BitSliceMut<'a, T, O> {
             (map not (list_of self.old)) }
         ensures stays { Stays self.old self.new }
     {
-        flip_words::<T, O>(self.words, self.head, self.head + self.len);
+        flip_bits::<T, O>(self.words, self.head, self.head + self.len);
     }
 }
 

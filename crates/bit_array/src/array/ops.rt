@@ -6,7 +6,7 @@ ghost use Rattle.bit_slice.specs.Operators.{and_of, or_of, xor_of, AndsEach, Ors
 use crate::array::BitArray;
 use crate::sized::{BitViewSized, BitWords};
 use bit_addressing::BitOrder;
-use bit_rows::flip_bits;
+use bit_rows::flip_words;
 use bit_slice::BitListMut;
 use std::ops::{BitAnd, BitAndAssign, BitOr, BitOrAssign, BitXor, BitXorAssign, Index, Not};
 
@@ -23,7 +23,7 @@ impl<A: BitViewSized, O: BitOrder> BitArray<A, O> {
         ensures index { FlipsEach (row A.Store.BitStore O.BitOrder (A.words self.old))
             (row A.Store.BitStore O.BitOrder (A.words self.new)) }
     {
-        flip_bits::<A::Store, O>(self.inner.as_raw_mut_slice());
+        flip_words::<A::Store, O>(self.inner.as_raw_mut_slice());
     }
 }
 

@@ -13,7 +13,7 @@ ghost use Rattle.bit_array.specs.contracts.array.BitArray.{the_row};
 use crate::array::BitArray;
 use crate::sized::{BitViewSized, BitWords};
 use bit_addressing::{BitOrder, BitStore};
-use bit_rows::exact_words;
+use bit_rows::prove_exact_words;
 use bit_slice::{BitSlice, BitSliceMut, run_mut};
 
 impl<A: BitWords, O: BitOrder> BitArray<A, O> {
@@ -61,7 +61,7 @@ impl<A: BitWords, O: BitOrder> BitArray<A, O> {
             (row A.Store.BitStore O.BitOrder (A.words self.now)) }
     {
         let words = self.inner.as_raw_slice();
-        exact_words::<A::Store, O>(words);
+        prove_exact_words::<A::Store, O>(words);
         words
     }
 }

@@ -10,7 +10,7 @@ ghost use Rattle.bit_boxed.specs.Lends.{lends_words, lends_view, lends_run};
 
 use crate::boxed::BitBox;
 use bit_addressing::{BitOrder, BitStore, elts};
-use bit_rows::exact_words;
+use bit_rows::prove_exact_words;
 use bit_slice::{BitSlice, BitSliceMut};
 
 impl<T: BitStore, O: BitOrder> BitBox<T, O> {
@@ -103,7 +103,7 @@ impl<T: BitStore, O: BitOrder> BitBox<T, O> {
         ensures shows { slice_range self.now.row self.now.head (self.now.head + length self.now.list) ≡ self.now.list }
         ensures fits { self.now.head + length self.now.list ≤ T.BITS * length self.now.words }
     {
-        exact_words::<T, O>(self.words.as_slice());
+        prove_exact_words::<T, O>(self.words.as_slice());
         self.words.as_slice()
     }
 

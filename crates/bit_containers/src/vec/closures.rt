@@ -6,9 +6,17 @@ ghost use Rattle.bit_containers.specs.BitVec.{Grew, Shrank, Stayed, RefusesOnly}
 ghost use Rattle.bit_containers.specs.Closures.{CallableAtEach, CallableFrom, ResultsFrom, ResultsAtEach, kept};
 
 use crate::vec::BitVec;
-use crate::vec::collect::with_next;
 use bit_addressing::{BitOrder, BitStore, GrowError};
 use bit_rows::write_chunk_in_vec;
+
+// Sets bit `got` of a number. Requires that `got` is below 64.
+#[inline(always)]
+fn with_next(number: u64, got: u8, bit: bool) -> u64
+    requires { got < 64 }
+    ensures { number_bits result (got + 1) ≡ number_bits number got ++ bit ∷ [] }
+{
+    number.with_bit(got, bit)
+}
 
 impl<T: BitStore, O: BitOrder> BitVec<T, O> {
     /// Keeps the first `n` bits, or appends what `f` returns at each new index until there are `n`. Memory is taken
@@ -66,7 +74,7 @@ impl<T: BitStore, O: BitOrder> BitVec<T, O> {
         ensures capacity { self.old.capacity ≤ self.new.capacity }
         ensures no_memory { n ≤ self.old.capacity → self.new.capacity ≡ self.old.capacity }
     {
-        self.in_words();
+        self.prove_in_words();
         let len = self.len();
         if n <= len {
             self.truncate(n);

@@ -13,19 +13,8 @@ use crate::vec::BitVec;
 use bit_addressing::{BitOrder, BitStore, GrowError, MAX_BITS};
 use std::alloc::Global;
 
-/// The number with a bit written at place `got`, so that it has one gathered bit more. Requires that `got` is
-/// below 64.
-#[inline(always)]
-pub(crate) fn with_next(number: u64, got: u8, bit: bool) -> u64
-    requires { got < 64 }
-    ensures { number_bits result (got + 1) ≡ number_bits number got ++ bit ∷ [] }
-{
-    number.with_bit(got, bit)
-}
-
 // The number shifted down by one place, with a bit put in at its highest place: where its highest bits are what was
-// gathered, it has one gathered bit more. Takes less time than `with_next`, which shifts by as many places as there
-// are bits (docs/SPEED.md, collect).
+// gathered, it has one gathered bit more. Takes less time than a shift by as many places as there are bits (docs/SPEED.md, collect).
 #[inline(always)]
 fn with_last(number: u64, bit: bool) -> u64
     ensures { (n : ℕ) → n < 64 → highest_bits result (n + 1) ≡ highest_bits number n ++ bit ∷ [] }
@@ -107,7 +96,7 @@ impl<T: BitStore, O: BitOrder> BitVec<T, O> {
         let len = self.len();
         let (mut number, mut got) = (0, 0);
         let mut most = self.gathers();
-        self.in_words();
+        self.prove_in_words();
         for bit in iter {
             match self.gather(number, got, most, bit) {
                 Ok(next) => (number, got, most) = next,
@@ -126,7 +115,7 @@ impl<T: BitStore, O: BitOrder> BitVec<T, O> {
 
     // Does nothing: its clauses say that the row has exactly the words that head and list take, and that
     // the capacity has room for the list.
-    pub(crate) fn in_words(&self)
+    pub(crate) fn prove_in_words(&self)
         ensures size { length self.now.row ≡ T.BITS * words_for T.BITS (self.now.head + length self.now.list) }
         ensures few { length self.now.list ≤ MAX_BITS }
         ensures room { length self.now.list ≤ self.now.capacity }
@@ -173,7 +162,7 @@ impl<T: BitStore, O: BitOrder> BitVec<T, O> {
         ensures no_memory { length self.old.list + got ≤ self.old.capacity
             → self.new.capacity ≡ self.old.capacity }
     {
-        self.in_words();
+        self.prove_in_words();
         if got < most {
             return Ok((with_last(number, bit), got + 1, most));
         }
@@ -282,14 +271,14 @@ impl<T: BitStore, O: BitOrder> BitVec<T, O> {
             (λ words. self.old.capacity < length self.old.list + T.BITS * length words) }
     {
         let len = self.len();
-        self.in_words();
+        self.prove_in_words();
         for word in iter {
             if let Err(why) = self.extend_from_word(word) {
                 self.truncate(len);
                 return Err(why);
             }
         }
-        self.in_words();
+        self.prove_in_words();
         Ok(())
     }
 

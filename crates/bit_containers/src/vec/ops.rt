@@ -28,7 +28,7 @@ impl<T: BitStore, O: BitOrder> BitVec<T, O> {
         ensures within { n ≤ self.old.capacity → self.new.capacity ≡ self.old.capacity }
         ensures no_memory { n ≤ length self.old.list → IsOk result × (self.new ≡ self.old) }
     {
-        self.in_words();
+        self.prove_in_words();
         if n > self.len {
             self.resize(n, false)?;
         }

@@ -228,7 +228,7 @@ impl<T: BitStore, O: BitOrder> BitVec<T, O> {
             }
             (number, got, room) = v.gather(number, got, room, bit)?;
         }
-        v.in_words();
+        v.prove_in_words();
         v.extend_from_number(shifted_down(number, got), got)?;
         Ok(v)
     }

@@ -11,7 +11,7 @@ ghost use Rattle.bit_containers.specs.BitVec.{IsClean};
 
 use crate::vec::BitVec;
 use bit_addressing::{BitOrder, BitStore, RangeExt, elts};
-use bit_rows::exact_words;
+use bit_rows::prove_exact_words;
 use bit_slice::{BitSlice, BitSliceMut};
 
 impl<T: BitStore, O: BitOrder> BitVec<T, O> {
@@ -141,7 +141,7 @@ impl<T: BitStore, O: BitOrder> BitVec<T, O> {
         ensures shows { slice_range self.now.row self.now.head (self.now.head + length self.now.list) ≡ self.now.list }
         ensures fits { self.now.head + length self.now.list ≤ T.BITS * length self.now.words }
     {
-        exact_words::<T, O>(self.words.as_slice());
+        prove_exact_words::<T, O>(self.words.as_slice());
         self.words.as_slice()
     }
 

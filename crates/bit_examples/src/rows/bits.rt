@@ -3,7 +3,7 @@ use crate::common::{check, ok};
 use bit_addressing::{Lsb0, Msb0};
 use bit_rows::{
     And, Or, append_run_in_vec, copy_bits_in_vec, count_blocks, cut_words_in_vec, false_blocks,
-    fill_bits_in_vec, flip_bits, flip_bits_in_vec, move_bits_in_vec, push_bit_in_vec, read_binary,
+    fill_bits, flip_words, move_bits_in_vec, push_bit_in_vec, read_binary,
     read_bit, resize_words_in_vec, write_binary, write_bit, write_bit_in_vec,
 };
 
@@ -12,7 +12,7 @@ fn bits_of_words(rt: HostRuntime) {
     let mut words = [0x1234u16, 0xabcd];
     check(&rt, read_bit::<u16, Msb0>(&words, 3));
     write_bit::<u16, Msb0>(&mut words, 4, true);
-    flip_bits::<u16, Lsb0>(&mut words);
+    flip_words::<u16, Lsb0>(&mut words);
     check(&rt, words == [0xe5cb, 0x5432]);
 }
 
@@ -29,14 +29,14 @@ fn words_of_a_vector(rt: HostRuntime) {
     let mut words = ok(&rt, vec![in rt.alloc(); 0xffu8]);
     ok(&rt, resize_words_in_vec::<u8, Lsb0>(&mut words, 9));
     write_bit_in_vec::<u8, Lsb0>(&mut words, 0, false);
-    fill_bits_in_vec::<u8, Lsb0>(&mut words, 6, 10, true);
+    fill_bits::<u8, Lsb0>(words.as_mut_slice(), 6, 10, true);
     check(&rt, words.as_slice() == [0xfe, 0x03].as_slice());
 }
 
 #[test]
 fn runs_of_a_vector(rt: HostRuntime) {
     let mut words = ok(&rt, vec![in rt.alloc(); 0xfeu8, 0x03]);
-    flip_bits_in_vec::<u8, Lsb0>(&mut words);
+    flip_words::<u8, Lsb0>(words.as_mut_slice());
     copy_bits_in_vec::<u8, Lsb0, u16, Msb0>(&mut words, 4, &[0xf000], 0, 4);
     move_bits_in_vec::<u8, Lsb0>(&mut words, 4, 0, 8);
     check(&rt, words.as_slice() == [0xcf, 0xfc].as_slice());

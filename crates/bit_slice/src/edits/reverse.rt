@@ -28,7 +28,7 @@ fn swap_reversed<T: BitStore, O: BitOrder>(words: &mut [T], front: usize, back: 
     write_chunk::<T, O>(words, back, n, lower);
 }
 
-// Like `reverse_words`, up to 64 bits from each end at a time.
+// Like `reverse_bits`, up to 64 bits from each end at a time.
 fn reverse_pairs<T: BitStore, O: BitOrder>(words: &mut [T], head: usize, len: usize)
     requires within { head + len ≤ T.BITS * length words.old }
     requires fits { head + len < 2 ^ 64 }
@@ -163,7 +163,7 @@ fn reverse_touched<T: BitStore, O: BitOrder>(words: &mut [T], head: usize, len: 
     write_chunk::<T, O>(words, end, after as u8, back);
 }
 
-// Like `reverse_words`, by whole words. Requires that the order is the same from both ends of a word.
+// Like `reverse_bits`, by whole words. Requires that the order is the same from both ends of a word.
 fn reverse_long<T: BitStore, O: BitOrder>(words: &mut [T], head: usize, len: usize)
     requires mirrored { IsMirrored T.BITS (O.place T.BITS) }
     requires some { 0 < len }
@@ -187,7 +187,7 @@ const LONG: usize = 256;
 /// Reverses the `len` bits of the words' row from `head` on: a long run by whole words, where the order is the same
 /// from both ends of a word, else up to 64 bits from each end at a time. No other bit changes. Requires that the run
 /// lies in the words.
-pub fn reverse_words<T: BitStore, O: BitOrder>(words: &mut [T], head: usize, len: usize)
+pub fn reverse_bits<T: BitStore, O: BitOrder>(words: &mut [T], head: usize, len: usize)
     requires within { head + len ≤ T.BITS * length words.old }
     requires fits { head + len < 2 ^ 64 }
     ensures bits { row T.BitStore O.BitOrder words.new

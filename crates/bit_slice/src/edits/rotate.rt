@@ -10,7 +10,7 @@ use bit_addressing::{
 };
 use bit_rows::{copy_bits, read_chunk, write_chunk};
 
-// Like `rotate_words`, where `kept` has room for the bits that move after the others: they are kept there while the
+// Like `rotate_bits`, where `kept` has room for the bits that move after the others: they are kept there while the
 // others move.
 fn rotate_few<T: BitStore, O: BitOrder>(
     words: &mut [T],
@@ -33,7 +33,7 @@ fn rotate_few<T: BitStore, O: BitOrder>(
     copy_bits::<T, O, u64, O>(words, head + (len - by), kept, 0, by);
 }
 
-// Like `rotate_words`, where `kept` has room for the others: they are kept there while the first bits move.
+// Like `rotate_bits`, where `kept` has room for the others: they are kept there while the first bits move.
 fn rotate_all_but_few<T: BitStore, O: BitOrder>(
     words: &mut [T],
     head: usize,
@@ -56,7 +56,7 @@ fn rotate_all_but_few<T: BitStore, O: BitOrder>(
     copy_bits::<T, O, u64, O>(words, head, kept, 0, rest);
 }
 
-// Like `rotate_words`, where `kept` has room for one of the two sides.
+// Like `rotate_bits`, where `kept` has room for one of the two sides.
 fn rotate_kept<T: BitStore, O: BitOrder>(
     words: &mut [T],
     head: usize,
@@ -80,7 +80,7 @@ fn rotate_kept<T: BitStore, O: BitOrder>(
     }
 }
 
-// Like `rotate_words`, where one of the two sides has at most 64 bits: they are kept as a number while the other moves.
+// Like `rotate_bits`, where one of the two sides has at most 64 bits: they are kept as a number while the other moves.
 fn rotate_chunk<T: BitStore, O: BitOrder>(words: &mut [T], head: usize, len: usize, by: usize)
     requires room { T.BITS * length words.old ≤ MAX_BITS + 2 * T.BITS }
     requires within { head + len ≤ T.BITS * length words.old }
@@ -291,7 +291,7 @@ fn least_words<T: BitStore>(n: usize) -> (usize, u8)
     (count, T::BITS - 1 - index)
 }
 
-// Like `rotate_words`, where one of the two sides has at most 131072 bits, which are kept while the other moves. The
+// Like `rotate_bits`, where one of the two sides has at most 131072 bits, which are kept while the other moves. The
 // room for them is filled with zeros first, so a short side gets a small one.
 fn rotate_once<T: BitStore, O: BitOrder>(words: &mut [T], head: usize, len: usize, by: usize)
     requires room { T.BITS * length words.old ≤ MAX_BITS + 2 * T.BITS }
@@ -313,7 +313,7 @@ fn rotate_once<T: BitStore, O: BitOrder>(words: &mut [T], head: usize, len: usiz
     }
 }
 
-// Like `rotate_words`, of many bits: the shorter side is carried to its place by whole words, past as many bits of the
+// Like `rotate_bits`, of many bits: the shorter side is carried to its place by whole words, past as many bits of the
 // other as it has, until what is left on one side is better kept (docs/SPEED.md, "Rotations").
 #[inline(never)]
 fn rotate_long<T: BitStore, O: BitOrder>(words: &mut [T], head: usize, len: usize, by: usize)
@@ -347,7 +347,7 @@ fn rotate_long<T: BitStore, O: BitOrder>(words: &mut [T], head: usize, len: usiz
 /// Moves the first `by` of the `len` bits of the words' row from `head` on after the others: by one move where one side
 /// is short, which is kept meanwhile, else by exchanges of whole words first. No other bit changes. Requires that the
 /// run lies in the words, and `by` is at most its length.
-pub fn rotate_words<T: BitStore, O: BitOrder>(words: &mut [T], head: usize, len: usize, by: usize)
+pub fn rotate_bits<T: BitStore, O: BitOrder>(words: &mut [T], head: usize, len: usize, by: usize)
     requires room { T.BITS * length words.old ≤ MAX_BITS + 2 * T.BITS }
     requires within { head + len ≤ T.BITS * length words.old }
     requires inside { by ≤ len }

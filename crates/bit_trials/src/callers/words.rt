@@ -6,7 +6,7 @@ ghost use Rattle.bit_addressing.specs.declared.length.TheConstants.{MAX_BITS};
 
 use bit_addressing::move_bits;
 use bit_containers::{BitListMut, BitOrder, BitStore, BitVec, GrowError, Lsb0, Msb0};
-use bit_rows::{flip_bits, write_bit};
+use bit_rows::{flip_words, write_bit};
 use std::alloc::{AllocError, Global};
 
 pub fn permission_byte(alloc: Global, write: bool) -> Result<Vec<u8>, GrowError>
@@ -140,6 +140,6 @@ pub fn flip_and_set<T: BitStore, O: BitOrder>(words: &mut [T], at: usize)
     requires { at < T.BITS * length words.old }
     ensures { row T.BitStore O.BitOrder words.new ≡ set (map not (row T.BitStore O.BitOrder words.old)) at true }
 {
-    flip_bits::<T, O>(words);
+    flip_words::<T, O>(words);
     write_bit::<T, O>(words, at, true);
 }

@@ -15,4 +15,4 @@ returns g c =
     let list = list_in W P old c.args.head c.args.len in
     let f = g.F.BitOperator.made in
     let ys = list_of c.args.other in
-    rewritten_in W P old c.combine_words.new.words c.args.head c.args.len g.met.T.BitStore.width c.requires.within c.combine_words.ensures.size (combined f list ys) (length-combined f list ys ∙ shown_length W P old c.args.head c.args.len c.requires.within) c.combine_words.ensures.bits
+    rewritten_in W P old c.combine_view.new.words c.args.head c.args.len g.met.T.BitStore.width c.requires.within c.combine_view.ensures.size (combined f list ys) (length-combined f list ys ∙ shown_length W P old c.args.head c.args.len c.requires.within) c.combine_view.ensures.bits

@@ -16,5 +16,5 @@ returns g c =
     let P = g.O.BitOrder in
     let list = list_in W P old head len in
     let long : length list ≡ len = shown_length W P old head len c.requires.within in
-    rewritten_in W P old c.reverse_words.new.words head len g.met.T.BitStore.width c.requires.within c.reverse_words.ensures.size (reverse list) (length-reverse list ∙ long)
-    (c.reverse_words.ensures.bits)
+    rewritten_in W P old c.reverse_bits.new.words head len g.met.T.BitStore.width c.requires.within c.reverse_bits.ensures.size (reverse list) (length-reverse list ∙ long)
+    (c.reverse_bits.ensures.bits)

@@ -16,5 +16,5 @@ returns g c =
     let P = g.O.BitOrder in
     let list = list_in W P old head len in
     let long : length list ≡ len = shown_length W P old head len c.requires.within in
-    rewritten_in W P old c.rotate_words.new.words head len g.met.T.BitStore.width c.requires.within c.rotate_words.ensures.size (drop c.args.by list ++ take c.args.by list) (rotated_length list c.args.by (omega (arith, long, c.requires.inside)) ∙ long)
-    (c.rotate_words.ensures.bits)
+    rewritten_in W P old c.rotate_bits.new.words head len g.met.T.BitStore.width c.requires.within c.rotate_bits.ensures.size (drop c.args.by list ++ take c.args.by list) (rotated_length list c.args.by (omega (arith, long, c.requires.inside)) ∙ long)
+    (c.rotate_bits.ensures.bits)

@@ -16,5 +16,5 @@ returns g c =
     let P = g.O.BitOrder in
     let list = list_in W P old head len in
     let long : length list ≡ len = shown_length W P old head len c.requires.within in
-    rewritten_in W P old c.shift_words_left.new.words head len g.met.T.BitStore.width c.requires.within c.shift_words_left.ensures.size (drop c.args.by list ++ replicate c.args.by false) (omega (arith, length-append (drop c.args.by list) (replicate c.args.by false), length-drop c.args.by list, length-replicate c.args.by false, long, c.requires.inside))
-    (c.shift_words_left.ensures.bits)
+    rewritten_in W P old c.shift_bits_left.new.words head len g.met.T.BitStore.width c.requires.within c.shift_bits_left.ensures.size (drop c.args.by list ++ replicate c.args.by false) (omega (arith, length-append (drop c.args.by list) (replicate c.args.by false), length-drop c.args.by list, length-replicate c.args.by false, long, c.requires.inside))
+    (c.shift_bits_left.ensures.bits)

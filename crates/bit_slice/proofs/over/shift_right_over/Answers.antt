@@ -16,5 +16,5 @@ returns g c =
     let P = g.O.BitOrder in
     let list = list_in W P old head len in
     let long : length list ≡ len = shown_length W P old head len c.requires.within in
-    rewritten_in W P old c.shift_words_right.new.words head len g.met.T.BitStore.width c.requires.within c.shift_words_right.ensures.size (replicate c.args.by false ++ take (len - c.args.by) list) (omega (arith, length-append (replicate c.args.by false) (take (len - c.args.by) list), length-take (len - c.args.by) list, length-replicate c.args.by false, long, c.requires.inside))
-    (c.shift_words_right.ensures.bits)
+    rewritten_in W P old c.shift_bits_right.new.words head len g.met.T.BitStore.width c.requires.within c.shift_bits_right.ensures.size (replicate c.args.by false ++ take (len - c.args.by) list) (omega (arith, length-append (replicate c.args.by false) (take (len - c.args.by) list), length-take (len - c.args.by) list, length-replicate c.args.by false, long, c.requires.inside))
+    (c.shift_bits_right.ensures.bits)

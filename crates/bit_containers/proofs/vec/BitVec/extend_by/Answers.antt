@@ -15,7 +15,7 @@ loop-bit-init g c =
     record {
       can = may.0;
       finite = may.1;
-      joined = ([], sym (append-nil now.list), grew_none g.T.BitStore.BITS now c.in_words.ensures.size, highest_bits_none 0);
+      joined = ([], sym (append-nil now.list), grew_none g.T.BitStore.BITS now c.prove_in_words.ensures.size, highest_bits_none 0);
       room = omega arith;
       word = c.gathers-most.ensures.few;
       few = c.gathers-most.ensures.fits;
@@ -30,7 +30,7 @@ loop-bit-preserved g c =
     let now = c.args.self.now in
     let at = c.loop-bit in
     let one = c.in-Ok.ensures.joined in
-    let joined = gathers_more w now (width_positive w g.met.T.BitStore.width) c.in_words.ensures.size at.self c.gather.new.self at.number at.got c.in-Ok.next.0 c.in-Ok.next.1 at.yielded c.in-Some.bit at.invariant.joined one.0 one.1 one.2 one.3 in
+    let joined = gathers_more w now (width_positive w g.met.T.BitStore.width) c.prove_in_words.ensures.size at.self c.gather.new.self at.number at.got c.in-Ok.next.0 c.in-Ok.next.1 at.yielded c.in-Some.bit at.invariant.joined one.0 one.1 one.2 one.3 in
     let before = gathers_length w now at.self at.number at.got at.yielded at.invariant.joined in
     let after = gathers_length w now c.gather.new.self c.in-Ok.next.0 c.in-Ok.next.1 (at.yielded ++ c.in-Some.bit ∷ []) joined in
     let more = length_push at.yielded c.in-Some.bit in
@@ -101,7 +101,7 @@ returns-clause-joined g c =
       at.yielded,
       c.into_iter-bit-iterator.ensures.into_iter_gives,
       (c.next.new.self, (at.bit-iterator, at.yielded_by, c.in-None.ensures.steps)),
-      gathers_all w c.args.self.now (width_positive w g.met.T.BitStore.width) c.in_words.ensures.size at.self c.extend_from_number.new.self at.number at.got at.yielded at.invariant.joined list row,
+      gathers_all w c.args.self.now (width_positive w g.met.T.BitStore.width) c.prove_in_words.ensures.size at.self c.extend_from_number.new.self at.number at.got at.yielded at.invariant.joined list row,
     )
 
 pub returns-clause-few : goal.returns-clause-few

@@ -19,7 +19,7 @@ loop-word-init g c =
       can = may.0;
       finite = may.1;
       list = sym (append-nil now.list) ∙ ap (λ l. now.list ++ l) (sym none);
-      grew = subst (Grew g.T.BitStore.BITS now now) (sym none) (grew_none g.T.BitStore.BITS now c.in_words.ensures.size);
+      grew = subst (Grew g.T.BitStore.BITS now now) (sym none) (grew_none g.T.BitStore.BITS now c.prove_in_words.ensures.size);
       capacity = omega arith;
       grown = λ past. absurd (omega (arith, past));
     }
@@ -37,7 +37,7 @@ loop-word-preserved g c =
       can = search rules;
       finite = search rules;
       list = c.in_default.ensures.list ∙ ap (λ l. l ++ bits one) at.invariant.list ∙ append_assoc now.list (bits at.yielded) (bits one) ∙ ap (λ l. now.list ++ l) more;
-      grew = subst (Grew w now c.extend_from_word.new.self) more (grew_twice w now at.self c.extend_from_word.new.self (bits at.yielded) (bits one) positive c.in_words.ensures.size at.invariant.grew c.in_default.ensures.row);
+      grew = subst (Grew w now c.extend_from_word.new.self) more (grew_twice w now at.self c.extend_from_word.new.self (bits at.yielded) (bits one) positive c.prove_in_words.ensures.size at.invariant.grew c.in_default.ensures.row);
       capacity = omega (arith, at.invariant.capacity, c.extend_from_word.ensures.capacity);
       grown = grown_more now.capacity at.self.capacity c.extend_from_word.new.self.capacity (length at.self.list + w) (length c.extend_from_word.new.self.list) at.invariant.capacity c.extend_from_word.ensures.no_memory (λ past. let so = at.invariant.grown past in omega arith) (omega (arith, c.in_default.ensures.row.len, length_row g.T.BitStore.value g.O.BitOrder.place w one, words_more w 0 1 refl));
     }

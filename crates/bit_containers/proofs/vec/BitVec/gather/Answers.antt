@@ -7,7 +7,7 @@ use Rattle.bit_containers.proofs.vec.BitVec.gather.Goals as goal
 pub returns-then-got-most-clause-joined : goal.returns-then-got-most-clause-joined
 returns-then-got-most-clause-joined g c =
     let now = c.args.self.now in
-    ([], sym (append-nil now.list), grew_none g.T.BitStore.BITS now c.in_words.ensures.size, c.with_last.ensures c.args.got (omega arith))
+    ([], sym (append-nil now.list), grew_none g.T.BitStore.BITS now c.prove_in_words.ensures.size, c.with_last.ensures c.args.got (omega arith))
 
 pub returns-clause-joined : goal.returns-clause-joined
 returns-clause-joined g c =

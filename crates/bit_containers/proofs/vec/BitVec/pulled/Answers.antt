@@ -74,7 +74,7 @@ returns-in_err-extend_from_number-clause-memory g c is =
       at.yielded,
       at.bit-iterator,
       subst (λ it. Yields g.I.Iterator.next_gives it at.yielded at.bit-iterator) first at.yielded_by,
-      omega (arith, all, past, c.in_words.ensures.room),
+      omega (arith, all, past, c.prove_in_words.ensures.room),
       omega (arith, all, at.invariant.few),
     )
 

@@ -16,7 +16,7 @@ loop-index-init g c =
       size = omega (arith, c.len-len.ensures.value);
       capacity = c.reserve.ensures.capacity;
       no_memory = λ h. c.reserve.ensures.no_memory (omega (arith, h, c.len-len.ensures.value, c.if-n-len.false));
-      joined = ([], refl, same.list ∙ sym (append-nil now.list), grew_kept g.T.BitStore.BITS now c.reserve.new.self c.in_words.ensures.size same);
+      joined = ([], refl, same.list ∙ sym (append-nil now.list), grew_kept g.T.BitStore.BITS now c.reserve.new.self c.prove_in_words.ensures.size same);
     }
 
 pub loop-index-preserved : goal.loop-index-preserved
@@ -39,7 +39,7 @@ loop-index-preserved g c =
         run.0 ++ bit ∷ [],
         results_more (goal.F-step g) _ _ run.0 at.f at.index bit _ run.1 c.f-bit.ensures (omega (arith, at.invariant.size)),
         put.list ∙ ap (λ l. l ++ bit ∷ []) run.2 ∙ append_assoc now.list run.0 (bit ∷ []),
-        grew_twice w now at.self c.push_reserved.new.self run.0 (bit ∷ []) (width_positive w g.met.T.BitStore.width) c.in_words.ensures.size run.3 put.row,
+        grew_twice w now at.self c.push_reserved.new.self run.0 (bit ∷ []) (width_positive w g.met.T.BitStore.width) c.prove_in_words.ensures.size run.3 put.row,
       );
     }
 

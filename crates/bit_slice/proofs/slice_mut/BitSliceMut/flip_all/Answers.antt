@@ -11,7 +11,7 @@ returns-clause-list g c =
     let v = c.args.self.now in
     let old = row g.T.BitStore g.O.BitOrder v.words.now in
     let size = shown_length g.T.BitStore g.O.BitOrder v.words.now v.head v.len v.fits.room in
-    ap (λ r. slice_range r v.head (v.head + v.len)) c.flip_words.ensures.bits
+    ap (λ r. slice_range r v.head (v.head + v.len)) c.flip_bits.ensures.bits
     ∙ shown_filled old (map not (list_of v)) v.head v.len (sym (length-map (list_of v) not ∙ size)) (in_row g.T.BitStore g.O.BitOrder v.words.now (v.head + v.len) v.fits.room)
 
 pub returns-clause-whole : goal.returns-clause-whole
@@ -19,4 +19,4 @@ returns-clause-whole g c h l =
     let v = c.args.self.now in
     let old = row g.T.BitStore g.O.BitOrder v.words.now in
     let size = shown_length g.T.BitStore g.O.BitOrder v.words.now v.head v.len v.fits.room in
-    c.flip_words.ensures.bits ∙ put_all old (map not (list_of v)) v.head h (length-map (list_of v) not ∙ size ∙ l ∙ sym (row_size g.T.BitStore g.O.BitOrder v.words.now))
+    c.flip_bits.ensures.bits ∙ put_all old (map not (list_of v)) v.head h (length-map (list_of v) not ∙ size ∙ l ∙ sym (row_size g.T.BitStore g.O.BitOrder v.words.now))

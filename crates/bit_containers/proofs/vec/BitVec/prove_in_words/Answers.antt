@@ -1,6 +1,6 @@
 use Rattle.std.proofs.Common.{◌*◌, ◌∙◌, ap}
 use Rattle.bit_addressing.proofs.Typed.{length_row}
-use Rattle.bit_containers.proofs.vec.BitVec.in_words.Goals as goal
+use Rattle.bit_containers.proofs.vec.BitVec.prove_in_words.Goals as goal
 
 pub returns-clause-size : goal.returns-clause-size
 returns-clause-size g c =

@@ -3,7 +3,7 @@ use Rattle.bit_addressing.specs.Row.{put}
 use Rattle.bit_addressing.specs.Typed.{row}
 use Rattle.bit_slice.proofs.Parts.{in_row}
 use Rattle.bit_slice.proofs.Turned.{shifted_left}
-use Rattle.bit_slice.proofs.edits.shift_words_left.Goals as goal
+use Rattle.bit_slice.proofs.edits.shift_bits_left.Goals as goal
 
 pub returns-clause-bits : goal.returns-clause-bits
 returns-clause-bits g c =

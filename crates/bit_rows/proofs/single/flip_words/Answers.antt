@@ -1,7 +1,7 @@
 use Rattle.std.proofs.Common.{refl, arith}
 use Rattle.bit_addressing.proofs.Rows.{width_positive}
 use Rattle.bit_addressing.proofs.Typed.{flip_word, flip_all}
-use Rattle.bit_rows.proofs.single.flip_bits.Goals as goal
+use Rattle.bit_rows.proofs.single.flip_words.Goals as goal
 
 pub loop-word-init : goal.loop-word-init
 loop-word-init g c = record { size = refl; done = λ k p h q. absurd (omega arith); rest = λ k h. refl }

@@ -5,7 +5,7 @@ use Rattle.bit_addressing.specs.Typed.{row}
 use Rattle.bit_addressing.proofs.lists.Shown.{length-run}
 use Rattle.bit_slice.proofs.Parts.{in_row}
 use Rattle.bit_slice.proofs.Ranges.{flipped_number, rest_of_flipped, flipped_more, flipped_none}
-use Rattle.bit_slice.proofs.edits.flip_words.Goals as goal
+use Rattle.bit_slice.proofs.edits.flip_bits.Goals as goal
 
 pub loop-at-init : goal.loop-at-init
 loop-at-init g c = record {

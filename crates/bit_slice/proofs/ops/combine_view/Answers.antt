@@ -6,7 +6,7 @@ use Rattle.bit_addressing.proofs.lists.Shown.{shows_fewer, length-run}
 use Rattle.bit_slice.proofs.Parts.{in_row}
 use Rattle.bit_slice.proofs.Combining.{written_front, written_cleared}
 use Rattle.bit_slice.specs.BitSlice.{list_of}
-use Rattle.bit_slice.proofs.ops.combine_words.Goals as goal
+use Rattle.bit_slice.proofs.ops.combine_view.Goals as goal
 
 pub returns-then-clears-clause-bits : goal.returns-then-clears-clause-bits
 returns-then-clears-clause-bits g c =

@@ -3,7 +3,7 @@ ghost use Rattle.std.specs.Prelude.{◌≡◌, ◌+◌, ◌*◌, ◌^◌, ◌<�
 ghost use Rattle.bit_addressing.specs.Row.{put, IsFirstDifference};
 ghost use Rattle.bit_addressing.specs.Typed.{row};
 ghost use Rattle.bit_addressing.specs.declared.length.TheConstants.{MAX_BITS};
-ghost use Rattle.bit_slice.specs.Operators.{bits_cmp, combined, and_of, or_of, xor_of, AndsEach, OrsEach, XorsEach, CombinesEach, SameFromEitherSide, EqualWhereEqual, BelowTheNext, FalseFirst, PrefixFirst};
+ghost use Rattle.bit_slice.specs.Operators.{bits_cmp, combined, and_of, or_of, xor_of, AndsEach, OrsEach, XorsEach, CombinesEach};
 ghost use Rattle.bit_slice.specs.BitSlice.{len_of as len_seen, list_of as list_seen};
 
 use crate::slice::BitSlice;
@@ -39,21 +39,10 @@ pub(crate) fn equal_views<T: BitStore, O: BitOrder, U: BitStore, P: BitOrder>(
     len == right.len() && first_difference(left, right, len).is_none()
 }
 
-/// Does nothing: its clauses are the laws of the order of lists of bits. The order is total, and the
-/// same from either side. Two lists are `Equal` exactly where they are equal. At the first items that
-/// differ, false comes before true, and a list comes before each longer list that begins with it.
-pub fn order_of_bits()
-    ensures sides { SameFromEitherSide }
-    ensures equal { EqualWhereEqual }
-    ensures next { BelowTheNext }
-    ensures false_first { FalseFirst }
-    ensures prefix_first { PrefixFirst }
-{}
-
 /// Combines each of the `len` bits of the words' row from `head` on, by `F`, with the bit of `other` for it, or
 /// with false past the end of `other`. The first bit of `other` is for the first of the run. No other bit
 /// changes. Requires that the run lies in the words.
-pub fn combine_view<F: BitOperator, T: BitStore, O: BitOrder, U: BitStore, P: BitOrder>(
+pub(crate) fn combine_view<F: BitOperator, T: BitStore, O: BitOrder, U: BitStore, P: BitOrder>(
     words: &mut [T],
     head: usize,
     len: usize,

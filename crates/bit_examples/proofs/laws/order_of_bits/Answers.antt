@@ -1,5 +1,5 @@
 use Rattle.bit_slice.proofs.Comparing.{from_either_side, equal_where_equal, below_the_next, false_first, prefix_first}
-use Rattle.bit_slice.proofs.ops.order_of_bits.Goals as goal
+use Rattle.bit_examples.proofs.laws.order_of_bits.Goals as goal
 
 pub returns-clause-sides : goal.returns-clause-sides
 returns-clause-sides c = from_either_side

@@ -1,9 +1,8 @@
 //! How long containers may be, and how many words a number of bits takes.
-ghost use Rattle.std.specs.Prelude.{◌≡◌, ℕ, ◌+◌, ◌-◌, ◌*◌, ◌/◌, ◌^◌, ◌<◌, ◌≤◌, ◌↔◌};
-ghost use Rattle.bit_addressing.specs.Row.{IsSpan, touched, words_for};
+ghost use Rattle.std.specs.Prelude.{◌≡◌, ℕ, ◌+◌, ◌-◌, ◌*◌, ◌/◌, ◌^◌, ◌<◌, ◌≤◌};
+ghost use Rattle.bit_addressing.specs.Row.{IsSpan, words_for};
 
 use crate::store::BitStore;
-use std::ops::Range;
 
 /// The most bits that a container or a view holds, whatever its words: 2305843009213693951.
 pub const MAX_BITS: usize = usize::MAX >> 3;
@@ -44,26 +43,6 @@ pub fn in_row<T: BitStore>(k: usize, index: u8) -> usize
     ensures { result ≡ k * T.BITS + index }
 {
     k * T::BITS as usize + index as usize
-}
-
-/// The words of type `T` that hold a bit of the `n` bits from index `from` of a row on, by their numbers.
-///
-/// ```text
-/// touched_words::<u8>(7, 2) == 0..2
-/// ```
-pub fn touched_words<T: BitStore>(from: usize, n: usize) -> Range<usize>
-    requires { from + n < 2 ^ 64 }
-    ensures count { result.end - result.start ≡ touched T.BITS from n }
-    ensures hold { (k : ℕ)
-        → ((result.start ≤ k) × (k < result.end))
-        ↔ ((i : ℕ) × (from ≤ i) × (i < from + n) × (i / T.BITS ≡ k)) }
-{
-    let width = T::BITS as usize;
-    let first = from / width;
-    if n == 0 {
-        return first..first;
-    }
-    first..(from + n - 1) / width + 1
 }
 
 /// The words that a run of bits takes: an edge in the word `first`, the whole words between it and `last`, and

@@ -12,7 +12,7 @@ ghost use Rattle.bit_slice.specs.Pulls.{GivesAll, GivesFirst, RunsThrough};
 use bit_addressing::{BitOrder, BitStore, GrowError, Lsb0, MAX_BITS};
 use bit_array::{BitArray, BitWords};
 use bit_rows::{
-    copy_bits_in_vec, prove_exact_words, fill_outside_in_vec, move_bits_in_vec, push_bit_in_vec,
+    copy_bits_in_vec, fill_outside_in_vec, move_bits_in_vec, prove_exact_words, push_bit_in_vec,
     resize_words_in_vec,
 };
 use bit_slice::BitSlice;

@@ -9,6 +9,8 @@ mod boxes;
 #[cfg(test)]
 mod common;
 #[cfg(test)]
+mod laws;
+#[cfg(test)]
 mod radix;
 #[cfg(test)]
 mod rows;

@@ -10,7 +10,8 @@ ghost use Rattle.bit_rows.specs.Runs.{run_at, AreAlike, AreEqualRuns};
 
 use crate::copies::copy_bits;
 use crate::single::write_part;
-use bit_addressing::{BitIdx, BitOrder, BitStore, Lsb0, PairTable, Span, in_row};
+use bit_addressing::inner::{PairTable, Span, in_row};
+use bit_addressing::{BitIdx, BitOrder, BitStore, Lsb0};
 
 /// The bits of a word as a number: the bit at index `i` is at place `i`.
 pub(crate) fn word_number<T: BitStore, O: BitOrder>(word: T) -> u64

@@ -11,7 +11,8 @@ use crate::chunks::{
     word_of_run,
 };
 use crate::single::write_part;
-use bit_addressing::{BitOrder, BitStore, PairTable, Span, each_shift, in_word};
+use bit_addressing::inner::{PairTable, Span, in_word};
+use bit_addressing::{BitOrder, BitStore, each_shift};
 
 /// What two bits are made into.
 pub trait BitOperator {

@@ -4,7 +4,8 @@ ghost use Rattle.bit_addressing.specs.Row.{binary, number_bits, words_for, put, 
 ghost use Rattle.bit_addressing.specs.Typed.{row};
 
 use crate::vectors::{fill_bits_in_vec, write_chunk_in_vec};
-use bit_addressing::{BitEnd, BitIdx, BitOrder, BitStore, blend, elts, repeated};
+use bit_addressing::inner::{blend, repeated};
+use bit_addressing::{BitEnd, BitIdx, BitOrder, BitStore, elts};
 use std::alloc::AllocError;
 use std::mem::replace;
 

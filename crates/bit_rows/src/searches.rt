@@ -6,7 +6,8 @@ ghost use Rattle.bit_addressing.specs.Typed.{row};
 ghost use Rattle.bit_rows.specs.Runs.{run_at, AreAlike, AreEqualRuns, AreAll, DiffersFirst, FindsFirst};
 
 use crate::chunks::{are_alike, block_after, followed_blocks, read_chunk, word_alike, word_number};
-use bit_addressing::{BitEnd, BitIdx, BitOrder, BitStore, Lsb0, Span, in_row, in_word};
+use bit_addressing::inner::{Span, in_row, in_word};
+use bit_addressing::{BitEnd, BitIdx, BitOrder, BitStore, Lsb0};
 
 /// How many bits are set in the words `first..last`, by blocks of 64 bits as far as they go
 /// (docs/SPEED.md, "Rows of words", count). Requires that the words are there.

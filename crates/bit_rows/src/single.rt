@@ -3,7 +3,8 @@ ghost use Rattle.std.specs.Prelude.{◌≡◌, ◌+◌, ◌-◌, ◌*◌, ◌^�
 ghost use Rattle.bit_addressing.specs.Row.{put, filled};
 ghost use Rattle.bit_addressing.specs.Typed.{row, words_from};
 
-use bit_addressing::{BitEnd, BitIdx, BitOrder, BitStore, Span, blend, repeated};
+use bit_addressing::inner::{Span, blend, repeated};
+use bit_addressing::{BitEnd, BitIdx, BitOrder, BitStore};
 
 /// Does nothing: words are those of their row.
 pub fn prove_exact_words<T: BitStore, O: BitOrder>(words: &[T])
@@ -104,7 +105,12 @@ pub fn fill_bits<T: BitStore, O: BitOrder>(words: &mut [T], from: usize, upto: u
 
 /// Writes `bit` at every place of the row outside `head..head + len`, and no other bit. Requires
 /// that `head + len` is at most the row's length, which is below 2 to the power 64.
-pub fn fill_outside<T: BitStore, O: BitOrder>(words: &mut [T], head: usize, len: usize, bit: bool)
+pub(crate) fn fill_outside<T: BitStore, O: BitOrder>(
+    words: &mut [T],
+    head: usize,
+    len: usize,
+    bit: bool,
+)
     requires within { head + len ≤ T.BITS * length words.old }
     requires fits { T.BITS * length words.old < 2 ^ 64 }
     ensures bits { row T.BitStore O.BitOrder words.new ≡ filled (row T.BitStore O.BitOrder words.old) head len bit }

@@ -175,7 +175,7 @@ pub fn remove_bit_in_vec<T: BitStore, O: BitOrder>(words: &mut Vec<T>, at: usize
 }
 
 /// Like `move_bits_counted`, in the words of a vector.
-pub fn move_bits_counted_in_vec<T: BitStore, O: BitOrder>(
+fn move_bits_counted_in_vec<T: BitStore, O: BitOrder>(
     words: &mut Vec<T>,
     src: usize,
     dst: usize,

@@ -11,8 +11,8 @@ mod rotate;
 
 use bit_addressing::{BitOrder, BitStore, move_bits};
 use bit_rows::{BitOperator, combine_bits, copy_bits, fill_bits, read_chunk, write_chunk};
-pub use reverse::reverse_bits;
-pub use rotate::rotate_bits;
+pub(crate) use reverse::reverse_bits;
+pub(crate) use rotate::rotate_bits;
 
 /// The bit is true where the old one is and the new one is not.
 pub struct AndNot;
@@ -33,7 +33,7 @@ impl BitOperator for AndNot {
 
 /// Flips the bits from `from` up to `upto` of the words' row, 64 at a time. No other bit changes. Requires that `from`
 /// is at most `upto`, which is at most the row's length.
-pub fn flip_bits<T: BitStore, O: BitOrder>(words: &mut [T], from: usize, upto: usize)
+pub(crate) fn flip_bits<T: BitStore, O: BitOrder>(words: &mut [T], from: usize, upto: usize)
     requires ordered { from ≤ upto }
     requires within { upto ≤ T.BITS * length words.old }
     ensures bits { row T.BitStore O.BitOrder words.new
@@ -56,7 +56,7 @@ const KEPT: usize = 1024;
 /// Moves the `len` bits of the words' row from `head` on by `by` indices towards the front. The first `by` bits are
 /// dropped, and the last `by` become false. No other bit changes. Requires that the run lies in the words, and `by`
 /// is at most its length.
-pub fn shift_bits_left<T: BitStore, O: BitOrder>(
+pub(crate) fn shift_bits_left<T: BitStore, O: BitOrder>(
     words: &mut [T],
     head: usize,
     len: usize,
@@ -77,7 +77,7 @@ pub fn shift_bits_left<T: BitStore, O: BitOrder>(
 /// Moves the `len` bits of the words' row from `head` on by `by` indices towards the end. The last `by` bits are
 /// dropped, and the first `by` become false. No other bit changes. Requires that the run lies in the words, and `by`
 /// is at most its length.
-pub fn shift_bits_right<T: BitStore, O: BitOrder>(
+pub(crate) fn shift_bits_right<T: BitStore, O: BitOrder>(
     words: &mut [T],
     head: usize,
     len: usize,
@@ -218,7 +218,7 @@ fn combine_front<F: BitOperator, T: BitStore, O: BitOrder>(
 
 /// Combines the `n` bits of the words' row from `at` on with those from `from` on, as if they were read before any is
 /// written, by words. The runs may overlap. No other bit changes. Requires that both runs lie in the words.
-pub fn combine_within<F: BitOperator, T: BitStore, O: BitOrder>(
+pub(crate) fn combine_within<F: BitOperator, T: BitStore, O: BitOrder>(
     words: &mut [T],
     from: usize,
     at: usize,

@@ -18,16 +18,18 @@ mod texts;
 
 pub use counted::Counted;
 pub use counted_mut::CountedMut;
-pub use edits::{
-    AndNot, combine_within, flip_bits, reverse_bits, rotate_bits, shift_bits_left, shift_bits_right,
-};
+pub use edits::AndNot;
 pub use iter::Iter;
 pub use lists::BitList;
-pub use lists_mut::{BitListMut, flip_row};
-pub use ops::{combine_view, order_of_bits};
+pub use lists_mut::BitListMut;
 pub use run::{run_mut, split_run_mut};
 pub use slice::BitSlice;
 pub use slice::chunks::{Chunks, ChunksExact, RChunks, Windows};
 pub use slice::indices::{IterOnes, IterZeros};
 pub use slice_mut::BitSliceMut;
-pub use texts::{hash_bits, write_digits, write_list};
+
+/// What the crates above make of words and of texts. Users of bits need none of it.
+pub mod inner {
+    pub use crate::lists_mut::flip_row;
+    pub use crate::texts::{hash_bits, write_digits, write_list};
+}

@@ -15,11 +15,14 @@ ghost use Rattle.bit_slice.specs.Pieces.{part, chunk_count, chunks_of, exact_chu
 ghost use Rattle.bit_slice.specs.PiecesLeft.{chunks_left, exact_chunks_left, exact_first, exact_last, remainder_of, back_chunks_left, windows_left};
 ghost use Rattle.bit_slice.specs.Places.{ones_of, zeros_of};
 
+use crate::ops::{equal_views, first_difference};
 use crate::slice::BitSlice;
 use crate::slice::chunks::{Chunks, ChunksExact, RChunks, Windows};
 use crate::slice::indices::{IterOnes, IterZeros};
+use crate::slice::sets::{any_pair, count_pairs};
 use crate::slice_mut::BitSliceMut;
 use bit_addressing::{BitOrder, BitStore, RangeExt};
+use bit_rows::{And, Or, Xor, find_bit, read_binary, read_chunk};
 use std::cmp::Ordering;
 
 /// What shows a list of bits.
@@ -161,7 +164,8 @@ pub trait BitList {
         ensures with_ones { result + count_by (λ bit. bit) (list self.now) ≡ len self.now }
         ensures few { result ≤ len self.now }
     {
-        self.as_bitslice().count_zeros()
+        let view = self.as_bitslice();
+        view.len - view.count_ones()
     }
 
     /// Whether some bit is true. Of an empty list it is false.
@@ -173,7 +177,13 @@ pub trait BitList {
         ensures value { result ≡ list_any (λ bit. bit) (list self.now) }
         ensures index { IsTrue result ↔ SomeIndex (list self.now) (λ i. slice_get (list self.now) i ≡ Some true) }
     {
-        self.as_bitslice().any()
+        let view = self.as_bitslice();
+        find_bit::<Self::Store, Self::Order>(
+            view.words,
+            view.head,
+            view.head + view.len,
+            true,
+        ).is_some()
     }
 
     /// Whether every bit is true. Of an empty list it is true.
@@ -185,7 +195,13 @@ pub trait BitList {
         ensures value { result ≡ list_all (λ bit. bit) (list self.now) }
         ensures index { IsTrue result ↔ EachIndex (list self.now) (λ i. slice_get (list self.now) i ≡ Some true) }
     {
-        self.as_bitslice().all()
+        let view = self.as_bitslice();
+        find_bit::<Self::Store, Self::Order>(
+            view.words,
+            view.head,
+            view.head + view.len,
+            false,
+        ).is_none()
     }
 
     /// Whether the list and that of `other`, of any word type and order, are equal. Heads and dead bits don't
@@ -197,7 +213,7 @@ pub trait BitList {
     final fn eq_bits<U: BitStore, P: BitOrder>(&self, other: BitSlice<'_, U, P>) -> bool
         ensures { IsTrue result ↔ (list self.now ≡ list_of other.entry) }
     {
-        self.as_bitslice().eq_bits(other)
+        equal_views(self.as_bitslice(), other)
     }
 
     /// How the list and that of `other` are ordered: the first bits that differ decide, false before true, and where
@@ -209,7 +225,16 @@ pub trait BitList {
     final fn cmp_bits<U: BitStore, P: BitOrder>(&self, other: BitSlice<'_, U, P>) -> Ordering
         ensures { result ≡ bits_cmp (list self.now) (list_of other.entry) }
     {
-        self.as_bitslice().cmp_bits(other)
+        let view = self.as_bitslice();
+        let both = view.len().min(other.len());
+        match first_difference(view, other, both) {
+            None => view.len().cmp(&other.len()),
+            Some(k) => if view.bit(k) {
+                Ordering::Greater
+            } else {
+                Ordering::Less
+            },
+        }
     }
 
     /// Whether each index that is true is true in `other`. An index past the end of `other` counts as false
@@ -225,7 +250,7 @@ pub trait BitList {
             → slice_get (list_of other.entry) j ≡ Some true) }
         ensures and { IsTrue result ↔ (and_of (list self.now) (list_of other.entry) ≡ (list self.now)) }
     {
-        self.as_bitslice().is_subset(other)
+        !self.as_bitslice().exceeds(other)
     }
 
     /// Whether each index that is true in `other` is true.
@@ -240,7 +265,7 @@ pub trait BitList {
             → slice_get (list self.now) j ≡ Some true) }
         ensures and { IsTrue result ↔ (and_of (list_of other.entry) (list self.now) ≡ list_of other.entry) }
     {
-        self.as_bitslice().is_superset(other)
+        !other.exceeds(self.as_bitslice())
     }
 
     /// Whether no index is true both here and in `other`.
@@ -254,7 +279,7 @@ pub trait BitList {
             ↔ ((j : ℕ) → slice_get (list self.now) j ≡ Some true
             → slice_get (list_of other.entry) j ≢ Some true) }
     {
-        self.as_bitslice().is_disjoint(other)
+        !self.intersects(other)
     }
 
     /// Whether an index is true both here and in `other`.
@@ -268,7 +293,8 @@ pub trait BitList {
             ↔ SomeIndex (list self.now) (λ j. (slice_get (list self.now) j ≡ Some true)
             × (slice_get (list_of other.entry) j ≡ Some true)) }
     {
-        self.as_bitslice().intersects(other)
+        let view = self.as_bitslice();
+        any_pair::<And, Self::Store, Self::Order, U, P>(view, other, view.len.min(other.len))
     }
 
     /// How many indices are true both here and in `other`.
@@ -280,7 +306,8 @@ pub trait BitList {
         ensures value { result ≡ count_by (λ b. b) (and_of (list self.now) (list_of other.entry)) }
         ensures few { result ≤ len self.now }
     {
-        self.as_bitslice().count_and(other)
+        let view = self.as_bitslice();
+        count_pairs::<And, Self::Store, Self::Order, U, P>(view, other, view.len.min(other.len))
     }
 
     /// How many indices are true here or in `other`. The shorter list counts as filled up with false.
@@ -295,7 +322,10 @@ pub trait BitList {
         ensures with_and { result + count_by (λ b. b) (and_of (list self.now) (list_of other.entry))
             ≡ count_by (λ b. b) (list self.now) + count_by (λ b. b) (list_of other.entry) }
     {
-        self.as_bitslice().count_or(other)
+        let view = self.as_bitslice();
+        let both = view.len.min(other.len);
+        let shared = count_pairs::<Or, Self::Store, Self::Order, U, P>(view, other, both);
+        shared + view.ones_from(both) + other.ones_from(both)
     }
 
     /// How many indices differ from those of `other`. The shorter list counts as filled up with false.
@@ -310,7 +340,10 @@ pub trait BitList {
         ensures with_and { result + 2 * count_by (λ b. b) (and_of (list self.now) (list_of other.entry))
             ≡ count_by (λ b. b) (list self.now) + count_by (λ b. b) (list_of other.entry) }
     {
-        self.as_bitslice().count_xor(other)
+        let view = self.as_bitslice();
+        let both = view.len.min(other.len);
+        let shared = count_pairs::<Xor, Self::Store, Self::Order, U, P>(view, other, both);
+        shared + view.ones_from(both) + other.ones_from(both)
     }
 
     /// The index of the first bit that is true. None exactly where none is.
@@ -326,7 +359,8 @@ pub trait BitList {
         ensures before { IfSome result (λ i. (j : ℕ) → j < i → slice_get (list self.now) j ≡ Some false) }
         ensures none { IfNone result (EachIndex (list self.now) (λ j. slice_get (list self.now) j ≡ Some false)) }
     {
-        self.as_bitslice().first_one()
+        let view = self.as_bitslice();
+        view.find_next(0, view.len, true)
     }
 
     /// The index of the first bit that is false. None exactly where none is.
@@ -342,7 +376,8 @@ pub trait BitList {
         ensures before { IfSome result (λ i. (j : ℕ) → j < i → slice_get (list self.now) j ≡ Some true) }
         ensures none { IfNone result (EachIndex (list self.now) (λ j. slice_get (list self.now) j ≡ Some true)) }
     {
-        self.as_bitslice().first_zero()
+        let view = self.as_bitslice();
+        view.find_next(0, view.len, false)
     }
 
     /// The index of the last bit that is true. None exactly where none is.
@@ -358,7 +393,8 @@ pub trait BitList {
             (λ i. (j : ℕ) → i < j → j < len self.now → slice_get (list self.now) j ≡ Some false) }
         ensures none { IfNone result (EachIndex (list self.now) (λ j. slice_get (list self.now) j ≡ Some false)) }
     {
-        self.as_bitslice().last_one()
+        let view = self.as_bitslice();
+        view.find_last(0, view.len, true)
     }
 
     /// The index of the last bit that is false. None exactly where none is.
@@ -374,7 +410,8 @@ pub trait BitList {
             (λ i. (j : ℕ) → i < j → j < len self.now → slice_get (list self.now) j ≡ Some true) }
         ensures none { IfNone result (EachIndex (list self.now) (λ j. slice_get (list self.now) j ≡ Some true)) }
     {
-        self.as_bitslice().last_zero()
+        let view = self.as_bitslice();
+        view.find_last(0, view.len, false)
     }
 
     /// The index of the first bit from index `from` on that is true. None exactly where none is, as where
@@ -392,7 +429,8 @@ pub trait BitList {
         ensures none { IfNone result
             ((j : ℕ) → from ≤ j → j < len self.now → slice_get (list self.now) j ≡ Some false) }
     {
-        self.as_bitslice().next_one(from)
+        let view = self.as_bitslice();
+        view.find_next(from.min(view.len), view.len, true)
     }
 
     /// The index of the first bit from index `from` on that is false. None exactly where none is, as where
@@ -410,7 +448,8 @@ pub trait BitList {
         ensures none { IfNone result
             ((j : ℕ) → from ≤ j → j < len self.now → slice_get (list self.now) j ≡ Some true) }
     {
-        self.as_bitslice().next_zero(from)
+        let view = self.as_bitslice();
+        view.find_next(from.min(view.len), view.len, false)
     }
 
     /// How many bits at the front are true, up to the first that is false.
@@ -424,7 +463,11 @@ pub trait BitList {
         ensures each { (j : ℕ) → j < result → slice_get (list self.now) j ≡ Some true }
         ensures next { result < len self.now → slice_get (list self.now) result ≡ Some false }
     {
-        self.as_bitslice().leading_ones()
+        let view = self.as_bitslice();
+        match view.find_next(0, view.len, false) {
+            None => view.len,
+            Some(i) => i,
+        }
     }
 
     /// How many bits at the front are false, up to the first that is true.
@@ -438,7 +481,11 @@ pub trait BitList {
         ensures each { (j : ℕ) → j < result → slice_get (list self.now) j ≡ Some false }
         ensures next { result < len self.now → slice_get (list self.now) result ≡ Some true }
     {
-        self.as_bitslice().leading_zeros()
+        let view = self.as_bitslice();
+        match view.find_next(0, view.len, true) {
+            None => view.len,
+            Some(i) => i,
+        }
     }
 
     /// How many bits at the end are true, after the last that is false.
@@ -453,7 +500,11 @@ pub trait BitList {
         ensures next { result < len self.now
             → slice_get (list self.now) (len self.now - 1 - result) ≡ Some false }
     {
-        self.as_bitslice().trailing_ones()
+        let view = self.as_bitslice();
+        match view.find_last(0, view.len, false) {
+            None => view.len,
+            Some(i) => view.len - 1 - i,
+        }
     }
 
     /// How many bits at the end are false, after the last that is true.
@@ -468,7 +519,11 @@ pub trait BitList {
         ensures next { result < len self.now
             → slice_get (list self.now) (len self.now - 1 - result) ≡ Some true }
     {
-        self.as_bitslice().trailing_zeros()
+        let view = self.as_bitslice();
+        match view.find_last(0, view.len, true) {
+            None => view.len,
+            Some(i) => view.len - 1 - i,
+        }
     }
 
     /// Whether no bit is true. Of an empty list it is true.
@@ -480,7 +535,7 @@ pub trait BitList {
         ensures value { result ≡ not (list_any (λ b. b) (list self.now)) }
         ensures index { IsTrue result ↔ EachIndex (list self.now) (λ i. slice_get (list self.now) i ≡ Some false) }
     {
-        self.as_bitslice().not_any()
+        !self.any()
     }
 
     /// Whether some bit is false. Of an empty list it is false.
@@ -492,7 +547,7 @@ pub trait BitList {
         ensures value { result ≡ not (list_all (λ b. b) (list self.now)) }
         ensures index { IsTrue result ↔ SomeIndex (list self.now) (λ i. slice_get (list self.now) i ≡ Some false) }
     {
-        self.as_bitslice().not_all()
+        !self.all()
     }
 
     /// Whether some bit is true and some bit is false.
@@ -505,7 +560,7 @@ pub trait BitList {
         ensures one { IsTrue result → SomeIndex (list self.now) (λ i. slice_get (list self.now) i ≡ Some true) }
         ensures zero { IsTrue result → SomeIndex (list self.now) (λ i. slice_get (list self.now) i ≡ Some false) }
     {
-        self.as_bitslice().some()
+        self.any() && self.not_all()
     }
 
     /// The indices of the bits that are true, ascending, from both ends. Bits are read 64 at a time.
@@ -561,7 +616,19 @@ pub trait BitList {
         ensures none { IfNone result ((j : ℕ) → j + len_of other.entry ≤ len self.now
             → part (len_of other.entry) (list self.now) j ≢ list_of other.entry) }
     {
-        self.as_bitslice().find(other)
+        let view = self.as_bitslice();
+        let n = other.len;
+        if n > view.len {
+            return None;
+        }
+        let mut at = 0;
+        while at <= view.len - n {
+            if equal_views(view.get_range(at..at + n), other) {
+                return Some(at);
+            }
+            at += 1;
+        }
+        None
     }
 
     /// Whether the bits of `other` begin somewhere in the list.
@@ -574,7 +641,7 @@ pub trait BitList {
         ensures none { (j : ℕ) → j + len_of other.entry ≤ len self.now
             → part (len_of other.entry) (list self.now) j ≡ list_of other.entry → IsTrue result }
     {
-        self.as_bitslice().contains(other)
+        self.find(other).is_some()
     }
 
     /// The views of the bits before index `mid`, and of those from it on. Requires that `mid` is at most the
@@ -638,7 +705,8 @@ pub trait BitList {
     final fn starts_with<U: BitStore, P: BitOrder>(&self, other: BitSlice<'_, U, P>) -> bool
         ensures { IsTrue result ↔ (take (len_of other.entry) (list self.now) ≡ list_of other.entry) }
     {
-        self.as_bitslice().starts_with(other)
+        let view = self.as_bitslice();
+        other.len() <= view.len && equal_views(view.get_range(0..other.len()), other)
     }
 
     /// Whether the list ends with the bits of `other`.
@@ -650,7 +718,9 @@ pub trait BitList {
         ensures { IsTrue result
             ↔ (drop (len self.now - len_of other.entry) (list self.now) ≡ list_of other.entry) }
     {
-        self.as_bitslice().ends_with(other)
+        let view = self.as_bitslice();
+        other.len() <= view.len
+            && equal_views(view.get_range(view.len - other.len()..view.len), other)
     }
 
     /// The chunk of number `k`: the view that `chunks(size)` gives after `k` others. Requires that `size` is
@@ -763,7 +833,8 @@ pub trait BitList {
         ensures value { result ≡ number_of (list self.now) }
         ensures bits { number_bits result (len self.now) ≡ list self.now }
     {
-        self.as_bitslice().load_le()
+        let view = self.as_bitslice();
+        read_chunk::<Self::Store, Self::Order>(view.words, view.head, view.len as u8)
     }
 
     /// The list as a number, the first bit the most significant, whatever the order of bits in a word. Requires
@@ -778,7 +849,8 @@ pub trait BitList {
         ensures digits { binary (len self.now) result ≡ list self.now }
         ensures below { result < 2 ^ len self.now }
     {
-        self.as_bitslice().load_be()
+        let view = self.as_bitslice();
+        read_binary::<Self::Store, Self::Order>(view.words, view.head, view.len as u8)
     }
 }
 

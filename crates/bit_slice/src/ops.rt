@@ -3,7 +3,7 @@ ghost use Rattle.std.specs.Prelude.{◌≡◌, ◌+◌, ◌*◌, ◌^◌, ◌<�
 ghost use Rattle.bit_addressing.specs.Row.{put, IsFirstDifference};
 ghost use Rattle.bit_addressing.specs.Typed.{row};
 ghost use Rattle.bit_addressing.specs.declared.length.TheConstants.{MAX_BITS};
-ghost use Rattle.bit_slice.specs.Operators.{bits_cmp, combined, and_of, or_of, xor_of, AndsEach, OrsEach, XorsEach, CombinesEach, SameFromEitherSide, EqualWhereEqual, BelowTheNext, FalseFirst, PrefixFirst};
+ghost use Rattle.bit_slice.specs.Operators.{bits_cmp, combined, and_of, or_of, xor_of, AndsEach, OrsEach, XorsEach, CombinesEach};
 ghost use Rattle.bit_slice.specs.BitSlice.{len_of as len_seen, list_of as list_seen};
 
 use crate::slice::BitSlice;
@@ -12,42 +12,8 @@ use bit_addressing::{BitOrder, BitStore};
 use bit_rows::{And, BitOperator, Or, Xor, combine_bits, differ_at, fill_bits};
 use std::cmp::Ordering;
 
-impl<'a, T: BitStore, O: BitOrder> BitSlice<'a, T, O> {
-    /// Whether both views have the same bits. Many bits are compared at a time.
-    ///
-    /// ```text
-    /// of 01101001 and 01101001: bits.eq_bits(other) == true
-    /// ```
-    pub fn eq_bits<U: BitStore, P: BitOrder>(self, other: BitSlice<'_, U, P>) -> bool
-        ensures { IsTrue result ↔ (list_seen self.entry ≡ list_seen other.entry) }
-    {
-        let len = self.len();
-        len == other.len() && first_difference(self, other, len).is_none()
-    }
-
-    /// How the bits of both views are ordered: the first that differ decide, false before true, and
-    /// where none differ the shorter view comes first. Many bits are compared at a time.
-    ///
-    /// ```text
-    /// of 01101001 and 0111: bits.cmp_bits(other) == Ordering::Less
-    /// ```
-    pub fn cmp_bits<U: BitStore, P: BitOrder>(self, other: BitSlice<'_, U, P>) -> Ordering
-        ensures { result ≡ bits_cmp (list_seen self.entry) (list_seen other.entry) }
-    {
-        let both = self.len().min(other.len());
-        match first_difference(self, other, both) {
-            None => self.len().cmp(&other.len()),
-            Some(k) => if self.bit(k) {
-                Ordering::Greater
-            } else {
-                Ordering::Less
-            },
-        }
-    }
-}
-
 // The first index below `n` at which two views differ. None exactly where they are equal up to it.
-fn first_difference<T: BitStore, O: BitOrder, U: BitStore, P: BitOrder>(
+pub(crate) fn first_difference<T: BitStore, O: BitOrder, U: BitStore, P: BitOrder>(
     left: BitSlice<'_, T, O>,
     right: BitSlice<'_, U, P>,
     n: usize,
@@ -62,21 +28,21 @@ fn first_difference<T: BitStore, O: BitOrder, U: BitStore, P: BitOrder>(
     differ_at::<T, O, U, P>(left.as_raw_slice(), from, right.as_raw_slice(), begin, n)
 }
 
-/// Does nothing: its clauses are the laws of the order of lists of bits. The order is total, and the
-/// same from either side. Two lists are `Equal` exactly where they are equal. At the first items that
-/// differ, false comes before true, and a list comes before each longer list that begins with it.
-pub fn order_of_bits()
-    ensures sides { SameFromEitherSide }
-    ensures equal { EqualWhereEqual }
-    ensures next { BelowTheNext }
-    ensures false_first { FalseFirst }
-    ensures prefix_first { PrefixFirst }
-{}
+// Whether two views have the same bits. Many bits are compared at a time.
+pub(crate) fn equal_views<T: BitStore, O: BitOrder, U: BitStore, P: BitOrder>(
+    left: BitSlice<'_, T, O>,
+    right: BitSlice<'_, U, P>,
+) -> bool
+    ensures { IsTrue result ↔ (list_seen left.entry ≡ list_seen right.entry) }
+{
+    let len = left.len();
+    len == right.len() && first_difference(left, right, len).is_none()
+}
 
 /// Combines each of the `len` bits of the words' row from `head` on, by `F`, with the bit of `other` for it, or
 /// with false past the end of `other`. The first bit of `other` is for the first of the run. No other bit
 /// changes. Requires that the run lies in the words.
-pub fn combine_view<F: BitOperator, T: BitStore, O: BitOrder, U: BitStore, P: BitOrder>(
+pub(crate) fn combine_view<F: BitOperator, T: BitStore, O: BitOrder, U: BitStore, P: BitOrder>(
     words: &mut [T],
     head: usize,
     len: usize,

@@ -21,7 +21,12 @@ use bit_rows::{
 };
 
 /// Writes `bit` at each index of the list.
-pub fn fill_over<T: BitStore, O: BitOrder>(words: &mut [T], head: usize, len: usize, bit: bool)
+pub(crate) fn fill_over<T: BitStore, O: BitOrder>(
+    words: &mut [T],
+    head: usize,
+    len: usize,
+    bit: bool,
+)
     requires within { head + len ≤ T.BITS * length words.old }
     requires fits { head + len < 2 ^ 64 }
     ensures { IsRewritten T.BitStore O.BitOrder words.old words.new head len (replicate len bit) }
@@ -31,7 +36,7 @@ pub fn fill_over<T: BitStore, O: BitOrder>(words: &mut [T], head: usize, len: us
 
 /// Writes the bits of a view, with any word type and order, over the list. Requires that the view is as long
 /// as the list.
-pub fn copy_over<T: BitStore, O: BitOrder, U: BitStore, P: BitOrder>(
+pub(crate) fn copy_over<T: BitStore, O: BitOrder, U: BitStore, P: BitOrder>(
     words: &mut [T],
     head: usize,
     len: usize,
@@ -50,7 +55,7 @@ pub fn copy_over<T: BitStore, O: BitOrder, U: BitStore, P: BitOrder>(
 /// Moves the bits of a range of the list to `dest`, as if they were copied out first, and returns the meter of
 /// the words that were read and written. Requires that the range lies in the list, that its bits have room from
 /// `dest` on, and that the words have at most `MAX_BITS + 2 * T::BITS` bits.
-pub fn move_within_over<T: BitStore, O: BitOrder, R: RangeExt>(
+pub(crate) fn move_within_over<T: BitStore, O: BitOrder, R: RangeExt>(
     words: &mut [T],
     head: usize,
     len: usize,
@@ -72,7 +77,7 @@ pub fn move_within_over<T: BitStore, O: BitOrder, R: RangeExt>(
 }
 
 /// Writes `bit` at each index of a range of the list. Requires that the range lies in the list.
-pub fn fill_range_over<T: BitStore, O: BitOrder, R: RangeExt>(
+pub(crate) fn fill_range_over<T: BitStore, O: BitOrder, R: RangeExt>(
     words: &mut [T],
     head: usize,
     len: usize,
@@ -91,7 +96,7 @@ pub fn fill_range_over<T: BitStore, O: BitOrder, R: RangeExt>(
 }
 
 /// Flips the bit at each index of a range of the list. Requires that the range lies in the list.
-pub fn flip_range_over<T: BitStore, O: BitOrder, R: RangeExt>(
+pub(crate) fn flip_range_over<T: BitStore, O: BitOrder, R: RangeExt>(
     words: &mut [T],
     head: usize,
     len: usize,
@@ -110,7 +115,7 @@ pub fn flip_range_over<T: BitStore, O: BitOrder, R: RangeExt>(
 
 /// Writes the bits of a view, with any word type and order, at the indices of a range of the list.
 /// Requires that the range lies in the list, and is as long as the view.
-pub fn copy_into_over<T: BitStore, O: BitOrder, R: RangeExt, U: BitStore, P: BitOrder>(
+pub(crate) fn copy_into_over<T: BitStore, O: BitOrder, R: RangeExt, U: BitStore, P: BitOrder>(
     words: &mut [T],
     head: usize,
     len: usize,
@@ -133,7 +138,7 @@ pub fn copy_into_over<T: BitStore, O: BitOrder, R: RangeExt, U: BitStore, P: Bit
 /// Combines each bit at the indices of a range of the list, by `F`, with the bit of `other` for it, or with
 /// false past the end of `other`. The first bit of `other` is for the first of the range. Requires that the
 /// range lies in the list.
-pub fn combine_range_over<
+pub(crate) fn combine_range_over<
     F: BitOperator,
     T: BitStore,
     O: BitOrder,
@@ -154,7 +159,7 @@ pub fn combine_range_over<
 }
 
 /// Reverses the list.
-pub fn reverse_over<T: BitStore, O: BitOrder>(words: &mut [T], head: usize, len: usize)
+pub(crate) fn reverse_over<T: BitStore, O: BitOrder>(words: &mut [T], head: usize, len: usize)
     requires within { head + len ≤ T.BITS * length words.old }
     requires fits { head + len < 2 ^ 64 }
     ensures { IsRewritten T.BitStore O.BitOrder words.old words.new head len
@@ -164,7 +169,12 @@ pub fn reverse_over<T: BitStore, O: BitOrder>(words: &mut [T], head: usize, len:
 }
 
 /// Moves the first `by` bits of the list after the others. Requires that `by` is at most the length.
-pub fn rotate_over<T: BitStore, O: BitOrder>(words: &mut [T], head: usize, len: usize, by: usize)
+pub(crate) fn rotate_over<T: BitStore, O: BitOrder>(
+    words: &mut [T],
+    head: usize,
+    len: usize,
+    by: usize,
+)
     requires room { T.BITS * length words.old ≤ MAX_BITS + 2 * T.BITS }
     requires within { head + len ≤ T.BITS * length words.old }
     requires inside { by ≤ len }
@@ -177,7 +187,7 @@ pub fn rotate_over<T: BitStore, O: BitOrder>(words: &mut [T], head: usize, len: 
 
 /// Moves each bit of the list by `by` indices towards the front. The first `by` bits are dropped, and the
 /// last `by` become false. Requires that `by` is at most the length.
-pub fn shift_left_over<T: BitStore, O: BitOrder>(
+pub(crate) fn shift_left_over<T: BitStore, O: BitOrder>(
     words: &mut [T],
     head: usize,
     len: usize,
@@ -194,7 +204,7 @@ pub fn shift_left_over<T: BitStore, O: BitOrder>(
 
 /// Moves each bit of the list by `by` indices towards the end. The last `by` bits are dropped, and the
 /// first `by` become false. Requires that `by` is at most the length.
-pub fn shift_right_over<T: BitStore, O: BitOrder>(
+pub(crate) fn shift_right_over<T: BitStore, O: BitOrder>(
     words: &mut [T],
     head: usize,
     len: usize,
@@ -212,7 +222,7 @@ pub fn shift_right_over<T: BitStore, O: BitOrder>(
 /// Combines each bit of the list at `dest + k`, by `F`, with bit `k` of a range of the list, as if the range
 /// was read before any bit is written. The two runs may overlap. Requires that the range lies in the list, and
 /// that its bits have room from `dest` on.
-pub fn combine_within_over<F: BitOperator, T: BitStore, O: BitOrder, R: RangeExt>(
+pub(crate) fn combine_within_over<F: BitOperator, T: BitStore, O: BitOrder, R: RangeExt>(
     words: &mut [T],
     head: usize,
     len: usize,
@@ -234,7 +244,7 @@ pub fn combine_within_over<F: BitOperator, T: BitStore, O: BitOrder, R: RangeExt
 
 /// Writes the lowest bits of a number over the list, the least significant first. Requires that the list
 /// has at most 64 bits.
-pub fn store_le_over<T: BitStore, O: BitOrder>(
+pub(crate) fn store_le_over<T: BitStore, O: BitOrder>(
     words: &mut [T],
     head: usize,
     len: usize,
@@ -251,7 +261,7 @@ pub fn store_le_over<T: BitStore, O: BitOrder>(
 
 /// Writes the lowest bits of a number over the list, the most significant first. Requires that the list
 /// has at most 64 bits.
-pub fn store_be_over<T: BitStore, O: BitOrder>(
+pub(crate) fn store_be_over<T: BitStore, O: BitOrder>(
     words: &mut [T],
     head: usize,
     len: usize,
@@ -266,7 +276,7 @@ pub fn store_be_over<T: BitStore, O: BitOrder>(
 }
 
 /// Combines each bit of the list, by `F`, with the bit at its index in a view, or with false past the view's end.
-pub fn combine_over<F: BitOperator, T: BitStore, O: BitOrder, U: BitStore, P: BitOrder>(
+pub(crate) fn combine_over<F: BitOperator, T: BitStore, O: BitOrder, U: BitStore, P: BitOrder>(
     words: &mut [T],
     head: usize,
     len: usize,
@@ -281,7 +291,7 @@ pub fn combine_over<F: BitOperator, T: BitStore, O: BitOrder, U: BitStore, P: Bi
 }
 
 /// Writes the bit at index `i` of the list, and no other bit. Requires that `i` is below the length.
-pub fn set_over<T: BitStore, O: BitOrder>(
+pub(crate) fn set_over<T: BitStore, O: BitOrder>(
     words: &mut [T],
     head: usize,
     len: usize,
@@ -304,7 +314,7 @@ pub fn set_over<T: BitStore, O: BitOrder>(
 }
 
 /// Swaps the bits at `i` and `j` of the list, and changes no other bit. Requires that both are below the length.
-pub fn swap_over<T: BitStore, O: BitOrder>(
+pub(crate) fn swap_over<T: BitStore, O: BitOrder>(
     words: &mut [T],
     head: usize,
     len: usize,

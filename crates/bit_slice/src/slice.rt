@@ -10,12 +10,10 @@ ghost use Rattle.bit_addressing.specs.declared.length.TheConstants.{MAX_BITS};
 ghost use Rattle.bit_slice.specs.Fits.{IsView};
 
 pub(crate) mod chunks;
-mod fields;
 pub(crate) mod indices;
 mod parts;
-mod pattern;
 mod search;
-mod sets;
+pub(crate) mod sets;
 mod traits;
 
 use crate::counted::Counted;
@@ -37,9 +35,9 @@ use std::ops::Index;
 /// view.get_range(4..8).count_ones() == 1
 /// ```
 pub struct BitSlice<'a, T: BitStore, O: BitOrder> {
-    words: &'a [T],
-    head: usize,
-    len: usize,
+    pub(crate) words: &'a [T],
+    pub(crate) head: usize,
+    pub(crate) len: usize,
     order: PhantomData<O>,
     ghost fits: { IsView T.BITS (length words.now) head len },
 }
@@ -290,45 +288,6 @@ impl<'a, T: BitStore, O: BitOrder> BitSlice<'a, T, O> {
         ensures few { result ≤ len_of self.entry }
     {
         count_bits::<T, O>(self.words, self.head, self.head + self.len)
-    }
-
-    /// How many bits are false.
-    ///
-    /// ```text
-    /// of 01101001: bits.count_zeros() == 4
-    /// ```
-    pub fn count_zeros(self) -> usize
-        ensures value { result ≡ count_by not (list_of self.entry) }
-        ensures with_ones { result + count_by (λ b. b) (list_of self.entry) ≡ length (list_of self.entry) }
-        ensures few { result ≤ len_of self.entry }
-    {
-        self.len - self.count_ones()
-    }
-
-    /// Whether some bit is true. Of an empty view it is false.
-    ///
-    /// ```text
-    /// of 01101001: bits.any() == true
-    /// ```
-    pub fn any(self) -> bool
-        ensures value { result ≡ list_any (λ b. b) (list_of self.entry) }
-        ensures index { IsTrue result ↔ SomeIndex (list_of self.entry)
-            (λ i. slice_get (list_of self.entry) i ≡ Some true) }
-    {
-        find_bit::<T, O>(self.words, self.head, self.head + self.len, true).is_some()
-    }
-
-    /// Whether every bit is true. Of an empty view it is true.
-    ///
-    /// ```text
-    /// of 01101001: bits.all() == false
-    /// ```
-    pub fn all(self) -> bool
-        ensures value { result ≡ list_all (λ b. b) (list_of self.entry) }
-        ensures index { IsTrue result ↔ EachIndex (list_of self.entry)
-            (λ i. slice_get (list_of self.entry) i ≡ Some true) }
-    {
-        find_bit::<T, O>(self.words, self.head, self.head + self.len, false).is_none()
     }
 }
 

@@ -15,7 +15,8 @@ ghost use Rattle.bit_boxed.specs.LendsLeft.{lends_left};
 
 use crate::boxed::BitBox;
 use bit_addressing::{BitOrder, BitStore, Lsb0};
-use bit_slice::{BitSlice, BitSliceMut, Iter, write_list};
+use bit_slice::inner::write_list;
+use bit_slice::{BitSlice, BitSliceMut, Iter};
 use std::alloc::AllocError;
 use std::fmt;
 use std::iter::{DoubleEndedIterator, ExactSizeIterator, FusedIterator, Iterator};

@@ -6,7 +6,8 @@ ghost use Rattle.bit_slice.specs.Operators.{and_of, or_of, xor_of, AndsEach, Ors
 
 use crate::boxed::BitBox;
 use bit_addressing::{BitOrder, BitStore};
-use bit_slice::{BitListMut, flip_row};
+use bit_slice::BitListMut;
+use bit_slice::inner::flip_row;
 use std::ops::{BitAnd, BitAndAssign, BitOr, BitOrAssign, BitXor, BitXorAssign, Index, Not};
 
 impl<T: BitStore, O: BitOrder> BitBox<T, O> {

@@ -10,7 +10,8 @@ ghost use Rattle.bit_slice.specs.Held.{Held};
 
 use crate::boxed::BitBox;
 use bit_addressing::{BitOrder, BitStore};
-use bit_slice::{hash_bits, write_digits, write_list};
+use bit_slice::BitList;
+use bit_slice::inner::{hash_bits, write_digits, write_list};
 use std::alloc::AllocError;
 use std::boxed::BoxedSlice;
 use std::cmp::Ordering;

@@ -9,7 +9,8 @@ ghost use Rattle.bit_slice.specs.BitSlice.{list_of};
 use crate::vec::BitVec;
 use bit_addressing::{BitOrder, BitStore, Lsb0, RangeExt};
 use bit_rows::{cut_words_in_vec, move_bits_in_vec};
-use bit_slice::{BitSlice, write_list};
+use bit_slice::BitSlice;
+use bit_slice::inner::write_list;
 use std::fmt;
 use std::iter::FusedIterator;
 

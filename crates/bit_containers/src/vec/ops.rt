@@ -9,7 +9,8 @@ ghost use Rattle.bit_slice.specs.Operators.{combined, and_of, or_of, xor_of, And
 use crate::vec::BitVec;
 use bit_addressing::{BitOrder, BitStore, GrowError};
 use bit_rows::{And, BitOperator, Or, Xor};
-use bit_slice::{BitListMut, BitSlice, flip_row};
+use bit_slice::inner::flip_row;
+use bit_slice::{BitListMut, BitSlice};
 use std::ops::{BitAnd, BitAndAssign, BitOr, BitOrAssign, BitXor, BitXorAssign, Index, Not};
 
 impl<T: BitStore, O: BitOrder> BitVec<T, O> {

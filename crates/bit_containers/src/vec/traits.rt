@@ -9,7 +9,8 @@ ghost use Rattle.bit_containers.specs.Compared.{list_in};
 
 use crate::vec::BitVec;
 use bit_addressing::{BitOrder, BitStore};
-use bit_slice::{BitList, hash_bits, write_digits, write_list};
+use bit_slice::BitList;
+use bit_slice::inner::{hash_bits, write_digits, write_list};
 use std::alloc::AllocError;
 use std::cmp::Ordering;
 use std::fmt;

@@ -3,8 +3,8 @@ use crate::common::{check, ok};
 use bit_addressing::{Lsb0, Msb0};
 use bit_rows::{
     And, Or, append_run_in_vec, copy_bits_in_vec, count_blocks, cut_words_in_vec, false_blocks,
-    fill_bits, flip_words, move_bits_in_vec, push_bit_in_vec, read_binary,
-    read_bit, resize_words_in_vec, write_binary, write_bit, write_bit_in_vec,
+    fill_bits, flip_words, move_bits_in_vec, push_bit_in_vec, read_binary, read_bit,
+    resize_words_in_vec, write_binary, write_bit, write_bit_in_vec,
 };
 
 #[test]

@@ -187,7 +187,7 @@ const LONG: usize = 256;
 /// Reverses the `len` bits of the words' row from `head` on: a long run by whole words, where the order is the same
 /// from both ends of a word, else up to 64 bits from each end at a time. No other bit changes. Requires that the run
 /// lies in the words.
-pub fn reverse_bits<T: BitStore, O: BitOrder>(words: &mut [T], head: usize, len: usize)
+pub(crate) fn reverse_bits<T: BitStore, O: BitOrder>(words: &mut [T], head: usize, len: usize)
     requires within { head + len ≤ T.BITS * length words.old }
     requires fits { head + len < 2 ^ 64 }
     ensures bits { row T.BitStore O.BitOrder words.new

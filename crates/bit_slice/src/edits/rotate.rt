@@ -5,9 +5,8 @@ ghost use Rattle.bit_addressing.specs.Table.{IsPairTable};
 ghost use Rattle.bit_addressing.specs.declared.length.TheConstants.{MAX_BITS};
 ghost use Rattle.bit_addressing.specs.Typed.{row};
 
-use bit_addressing::{
-    BitIdx, BitOrder, BitStore, PairTable, each_shift, in_word, move_bits, window_by,
-};
+use bit_addressing::inner::{PairTable, in_word, window_by};
+use bit_addressing::{BitIdx, BitOrder, BitStore, each_shift, move_bits};
 use bit_rows::{copy_bits, read_chunk, write_chunk};
 
 // Like `rotate_bits`, where `kept` has room for the bits that move after the others: they are kept there while the
@@ -347,7 +346,12 @@ fn rotate_long<T: BitStore, O: BitOrder>(words: &mut [T], head: usize, len: usiz
 /// Moves the first `by` of the `len` bits of the words' row from `head` on after the others: by one move where one side
 /// is short, which is kept meanwhile, else by exchanges of whole words first. No other bit changes. Requires that the
 /// run lies in the words, and `by` is at most its length.
-pub fn rotate_bits<T: BitStore, O: BitOrder>(words: &mut [T], head: usize, len: usize, by: usize)
+pub(crate) fn rotate_bits<T: BitStore, O: BitOrder>(
+    words: &mut [T],
+    head: usize,
+    len: usize,
+    by: usize,
+)
     requires room { T.BITS * length words.old ≤ MAX_BITS + 2 * T.BITS }
     requires within { head + len ≤ T.BITS * length words.old }
     requires inside { by ≤ len }

@@ -58,30 +58,4 @@ impl<'a, T: BitStore, O: BitOrder> BitSlice<'a, T, O> {
         let last = self.len - 1;
         Some((self.bit(last), self.get_range(0..last)))
     }
-
-    /// Whether the view begins with the bits of `other`.
-    ///
-    /// ```text
-    /// of 01101001 and 0110: bits.starts_with(other) == true
-    /// ```
-    pub fn starts_with<U: BitStore, P: BitOrder>(self, other: BitSlice<'_, U, P>) -> bool
-        ensures { IsTrue result ↔ (take (len_of other.entry) (list_of self.entry) ≡ list_of other.entry) }
-    {
-        other.len() <= self.len && self.get_range(0..other.len()).eq_bits(other)
-    }
-
-    /// Whether the view ends with the bits of `other`.
-    ///
-    /// ```text
-    /// of 01101001 and 001: bits.ends_with(other) == true
-    /// ```
-    pub fn ends_with<U: BitStore, P: BitOrder>(self, other: BitSlice<'_, U, P>) -> bool
-        ensures { IsTrue result ↔ (drop (len_of self.entry - len_of other.entry) (list_of self.entry)
-            ≡ list_of other.entry) }
-    {
-        other.len() <= self.len
-            && self
-                .get_range(self.len - other.len()..self.len)
-                .eq_bits(other)
-    }
 }

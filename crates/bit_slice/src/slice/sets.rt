@@ -6,6 +6,7 @@ ghost use Rattle.bit_slice.specs.BitSlice.{len_of, list_of};
 ghost use Rattle.bit_slice.specs.Operators.{combined, and_of, or_of, xor_of, and_not_of};
 
 use crate::edits::AndNot;
+use crate::lists::BitList;
 use crate::slice::BitSlice;
 use bit_addressing::{BitOrder, BitStore};
 use bit_rows::{And, BitOperator, Or, Xor, count_blocks, false_blocks, read_chunk};
@@ -59,7 +60,7 @@ fn count_long<F: BitOperator, T: BitStore, O: BitOrder, U: BitStore, P: BitOrder
 // Of the first `upto` bits that the operator makes of two views, how many are true. Up to 64 are one number, whose
 // bits are counted without a call (docs/SPEED.md, "The bench", small xor).
 #[inline(always)]
-fn count_pairs<F: BitOperator, T: BitStore, O: BitOrder, U: BitStore, P: BitOrder>(
+pub(crate) fn count_pairs<F: BitOperator, T: BitStore, O: BitOrder, U: BitStore, P: BitOrder>(
     left: BitSlice<'_, T, O>,
     right: BitSlice<'_, U, P>,
     upto: usize,
@@ -104,7 +105,7 @@ fn any_long<F: BitOperator, T: BitStore, O: BitOrder, U: BitStore, P: BitOrder>(
 // Of the first `upto` bits that the operator makes of two views, whether one is true. Up to 64 are one number, as in
 // `count_pairs`.
 #[inline(always)]
-fn any_pair<F: BitOperator, T: BitStore, O: BitOrder, U: BitStore, P: BitOrder>(
+pub(crate) fn any_pair<F: BitOperator, T: BitStore, O: BitOrder, U: BitStore, P: BitOrder>(
     left: BitSlice<'_, T, O>,
     right: BitSlice<'_, U, P>,
     upto: usize,
@@ -122,21 +123,9 @@ fn any_pair<F: BitOperator, T: BitStore, O: BitOrder, U: BitStore, P: BitOrder>(
 }
 
 impl<'a, T: BitStore, O: BitOrder> BitSlice<'a, T, O> {
-    /// How many indices are true in both views.
-    ///
-    /// ```text
-    /// of 01101001 and 11110000: bits.count_and(other) == 2
-    /// ```
-    pub fn count_and<U: BitStore, P: BitOrder>(self, other: BitSlice<'_, U, P>) -> usize
-        ensures value { result ≡ count_by (λ b. b) (and_of (list_of self.entry) (list_of other.entry)) }
-        ensures few { result ≤ len_of self.entry }
-    {
-        count_pairs::<And, T, O, U, P>(self, other, self.len.min(other.len))
-    }
-
     // How many bits are true from index `from` on: 0, without a call, where the view ends there.
     #[inline(always)]
-    fn ones_from(self, from: usize) -> usize
+    pub(crate) fn ones_from(self, from: usize) -> usize
         requires { from ≤ len_of self }
         ensures value { result
             ≡ count_by (λ b. b) (slice_range (list_of self.entry) from (len_of self.entry)) }
@@ -148,41 +137,8 @@ impl<'a, T: BitStore, O: BitOrder> BitSlice<'a, T, O> {
         self.get_range(from..self.len).count_ones()
     }
 
-    /// How many indices are true in one of the views or in both. The shorter view counts as filled up
-    /// with false.
-    ///
-    /// ```text
-    /// of 01101001 and 11110000: bits.count_or(other) == 6
-    /// ```
-    pub fn count_or<U: BitStore, P: BitOrder>(self, other: BitSlice<'_, U, P>) -> usize
-        ensures value { result ≡ count_by (λ b. b) (or_of (list_of self.entry) (list_of other.entry))
-            + count_by (λ b. b) (drop (len_of self.entry) (list_of other.entry)) }
-        ensures with_and { result + count_by (λ b. b) (and_of (list_of self.entry) (list_of other.entry))
-            ≡ count_by (λ b. b) (list_of self.entry) + count_by (λ b. b) (list_of other.entry) }
-    {
-        let both = self.len.min(other.len);
-        let shared = count_pairs::<Or, T, O, U, P>(self, other, both);
-        shared + self.ones_from(both) + other.ones_from(both)
-    }
-
-    /// How many indices differ. The shorter view counts as filled up with false.
-    ///
-    /// ```text
-    /// of 01101001 and 11110000: bits.count_xor(other) == 4
-    /// ```
-    pub fn count_xor<U: BitStore, P: BitOrder>(self, other: BitSlice<'_, U, P>) -> usize
-        ensures value { result ≡ count_by (λ b. b) (xor_of (list_of self.entry) (list_of other.entry))
-            + count_by (λ b. b) (drop (len_of self.entry) (list_of other.entry)) }
-        ensures with_and { result + 2 * count_by (λ b. b) (and_of (list_of self.entry) (list_of other.entry))
-            ≡ count_by (λ b. b) (list_of self.entry) + count_by (λ b. b) (list_of other.entry) }
-    {
-        let both = self.len.min(other.len);
-        let shared = count_pairs::<Xor, T, O, U, P>(self, other, both);
-        shared + self.ones_from(both) + other.ones_from(both)
-    }
-
     // Whether an index is true that is false in `other` or past its end.
-    fn exceeds<U: BitStore, P: BitOrder>(self, other: BitSlice<'_, U, P>) -> bool
+    pub(crate) fn exceeds<U: BitStore, P: BitOrder>(self, other: BitSlice<'_, U, P>) -> bool
         ensures { result ≡ list_any (λ b. b) (and_not_of (list_of self.entry) (list_of other.entry)) }
     {
         let both = self.len.min(other.len);
@@ -190,60 +146,5 @@ impl<'a, T: BitStore, O: BitOrder> BitSlice<'a, T, O> {
             return true;
         }
         both < self.len && self.get_range(both..self.len).any()
-    }
-
-    /// Whether each index that is true is true in `other`. An index past the end of `other` counts as
-    /// false there.
-    ///
-    /// ```text
-    /// of 01101001 and 01101111: bits.is_subset(other) == true
-    /// ```
-    pub fn is_subset<U: BitStore, P: BitOrder>(self, other: BitSlice<'_, U, P>) -> bool
-        ensures value { result ≡ not (list_any (λ b. b) (and_not_of (list_of self.entry) (list_of other.entry))) }
-        ensures index { IsTrue result ↔
-            ((j : ℕ) → slice_get (list_of self.entry) j ≡ Some true → slice_get (list_of other.entry) j ≡ Some true) }
-        ensures and { IsTrue result ↔ (and_of (list_of self.entry) (list_of other.entry) ≡ list_of self.entry) }
-    {
-        !self.exceeds(other)
-    }
-
-    /// Whether each index that is true in `other` is true.
-    ///
-    /// ```text
-    /// of 01101001 and 01000001: bits.is_superset(other) == true
-    /// ```
-    pub fn is_superset<U: BitStore, P: BitOrder>(self, other: BitSlice<'_, U, P>) -> bool
-        ensures value { result ≡ not (list_any (λ b. b) (and_not_of (list_of other.entry) (list_of self.entry))) }
-        ensures index { IsTrue result ↔
-            ((j : ℕ) → slice_get (list_of other.entry) j ≡ Some true → slice_get (list_of self.entry) j ≡ Some true) }
-        ensures and { IsTrue result ↔ (and_of (list_of other.entry) (list_of self.entry) ≡ list_of other.entry) }
-    {
-        other.is_subset(self)
-    }
-
-    /// Whether an index is true in both views.
-    ///
-    /// ```text
-    /// of 01101001 and 11110000: bits.intersects(other) == true
-    /// ```
-    pub fn intersects<U: BitStore, P: BitOrder>(self, other: BitSlice<'_, U, P>) -> bool
-        ensures value { result ≡ list_any (λ b. b) (and_of (list_of self.entry) (list_of other.entry)) }
-        ensures index { IsTrue result ↔ SomeIndex (list_of self.entry)
-            (λ j. (slice_get (list_of self.entry) j ≡ Some true) × (slice_get (list_of other.entry) j ≡ Some true)) }
-    {
-        any_pair::<And, T, O, U, P>(self, other, self.len.min(other.len))
-    }
-
-    /// Whether no index is true in both views.
-    ///
-    /// ```text
-    /// of 01101001 and 10010110: bits.is_disjoint(other) == true
-    /// ```
-    pub fn is_disjoint<U: BitStore, P: BitOrder>(self, other: BitSlice<'_, U, P>) -> bool
-        ensures value { result ≡ not (list_any (λ b. b) (and_of (list_of self.entry) (list_of other.entry))) }
-        ensures index { IsTrue result ↔
-            ((j : ℕ) → slice_get (list_of self.entry) j ≡ Some true → slice_get (list_of other.entry) j ≢ Some true) }
-    {
-        !self.intersects(other)
     }
 }

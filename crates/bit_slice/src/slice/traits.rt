@@ -12,6 +12,7 @@ ghost use Rattle.bit_slice.specs.Operators.{bits_cmp};
 ghost use Rattle.bit_slice.specs.Comparisons.{bits_equal, bits_equiv, bits_total, bits_partial, bits_tie, bits_fed, bits_alike};
 
 use crate::iter::Iter;
+use crate::lists::BitList;
 use crate::slice::BitSlice;
 use crate::texts::{hash_bits, write_digits, write_list};
 use bit_addressing::{BitOrder, BitStore};

@@ -60,8 +60,8 @@ module _ (xs ys : List Bool) where
       let zs = filled_up xs (length ys) in
       omega (arith, sum, xor_and zs ys, none_past, filled_ones xs (length ys - length xs), filled_both xs ys (length ys - length xs), members_counted (xor_of zs ys))
 
-  pub in_both : (n : ℕ) → n ≡ ones (and_of xs ys) → n ≡ length (ones_of (and_of xs ys))
-  in_both n is = is ∙ sym (members_counted (and_of xs ys))
+  pub in_both : (n : ℕ) → n ≡ ones (and_of xs ys) → n ≡ length (ones_of (and_of (filled_up xs (length ys)) ys))
+  in_both n is = is ∙ sym (filled_both xs ys (length ys - length xs)) ∙ sym (members_counted (and_of (filled_up xs (length ys)) ys))
 
 -- a number of the left set is in both or in the left one alone
 step : (x y : Bool) → cond (x && not y) 1 0 + cond (x && y) 1 0 ≡ cond x 1 0
@@ -75,8 +75,11 @@ apart [] ys = refl
 apart (x ∷ xs) [] = omega (arith, one_more (x && true) (and_not_of xs []), one_more (x && false) (and_of xs []), one_more x xs, step x false, apart xs [])
 apart (x ∷ xs) (y ∷ ys) = omega (arith, one_more (x && not y) (and_not_of xs ys), one_more (x && y) (and_of xs ys), one_more x xs, step x y, apart xs ys)
 
-pub left_alone : (xs ys : List Bool) (all both : ℕ) → all ≡ ones xs → both ≡ ones (and_of xs ys) → all - both ≡ length (ones_of (and_not_of xs ys))
-left_alone xs ys all both is here = omega (arith, is, here, apart xs ys, members_counted (and_not_of xs ys))
+pub left_alone : (xs ys : List Bool) (all both : ℕ) → all ≡ ones xs → both ≡ ones (and_of xs ys) → all - both ≡ length (ones_of (and_not_of (filled_up xs (length ys)) ys))
+left_alone xs ys all both is here =
+    let zs = filled_up xs (length ys) in
+    let more = length ys - length xs in
+    omega (arith, is, here, apart zs ys, filled_ones xs more, filled_both xs ys more, members_counted (and_not_of zs ys))
 
 pub both_at_most : (xs ys : List Bool) (all both : ℕ) → all ≡ ones xs → both ≡ ones (and_of xs ys) → both ≤ all
 both_at_most xs ys all both is here = omega (arith, is, here, apart xs ys)

@@ -1,5 +1,5 @@
 //! A matrix of truth values, one bit each.
-ghost use Rattle.std.specs.Prelude.{◌≡◌, ◌≢◌, ◌+◌, ◌*◌, ◌<◌, ◌≤◌, ◌⊎◌, ◌↔◌, ◌==◌, ◌||◌, ℕ, Err, IfOk, IsTrue, Some, false, set, slice_get, slice_index_or, slice_range};
+ghost use Rattle.std.specs.Prelude.{◌≡◌, ◌≢◌, ◌+◌, ◌*◌, ◌<◌, ◌≤◌, ◌⊎◌, ◌↔◌, ◌==◌, ◌||◌, ℕ, Err, IfOk, IsTrue, Some, false, length, set, slice_get, slice_index_or, slice_range};
 ghost use Rattle.bit_addressing.specs.declared.errors.GrowError.TheVariants as errors;
 ghost use Rattle.bit_addressing.specs.declared.length.TheConstants.{MAX_BITS};
 ghost use Rattle.bit_slice.specs.BitSlice.{head_of, len_of, list_of};
@@ -104,15 +104,19 @@ impl Matrix {
     }
 
     /// How many rows there are.
+    #[tactic(auto, using(crate::proofs::Padding::length_grid))]
     pub fn rows(&self) -> usize
-        ensures { result ≡ self.now.rows }
+        ensures value { result ≡ self.now.rows }
+        ensures size { length self.now.bits ≡ self.now.rows * self.now.columns }
     {
         self.rows
     }
 
     /// How many columns there are.
+    #[tactic(auto, using(crate::proofs::Padding::length_grid))]
     pub fn columns(&self) -> usize
-        ensures { result ≡ self.now.columns }
+        ensures value { result ≡ self.now.columns }
+        ensures size { length self.now.bits ≡ self.now.rows * self.now.columns }
     {
         self.columns
     }

@@ -1,5 +1,5 @@
 //! A list of truth values as bytes, and back.
-ghost use Rattle.std.specs.Prelude.{◌≡◌, ◌+◌, ◌*◌, ◌≤◌, ◌↔◌, Bool, List, Err, IfOk, IfErr, IsTrue, length};
+ghost use Rattle.std.specs.Prelude.{◌≡◌, ◌+◌, ◌*◌, ◌<◌, ◌≤◌, ◌↔◌, Bool, List, Err, IfOk, IfErr, IsTrue, length};
 ghost use Rattle.bit_addressing.specs.declared.errors.GrowError.TheVariants.{OutOfMemory};
 ghost use Rattle.bit_addressing.specs.declared.length.TheConstants.{MAX_BITS};
 ghost use Rattle.bit_users.specs.Sequence.{AreBytesOf};
@@ -62,15 +62,15 @@ pub fn are_of_one_list(left: &[u8], right: &[u8]) -> bool
 }
 
 /// The list whose bytes these are. Returns `Broken` exactly where they are the bytes of no list of at most `MAX_BITS`
-/// bits. Memory is refused only where they are those of a list, which has at most as many bits as the bytes after the
-/// first eight: a wrong length asks for no memory.
+/// bits. Memory is refused only where they are those of a list with a bit, which has at most as many bits as the bytes
+/// after the first eight: a wrong length asks for no memory.
 pub fn from_bytes(alloc: Global, bytes: &[u8]) -> Result<BitVec<u8, Msb0>, Fault>
     ensures read { IfOk result (λ bits. AreBytesOf bits.list bytes.now) }
     ensures list { IfOk result (λ read. (bits : List Bool) → length bits ≤ MAX_BITS → AreBytesOf bits bytes.now
         → read.list ≡ bits) }
     ensures small { IfOk result (λ read. 64 + length read.list ≤ 8 * length bytes.now) }
     ensures memory { result ≡ Err faults.OutOfMemory
-        → (bits : List Bool) × (length bits ≤ MAX_BITS) × AreBytesOf bits bytes.now }
+        → (bits : List Bool) × (length bits ≤ MAX_BITS) × AreBytesOf bits bytes.now × (0 < length bits) }
     ensures broken { result ≡ Err faults.Broken → (bits : List Bool) → length bits ≤ MAX_BITS
         → AreBytesOf bits bytes.now → ⊥ }
 {

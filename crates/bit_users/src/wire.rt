@@ -120,11 +120,11 @@ impl Header {
         ensures checked { IfOk result (λ h. (h.version ≡ 4) × (h.header_words ≡ 5) × (h.flags < 4)) }
         ensures too_short { (result ≡ Err faults.TooShort) ↔ (length bytes.now < 20) }
         ensures version { result ≡ Err faults.Version
-            → (h : HeaderRecord) × ((take 20 bytes.now ≡ bytes_of h) × (h.version ≢ 4)) }
+            → (h : HeaderRecord) × (Fits h × (take 20 bytes.now ≡ bytes_of h) × (h.version ≢ 4)) }
         ensures options { result ≡ Err faults.Options
-            → (h : HeaderRecord) × ((take 20 bytes.now ≡ bytes_of h) × (h.version ≡ 4) × (h.header_words ≢ 5)) }
+            → (h : HeaderRecord) × (Fits h × (take 20 bytes.now ≡ bytes_of h) × (h.version ≡ 4) × (h.header_words ≢ 5)) }
         ensures reserved { result ≡ Err faults.ReservedFlag
-            → (h : HeaderRecord) × ((take 20 bytes.now ≡ bytes_of h) × (h.version ≡ 4) × (h.header_words ≡ 5)
+            → (h : HeaderRecord) × (Fits h × (take 20 bytes.now ≡ bytes_of h) × (h.version ≡ 4) × (h.header_words ≡ 5)
             × (4 ≤ h.flags)) }
     {
         let Some(header) = Self::read(bytes) else {

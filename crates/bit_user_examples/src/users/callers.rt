@@ -150,7 +150,7 @@ pub fn path_leads(graph: &mut Matrix, from: usize, to: usize) -> bool
 }
 
 /// A matrix that is transposed twice has its bits again.
-pub fn turned_twice(alloc: Global, matrix: &Matrix) -> Result<Matrix, AllocError>
+pub fn turned_twice(alloc: Global, matrix: &Matrix) -> Result<Matrix, GrowError>
     ensures { IfOk result (λ again. (i j : ℕ) → i < matrix.now.rows → j < matrix.now.columns
         → item again i j ≡ item matrix.now i j) }
 {

@@ -1,33 +1,34 @@
 //! Rows into columns, by squares of 64 x 64 bits.
-ghost use Rattle.std.specs.Prelude.{◌≡◌, ◌≢◌, ◌+◌, ◌*◌, ◌<◌, ◌≤◌, ◌⊎◌, ℕ, IfOk, OnErr, false};
+ghost use Rattle.std.specs.Prelude.{◌≡◌, ◌≢◌, ◌+◌, ◌*◌, ◌<◌, ◌≤◌, ◌⊎◌, ◌↔◌, ℕ, Err, IfOk, false};
 ghost use Rattle.bit_addressing.specs.Bits.{has_bit};
-ghost use Rattle.bit_users.specs.Matrix.{AreAlike, item};
+ghost use Rattle.bit_addressing.specs.declared.errors.GrowError.TheVariants as errors;
+ghost use Rattle.bit_addressing.specs.declared.length.TheConstants.{MAX_BITS};
+ghost use Rattle.bit_users.specs.Matrix.{AreAlike, item, padded};
 ghost use Rattle.bit_users.specs.Squares.{square_bit};
 
 use crate::matrix::Matrix;
 use crate::matrix::squares::turn;
-use bit_addressing::Lsb0;
+use bit_addressing::{GrowError, Lsb0};
 use bit_containers::{BitListMut, BitSlice};
-use std::alloc::{AllocError, Global};
+use std::alloc::Global;
 
 impl Matrix {
-    /// The matrix whose rows are the columns of this one, by squares of 64 x 64 bits. Takes memory where there is a
-    /// bit, and is refused only then. It is refused too where the bits of the result, with the padding of each row,
-    /// would pass `MAX_BITS`.
+    /// The matrix whose rows are the columns of this one, by squares of 64 x 64 bits. Returns `TooLong` exactly where
+    /// the bits of the result, with the padding of each row, pass `MAX_BITS`. Takes memory where there is a bit, and is
+    /// refused only then.
     ///
     /// ```text
     /// of the rows 110 and 001: m.transpose(alloc)? has the rows 10, 10 and 01
     /// ```
-    pub fn transpose(&self, alloc: Global) -> Result<Self, AllocError>
+    pub fn transpose(&self, alloc: Global) -> Result<Self, GrowError>
         ensures rows { IfOk result (λ m. m.rows ≡ self.now.columns) }
         ensures columns { IfOk result (λ m. m.columns ≡ self.now.rows) }
         ensures items { IfOk result (λ m. (i j : ℕ) → i < self.now.columns → j < self.now.rows
             → item m i j ≡ item self.now j i) }
-        ensures memory { OnErr result (0 < self.now.rows * self.now.columns) }
+        ensures too_long { (result ≡ Err errors.TooLong) ↔ (MAX_BITS < self.now.columns * padded self.now.rows) }
+        ensures memory { result ≡ Err errors.OutOfMemory → 0 < self.now.rows * self.now.columns }
     {
-        let Ok(mut turned) = Self::new(alloc, self.columns(), self.rows()) else {
-            return Err(AllocError);
-        };
+        let mut turned = Self::new(alloc, self.columns(), self.rows())?;
         if self.rows() == 0 {
             return Ok(turned);
         }

@@ -60,7 +60,9 @@ returns-in-Err-clause-memory c refused =
     let end : ℕ = length (take (length bytes - 8) (drop 8 bytes)) * 8 in
     let are = read_is bytes c.copy_from_slice.new.self list len end c.if-bytes-lt8.false (λ i. Fits-lt-pow (c.type_inv.bytes i)) c.copy_from_slice.ensures.after c.from_le_bytes-len.ensures (c.if-words-elts.false ∙ c.elts.ensures.value) refl
     (no_stray _ len end c.find_bit.result c.find_bit.ensures (sym c.is_some.ensures ∙ c.if-is_some.false)) refl in
-    (list, shown_few row list len refl c.if-len-gt-MAX_BITS.false, are)
+    let few = shown_few row list len refl c.if-len-gt-MAX_BITS.false in
+    let read = length_read list bytes c.copy_from_slice.new.self len (small (length list) few) are c.copy_from_slice.ensures.after c.from_le_bytes-len.ensures in
+    (list, few, are, omega (arith, read, c.in-Err.ensures.memory, c.from_parts.ensures.len))
 
 pub returns-in-Ok-clause-small : goal.returns-in-Ok-clause-small
 returns-in-Ok-clause-small c =

@@ -16,7 +16,7 @@ loop-column-init c =
     let same : work ≡ m = search rules in
     record {
       alike = (ap (λ (g : Grid). g.rows) same, ap (λ (g : Grid). g.columns) same);
-      made_alike = (c.in-Ok.ensures.rows ∙ c.rows.ensures, c.in-Ok.ensures.columns ∙ c.rows.ensures ∙ c.requires);
+      made_alike = (c.in-Ok.ensures.rows ∙ c.rows.ensures.value, c.in-Ok.ensures.columns ∙ c.rows.ensures.value ∙ c.requires);
       linked = linked_first (item m) (item work) (item made) m.columns (λ i j h l. ap (λ (g : Grid). item g i j) same) (λ i j h l. c.in-Ok.ensures.items i j (omega arith) (omega arith));
       units = λ i j h l. absurd (omega arith);
     }

@@ -85,7 +85,7 @@ fn called<B: Bits>(rt: &impl Abort, bits: &mut B) {
     assert!(rt; len == 8);
     bits.set(6, true);
     holds(rt, bits, b"00000010");
-    bits.copy_within(5..8, 0);
+    bits.copy_within(5, 8, 0);
     holds(rt, bits, b"01000010");
     bits.flip_all();
     holds(rt, bits, b"10111101");

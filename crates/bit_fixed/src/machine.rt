@@ -6,7 +6,6 @@ ghost use Rattle.bit_fixed.specs.Machine.{list_after_one, reply_to, list_after, 
 use crate::bits::Bits;
 use bit_addressing::GrowError;
 use bit_containers::{Reply, Stop};
-use bit_slice::{BitList, BitListMut};
 
 /// What to do to a list of bits whose length stays.
 #[derive(Clone, Copy, PartialEq, Eq, Debug)]
@@ -47,7 +46,7 @@ fn copy_at<B: Bits>(bits: &mut B, from: usize, upto: usize, dest: usize) -> Repl
 {
     let len = bits.len();
     if from <= upto && upto <= len && dest <= len - (upto - from) {
-        bits.copy_within(from..upto, dest);
+        bits.copy_within(from, upto, dest);
         Reply::Done
     } else {
         Reply::OutOfRange
@@ -64,8 +63,6 @@ fn step<B: Bits>(bits: &mut B, command: FixedCommand) -> Reply
         FixedCommand::Get(i) => bits.get(i).map_or(Reply::OutOfRange, Reply::Bit),
         FixedCommand::Set(i, bit) => set_at(bits, i, bit),
         FixedCommand::Fill(bit) => {
-            // The contract of `len` ties the list's length to the container's.
-            let _len = bits.len();
             bits.fill(bit);
             Reply::Done
         }

@@ -6,7 +6,7 @@ ghost use Rattle.bit_slice.specs.BitSlice.{len_of};
 ghost use Rattle.bit_slice.specs.Places.{ones_of, places_between};
 
 use crate::ranks::Ranks;
-use bit_containers::{BitOrder, BitStore};
+use bit_containers::{BitList, BitOrder, BitStore};
 use bit_slice::BitSlice;
 use std::iter::{FusedIterator, Iterator};
 

@@ -5,7 +5,7 @@ ghost use Rattle.bit_addressing.specs.Row.{number_of};
 ghost use Rattle.bit_slice.specs.BitSlice.{len_of, list_of};
 ghost use Rattle.bit_ranks.specs.Ranks.{is_bit};
 
-use bit_containers::{BitOrder, BitStore};
+use bit_containers::{BitList, BitOrder, BitStore};
 use bit_slice::BitSlice;
 
 // The place of the `k`-th set bit of a number, counted from 0 and from the lowest on: the part that has it is

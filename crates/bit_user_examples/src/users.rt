@@ -8,7 +8,7 @@ mod sets;
 
 use crate::{check, ok};
 use bit_addressing::{GrowError, Lsb0, Msb0};
-use bit_containers::{BitListMut, BitVec};
+use bit_containers::{BitList, BitListMut, BitVec};
 use bit_users::{
     Fault, FreeMap, Header, HeaderFault, Matrix, NotTaken, NumberSet, are_of_one_list, from_bytes,
     to_bytes,

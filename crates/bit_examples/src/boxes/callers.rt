@@ -8,7 +8,7 @@ ghost use Rattle.bit_slice.specs.BitSlice.{len_of, list_of};
 
 use bit_addressing::{BitOrder, BitStore};
 use bit_boxed::BitBox;
-use bit_slice::{BitListMut, BitSlice};
+use bit_slice::{BitList, BitListMut, BitSlice};
 use std::alloc::{AllocError, Global};
 use std::boxed::BoxedSlice;
 

@@ -10,7 +10,7 @@ ghost use Rattle.bit_slice.specs.Places.{ones_of, zeros_of};
 ghost use Rattle.bit_slice.specs.Pieces.{chunk_count, chunks_of, part};
 
 use bit_addressing::{BitOrder, BitStore};
-use bit_slice::{BitSlice, BitSliceMut};
+use bit_slice::{BitList, BitListMut, BitSlice, BitSliceMut};
 use std::alloc::{AllocError, Global};
 
 pub fn bit_at_first<T: BitStore, O: BitOrder>(view: BitSlice<'_, T, O>) -> Option<bool>
@@ -382,4 +382,16 @@ pub fn exact_chunks<T: BitStore, O: BitOrder>(view: BitSlice<'_, T, O>, n: usize
     ensures { result ≡ len_of view.entry / n }
 {
     view.chunks_exact(n).len()
+}
+
+/// The bits after the whole chunks, when the iterator is used up.
+pub fn rest_after_two<T: BitStore, O: BitOrder>(view: BitSlice<'_, T, O>, n: usize) -> usize
+    requires some { 0 < n }
+    requires two { len_of view / n ≡ 2 }
+    ensures { result ≡ len_of view.entry - len_of view.entry / n * n }
+{
+    let mut chunks = view.chunks_exact(n);
+    let _first = chunks.next();
+    let _second = chunks.next_back();
+    chunks.remainder().len()
 }

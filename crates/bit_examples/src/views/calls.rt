@@ -6,7 +6,8 @@ ghost use Rattle.bit_addressing.specs.declared.length.TheConstants.{MAX_BITS};
 use crate::common::{check, ok};
 use crate::rows::orders::Xor4;
 use bit_addressing::{BitOrder, BitStore, Lsb0, MAX_BITS, Msb0};
-use bit_slice::{BitSlice, BitSliceMut, split_run_mut};
+use bit_slice::{BitList, BitListMut, BitSlice, BitSliceMut, split_run_mut};
+use std::process::Abort;
 
 // What is written through a view stands in the caller's own words.
 fn set_third<T: BitStore, O: BitOrder>(words: &mut [T])
@@ -53,6 +54,29 @@ fn two_runs_land(rt: HostRuntime) {
     left.fill(false);
     right.flip_all();
     check(&rt, words.as_slice() == [0x07, 0x00, 0xf0].as_slice());
+}
+
+// That the remainder is the bits 100.
+fn is_rest(rt: &impl Abort, rest: BitSlice<'_, u8, Lsb0>) {
+    check(rt, rest.len() == 3);
+    check(rt, rest.get(0) == Some(true));
+    check(rt, rest.get(1) == Some(false));
+    check(rt, rest.get(2) == Some(false));
+}
+
+#[test]
+fn remainder_stays(rt: HostRuntime) {
+    let words = [0x5a_u8, 0xc3];
+    let mut chunks = BitSlice::<u8, Lsb0>::from_slice(&words)
+        .get_range(1..12)
+        .chunks_exact(4);
+    is_rest(&rt, chunks.remainder());
+    check(&rt, chunks.next().is_some());
+    is_rest(&rt, chunks.remainder());
+    check(&rt, chunks.next_back().is_some());
+    is_rest(&rt, chunks.remainder());
+    check(&rt, chunks.nth(0).is_none());
+    is_rest(&rt, chunks.remainder());
 }
 
 #[test]

@@ -2,7 +2,7 @@
 
 use crate::common::check;
 use bit_addressing::{Lsb0, Msb0};
-use bit_slice::{BitSlice, BitSliceMut};
+use bit_slice::{BitList, BitSlice, BitSliceMut};
 use std::cmp::Ordering;
 
 #[test]

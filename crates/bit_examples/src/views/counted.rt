@@ -7,7 +7,7 @@ ghost use Rattle.bit_slice.specs.Counted.{head_of as head_read, len_of as len_re
 
 use crate::common::check;
 use bit_addressing::Lsb0;
-use bit_slice::{BitSlice, BitSliceMut, Counted, CountedMut};
+use bit_slice::{BitList, BitSlice, BitSliceMut, Counted, CountedMut};
 
 // A counted move of bits 1..12 to 3 writes two words at most, and reads six at most.
 #[tactic(auto, unfolding(bit_addressing::specs::Row::touched))]

@@ -6,7 +6,7 @@ ghost use Rattle.bit_slice.specs.BitSlice.{len_of, list_of};
 ghost use Rattle.bit_ranks.specs.Sorted.{IsNextFrom};
 
 use crate::sorted::SortedNumbers;
-use bit_containers::Lsb0;
+use bit_containers::{BitList, Lsb0};
 use bit_slice::BitSlice;
 use std::iter::{ExactSizeIterator, FusedIterator, Iterator};
 

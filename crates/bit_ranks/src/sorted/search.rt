@@ -8,7 +8,7 @@ ghost use Rattle.bit_ranks.specs.Sorted.{AreSameHigh, IsUptoHigh, high_part, low
 
 use crate::ranks::Ranks;
 use crate::sorted::{SortedNumbers, low_bits_at};
-use bit_containers::{BitVec, Lsb0};
+use bit_containers::{BitList, BitVec, Lsb0};
 use std::ops::Range;
 
 impl SortedNumbers {

@@ -7,9 +7,12 @@ ghost use Rattle.bit_slice.specs.BitSliceMut.{list_of as lent_list};
 ghost use Rattle.bit_slice.specs.Operators.{or_of};
 ghost use Rattle.bit_slice.specs.Pieces.{part};
 
+use crate::common::{check, of, ok};
 use bit_containers::array::{BitArray, BitViewSized, BitWords};
 use bit_containers::boxed::BitBox;
-use bit_containers::{BitList, BitListMut, BitOrder, BitSlice, BitSliceMut, BitStore, BitVec};
+use bit_containers::{
+    BitList, BitListMut, BitOrder, BitSlice, BitSliceMut, BitStore, BitVec, Lsb0, Msb0,
+};
 
 /// How many bits are true.
 pub(crate) fn count<B: BitList>(bits: &B) -> usize
@@ -93,4 +96,30 @@ pub fn added_to_a_view<T: BitStore, O: BitOrder, U: BitStore, P: BitOrder>(
     ensures { lent_list view.new ≡ or_of (lent_list view.old) v.now.list }
 {
     add(view, v);
+}
+
+#[test]
+fn lists_of_each_kind(rt: HostRuntime) {
+    let v = of::<u8, Lsb0>(&rt, b"0110");
+    let b: BitBox<u16, Msb0> = ok(&rt, BitBox::from_bitslice(rt.alloc(), v.as_bitslice()));
+    let mut a = BitArray::<u8, Lsb0>::new(0x66);
+    check(&rt, count(&v) == 2);
+    check(&rt, counted_in_a_view(v.as_bitslice()) == 2);
+    check(&rt, counted_in_an_array(&a) == 4);
+    check(&rt, equal_of_two_kinds(&v, &b));
+    check(&rt, find(&a, &v) == Some(0));
+    added_to_a_view(&mut a.as_mut_bitslice(), &v);
+    check(&rt, count(&a) == 4);
+    cleared_array(&mut a);
+    check(&rt, a.into_inner() == 0);
+}
+
+#[test]
+fn cleared(rt: HostRuntime) {
+    let mut v = of::<u8, Lsb0>(&rt, b"0110");
+    let mut b: BitBox<u16, Msb0> = ok(&rt, BitBox::from_bitslice(rt.alloc(), v.as_bitslice()));
+    cleared_vector(&mut v);
+    cleared_box(&mut b);
+    check(&rt, v.not_any());
+    check(&rt, b.not_any());
 }

@@ -3,6 +3,7 @@ ghost use Rattle.std.specs.Prelude.{◌≡◌, ◌≢◌, ◌+◌, ◌<◌, ◌�
 ghost use Rattle.bit_addressing.specs.Bits.{has_bit};
 ghost use Rattle.bit_users.specs.Matrix.{AreAlike, IsClosed, IsPath, IsPathOver, IsSet, LeadsOver};
 
+use bit_slice::BitList;
 use crate::matrix::Matrix;
 
 impl Matrix {

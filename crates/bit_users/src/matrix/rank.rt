@@ -4,6 +4,7 @@ ghost use Rattle.bit_users.specs.Matrix.{AreAlike, item};
 ghost use Rattle.bit_users.specs.Rank.{IsRank};
 ghost use Rattle.bit_users.specs.Reduction.{AreReduced, IsLead, IsReducing};
 
+use bit_slice::BitList;
 use crate::matrix::Matrix;
 use std::alloc::{AllocError, Global};
 

@@ -9,7 +9,7 @@ ghost use Rattle.bit_users.specs.Squares.{square_bit};
 use crate::matrix::Matrix;
 use crate::matrix::squares::turn;
 use bit_addressing::{GrowError, Lsb0};
-use bit_containers::{BitListMut, BitSlice};
+use bit_containers::{BitList, BitListMut, BitSlice};
 use std::alloc::Global;
 
 impl Matrix {

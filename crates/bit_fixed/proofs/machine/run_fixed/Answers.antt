@@ -5,7 +5,7 @@ use Rattle.bit_fixed.proofs.machine.run_fixed.Goals as goal
 
 pub loop-command-preserved : goal.loop-command-preserved
 loop-command-preserved g c =
-    let list = g.B.BitList.list c.args.bits.now in
+    let list = g.B.Bits.list c.args.bits.now in
     let at = c.loop-command in
     let lists = list_after-next list c.args.commands.now at.command-index (Get 0) c.loop-command-test.true in
     let replies = replies_of-next list c.args.commands.now at.command-index (Get 0) c.loop-command-test.true in

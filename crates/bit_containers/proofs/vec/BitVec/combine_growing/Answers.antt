@@ -13,7 +13,7 @@ returns-clause-row g c =
     let now = c.args.self.now in
     let new = c.combine.new.self in
     let w = g.T.BitStore.BITS in
-    let size = c.combine.ensures.len in
+    let size = c.combine.ensures.stays.len in
     let len = c.in_ok-fill_up.ensures.len in
     let over = filled_over w now.row new.list now.head (length now.list) c.len.result (length new.list) (width_positive w g.met.T.BitStore.width) (size ∙ len) refl in
     rw (c.combine.ensures.row, ← c.combine.ensures.list, c.in_ok-fill_up.ensures.row, c.in_ok-fill_up.ensures.head, ← size) over

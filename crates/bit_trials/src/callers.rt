@@ -9,6 +9,7 @@ mod laws;
 mod lending;
 mod making;
 mod numbers;
+mod own;
 mod reading;
 mod removing;
 mod rules;

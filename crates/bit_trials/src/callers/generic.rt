@@ -101,7 +101,7 @@ pub fn added_to_a_view<T: BitStore, O: BitOrder, U: BitStore, P: BitOrder>(
 #[test]
 fn lists_of_each_kind(rt: HostRuntime) {
     let v = of::<u8, Lsb0>(&rt, b"0110");
-    let b: BitBox<u16, Msb0> = ok(&rt, BitBox::from_bitslice(rt.alloc(), v.as_bitslice()));
+    let b: BitBox<u16, Msb0> = ok(&rt, BitBox::from_bits(rt.alloc(), v.iter()));
     let mut a = BitArray::<u8, Lsb0>::new(0x66);
     check(&rt, count(&v) == 2);
     check(&rt, counted_in_a_view(v.as_bitslice()) == 2);
@@ -117,7 +117,7 @@ fn lists_of_each_kind(rt: HostRuntime) {
 #[test]
 fn cleared(rt: HostRuntime) {
     let mut v = of::<u8, Lsb0>(&rt, b"0110");
-    let mut b: BitBox<u16, Msb0> = ok(&rt, BitBox::from_bitslice(rt.alloc(), v.as_bitslice()));
+    let mut b: BitBox<u16, Msb0> = ok(&rt, BitBox::from_bits(rt.alloc(), v.iter()));
     cleared_vector(&mut v);
     cleared_box(&mut b);
     check(&rt, v.not_any());

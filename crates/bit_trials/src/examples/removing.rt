@@ -1,6 +1,6 @@
 //! Bits taken out, and put in place of others.
 use crate::common::{check, holds, of, ok, shows};
-use bit_containers::{BitSlice, BitVec, Lsb0, Msb0};
+use bit_containers::{BitList, BitSlice, BitVec, Lsb0, Msb0};
 
 #[test]
 fn drained(rt: HostRuntime) {

@@ -3,7 +3,7 @@ ghost use Rattle.std.specs.Iterator.{at_most};
 
 use crate::common::{check, holds, of, ok};
 use bit_containers::boxed::BitBox;
-use bit_containers::{BitVec, GrowError, Lsb0, Msb0};
+use bit_containers::{BitList, BitVec, GrowError, Lsb0, Msb0};
 use std::process::Abort;
 
 /// One item or the other, the first of them at each third place from the end, under a hint that says nothing, or as

@@ -1,8 +1,7 @@
 //! Functions over a list of bits of any kind, and what callers at each kind know of them.
-ghost use Rattle.std.specs.List.{position};
-ghost use Rattle.std.specs.Prelude.{◌≡◌, ◌+◌, ◌*◌, ◌≤◌, ◌↔◌, Bool, IfSome, IsTrue, List, count_by, length, replicate};
+ghost use Rattle.std.specs.Prelude.{◌≡◌, ◌*◌, ◌↔◌, IfSome, IsTrue, count_by, false, length, replicate};
 ghost use Rattle.bit_addressing.specs.Typed.{row as row_in};
-ghost use Rattle.bit_slice.specs.BitSlice.{len_of, list_of};
+ghost use Rattle.bit_slice.specs.BitSlice.{list_of};
 ghost use Rattle.bit_slice.specs.BitSliceMut.{list_of as lent_list};
 ghost use Rattle.bit_slice.specs.Operators.{or_of};
 ghost use Rattle.bit_slice.specs.Pieces.{part};

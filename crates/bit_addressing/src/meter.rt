@@ -20,7 +20,7 @@ impl Model for Meter {
 }
 
 impl Meter {
-    /// A meter at 0.
+    // A meter at 0.
     pub(crate) fn new() -> Meter
         ensures { (result.reads ≡ 0) × (result.writes ≡ 0) }
     {
@@ -29,12 +29,12 @@ impl Meter {
         }
     }
 
-    /// Counts one read.
+    // Counts one read.
     pub(crate) fn count_read(&mut self)
         ensures { (self.new.reads ≡ self.old.reads + 1) × (self.new.writes ≡ self.old.writes) }
     {}
 
-    /// Counts one write.
+    // Counts one write.
     pub(crate) fn count_write(&mut self)
         ensures { (self.new.reads ≡ self.old.reads) × (self.new.writes ≡ self.old.writes + 1) }
     {}

@@ -15,8 +15,8 @@ use crate::pair_table::PairTable;
 use crate::store::BitStore;
 use crate::word_row::WordRow;
 
-/// Two words and an index: bit `index + i` of the two, for the indices `i` of `low..high`, is that of the
-/// row at `from + (i - low)`.
+// Two words and an index: bit `index + i` of the two, for the indices `i` of `low..high`, is that of the
+// row at `from + (i - low)`.
 #[inline(always)]
 fn gather<T: BitStore, O: BitOrder>(
     row: &mut WordRow<T>,
@@ -51,7 +51,7 @@ fn gather<T: BitStore, O: BitOrder>(
     (word, row.load(k + 1), begin)
 }
 
-/// Moves the bits from `from` on to the indices `low..high` of word `k`, by three reads at most.
+// Moves the bits from `from` on to the indices `low..high` of word `k`, by three reads at most.
 #[inline(always)]
 pub(crate) fn move_part<T: BitStore, O: BitOrder>(
     row: &mut WordRow<T>,
@@ -100,8 +100,8 @@ pub fn window_by<T: BitStore, O: BitOrder>(
     }
 }
 
-/// Moves the bits from index `at` of word `begin` on to the `count` whole words from word `first` on, which
-/// lie no higher.
+// Moves the bits from index `at` of word `begin` on to the `count` whole words from word `first` on, which
+// lie no higher.
 #[inline(always)]
 fn shift_down<T: BitStore, O: BitOrder>(
     row: &mut WordRow<T>,
@@ -131,7 +131,7 @@ fn shift_down<T: BitStore, O: BitOrder>(
     }
 }
 
-/// Like `shift_down`, to words that lie higher: the last one goes first.
+// Like `shift_down`, to words that lie higher: the last one goes first.
 #[inline(always)]
 fn shift_up<T: BitStore, O: BitOrder>(
     row: &mut WordRow<T>,
@@ -162,8 +162,8 @@ fn shift_up<T: BitStore, O: BitOrder>(
     }
 }
 
-/// Moves the bits from index `at` of word `begin` on to the `count` whole words from word `first` on. Each loop is
-/// inlined and compiled for its case: words that are neighbours, and words that are not.
+// Moves the bits from index `at` of word `begin` on to the `count` whole words from word `first` on. Each loop is
+// inlined and compiled for its case: words that are neighbours, and words that are not.
 #[inline(always)]
 fn shift_words<T: BitStore, O: BitOrder>(
     row: &mut WordRow<T>,
@@ -198,7 +198,7 @@ fn shift_words<T: BitStore, O: BitOrder>(
     }
 }
 
-/// Like `shift_words`, by a table that is made here (docs/SPEED.md, "An order that a user writes", the moves).
+// Like `shift_words`, by a table that is made here (docs/SPEED.md, "An order that a user writes", the moves).
 #[inline(never)]
 fn shift_by_table<T: BitStore, O: BitOrder>(
     row: &mut WordRow<T>,
@@ -222,8 +222,8 @@ fn shift_by_table<T: BitStore, O: BitOrder>(
     shift_words::<T, O>(row, begin, at, first, count, Some(&table));
 }
 
-/// Moves the bits from `from` on to the `count` whole words from word `first` on. Requires that the row
-/// has one bit more after those that are moved.
+// Moves the bits from `from` on to the `count` whole words from word `first` on. Requires that the row
+// has one bit more after those that are moved.
 #[inline(always)]
 pub(crate) fn move_words<T: BitStore, O: BitOrder>(
     row: &mut WordRow<T>,

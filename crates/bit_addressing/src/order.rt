@@ -362,7 +362,7 @@ impl BitOrder for Msb0 {
     }
 }
 
-/// The words of type `T` that lie in 64 bits, the last one first.
+// The words of type `T` that lie in 64 bits, the last one first.
 fn turned<T: BitStore>(block: u64) -> u64
     ensures packed { (i : ℕ) → i < 64
         → has_bit result (63 - i) ≡ has_bit block (i / T.BITS * T.BITS + (T.BITS - 1 - i % T.BITS)) }

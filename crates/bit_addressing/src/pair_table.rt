@@ -9,8 +9,8 @@ use crate::index::BitIdx;
 use crate::order::BitOrder;
 use crate::store::BitStore;
 
-/// For each place of one of two words, 0 for the first and 1 for the second, the word of type `T` that its bit
-/// alone becomes: that at index `i` comes from bit `at + i` of the two words.
+// For each place of one of two words, 0 for the first and 1 for the second, the word of type `T` that its bit
+// alone becomes: that at index `i` comes from bit `at + i` of the two words.
 #[inline(always)]
 fn columns<T: BitStore, O: BitOrder, U: BitStore, P: BitOrder>(at: u8, word: u8) -> [u64; 64]
     requires width { U.BITS ≡ T.BITS }
@@ -28,7 +28,7 @@ fn columns<T: BitStore, O: BitOrder, U: BitStore, P: BitOrder>(at: u8, word: u8)
     columns
 }
 
-/// The column where bit `b` of a number is set, else 0.
+// The column where bit `b` of a number is set, else 0.
 #[inline(always)]
 fn column_if(column: u64, v: u8, b: u8) -> u64
     requires { b < 8 }
@@ -37,8 +37,8 @@ fn column_if(column: u64, v: u8, b: u8) -> u64
     if v >> b & 1 == 1 { column } else { 0 }
 }
 
-/// Writes the words that four places at once become: entry `k * 16 + v` is for the places from `4 * k` on, where
-/// `v` has their bits. The compiler writes the inner loop out, so that no bit of `v` is tested.
+// Writes the words that four places at once become: entry `k * 16 + v` is for the places from `4 * k` on, where
+// `v` has their bits. The compiler writes the inner loop out, so that no bit of `v` is tested.
 #[inline(always)]
 fn fill_entries(entries: &mut [u64; 256], columns: &[u64; 64])
     ensures { (k v : ℕ) → k < 16 → v < 16
@@ -54,7 +54,7 @@ fn fill_entries(entries: &mut [u64; 256], columns: &[u64; 64])
     }
 }
 
-/// The entries of the `count` lowest groups of four bits of a word, put together.
+// The entries of the `count` lowest groups of four bits of a word, put together.
 #[inline(always)]
 fn taken(entries: &[u64; 256], word: u64, count: u8) -> u64
     requires { count ≤ 16 }

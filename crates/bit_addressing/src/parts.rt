@@ -20,9 +20,9 @@ pub fn repeated<T: BitStore>(bit: bool) -> T
     if bit { T::ZERO.not() } else { T::ZERO }
 }
 
-/// The word moved up until its lowest bit stands where those of a word moved down by `count` end. Words of 16
-/// and 32 bits go in two steps, of which the compiler makes a faster loop (docs/SPEED.md, "What is not fast",
-/// words of 16 bits). Requires that `count` is above 0 and below `T::BITS`.
+// The word moved up until its lowest bit stands where those of a word moved down by `count` end. Words of 16
+// and 32 bits go in two steps, of which the compiler makes a faster loop (docs/SPEED.md, "What is not fast",
+// words of 16 bits). Requires that `count` is above 0 and below `T::BITS`.
 #[inline(always)]
 pub(crate) fn shl_by_rest<T: BitStore>(word: T, count: u8) -> T
     requires some { 0 < count }
@@ -37,7 +37,7 @@ pub(crate) fn shl_by_rest<T: BitStore>(word: T, count: u8) -> T
     word.shl(T::BITS - 1 - count).shl(1)
 }
 
-/// Like `shl_by_rest`, downward: after a word that was moved up by `count`.
+// Like `shl_by_rest`, downward: after a word that was moved up by `count`.
 #[inline(always)]
 pub(crate) fn shr_by_rest<T: BitStore>(word: T, count: u8) -> T
     requires some { 0 < count }

@@ -100,8 +100,8 @@ pub trait BitStore: Copy + Drop {
     fn count_ones(self) -> u32
         ensures { result ≡ count_ones (value self) };
 
-    /// Does nothing: that these words are numbers of `BITS` bits is known of each type, and a proof over
-    /// any type learns it here.
+    /// Proof only: that these words are numbers of `BITS` bits is known of each type, and a proof over any type
+    /// learns it here.
     fn are_words(words: &[Self])
         ensures { AreWords BITS (map value words.now) };
 

@@ -109,7 +109,7 @@ impl<T: BitStore, O: BitOrder> BitBox<T, O> {
         Self::kept(words, head, len)
     }
 
-    // Like `of_parts`, with all the memory that the vector has.
+    // The box of these words, a head and a length, with all the memory that the vector has.
     pub(crate) fn kept(words: Vec<T>, head: usize, len: usize) -> Self
         requires in_word { head < T.BITS }
         requires few { len ≤ MAX_BITS }
@@ -143,9 +143,9 @@ impl<T: BitStore, O: BitOrder> BitBox<T, O> {
         Ok(Self::of_words(Vec::new(alloc)))
     }
 
-    /// These words with a head and a length. Gives back memory that no word takes. It always succeeds.
-    /// Requires that the head is in the first word, that there are exactly as many words as the bits take,
-    /// and that there are at most `MAX_BITS` bits.
+    /// These words with a head and a length. Gives back the memory past the last word. It always succeeds. Requires
+    /// that the head is in the first word, that there are exactly as many words as the bits take, and that there are
+    /// at most `MAX_BITS` bits.
     ///
     /// ```text
     /// BitBox::<u8, Lsb0>::from_parts(vec![in alloc; 6]?, 1, 3)? holds 110
@@ -224,8 +224,7 @@ impl<T: BitStore, O: BitOrder> BitBox<T, O> {
         Ok(Self::of_words(words))
     }
 
-    /// The bits of an array, whose words are copied: head 0. Takes memory where it has a word, and is refused
-    /// only then.
+    /// The bits of an array, whose words are copied: head 0. Allocates, and can fail, only where it has a word.
     ///
     /// ```text
     /// BitBox::from_bitarray(alloc, BitArray::<u8, Lsb0>::new(6))? holds 01100000
@@ -246,8 +245,8 @@ impl<T: BitStore, O: BitOrder> BitBox<T, O> {
         Ok(Self::of_words(words))
     }
 
-    /// The bits of a view, from head 0 on, by whole words: the words are canonical, those of the list and
-    /// then false. Takes memory where the view has a bit, and is refused only then.
+    /// The bits of a view, from head 0 on, by whole words: the words are canonical, those of the list and then false.
+    /// Allocates, and can fail, only where the view has a bit.
     ///
     /// ```text
     /// of 0110: BitBox::from_bitslice(alloc, bits.as_bitslice())?.as_bitslice() shows 0110
@@ -265,8 +264,8 @@ impl<T: BitStore, O: BitOrder> BitBox<T, O> {
         Ok(Self::of_parts(words, 0, len))
     }
 
-    /// The bits of a view: its head is kept, its words are copied, and their dead bits are false. Takes
-    /// memory where the view has a word, and is refused only then.
+    /// The bits of a view: its head is kept, its words are copied, and their dead bits are false. Allocates, and can
+    /// fail, only where the view has a word.
     ///
     /// ```text
     /// of 0110: BitBox::from_bitslice_headed(alloc, bits.as_bitslice())?.as_bitslice() shows 0110

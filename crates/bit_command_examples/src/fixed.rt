@@ -10,7 +10,7 @@ use bit_fixed::{Bits, FixedCommand, Reply, Stop, run_fixed};
 use bit_slice::BitSlice;
 use std::process::Abort;
 
-/// That these are the digits, and no more.
+// That these are the digits, and no more.
 fn holds<B: Bits>(rt: &impl Abort, bits: &B, digits: &[u8]) {
     assert!(rt; bits.len() == digits.len());
     for (i, digit) in digits.iter().enumerate() {
@@ -19,7 +19,7 @@ fn holds<B: Bits>(rt: &impl Abort, bits: &B, digits: &[u8]) {
     check(rt, bits.get(digits.len()) == None);
 }
 
-/// A run over eight bits that are false: its replies, and what it leaves.
+// A run over eight bits that are false: its replies, and what it leaves.
 fn worked<B: Bits>(rt: &(impl Abort + AllocGlobal), bits: &mut B) {
     holds(rt, bits, b"00000000");
     let commands = [
@@ -43,7 +43,7 @@ fn worked<B: Bits>(rt: &(impl Abort + AllocGlobal), bits: &mut B) {
     holds(rt, bits, b"10111101");
 }
 
-/// Each command that was not run there, and those that are out of range.
+// Each command that was not run there, and those that are out of range.
 fn gave<B: Bits>(rt: &(impl Abort + AllocGlobal), bits: &mut B) {
     let commands = [
         FixedCommand::Fill(true),
@@ -78,7 +78,7 @@ fn gave<B: Bits>(rt: &(impl Abort + AllocGlobal), bits: &mut B) {
     assert!(rt; replies.len() == 10);
 }
 
-/// Each call of the trait once.
+// Each call of the trait once.
 fn called<B: Bits>(rt: &impl Abort, bits: &mut B) {
     bits.fill(false);
     let len = bits.len();
@@ -92,7 +92,7 @@ fn called<B: Bits>(rt: &impl Abort, bits: &mut B) {
     check(rt, bits.get(1) == Some(false));
 }
 
-/// The whole of it over eight bits that are false.
+// The whole of it over eight bits that are false.
 fn run_over<B: Bits>(rt: &(impl Abort + AllocGlobal), bits: &mut B) {
     worked(rt, bits);
     gave(rt, bits);
@@ -138,8 +138,8 @@ fn vectors(rt: HostRuntime) {
     check(&rt, v.as_raw_slice() == [0x05e8].as_slice());
 }
 
-/// A run: where its replies find no memory, it stops before its first command, and changes nothing. It passes
-/// with ample memory, and whichever request `rt try --test --fail-alloc N` refuses.
+// A run: where its replies find no memory, it stops before its first command, and changes nothing. It passes
+// with ample memory, and whichever request `rt try --test --fail-alloc N` refuses.
 fn stopped<B: Bits>(rt: &(impl Abort + AllocGlobal), bits: &mut B) {
     let mut replies = Vec::new(rt.alloc());
     let commands = [FixedCommand::Fill(true), FixedCommand::Len];

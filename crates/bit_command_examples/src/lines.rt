@@ -12,7 +12,7 @@ use std::process::Abort;
 /// The arguments, the input, what is written, and the status.
 type Run = (&'static str, &'static [u8], &'static [u8], u8);
 
-/// The program's arguments.
+// The program's arguments.
 fn words_of(rt: &(impl Abort + AllocGlobal), call: &str) -> Vec<String> {
     let mut list = Vec::new(rt.alloc());
     for word in call.split_whitespace() {
@@ -22,7 +22,7 @@ fn words_of(rt: &(impl Abort + AllocGlobal), call: &str) -> Vec<String> {
     list
 }
 
-/// Starts the program on an input, and compares what it writes and returns.
+// Starts the program on an input, and compares what it writes and returns.
 fn replies(rt: &(impl Abort + AllocGlobal), call: &str, input: &[u8], want: &[u8], status: u8) {
     let words = words_of(rt, call);
     let mut output = Vec::new(rt.alloc());

@@ -76,7 +76,7 @@ pub struct Stop {
     pub why: GrowError,
 }
 
-/// Writes a bit, where the index is below the length.
+// Writes a bit, where the index is below the length.
 fn set_at<T: BitStore, O: BitOrder>(v: &mut BitVec<T, O>, i: usize, b: bool) -> Reply
     ensures reply { result ≡ reply_to v.old.list (Command.Set i b) }
     ensures head { v.new.head ≡ v.old.head }
@@ -92,7 +92,7 @@ fn set_at<T: BitStore, O: BitOrder>(v: &mut BitVec<T, O>, i: usize, b: bool) -> 
     }
 }
 
-/// Inserts a bit before an item, where the index is at most the length.
+// Inserts a bit before an item, where the index is at most the length.
 fn insert_at<T: BitStore, O: BitOrder>(
     v: &mut BitVec<T, O>,
     i: usize,
@@ -115,7 +115,7 @@ fn insert_at<T: BitStore, O: BitOrder>(
     }
 }
 
-/// Takes a bit, where the index is below the length; the bits after it move down.
+// Takes a bit, where the index is below the length; the bits after it move down.
 fn remove_at<T: BitStore, O: BitOrder>(v: &mut BitVec<T, O>, i: usize) -> Reply
     ensures reply { result ≡ reply_to v.old.list (Command.Remove i) }
     ensures head { v.new.head ≡ v.old.head }
@@ -130,7 +130,7 @@ fn remove_at<T: BitStore, O: BitOrder>(v: &mut BitVec<T, O>, i: usize) -> Reply
     }
 }
 
-/// Takes a bit and puts the last one in its place, where the index is below the length.
+// Takes a bit and puts the last one in its place, where the index is below the length.
 fn swap_remove_at<T: BitStore, O: BitOrder>(v: &mut BitVec<T, O>, i: usize) -> Reply
     ensures reply { result ≡ reply_to v.old.list (Command.SwapRemove i) }
     ensures head { v.new.head ≡ v.old.head }
@@ -145,7 +145,7 @@ fn swap_remove_at<T: BitStore, O: BitOrder>(v: &mut BitVec<T, O>, i: usize) -> R
     }
 }
 
-/// Removes a range, where it is one of the list.
+// Removes a range, where it is one of the list.
 fn drain_at<T: BitStore, O: BitOrder>(v: &mut BitVec<T, O>, from: usize, upto: usize) -> Reply
     ensures reply { result ≡ reply_to v.old.list (Command.Drain from upto) }
     ensures head { v.new.head ≡ v.old.head }
@@ -162,7 +162,7 @@ fn drain_at<T: BitStore, O: BitOrder>(v: &mut BitVec<T, O>, from: usize, upto: u
     }
 }
 
-/// Replaces a range by a bit, `n` times, where it is one of the list.
+// Replaces a range by a bit, `n` times, where it is one of the list.
 fn splice_at<T: BitStore, O: BitOrder>(
     v: &mut BitVec<T, O>,
     from: usize,
@@ -189,7 +189,7 @@ fn splice_at<T: BitStore, O: BitOrder>(
     }
 }
 
-/// Drops the bits from an index on, where it is at most the length.
+// Drops the bits from an index on, where it is at most the length.
 fn split_at<T: BitStore, O: BitOrder>(v: &mut BitVec<T, O>, at: usize) -> Result<Reply, GrowError>
     ensures reply { IfOk result (λ reply. reply ≡ reply_to v.old.list (Command.SplitOff at)) }
     ensures head { v.new.head ≡ v.old.head }
@@ -209,7 +209,7 @@ fn split_at<T: BitStore, O: BitOrder>(v: &mut BitVec<T, O>, at: usize) -> Result
     }
 }
 
-/// Appends a range once more, where it is one of the list.
+// Appends a range once more, where it is one of the list.
 fn extend_at<T: BitStore, O: BitOrder>(
     v: &mut BitVec<T, O>,
     from: usize,
@@ -234,7 +234,7 @@ fn extend_at<T: BitStore, O: BitOrder>(
     }
 }
 
-/// Cuts the list, or fills it up.
+// Cuts the list, or fills it up.
 fn resize_to<T: BitStore, O: BitOrder>(
     v: &mut BitVec<T, O>,
     n: usize,
@@ -254,7 +254,7 @@ fn resize_to<T: BitStore, O: BitOrder>(
     Ok(Reply::Done)
 }
 
-/// Makes room for more bits.
+// Makes room for more bits.
 fn reserve_for<T: BitStore, O: BitOrder>(
     v: &mut BitVec<T, O>,
     more: usize,
@@ -273,7 +273,7 @@ fn reserve_for<T: BitStore, O: BitOrder>(
     Ok(Reply::Done)
 }
 
-/// Copies a range, where it is one of the list and has room at its destination.
+// Copies a range, where it is one of the list and has room at its destination.
 fn copy_at<T: BitStore, O: BitOrder>(
     v: &mut BitVec<T, O>,
     from: usize,
@@ -295,7 +295,7 @@ fn copy_at<T: BitStore, O: BitOrder>(
     }
 }
 
-/// Does one command.
+// Does one command.
 fn step<T: BitStore, O: BitOrder>(
     v: &mut BitVec<T, O>,
     command: Command,

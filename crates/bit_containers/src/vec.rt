@@ -230,8 +230,8 @@ impl<T: BitStore, O: BitOrder> BitVec<T, O> {
         Ok(Self::from_vec(words))
     }
 
-    /// All bits of these words, which are copied: head 0. Takes memory where there is a word, and is refused
-    /// only then. Requires that they fit, as `fits` tests.
+    /// All bits of these words, which are copied: head 0. Allocates, and can fail, only where there is a word.
+    /// Requires that they fit, as `fits` tests.
     ///
     /// ```text
     /// BitVec::<u8, Lsb0>::from_slice(alloc, &[3])? holds 11000000
@@ -296,8 +296,8 @@ impl<T: BitStore, O: BitOrder> BitVec<T, O> {
         }
     }
 
-    /// The bits of a view, from head 0 on, by whole words: the words are canonical, those of the list and
-    /// then false. Takes memory where the view has a bit, and is refused only then.
+    /// The bits of a view, from head 0 on, by whole words: the words are canonical, those of the list and then false.
+    /// Allocates, and can fail, only where the view has a bit.
     ///
     /// ```text
     /// of 0110: BitVec::from_bitslice(alloc, bits.as_bitslice())?.as_bitslice() shows 0110
@@ -320,8 +320,8 @@ impl<T: BitStore, O: BitOrder> BitVec<T, O> {
         }
     }
 
-    /// The bits of a view: its head is kept, its words are copied, and their dead bits are false. Takes
-    /// memory where the view has a word, and is refused only then.
+    /// The bits of a view: its head is kept, its words are copied, and their dead bits are false. Allocates, and can
+    /// fail, only where the view has a word.
     ///
     /// ```text
     /// of 0110: BitVec::from_bitslice_headed(alloc, bits.as_bitslice())?.as_bitslice() shows 0110

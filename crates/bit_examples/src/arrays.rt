@@ -42,7 +42,7 @@ fn of_each_word(rt: HostRuntime) {
     check(&rt, BitArray::<usize, Lsb0>::new(5).get(2) == Some(true));
 }
 
-/// A word is an array of itself.
+// A word is an array of itself.
 #[test]
 fn words_as_arrays(rt: HostRuntime) {
     check(&rt, u32::zero() == 0);
@@ -140,7 +140,7 @@ fn views_at_another_head(rt: HostRuntime) {
     check(&rt, none.is_err_and(|e| e == off));
 }
 
-/// The errors are ordered: a wrong head is after a wrong length.
+// The errors are ordered: a wrong head is after a wrong length.
 #[test]
 fn errors_in_order(rt: HostRuntime) {
     let words = [0xb5_u8, 0x6d];
@@ -179,7 +179,7 @@ fn iterated(rt: HostRuntime) {
     );
 }
 
-/// An array given by reference, and an iterator that is copied.
+// An array given by reference, and an iterator that is copied.
 #[test]
 fn iterated_to_the_end(rt: HostRuntime) {
     let a = BitArray::<u8, Msb0>::new(0x60);

@@ -14,7 +14,7 @@ use bit_slice::{BitList, BitSlice};
 use std::boxed::BoxedSlice;
 use std::process::Abort;
 
-/// That the box holds these digits.
+// That the box holds these digits.
 fn holds<T: BitStore, O: BitOrder>(rt: &impl Abort, b: &BitBox<T, O>, digits: &[u8]) {
     check(rt, b.len() == digits.len());
     for (i, digit) in digits.iter().enumerate() {
@@ -23,7 +23,7 @@ fn holds<T: BitStore, O: BitOrder>(rt: &impl Abort, b: &BitBox<T, O>, digits: &[
     check(rt, b.get(digits.len()).is_none());
 }
 
-/// That the words of the box are these.
+// That the words of the box are these.
 fn shows<T: BitStore, O: BitOrder>(rt: &impl Abort, b: &BitBox<T, O>, words: &[T]) {
     let kept = b.as_raw_slice();
     check(rt, kept.len() == words.len());
@@ -32,7 +32,7 @@ fn shows<T: BitStore, O: BitOrder>(rt: &impl Abort, b: &BitBox<T, O>, words: &[T
     }
 }
 
-/// A box of eight bits at head 3.
+// A box of eight bits at head 3.
 fn headed(rt: &(impl Abort + AllocGlobal), words: &[u8; 2]) -> BitBox<u8, Lsb0>
     ensures { length result.list ≡ 8 }
 {
@@ -65,7 +65,7 @@ fn aligned_after_copying(rt: HostRuntime) {
     shows(&rt, &b, &[0xd0]);
 }
 
-/// A copy begins at head 0.
+// A copy begins at head 0.
 #[test]
 fn copied_from_the_beginning(rt: HostRuntime) {
     let words = [0xb5_u8];
@@ -105,7 +105,7 @@ fn made_of_one_word(rt: HostRuntime) {
     check(&rt, BitBox::<u8, Lsb0>::try_from_boxed_slice(boxed).is_ok());
 }
 
-/// A box of the first bits of a byte.
+// A box of the first bits of a byte.
 fn first_bits(rt: &(impl Abort + AllocGlobal), byte: u8, count: usize) -> BitBox<u8, Lsb0> {
     assert!(rt; count <= 8);
     let words = [byte];
@@ -141,7 +141,7 @@ fn iterated(rt: HostRuntime) {
     check(&rt, (&b).into_iter().len() == 6);
 }
 
-/// What an iterator has yet to give, as text.
+// What an iterator has yet to give, as text.
 #[test]
 fn iterator_seen(rt: HostRuntime) {
     let mut bits = first_bits(&rt, 0x26, 6).into_iter();

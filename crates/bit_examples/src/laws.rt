@@ -7,7 +7,7 @@ use crate::common::check;
 use bit_addressing::BitStore;
 use std::ops::Range;
 
-/// The words of type `T` that hold a bit of the `n` bits from index `from` of a row on, by their numbers.
+// The words of type `T` that hold a bit of the `n` bits from index `from` of a row on, by their numbers.
 fn touched_words<T: BitStore>(from: usize, n: usize) -> Range<usize>
     requires { from + n < 2 ^ 64 }
     ensures count { result.end - result.start ≡ touched T.BITS from n }
@@ -23,9 +23,9 @@ fn touched_words<T: BitStore>(from: usize, n: usize) -> Range<usize>
     first..(from + n - 1) / width + 1
 }
 
-/// Does nothing: its clauses are the laws of the order of lists of bits. The order is total, and the
-/// same from either side. Two lists are `Equal` exactly where they are equal. At the first items that
-/// differ, false comes before true, and a list comes before each longer list that begins with it.
+// Proof only: its clauses are the laws of the order of lists of bits. The order is total, and the same from either
+// side. Two lists are `Equal` exactly where they are equal. At the first items that differ, false comes before true,
+// and a list comes before each longer list that begins with it.
 pub(crate) fn order_of_bits()
     ensures sides { SameFromEitherSide }
     ensures equal { EqualWhereEqual }

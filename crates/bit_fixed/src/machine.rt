@@ -24,7 +24,7 @@ pub enum FixedCommand {
     Len,
 }
 
-/// Writes a bit, where the index is below the length.
+// Writes a bit, where the index is below the length.
 fn set_at<B: Bits>(bits: &mut B, i: usize, bit: bool) -> Reply
     ensures reply { result ≡ reply_to (B.list bits.old) (FixedCommand.Set i bit) }
     ensures list { B.list bits.new ≡ list_after_one (B.list bits.old) (FixedCommand.Set i bit) }
@@ -38,7 +38,7 @@ fn set_at<B: Bits>(bits: &mut B, i: usize, bit: bool) -> Reply
     }
 }
 
-/// Copies a range, where it is one of the list and has room at its destination.
+// Copies a range, where it is one of the list and has room at its destination.
 fn copy_at<B: Bits>(bits: &mut B, from: usize, upto: usize, dest: usize) -> Reply
     ensures reply { result ≡ reply_to (B.list bits.old) (FixedCommand.CopyWithin from upto dest) }
     ensures list { B.list bits.new ≡ list_after_one (B.list bits.old) (FixedCommand.CopyWithin from upto dest) }
@@ -53,7 +53,7 @@ fn copy_at<B: Bits>(bits: &mut B, from: usize, upto: usize, dest: usize) -> Repl
     }
 }
 
-/// Does one command.
+// Does one command.
 fn step<B: Bits>(bits: &mut B, command: FixedCommand) -> Reply
     ensures reply { result ≡ reply_to (B.list bits.old) command }
     ensures list { B.list bits.new ≡ list_after_one (B.list bits.old) command }

@@ -22,7 +22,7 @@ pub enum Line {
     ShowWords,
 }
 
-/// Whether a field begins with a plus sign.
+// Whether a field begins with a plus sign.
 fn has_plus(field: &[u8]) -> bool
     ensures { result ≡ (slice_index field.now 0 == 43) }
 {
@@ -32,7 +32,7 @@ fn has_plus(field: &[u8]) -> bool
     }
 }
 
-/// The number that a field writes. None where it writes none.
+// The number that a field writes. None where it writes none.
 fn number(field: &[u8]) -> Option<usize>
     ensures { result ≡ number_of field.now }
 {
@@ -45,7 +45,7 @@ fn number(field: &[u8]) -> Option<usize>
     }
 }
 
-/// The bit that a field writes.
+// The bit that a field writes.
 fn bit(field: &[u8]) -> Option<bool>
     ensures { result ≡ bit_of field.now }
 {
@@ -58,14 +58,14 @@ fn bit(field: &[u8]) -> Option<bool>
     }
 }
 
-/// The index of the first space.
+// The index of the first space.
 fn first_space(line: &[u8]) -> Option<usize>
     ensures { result ≡ position (λ b. b == 32) line.now }
 {
     line.iter().position(|b| *b == b' ')
 }
 
-/// The first field, and what follows its space.
+// The first field, and what follows its space.
 fn cut(line: &[u8]) -> (&[u8], Option<&[u8]>)
     ensures { MatchOption result.1
         (fields_of line.now ≡ result.0.now ∷ [])
@@ -77,7 +77,7 @@ fn cut(line: &[u8]) -> (&[u8], Option<&[u8]>)
     }
 }
 
-/// The line of a word alone.
+// The line of a word alone.
 fn of_word(word: &[u8]) -> Option<Line>
     ensures { result ≡ of_fields (word.now ∷ []) }
 {
@@ -102,7 +102,7 @@ fn of_word(word: &[u8]) -> Option<Line>
     }
 }
 
-/// The line of a word and one argument.
+// The line of a word and one argument.
 fn with_one(word: &[u8], a: &[u8]) -> Option<Line>
     ensures { result ≡ of_fields (word.now ∷ a.now ∷ []) }
 {
@@ -125,7 +125,7 @@ fn with_one(word: &[u8], a: &[u8]) -> Option<Line>
     }
 }
 
-/// The line of a word and two arguments.
+// The line of a word and two arguments.
 fn with_two(word: &[u8], a: &[u8], b: &[u8]) -> Option<Line>
     ensures { result ≡ of_fields (word.now ∷ a.now ∷ b.now ∷ []) }
 {
@@ -144,7 +144,7 @@ fn with_two(word: &[u8], a: &[u8], b: &[u8]) -> Option<Line>
     }
 }
 
-/// The line of a word and three arguments.
+// The line of a word and three arguments.
 fn with_three(word: &[u8], a: &[u8], b: &[u8], c: &[u8]) -> Option<Line>
     ensures { result ≡ of_fields (word.now ∷ a.now ∷ b.now ∷ c.now ∷ []) }
 {
@@ -156,7 +156,7 @@ fn with_three(word: &[u8], a: &[u8], b: &[u8], c: &[u8]) -> Option<Line>
     }
 }
 
-/// The line of a word and four arguments.
+// The line of a word and four arguments.
 fn with_four(word: &[u8], a: &[u8], b: &[u8], c: &[u8], d: &[u8]) -> Option<Line>
     ensures { result ≡ of_fields (word.now ∷ a.now ∷ b.now ∷ c.now ∷ d.now ∷ []) }
 {
@@ -168,7 +168,7 @@ fn with_four(word: &[u8], a: &[u8], b: &[u8], c: &[u8], d: &[u8]) -> Option<Line
     }
 }
 
-/// The line of a word, three arguments and what follows them.
+// The line of a word, three arguments and what follows them.
 fn with_rest(word: &[u8], a: &[u8], b: &[u8], c: &[u8], rest: &[u8]) -> Option<Line>
     ensures { result ≡ of_fields (word.now ∷ a.now ∷ b.now ∷ c.now ∷ fields_of rest.now) }
 {
@@ -179,7 +179,7 @@ fn with_rest(word: &[u8], a: &[u8], b: &[u8], c: &[u8], rest: &[u8]) -> Option<L
     }
 }
 
-/// The line of a word, two arguments and what follows them.
+// The line of a word, two arguments and what follows them.
 fn with_more(word: &[u8], a: &[u8], b: &[u8], rest: &[u8]) -> Option<Line>
     ensures { result ≡ of_fields (word.now ∷ a.now ∷ b.now ∷ fields_of rest.now) }
 {
@@ -190,7 +190,7 @@ fn with_more(word: &[u8], a: &[u8], b: &[u8], rest: &[u8]) -> Option<Line>
     }
 }
 
-/// The line of a word and what follows it.
+// The line of a word and what follows it.
 fn with_arguments(word: &[u8], rest: &[u8]) -> Option<Line>
     ensures { result ≡ of_fields (word.now ∷ fields_of rest.now) }
 {

@@ -35,8 +35,8 @@ pub fn append_line(out: &mut Vec<u8>, text: &[u8]) -> Result<(), AllocError>
     Err(AllocError)
 }
 
-/// Appends the decimal digits of a number; where memory is refused, some of them may have been
-/// appended.
+// Appends the decimal digits of a number; where memory is refused, some of them may have been
+// appended.
 fn append_number(out: &mut Vec<u8>, number: u64) -> Result<(), AllocError>
     ensures ok { OnOk result (out.new.items ≡ out.old.items ++ decimal number) }
     ensures kept { Extends out.old.items out.new.items }
@@ -50,7 +50,7 @@ fn append_number(out: &mut Vec<u8>, number: u64) -> Result<(), AllocError>
     Ok(())
 }
 
-/// Appends a number and a line feed, or nothing.
+// Appends a number and a line feed, or nothing.
 fn append_number_line(out: &mut Vec<u8>, number: u64) -> Result<(), AllocError>
     ensures ok { OnOk result (out.new.items ≡ out.old.items ++ with_line_feed (decimal number)) }
     ensures err { OnErr result (out.new.items ≡ out.old.items) }
@@ -78,7 +78,7 @@ pub fn append_reply(out: &mut Vec<u8>, reply: Reply) -> Result<(), AllocError>
     }
 }
 
-/// A hexadecimal digit in lower case. Requires that it is below 16.
+// A hexadecimal digit in lower case. Requires that it is below 16.
 fn hex_digit(digit: u64) -> u8
     requires { digit < 16 }
     ensures { result ≡ digit_glyph false digit }
@@ -90,8 +90,8 @@ fn hex_digit(digit: u64) -> u8
     }
 }
 
-/// Appends a word's hexadecimal digits, all of them; where memory is refused, some may have been
-/// appended.
+// Appends a word's hexadecimal digits, all of them; where memory is refused, some may have been
+// appended.
 fn append_word<T: BitStore>(out: &mut Vec<u8>, word: T) -> Result<(), AllocError>
     ensures ok { OnOk result (out.new.items ≡ out.old.items ++ hex_digits (T.BITS / 4) (T.value word)) }
     ensures kept { Extends out.old.items out.new.items }
@@ -105,7 +105,7 @@ fn append_word<T: BitStore>(out: &mut Vec<u8>, word: T) -> Result<(), AllocError
     Ok(())
 }
 
-/// Appends words with a space between them; where memory is refused, some may have been appended.
+// Appends words with a space between them; where memory is refused, some may have been appended.
 fn append_row<T: BitStore>(out: &mut Vec<u8>, words: &[T]) -> Result<(), AllocError>
     ensures ok { OnOk result (out.new.items ≡ out.old.items ++ words_text T.BITS (map T.value words.now)) }
     ensures kept { Extends out.old.items out.new.items }

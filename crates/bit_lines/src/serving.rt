@@ -15,7 +15,7 @@ use std::io::{Read, Write};
 /// How many bytes are read at once.
 const CHUNK: usize = 8192;
 
-/// Writes the bytes that wait.
+// Writes the bytes that wait.
 fn send<T: BitStore, O: BitOrder, K: Sink>(
     session: &mut Session<T, O>,
     output: &mut K,
@@ -29,7 +29,7 @@ fn send<T: BitStore, O: BitOrder, K: Sink>(
     Ok(())
 }
 
-/// Writes the decimal digits of a number.
+// Writes the decimal digits of a number.
 fn put_number<K: Sink>(output: &mut K, number: u64) -> io::Result<()>
     ensures held { OnOk result (Appends (K.held output.old) (K.held output.new) (decimal number)) }
     ensures sure { K.is_sure output.old → IsOk result × K.is_sure output.new }
@@ -41,7 +41,7 @@ fn put_number<K: Sink>(output: &mut K, number: u64) -> io::Result<()>
     output.put(&[b'0' + (number % 10) as u8])
 }
 
-/// Writes the line for a bad command.
+// Writes the line for a bad command.
 fn put_bad_command<K: Sink>(output: &mut K, number: u64) -> io::Result<()>
     ensures held { OnOk result
         (Appends (K.held output.old) (K.held output.new) (ending_text (Ending.BadCommand number))) }
@@ -52,7 +52,7 @@ fn put_bad_command<K: Sink>(output: &mut K, number: u64) -> io::Result<()>
     output.put(b": bad command\n")
 }
 
-/// Writes the text of an ending.
+// Writes the text of an ending.
 fn put_ending<K: Sink>(output: &mut K, ending: Ending) -> io::Result<()>
     ensures held { OnOk result (Appends (K.held output.old) (K.held output.new) (ending_text ending)) }
     ensures sure { K.is_sure output.old → IsOk result × K.is_sure output.new }
@@ -66,7 +66,7 @@ fn put_ending<K: Sink>(output: &mut K, ending: Ending) -> io::Result<()>
     }
 }
 
-/// Writes the bytes that wait, and the text of an ending.
+// Writes the bytes that wait, and the text of an ending.
 fn conclude<T: BitStore, O: BitOrder, K: Sink>(
     session: &mut Session<T, O>,
     output: &mut K,
@@ -82,8 +82,8 @@ fn conclude<T: BitStore, O: BitOrder, K: Sink>(
     Ok(ending)
 }
 
-/// Runs the lines of a piece of a script, writes their replies, and returns the ending if the
-/// script ended.
+// Runs the lines of a piece of a script, writes their replies, and returns the ending if the
+// script ended.
 fn serve_piece<T: BitStore, O: BitOrder, K: Sink>(
     session: &mut Session<T, O>,
     piece: &[u8],
@@ -116,7 +116,7 @@ fn serve_piece<T: BitStore, O: BitOrder, K: Sink>(
     Ok(None)
 }
 
-/// Runs the lines of a script, writes their replies, and returns how it ended.
+// Runs the lines of a script, writes their replies, and returns how it ended.
 fn serve_script<T: BitStore, O: BitOrder, S: Source, K: Sink>(
     alloc: Global,
     input: &mut S,
@@ -181,7 +181,7 @@ pub fn serve_lines<T: BitStore, O: BitOrder, S: Source, K: Sink>(
     serve_script::<T, O, S, K>(alloc, input, output)
 }
 
-/// The status of an ending.
+// The status of an ending.
 fn status(ending: Ending) -> u8
     ensures { result ≡ ending_status ending }
 {

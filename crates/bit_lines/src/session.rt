@@ -40,7 +40,7 @@ impl<T: BitStore, O: BitOrder> Model for Session<T, O> {
     ghost invariant = { λ s. IsPart s.line.items };
 }
 
-/// Does one command.
+// Does one command.
 fn obey<T: BitStore, O: BitOrder>(
     vector: &mut BitVec<T, O>,
     replies: &mut Vec<Reply>,
@@ -64,7 +64,7 @@ fn obey<T: BitStore, O: BitOrder>(
     }
 }
 
-/// Appends the line that shows a vector's list, or nothing.
+// Appends the line that shows a vector's list, or nothing.
 fn append_list<T: BitStore, O: BitOrder>(
     out: &mut Vec<u8>,
     text: &mut String,
@@ -96,7 +96,7 @@ impl<T: BitStore, O: BitOrder> Session<T, O> {
         }
     }
 
-    /// The line that has begun.
+    // The line that has begun.
     fn line(&self) -> &[u8]
         ensures value { result.now ≡ self.now.line }
         ensures part { IsPart self.now.line }
@@ -104,15 +104,15 @@ impl<T: BitStore, O: BitOrder> Session<T, O> {
         self.line.as_slice()
     }
 
-    /// The ending where the line that was read is no command.
+    // The ending where the line that was read is no command.
     fn bad_command(&self) -> Ending
         ensures { result ≡ Ending.BadCommand self.now.number }
     {
         Ending::BadCommand(self.number)
     }
 
-    /// Appends a byte to the line. Requires that the line has room, and that the byte is no line
-    /// feed.
+    // Appends a byte to the line. Requires that the line has room, and that the byte is no line
+    // feed.
     fn push_byte(&mut self, byte: u8) -> Result<(), AllocError>
         requires room { length self.old.line < MAX_LINE }
         requires other { byte ≢ 10 }
@@ -125,7 +125,7 @@ impl<T: BitStore, O: BitOrder> Session<T, O> {
         }
     }
 
-    /// Begins the next line.
+    // Begins the next line.
     fn next_line(&mut self)
         requires { self.old.number + 1 < 2 ^ 64 }
         ensures { self.new ≡ record self.old { line = []; number = self.old.number + 1 } }
@@ -134,7 +134,7 @@ impl<T: BitStore, O: BitOrder> Session<T, O> {
         self.number += 1;
     }
 
-    /// Does a command, and appends the line of its reply.
+    // Does a command, and appends the line of its reply.
     fn reply_to_command(&mut self, command: Command) -> Result<(), Ending>
         ensures ok { OnOk result (Replies self.old (Line.Run command) self.new) }
         ensures out { OnErr result (self.new.out ≡ self.old.out) }
@@ -147,7 +147,7 @@ impl<T: BitStore, O: BitOrder> Session<T, O> {
         }
     }
 
-    /// Appends the line that shows the list.
+    // Appends the line that shows the list.
     fn reply_with_list(&mut self) -> Result<(), Ending>
         ensures ok { OnOk result (Replies self.old Line.ShowList self.new) }
         ensures out { OnErr result (self.new.out ≡ self.old.out) }
@@ -159,7 +159,7 @@ impl<T: BitStore, O: BitOrder> Session<T, O> {
         }
     }
 
-    /// Appends the line that shows the words.
+    // Appends the line that shows the words.
     fn reply_with_words(&mut self) -> Result<(), Ending>
         ensures ok { OnOk result (Replies self.old Line.ShowWords self.new) }
         ensures out { OnErr result (self.new.out ≡ self.old.out) }
@@ -171,7 +171,7 @@ impl<T: BitStore, O: BitOrder> Session<T, O> {
         }
     }
 
-    /// Does what a line asks for, and appends the line of the reply.
+    // Does what a line asks for, and appends the line of the reply.
     fn reply(&mut self, line: Line) -> Result<(), Ending>
         ensures ok { OnOk result (Replies self.old line self.new) }
         ensures out { OnErr result (self.new.out ≡ self.old.out) }
@@ -184,7 +184,7 @@ impl<T: BitStore, O: BitOrder> Session<T, O> {
         }
     }
 
-    /// Ends the line that was read.
+    // Ends the line that was read.
     fn end_line(&mut self) -> Result<(), Ending>
         requires { self.old.number + 1 < 2 ^ 64 }
         ensures ok { OnOk result (Advances self.old (10 ∷ []) self.new) }
@@ -204,7 +204,7 @@ impl<T: BitStore, O: BitOrder> Session<T, O> {
         }
     }
 
-    /// Takes the next byte.
+    // Takes the next byte.
     fn take_byte(&mut self, byte: u8) -> Result<(), Ending>
         requires { self.old.number + length self.old.line + 1 < 2 ^ 64 }
         ensures ok { OnOk result (Advances self.old (byte ∷ []) self.new) }

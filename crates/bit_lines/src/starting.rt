@@ -32,7 +32,7 @@ pub fn start<R: Read + Drop, W: Write + Drop>(
     write_usage(output)
 }
 
-/// Writes how the program is called, and returns the status.
+// Writes how the program is called, and returns the status.
 fn write_usage<W: Write + Drop>(output: W) -> u8 {
     let mut output = output;
     match output.write_all(b"usage: bitrun WORD ORDER\n") {

@@ -13,14 +13,14 @@ use crate::single::write_part;
 use bit_addressing::inner::{PairTable, Span, in_row};
 use bit_addressing::{BitIdx, BitOrder, BitStore, Lsb0};
 
-/// The bits of a word as a number: the bit at index `i` is at place `i`.
+// The bits of a word as a number: the bit at index `i` is at place `i`.
 pub(crate) fn word_number<T: BitStore, O: BitOrder>(word: T) -> u64
     ensures { result ≡ number_of (row T.BitStore O.BitOrder (word ∷ [])) }
 {
     O::to_lsb0(word).to_u64()
 }
 
-/// Like `read_chunk`, each word read once.
+// Like `read_chunk`, each word read once.
 #[inline(never)]
 fn read_over<T: BitStore, O: BitOrder>(words: &[T], at: usize, n: u8) -> u64
     requires few { n ≤ 64 }
@@ -48,7 +48,7 @@ fn read_over<T: BitStore, O: BitOrder>(words: &[T], at: usize, n: u8) -> u64
     chunk & (u64::MAX >> (64 - n))
 }
 
-/// Whether two kinds of words have one width, and their bits lie in one order.
+// Whether two kinds of words have one width, and their bits lie in one order.
 #[inline(always)]
 pub(crate) fn are_alike<T: BitStore, O: BitOrder, U: BitStore, P: BitOrder>() -> bool
     ensures { result ≡ true → AreAlike T.BITS U.BITS O.place P.place }
@@ -65,7 +65,7 @@ pub(crate) fn are_alike<T: BitStore, O: BitOrder, U: BitStore, P: BitOrder>() ->
     true
 }
 
-/// The word of another kind that is alike. Requires that both kinds have one width, and their bits lie in one order.
+// The word of another kind that is alike. Requires that both kinds have one width, and their bits lie in one order.
 #[inline(always)]
 pub(crate) fn word_alike<T: BitStore, O: BitOrder, U: BitStore, P: BitOrder>(word: U) -> T
     requires alike { AreAlike T.BITS U.BITS O.place P.place }
@@ -196,8 +196,8 @@ pub fn write_binary<T: BitStore, O: BitOrder>(words: &mut [T], at: usize, n: u8,
     write_chunk::<T, O>(words, at, n, number.reverse() >> (64 - n));
 }
 
-/// A word whose indices from `low` on have the `n` bits of the row of `source` from `from` on.
-/// Requires that the indices are in the word, and the run lies in `source`.
+// A word whose indices from `low` on have the `n` bits of the row of `source` from `from` on.
+// Requires that the indices are in the word, and the run lies in `source`.
 #[inline(always)]
 pub(crate) fn word_of_run<T: BitStore, O: BitOrder, U: BitStore, P: BitOrder>(
     source: &[U],
@@ -213,8 +213,8 @@ pub(crate) fn word_of_run<T: BitStore, O: BitOrder, U: BitStore, P: BitOrder>(
     O::from_lsb0(T::from_u64(read_chunk::<U, P>(source, from, n) << low))
 }
 
-/// The word of the bits of `source` from index `skip` of word `k` on, in words of one width.
-/// Requires that `skip` is an index of the word, and word `k + 1` is there.
+// The word of the bits of `source` from index `skip` of word `k` on, in words of one width.
+// Requires that `skip` is an index of the word, and word `k + 1` is there.
 #[inline(always)]
 fn word_of_window<T: BitStore, O: BitOrder, U: BitStore, P: BitOrder>(
     source: &[U],
@@ -231,7 +231,7 @@ fn word_of_window<T: BitStore, O: BitOrder, U: BitStore, P: BitOrder>(
     O::from_lsb0(T::from_u64(bits))
 }
 
-/// Like `word_of_window`, bit by bit (docs/SPEED.md, "An order that a user writes", the copies).
+// Like `word_of_window`, bit by bit (docs/SPEED.md, "An order that a user writes", the copies).
 #[inline(always)]
 fn word_by_bits<T: BitStore, O: BitOrder, U: BitStore, P: BitOrder>(
     source: &[U],
@@ -252,7 +252,7 @@ fn word_by_bits<T: BitStore, O: BitOrder, U: BitStore, P: BitOrder>(
     word
 }
 
-/// Like `word_of_window`, by a table that was made for `skip`.
+// Like `word_of_window`, by a table that was made for `skip`.
 #[inline(always)]
 pub(crate) fn word_by_table<T: BitStore, O: BitOrder, U: BitStore, P: BitOrder>(
     table: &PairTable,
@@ -269,7 +269,7 @@ pub(crate) fn word_by_table<T: BitStore, O: BitOrder, U: BitStore, P: BitOrder>(
     table.window::<T, O, U, P>(source[k], source[k + 1])
 }
 
-/// Like `word_after`, out of words in an order that does not go by shifts.
+// Like `word_after`, out of words in an order that does not go by shifts.
 fn word_after_by_bits<T: BitStore, O: BitOrder, U: BitStore, P: BitOrder>(
     source: &[U],
     begin: usize,
@@ -291,7 +291,7 @@ fn word_after_by_bits<T: BitStore, O: BitOrder, U: BitStore, P: BitOrder>(
     word_of_run::<T, O, U, P>(source, at, T::BITS, 0)
 }
 
-/// How many blocks of 64 bits from word `k` on have another block after them, where there are `words` words.
+// How many blocks of 64 bits from word `k` on have another block after them, where there are `words` words.
 pub(crate) fn followed_blocks<T: BitStore>(words: usize, k: usize) -> usize
     ensures { (t : ℕ) → t < result → (k + t * (64 / T.BITS)) * T.BITS + 128 ≤ T.BITS * words }
 {
@@ -299,8 +299,8 @@ pub(crate) fn followed_blocks<T: BitStore>(words: usize, k: usize) -> usize
     (words.saturating_sub(k) / each).saturating_sub(1)
 }
 
-/// The 64 bits of `source` from index `skip` of word `k` on, in the order `O`. Requires that `skip`
-/// is an index of the word, and the row has 128 bits from word `k` on.
+// The 64 bits of `source` from index `skip` of word `k` on, in the order `O`. Requires that `skip`
+// is an index of the word, and the row has 128 bits from word `k` on.
 #[inline(always)]
 pub(crate) fn block_at<O: BitOrder, U: BitStore, P: BitOrder>(
     source: &[U],
@@ -317,7 +317,7 @@ pub(crate) fn block_at<O: BitOrder, U: BitStore, P: BitOrder>(
     O::from_lsb0(P::to_lsb0(word))
 }
 
-/// Like `block_at`, of the bits that are `t` blocks of 64 bits further on.
+// Like `block_at`, of the bits that are `t` blocks of 64 bits further on.
 #[inline(always)]
 pub(crate) fn block_after<O: BitOrder, U: BitStore, P: BitOrder>(
     source: &[U],
@@ -332,7 +332,7 @@ pub(crate) fn block_after<O: BitOrder, U: BitStore, P: BitOrder>(
     block_at::<O, U, P>(source, k + t * (64 / U::BITS) as usize, skip)
 }
 
-/// The word of the bits of a block from its bit `i * T::BITS` on. Requires that the block has them.
+// The word of the bits of a block from its bit `i * T::BITS` on. Requires that the block has them.
 #[inline(always)]
 pub(crate) fn word_of_block<T: BitStore, O: BitOrder>(block: u64, i: u8) -> T
     requires { i < 64 / T.BITS }
@@ -341,7 +341,7 @@ pub(crate) fn word_of_block<T: BitStore, O: BitOrder>(block: u64, i: u8) -> T
     T::from_u64(O::unpack::<T>(block) >> (i * T::BITS))
 }
 
-/// The word of the bits of `source` from place `at` on. Requires that the row has them.
+// The word of the bits of `source` from place `at` on. Requires that the row has them.
 #[inline(always)]
 fn word_at<T: BitStore, O: BitOrder, U: BitStore, P: BitOrder>(source: &[U], at: usize) -> T
     requires { at + T.BITS ≤ U.BITS * length source.now }
@@ -357,8 +357,8 @@ fn word_at<T: BitStore, O: BitOrder, U: BitStore, P: BitOrder>(source: &[U], at:
     word_of_run::<T, O, U, P>(source, at, T::BITS, 0)
 }
 
-/// The word of the bits of `source` that begin `t` words of type `T` after index `skip` of word `begin`.
-/// Requires that `skip` is an index of the word, and the row has one bit more.
+// The word of the bits of `source` that begin `t` words of type `T` after index `skip` of word `begin`.
+// Requires that `skip` is an index of the word, and the row has one bit more.
 #[inline(always)]
 pub(crate) fn word_after<T: BitStore, O: BitOrder, U: BitStore, P: BitOrder>(
     source: &[U],

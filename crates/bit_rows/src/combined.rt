@@ -74,7 +74,7 @@ impl BitOperator for Xor {
     }
 }
 
-/// The second bit, whatever the first is: a copy.
+// The second bit, whatever the first is: a copy.
 pub(crate) struct Second;
 
 impl BitOperator for Second {
@@ -89,7 +89,7 @@ impl BitOperator for Second {
     }
 }
 
-/// Like `write_part`, of what `F` makes of the bits there and of those of `new`.
+// Like `write_part`, of what `F` makes of the bits there and of those of `new`.
 fn combine_part<F: BitOperator, T: BitStore, O: BitOrder>(
     words: &mut [T],
     k: usize,
@@ -108,9 +108,9 @@ fn combine_part<F: BitOperator, T: BitStore, O: BitOrder>(
     write_part::<T, O>(words, k, low, high, word);
 }
 
-/// Makes each bit of the words `first..last` into the bit that `F` makes of it and of the bit of `source` that
-/// stands as far after index `skip` of word `begin`. Requires that the words are there, and the run lies in
-/// `source`, which has one bit more.
+// Makes each bit of the words `first..last` into the bit that `F` makes of it and of the bit of `source` that
+// stands as far after index `skip` of word `begin`. Requires that the words are there, and the run lies in
+// `source`, which has one bit more.
 #[inline(always)]
 fn combine_after<F: BitOperator, T: BitStore, O: BitOrder, U: BitStore, P: BitOrder>(
     words: &mut [T],
@@ -135,8 +135,8 @@ fn combine_after<F: BitOperator, T: BitStore, O: BitOrder, U: BitStore, P: BitOr
     }
 }
 
-/// Like `combine_after`, by a table that is made here, in words of one width (docs/SPEED.md, "An order that a user
-/// writes", the copies).
+// Like `combine_after`, by a table that is made here, in words of one width (docs/SPEED.md, "An order that a user
+// writes", the copies).
 #[inline(never)]
 fn combine_by_table<F: BitOperator, T: BitStore, O: BitOrder, U: BitStore, P: BitOrder>(
     words: &mut [T],
@@ -163,8 +163,8 @@ fn combine_by_table<F: BitOperator, T: BitStore, O: BitOrder, U: BitStore, P: Bi
     }
 }
 
-/// Like `combine_after`, of the 64 bits of `block`, into as many bits from word `k` on. Requires that the words are
-/// there.
+// Like `combine_after`, of the 64 bits of `block`, into as many bits from word `k` on. Requires that the words are
+// there.
 fn combine_block<F: BitOperator, T: BitStore, O: BitOrder>(words: &mut [T], k: usize, block: u64)
     requires { k + 64 / T.BITS ≤ length words.old }
     ensures bits { row T.BitStore O.BitOrder words.new
@@ -180,8 +180,8 @@ fn combine_block<F: BitOperator, T: BitStore, O: BitOrder>(words: &mut [T], k: u
     }
 }
 
-/// Like `combine_after`, of `blocks` blocks of 64 bits: each is made once, in the order of the words, and taken
-/// apart. Requires that the words are there, and each block has another after it.
+// Like `combine_after`, of `blocks` blocks of 64 bits: each is made once, in the order of the words, and taken
+// apart. Requires that the words are there, and each block has another after it.
 #[inline(always)]
 fn combine_blocks<F: BitOperator, T: BitStore, O: BitOrder, U: BitStore, P: BitOrder>(
     words: &mut [T],
@@ -205,7 +205,7 @@ fn combine_blocks<F: BitOperator, T: BitStore, O: BitOrder, U: BitStore, P: BitO
     }
 }
 
-/// Like `combine_after`, by blocks of 64 bits, as far as they go (docs/SPEED.md, "Rows of words", u64 into u8).
+// Like `combine_after`, by blocks of 64 bits, as far as they go (docs/SPEED.md, "Rows of words", u64 into u8).
 #[inline(always)]
 fn combine_unlike<F: BitOperator, T: BitStore, O: BitOrder, U: BitStore, P: BitOrder>(
     words: &mut [T],
@@ -231,8 +231,8 @@ fn combine_unlike<F: BitOperator, T: BitStore, O: BitOrder, U: BitStore, P: BitO
     combine_after::<F, T, O, U, P>(words, next, last, source, from, skip);
 }
 
-/// Like `combine_after`, with a loop for each number of bits that a byte is shifted by (docs/SPEED.md, "A move within
-/// bytes").
+// Like `combine_after`, with a loop for each number of bits that a byte is shifted by (docs/SPEED.md, "A move within
+// bytes").
 #[inline(always)]
 fn combine_shifted<F: BitOperator, T: BitStore, O: BitOrder, U: BitStore, P: BitOrder>(
     words: &mut [T],
@@ -255,8 +255,8 @@ fn combine_shifted<F: BitOperator, T: BitStore, O: BitOrder, U: BitStore, P: Bit
     each_shift!(skip, by => combine_after::<F, T, O, U, P>(words, first, last, source, begin, by));
 }
 
-/// Whether this many words are made faster by a table: words of one width, in an order that does not go by shifts.
-/// Of narrow words the compiler makes several at once, but for those that are shifted out of such an order.
+// Whether this many words are made faster by a table: words of one width, in an order that does not go by shifts.
+// Of narrow words the compiler makes several at once, but for those that are shifted out of such an order.
 #[inline(always)]
 fn goes_by_table<T: BitStore, O: BitOrder, U: BitStore, P: BitOrder>(skip: u8, words: usize) -> bool
     ensures { result ≡ true → U.BITS ≡ T.BITS }
@@ -270,9 +270,9 @@ fn goes_by_table<T: BitStore, O: BitOrder, U: BitStore, P: BitOrder>(skip: u8, w
     !O::goes_by_shifts() || !P::goes_by_shifts()
 }
 
-/// Like `combine_after`, of the bits that stand as far after bit `from` of the row. Where that is a word's
-/// first bit no word has to be shifted, so the compiler is shown this case by itself (docs/SPEED.md, "Rows of
-/// words", equal heads).
+// Like `combine_after`, of the bits that stand as far after bit `from` of the row. Where that is a word's
+// first bit no word has to be shifted, so the compiler is shown this case by itself (docs/SPEED.md, "Rows of
+// words", equal heads).
 fn combine_whole<F: BitOperator, T: BitStore, O: BitOrder, U: BitStore, P: BitOrder>(
     words: &mut [T],
     first: usize,
@@ -306,8 +306,8 @@ fn combine_whole<F: BitOperator, T: BitStore, O: BitOrder, U: BitStore, P: BitOr
     }
 }
 
-/// Like `combine_after`, of words whose bits lie in one order: those of `source` from word `begin` on. Requires that
-/// both kinds of words have one width and order, and that the words are there.
+// Like `combine_after`, of words whose bits lie in one order: those of `source` from word `begin` on. Requires that
+// both kinds of words have one width and order, and that the words are there.
 #[inline(always)]
 fn combine_alike<F: BitOperator, T: BitStore, O: BitOrder, U: BitStore, P: BitOrder>(
     words: &mut [T],
@@ -330,8 +330,9 @@ fn combine_alike<F: BitOperator, T: BitStore, O: BitOrder, U: BitStore, P: BitOr
     }
 }
 
-/// Like `combine_whole`, of the words `first..last` and the bits of word `last` before index `end`. Requires that the
-/// words are there, some of those bits too, and the run lies in `source`.
+// Combines the words `first..last`, and the bits of word `last` before index `end`, with the bits of `source` from bit
+// `from` of its row on. Requires that the
+// words are there, some of those bits too, and the run lies in `source`.
 fn combine_ahead<F: BitOperator, T: BitStore, O: BitOrder, U: BitStore, P: BitOrder>(
     words: &mut [T],
     first: usize,
@@ -356,7 +357,7 @@ fn combine_ahead<F: BitOperator, T: BitStore, O: BitOrder, U: BitStore, P: BitOr
     combine_part::<F, T, O>(words, last, 0, end, new);
 }
 
-/// Like `combine_bits`, of runs that begin anywhere in words of any kinds.
+// Like `combine_bits`, of runs that begin anywhere in words of any kinds.
 #[inline(never)]
 fn combine_apart<F: BitOperator, T: BitStore, O: BitOrder, U: BitStore, P: BitOrder>(
     words: &mut [T],

@@ -9,8 +9,8 @@ use bit_addressing::{BitEnd, BitIdx, BitOrder, BitStore, elts};
 use std::alloc::AllocError;
 use std::mem::replace;
 
-/// Cuts the words to those for `bits` bits, or fills them up with words of zero. Takes memory only where the capacity, in
-/// words, is too small, and is refused only then.
+/// Cuts the words to those for `bits` bits, or fills them up with words of zero. Allocates, and can fail, only where
+/// the capacity, in words, is too small.
 #[inline(always)]
 pub fn resize_words_in_vec<T: BitStore, O: BitOrder>(
     words: &mut Vec<T>,
@@ -42,9 +42,9 @@ pub fn resize_words_in_vec<T: BitStore, O: BitOrder>(
     Ok(())
 }
 
-/// Appends words whose bits are all `bit` until there are `count`. Takes memory only where the capacity is too small, and is
-/// refused only then. Requires that there are no more than `count`. Each of the two words is known to the compiler, which then fills
-/// memory by one call (docs/SPEED.md, resize).
+// Appends words whose bits are all `bit` until there are `count`. Allocates, and can fail, only where the capacity is
+// too small. Requires that there are no more than `count`. Each of the two words is known to the compiler, which then
+// fills memory by one call (docs/SPEED.md, resize).
 #[inline(always)]
 fn grow_words_by_bit<T: BitStore, O: BitOrder>(
     words: &mut Vec<T>,
@@ -123,8 +123,8 @@ pub fn cut_words_in_vec<T: BitStore, O: BitOrder>(words: &mut Vec<T>, bits: usiz
     words.truncate(count);
 }
 
-/// Makes room for `more` words after those that are there. Takes memory only where the capacity is too small, and is
-/// refused only then.
+// Makes room for `more` words after those that are there. Allocates, and can fail, only where the capacity is too
+// small.
 #[inline(always)]
 fn make_room<T: BitStore>(words: &mut Vec<T>, more: usize) -> Result<(), AllocError>
     ensures items { words.new.items ≡ words.old.items }
@@ -140,8 +140,8 @@ fn make_room<T: BitStore>(words: &mut Vec<T>, more: usize) -> Result<(), AllocEr
     grow_by(words, more)
 }
 
-/// Like `make_room`, where the capacity may be too small. The words are handed over and handed back: a vector that is
-/// lent to a call stays in memory wherever words are pushed (docs/SPEED.md, push).
+// Like `make_room`, where the capacity may be too small. The words are handed over and handed back: a vector that is
+// lent to a call stays in memory wherever words are pushed (docs/SPEED.md, push).
 #[inline(always)]
 fn grow_by<T: BitStore>(words: &mut Vec<T>, more: usize) -> Result<(), AllocError>
     ensures items { words.new.items ≡ words.old.items }
@@ -155,7 +155,7 @@ fn grow_by<T: BitStore>(words: &mut Vec<T>, more: usize) -> Result<(), AllocErro
     done
 }
 
-/// Like `grow_by`, of a vector by value.
+// Makes room for `more` words, of a vector by value.
 #[cold]
 #[inline(never)]
 fn grown_by<T: BitStore>(words: Vec<T>, more: usize) -> (Vec<T>, Result<(), AllocError>)
@@ -169,7 +169,7 @@ fn grown_by<T: BitStore>(words: Vec<T>, more: usize) -> (Vec<T>, Result<(), Allo
     (words, done)
 }
 
-/// Appends a word. Takes memory only where the capacity is full.
+// Appends a word. Takes memory only where the capacity is full.
 #[inline(always)]
 fn push_word<T: BitStore>(words: &mut Vec<T>, word: T) -> Result<(), AllocError>
     ensures items { OnOk result (words.new.items ≡ words.old.items ++ word ∷ []) }
@@ -184,7 +184,7 @@ fn push_word<T: BitStore>(words: &mut Vec<T>, word: T) -> Result<(), AllocError>
     Ok(())
 }
 
-/// Appends `more` times a word. Takes memory only where the capacity is too small, and is refused only then.
+// Appends `more` times a word. Allocates, and can fail, only where the capacity is too small.
 #[inline(always)]
 fn push_words<T: BitStore>(words: &mut Vec<T>, more: usize, word: T) -> Result<(), AllocError>
     ensures items { OnOk result (words.new.items ≡ words.old.items ++ replicate more word) }
@@ -202,8 +202,8 @@ fn push_words<T: BitStore>(words: &mut Vec<T>, more: usize, word: T) -> Result<(
     Ok(())
 }
 
-/// A vector with `more` times a word appended. It is handed over, so that its length and its address stay in registers
-/// while the words are written. Takes no memory. Requires that the capacity has room.
+// A vector with `more` times a word appended. It is handed over, so that its length and its address stay in registers
+// while the words are written. Takes no memory. Requires that the capacity has room.
 #[inline(always)]
 fn with_words<T: BitStore>(words: Vec<T>, more: usize, word: T) -> Vec<T>
     requires { length words.items + more ≤ vec_capacity words }
@@ -249,8 +249,8 @@ pub fn push_bit_in_vec<T: BitStore, O: BitOrder>(
     Ok(())
 }
 
-/// Appends a word whose first `n` indices have the lowest bits of a number, that of place 0 first, and whose other bits
-/// are false. Takes memory only where the capacity is full.
+// Appends a word whose first `n` indices have the lowest bits of a number, that of place 0 first, and whose other bits
+// are false. Takes memory only where the capacity is full.
 #[inline(always)]
 fn push_part<T: BitStore, O: BitOrder>(
     words: &mut Vec<T>,
@@ -273,7 +273,7 @@ fn push_part<T: BitStore, O: BitOrder>(
     Ok(())
 }
 
-/// Writes the `n` lowest bits of a number at the indices of word `k` from `low` on, that of place 0 first.
+// Writes the `n` lowest bits of a number at the indices of word `k` from `low` on, that of place 0 first.
 #[inline(always)]
 fn write_in_word<T: BitStore, O: BitOrder>(words: &mut Vec<T>, k: usize, low: u8, n: u8, chunk: u64)
     requires word { k < length words.old.items }

@@ -9,10 +9,10 @@ use crate::chunks::{are_alike, word_alike};
 use crate::combined::BitOperator;
 use bit_addressing::{BitOrder, BitStore, Lsb0};
 
-/// How many of the first `count` words from words `k` and `l` on `F` makes into false bits alone, by turns of
-/// `each` words up to one that it does not. A turn is tested once, so that the compiler takes its words side by
-/// side (docs/SPEED.md, "The bench", is subset). Requires that both kinds of words have one width and order, and
-/// that the words are there.
+// How many of the first `count` words from words `k` and `l` on `F` makes into false bits alone, by turns of
+// `each` words up to one that it does not. A turn is tested once, so that the compiler takes its words side by
+// side (docs/SPEED.md, "The bench", is subset). Requires that both kinds of words have one width and order, and
+// that the words are there.
 #[inline(always)]
 fn false_turns<F: BitOperator, T: BitStore, O: BitOrder, U: BitStore, P: BitOrder>(
     a: &[T],
@@ -79,9 +79,9 @@ pub fn false_blocks<F: BitOperator, T: BitStore, O: BitOrder, U: BitStore, P: Bi
     (far + near) / (64 / width)
 }
 
-/// How many bits are true of those that `F` makes of `blocks` blocks of 64 bits from words `k` and `l` on. As
-/// many are in each order, so both sides are taken by their places, which takes no turning round. Requires that
-/// both kinds of words have one width and order, and that the words are there.
+// How many bits are true of those that `F` makes of `blocks` blocks of 64 bits from words `k` and `l` on. As
+// many are in each order, so both sides are taken by their places, which takes no turning round. Requires that
+// both kinds of words have one width and order, and that the words are there.
 #[inline(always)]
 fn count_run<F: BitOperator, T: BitStore, O: BitOrder, U: BitStore, P: BitOrder>(
     a: &[T],
@@ -106,9 +106,9 @@ fn count_run<F: BitOperator, T: BitStore, O: BitOrder, U: BitStore, P: BitOrder>
     count
 }
 
-/// Like `count_run`, by turns of four blocks, in which the compiler counts words one after another without a test
-/// (docs/SPEED.md, "The bench", count xor). It is not inlined, since in a long function its loop would read two
-/// addresses from the stack again each turn.
+// Like `count_run`, by turns of four blocks, in which the compiler counts words one after another without a test
+// (docs/SPEED.md, "The bench", count xor). It is not inlined, since in a long function its loop would read two
+// addresses from the stack again each turn.
 #[inline(never)]
 fn count_alike<F: BitOperator, T: BitStore, O: BitOrder, U: BitStore, P: BitOrder>(
     a: &[T],

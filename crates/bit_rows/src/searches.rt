@@ -9,8 +9,8 @@ use crate::chunks::{are_alike, block_after, followed_blocks, read_chunk, word_al
 use bit_addressing::inner::{Span, in_row, in_word};
 use bit_addressing::{BitEnd, BitIdx, BitOrder, BitStore, Lsb0};
 
-/// How many bits are set in the words `first..last`, by blocks of 64 bits as far as they go
-/// (docs/SPEED.md, "Rows of words", count). Requires that the words are there.
+// How many bits are set in the words `first..last`, by blocks of 64 bits as far as they go
+// (docs/SPEED.md, "Rows of words", count). Requires that the words are there.
 fn count_words<T: BitStore, O: BitOrder>(words: &[T], first: usize, last: usize) -> usize
     requires ordered { first ≤ last }
     requires within { last ≤ length words.now }
@@ -32,7 +32,7 @@ fn count_words<T: BitStore, O: BitOrder>(words: &[T], first: usize, last: usize)
     count
 }
 
-/// Like `count_bits`, of the `n` bits from word `first` on.
+// Like `count_bits`, of the `n` bits from word `first` on.
 #[inline(always)]
 fn count_front<T: BitStore, O: BitOrder>(words: &[T], first: usize, n: usize) -> usize
     requires within { first * T.BITS + n ≤ T.BITS * length words.now }
@@ -45,8 +45,8 @@ fn count_front<T: BitStore, O: BitOrder>(words: &[T], first: usize, n: usize) ->
     count_words::<T, Lsb0>(words, first, last) + rest.count_ones() as usize
 }
 
-/// Like `count_bits`, of a run that begins anywhere. A whole word has as many bits set in each order, so the
-/// order matters at the ends alone.
+// Like `count_bits`, of a run that begins anywhere. A whole word has as many bits set in each order, so the
+// order matters at the ends alone.
 #[inline(never)]
 fn count_apart<T: BitStore, O: BitOrder>(words: &[T], from: usize, upto: usize) -> usize
     requires ordered { from ≤ upto }
@@ -79,10 +79,10 @@ pub fn count_bits<T: BitStore, O: BitOrder>(words: &[T], from: usize, upto: usiz
     count_apart::<T, O>(words, from, upto)
 }
 
-/// How many of the first `count` blocks of 64 bits, from index `skip` of word `k` and index `over` of word `l` on, are
-/// equal, by turns of 16 blocks up to one that is not. A turn is tested once, so that the compiler shifts and turns
-/// its words side by side (docs/SPEED.md, "Small vectors, arrays, texts and searches", `==` at other heads). Requires
-/// that the indices are in the words, the blocks are there, and each has another after it.
+// How many of the first `count` blocks of 64 bits, from index `skip` of word `k` and index `over` of word `l` on, are
+// equal, by turns of 16 blocks up to one that is not. A turn is tested once, so that the compiler shifts and turns
+// its words side by side (docs/SPEED.md, "Small vectors, arrays, texts and searches", `==` at other heads). Requires
+// that the indices are in the words, the blocks are there, and each has another after it.
 #[inline(always)]
 fn equal_blocks<T: BitStore, O: BitOrder, U: BitStore, P: BitOrder>(
     a: &[T],
@@ -117,8 +117,8 @@ fn equal_blocks<T: BitStore, O: BitOrder, U: BitStore, P: BitOrder>(
     count / 16 * 16
 }
 
-/// Like `differ_at`, from index `skip` of word `k` and index `over` of word `l` on. It is inlined, and compiled apart
-/// for runs that begin at a word's first bit.
+// Like `differ_at`, from index `skip` of word `k` and index `over` of word `l` on. It is inlined, and compiled apart
+// for runs that begin at a word's first bit.
 #[inline(always)]
 fn differ_from<T: BitStore, O: BitOrder, U: BitStore, P: BitOrder>(
     a: &[T],
@@ -170,10 +170,10 @@ fn differ_from<T: BitStore, O: BitOrder, U: BitStore, P: BitOrder>(
     Some(done + apart.trailing_zeros() as usize)
 }
 
-/// How many of the first `count` words from words `k` and `l` on are equal, by turns of `each` words up to one
-/// that is not. A turn is tested once, so that the compiler compares its words side by side (docs/SPEED.md,
-/// "The bench", equal). Requires that both kinds of words have one width and order, and that the words are
-/// there.
+// How many of the first `count` words from words `k` and `l` on are equal, by turns of `each` words up to one
+// that is not. A turn is tested once, so that the compiler compares its words side by side (docs/SPEED.md,
+// "The bench", equal). Requires that both kinds of words have one width and order, and that the words are
+// there.
 #[inline(always)]
 fn equal_turns<T: BitStore, O: BitOrder, U: BitStore, P: BitOrder>(
     a: &[T],
@@ -204,7 +204,7 @@ fn equal_turns<T: BitStore, O: BitOrder, U: BitStore, P: BitOrder>(
     count / each * each
 }
 
-/// Like `equal_turns`, where the first `far` words are known to be equal.
+// Like `equal_turns`, where the first `far` words are known to be equal.
 #[inline(always)]
 fn equal_after<T: BitStore, O: BitOrder, U: BitStore, P: BitOrder>(
     a: &[T],
@@ -227,8 +227,8 @@ fn equal_after<T: BitStore, O: BitOrder, U: BitStore, P: BitOrder>(
     far + equal_turns::<T, O, U, P>(a, k + far, b, l + far, count - far, each)
 }
 
-/// Like `equal_turns`, by turns of 64 bits in narrow words, and before them by turns of 2048 and of 512 where the run
-/// is long.
+// Like `equal_turns`, by turns of 64 bits in narrow words, and before them by turns of 2048 and of 512 where the run
+// is long.
 #[inline(always)]
 fn equal_front<T: BitStore, O: BitOrder, U: BitStore, P: BitOrder>(
     a: &[T],
@@ -257,8 +257,8 @@ fn equal_front<T: BitStore, O: BitOrder, U: BitStore, P: BitOrder>(
     equal_after::<T, O, U, P>(a, k, b, l, count, far, 64 / width)
 }
 
-/// The word whose bits are those of two words that differ, below index `n`. Requires that both kinds of words
-/// have one width and order, and at least `n` bits.
+// The word whose bits are those of two words that differ, below index `n`. Requires that both kinds of words
+// have one width and order, and at least `n` bits.
 #[inline(always)]
 fn first_bits_apart<T: BitStore, O: BitOrder, U: BitStore, P: BitOrder>(
     left: T,
@@ -277,8 +277,8 @@ fn first_bits_apart<T: BitStore, O: BitOrder, U: BitStore, P: BitOrder>(
     left.xor(word_alike::<T, O, U, P>(right)).and(mask)
 }
 
-/// Like `differ_at`, from words `k` and `l` on, whose bits lie in one order: words are compared as they are,
-/// and many at a time where the run is long. Requires that both kinds of words have one width and order.
+// Like `differ_at`, from words `k` and `l` on, whose bits lie in one order: words are compared as they are,
+// and many at a time where the run is long. Requires that both kinds of words have one width and order.
 #[inline(always)]
 fn differ_alike<T: BitStore, O: BitOrder, U: BitStore, P: BitOrder>(
     a: &[T],
@@ -319,7 +319,7 @@ fn differ_alike<T: BitStore, O: BitOrder, U: BitStore, P: BitOrder>(
     Some(whole * width + word_number::<T, O>(apart).trailing_zeros() as usize)
 }
 
-/// Like `differ_alike`, of a long run.
+// Like `differ_at`, of a long run from words `k` and `l` on, whose bits lie in one order.
 #[inline(never)]
 fn differ_long<T: BitStore, O: BitOrder, U: BitStore, P: BitOrder>(
     a: &[T],
@@ -338,7 +338,7 @@ fn differ_long<T: BitStore, O: BitOrder, U: BitStore, P: BitOrder>(
     differ_alike::<T, O, U, P>(a, k, b, l, n, true)
 }
 
-/// Like `differ_from`, compiled once for runs that both begin with a word, and once for others.
+// Like `differ_at`, out of line: compiled once for runs that both begin with a word, and once for others.
 #[inline(never)]
 fn differ_apart<T: BitStore, O: BitOrder, U: BitStore, P: BitOrder>(
     a: &[T],
@@ -390,9 +390,8 @@ pub fn differ_at<T: BitStore, O: BitOrder, U: BitStore, P: BitOrder>(
     differ_apart::<T, O, U, P>(a, k, skip, b, l, over, n)
 }
 
-/// How many blocks of 64 bits, from place `from` on, have the other bit alone, up to one that does not or that
-/// has no block after it. Tells 0 of a short run, which is faster searched by chunks (docs/SPEED.md, "Rows of
-/// words", find). Requires that `from` is at most `upto`, which is at most the row's length.
+// Counts the leading 64-bit blocks from place `from` on that hold no `bit`, up to the last one with a block after it.
+// Returns 0 for a short run, which is faster searched by chunks (docs/SPEED.md, "Rows of words", find). Requires that `from` is at most `upto`, which is at most the row's length.
 fn blocks_without<T: BitStore, O: BitOrder>(
     words: &[T],
     from: usize,
@@ -418,10 +417,10 @@ fn blocks_without<T: BitStore, O: BitOrder>(
     blocks
 }
 
-/// How many of the first `count` words from word `k` on have the bit of `other` alone, by turns of `each` words up
-/// to one that does not. A turn is tested once, so that the compiler takes its words side by side (docs/SPEED.md,
-/// "Small vectors, arrays, texts and searches", any). Requires that all bits of `other` are the same, and that the
-/// words are there.
+// How many of the first `count` words from word `k` on have the bit of `other` alone, by turns of `each` words up
+// to one that does not. A turn is tested once, so that the compiler takes its words side by side (docs/SPEED.md,
+// "Small vectors, arrays, texts and searches", any). Requires that all bits of `other` are the same, and that the
+// words are there.
 fn turns_without<T: BitStore, O: BitOrder>(
     words: &[T],
     k: usize,
@@ -448,8 +447,9 @@ fn turns_without<T: BitStore, O: BitOrder>(
     count / each * each
 }
 
-/// How many bits, from place `from` on, have the other bit alone, by turns of 1024 up to one that does not. Tells 0
-/// of a run that doesn't begin with a word. Requires that `from` is at most `upto`, which is at most the row's length.
+// Counts the leading bits from place `from` on that are not `bit`, by turns of 1024 up to one that has it. Returns 0
+// for a run that doesn't begin with a word. Requires that `from` is at most `upto`, which is at most the row's
+// length.
 fn bits_without<T: BitStore, O: BitOrder>(words: &[T], from: usize, upto: usize, bit: bool) -> usize
     requires ordered { from ≤ upto }
     requires within { upto ≤ T.BITS * length words.now }
@@ -465,7 +465,7 @@ fn bits_without<T: BitStore, O: BitOrder>(words: &[T], from: usize, upto: usize,
     turns_without::<T, O>(words, from / width, count, 1024 / width, other) * width
 }
 
-/// Like `find_bit`, by chunks of 64 bits.
+// Like `find_bit`, by chunks of 64 bits.
 fn find_by_chunks<T: BitStore, O: BitOrder>(
     words: &[T],
     from: usize,
@@ -496,8 +496,8 @@ fn find_by_chunks<T: BitStore, O: BitOrder>(
     Some(done + apart.trailing_zeros() as usize)
 }
 
-/// How many bits, from place `from` on, have the other bit alone: up to 1024 by blocks of 64, and those after them by
-/// turns of 1024 and then by blocks. Requires that `from` is at most `upto`, which is at most the row's length.
+// How many bits, from place `from` on, have the other bit alone: up to 1024 by blocks of 64, and those after them by
+// turns of 1024 and then by blocks. Requires that `from` is at most `upto`, which is at most the row's length.
 fn bits_passed<T: BitStore, O: BitOrder>(words: &[T], from: usize, upto: usize, bit: bool) -> usize
     requires ordered { from ≤ upto }
     requires within { upto ≤ T.BITS * length words.now }
@@ -512,7 +512,7 @@ fn bits_passed<T: BitStore, O: BitOrder>(words: &[T], from: usize, upto: usize, 
     far + blocks_without::<T, O>(words, from + far, upto, bit) * 64
 }
 
-/// Like `find_bit`, by blocks and then by chunks of 64 bits.
+// Like `find_bit`, by blocks and then by chunks of 64 bits.
 #[inline(never)]
 fn find_after<T: BitStore, O: BitOrder>(
     words: &[T],

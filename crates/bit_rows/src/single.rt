@@ -6,7 +6,7 @@ ghost use Rattle.bit_addressing.specs.Typed.{row, words_from};
 use bit_addressing::inner::{Span, blend, repeated};
 use bit_addressing::{BitEnd, BitIdx, BitOrder, BitStore};
 
-/// Does nothing: words are those of their row.
+/// Proof only: the row of the words determines them.
 pub fn prove_exact_words<T: BitStore, O: BitOrder>(words: &[T])
     ensures { words.now ≡ words_from T.BitStore O.BitOrder (row T.BitStore O.BitOrder words.now) }
 {
@@ -48,7 +48,7 @@ pub fn swap_bits<T: BitStore, O: BitOrder>(words: &mut [T], i: usize, j: usize)
     write_bit::<T, O>(words, j, first);
 }
 
-/// Writes the bits of `new` at the indices `low..high` into word `k`.
+// Writes the bits of `new` at the indices `low..high` into word `k`.
 pub(crate) fn write_part<T: BitStore, O: BitOrder>(
     words: &mut [T],
     k: usize,
@@ -103,8 +103,8 @@ pub fn fill_bits<T: BitStore, O: BitOrder>(words: &mut [T], from: usize, upto: u
     write_part::<T, O>(words, last, 0, end, full);
 }
 
-/// Writes `bit` at every place of the row outside `head..head + len`, and no other bit. Requires
-/// that `head + len` is at most the row's length, which is below 2 to the power 64.
+// Writes `bit` at every place of the row outside `head..head + len`, and no other bit. Requires
+// that `head + len` is at most the row's length, which is below 2 to the power 64.
 pub(crate) fn fill_outside<T: BitStore, O: BitOrder>(
     words: &mut [T],
     head: usize,

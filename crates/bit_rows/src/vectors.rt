@@ -19,7 +19,7 @@ pub fn write_bit_in_vec<T: BitStore, O: BitOrder>(words: &mut Vec<T>, at: usize,
     write_bit::<T, O>(words.as_mut_slice(), at, bit);
 }
 
-/// Like `fill_bits`, in the words of a vector.
+// Like `fill_bits`, in the words of a vector.
 pub(crate) fn fill_bits_in_vec<T: BitStore, O: BitOrder>(
     words: &mut Vec<T>,
     from: usize,
@@ -92,7 +92,7 @@ pub fn move_bits_in_vec<T: BitStore, O: BitOrder>(
     let _meter = move_bits_counted_in_vec::<T, O>(words, src, dst, n);
 }
 
-/// Moves the `n` bits from `at` on one index up. Requires that they lie in one word, with the index after them.
+// Moves the `n` bits from `at` on one index up. Requires that they lie in one word, with the index after them.
 #[inline(always)]
 fn move_up_in_word<T: BitStore, O: BitOrder>(words: &mut [T], at: usize, n: usize)
     requires some { 0 < n }
@@ -111,7 +111,7 @@ fn move_up_in_word<T: BitStore, O: BitOrder>(words: &mut [T], at: usize, n: usiz
     words[k] = O::with_run(old, old, old, back, start, end);
 }
 
-/// Moves the `n` bits after `at` one index down. Requires that they lie in one word with it.
+// Moves the `n` bits after `at` one index down. Requires that they lie in one word with it.
 #[inline(always)]
 fn move_down_in_word<T: BitStore, O: BitOrder>(words: &mut [T], at: usize, n: usize)
     requires some { 0 < n }
@@ -174,7 +174,7 @@ pub fn remove_bit_in_vec<T: BitStore, O: BitOrder>(words: &mut Vec<T>, at: usize
     }
 }
 
-/// Like `move_bits_counted`, in the words of a vector.
+// Moves a run of bits in the words of a vector, and returns the meter of the words that were read and written.
 fn move_bits_counted_in_vec<T: BitStore, O: BitOrder>(
     words: &mut Vec<T>,
     src: usize,

@@ -16,7 +16,7 @@ use Rattle.bit_addressing.proofs.Rows.{mul_add, width_positive, row_append, row_
 use Rattle.bit_addressing.proofs.Typed.{length_row}
 use Rattle.bit_slice.specs.Fits.{IsView}
 use Rattle.bit_slice.specs.declared.slice.BitSlice.{BitSlice}
-use Rattle.bit_slice.specs.BitSlice.{head_of, len_of, IsPlaced}
+use Rattle.bit_slice.specs.BitSlice.{head_of, len_of, list_of, IsPlaced}
 
 pub made : (w words head len : ℕ) → IsWidth w → head < w → len ≤ MAX_BITS → words ≡ words_for w (head + len) → IsView w words head len
 made w words head len width below few exact = record {
@@ -146,3 +146,7 @@ placed_on {W = W} words seen start len from part width cut inside p =
 pub if_both : {A : Type 0} {F G H : A → Type 0} (o : Option A) → ((x : A) → F x → G x → H x) → IfSome o F → IfSome o G → IfSome o H
 if_both None f p q = tt
 if_both (Some x) f p q = f x p q
+
+-- a view has as many bits as its length says
+pub view_length : {X Y : Type 0} {W : store.Ghosts X} {P : order.Ghosts Y} (v : BitSlice X Y W P) → length (list_of v) ≡ len_of v
+view_length {W = W} {P = P} v = shown_length W P v.words.now v.head v.len v.fits.room

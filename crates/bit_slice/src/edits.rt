@@ -31,8 +31,8 @@ impl BitOperator for AndNot {
     }
 }
 
-/// Flips the bits from `from` up to `upto` of the words' row, 64 at a time. No other bit changes. Requires that `from`
-/// is at most `upto`, which is at most the row's length.
+// Flips the bits from `from` up to `upto` of the words' row, 64 at a time. No other bit changes. Requires that `from`
+// is at most `upto`, which is at most the row's length.
 pub(crate) fn flip_bits<T: BitStore, O: BitOrder>(words: &mut [T], from: usize, upto: usize)
     requires ordered { from ≤ upto }
     requires within { upto ≤ T.BITS * length words.old }
@@ -53,9 +53,9 @@ pub(crate) fn flip_bits<T: BitStore, O: BitOrder>(words: &mut [T], from: usize, 
 // How many bits a combination keeps beside the words at most: 16 words of 64 bits.
 const KEPT: usize = 1024;
 
-/// Moves the `len` bits of the words' row from `head` on by `by` indices towards the front. The first `by` bits are
-/// dropped, and the last `by` become false. No other bit changes. Requires that the run lies in the words, and `by`
-/// is at most its length.
+// Moves the `len` bits of the words' row from `head` on by `by` indices towards the front. The first `by` bits are
+// dropped, and the last `by` become false. No other bit changes. Requires that the run lies in the words, and `by`
+// is at most its length.
 pub(crate) fn shift_bits_left<T: BitStore, O: BitOrder>(
     words: &mut [T],
     head: usize,
@@ -74,9 +74,9 @@ pub(crate) fn shift_bits_left<T: BitStore, O: BitOrder>(
     fill_bits::<T, O>(words, head + (len - by), head + len, false);
 }
 
-/// Moves the `len` bits of the words' row from `head` on by `by` indices towards the end. The last `by` bits are
-/// dropped, and the first `by` become false. No other bit changes. Requires that the run lies in the words, and `by`
-/// is at most its length.
+// Moves the `len` bits of the words' row from `head` on by `by` indices towards the end. The last `by` bits are
+// dropped, and the first `by` become false. No other bit changes. Requires that the run lies in the words, and `by`
+// is at most its length.
 pub(crate) fn shift_bits_right<T: BitStore, O: BitOrder>(
     words: &mut [T],
     head: usize,
@@ -194,7 +194,7 @@ fn combine_back<F: BitOperator, T: BitStore, O: BitOrder>(
     combine_bits::<F, T, O, T, O>(target, at % width, source, from, n);
 }
 
-// Like `combine_back`, where the bits at `at` end at or before the word in which those at `from` begin.
+// Like `combine_within`, where the bits at `at` end at or before the word in which those at `from` begin.
 #[inline(always)]
 fn combine_front<F: BitOperator, T: BitStore, O: BitOrder>(
     words: &mut [T],
@@ -216,8 +216,8 @@ fn combine_front<F: BitOperator, T: BitStore, O: BitOrder>(
     combine_bits::<F, T, O, T, O>(target, at, source, from % width, n);
 }
 
-/// Combines the `n` bits of the words' row from `at` on with those from `from` on, as if they were read before any is
-/// written, by words. The runs may overlap. No other bit changes. Requires that both runs lie in the words.
+// Combines the `n` bits of the words' row from `at` on with those from `from` on, as if they were read before any is
+// written, by words. The runs may overlap. No other bit changes. Requires that both runs lie in the words.
 pub(crate) fn combine_within<F: BitOperator, T: BitStore, O: BitOrder>(
     words: &mut [T],
     from: usize,

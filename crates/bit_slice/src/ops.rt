@@ -39,9 +39,9 @@ pub(crate) fn equal_views<T: BitStore, O: BitOrder, U: BitStore, P: BitOrder>(
     len == right.len() && first_difference(left, right, len).is_none()
 }
 
-/// Combines each of the `len` bits of the words' row from `head` on, by `F`, with the bit of `other` for it, or
-/// with false past the end of `other`. The first bit of `other` is for the first of the run. No other bit
-/// changes. Requires that the run lies in the words.
+// Combines each of the `len` bits of the words' row from `head` on, by `F`, with the bit of `other` for it, or
+// with false past the end of `other`. The first bit of `other` is for the first of the run. No other bit
+// changes. Requires that the run lies in the words.
 pub(crate) fn combine_view<F: BitOperator, T: BitStore, O: BitOrder, U: BitStore, P: BitOrder>(
     words: &mut [T],
     head: usize,

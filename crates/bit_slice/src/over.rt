@@ -20,7 +20,7 @@ use bit_rows::{
     BitOperator, copy_bits, fill_bits, swap_bits, write_binary, write_bit, write_chunk,
 };
 
-/// Writes `bit` at each index of the list.
+// Writes `bit` at each index of the list.
 pub(crate) fn fill_over<T: BitStore, O: BitOrder>(
     words: &mut [T],
     head: usize,
@@ -34,8 +34,8 @@ pub(crate) fn fill_over<T: BitStore, O: BitOrder>(
     fill_bits::<T, O>(words, head, head + len, bit);
 }
 
-/// Writes the bits of a view, with any word type and order, over the list. Requires that the view is as long
-/// as the list.
+// Writes the bits of a view, with any word type and order, over the list. Requires that the view is as long
+// as the list.
 pub(crate) fn copy_over<T: BitStore, O: BitOrder, U: BitStore, P: BitOrder>(
     words: &mut [T],
     head: usize,
@@ -52,9 +52,9 @@ pub(crate) fn copy_over<T: BitStore, O: BitOrder, U: BitStore, P: BitOrder>(
     copy_bits::<T, O, U, P>(words, head, source.as_raw_slice(), from, len);
 }
 
-/// Moves the bits of a range of the list to `dest`, as if they were copied out first, and returns the meter of
-/// the words that were read and written. Requires that the range lies in the list, that its bits have room from
-/// `dest` on, and that the words have at most `MAX_BITS + 2 * T::BITS` bits.
+// Moves the bits of a range of the list to `dest`, as if they were copied out first, and returns the meter of
+// the words that were read and written. Requires that the range lies in the list, that its bits have room from
+// `dest` on, and that the words have at most `MAX_BITS + 2 * T::BITS` bits.
 pub(crate) fn move_within_over<T: BitStore, O: BitOrder, R: RangeExt>(
     words: &mut [T],
     head: usize,
@@ -76,7 +76,7 @@ pub(crate) fn move_within_over<T: BitStore, O: BitOrder, R: RangeExt>(
     move_bits_counted::<T, O>(words, from, to, range.end - range.start)
 }
 
-/// Writes `bit` at each index of a range of the list. Requires that the range lies in the list.
+// Writes `bit` at each index of a range of the list. Requires that the range lies in the list.
 pub(crate) fn fill_range_over<T: BitStore, O: BitOrder, R: RangeExt>(
     words: &mut [T],
     head: usize,
@@ -95,7 +95,7 @@ pub(crate) fn fill_range_over<T: BitStore, O: BitOrder, R: RangeExt>(
     fill_bits::<T, O>(words, first, end, bit);
 }
 
-/// Flips the bit at each index of a range of the list. Requires that the range lies in the list.
+// Flips the bit at each index of a range of the list. Requires that the range lies in the list.
 pub(crate) fn flip_range_over<T: BitStore, O: BitOrder, R: RangeExt>(
     words: &mut [T],
     head: usize,
@@ -113,8 +113,8 @@ pub(crate) fn flip_range_over<T: BitStore, O: BitOrder, R: RangeExt>(
     flip_bits::<T, O>(words, head + range.start, head + range.end);
 }
 
-/// Writes the bits of a view, with any word type and order, at the indices of a range of the list.
-/// Requires that the range lies in the list, and is as long as the view.
+// Writes the bits of a view, with any word type and order, at the indices of a range of the list.
+// Requires that the range lies in the list, and is as long as the view.
 pub(crate) fn copy_into_over<T: BitStore, O: BitOrder, R: RangeExt, U: BitStore, P: BitOrder>(
     words: &mut [T],
     head: usize,
@@ -135,9 +135,9 @@ pub(crate) fn copy_into_over<T: BitStore, O: BitOrder, R: RangeExt, U: BitStore,
     copy_bits::<T, O, U, P>(words, at, source.as_raw_slice(), from, count);
 }
 
-/// Combines each bit at the indices of a range of the list, by `F`, with the bit of `other` for it, or with
-/// false past the end of `other`. The first bit of `other` is for the first of the range. Requires that the
-/// range lies in the list.
+// Combines each bit at the indices of a range of the list, by `F`, with the bit of `other` for it, or with
+// false past the end of `other`. The first bit of `other` is for the first of the range. Requires that the
+// range lies in the list.
 pub(crate) fn combine_range_over<
     F: BitOperator,
     T: BitStore,
@@ -158,7 +158,7 @@ pub(crate) fn combine_range_over<
     combine_view::<F, T, O, U, P>(words, head + range.start, count, other);
 }
 
-/// Reverses the list.
+// Reverses the list.
 pub(crate) fn reverse_over<T: BitStore, O: BitOrder>(words: &mut [T], head: usize, len: usize)
     requires within { head + len ≤ T.BITS * length words.old }
     requires fits { head + len < 2 ^ 64 }
@@ -168,7 +168,7 @@ pub(crate) fn reverse_over<T: BitStore, O: BitOrder>(words: &mut [T], head: usiz
     reverse_bits::<T, O>(words, head, len);
 }
 
-/// Moves the first `by` bits of the list after the others. Requires that `by` is at most the length.
+// Moves the first `by` bits of the list after the others. Requires that `by` is at most the length.
 pub(crate) fn rotate_over<T: BitStore, O: BitOrder>(
     words: &mut [T],
     head: usize,
@@ -185,8 +185,8 @@ pub(crate) fn rotate_over<T: BitStore, O: BitOrder>(
     rotate_bits::<T, O>(words, head, len, by);
 }
 
-/// Moves each bit of the list by `by` indices towards the front. The first `by` bits are dropped, and the
-/// last `by` become false. Requires that `by` is at most the length.
+// Moves each bit of the list by `by` indices towards the front. The first `by` bits are dropped, and the
+// last `by` become false. Requires that `by` is at most the length.
 pub(crate) fn shift_left_over<T: BitStore, O: BitOrder>(
     words: &mut [T],
     head: usize,
@@ -202,8 +202,8 @@ pub(crate) fn shift_left_over<T: BitStore, O: BitOrder>(
     shift_bits_left::<T, O>(words, head, len, by);
 }
 
-/// Moves each bit of the list by `by` indices towards the end. The last `by` bits are dropped, and the
-/// first `by` become false. Requires that `by` is at most the length.
+// Moves each bit of the list by `by` indices towards the end. The last `by` bits are dropped, and the
+// first `by` become false. Requires that `by` is at most the length.
 pub(crate) fn shift_right_over<T: BitStore, O: BitOrder>(
     words: &mut [T],
     head: usize,
@@ -219,9 +219,9 @@ pub(crate) fn shift_right_over<T: BitStore, O: BitOrder>(
     shift_bits_right::<T, O>(words, head, len, by);
 }
 
-/// Combines each bit of the list at `dest + k`, by `F`, with bit `k` of a range of the list, as if the range
-/// was read before any bit is written. The two runs may overlap. Requires that the range lies in the list, and
-/// that its bits have room from `dest` on.
+// Combines each bit of the list at `dest + k`, by `F`, with bit `k` of a range of the list, as if the range
+// was read before any bit is written. The two runs may overlap. Requires that the range lies in the list, and
+// that its bits have room from `dest` on.
 pub(crate) fn combine_within_over<F: BitOperator, T: BitStore, O: BitOrder, R: RangeExt>(
     words: &mut [T],
     head: usize,
@@ -242,8 +242,8 @@ pub(crate) fn combine_within_over<F: BitOperator, T: BitStore, O: BitOrder, R: R
     combine_within::<F, T, O>(words, from, to, range.end - range.start);
 }
 
-/// Writes the lowest bits of a number over the list, the least significant first. Requires that the list
-/// has at most 64 bits.
+// Writes the lowest bits of a number over the list, the least significant first. Requires that the list
+// has at most 64 bits.
 pub(crate) fn store_le_over<T: BitStore, O: BitOrder>(
     words: &mut [T],
     head: usize,
@@ -259,8 +259,8 @@ pub(crate) fn store_le_over<T: BitStore, O: BitOrder>(
     write_chunk::<T, O>(words, head, len as u8, number);
 }
 
-/// Writes the lowest bits of a number over the list, the most significant first. Requires that the list
-/// has at most 64 bits.
+// Writes the lowest bits of a number over the list, the most significant first. Requires that the list
+// has at most 64 bits.
 pub(crate) fn store_be_over<T: BitStore, O: BitOrder>(
     words: &mut [T],
     head: usize,
@@ -275,7 +275,7 @@ pub(crate) fn store_be_over<T: BitStore, O: BitOrder>(
     write_binary::<T, O>(words, head, len as u8, number);
 }
 
-/// Combines each bit of the list, by `F`, with the bit at its index in a view, or with false past the view's end.
+// Combines each bit of the list, by `F`, with the bit at its index in a view, or with false past the view's end.
 pub(crate) fn combine_over<F: BitOperator, T: BitStore, O: BitOrder, U: BitStore, P: BitOrder>(
     words: &mut [T],
     head: usize,
@@ -290,7 +290,7 @@ pub(crate) fn combine_over<F: BitOperator, T: BitStore, O: BitOrder, U: BitStore
     combine_view::<F, T, O, U, P>(words, head, len, other);
 }
 
-/// Writes the bit at index `i` of the list, and no other bit. Requires that `i` is below the length.
+// Writes the bit at index `i` of the list, and no other bit. Requires that `i` is below the length.
 pub(crate) fn set_over<T: BitStore, O: BitOrder>(
     words: &mut [T],
     head: usize,
@@ -313,7 +313,7 @@ pub(crate) fn set_over<T: BitStore, O: BitOrder>(
     write_bit::<T, O>(words, head + i, bit);
 }
 
-/// Swaps the bits at `i` and `j` of the list, and changes no other bit. Requires that both are below the length.
+// Swaps the bits at `i` and `j` of the list, and changes no other bit. Requires that both are below the length.
 pub(crate) fn swap_over<T: BitStore, O: BitOrder>(
     words: &mut [T],
     head: usize,

@@ -225,7 +225,7 @@ fn write_blocks<T: BitStore, O: BitOrder, W: fmt::Write>(
     f.write_str(text_of(&piece, 4 * each))
 }
 
-// Like `write_blocks`. It is compiled apart for each size: where the size is known, so are the shifts.
+// Writes blocks of digits; compiled apart for each size: where the size is known, so are the shifts.
 fn write_many<T: BitStore, O: BitOrder, W: fmt::Write>(
     view: BitSlice<'_, T, O>,
     size: u8,

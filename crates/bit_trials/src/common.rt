@@ -4,13 +4,13 @@ ghost use Rattle.std.specs.Prelude.{Ok, ◌≡◌, length};
 use bit_containers::{BitOrder, BitStore, BitVec};
 use std::process::Abort;
 
-/// That this holds. A test calls it in place of `assert!`, which costs the prover more: a failed
-/// test is told by its name.
+// That this holds. A test calls it in place of `assert!`, which costs the prover more: a failed
+// test is told by its name.
 pub(crate) fn check(rt: &impl Abort, holds: bool) {
     assert!(rt; holds);
 }
 
-/// What a call returns that found memory.
+// What a call returns that found memory.
 pub(crate) fn ok<V, E>(rt: &impl Abort, outcome: Result<V, E>) -> V
     ensures { outcome ≡ Ok result }
 {
@@ -20,7 +20,7 @@ pub(crate) fn ok<V, E>(rt: &impl Abort, outcome: Result<V, E>) -> V
     }
 }
 
-/// A vector of the bits that these digits write, appended one by one.
+// A vector of the bits that these digits write, appended one by one.
 pub(crate) fn of<T: BitStore, O: BitOrder>(
     rt: &(impl Abort + AllocGlobal),
     digits: &[u8],
@@ -35,7 +35,7 @@ pub(crate) fn of<T: BitStore, O: BitOrder>(
     v
 }
 
-/// The vector of these words.
+// The vector of these words.
 pub(crate) fn of_words<O: BitOrder>(
     rt: &(impl Abort + AllocGlobal),
     words: &[u8],
@@ -45,7 +45,7 @@ pub(crate) fn of_words<O: BitOrder>(
     BitVec::from_vec(words)
 }
 
-/// That the vector holds these digits.
+// That the vector holds these digits.
 pub(crate) fn holds<T: BitStore, O: BitOrder>(rt: &impl Abort, v: &BitVec<T, O>, digits: &[u8]) {
     check(rt, v.len() == digits.len());
     check(rt, v.get(digits.len()).is_none());
@@ -54,7 +54,7 @@ pub(crate) fn holds<T: BitStore, O: BitOrder>(rt: &impl Abort, v: &BitVec<T, O>,
     }
 }
 
-/// That the words of the vector are these.
+// That the words of the vector are these.
 pub(crate) fn shows<T: BitStore, O: BitOrder>(rt: &impl Abort, v: &BitVec<T, O>, words: &[T]) {
     let kept = v.as_raw_slice();
     check(rt, kept.len() == words.len());

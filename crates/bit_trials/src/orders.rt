@@ -4,7 +4,7 @@ ghost use Rattle.bit_addressing.specs.Order.{lawful_by_test};
 
 use bit_addressing::{BitIdx, BitOrder, BitPos, BitStore};
 
-/// The order whose halves of each byte change places.
+// The order whose halves of each byte change places.
 pub(crate) struct Xor4;
 
 impl BitOrder for Xor4 {

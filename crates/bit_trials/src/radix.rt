@@ -1,7 +1,7 @@
 //! Containers in a radix, as text.
 use std::fmt;
 
-/// How bits are written in a radix.
+// How bits are written in a radix.
 #[derive(Drop)]
 pub(crate) enum Radix {
     Binary,
@@ -10,7 +10,7 @@ pub(crate) enum Radix {
     UpperHex,
 }
 
-/// A container, in a radix.
+// A container, in a radix.
 #[derive(Drop)]
 pub(crate) struct In<'a, D>(pub(crate) &'a D, pub(crate) Radix);
 

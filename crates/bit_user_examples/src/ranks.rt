@@ -7,7 +7,7 @@ use bit_containers::{BitVec, Msb0};
 use bit_ranks::Ranks;
 use std::process::Abort;
 
-/// Seven bits, of which three are true.
+// Seven bits, of which three are true.
 fn seven(rt: &(impl Abort + AllocGlobal)) -> Ranks<u8, Msb0> {
     let mut bits = BitVec::new(rt.alloc());
     for bit in [false, true, true, false, true, false, false] {

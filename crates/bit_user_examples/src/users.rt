@@ -80,13 +80,13 @@ fn the_bits_of_a_header(rt: HostRuntime) {
     check(&rt, ok(&rt, header.to_bits(rt.alloc())).len() == 160);
 }
 
-/// That a set has these numbers, in this order.
+// That a set has these numbers, in this order.
 fn has(rt: &(impl Abort + AllocGlobal), set: &NumberSet, numbers: &[usize]) {
     let members = ok(rt, set.members(rt.alloc()));
     check(rt, members.as_slice() == numbers);
 }
 
-/// A set of those of these numbers that are below a bound.
+// A set of those of these numbers that are below a bound.
 fn set_of(rt: &(impl Abort + AllocGlobal), bound: usize, numbers: &[usize]) -> NumberSet {
     let mut set = ok(rt, NumberSet::new(rt.alloc(), bound));
     for number in numbers {
@@ -351,7 +351,7 @@ fn reached_from(alloc: Global, start: usize) -> Result<[bool; 10], AllocError> {
     Ok(reached)
 }
 
-/// That the edges of a closed graph from a node are those that a search in depth finds, and those found by hand.
+// That the edges of a closed graph from a node are those that a search in depth finds, and those found by hand.
 fn leads(rt: &(impl Abort + AllocGlobal), graph: &Matrix, from: usize)
     requires { from < 10 }
 {
@@ -399,7 +399,7 @@ fn paths_of_a_line(rt: HostRuntime) {
     }
 }
 
-/// A matrix of three rows with two bits in each, of which one row was or-ed to another, and copied.
+// A matrix of three rows with two bits in each, of which one row was or-ed to another, and copied.
 fn three_rows(rt: &(impl Abort + AllocGlobal)) -> Matrix {
     let mut matrix = ok(rt, Matrix::new(rt.alloc(), 3, 70));
     assert!(rt; matrix.rows() == 3);

@@ -5,7 +5,7 @@ use bit_lines::start;
 use std::process::ExitCode;
 use std::{env, io};
 
-/// The program's arguments.
+// The program's arguments.
 fn words(rt: &HostRuntime) -> io::Result<Vec<String>> {
     let mut words = Vec::new(rt.alloc());
     for word in env::args(rt)?.skip(1) {

@@ -138,7 +138,7 @@ impl<A: BitWords, O: BitOrder> Iterator for IntoIter<A, O> {
         Some(bit)
     }
 
-    /// How many bits are left, twice.
+    /// The number of bits that are left, as both bounds: it is exact.
     fn size_hint(&self) -> (usize, Option<usize>)
         ensures lower { IsWithinCount result.0 (at_most (length self.now)) }
         ensures upper { IfSome result.1 (UpTo (at_most (length self.now))) }

@@ -195,7 +195,7 @@ impl<T: BitStore, O: BitOrder> Iterator for IntoIter<T, O> {
         Some(bit)
     }
 
-    /// How many bits are left, twice.
+    /// The number of bits that are left, as both bounds: it is exact.
     fn size_hint(&self) -> (usize, Option<usize>)
         ensures lower { IsWithinCount result.0 (at_most (length self.now.list)) }
         ensures upper { IfSome result.1 (UpTo (at_most (length self.now.list))) }

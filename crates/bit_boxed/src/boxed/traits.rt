@@ -182,7 +182,7 @@ impl<T: BitStore, O: BitOrder> TryFrom<BoxedSlice<T>> for BitBox<T, O> {
         (λ b. IsWhole T.BITS (boxed_slice_items words) (row T.BitStore O.BitOrder (boxed_slice_items words))
         b) (λ back. back ≡ words) × (IsOk r ↔ (T.BITS * length (boxed_slice_items words) ≤ MAX_BITS)) };
 
-    /// Like `BitBox::try_from_boxed_slice`.
+    /// The call `BitBox::try_from_boxed_slice`.
     fn try_from(words: BoxedSlice<T>) -> Result<Self, BoxedSlice<T>> {
         Self::try_from_boxed_slice(words)
     }

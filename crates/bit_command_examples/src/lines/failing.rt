@@ -5,7 +5,7 @@ use bit_lines::start;
 use std::io;
 use std::io::{Read, Write};
 
-/// A reader that gives a number of bytes at each read, and fails when no read is left.
+// A reader that gives a number of bytes at each read, and fails when no read is left.
 #[derive(Drop)]
 struct Stuttering<'a> {
     bytes: &'a [u8],
@@ -24,7 +24,7 @@ impl Read for Stuttering<'_> {
     }
 }
 
-/// A writer that keeps what it takes, and fails when no write is left.
+// A writer that keeps what it takes, and fails when no write is left.
 #[derive(Drop)]
 struct Filling<'a> {
     kept: &'a mut Vec<u8>,
@@ -47,7 +47,7 @@ impl Write for Filling<'_> {
 
 const REPLIES: &[u8] = b"ok\nok\nrange\n1\n";
 
-/// What is replied to the first lines of the first run that end within a number of bytes.
+// What is replied to the first lines of the first run that end within a number of bytes.
 fn replies_within(bytes: usize) -> &'static [u8] {
     match bytes {
         0..7 => b"",
@@ -128,7 +128,7 @@ fn long_line(rt: HostRuntime) {
     }
 }
 
-/// A reader whose every other read is interrupted.
+// A reader whose every other read is interrupted.
 #[derive(Drop)]
 struct Interrupted<'a> {
     bytes: &'a [u8],
@@ -160,7 +160,7 @@ fn interrupted_reads(rt: HostRuntime) {
     check(&rt, status == 0);
 }
 
-/// A writer that counts its flushes, and how many bytes wait for one.
+// A writer that counts its flushes, and how many bytes wait for one.
 #[derive(Drop)]
 struct Flushing<'a> {
     kept: &'a mut Vec<u8>,
@@ -183,7 +183,7 @@ impl Write for Flushing<'_> {
     }
 }
 
-/// Each reply is flushed before the next line is read, and nothing waits at the end.
+// Each reply is flushed before the next line is read, and nothing waits at the end.
 #[test]
 fn flushed_writes(rt: HostRuntime) {
     let alloc = rt.alloc();
@@ -212,8 +212,8 @@ const GROWING: &[u8] =
     b"push 1\nresize 200 1\nsplitoff 120\nsplice 3 5 0 400\nwithin 0 100\nreserve 2000\n\
 insert 0 0\ndrain 5 10\nlen\n";
 
-/// Where a request for memory is refused, what is written is a beginning of all replies, in whole lines, and then the
-/// refusal; whichever request `rt try --test --fail-alloc N` refuses.
+// Where a request for memory is refused, what is written is a beginning of all replies, in whole lines, and then the
+// refusal; whichever request `rt try --test --fail-alloc N` refuses.
 #[test]
 fn refused_memory(rt: HostRuntime) {
     let all = b"ok\nok\n80\nok\nok\nok\nok\n0\n614\n".as_slice();

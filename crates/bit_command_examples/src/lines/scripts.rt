@@ -97,7 +97,7 @@ fn shown_words(rt: HostRuntime) {
     replies(&rt, "u16 lsb0", input.as_slice(), want.as_slice(), 2);
 }
 
-/// Runs a script from any source to any sink.
+// Runs a script from any source to any sink.
 fn runs<S: Source, K: Sink>(alloc: Global, input: &mut S, output: &mut K) -> bool {
     serve_lines::<u64, Msb0, S, K>(alloc, input, output).is_ok()
 }

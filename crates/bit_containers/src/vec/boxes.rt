@@ -103,8 +103,8 @@ pub trait ToBytes {
     // The bits that it has.
     ghost bits_in: { Self → List Bool };
 
-    /// The list as bytes, each in the order `P`, by whole words; the bits of the last byte that the list does
-    /// not reach are false. Takes memory where there is a bit, and is refused only then.
+    /// The list as bytes, each in the order `P`, by whole words; the bits of the last byte that the list does not
+    /// reach are false. Allocates, and can fail, only where there is a bit.
     fn to_bytes<P: BitOrder>(&self, alloc: Global) -> Result<Vec<u8>, AllocError>
         ensures bytes { IfOk result
             (λ bytes. bytes.items ≡ words_for_list ⟦<u8 as BitStore>⟧ P.BitOrder (bits_in self.now)) }

@@ -113,8 +113,8 @@ impl<T: BitStore, O: BitOrder> BitVec<T, O> {
         Ok(())
     }
 
-    // Does nothing: its clauses say that the row has exactly the words that head and list take, and that
-    // the capacity has room for the list.
+    // Proof only: its clauses say that the row has exactly the words that head and list take, and that the capacity
+    // has room for the list.
     pub(crate) fn prove_in_words(&self)
         ensures size { length self.now.row ≡ T.BITS * words_for T.BITS (self.now.head + length self.now.list) }
         ensures few { length self.now.list ≤ MAX_BITS }

@@ -14,8 +14,7 @@ use std::alloc::{AllocError, Global};
 use std::marker::PhantomData;
 
 impl<T: BitStore, O: BitOrder> BitVec<T, O> {
-    /// The bits of an array, whose words are copied: head 0. Takes memory where it has a word, and is refused
-    /// only then.
+    /// The bits of an array, whose words are copied: head 0. Allocates, and can fail, only where it has a word.
     ///
     /// ```text
     /// BitVec::from_bitarray(alloc, BitArray::<u8, Lsb0>::new(6))? holds 01100000
@@ -55,8 +54,7 @@ impl<T: BitStore, O: BitOrder> BitVec<T, O> {
         }
     }
 
-    /// The box of the same words, head and list. Gives back memory that no word takes. It always
-    /// succeeds.
+    /// The box of the same words, head and list. Gives back the memory past the last word. It always succeeds.
     ///
     /// ```text
     /// of 0110: bits.into_boxed_bitslice()?.as_bitslice() shows 0110

@@ -8,7 +8,7 @@ use crate::vec::BitVec;
 use bit_addressing::{BitOrder, BitStore};
 use bit_rows::cut_words_in_vec;
 
-/// Writes `word` over each of the words.
+// Writes `word` over each of the words.
 fn set_words<T: BitStore>(words: &mut [T], word: T)
     ensures { words.new ≡ replicate (length words.old) word }
 {
@@ -17,7 +17,7 @@ fn set_words<T: BitStore>(words: &mut [T], word: T)
     }
 }
 
-/// Like `set_words`, over the words of a vector.
+// Like `set_words`, over the words of a vector.
 fn set_words_in_vec<T: BitStore>(words: &mut Vec<T>, word: T)
     ensures items { words.new.items ≡ replicate (length words.old.items) word }
     ensures size { length words.new.items ≡ length words.old.items }

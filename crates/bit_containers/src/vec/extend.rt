@@ -190,8 +190,8 @@ impl<T: BitStore, O: BitOrder> BitVec<T, O> {
         Ok(())
     }
 
-    /// Appends the `n` lowest bits of a number, the one at place 0 first. It is refused like
-    /// `extend_from_bitslice`. Requires that `n` is at most 64.
+    // Appends the `n` lowest bits of a number, the one at place 0 first. It is refused like
+    // `extend_from_bitslice`. Requires that `n` is at most 64.
     #[tactic(auto, using(bit_slice::proofs::Parts::shown_length))]
     pub(crate) fn extend_from_number(&mut self, number: u64, n: u8) -> Result<(), GrowError>
         requires { n ≤ 64 }

@@ -42,7 +42,7 @@ impl<'b, T: BitStore, O: BitOrder> Iterator for Items<'b, T, O> {
         self.inner.next()
     }
 
-    /// How many bits are left, twice.
+    /// The number of bits that are left, as both bounds: it is exact.
     fn size_hint(&self) -> (usize, Option<usize>)
         ensures lower { IsWithinCount result.0 (at_most (length (items_rest self.now))) }
         ensures upper { IfSome result.1 (UpTo (at_most (length (items_rest self.now)))) }

@@ -35,9 +35,8 @@ impl<T: BitStore, O: BitOrder> BitVec<T, O> {
         Ok(v)
     }
 
-    /// The list as bytes, each in the order `P`, by whole words; the bits of the last byte that the list does
-    /// not reach are false. Head, words and dead bits don't count. Takes memory where there is a bit, and is
-    /// refused only then.
+    /// The list as bytes, each in the order `P`, by whole words; the bits of the last byte that the list does not
+    /// reach are false. Head, words and dead bits don't count. Allocates, and can fail, only where there is a bit.
     ///
     /// ```text
     /// of the bits 1, 0, 1:  v.to_bytes::<Msb0>(alloc)?     // the one byte 0xa0

@@ -47,9 +47,8 @@ impl<T: BitStore, O: BitOrder> BitVec<T, O> {
         self.truncate(0);
     }
 
-    /// Cuts the vector at `at`, and returns the bits from there on as a clean vector. Takes memory where there is
-    /// a bit from `at` on, and is refused only then; a refusal leaves the vector. Requires that `at` is at most
-    /// the length.
+    /// Cuts the vector at `at`, and returns the bits from there on as a clean vector. Allocates, and can fail, only
+    /// where there is a bit from `at` on; a refusal leaves the vector. Requires that `at` is at most the length.
     ///
     /// ```text
     /// of 01101001: bits.split_off(3)?.as_bitslice() shows 01001

@@ -56,7 +56,7 @@ impl From<GrowError> for ParseBitsError {
     }
 }
 
-/// What was read of a text of bits so far.
+// What was read of a text of bits so far.
 #[derive(Clone, Copy, PartialEq, Eq, Debug)]
 pub(crate) enum Part {
     /// Nothing.

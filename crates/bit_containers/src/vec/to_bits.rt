@@ -47,8 +47,8 @@ impl<'a, T: BitStore, O: BitOrder> ToBits for BitSlice<'a, T, O> {
     ghost to_bitbox_gives = { λ view b. (b.list ≡ list_of view) × (length b.list ≡ len_of view)
         × IsCleanBox T.BITS b };
 
-    /// A vector of the same bits, from head 0 on, by whole words: as `BitVec::from_bitslice`. Takes memory
-    /// where the view has a bit, and is refused only then.
+    /// A vector of the same bits, from head 0 on, by whole words: as `BitVec::from_bitslice`. Allocates, and can
+    /// fail, only where the view has a bit.
     fn to_bitvec(self, alloc: Global) -> Result<BitVec<T, O>, AllocError>
         ensures bits { IfOk result
             (λ v. (v.list ≡ list_of self.entry) × (length v.list ≡ len_of self.entry) × IsClean T.BITS v) }
@@ -57,8 +57,8 @@ impl<'a, T: BitStore, O: BitOrder> ToBits for BitSlice<'a, T, O> {
         BitVec::from_bitslice(alloc, self)
     }
 
-    /// A box of the same bits, from head 0 on, by whole words: as `BitBox::from_bitslice`. Takes memory where the view
-    /// has a bit, and is refused only then.
+    /// A box of the same bits, from head 0 on, by whole words: as `BitBox::from_bitslice`. Allocates, and can fail,
+    /// only where the view has a bit.
     fn to_bitbox(self, alloc: Global) -> Result<BitBox<T, O>, AllocError>
         ensures bits { IfOk result (λ b. (b.list ≡ list_of self.entry) × (length b.list ≡ len_of self.entry)
             × IsCleanBox T.BITS b) }

@@ -186,7 +186,7 @@ impl<T: BitStore, O: BitOrder> TryFrom<Vec<T>> for BitVec<T, O> {
         × IsClean T.BITS v × (v.capacity ≡ bits_in T.BITS (vec_capacity words) 0)) (λ back. back ≡ words)
         × (IsOk r ↔ (T.BITS * length words.items ≤ MAX_BITS)) };
 
-    /// Like `BitVec::try_from_vec`.
+    /// The call `BitVec::try_from_vec`.
     fn try_from(words: Vec<T>) -> Result<Self, Vec<T>> {
         Self::try_from_vec(words)
     }

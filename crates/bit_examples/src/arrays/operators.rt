@@ -25,7 +25,7 @@ fn flipped(rt: HostRuntime) {
     check(&rt, not.into_inner() == [0x4e, 0x92]);
 }
 
-/// By an order of the library, and by one of a user.
+// By an order of the library, and by one of a user.
 #[test]
 fn moved(rt: HostRuntime) {
     let mut a = BitArray::<u8, Lsb0>::new(0x07);

@@ -11,7 +11,7 @@ use std::alloc::AllocError;
 use std::process::Abort;
 use std::test::Fail;
 
-/// That a result is the box of these digits, or that memory was refused.
+// That a result is the box of these digits, or that memory was refused.
 fn made<T: BitStore, O: BitOrder>(
     rt: &impl Abort,
     outcome: Result<BitBox<T, O>, AllocError>,
@@ -22,7 +22,7 @@ fn made<T: BitStore, O: BitOrder>(
     }
 }
 
-/// That these are the bits that are left, and no more.
+// That these are the bits that are left, and no more.
 fn gives<T: BitStore, O: BitOrder>(rt: &impl Abort, bits: IntoIter<T, O>, digits: &[u8]) {
     let mut bits = bits;
     for digit in digits {

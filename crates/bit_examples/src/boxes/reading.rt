@@ -7,7 +7,7 @@ use bit_boxed::BitBox;
 use bit_slice::{BitList, BitSlice};
 use std::process::Abort;
 
-/// A box of ten bits at head 3, of which bits 1, 2 and 4 are set.
+// A box of ten bits at head 3, of which bits 1, 2 and 4 are set.
 fn ten_bits(rt: &(impl Abort + AllocGlobal)) -> BitBox<u8, Lsb0>
     ensures { length result.list ≡ 10 }
 {

@@ -69,7 +69,7 @@ fn numbers_written(rt: HostRuntime) {
     shows(&rt, &b, &[0x18, 0x04]);
 }
 
-/// What is written through a part lands in the box, and the bits around it stay.
+// What is written through a part lands in the box, and the bits around it stay.
 #[test]
 fn part_lands(rt: HostRuntime) {
     let mut b = headed(&rt, &[0xa8, 0x07]);

@@ -6,7 +6,7 @@ use crate::common::check;
 use bit_addressing::{BitEnd, BitIdx, BitOrder, BitPos, BitStore, Lsb0, Msb0};
 use std::process::Abort;
 
-/// The order whose halves of each byte change places.
+// The order whose halves of each byte change places.
 pub(crate) struct Xor4;
 
 impl BitOrder for Xor4 {
@@ -19,7 +19,7 @@ impl BitOrder for Xor4 {
     }
 }
 
-/// That the mask of the bits from `from` to `upto` is this number.
+// That the mask of the bits from `from` to `upto` is this number.
 fn masks<T: BitStore, O: BitOrder>(rt: &impl Abort, from: u8, upto: u8, want: u64) {
     assert!(rt; from <= upto && from < T::BITS && upto <= T::BITS);
     let mask: T = O::mask(BitIdx::new_unchecked(from), BitEnd::new_unchecked(upto));
@@ -37,7 +37,7 @@ fn masks_of_bytes(rt: HostRuntime) {
     masks::<u8, Msb0>(&rt, 3, 3, 0);
 }
 
-/// The place of the first bit of a word.
+// The place of the first bit of a word.
 fn first_place<T: BitStore, O: BitOrder>() -> u8 {
     O::at(BitIdx::<T>::new_unchecked(0)).into_inner()
 }

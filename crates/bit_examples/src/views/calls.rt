@@ -123,7 +123,7 @@ fn both_ends(rt: HostRuntime) {
     check(&rt, bits.size_hint() == (6, Some(6)));
 }
 
-/// A view for reading, its words and a copy of it.
+// A view for reading, its words and a copy of it.
 #[test]
 fn views_of_words(rt: HostRuntime) {
     let words = [0x08_u8, 0x02];
@@ -133,7 +133,7 @@ fn views_of_words(rt: HostRuntime) {
     check(&rt, copy.len() == 16);
 }
 
-/// What a view for writing says of its bits: lengths and counts.
+// What a view for writing says of its bits: lengths and counts.
 #[test]
 fn counts_while_written(rt: HostRuntime) {
     let mut words = [0x08_u8, 0x02];
@@ -147,7 +147,7 @@ fn counts_while_written(rt: HostRuntime) {
     check(&rt, view.count_zeros() == 14);
 }
 
-/// The same: single bits and parts.
+// The same: single bits and parts.
 #[test]
 fn reads_while_written(rt: HostRuntime) {
     let mut words = [0x08_u8, 0x02];
@@ -160,7 +160,7 @@ fn reads_while_written(rt: HostRuntime) {
     check(&rt, view.iter().len() == 16);
 }
 
-/// The words of a view for writing, and the view of it for reading.
+// The words of a view for writing, and the view of it for reading.
 #[test]
 fn words_while_written(rt: HostRuntime) {
     let mut words = [0x08_u8, 0x02];

@@ -15,7 +15,7 @@ fn order_of_lists(rt: HostRuntime) {
     check(&rt, !left.eq_bits(right));
 }
 
-/// A view for writing, beside one of other words.
+// A view for writing, beside one of other words.
 #[test]
 fn compared_while_written(rt: HostRuntime) {
     let (mut bytes, wide) = ([0x34_u8, 0x12], [0x1234_u16]);

@@ -72,7 +72,7 @@ fn count_in_two(view: &mut Counted<'_, u8, Lsb0>) -> usize
     view.count_ones_counted()
 }
 
-/// The eight bits from head 3 on.
+// The eight bits from head 3 on.
 fn eight(words: &[u8; 2]) -> BitSlice<'_, u8, Lsb0>
     ensures head { head_seen result ≡ 3 }
     ensures len { len_seen result ≡ 8 }

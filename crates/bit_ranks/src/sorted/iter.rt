@@ -74,7 +74,7 @@ impl<'a> Iterator for Numbers<'a> {
         }
     }
 
-    /// How many numbers are left, twice.
+    /// The number of numbers that are left, as both bounds: it is exact.
     fn size_hint(&self) -> (usize, Option<usize>)
         ensures lower { IsWithinCount result.0 (at_most (length (numbers_left self.now))) }
         ensures upper { IfSome result.1 (UpTo (at_most (length (numbers_left self.now)))) }

@@ -140,7 +140,7 @@ fn move_to<T: BitStore, O: BitOrder>(words: &mut [T], from: usize, at: usize, n:
     }
 }
 
-// Like `reverse_long`, of a run that begins in the first of the words and ends in the last: it reverses all bits,
+// Reverses by whole words a run that begins in the first of the words and ends in the last: it reverses all bits,
 // moves the run to its head, and writes back the bits before and after it.
 fn reverse_touched<T: BitStore, O: BitOrder>(words: &mut [T], head: usize, len: usize)
     requires mirrored { IsMirrored T.BITS (O.place T.BITS) }
@@ -184,9 +184,9 @@ fn reverse_long<T: BitStore, O: BitOrder>(words: &mut [T], head: usize, len: usi
 // A run of this many bits or more is reversed by whole words.
 const LONG: usize = 256;
 
-/// Reverses the `len` bits of the words' row from `head` on: a long run by whole words, where the order is the same
-/// from both ends of a word, else up to 64 bits from each end at a time. No other bit changes. Requires that the run
-/// lies in the words.
+// Reverses the `len` bits of the words' row from `head` on: a long run by whole words, where the order is the same
+// from both ends of a word, else up to 64 bits from each end at a time. No other bit changes. Requires that the run
+// lies in the words.
 pub(crate) fn reverse_bits<T: BitStore, O: BitOrder>(words: &mut [T], head: usize, len: usize)
     requires within { head + len ≤ T.BITS * length words.old }
     requires fits { head + len < 2 ^ 64 }

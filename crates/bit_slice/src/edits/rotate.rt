@@ -343,9 +343,9 @@ fn rotate_long<T: BitStore, O: BitOrder>(words: &mut [T], head: usize, len: usiz
     rotate_once::<T, O>(words, at, left, front);
 }
 
-/// Moves the first `by` of the `len` bits of the words' row from `head` on after the others: by one move where one side
-/// is short, which is kept meanwhile, else by exchanges of whole words first. No other bit changes. Requires that the
-/// run lies in the words, and `by` is at most its length.
+// Moves the first `by` of the `len` bits of the words' row from `head` on after the others: by one move where one side
+// is short, which is kept meanwhile, else by exchanges of whole words first. No other bit changes. Requires that the
+// run lies in the words, and `by` is at most its length.
 pub(crate) fn rotate_bits<T: BitStore, O: BitOrder>(
     words: &mut [T],
     head: usize,

@@ -187,7 +187,7 @@ impl<'a, T: BitStore, O: BitOrder> Iterator for Chunks<'a, T, O> {
         Some(part)
     }
 
-    /// How many chunks are left, twice.
+    /// The number of chunks that are left, as both bounds: it is exact.
     fn size_hint(&self) -> (usize, Option<usize>)
         ensures lower { IsWithinCount result.0 (at_most (length (chunks_left self.now))) }
         ensures upper { IfSome result.1 (UpTo (at_most (length (chunks_left self.now)))) }
@@ -287,7 +287,7 @@ impl<'a, T: BitStore, O: BitOrder> Iterator for ChunksExact<'a, T, O> {
         Some(part)
     }
 
-    /// How many chunks are left, twice.
+    /// The number of chunks that are left, as both bounds: it is exact.
     fn size_hint(&self) -> (usize, Option<usize>)
         ensures lower { IsWithinCount result.0 (at_most (length (exact_chunks_left self.now))) }
         ensures upper { IfSome result.1 (UpTo (at_most (length (exact_chunks_left self.now)))) }
@@ -378,7 +378,7 @@ impl<'a, T: BitStore, O: BitOrder> Iterator for RChunks<'a, T, O> {
         Some(part)
     }
 
-    /// How many chunks are left, twice.
+    /// The number of chunks that are left, as both bounds: it is exact.
     fn size_hint(&self) -> (usize, Option<usize>)
         ensures lower { IsWithinCount result.0 (at_most (length (back_chunks_left self.now))) }
         ensures upper { IfSome result.1 (UpTo (at_most (length (back_chunks_left self.now)))) }
@@ -470,7 +470,7 @@ impl<'a, T: BitStore, O: BitOrder> Iterator for Windows<'a, T, O> {
         Some(part)
     }
 
-    /// How many windows are left, twice.
+    /// The number of windows that are left, as both bounds: it is exact.
     fn size_hint(&self) -> (usize, Option<usize>)
         ensures lower { IsWithinCount result.0 (at_most (length (windows_left self.now))) }
         ensures upper { IfSome result.1 (UpTo (at_most (length (windows_left self.now)))) }

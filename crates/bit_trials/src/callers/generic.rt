@@ -13,28 +13,28 @@ use bit_containers::{
     BitList, BitListMut, BitOrder, BitSlice, BitSliceMut, BitStore, BitVec, Lsb0, Msb0,
 };
 
-/// How many bits are true.
+// How many bits are true.
 pub(crate) fn count<B: BitList>(bits: &B) -> usize
     ensures { result ≡ count_by (λ b. b) (B.list bits.now) }
 {
     bits.count_ones()
 }
 
-/// Where a pattern of bits begins.
+// Where a pattern of bits begins.
 pub(crate) fn find<B: BitList, C: BitList>(bits: &B, pattern: &C) -> Option<usize>
     ensures { IfSome result (λ i. part (C.len pattern.now) (B.list bits.now) i ≡ C.list pattern.now) }
 {
     bits.find(pattern.as_bitslice())
 }
 
-/// Whether two lists of bits, of one kind or of two, are equal.
+// Whether two lists of bits, of one kind or of two, are equal.
 pub(crate) fn equal<B: BitList, C: BitList>(left: &B, right: &C) -> bool
     ensures { IsTrue result ↔ (B.list left.now ≡ C.list right.now) }
 {
     left.eq_bits(right.as_bitslice())
 }
 
-/// Makes every bit false.
+// Makes every bit false.
 pub(crate) fn clear<B: BitListMut>(bits: &mut B)
     ensures list { B.list bits.new ≡ replicate (B.len bits.old) false }
     ensures len { B.len bits.new ≡ B.len bits.old }
@@ -42,7 +42,7 @@ pub(crate) fn clear<B: BitListMut>(bits: &mut B)
     bits.fill(false);
 }
 
-/// Sets each bit that is true in another list.
+// Sets each bit that is true in another list.
 pub(crate) fn add<B: BitListMut, C: BitList>(bits: &mut B, other: &C)
     ensures { B.list bits.new ≡ or_of (B.list bits.old) (C.list other.now) }
 {

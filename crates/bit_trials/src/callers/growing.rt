@@ -64,7 +64,7 @@ pub fn pushed_after_reserving<T: BitStore, O: BitOrder>(
     Ok(push_all(v, k, bit))
 }
 
-/// Pushes a bit `k` times, and says whether each push found room.
+// Pushes a bit `k` times, and says whether each push found room.
 fn push_all<T: BitStore, O: BitOrder>(v: &mut BitVec<T, O>, k: usize, bit: bool) -> bool
     requires room { length v.old.list + k ≤ v.old.capacity }
     requires fits { length v.old.list + k ≤ MAX_BITS }

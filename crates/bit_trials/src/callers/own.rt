@@ -6,7 +6,7 @@ use crate::common::check;
 use bit_addressing::{BitOrder, BitStore};
 use bit_containers::{BitList, BitListMut, BitSlice, Lsb0};
 
-/// Sixteen switches in two bytes.
+// Sixteen switches in two bytes.
 #[derive(Drop)]
 pub(crate) struct Switches {
     bytes: [u8; 2],
@@ -69,14 +69,14 @@ impl BitListMut for Switches {
     ghost loan_rewritten = { λ s ws. refl };
 }
 
-/// The first switch that is on.
+// The first switch that is on.
 pub(crate) fn first_on(switches: &Switches) -> Option<usize>
     ensures { IfSome result (λ i. slice_get (⟦<Switches as BitList>⟧.list switches.now) i ≡ Some true) }
 {
     switches.first_one()
 }
 
-/// Turns a switch the other way.
+// Turns a switch the other way.
 pub(crate) fn turn(switches: &mut Switches, i: usize)
     requires { i < 16 }
     ensures { ⟦<Switches as BitList>⟧.list switches.new

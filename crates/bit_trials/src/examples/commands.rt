@@ -3,7 +3,7 @@ use crate::common::check;
 use bit_containers::{BitOrder, BitStore, BitVec, Command, Msb0, Reply, run};
 use std::process::Abort;
 
-/// That a run of these commands goes to its end, and gives these replies.
+// That a run of these commands goes to its end, and gives these replies.
 fn results<T: BitStore, O: BitOrder>(
     rt: &(impl Abort + AllocGlobal),
     v: &mut BitVec<T, O>,

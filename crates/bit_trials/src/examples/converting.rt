@@ -6,7 +6,7 @@ use bit_containers::{BitSlice, BitVec, IntoBitVec, Lsb0};
 use std::alloc::AllocError;
 use std::process::Abort;
 
-/// What becomes a vector, as one.
+// What becomes a vector, as one.
 fn vector_of<B: IntoBitVec>(b: B) -> Result<BitVec<B::Store, B::Order>, AllocError> {
     b.into_bitvec()
 }
@@ -24,7 +24,7 @@ fn box_as_a_vector(rt: HostRuntime) {
     shows(&rt, &v, &[0xf5]);
 }
 
-/// A vector of eight bits at head 3.
+// A vector of eight bits at head 3.
 fn headed(rt: &(impl Abort + AllocGlobal)) -> BitVec<u8, Lsb0> {
     let words = [0xa8, 0x07];
     let view = BitSlice::<u8, Lsb0>::from_slice(&words).get_range(3..11);

@@ -3,7 +3,7 @@ use crate::common::{check, ok, shows};
 use bit_containers::{BitSlice, BitVec, Lsb0};
 use std::process::Abort;
 
-/// A copy begins at head 0.
+// A copy begins at head 0.
 #[test]
 fn copy_of_a_vector(rt: HostRuntime) {
     let words = [0xaf, 0xff];
@@ -37,7 +37,7 @@ fn aligned_after_copying(rt: HostRuntime) {
     check(&rt, v.len() == 10);
 }
 
-/// No bit at a head of 5, in a word of its own.
+// No bit at a head of 5, in a word of its own.
 fn empty_after_a_head(rt: &(impl Abort + AllocGlobal)) -> BitVec<u8, Lsb0> {
     let words = [0xff];
     let view = BitSlice::<u8, Lsb0>::from_slice(&words).get_range(5..5);

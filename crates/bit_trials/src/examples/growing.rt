@@ -3,7 +3,7 @@ use crate::common::{check, holds, of, ok, shows};
 use crate::orders::Xor4;
 use bit_containers::{BitSlice, BitVec, Lsb0, Msb0};
 
-/// An order that exchanges the halves of a byte.
+// An order that exchanges the halves of a byte.
 #[test]
 fn appended_by_an_order_of_a_user(rt: HostRuntime) {
     let v = of::<u8, Xor4>(&rt, b"11001");
@@ -58,7 +58,7 @@ fn appended(rt: HostRuntime) {
     check(&rt, other.as_raw_slice().is_empty());
 }
 
-/// A vector with a head that shows a word has room in it.
+// A vector with a head that shows a word has room in it.
 #[test]
 fn room_after_a_head(rt: HostRuntime) {
     let words = [0xff];

@@ -9,7 +9,7 @@ fn texts_of_errors(rt: HostRuntime) {
     check(&rt, text.as_str() == "no text of bits");
 }
 
-/// A box is made as a vector is, and its bytes are those of its list.
+// A box is made as a vector is, and its bytes are those of its list.
 #[test]
 fn boxes_made_of_bytes(rt: HostRuntime) {
     let bytes = [0xa0, 0x01];

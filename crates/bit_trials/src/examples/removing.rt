@@ -25,7 +25,7 @@ fn drained_past_the_end(rt: HostRuntime) {
     holds(&rt, &v, b"00");
 }
 
-/// What a drain has yet to give, as a view and as text.
+// What a drain has yet to give, as a view and as text.
 #[test]
 fn drain_seen(rt: HostRuntime) {
     let mut v = of::<u8, Msb0>(&rt, b"01110");
@@ -51,7 +51,7 @@ fn retained_by_bits(rt: HostRuntime) {
     holds(&rt, &v, b"1111111");
 }
 
-/// What is asked of each bit may count the bits.
+// What is asked of each bit may count the bits.
 #[test]
 fn retained_by_a_count(rt: HostRuntime) {
     let mut v = of::<u8, Msb0>(&rt, b"1101");
@@ -100,7 +100,7 @@ fn replaced_by_a_view(rt: HostRuntime) {
     holds(&rt, &v, b"010110");
 }
 
-/// What is replaced, taken from both ends first.
+// What is replaced, taken from both ends first.
 #[test]
 fn spliced_from_both_ends(rt: HostRuntime) {
     let mut v = of::<u8, Lsb0>(&rt, b"01110");
@@ -112,7 +112,7 @@ fn spliced_from_both_ends(rt: HostRuntime) {
     holds(&rt, &v, b"001100");
 }
 
-/// All that is replaced, taken first.
+// All that is replaced, taken first.
 #[test]
 fn spliced_after_all_was_taken(rt: HostRuntime) {
     let mut v = of::<u8, Msb0>(&rt, b"111111111110100100001");
@@ -122,7 +122,7 @@ fn spliced_after_all_was_taken(rt: HostRuntime) {
     holds(&rt, &v, b"11010100100001");
 }
 
-/// Shrinking keeps the capacity.
+// Shrinking keeps the capacity.
 #[test]
 fn capacity_is_kept(rt: HostRuntime) {
     let mut v = ok(&rt, BitVec::<u8, Lsb0>::with_capacity(rt.alloc(), 80));

@@ -3,7 +3,7 @@ use crate::common::{check, holds, of, ok, shows};
 use bit_containers::{BitList, BitListMut, BitOrder, BitSlice, BitStore, BitVec, Lsb0, Msb0};
 use std::process::Abort;
 
-/// That a vector of these bits begins at head 0 and has these words.
+// That a vector of these bits begins at head 0 and has these words.
 fn pushed<T: BitStore, O: BitOrder>(rt: &(impl Abort + AllocGlobal), digits: &[u8], words: &[T]) {
     let v = of::<T, O>(rt, digits);
     check(rt, v.head() == 0);
@@ -114,7 +114,7 @@ fn numbers_of_three_digits(rt: HostRuntime) {
     shows(&rt, &v, &[0xc5, 0x00]);
 }
 
-/// Words that become a vector, and are taken out of it, by the traits of conversions.
+// Words that become a vector, and are taken out of it, by the traits of conversions.
 #[test]
 fn words_converted(rt: HostRuntime) {
     let words = ok(&rt, Vec::from_slice(rt.alloc(), &[0x41_u8, 0x80]));
@@ -148,7 +148,7 @@ fn told_apart(rt: HostRuntime) {
     );
 }
 
-/// Bits that are mapped.
+// Bits that are mapped.
 #[test]
 fn a_hundred_bits(rt: HostRuntime) {
     let v = ok(

@@ -3,7 +3,7 @@ use crate::common::{check, shows};
 use bit_containers::{BitOrder, BitStore, BitVec, Command, GrowError, Msb0, Reply, Stop, run};
 use std::process::Abort;
 
-/// That a run of these commands goes to its end, and gives these replies.
+// That a run of these commands goes to its end, and gives these replies.
 fn results<T: BitStore, O: BitOrder>(
     rt: &(impl Abort + AllocGlobal),
     v: &mut BitVec<T, O>,
@@ -15,7 +15,7 @@ fn results<T: BitStore, O: BitOrder>(
     check(rt, replies.as_slice() == want);
 }
 
-/// That a run of these commands stops at the second, by which the vector would be too long, and replies `Done` to the first.
+// That a run of these commands stops at the second, by which the vector would be too long, and replies `Done` to the first.
 pub(super) fn stops<T: BitStore, O: BitOrder>(
     rt: &(impl Abort + AllocGlobal),
     v: &mut BitVec<T, O>,

@@ -48,7 +48,7 @@ fn room_at_the_limit(rt: HostRuntime) {
     }
 }
 
-/// That a run stops at this command, the second of three, and leaves what the first did.
+// That a run stops at this command, the second of three, and leaves what the first did.
 fn stops_at(rt: &(impl Abort + AllocGlobal), command: Command) {
     let mut v = BitVec::<u8, Lsb0>::new(rt.alloc());
     stops(
@@ -59,7 +59,7 @@ fn stops_at(rt: &(impl Abort + AllocGlobal), command: Command) {
     holds(rt, &v, b"1");
 }
 
-/// A run stops at the command that passes the limit, and what came before it stays done.
+// A run stops at the command that passes the limit, and what came before it stays done.
 #[test]
 fn runs_at_the_limit(rt: HostRuntime) {
     stops_at(&rt, Command::Reserve(LIMIT));

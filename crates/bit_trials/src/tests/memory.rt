@@ -12,7 +12,7 @@ use bit_containers::{
 use std::alloc::AllocError;
 use std::process::Abort;
 
-/// That a result is the vector of these digits, or that memory was refused.
+// That a result is the vector of these digits, or that memory was refused.
 fn made<T: BitStore, O: BitOrder>(
     rt: &impl Abort,
     outcome: Result<BitVec<T, O>, AllocError>,
@@ -23,7 +23,7 @@ fn made<T: BitStore, O: BitOrder>(
     }
 }
 
-/// That a result is the vector of these digits, or that memory was refused, and never that it would be too long.
+// That a result is the vector of these digits, or that memory was refused, and never that it would be too long.
 fn grown<T: BitStore, O: BitOrder>(
     rt: &impl Abort,
     outcome: Result<BitVec<T, O>, GrowError>,
@@ -100,7 +100,7 @@ fn makers_that_take_none(rt: HostRuntime) {
     check(&rt, v.into_boxed_bitslice().is_ok());
 }
 
-/// That a vector has 96 ones after its eight bits, or, where it was refused, those bits alone.
+// That a vector has 96 ones after its eight bits, or, where it was refused, those bits alone.
 fn stands(rt: &impl Abort, v: &BitVec<u8, Lsb0>, outcome: Result<(), GrowError>) {
     match outcome {
         Ok(()) => {
@@ -116,7 +116,7 @@ fn stands(rt: &impl Abort, v: &BitVec<u8, Lsb0>, outcome: Result<(), GrowError>)
     }
 }
 
-/// The eight bits that the tests begin with, at head 3, where memory is found.
+// The eight bits that the tests begin with, at head 3, where memory is found.
 fn eight(rt: &impl AllocGlobal) -> Option<BitVec<u8, Lsb0>>
     ensures { IfSome result (λ v. length v.list ≡ 8) }
 {
@@ -125,7 +125,7 @@ fn eight(rt: &impl AllocGlobal) -> Option<BitVec<u8, Lsb0>>
     BitVec::from_bitslice_headed(rt.alloc(), view).ok()
 }
 
-/// Grows a vector of eight bits by 96 ones, in one of eight ways.
+// Grows a vector of eight bits by 96 ones, in one of eight ways.
 fn grow(v: &mut BitVec<u8, Lsb0>, way: u8) -> Result<(), GrowError>
     requires { length v.old.list ≡ 8 }
 {
@@ -155,7 +155,7 @@ fn growing_refused(rt: HostRuntime) {
     }
 }
 
-/// The function is called only where memory was found.
+// The function is called only where memory was found.
 #[test]
 fn resizing_by_calls_refused(rt: HostRuntime) {
     let Some(mut v) = eight(&rt) else {
@@ -170,7 +170,7 @@ fn resizing_by_calls_refused(rt: HostRuntime) {
     stands(&rt, &v, outcome);
 }
 
-/// Combines a vector of eight bits with twelve bytes of ones.
+// Combines a vector of eight bits with twelve bytes of ones.
 fn combine_longer(v: &mut BitVec<u8, Lsb0>, xor: bool) -> Result<(), GrowError> {
     let ones = [0xff_u8; 12];
     let more = BitSlice::<u8, Msb0>::from_slice(&ones);
@@ -200,7 +200,7 @@ fn combined_with_longer_refused(rt: HostRuntime) {
     }
 }
 
-/// A view of as many bits, for which no memory is taken.
+// A view of as many bits, for which no memory is taken.
 #[test]
 fn combined_with_as_long(rt: HostRuntime) {
     let ones = [0xff_u8];
@@ -212,7 +212,7 @@ fn combined_with_as_long(rt: HostRuntime) {
     holds(&rt, &v, b"01010000");
 }
 
-/// Vectors of bytes, of indices and of text, copies of views, and bytes.
+// Vectors of bytes, of indices and of text, copies of views, and bytes.
 #[test]
 fn other_makers_refused(rt: HostRuntime) {
     let words = [0xa8_u8, 0x07];
@@ -244,7 +244,7 @@ fn other_makers_refused(rt: HostRuntime) {
     }
 }
 
-/// Both sides are looked at.
+// Both sides are looked at.
 #[test]
 fn appending_refused(rt: HostRuntime) {
     let Some(mut v) = eight(&rt) else {
@@ -259,7 +259,7 @@ fn appending_refused(rt: HostRuntime) {
     stands(&rt, &v, outcome);
 }
 
-/// Adds a bit, appends all bits once more, or makes room.
+// Adds a bit, appends all bits once more, or makes room.
 fn grow_once(v: &mut BitVec<u8, Msb0>, way: usize) -> Result<(), GrowError> {
     match way {
         0 => v.push(true),
@@ -270,7 +270,7 @@ fn grow_once(v: &mut BitVec<u8, Msb0>, way: usize) -> Result<(), GrowError> {
     }
 }
 
-/// Bits one by one, room, and a range appended once more: each refusal leaves what stood before it.
+// Bits one by one, room, and a range appended once more: each refusal leaves what stood before it.
 #[test]
 fn one_by_one_refused(rt: HostRuntime) {
     let mut v = BitVec::<u8, Msb0>::new(rt.alloc());
@@ -314,7 +314,7 @@ fn copies_refused(rt: HostRuntime) {
     }
 }
 
-/// Room that is refused, and given back.
+// Room that is refused, and given back.
 #[test]
 fn shrinking_refused(rt: HostRuntime) {
     let Some(mut v) = eight(&rt) else {
@@ -325,7 +325,7 @@ fn shrinking_refused(rt: HostRuntime) {
     holds(&rt, &v, b"10101111");
 }
 
-/// The words are kept, so no memory is taken.
+// The words are kept, so no memory is taken.
 #[test]
 fn boxing_takes_none(rt: HostRuntime) {
     let Some(v) = eight(&rt) else {
@@ -340,7 +340,7 @@ fn boxing_takes_none(rt: HostRuntime) {
     holds(&rt, &v, b"10101111");
 }
 
-/// A run that is stopped has done the commands before that one, and no more.
+// A run that is stopped has done the commands before that one, and no more.
 #[test]
 fn runs_refused(rt: HostRuntime) {
     let commands = [

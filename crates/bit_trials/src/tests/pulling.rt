@@ -6,8 +6,8 @@ use bit_containers::boxed::BitBox;
 use bit_containers::{BitList, BitVec, GrowError, Lsb0, Msb0};
 use std::process::Abort;
 
-/// One item or the other, the first of them at each third place from the end, under a hint that says nothing, or as
-/// good as nothing. It counts the calls, and those that found none; after the first None there are more items.
+// One item or the other, the first of them at each third place from the end, under a hint that says nothing, or as
+// good as nothing. It counts the calls, and those that found none; after the first None there are more items.
 #[derive(Drop)]
 struct Loose<X: Copy> {
     left: usize,
@@ -59,7 +59,7 @@ const BITS: (bool, bool) = (true, false);
 
 const WORDS: (u8, u8) = (0xa5, 0x0f);
 
-/// The `n` bits that the tests pull, in a list.
+// The `n` bits that the tests pull, in a list.
 fn bits(rt: &(impl Abort + AllocGlobal), n: usize) -> Vec<bool> {
     let mut list = Vec::new(rt.alloc());
     for i in 0..n {
@@ -68,7 +68,7 @@ fn bits(rt: &(impl Abort + AllocGlobal), n: usize) -> Vec<bool> {
     list
 }
 
-/// That a vector holds two bits and then the `n` that were pulled.
+// That a vector holds two bits and then the `n` that were pulled.
 fn ends_with(rt: &impl Abort, v: &BitVec<u8, Lsb0>, n: usize) {
     assert!(rt; n < 2000);
     assert!(rt; v.len() == n + 2);
@@ -79,7 +79,7 @@ fn ends_with(rt: &impl Abort, v: &BitVec<u8, Lsb0>, n: usize) {
     }
 }
 
-/// Bits appended, and put in place of others.
+// Bits appended, and put in place of others.
 fn joined(rt: &(impl Abort + AllocGlobal), n: usize, bounded: bool) {
     let mut v = of::<u8, Lsb0>(rt, b"01");
     ok(rt, v.extend(Loose::of(n, BITS, bounded)));
@@ -89,7 +89,7 @@ fn joined(rt: &(impl Abort + AllocGlobal), n: usize, bounded: bool) {
     ends_with(rt, &v, n);
 }
 
-/// A vector made of bits, beside the one that is made of a list of them.
+// A vector made of bits, beside the one that is made of a list of them.
 fn made(rt: &(impl Abort + AllocGlobal), n: usize, bounded: bool) {
     let loose = Loose::of(n, BITS, bounded);
     let made = ok(rt, BitVec::<u8, Lsb0>::from_bits(rt.alloc(), loose));
@@ -98,7 +98,7 @@ fn made(rt: &(impl Abort + AllocGlobal), n: usize, bounded: bool) {
     check(rt, made.as_raw_slice() == exact.as_raw_slice());
 }
 
-/// A box made of bits, beside the vector that is made of a list of them.
+// A box made of bits, beside the vector that is made of a list of them.
 fn boxed(rt: &(impl Abort + AllocGlobal), n: usize, bounded: bool) {
     let loose = Loose::of(n, BITS, bounded);
     let boxed = ok(rt, BitBox::<u8, Lsb0>::from_bits(rt.alloc(), loose));
@@ -106,7 +106,7 @@ fn boxed(rt: &(impl Abort + AllocGlobal), n: usize, bounded: bool) {
     check(rt, boxed.eq_bits(exact.as_bitslice()));
 }
 
-/// A vector made of words, and one that they are appended to.
+// A vector made of words, and one that they are appended to.
 fn of_words(rt: &(impl Abort + AllocGlobal), n: usize, bounded: bool) {
     let words = Loose::of(n, WORDS, bounded);
     let made = ok(rt, BitVec::<u8, Msb0>::from_words(rt.alloc(), words));
@@ -132,7 +132,7 @@ fn loose_hints(rt: HostRuntime) {
     }
 }
 
-/// Bits by reference: each call but the last one finds one.
+// Bits by reference: each call but the last one finds one.
 fn bits_counted(rt: &(impl Abort + AllocGlobal), n: usize, bounded: bool) {
     let mut bits = Loose::of(n, BITS, bounded);
     if bounded {
@@ -150,7 +150,7 @@ fn bits_counted(rt: &(impl Abort + AllocGlobal), n: usize, bounded: bool) {
     check(rt, bits.calls.wrapping_sub(1) == n);
 }
 
-/// Bits by reference, into a box.
+// Bits by reference, into a box.
 fn boxed_counted(rt: &(impl Abort + AllocGlobal), n: usize, bounded: bool) {
     let mut bits = Loose::of(n, BITS, bounded);
     let b = ok(
@@ -162,7 +162,7 @@ fn boxed_counted(rt: &(impl Abort + AllocGlobal), n: usize, bounded: bool) {
     check(rt, bits.calls.wrapping_sub(1) == n);
 }
 
-/// Words by reference, so too.
+// Words by reference, so too.
 fn words_counted(rt: &(impl Abort + AllocGlobal), n: usize, bounded: bool) {
     let mut words = Loose::of(n, WORDS, bounded);
     let mut v = BitVec::<u8, Lsb0>::new(rt.alloc());
@@ -176,7 +176,7 @@ fn words_counted(rt: &(impl Abort + AllocGlobal), n: usize, bounded: bool) {
     check(rt, words.calls.wrapping_sub(1) == n);
 }
 
-/// No call follows the first None, after which there would be more.
+// No call follows the first None, after which there would be more.
 #[test]
 fn calls_counted(rt: HostRuntime) {
     for n in [0usize, 1, 63, 64, 65, 200] {
@@ -188,7 +188,7 @@ fn calls_counted(rt: HostRuntime) {
     }
 }
 
-/// That a thousand items were pulled and one call more, or fewer where memory was refused.
+// That a thousand items were pulled and one call more, or fewer where memory was refused.
 fn stopped<X: Copy>(rt: &impl Abort, pulled: &Loose<X>, outcome: Result<(), GrowError>) {
     let (calls, nones) = (pulled.calls, pulled.nones);
     match outcome {
@@ -204,7 +204,7 @@ fn stopped<X: Copy>(rt: &impl Abort, pulled: &Loose<X>, outcome: Result<(), Grow
     }
 }
 
-/// A vector of two bits appended to, by bits or by words.
+// A vector of two bits appended to, by bits or by words.
 fn appended_until_refused(rt: &(impl Abort + AllocGlobal), by_words: bool) {
     let Ok(mut v) = BitVec::<u8, Lsb0>::from_bits(rt.alloc(), [false, true]) else {
         return;
@@ -225,7 +225,7 @@ fn appended_until_refused(rt: &(impl Abort + AllocGlobal), by_words: bool) {
     }
 }
 
-/// A vector or a box made of bits.
+// A vector or a box made of bits.
 fn made_until_refused(rt: &(impl Abort + AllocGlobal), boxed: bool) {
     let mut bits = Loose::of(1000, BITS, true);
     let outcome = if boxed {
@@ -236,15 +236,15 @@ fn made_until_refused(rt: &(impl Abort + AllocGlobal), boxed: bool) {
     stopped(rt, &bits, outcome);
 }
 
-/// A vector made of words.
+// A vector made of words.
 fn made_of_words_until_refused(rt: &(impl Abort + AllocGlobal)) {
     let mut words = Loose::of(1000, WORDS, false);
     let outcome = BitVec::<u8, Msb0>::from_words(rt.alloc(), words.by_ref()).map(|_| ());
     stopped(rt, &words, outcome);
 }
 
-/// Where a request for memory is refused, no more is pulled, and the list stays; whichever request
-/// `rt try --test --fail-alloc N` refuses.
+// Where a request for memory is refused, no more is pulled, and the list stays; whichever request
+// `rt try --test --fail-alloc N` refuses.
 #[test]
 fn pulled_until_refused(rt: HostRuntime) {
     for other in [false, true] {
@@ -254,7 +254,7 @@ fn pulled_until_refused(rt: HostRuntime) {
     made_of_words_until_refused(&rt);
 }
 
-/// A splice finished at once, or after one bit from either end.
+// A splice finished at once, or after one bit from either end.
 fn left_early(rt: &(impl Abort + AllocGlobal), way: u8) {
     let mut v = of::<u16, Msb0>(rt, b"0110100");
     let mut splice = v.splice(1..5, [true, false]);
@@ -268,7 +268,7 @@ fn left_early(rt: &(impl Abort + AllocGlobal), way: u8) {
     holds(rt, &v, b"01000");
 }
 
-/// A splice finished after all of its bits, from the front.
+// A splice finished after all of its bits, from the front.
 fn left_after_all(rt: &(impl Abort + AllocGlobal)) {
     let mut v = of::<u16, Msb0>(rt, b"0110100");
     let mut splice = v.splice(1..5, [true, false]);
@@ -277,7 +277,7 @@ fn left_after_all(rt: &(impl Abort + AllocGlobal)) {
     holds(rt, &v, b"01000");
 }
 
-/// A splice finished after all of its bits, from the end.
+// A splice finished after all of its bits, from the end.
 fn left_after_all_from_the_end(rt: &(impl Abort + AllocGlobal)) {
     let mut v = of::<u16, Msb0>(rt, b"0110100");
     let mut splice = v.splice(1..5, [true, false]);
@@ -286,7 +286,7 @@ fn left_after_all_from_the_end(rt: &(impl Abort + AllocGlobal)) {
     holds(rt, &v, b"01000");
 }
 
-/// A splice finished after it was asked for more bits than it has, from the front or from the end.
+// A splice finished after it was asked for more bits than it has, from the front or from the end.
 fn left_past_an_end(rt: &(impl Abort + AllocGlobal), back: bool) {
     let mut v = of::<u16, Msb0>(rt, b"0110100");
     let mut splice = v.splice(1..5, [true, false]);
@@ -300,7 +300,7 @@ fn left_past_an_end(rt: &(impl Abort + AllocGlobal), back: bool) {
     holds(rt, &v, b"01000");
 }
 
-/// Splices finished after none of their bits, one from either end, all, and past the end.
+// Splices finished after none of their bits, one from either end, all, and past the end.
 #[test]
 fn splices_left_early(rt: HostRuntime) {
     for way in 0..3u8 {

@@ -3,7 +3,7 @@ use crate::{check, ok};
 use bit_users::{FreeMap, Reply, Request};
 use std::process::Abort;
 
-/// A map of 100 frames, of which 22 are free: runs of 9, 4, 4 and 5 frames.
+// A map of 100 frames, of which 22 are free: runs of 9, 4, 4 and 5 frames.
 fn map_with_gaps(rt: &(impl Abort + AllocGlobal)) -> FreeMap {
     let mut map = ok(rt, FreeMap::new(rt.alloc(), 100));
     check(rt, map.take_run(100) == Some(0));

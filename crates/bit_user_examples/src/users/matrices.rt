@@ -204,7 +204,7 @@ fn zero_sums(matrix: &Matrix, rows: usize, columns: usize) -> usize {
     count
 }
 
-/// The rank of a matrix.
+// The rank of a matrix.
 fn rank(rt: &(impl Abort + AllocGlobal), matrix: Result<Matrix, GrowError>) -> usize {
     ok(rt, ok(rt, matrix).rank_mod_2(rt.alloc()))
 }

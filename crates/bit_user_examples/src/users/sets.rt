@@ -6,7 +6,7 @@ use bit_users::NumberSet;
 use std::alloc::Global;
 use std::process::Abort;
 
-/// Two sets with two numbers in common; a test is told nothing of them.
+// Two sets with two numbers in common; a test is told nothing of them.
 fn two_sets(alloc: Global) -> Result<(NumberSet, NumberSet), GrowError> {
     let small = NumberSet::from_numbers(alloc, 70, &[0, 3, 5, 69])?;
     let large = NumberSet::from_numbers(alloc, 200, &[3, 4, 69, 199])?;
@@ -55,7 +55,7 @@ fn counts_of_two_sets(rt: HostRuntime) {
     check(&rt, large.count_symmetric_difference(&small) == 4);
 }
 
-/// That this is the text of a set.
+// That this is the text of a set.
 fn reads(rt: &(impl Abort + AllocGlobal), set: &NumberSet, text: &str) {
     let written = ok(rt, set.to_string(rt.alloc()));
     check(rt, written.as_str() == text);

@@ -10,8 +10,7 @@ use std::alloc::{AllocError, Global};
 impl Matrix {
     /// The inverse mod 2, by Gauss-Jordan elimination over whole rows: its products with this matrix, from both
     /// sides, are the identity. None exactly where there is no inverse, which is where the rank is less than the
-    /// number of rows. Takes memory where there is a bit, and is refused only then. Requires that the matrix is
-    /// square.
+    /// number of rows. Allocates, and can fail, only where there is a bit. Requires that the matrix is square.
     ///
     /// ```text
     /// let undo = scramble.inverse_mod_2(alloc)?;

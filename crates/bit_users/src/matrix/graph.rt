@@ -3,8 +3,8 @@ ghost use Rattle.std.specs.Prelude.{◌≡◌, ◌≢◌, ◌+◌, ◌<◌, ◌�
 ghost use Rattle.bit_addressing.specs.Bits.{has_bit};
 ghost use Rattle.bit_users.specs.Matrix.{AreAlike, IsClosed, IsPath, IsPathOver, IsSet, LeadsOver};
 
-use bit_slice::BitList;
 use crate::matrix::Matrix;
+use bit_slice::BitList;
 
 impl Matrix {
     /// Makes the graph its transitive closure, by Warshall's algorithm: afterwards an edge leads from `i` to

@@ -122,7 +122,7 @@ impl<'a> Iterator for Rows<'a> {
         Some(row)
     }
 
-    /// How many rows are left, twice.
+    /// The number of rows that are left, as both bounds: it is exact.
     fn size_hint(&self) -> (usize, Option<usize>)
         ensures lower { IsWithinCount result.0 (at_most (length (rows_left self.now))) }
         ensures upper { IfSome result.1 (UpTo (at_most (length (rows_left self.now)))) }
@@ -192,7 +192,7 @@ impl<'a> Iterator for Column<'a> {
         Some(bit)
     }
 
-    /// How many bits are left, twice.
+    /// The number of bits that are left, as both bounds: it is exact.
     fn size_hint(&self) -> (usize, Option<usize>)
         ensures lower { IsWithinCount result.0 (at_most (length (column_left self.now))) }
         ensures upper { IfSome result.1 (UpTo (at_most (length (column_left self.now)))) }

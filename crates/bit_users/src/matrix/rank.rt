@@ -4,14 +4,13 @@ ghost use Rattle.bit_users.specs.Matrix.{AreAlike, item};
 ghost use Rattle.bit_users.specs.Rank.{IsRank};
 ghost use Rattle.bit_users.specs.Reduction.{AreReduced, IsLead, IsReducing};
 
-use bit_slice::BitList;
 use crate::matrix::Matrix;
+use bit_slice::BitList;
 use std::alloc::{AllocError, Global};
 
 impl Matrix {
     /// The rank mod 2: the number of rows in a set of independent rows such that each row is a sum mod 2 of some of
-    /// them. It reduces each row of a copy by the rows before it. Takes memory where there is a bit, and is refused
-    /// only then.
+    /// them. It reduces each row of a copy by the rows before it. Allocates, and can fail, only where there is a bit.
     ///
     /// ```text
     /// of the rows 110, 011 and 101: m.rank_mod_2(alloc)? == 2

@@ -16,7 +16,7 @@ impl Clone for Matrix {
 
     ghost is_infallible = { λ m. m.rows * m.columns ≡ 0 };
 
-    /// A copy. Takes memory where there is a bit, and is refused only then.
+    /// A copy. Allocates, and can fail, only where there is a bit.
     #[tactic(auto, using(crate::proofs::Padding::nothing_padded))]
     fn clone(&self) -> Result<Self, AllocError> {
         let bits = self.bits.clone()?;

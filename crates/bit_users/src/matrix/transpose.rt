@@ -14,8 +14,8 @@ use std::alloc::Global;
 
 impl Matrix {
     /// The matrix whose rows are the columns of this one, by squares of 64 x 64 bits. Returns `TooLong` exactly where
-    /// the bits of the result, with the padding of each row, pass `MAX_BITS`. Takes memory where there is a bit, and is
-    /// refused only then.
+    /// the bits of the result, with the padding of each row, pass `MAX_BITS`. Allocates, and can fail, only where
+    /// there is a bit.
     ///
     /// ```text
     /// of the rows 110 and 001: m.transpose(alloc)? has the rows 10, 10 and 01

@@ -9,7 +9,7 @@ ghost use Rattle.bit_users.specs.Table.{IsIn};
 use crate::table::NumberSet;
 use std::iter::{FusedIterator, Iterator};
 
-/// Which numbers of two sets an iterator gives.
+// Which numbers of two sets an iterator gives.
 #[derive(Clone, Copy)]
 enum Merging {
     Either,

@@ -18,7 +18,7 @@ impl Clone for NumberSet {
 
     ghost is_infallible = { λ set. set ≡ [] };
 
-    /// A copy, with the same bound. Takes memory where the bound is not 0, and is refused only then.
+    /// A copy, with the same bound. Allocates, and can fail, only where the bound is not 0.
     fn clone(&self) -> Result<Self, AllocError> {
         let bits = self.bits.clone()?;
         Ok(NumberSet { bits })

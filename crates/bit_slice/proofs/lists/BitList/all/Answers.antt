@@ -11,5 +11,4 @@ pub returns-clause-index : goal.returns-clause-index
 returns-clause-index g c =
     rw (← c.as_bitslice-view.ensures.list) (
     subst (λ (b : Bool). IsTrue b ↔ EachIndex (list_of c.as_bitslice-view.result) (λ i. slice_get (list_of c.as_bitslice-view.result) i ≡ Some true)) (sym (other_way _ _ c.is_none.ensures))
-    (all_by_index (list_of c.as_bitslice-view.result) (c.as_bitslice-view.result.head + c.as_bitslice-view.result.len - c.as_bitslice-view.result.head) c.find_bit.result c.find_bit.ensures)
-    )
+    (all_by_index (list_of c.as_bitslice-view.result) (c.as_bitslice-view.result.head + c.as_bitslice-view.result.len - c.as_bitslice-view.result.head) c.find_bit.result c.find_bit.ensures))

@@ -1,6 +1,6 @@
 use Rattle.std.proofs.Common.{◌&&◌, ◌∙◌, arith}
 use Rattle.bit_slice.specs.BitSlice.{list_of}
-use Rattle.bit_slice.proofs.Parts.{shown_length}
+use Rattle.bit_slice.proofs.Parts.{view_length}
 use Rattle.bit_slice.proofs.Sets.{count_front, and_false}
 use Rattle.bit_slice.proofs.lists.BitList.count_and.Goals as goal
 
@@ -11,7 +11,4 @@ returns-clause-value g c =
     let u = c.args.other in
     let xs = list_of v in
     let ys = list_of u in
-    let left = shown_length g.Self.Store.BitStore g.Self.Order.BitOrder v.words.now v.head v.len v.fits.room in
-    let right = shown_length g.U.BitStore g.P.BitOrder u.words.now u.head u.len u.fits.room in
-    c.count_pairs.ensures.value ∙ count_front (λ x y. x && y) xs ys c.min.result and_false (omega (arith, left, right))
-    )
+    c.count_pairs.ensures.value ∙ count_front (λ x y. x && y) xs ys c.min.result and_false (omega (arith, (view_length v), (view_length u))))

@@ -11,13 +11,11 @@ returns-clause-value g c =
     rw (← c.as_bitslice-view.ensures.list) (
     let v = c.as_bitslice-view.result in
     let size : length (list_of v) ≡ v.len = length-run (row g.Self.Store.BitStore g.Self.Order.BitOrder v.words.now) v.head v.len (in_row g.Self.Store.BitStore g.Self.Order.BitOrder v.words.now (v.head + v.len) v.fits.room) in
-    count_by-not (list_of v) v.len c.count_ones.result (sym size) c.count_ones.ensures.value
-    )
+    count_by-not (list_of v) v.len c.count_ones.result (sym size) c.count_ones.ensures.value)
 
 pub returns-clause-with_ones : goal.returns-clause-with_ones
 returns-clause-with_ones g c =
     rw (← c.as_bitslice-view.ensures.list, ← c.as_bitslice-view.ensures.len) (
     let v = c.as_bitslice-view.result in
     let size : length (list_of v) ≡ v.len = length-run (row g.Self.Store.BitStore g.Self.Order.BitOrder v.words.now) v.head v.len (in_row g.Self.Store.BitStore g.Self.Order.BitOrder v.words.now (v.head + v.len) v.fits.room) in
-    omega (arith, c.count_ones.ensures.value, c.count_ones.ensures.few, size)
-    )
+    omega (arith, c.count_ones.ensures.value, c.count_ones.ensures.few, size))

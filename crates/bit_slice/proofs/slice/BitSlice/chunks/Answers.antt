@@ -3,7 +3,7 @@ use Rattle.std.specs.List.{range_with_len}
 use Rattle.std.proofs.lemmas.List.FromFn.{length-map-range_with_len}
 use Rattle.bit_slice.specs.BitSlice.{list_of}
 use Rattle.bit_slice.specs.Pieces.{part}
-use Rattle.bit_slice.proofs.Parts.{shown_length}
+use Rattle.bit_slice.proofs.Parts.{view_length}
 use Rattle.bit_slice.proofs.Iteration.{chunks_runs, chunks_runs_back}
 use Rattle.bit_slice.proofs.Pieces.{begins_inside}
 use Rattle.bit_slice.proofs.slice.BitSlice.chunks.Goals as goal
@@ -14,7 +14,7 @@ invariant_of-result g c = record { fits = (omega arith, omega (arith, c.requires
 pub returns-clause-list : goal.returns-clause-list
 returns-clause-list g c =
     let v = c.args.self in
-    let size = shown_length g.T.BitStore g.O.BitOrder v.words.now v.head v.len v.fits.room in
+    let size = view_length v in
     let q : length (list_of v) / c.args.size ≡ v.len / c.args.size = ap (λ n. n / c.args.size) size in
     let r : length (list_of v) % c.args.size ≡ v.len % c.args.size = ap (λ n. n % c.args.size) size in
     let e : c.count_chunks.result - 0 ≡ length (list_of v) / c.args.size + min 1 (length (list_of v) % c.args.size) = omega (arith, q, r) in

@@ -1,14 +1,14 @@
 use Rattle.std.proofs.Common.{◌-◌, [], ◌∷◌, ◌++◌, sym, ◌∙◌, ap, arith}
 use Rattle.std.proofs.lemmas.List.{take_all}
 use Rattle.bit_slice.specs.BitSlice.{list_of}
-use Rattle.bit_slice.proofs.Parts.{shown_length}
+use Rattle.bit_slice.proofs.Parts.{view_length}
 use Rattle.bit_slice.proofs.Shown.{run_last}
 use Rattle.bit_slice.proofs.slice.BitSlice.split_last.Goals as goal
 
 pub returns-clause-both : goal.returns-clause-both
 returns-clause-both g c =
     let v = c.args.self in
-    let size = shown_length g.T.BitStore g.O.BitOrder v.words.now v.head v.len v.fits.room in
+    let size = view_length v in
     sym (take_all (v.len - 0) (list_of v) (omega (arith, size)))
     ∙ run_last (list_of v) 0 v.len c.bit.result (omega arith) (omega (arith, size)) c.bit.ensures.value
     ∙ ap (λ l. l ++ c.bit.result ∷ []) (sym c.get_range.ensures.list)

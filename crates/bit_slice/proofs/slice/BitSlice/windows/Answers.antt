@@ -3,14 +3,14 @@ use Rattle.std.specs.List.{range_with_len}
 use Rattle.std.proofs.lemmas.List.FromFn.{length-map-range_with_len}
 use Rattle.bit_slice.specs.BitSlice.{list_of}
 use Rattle.bit_slice.specs.Pieces.{part}
-use Rattle.bit_slice.proofs.Parts.{shown_length}
+use Rattle.bit_slice.proofs.Parts.{view_length}
 use Rattle.bit_slice.proofs.Iteration.{windows_runs, windows_runs_back}
 use Rattle.bit_slice.proofs.slice.BitSlice.windows.Goals as goal
 
 pub returns-clause-list : goal.returns-clause-list
 returns-clause-list g c =
     let v = c.args.self in
-    let size = shown_length g.T.BitStore g.O.BitOrder v.words.now v.head v.len v.fits.room in
+    let size = view_length v in
     let q : length (list_of v) / c.args.size ≡ v.len / c.args.size = ap (λ n. n / c.args.size) size in
     let r : length (list_of v) % c.args.size ≡ v.len % c.args.size = ap (λ n. n % c.args.size) size in
     let e : c.saturating_sub.result - 0 ≡ length (list_of v) + 1 - c.args.size = omega (arith, size) in

@@ -4,7 +4,7 @@ use Rattle.bit_addressing.proofs.lists.Shown.{length-run}
 use Rattle.bit_slice.specs.BitSlice.{list_of}
 use Rattle.bit_slice.specs.Operators.{combined}
 use Rattle.bit_slice.proofs.Combining.{length-combined}
-use Rattle.bit_slice.proofs.Parts.{in_row, shown_length}
+use Rattle.bit_slice.proofs.Parts.{in_row, view_length}
 use Rattle.bit_slice.proofs.Sets.{none_in_front, number_none, number_some, number_tells, any_joined, any_up_to}
 use Rattle.bit_slice.proofs.slice.sets.any_long.Goals as goal
 
@@ -21,7 +21,7 @@ loop-t-preserved g c =
     let v = c.args.left in
     let cs = combined g.F.BitOperator.made (list_of v) (list_of c.args.right) in
     let long = length-combined g.F.BitOperator.made (list_of v) (list_of c.args.right) in
-    let size = shown_length g.T.BitStore g.O.BitOrder v.words.now v.head v.len v.fits.room in
+    let size = view_length v in
     let at : ℕ = c.loop-t.t * 64 in
     let next : at + 64 ≡ (c.loop-t.t + 1) * 64 = omega arith in
     record {
@@ -36,7 +36,7 @@ returns-then-pair_chunk-ne0 g c =
     let v = c.args.left in
     let cs = combined g.F.BitOperator.made (list_of v) (list_of c.args.right) in
     let long = length-combined g.F.BitOperator.made (list_of v) (list_of c.args.right) in
-    let size = shown_length g.T.BitStore g.O.BitOrder v.words.now v.head v.len v.fits.room in
+    let size = view_length v in
     let at : ℕ = c.loop-t.t * 64 in
     let few : length (slice_range cs at (at + 64)) ≡ 64 = length-run cs at 64 (omega (arith, long, size)) in
     sym (any_up_to cs (at + 64) c.args.upto (omega arith) (omega (arith, long, size))
@@ -49,7 +49,7 @@ returns g c =
     let v = c.args.left in
     let cs = combined g.F.BitOperator.made (list_of v) (list_of c.args.right) in
     let long = length-combined g.F.BitOperator.made (list_of v) (list_of c.args.right) in
-    let size = shown_length g.T.BitStore g.O.BitOrder v.words.now v.head v.len v.fits.room in
+    let size = view_length v in
     let at : ℕ = c.args.upto / 64 * 64 in
     let rest : ℕ = c.args.upto % 64 in
     let done : c.loop-t.t * 64 ≡ at = omega arith in

@@ -4,7 +4,7 @@ use Rattle.bit_addressing.proofs.lists.Shown.{length-run}
 use Rattle.bit_slice.specs.BitSlice.{list_of}
 use Rattle.bit_slice.specs.Operators.{combined}
 use Rattle.bit_slice.proofs.Combining.{length-combined}
-use Rattle.bit_slice.proofs.Parts.{shown_length}
+use Rattle.bit_slice.proofs.Parts.{view_length}
 use Rattle.bit_slice.proofs.Sets.{number_tells}
 use Rattle.bit_slice.proofs.slice.sets.any_pair.Goals as goal
 
@@ -14,7 +14,7 @@ returns-then-upto-le64 g c =
     let n = c.args.upto in
     let cs = combined g.F.BitOperator.made (list_of v) (list_of c.args.right) in
     let long = length-combined g.F.BitOperator.made (list_of v) (list_of c.args.right) in
-    let size = shown_length g.T.BitStore g.O.BitOrder v.words.now v.head v.len v.fits.room in
+    let size = view_length v in
     let few : length (slice_range cs 0 (0 + n)) ≡ n = length-run cs 0 n (omega (arith, long, size)) in
     number_tells (slice_range cs 0 (0 + n)) c.pair_chunk.result (omega (arith, few)) c.pair_chunk.ensures
     ∙ ap (λ k. list_any (λ b. b) (slice_range cs 0 k)) (omega arith)

@@ -4,7 +4,7 @@ use Rattle.bit_rows.proofs.Counts.{counted, counted_next, counted-le}
 use Rattle.bit_slice.specs.BitSlice.{list_of}
 use Rattle.bit_slice.specs.Operators.{combined}
 use Rattle.bit_slice.proofs.Combining.{length-combined}
-use Rattle.bit_slice.proofs.Parts.{in_row, shown_length}
+use Rattle.bit_slice.proofs.Parts.{in_row, view_length}
 use Rattle.bit_slice.proofs.Sets.{front_of_runs}
 use Rattle.bit_slice.proofs.slice.sets.count_long.Given as given
 use Rattle.bit_slice.proofs.slice.sets.count_long.Goals as goal
@@ -25,7 +25,7 @@ more g c =
     let v = c.args.left in
     let cs = combined g.F.BitOperator.made (list_of v) (list_of c.args.right) in
     let long = length-combined g.F.BitOperator.made (list_of v) (list_of c.args.right) in
-    let size = shown_length g.T.BitStore g.O.BitOrder v.words.now v.head v.len v.fits.room in
+    let size = view_length v in
     let at : ℕ = c.loop-t.t * 64 in
     let end : ℕ = (c.loop-t.t + 1) * 64 in
     counted_next cs 0 at end c.loop-t.count (count_ones c.pair_chunk-chunk.result) (omega arith) (omega arith) (omega (arith, long, size)) c.loop-t.invariant.counted
@@ -36,7 +36,7 @@ overflow_add-count g c =
     let v = c.args.left in
     let cs = combined g.F.BitOperator.made (list_of v) (list_of c.args.right) in
     let long = length-combined g.F.BitOperator.made (list_of v) (list_of c.args.right) in
-    let size = shown_length g.T.BitStore g.O.BitOrder v.words.now v.head v.len v.fits.room in
+    let size = view_length v in
     let end : ℕ = (c.loop-t.t + 1) * 64 in
     let most = counted-le cs 0 end (c.loop-t.count + count_ones c.pair_chunk-chunk.result) (omega arith) (omega (arith, long, size)) (more g c) in
     omega (arith, most)
@@ -50,7 +50,7 @@ all g c =
     let v = c.args.left in
     let cs = combined g.F.BitOperator.made (list_of v) (list_of c.args.right) in
     let long = length-combined g.F.BitOperator.made (list_of v) (list_of c.args.right) in
-    let size = shown_length g.T.BitStore g.O.BitOrder v.words.now v.head v.len v.fits.room in
+    let size = view_length v in
     let at : ℕ = c.args.upto / 64 * 64 in
     let done : c.loop-t.t * 64 ≡ at = omega arith in
     counted_next cs 0 at c.args.upto c.loop-t.count (count_ones c.pair_chunk-rest.result) (omega arith) (omega arith) (omega (arith, long, size))
@@ -63,7 +63,7 @@ few g c =
     let v = c.args.left in
     let cs = combined g.F.BitOperator.made (list_of v) (list_of c.args.right) in
     let long = length-combined g.F.BitOperator.made (list_of v) (list_of c.args.right) in
-    let size = shown_length g.T.BitStore g.O.BitOrder v.words.now v.head v.len v.fits.room in
+    let size = view_length v in
     counted-le cs 0 c.args.upto (c.loop-t.count + count_ones c.pair_chunk-rest.result) (omega arith) (omega (arith, long, size)) (all g c)
 
 pub returns-clause-value : goal.returns-clause-value

@@ -4,7 +4,7 @@ use Rattle.bit_rows.proofs.Counts.{counted, counted-le}
 use Rattle.bit_slice.specs.BitSlice.{list_of}
 use Rattle.bit_slice.specs.Operators.{combined}
 use Rattle.bit_slice.proofs.Combining.{length-combined}
-use Rattle.bit_slice.proofs.Parts.{shown_length}
+use Rattle.bit_slice.proofs.Parts.{view_length}
 use Rattle.bit_slice.proofs.slice.sets.count_pairs.Goals as goal
 
 pub returns-then-upto-le64-clause-value : goal.returns-then-upto-le64-clause-value
@@ -17,5 +17,5 @@ returns-then-upto-le64-clause-few g c =
     let v = c.args.left in
     let cs = combined g.F.BitOperator.made (list_of v) (list_of c.args.right) in
     let long = length-combined g.F.BitOperator.made (list_of v) (list_of c.args.right) in
-    let size = shown_length g.T.BitStore g.O.BitOrder v.words.now v.head v.len v.fits.room in
+    let size = view_length v in
     counted-le cs 0 c.args.upto (count_ones c.pair_chunk.result) (omega arith) (omega (arith, long, size)) (returns-then-upto-le64-clause-value g c)

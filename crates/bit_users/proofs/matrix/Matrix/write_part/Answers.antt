@@ -18,7 +18,7 @@ returns-clause-part c j below =
     let row : c.args.row < m.rows = rw (← c.self.view_is) at c.requires.row in
     let within : c.args.column + c.args.count ≤ m.columns = rw (← c.self.view_is) at c.requires.within in
     let room = wide m.rows m.columns m.stride m.bits.head _ c.self.invariant (omega arith) in
-    part_written m.bits.list c.copy_into.new.self.list (list_of c.get_range.result) m.rows m.columns m.stride m.bits.head c.args.row c.args.column c.args.count (c.args.row * m.stride + c.args.column) c.self.invariant c.copy_into.ensures.len row (omega arith) (many c) refl c.copy_into.ensures.list j below (omega arith)
+    part_written m.bits.list c.copy_into.new.self.list (list_of c.get_range.result) m.rows m.columns m.stride m.bits.head c.args.row c.args.column c.args.count (c.args.row * m.stride + c.args.column) c.self.invariant c.copy_into.ensures.stays.len row (omega arith) (many c) refl c.copy_into.ensures.list j below (omega arith)
     ∙ ap (λ l. get_or l j false) (source c) ∙ get_or-first_bits c.args.number c.args.count j below c.requires.few
 
 pub returns-clause-others : goal.returns-clause-others
@@ -28,4 +28,4 @@ returns-clause-others c i j tall short apart =
     let within : c.args.column + c.args.count ≤ m.columns = rw (← c.self.view_is) at c.requires.within in
     let room = wide m.rows m.columns m.stride m.bits.head _ c.self.invariant (omega arith) in
     rw (← c.self.view_is)
-    (part_unwritten m.bits.list c.copy_into.new.self.list (list_of c.get_range.result) m.rows m.columns m.stride m.bits.head c.args.row c.args.column c.args.count (c.args.row * m.stride + c.args.column) c.self.invariant c.copy_into.ensures.len row (omega arith) (many c) refl c.copy_into.ensures.list i j (rw (← c.self.view_is) at tall) (rw (← c.self.view_is) at short) apart)
+    (part_unwritten m.bits.list c.copy_into.new.self.list (list_of c.get_range.result) m.rows m.columns m.stride m.bits.head c.args.row c.args.column c.args.count (c.args.row * m.stride + c.args.column) c.self.invariant c.copy_into.ensures.stays.len row (omega arith) (many c) refl c.copy_into.ensures.list i j (rw (← c.self.view_is) at tall) (rw (← c.self.view_is) at short) apart)

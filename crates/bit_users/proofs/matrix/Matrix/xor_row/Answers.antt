@@ -12,7 +12,7 @@ returns-clause-row c j inside =
     let n : start + m.stride - start ≡ m.stride = omega arith in
     let within = rw (← c.self.view_is) at inside in
     rw (← c.self.view_is)
-    (row_combined (λ x y. if x then not y else y) m.bits.list c.xor_within.new.self.list (slice_range m.bits.list start (start + m.stride)) m.rows m.columns m.stride m.bits.head c.args.into (start + m.stride - start) c.self.invariant c.xor_within.ensures.len (rw (← c.self.view_is) at c.requires.into) n c.xor_within.ensures.list j within
+    (row_combined (λ x y. if x then not y else y) m.bits.list c.xor_within.new.self.list (slice_range m.bits.list start (start + m.stride)) m.rows m.columns m.stride m.bits.head c.args.into (start + m.stride - start) c.self.invariant c.xor_within.ensures.stays.len (rw (← c.self.view_is) at c.requires.into) n c.xor_within.ensures.list j within
     ∙ ap (plus_mod_2 (item (the_view m) c.args.into j)) (item_padded m.bits.list m.rows m.columns m.stride m.bits.head c.args.from j c.self.invariant (rw (← c.self.view_is) at c.requires.from) within))
 
 pub returns-clause-others : goal.returns-clause-others
@@ -21,4 +21,4 @@ returns-clause-others c =
     let start = c.args.from * m.stride in
     let n : start + m.stride - start ≡ m.stride = omega arith in
     rw (← c.self.view_is)
-    (row_uncombined (λ x y. if x then not y else y) m.bits.list c.xor_within.new.self.list (slice_range m.bits.list start (start + m.stride)) m.rows m.columns m.stride m.bits.head c.args.into (start + m.stride - start) c.self.invariant c.xor_within.ensures.len (rw (← c.self.view_is) at c.requires.into) n c.xor_within.ensures.list)
+    (row_uncombined (λ x y. if x then not y else y) m.bits.list c.xor_within.new.self.list (slice_range m.bits.list start (start + m.stride)) m.rows m.columns m.stride m.bits.head c.args.into (start + m.stride - start) c.self.invariant c.xor_within.ensures.stays.len (rw (← c.self.view_is) at c.requires.into) n c.xor_within.ensures.list)

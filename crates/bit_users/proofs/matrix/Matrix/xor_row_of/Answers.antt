@@ -10,11 +10,11 @@ pub returns-clause-row : goal.returns-clause-row
 returns-clause-row c j inside =
     let m = c.self.inside in
     rw (← c.self.view_is)
-    (row_combined (λ x y. if x then not y else y) m.bits.list c.xor_range.new.self.list (list_of c.padded_row.result) m.rows m.columns m.stride m.bits.head c.args.into m.stride c.self.invariant c.xor_range.ensures.len (rw (← c.self.view_is) at c.requires.into) refl c.xor_range.ensures.list j (rw (← c.self.view_is) at inside)
+    (row_combined (λ x y. if x then not y else y) m.bits.list c.xor_range.new.self.list (list_of c.padded_row.result) m.rows m.columns m.stride m.bits.head c.args.into m.stride c.self.invariant c.xor_range.ensures.stays.len (rw (← c.self.view_is) at c.requires.into) refl c.xor_range.ensures.list j (rw (← c.self.view_is) at inside)
     ∙ ap (plus_mod_2 (item (the_view m) c.args.into j)) (c.padded_row.ensures.items j (subst (λ k. j < k) (sym c.requires.columns) inside)))
 
 pub returns-clause-others : goal.returns-clause-others
 returns-clause-others c =
     let m = c.self.inside in
     rw (← c.self.view_is)
-    (row_uncombined (λ x y. if x then not y else y) m.bits.list c.xor_range.new.self.list (list_of c.padded_row.result) m.rows m.columns m.stride m.bits.head c.args.into m.stride c.self.invariant c.xor_range.ensures.len (rw (← c.self.view_is) at c.requires.into) refl c.xor_range.ensures.list)
+    (row_uncombined (λ x y. if x then not y else y) m.bits.list c.xor_range.new.self.list (list_of c.padded_row.result) m.rows m.columns m.stride m.bits.head c.args.into m.stride c.self.invariant c.xor_range.ensures.stays.len (rw (← c.self.view_is) at c.requires.into) refl c.xor_range.ensures.list)

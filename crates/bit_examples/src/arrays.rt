@@ -206,3 +206,45 @@ fn written_while_given(rt: HostRuntime) {
     check(&rt, bits.next() == Some(true));
     check(&rt, bits.next_back() == Some(false));
 }
+
+/// What is lent again after a step from either end, over several words.
+#[test]
+fn lent_again_after_steps(rt: HostRuntime) {
+    let mut bits = IntoIter::new(BitArray::<[u8; 4], Lsb0>::new([0x00, 0xff, 0x00, 0xff]));
+    check(&rt, bits.next() == Some(false));
+    bits.as_mut_bitslice().set(0, true);
+    check(&rt, bits.len() == 31);
+    check(&rt, bits.as_bitslice().first() == Some(true));
+    check(&rt, bits.next_back() == Some(true));
+    bits.as_mut_slice().set(29, false);
+    check(&rt, bits.as_slice().last() == Some(false));
+    check(&rt, bits.as_slice().count_ones() == 15);
+    check(&rt, bits.next() == Some(true));
+    check(&rt, bits.next_back() == Some(false));
+    check(&rt, bits.len() == 28);
+}
+
+/// What is lent again after some bits are skipped from either end.
+#[test]
+fn lent_again_after_skips(rt: HostRuntime) {
+    let mut bits = IntoIter::new(BitArray::<[u8; 4], Lsb0>::new([0x00, 0xff, 0x00, 0xff]));
+    check(&rt, bits.nth(8) == Some(true));
+    bits.as_mut_bitslice().flip(0);
+    check(&rt, bits.len() == 23);
+    check(&rt, bits.nth_back(7) == Some(true));
+    bits.as_mut_bitslice().set(14, true);
+    check(&rt, bits.len() == 15);
+    check(&rt, bits.as_bitslice().count_ones() == 7);
+    check(&rt, bits.next() == Some(false));
+    check(&rt, bits.next() == Some(true));
+    check(&rt, bits.next_back() == Some(true));
+    check(&rt, bits.next_back() == Some(false));
+}
+
+/// The word and the order of an array that names neither.
+#[test]
+fn of_the_default_words(rt: HostRuntime) {
+    let a: BitArray = BitArray::new([5]);
+    check(&rt, a.get(2) == Some(true));
+    check(&rt, a.into_inner()[0] == 5);
+}

@@ -159,3 +159,11 @@ fn iterator_of_parts(rt: HostRuntime) {
     let mut parts = IntoIter::<u8, Lsb0>::from_parts(words, 3, 8);
     check(&rt, parts.as_mut_slice().count_ones() == 6);
 }
+
+/// The word and the order of a box that names neither.
+#[test]
+fn of_the_default_words(rt: HostRuntime) {
+    let b: BitBox = ok(&rt, BitBox::from_bits(rt.alloc(), [true, false, true]));
+    check(&rt, b.get(2) == Some(true));
+    check(&rt, b.as_raw_slice() == [5].as_slice());
+}

@@ -1,5 +1,5 @@
-//! An order that a user could write.
-ghost use Rattle.std.specs.Prelude.{bit_xor, refl};
+//! Orders that a user could write.
+ghost use Rattle.std.specs.Prelude.{◌+◌, ◌*◌, ◌%◌, bit_xor, refl};
 ghost use Rattle.bit_addressing.specs.Order.{lawful_by_test};
 
 use bit_addressing::{BitIdx, BitOrder, BitPos, BitStore};
@@ -14,5 +14,18 @@ impl BitOrder for Xor4 {
 
     fn at<T: BitStore>(i: BitIdx<T>) -> BitPos<T> {
         BitPos::new_unchecked(i.into_inner() ^ 4)
+    }
+}
+
+/// The order whose neighbours lie five places apart.
+pub(crate) struct Scramble;
+
+impl BitOrder for Scramble {
+    ghost place = { λ w i. (5 * i + 3) % w };
+
+    ghost lawful = { lawful_by_test (λ w i. (5 * i + 3) % w) refl refl refl refl };
+
+    fn at<T: BitStore>(i: BitIdx<T>) -> BitPos<T> {
+        BitPos::new_unchecked(((5 * i.into_inner() as u16 + 3) % T::BITS as u16) as u8)
     }
 }

@@ -1,6 +1,6 @@
 //! The writing calls of a view that the array has itself.
 use crate::common::check;
-use bit_addressing::Lsb0;
+use bit_addressing::{Lsb0, Msb0};
 use bit_array::BitArray;
 use bit_slice::{BitListMut, BitSlice};
 
@@ -72,4 +72,29 @@ fn part_lands(rt: HostRuntime) {
     let mut a = BitArray::<[u8; 2], Lsb0>::new([0x4d, 0x8b]);
     a.part_mut(6, 13).fill(true);
     check(&rt, a.as_raw_slice() == [0xcd, 0x9f].as_slice());
+}
+
+/// A part over several words, between words that stay.
+#[test]
+fn part_between_words(rt: HostRuntime) {
+    let mut a = BitArray::<[u8; 5], Lsb0>::new([0x11, 0x22, 0x33, 0x44, 0x55]);
+    a.part_mut(12, 28).fill(true);
+    check(
+        &rt,
+        a.as_raw_slice() == [0x11, 0xf2, 0xff, 0x4f, 0x55].as_slice(),
+    );
+    a.part_mut(8, 24).set(1, false);
+    check(
+        &rt,
+        a.as_raw_slice() == [0x11, 0xf0, 0xff, 0x4f, 0x55].as_slice(),
+    );
+}
+
+#[test]
+fn part_between_words_from_the_highest_place(rt: HostRuntime) {
+    let mut a = BitArray::<[u8; 5], Msb0>::new([0x11, 0x22, 0x33, 0x44, 0x55]);
+    a.part_mut(4, 36).fill(false);
+    check(&rt, a.as_raw_slice() == [0x10, 0, 0, 0, 0x05].as_slice());
+    a.part_mut(16, 24).flip_all();
+    check(&rt, a.as_raw_slice() == [0x10, 0, 0xff, 0, 0x05].as_slice());
 }

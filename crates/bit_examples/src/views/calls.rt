@@ -203,3 +203,27 @@ fn copies_within_many_words(rt: HostRuntime) {
     BitSliceMut::<u16, Lsb0>::from_slice_mut(&mut words).copy_within(8..24, 0);
     check(&rt, words == [0xcd12, 0xabcd]);
 }
+
+/// Two runs over several words, between words and bits that stay.
+#[test]
+fn two_long_runs_land(rt: HostRuntime) {
+    let mut words = [0x11_u8, 0x22, 0x33, 0x44, 0x55, 0x66];
+    let (mut left, mut right) = split_run_mut::<u8, Lsb0>(&mut words, 12, 24, 36);
+    left.fill(true);
+    right.fill(false);
+    check(
+        &rt,
+        words.as_slice() == [0x11, 0xf2, 0xff, 0x00, 0x50, 0x66].as_slice(),
+    );
+}
+
+#[test]
+fn told_apart(rt: HostRuntime) {
+    let words = [0x0b_u8];
+    let view = BitSlice::<u8, Lsb0>::from_slice(&words).get_range(1..4);
+    let text = ok(&rt, format!(in rt.alloc(); "{view:?}"));
+    check(
+        &rt,
+        text.as_str() == "BitSlice { head: 1, bits: 3 } [1, 0, 1]",
+    );
+}

@@ -27,3 +27,15 @@ fn compared_while_written(rt: HostRuntime) {
         view.cmp_bits(other.get_range(..9)) == Ordering::Greater,
     );
 }
+
+/// The first bit decides, where the words as numbers would say the opposite.
+#[test]
+fn order_is_not_that_of_the_words(rt: HostRuntime) {
+    let (two, one) = ([2_u8], [1_u8]);
+    let left = BitSlice::<u8, Lsb0>::from_slice(&two);
+    let right = BitSlice::<u8, Lsb0>::from_slice(&one);
+    check(&rt, left.cmp_bits(right) == Ordering::Less);
+    let (left, right) = (left.get_range(..2), right.get_range(..1));
+    check(&rt, left.cmp_bits(right) == Ordering::Less);
+    check(&rt, right.cmp_bits(left) == Ordering::Greater);
+}

@@ -1,6 +1,6 @@
 //! Making and growing.
 use crate::common::{check, holds, of, ok, shows};
-use crate::orders::Xor4;
+use crate::orders::{Scramble, Xor4};
 use bit_containers::{BitSlice, BitVec, Lsb0, Msb0};
 
 // An order that exchanges the halves of a byte.
@@ -8,6 +8,15 @@ use bit_containers::{BitSlice, BitVec, Lsb0, Msb0};
 fn appended_by_an_order_of_a_user(rt: HostRuntime) {
     let v = of::<u8, Xor4>(&rt, b"11001");
     shows(&rt, &v, &[0x31]);
+}
+
+/// An order that puts neighbours five places apart.
+#[test]
+fn appended_by_another_order_of_a_user(rt: HostRuntime) {
+    let v = of::<u8, Scramble>(&rt, b"11001");
+    shows(&rt, &v, &[0x89]);
+    let v = of::<u16, Scramble>(&rt, b"11001");
+    shows(&rt, &v, &[0x0188]);
 }
 
 #[test]
@@ -95,4 +104,36 @@ fn resized_by_a_function_of_the_index(rt: HostRuntime) {
     let mut v = of::<u8, Lsb0>(&rt, b"10");
     ok(&rt, v.resize_by(5, &mut |i: usize| i != 3));
     holds(&rt, &v, b"10101");
+}
+
+/// A copy of a view that shows a word and no bit, one bit at a time.
+#[test]
+fn pushed_to_a_copy_of_nothing(rt: HostRuntime) {
+    let words = [0xff];
+    let view = BitSlice::<u8, Lsb0>::from_slice(&words).get_range(5..5);
+    let mut v = ok(&rt, BitVec::from_bitslice(rt.alloc(), view));
+    for _ in 0..3 {
+        ok(&rt, v.push(true));
+    }
+    check(&rt, v.head() == 0);
+    shows(&rt, &v, &[0x07]);
+}
+
+/// All bits of the word are ones, and flipping flips those that are not in the list too.
+#[test]
+fn repeated_and_flipped(rt: HostRuntime) {
+    let v = ok(&rt, BitVec::<u8, Lsb0>::repeat(rt.alloc(), true, 5));
+    holds(&rt, &v, b"11111");
+    shows(&rt, &v, &[0xff]);
+    let v = !v;
+    holds(&rt, &v, b"00000");
+    shows(&rt, &v, &[0x00]);
+}
+
+/// The word and the order of a vector that names neither.
+#[test]
+fn of_the_default_words(rt: HostRuntime) {
+    let mut v: BitVec = BitVec::new(rt.alloc());
+    ok(&rt, v.extend([true, false, true]));
+    shows(&rt, &v, &[5]);
 }

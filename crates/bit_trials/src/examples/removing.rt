@@ -136,3 +136,16 @@ fn capacity_is_kept(rt: HostRuntime) {
     check(&rt, v.capacity() >= 80);
     check(&rt, v.is_empty());
 }
+
+/// Nothing is asked where there is no bit.
+#[test]
+fn retained_of_nothing(rt: HostRuntime) {
+    let mut v = of::<u8, Msb0>(&rt, b"");
+    let mut count = 0u8;
+    v.retain(|_, _| {
+        count = count.saturating_add(1);
+        true
+    });
+    check(&rt, count == 0);
+    check(&rt, v.is_empty());
+}

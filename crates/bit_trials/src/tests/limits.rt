@@ -66,3 +66,27 @@ fn runs_at_the_limit(rt: HostRuntime) {
     stops_at(&rt, Command::Splice(0, 1, false, PAST));
     stops_at(&rt, Command::Resize(PAST, true));
 }
+
+/// A function that resizes is called once for each new bit, and not at all where there is none, where the length is too
+/// large, and where there is no memory for it.
+#[test]
+fn calls_of_a_resize(rt: HostRuntime) {
+    for (n, want) in [
+        (5, 3),
+        (2, 0),
+        (1, 0),
+        (0, 0),
+        (LIMIT, 0),
+        (PAST, 0),
+        (usize::MAX, 0),
+    ] {
+        let mut v = of::<u8, Lsb0>(&rt, b"10");
+        let mut calls = 0u8;
+        let outcome = v.resize_with(n, |_| {
+            calls = calls.wrapping_add(1);
+            true
+        });
+        check(&rt, outcome.is_ok() == (n < 6));
+        check(&rt, calls == want);
+    }
+}

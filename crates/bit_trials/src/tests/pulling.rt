@@ -4,7 +4,9 @@ ghost use Rattle.std.specs.Iterator.{at_most};
 use crate::common::{check, holds, of, ok};
 use bit_containers::boxed::BitBox;
 use bit_containers::{BitList, BitVec, GrowError, Lsb0, Msb0};
+use std::cell::Cell;
 use std::process::Abort;
+use std::rc::Rc;
 
 // One item or the other, the first of them at each third place from the end, under a hint that says nothing, or as
 // good as nothing. It counts the calls, and those that found none; after the first None there are more items.
@@ -310,5 +312,54 @@ fn splices_left_early(rt: HostRuntime) {
     left_after_all_from_the_end(&rt);
     for back in [false, true] {
         left_past_an_end(&rt, back);
+    }
+}
+
+/// Bits that are counted as they are given, also where the iterator is handed over.
+#[derive(Drop)]
+struct Told {
+    left: usize,
+    told: Rc<Cell<(usize, usize)>>,
+}
+
+impl Iterator for Told {
+    type Item = bool;
+
+    ghost remaining = { λ items. at_most items.left };
+
+    fn next(&mut self) -> Option<bool> {
+        let (given, nones) = self.told.get();
+        if self.left == 0 {
+            self.told.set((given, nones.wrapping_add(1)));
+            return None;
+        }
+        self.left -= 1;
+        self.told.set((given.wrapping_add(1), nones));
+        Some(self.left % 3 == 0)
+    }
+}
+
+/// A splice pulls its whole replacement and one call more, and where memory is refused no more after that; whichever
+/// request `rt try --test --fail-alloc N` refuses.
+#[test]
+fn spliced_until_refused(rt: HostRuntime) {
+    let Ok(mut v) = BitVec::<u8, Lsb0>::from_bits(rt.alloc(), [false, true, true, false]) else {
+        return;
+    };
+    let Ok(told) = Rc::new(rt.alloc(), Cell::new((0usize, 0usize))) else {
+        return;
+    };
+    let Ok(seen) = told.clone() else {
+        return;
+    };
+    let outcome = v.splice(1..3, Told { left: 1000, told }).finish();
+    let (given, nones) = seen.get();
+    if outcome.is_ok() {
+        check(&rt, v.len() == 1002);
+        check(&rt, given == 1000);
+        check(&rt, nones == 1);
+    } else {
+        holds(&rt, &v, b"0110");
+        check(&rt, given == 1000 || nones == 0);
     }
 }

@@ -1,0 +1,16 @@
+//! Streams of bits: `BitReader` reads the bits of a view in order, `BitWriter` appends bits to a vector of its own.
+#![tactic(auto)]
+
+mod codes;
+mod fields;
+mod least_first;
+mod reader;
+mod register;
+mod signed;
+mod writer;
+
+pub use codes::CodeError;
+pub use codes::zigzag::{unzigzag, zigzag};
+pub use fields::{Fields, Number, Signed};
+pub use reader::BitReader;
+pub use writer::BitWriter;

@@ -6,3 +6,5 @@ pub mod Coded
 pub mod Twos
 pub mod Bytes
 pub mod Rests
+pub mod ItemsRead
+pub mod Parted

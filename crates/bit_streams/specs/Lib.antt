@@ -3,3 +3,5 @@ pub mod Codes
 pub mod Signed
 pub mod Fields
 pub mod Examples
+pub mod Formats
+pub mod Header

@@ -3,6 +3,8 @@
 
 mod codes;
 mod fields;
+mod formats;
+mod items;
 mod least_first;
 mod reader;
 mod register;
@@ -12,5 +14,9 @@ mod writer;
 pub use codes::CodeError;
 pub use codes::zigzag::{unzigzag, zigzag};
 pub use fields::{Fields, Number, Signed};
+pub use formats::header::{Header, HeaderFault};
+pub use formats::listed::ListFault;
+pub use formats::tagged::{Tagged, TaggedFault};
+pub use items::{ItemsError, read_items, write_items};
 pub use reader::BitReader;
 pub use writer::BitWriter;

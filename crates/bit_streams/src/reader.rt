@@ -4,7 +4,7 @@ ghost use Rattle.bit_addressing.specs.Binary.{value};
 ghost use Rattle.bit_addressing.specs.Row.{binary};
 ghost use Rattle.bit_addressing.specs.Typed.{row};
 ghost use Rattle.bit_addressing.specs.declared.length.TheConstants.{MAX_BITS};
-ghost use Rattle.bit_slice.specs.BitSlice.{list_of};
+ghost use Rattle.bit_slice.specs.BitSlice.{len_of, list_of};
 ghost use Rattle.bit_streams.specs.Streams.{IsHeld, Passed};
 
 use bit_addressing::{BitOrder, BitStore};
@@ -170,6 +170,7 @@ impl<'a, T: BitStore, O: BitOrder> BitReader<'a, T, O> {
     pub fn read_part(&mut self, n: usize) -> Option<BitSlice<'a, T, O>>
         ensures none { (result ≡ None) ↔ (length self.old.rest < n) }
         ensures part { IfSome result (λ part. list_of part ≡ take n self.old.rest) }
+        ensures len { IfSome result (λ part. len_of part ≡ n) }
         ensures digits { IfSome result (λ part. self.old.rest ≡ list_of part ++ self.new.rest) }
         ensures passed { IfSome result (λ _. Passed n self.old self.new) }
         ensures kept { result ≡ None → self.new ≡ self.old }

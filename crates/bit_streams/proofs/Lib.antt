@@ -8,3 +8,4 @@ pub mod Bytes
 pub mod Rests
 pub mod ItemsRead
 pub mod Parted
+pub mod Held

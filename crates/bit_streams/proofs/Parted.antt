@@ -1,5 +1,5 @@
 -- Formats of several parts: what is read is one of them, and what is written is read.
-use Rattle.std.proofs.Common.{◌≡◌, ℕ, ◌+◌, ◌-◌, ◌*◌, ◌/◌, ◌%◌, ◌^◌, ◌<◌, ◌≤◌, Bool, false, List, [], ◌∷◌, ◌++◌, append_assoc, length, take, drop, replicate, sym, ◌∙◌, ap, subst, arith}
+use Rattle.std.proofs.Common.{◌≡◌, ℕ, ◌+◌, ◌-◌, ◌*◌, ◌/◌, ◌%◌, ◌≤◌, Bool, false, List, ◌++◌, append_assoc, length, take, drop, replicate, sym, ◌∙◌, ap, arith}
 use Rattle.std.proofs.lemmas.List.{drop_at, length-append, length-take-le}
 use Rattle.bit_addressing.specs.Row.{binary}
 use Rattle.bit_streams.specs.Formats.{listed_bits, tagged_bits}

@@ -1,5 +1,5 @@
 -- Two's complement: which number some digits stand for.
-use Rattle.std.proofs.Common.{◌≡◌, ℕ, zero, suc, ◌+◌, ◌-◌, ◌*◌, ◌/◌, ◌%◌, ◌^◌, ◌<◌, ◌≤◌, Bool, true, false, cond, nat_lt, List, refl, sym, ◌∙◌, ap, subst, inl, inr, arith}
+use Rattle.std.proofs.Common.{◌≡◌, ℕ, zero, suc, ◌+◌, ◌-◌, ◌*◌, ◌/◌, ◌%◌, ◌^◌, ◌<◌, ◌≤◌, refl, sym, ◌∙◌, ap, subst, inl, inr, arith}
 use Rattle.std.specs.Prelude.{ℤ, pos, negsuc, ◌-ℤ◌}
 use Rattle.std.specs.Int.{w64, cast_unsigned}
 use Rattle.std.proofs.Math.Pow.{pow_pos, pow_mono}
@@ -9,7 +9,7 @@ use Rattle.std.proofs.lemmas.Nat.{div-mul-add, mod-mul-add, pow-add}
 use Rattle.bit_addressing.specs.Row.{binary, number_bits}
 use Rattle.bit_streams.proofs.Lists.{binary_low}
 use Rattle.bit_streams.proofs.Turned.{bits_low}
-use Rattle.bit_streams.specs.Signed.{IsSigned, magnitude, signed_of}
+use Rattle.bit_streams.specs.Signed.{IsSigned, signed_of}
 
 -- the two halves of the numbers of n digits
 pub halves : (n : ℕ) → 0 < n → 2 ^ n ≡ 2 ^ (n - 1) * 2

@@ -1,7 +1,7 @@
 -- What a register of 64 bits gives, whose next bit is its highest.
-use Rattle.std.proofs.Common.{◌≡◌, ℕ, ◌+◌, ◌-◌, ◌*◌, ◌/◌, ◌%◌, ◌^◌, ◌<◌, ◌≤◌, Bool, List, [], ◌∷◌, ◌++◌, append_assoc, length, take, drop, slice_range, refl, sym, ◌∙◌, ap, subst, arith, rules}
+use Rattle.std.proofs.Common.{◌≡◌, ℕ, ◌+◌, ◌-◌, ◌*◌, ◌/◌, ◌%◌, ◌^◌, ◌<◌, ◌≤◌, Bool, List, [], ◌++◌, append_assoc, length, take, drop, slice_range, refl, sym, ◌∙◌, ap, subst, arith, rules}
 use Rattle.std.proofs.lemmas.List.{take-append-drop, length-take-le, drop_at, length-append, nil_from_length, same_lists, places}
-use Rattle.std.proofs.lemmas.Nat.{div-mul-add, mod-mul-add, mod_below, pow-add, div-add-mod', shl_whole, mul-mod_first}
+use Rattle.std.proofs.lemmas.Nat.{mod-mul-add, mod_below, pow-add, div-add-mod', shl_whole, mul-mod_first}
 use Rattle.std.proofs.Math.Pow.{pow_pos}
 use Rattle.std.proofs.Math.Nat.{mul_assoc, mul_comm, mul-div-mul_right, mul-div_cancel, mod-eq_of_lt, div-lt_iff_lt-mul}
 use Rattle.bit_addressing.specs.Row.{binary, sized, words_for}

@@ -1,5 +1,5 @@
 -- The definitions on small inputs.
-use Rattle.std.specs.Prelude.{◌≡◌, ℕ, pos, negsuc, Bool, true, false, List, [], ◌∷◌, ◌++◌, refl}
+use Rattle.std.specs.Prelude.{◌≡◌, pos, negsuc, true, false, [], ◌∷◌, ◌++◌, refl}
 use Rattle.bit_addressing.specs.Row.{binary}
 use Rattle.bit_streams.specs.Codes.{delta, gamma, golomb, leb128, leb_bytes, rice, unary, zigzag}
 use Rattle.bit_streams.specs.Signed.{signed_of}

@@ -1,5 +1,5 @@
 -- Formats that are written and read by fields.
-use Rattle.std.specs.Prelude.{◌≡◌, ℕ, ◌-◌, ◌/◌, ◌%◌, ◌^◌, ◌<◌, Bool, false, List, ◌++◌, [], ◌∷◌, length, replicate}
+use Rattle.std.specs.Prelude.{ℕ, ◌-◌, ◌/◌, ◌%◌, Bool, false, List, ◌++◌, length, replicate}
 use Rattle.bit_addressing.specs.Row.{binary}
 
 -- a tagged value: 8 digits of tag, 16 digits with how many bytes there are, and the value

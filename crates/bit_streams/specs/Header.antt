@@ -1,5 +1,5 @@
 -- The header of an IPv4 packet that has no options.
-use Rattle.std.specs.Prelude.{◌≡◌, ℕ, ◌^◌, ◌<◌, Bool, List, ◌++◌}
+use Rattle.std.specs.Prelude.{◌≡◌, ◌^◌, ◌<◌, Bool, List, ◌++◌}
 use Rattle.bit_addressing.specs.Row.{binary}
 use Rattle.bit_streams.specs.declared.fields.Number.{Number}
 use Rattle.bit_streams.specs.declared.formats.header.Header.{Header}

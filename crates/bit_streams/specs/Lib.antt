@@ -5,3 +5,4 @@ pub mod Fields
 pub mod Examples
 pub mod Formats
 pub mod Header
+pub mod Streamed

@@ -9,6 +9,8 @@ mod least_first;
 mod reader;
 mod register;
 mod signed;
+mod sink;
+mod source;
 mod writer;
 
 pub use codes::CodeError;
@@ -19,4 +21,6 @@ pub use formats::listed::ListFault;
 pub use formats::tagged::{Tagged, TaggedFault};
 pub use items::{ItemsError, read_items, write_items};
 pub use reader::BitReader;
+pub use sink::BitSink;
+pub use source::{BitSource, SourceError};
 pub use writer::BitWriter;

@@ -1,4 +1,3 @@
-use Rattle.std.proofs.Common.{◌≡◌, arith}
 use Rattle.bit_streams.proofs.Turned.{none_turned}
 use Rattle.bit_streams.proofs.least_first.reversed.Goals as goal
 

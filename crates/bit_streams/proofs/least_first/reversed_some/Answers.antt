@@ -1,4 +1,4 @@
-use Rattle.std.proofs.Common.{◌≡◌, arith}
+use Rattle.std.proofs.Common.{arith}
 use Rattle.bit_rows.proofs.Binary.{chunk_of, digits_below}
 use Rattle.bit_streams.proofs.Turned.{turned_digits}
 use Rattle.bit_streams.proofs.least_first.reversed_some.Goals as goal

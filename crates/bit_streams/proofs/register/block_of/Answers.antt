@@ -1,4 +1,4 @@
-use Rattle.std.proofs.Common.{◌≡◌, ◌-◌, ◌+◌, false, get_or, length, sym, ◌∙◌, ap, arith}
+use Rattle.std.proofs.Common.{◌≡◌, ◌+◌, false, get_or, sym, ◌∙◌, ap, arith}
 use Rattle.bit_addressing.specs.Row.{binary}
 use Rattle.bit_addressing.proofs.Packs.{row_from}
 use Rattle.bit_rows.proofs.Binary.{length-binary, get_or-binary}

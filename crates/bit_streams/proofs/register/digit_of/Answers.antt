@@ -1,4 +1,4 @@
-use Rattle.std.proofs.Common.{◌≡◌, [], ◌∷◌, true, false, sym, ◌∙◌, ap}
+use Rattle.std.proofs.Common.{[], ◌∷◌, true, false, sym, ◌∙◌, ap}
 use Rattle.bit_streams.proofs.Lists.{bit_digit}
 use Rattle.bit_streams.proofs.register.digit_of.Goals as goal
 

@@ -1,4 +1,4 @@
-use Rattle.std.proofs.Common.{◌≡◌, ◌+◌, ◌-◌, ◌++◌, sym, ◌∙◌, ap, arith}
+use Rattle.std.proofs.Common.{◌≡◌, ◌+◌, ◌-◌, ◌++◌, ◌∙◌, ap, arith}
 use Rattle.bit_addressing.specs.Row.{binary}
 use Rattle.bit_streams.proofs.Lists.{nothing_waits}
 use Rattle.bit_streams.proofs.register.filled.Goals as goal

@@ -1,4 +1,3 @@
-use Rattle.std.proofs.Common.{◌≡◌}
 use Rattle.bit_streams.proofs.Windows.{front_digits, front_below}
 use Rattle.bit_streams.proofs.register.front_of.Goals as goal
 

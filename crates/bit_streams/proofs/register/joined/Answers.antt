@@ -1,4 +1,4 @@
-use Rattle.std.proofs.Common.{◌≡◌, ◌+◌, ◌*◌, ◌%◌, ◌^◌, ◌<◌, ◌++◌, sym, ◌∙◌, ap, subst, arith}
+use Rattle.std.proofs.Common.{◌+◌, ◌^◌, ◌<◌, sym, ◌∙◌, ap, subst, arith}
 use Rattle.bit_addressing.specs.Row.{binary}
 use Rattle.bit_streams.proofs.Lists.{joined_digits, joined_below, joined_fits}
 use Rattle.bit_streams.proofs.register.joined.Goals as goal

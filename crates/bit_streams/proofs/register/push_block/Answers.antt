@@ -1,6 +1,6 @@
-use Rattle.std.proofs.Common.{◌≡◌, ◌+◌, ◌*◌, ◌/◌, ◌≤◌, ◌++◌, [], ◌∷◌, length, map, slice_range, sym, ◌∙◌, ap, subst, arith}
+use Rattle.std.proofs.Common.{◌≡◌, ◌+◌, ◌*◌, ◌/◌, ◌++◌, [], ◌∷◌, length, map, slice_range, ◌∙◌, ap, arith}
 use Rattle.std.proofs.lemmas.List.{map-append, length_push}
-use Rattle.bit_addressing.specs.Row.{row_of, binary}
+use Rattle.bit_addressing.specs.Row.{row_of}
 use Rattle.bit_addressing.specs.Typed.{row}
 use Rattle.bit_addressing.proofs.Rows.{row_append, width_positive, length-row_of}
 use Rattle.bit_addressing.proofs.Runs.{mul_mono}

@@ -1,4 +1,4 @@
-use Rattle.std.proofs.Common.{◌≡◌, true, false, replicate, sym, ◌∙◌, ap}
+use Rattle.std.proofs.Common.{replicate, sym, ◌∙◌, ap}
 use Rattle.bit_streams.proofs.Zeros.{zeros_of, ones_of}
 use Rattle.bit_streams.proofs.register.run_of.Goals as goal
 

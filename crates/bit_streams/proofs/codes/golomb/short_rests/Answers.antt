@@ -1,4 +1,4 @@
-use Rattle.std.proofs.Common.{◌≡◌, ◌+◌, ◌-◌, ◌*◌, ◌%◌, ◌^◌, ◌<◌, ◌≤◌, sym, ◌∙◌, ap, arith}
+use Rattle.std.proofs.Common.{arith}
 use Rattle.bit_streams.proofs.Rests.{one_shl, short_is}
 use Rattle.bit_streams.proofs.codes.golomb.short_rests.Goals as goal
 

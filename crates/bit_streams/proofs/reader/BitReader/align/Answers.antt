@@ -1,6 +1,6 @@
-use Rattle.std.proofs.Common.{◌≡◌, ◌+◌, ◌-◌, ◌%◌, ◌<◌, length, sym, ◌∙◌, ap, subst, arith}
+use Rattle.std.proofs.Common.{◌≡◌, ◌+◌, ◌-◌, ◌%◌, sym, ◌∙◌, ap, arith}
 use Rattle.bit_streams.proofs.Lists.{passed_at}
-use Rattle.bit_streams.proofs.Zeros.{aligned_at, no_pad, some_pad}
+use Rattle.bit_streams.proofs.Zeros.{aligned_at, some_pad}
 use Rattle.bit_streams.proofs.reader.BitReader.align.Goals as goal
 
 pub returns-in-Some-clause-aligned : goal.returns-in-Some-clause-aligned

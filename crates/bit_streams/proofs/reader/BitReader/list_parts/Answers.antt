@@ -1,7 +1,6 @@
-use Rattle.std.proofs.Common.{◌≡◌, ◌+◌, ◌-◌, ◌*◌, ◌/◌, ◌%◌, ◌^◌, ◌<◌, ◌≤◌, ◌++◌, length, rules, refl, sym, ◌∙◌, ap, arith}
+use Rattle.std.proofs.Common.{◌≡◌, ◌-◌, ◌%◌, ◌++◌, length, rules, refl, sym, ◌∙◌, ap, arith}
 use Rattle.std.proofs.Math.Pow.{pow_pos}
 use Rattle.bit_addressing.specs.Row.{binary}
-use Rattle.bit_addressing.specs.declared.length.TheConstants.{MAX_BITS}
 use Rattle.bit_slice.specs.BitSlice.{list_of}
 use Rattle.bit_streams.proofs.Parted.{listed_found, listed_opened, part_is, part_size, part_there}
 use Rattle.bit_streams.proofs.reader.BitReader.list_parts.Goals as goal

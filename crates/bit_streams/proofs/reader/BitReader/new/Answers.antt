@@ -1,4 +1,4 @@
-use Rattle.std.proofs.Common.{◌≡◌, ◌+◌, ◌*◌, ◌≤◌, length, sym, ◌∙◌, ap, arith}
+use Rattle.std.proofs.Common.{◌≡◌, ◌+◌, ◌*◌, length, ap, arith}
 use Rattle.bit_addressing.specs.Typed.{row}
 use Rattle.bit_addressing.specs.Row.{words_for}
 use Rattle.bit_addressing.proofs.Rows.{width_positive}

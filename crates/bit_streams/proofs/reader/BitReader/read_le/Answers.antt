@@ -1,4 +1,4 @@
-use Rattle.std.proofs.Common.{◌≡◌, ◌<◌, ◌++◌, [], append-nil, Some, length, refl, sym, ◌∙◌, ap, arith}
+use Rattle.std.proofs.Common.{◌++◌, [], append-nil, Some, refl, sym, ◌∙◌, ap, arith}
 use Rattle.bit_addressing.specs.Row.{number_bits}
 use Rattle.bit_streams.proofs.Turned.{bits_unique, has_bits}
 use Rattle.bit_streams.proofs.reader.BitReader.read_le.Goals as goal

@@ -1,4 +1,4 @@
-use Rattle.std.proofs.Common.{◌≡◌, ◌+◌, ◌++◌, [], ◌∷◌, false, true, Some, length, replicate, sym, ◌∙◌, ap, arith}
+use Rattle.std.proofs.Common.{◌≡◌, ◌++◌, false, Some, length, replicate, sym, ◌∙◌, ap, arith}
 use Rattle.std.proofs.lemmas.List.{append-nil, nil_from_length}
 use Rattle.bit_streams.proofs.Zeros.{same_unary, no_one, one_passed}
 use Rattle.bit_streams.proofs.reader.BitReader.read_unary.Goals as goal

@@ -1,9 +1,9 @@
-use Rattle.std.proofs.Common.{◌≡◌, ◌+◌, ◌-◌, ◌*◌, ◌/◌, ◌%◌, ◌^◌, ◌<◌, ◌≤◌, ◌++◌, Ok, sym, ◌∙◌, ap, arith}
+use Rattle.std.proofs.Common.{◌≡◌, ◌+◌, ◌*◌, ◌/◌, ◌%◌, ◌^◌, ◌++◌, Ok, ◌∙◌, ap, arith}
 use Rattle.std.proofs.Math.Pow.{pow_pos}
 use Rattle.std.proofs.lemmas.Nat.{mod_below}
 use Rattle.bit_addressing.specs.Row.{binary}
 use Rattle.bit_streams.specs.Codes.{rice, unary}
-use Rattle.bit_streams.proofs.Coded.{both_parts, number_joined, parts_opened, quotient_fits, quotient_past, quotient_within, rice_joined, rice_parted}
+use Rattle.bit_streams.proofs.Coded.{both_parts, number_joined, parts_opened, quotient_fits, quotient_past, rice_joined, rice_parted}
 use Rattle.bit_streams.proofs.reader.BitReader.rice_parts.Goals as goal
 
 pub returns-then-quotient-k-clause-too_long : goal.returns-then-quotient-k-clause-too_long

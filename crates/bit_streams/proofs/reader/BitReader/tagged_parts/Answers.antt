@@ -1,4 +1,4 @@
-use Rattle.std.proofs.Common.{◌≡◌, ◌+◌, ◌*◌, ◌/◌, ◌%◌, ◌^◌, ◌<◌, ◌≤◌, ◌++◌, length, rules, refl, sym, ◌∙◌, ap, arith}
+use Rattle.std.proofs.Common.{◌≡◌, ◌*◌, ◌/◌, ◌++◌, length, rules, refl, arith}
 use Rattle.bit_addressing.specs.Row.{binary}
 use Rattle.bit_slice.specs.BitSlice.{list_of}
 use Rattle.bit_streams.proofs.Parted.{part_is, part_size, part_there, tagged_found, three_opened}

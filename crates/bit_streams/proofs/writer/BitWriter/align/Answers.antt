@@ -1,5 +1,5 @@
 use Rattle.std.proofs.Common.{◌≡◌, ◌+◌, ◌-◌, ◌%◌, ◌++◌, length, replicate, sym, ◌∙◌, ap, arith}
-use Rattle.bit_streams.proofs.Zeros.{aligned_at, no_pad, some_pad}
+use Rattle.bit_streams.proofs.Zeros.{aligned_at, some_pad}
 use Rattle.bit_streams.proofs.writer.BitWriter.align.Goals as goal
 
 pub returns-in-Ok-clause-aligned : goal.returns-in-Ok-clause-aligned

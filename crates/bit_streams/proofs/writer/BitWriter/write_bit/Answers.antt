@@ -1,5 +1,4 @@
-use Rattle.std.proofs.Common.{◌≡◌, ◌++◌, ◌∙◌, ap}
-use Rattle.bit_streams.proofs.Lists.{take_front}
+use Rattle.std.proofs.Common.{◌++◌, ◌∙◌, ap}
 use Rattle.bit_streams.proofs.writer.BitWriter.write_bit.Goals as goal
 
 pub returns-in-Ok-clause-list : goal.returns-in-Ok-clause-list

@@ -1,4 +1,3 @@
-use Rattle.std.proofs.Common.{◌≡◌}
 use Rattle.bit_slice.specs.BitSlice.{list_of}
 use Rattle.bit_streams.proofs.Parted.{listed_written}
 use Rattle.bit_streams.proofs.writer.BitWriter.write_list.Goals as goal

@@ -1,4 +1,4 @@
-use Rattle.std.proofs.Common.{◌≡◌, ◌+◌, ◌^◌, ◌<◌, ◌≤◌, arith}
+use Rattle.std.proofs.Common.{◌+◌, arith}
 use Rattle.std.proofs.Math.Pow.{pow_mono}
 use Rattle.bit_streams.proofs.writer.BitWriter.write_rest.Goals as goal
 

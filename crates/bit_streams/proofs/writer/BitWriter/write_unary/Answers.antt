@@ -1,4 +1,4 @@
-use Rattle.std.proofs.Common.{◌≡◌, ◌+◌, ◌*◌, ◌/◌, ◌%◌, ◌≤◌, ◌++◌, refl, sym, ◌∙◌, ap, arith}
+use Rattle.std.proofs.Common.{refl, ◌∙◌, arith}
 use Rattle.bit_streams.proofs.Zeros.{more_zeros, unary_written}
 use Rattle.bit_streams.proofs.writer.BitWriter.write_unary.Goals as goal
 

@@ -16,6 +16,7 @@ use std::marker::{Model, PhantomData};
 /// call that fails keeps all bits that were written before and adds none. In contracts a sink `s` is `s.list`, None where
 /// it isn't known which bytes the writer holds, and else Some of the bits that were written, and `s.held`, how many of them
 /// the writer has not taken yet.
+#[derive(Drop)]
 pub struct BitSink<W: Write, O: BitOrder> {
     inner: W,
     // The bits that the writer has not taken, as a number of `held` digits.
@@ -68,6 +69,20 @@ impl<W: Write, O: BitOrder> BitSink<W, O> {
             held: 0,
             order: PhantomData,
         }
+    }
+
+    /// The writer. After a `finish` that did not fail it holds all bits that were written; bits that it has not taken are
+    /// lost.
+    pub fn into_inner(self) -> W
+        ensures { self.held ≡ 0 → self.list ≡ bits_made O.place 0 0 (W.contents result) }
+    {
+        let BitSink {
+            inner,
+            pending: _,
+            held: _,
+            order: _,
+        } = self;
+        inner
     }
 
     /// How many bits the writer has not taken yet.

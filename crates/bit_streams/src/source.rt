@@ -12,7 +12,7 @@ use std::io::Read;
 use std::marker::{Model, PhantomData};
 
 /// Why no number was read out of a reader's bytes: no bit is lost, and the next call begins with the same ones.
-#[derive(Debug)]
+#[derive(Drop, Debug)]
 pub enum SourceError {
     /// The bytes end before the number does.
     Ended,
@@ -26,6 +26,7 @@ pub enum SourceError {
 /// It asks for one byte at a time, and only for those that a number needs; wrap a file or a socket in a `BufReader`. In
 /// contracts a source `s` is `s.rest`, None where it isn't known which bytes the reader has left, and else Some of the bits
 /// that are left, and `s.held`, how many of them were taken from the reader.
+#[derive(Drop)]
 pub struct BitSource<R: Read, O: BitOrder> {
     inner: R,
     // The bits of bytes that were taken from the reader, as a number of `held` digits.
@@ -75,6 +76,19 @@ impl<R: Read, O: BitOrder> BitSource<R, O> {
             held: 0,
             order: PhantomData,
         }
+    }
+
+    /// The reader. Bits that were taken from it and not read are lost.
+    pub fn into_inner(self) -> R
+        ensures { self.held ≡ 0 → self.rest ≡ bits_left O.place 0 0 (R.remaining result) }
+    {
+        let BitSource {
+            inner,
+            pending: _,
+            held: _,
+            order: _,
+        } = self;
+        inner
     }
 
     // Takes one more byte of the reader.

@@ -1,0 +1,237 @@
+-- A list that begins with the digits of a number, or with a bit.
+use Rattle.std.proofs.Common.{◌≡◌, ℕ, ◌+◌, ◌-◌, ◌*◌, ◌/◌, ◌%◌, ◌^◌, ◌<◌, ◌≤◌, Bool, true, false, cond, List, [], ◌∷◌, ◌++◌, length, take, drop, slice_range, append_assoc, rules, slice_get, get_or, Some, None, Ok, Err, Result, nat_eq, sym, ◌∙◌, ap, subst, refl, zero, suc, inl, inr, arith}
+use Rattle.std.proofs.lemmas.List.{take-append-drop, take_all, drop_at, length-append, drop_all, drop_more, same_lists, places}
+use Rattle.std.proofs.lemmas.Option.{slice_get_within, slice_get-get_or, get_or_from_slice_get}
+use Rattle.std.proofs.lemmas.Bool.{cases_lt}
+use Rattle.std.proofs.Math.Seq.{take-append_seam}
+use Rattle.std.proofs.lemmas.List.{ext_get_or}
+use Rattle.std.proofs.lemmas.Nat.{div-mul-add, mod-mul-add, mod_below, pow-add, pow_below}
+use Rattle.std.proofs.Math.Nat.{mod-eq_of_lt, mul_comm}
+use Rattle.std.proofs.Math.Pow.{pow_pos, pow_mono}
+use Rattle.std.proofs.lemmas.List.{nil_from_length}
+use Rattle.bit_addressing.specs.declared.store.BitStore as store
+use Rattle.bit_addressing.specs.declared.order.BitOrder as order
+use Rattle.bit_addressing.specs.Typed.{row}
+use Rattle.bit_addressing.proofs.Typed.{length_row}
+use Rattle.bit_addressing.specs.declared.length.TheConstants.{MAX_BITS}
+use Rattle.bit_addressing.specs.declared.errors.GrowError.{GrowError}
+use Rattle.bit_addressing.specs.declared.errors.GrowError.TheVariants.{TooLong, OutOfMemory}
+use Rattle.bit_streams.specs.Streams.{Passed, Reading, Writing, Refuses}
+use Rattle.bit_addressing.specs.Bits.{IsWidth}
+use Rattle.bit_addressing.proofs.Words.{has_low}
+use Rattle.bit_addressing.proofs.Runs.{mul_mono, slices_joined}
+use Rattle.bit_addressing.specs.Binary.{value}
+use Rattle.bit_addressing.specs.Row.{binary}
+use Rattle.bit_rows.proofs.Binary.{length-binary, value_of_binary, get_or-binary, binary_parted}
+
+pub digits_then_rest : (n x : ℕ) (xs : List Bool) → binary n x ≡ take n xs → xs ≡ binary n x ++ drop n xs
+digits_then_rest n x xs e = sym (ap (λ l. l ++ drop n xs) e ∙ take-append-drop n xs)
+
+pub take_front : (n : ℕ) (ys zs : List Bool) → length ys ≡ n → take n (ys ++ zs) ≡ ys
+take_front n ys zs e = ap (λ k. take k (ys ++ zs)) (sym e) ∙ take-append_seam ys zs
+
+-- what the first n bits write, and what follows, where a number's digits come first
+pub reads_back : (n x : ℕ) (xs more : List Bool) → xs ≡ binary n x ++ more → x < 2 ^ n → (value (take n xs) ≡ x) × (drop n xs ≡ more)
+reads_back n x xs more e below =
+    let long = length-binary n x in
+    (ap (λ l. value (take n l)) e ∙ ap value (take_front n (binary n x) more long) ∙ value_of_binary n x below, ap (drop n) e ∙ drop_at (binary n x) more n long)
+
+pub has_digits : (n x : ℕ) (xs more : List Bool) → xs ≡ binary n x ++ more → n ≤ length xs
+has_digits n x xs more e =
+    let long = length-binary n x in
+    let all : length xs ≡ length (binary n x) + length more = ap length e ∙ length-append (binary n x) more in
+    omega arith
+
+bit_here : (xs : List Bool) (at : ℕ) (b : Bool) → slice_get xs at ≡ Some b → (at < length xs) × (get_or xs at false ≡ b)
+bit_here xs at b e = (slice_get_within xs at b e, get_or_from_slice_get xs at b false e)
+
+pub bit_first : (xs : List Bool) (at : ℕ) (b : Bool) → slice_get xs at ≡ Some b → drop at xs ≡ b ∷ drop (at + 1) xs
+bit_first xs at b e =
+    let h = bit_here xs at b e in
+    drop_more xs at false h.0 ∙ ap (λ c. c ∷ drop (at + 1) xs) h.1
+
+pub heads : {a b : Bool} {xs ys : List Bool} → a ∷ xs ≡ b ∷ ys → a ≡ b
+heads e = ap (λ l. get_or l 0 false) e
+
+pub tails : {a b : Bool} {xs ys : List Bool} → a ∷ xs ≡ b ∷ ys → xs ≡ ys
+tails e = ap (drop 1) e
+
+pub none_left : (xs : List Bool) (at : ℕ) → slice_get xs at ≡ None → drop at xs ≡ []
+none_left xs at e = elim (cases_lt at (length xs)) [
+  | inl l ↦ absurd (let q = slice_get-get_or xs at false l in cc)
+  | inr l ↦ drop_all at xs l
+]
+
+-- ---- digits of two numbers joined
+
+pub binary_low : (b x : ℕ) → binary b (x % 2 ^ b) ≡ binary b x
+binary_low b x = ext_get_or false (binary b (x % 2 ^ b)) (binary b x) (length-binary b (x % 2 ^ b) ∙ sym (length-binary b x))
+    (λ i h.
+    let long = length-binary b (x % 2 ^ b) in
+    let below : i < b = omega arith in
+    get_or-binary b (x % 2 ^ b) i below ∙ has_low x b (b - 1 - i) (omega arith) ∙ sym (get_or-binary b x i below))
+
+pub joined_digits : (a b p x : ℕ) → binary (a + b) (p * 2 ^ b + x % 2 ^ b) ≡ binary a p ++ binary b x
+joined_digits a b p x =
+    let low = mod_below x (2 ^ b) (pow_pos b) in
+    binary_parted a b (p * 2 ^ b + x % 2 ^ b)
+    ∙ ap (λ h. binary a h ++ binary b ((p * 2 ^ b + x % 2 ^ b) % 2 ^ b)) (div-mul-add p (2 ^ b) (x % 2 ^ b) low)
+    ∙ ap (λ l. binary a p ++ binary b l) (mod-mul-add p (2 ^ b) (x % 2 ^ b) low)
+    ∙ ap (λ l. binary a p ++ l) (binary_low b x)
+
+pub joined_below : (a b p x : ℕ) → p < 2 ^ a → p * 2 ^ b + x % 2 ^ b < 2 ^ (a + b)
+joined_below a b p x h =
+    let low = mod_below x (2 ^ b) (pow_pos b) in
+    let most = mul_mono (p + 1) (2 ^ a) (2 ^ b) (omega arith) in
+    let one : (p + 1) * 2 ^ b ≡ p * 2 ^ b + 2 ^ b = omega arith in
+    let all : 2 ^ (a + b) ≡ 2 ^ a * 2 ^ b = pow-add 2 a b in
+    omega arith
+
+pub whole_blocks : (w : ℕ) → IsWidth w → 64 / w * w ≡ 64
+whole_blocks w width = elim width [
+  | inl e ↦ rw e refl
+  | inr (inl e) ↦ rw e refl
+  | inr (inr (inl e)) ↦ rw e refl
+  | inr (inr (inr e)) ↦ rw e refl
+]
+
+-- what a register computes, where nothing passes 64 digits
+pub joined_fits : (a b p x : ℕ) → b < 64 → a + b ≤ 64 → p < 2 ^ a → (p * 2 ^ b % 2 ^ 64 + x % (1 * 2 ^ b % 2 ^ 64) ≡ p * 2 ^ b + x % 2 ^ b) × (p * 2 ^ b + x % 2 ^ b < 2 ^ 64)
+joined_fits a b p x few all small =
+    let below = joined_below a b p x small in
+    let most = pow_mono all in
+    let one = pow_below b 64 few in
+    let whole : p * 2 ^ b % 2 ^ 64 ≡ p * 2 ^ b = mod-eq_of_lt (omega arith) in
+    let unit : 1 * 2 ^ b % 2 ^ 64 ≡ 2 ^ b = ap (λ k. k % 2 ^ 64) (let e : 1 * 2 ^ b ≡ 2 ^ b = omega arith in e) ∙ mod-eq_of_lt one in
+    (ap (λ k. k + x % (1 * 2 ^ b % 2 ^ 64)) whole ∙ ap (λ k. p * 2 ^ b + x % k) unit, omega arith)
+
+pub slice_whole : (n : ℕ) (xs : List Bool) → length xs ≡ n → slice_range xs 0 n ≡ xs
+slice_whole n xs size = same_lists _ _ (search (rules, places)) (λ i e below. grind (arith, places))
+
+pub slice_none : (xs : List Bool) (n : ℕ) → slice_range xs 0 (0 * n) ≡ []
+slice_none xs n = same_lists _ _ (search (rules, places)) (λ i e below. grind (arith, places))
+
+-- one more word of a block
+pub one_more : (old now b word : List Bool) (i w : ℕ) → now ≡ old ++ slice_range b 0 (i * w) → word ≡ slice_range b (i * w) (i * w + w) → (i + 1) * w ≤ length b → now ++ word ≡ old ++ slice_range b 0 ((i + 1) * w)
+one_more old now b word i w so_far is room =
+    let next : i * w + w ≡ (i + 1) * w = omega arith in
+    ap (λ l. l ++ word) so_far ∙ append_assoc old (slice_range b 0 (i * w)) word
+    ∙ ap (λ l. old ++ l) (ap (λ l. slice_range b 0 (i * w) ++ l) is ∙ slices_joined b 0 (i * w) (i * w + w) (omega arith) (omega arith) (omega arith) ∙ ap (slice_range b 0) next)
+
+pub nothing_waits : (p x : ℕ) → binary 64 x ≡ binary 0 p ++ binary 64 x
+unfolding binary
+nothing_waits p x = refl
+
+-- a block and what waits after it
+pub block_written : (rs now : List Bool) (count pending room rest n x block high low : ℕ) → now ≡ rs ++ binary 64 block → binary 64 block ≡ binary count pending ++ binary room high → high ≡ x / 2 ^ rest → low ≡ x % 2 ^ rest → n ≡ room + rest
+    → now ++ binary rest low ≡ (rs ++ binary count pending) ++ binary n x
+block_written rs now count pending room rest n x block high low is block_is high_is low_is whole =
+    let digits : binary n x ≡ binary room high ++ binary rest low =
+    ap (λ k. binary k x) whole ∙ binary_parted room rest x ∙ ap (λ h. binary room h ++ binary rest (x % 2 ^ rest)) (sym high_is) ∙ ap (λ l. binary room high ++ binary rest l) (sym low_is) in
+    ap (λ l. l ++ binary rest low) (is ∙ ap (λ l. rs ++ l) block_is)
+    ∙ ap (λ l. l ++ binary rest low) (sym (append_assoc rs (binary count pending) (binary room high)))
+    ∙ append_assoc (rs ++ binary count pending) (binary room high) (binary rest low)
+    ∙ ap (λ l. (rs ++ binary count pending) ++ l) (sym digits)
+
+module _ {X Y : Type 0} (W : store.Ghosts X) (P : order.Ghosts Y) where
+  pub written_length : (ws : List X) (count pending : ℕ) → length (row W P ws ++ binary count pending) ≡ W.BITS * length ws + count
+  written_length ws count pending =
+      let digits = length-binary count pending in
+      let words : length (row W P ws) ≡ W.BITS * length ws = length_row W.value P.place W.BITS ws in
+      length-append (row W P ws) (binary count pending) ∙ omega arith
+
+  pub nothing_written : (ws : List X) → ws ≡ [] → row W P ws ++ binary 0 0 ≡ []
+  nothing_written ws e = nil_from_length _ (written_length ws 0 0 ∙ (let l : W.BITS * length ws ≡ 0 = ap (λ v. W.BITS * length v) e ∙ omega arith in omega arith))
+
+pub not_refused : (wanted : ℕ) (old new : Writing) → wanted ≤ MAX_BITS → Refuses {A = Unit {0}} (Ok tt) wanted old new
+not_refused wanted old new h = record {
+  too_long = (λ e. absurd cc, λ l. absurd (omega arith));
+  memory = λ e. absurd cc;
+  unchanged = search rules;
+}
+
+pub refused_long : (wanted : ℕ) (old : Writing) → MAX_BITS < wanted → Refuses {A = Unit {0}} (Err TooLong) wanted old old
+refused_long wanted old h = record {
+  too_long = (λ e. h, λ l. refl);
+  memory = λ e. absurd cc;
+  unchanged = search rules;
+}
+
+pub refused_memory : (wanted : ℕ) (old new : Writing) → wanted ≤ MAX_BITS → old.capacity < wanted → new.list ≡ old.list → Refuses {A = Unit {0}} (Err OutOfMemory) wanted old new
+refused_memory wanted old new h full same = record {
+  too_long = (λ e. absurd cc, λ l. absurd (omega arith));
+  memory = λ e. full;
+  unchanged = search (rules, same);
+}
+
+pub one_shifted : (b x : ℕ) → b < 64 → x % (1 * 2 ^ b % 2 ^ 64) ≡ x % 2 ^ b
+one_shifted b x few = ap (λ k. x % (k % 2 ^ 64)) (let e : 1 * 2 ^ b ≡ 2 ^ b = omega arith in e) ∙ ap (λ k. x % k) (mod-eq_of_lt (pow_below b 64 few))
+
+pub bit_digit : (b : Bool) → binary 1 (cond b 1 0) ≡ b ∷ []
+unfolding binary
+bit_digit true = refl
+bit_digit false = refl
+
+pub passed_by : (n x : ℕ) (old new : Reading) → old.rest ≡ binary n x ++ new.rest → x < 2 ^ n → new.position ≡ old.position + n → Passed n old new
+passed_by n x old new is below at =
+    let digits = length-binary n x in
+    let sum = ap length is ∙ length-append (binary n x) new.rest in
+    record {
+      rest = sym (reads_back n x old.rest new.rest is below).1;
+      position = at;
+      left = omega arith;
+    }
+
+pub bit_read : (x : ℕ) → x < 2 ^ 1 → binary 1 x ≡ nat_eq x 1 ∷ []
+unfolding binary
+bit_read zero h = refl
+bit_read (suc zero) h = refl
+bit_read (suc (suc x)) h = absurd (omega arith)
+
+-- a writer that goes back to where it was
+pub went_back : (n : ℕ) (old now cut more : List Bool) → cut ≡ take n now → n ≡ length old → now ≡ old ++ more → cut ≡ old
+went_back n old now cut more is size on = is ∙ ap (take n) on ∙ take_front n old more (sym size)
+
+-- what was written before still comes first
+pub begins_on : (old now new more : List Bool) → new ≡ now ++ more → take (length old) now ≡ old → take (length old) new ≡ old
+begins_on old now new more is begins =
+    ap (take (length old)) (is ∙ ap (λ l. l ++ more) (sym (take-append-drop (length old) now) ∙ ap (λ l. l ++ drop (length old) now) begins) ∙ append_assoc old (drop (length old) now) more)
+    ∙ take_front (length old) old (drop (length old) now ++ more) refl
+
+pub begins_with : (old new more : List Bool) → new ≡ old ++ more → take (length old) new ≡ old
+begins_with old new more is = ap (take (length old)) is ∙ take_front (length old) old more refl
+
+pub begins_same : (old new : List Bool) → new ≡ old → take (length old) new ≡ old
+begins_same old new is = ap (take (length old)) is ∙ take_all (length old) old (omega arith)
+
+pub refuses_at : (wanted other : ℕ) (result : Result (Unit {0}) GrowError) (old new : Writing) → wanted ≡ other → Refuses result wanted old new → Refuses result other old new
+refuses_at wanted other result old new e r = subst (λ k. Refuses result k old new) e r
+
+pub passed_at : (n m : ℕ) (old new : Reading) → n ≡ m → Passed n old new → Passed m old new
+passed_at n m old new e p = subst (λ k. Passed k old new) e p
+
+-- room for more words is room for the bits that they are for
+pub room_made : (w words more cap bits : ℕ) → bits ≤ w * more → words + more ≤ cap → w * words + bits ≤ w * cap
+room_made w words more cap bits fits room =
+    let up = mul_mono (words + more) cap w room in
+    let a : (words + more) * w ≡ words * w + more * w = omega arith in
+    let b = mul_comm w words in
+    let c = mul_comm w more in
+    let d = mul_comm w cap in
+    omega arith
+
+-- too few words are too few bits
+pub room_short : (w words more cap bits : ℕ) → w * more < bits + w → cap < words + more → w * cap < w * words + bits
+room_short w words more cap bits least short =
+    let up = mul_mono (cap + 1) (words + more) w (omega arith) in
+    let a : (words + more) * w ≡ words * w + more * w = omega arith in
+    let one : (cap + 1) * w ≡ cap * w + w = omega arith in
+    let b = mul_comm w words in
+    let c = mul_comm w more in
+    let d = mul_comm w cap in
+    omega arith
+
+pub begins_through : (old mid new more : List Bool) → mid ≡ old ++ more → take (length mid) new ≡ mid → take (length old) new ≡ old
+begins_through old mid new more is begins =
+    begins_with old new (more ++ drop (length mid) new)
+    (sym (take-append-drop (length mid) new) ∙ ap (λ l. l ++ drop (length mid) new) (begins ∙ is) ∙ append_assoc old more (drop (length mid) new))

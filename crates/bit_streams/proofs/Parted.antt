@@ -1,0 +1,56 @@
+-- Formats of several parts: what is read is one of them, and what is written is read.
+use Rattle.std.proofs.Common.{◌≡◌, ℕ, ◌+◌, ◌-◌, ◌*◌, ◌/◌, ◌%◌, ◌≤◌, Bool, false, List, ◌++◌, append_assoc, length, take, drop, replicate, sym, ◌∙◌, ap, arith}
+use Rattle.std.proofs.lemmas.List.{drop_at, length-append, length-take-le}
+use Rattle.bit_addressing.specs.Row.{binary}
+use Rattle.bit_streams.specs.Formats.{listed_bits, tagged_bits}
+use Rattle.bit_streams.proofs.Lists.{take_front}
+use Rattle.bit_streams.proofs.Zeros.{zeros_of}
+
+-- three parts, one after another
+pub three_parts : (old first second new xs ys zs : List Bool) → old ≡ xs ++ first → first ≡ ys ++ second → second ≡ zs ++ new → old ≡ ((xs ++ ys) ++ zs) ++ new
+three_parts old first second new xs ys zs a b c =
+    a ∙ ap (λ l. xs ++ l) (b ∙ ap (λ l. ys ++ l) c) ∙ sym (append_assoc xs ys (zs ++ new)) ∙ sym (append_assoc (xs ++ ys) zs new)
+
+pub three_opened : (old more xs ys zs : List Bool) → old ≡ ((xs ++ ys) ++ zs) ++ more → old ≡ xs ++ (ys ++ (zs ++ more))
+three_opened old more xs ys zs e = e ∙ append_assoc (xs ++ ys) zs more ∙ append_assoc xs ys (zs ++ more)
+
+-- a part of n bits
+pub part_size : (n : ℕ) (old new part : List Bool) → part ≡ take n old → length new + n ≡ length old → length part ≡ n
+part_size n old new part is left = ap length is ∙ length-take-le n old (omega arith)
+
+pub part_is : (n : ℕ) (old new part value more : List Bool) → part ≡ take n old → new ≡ drop n old → old ≡ value ++ more → length value ≡ n → (part ≡ value) × (new ≡ more)
+part_is n old new part value more is rest e size = (is ∙ ap (take n) e ∙ take_front n value more size, rest ∙ ap (drop n) e ∙ drop_at value more n size)
+
+pub part_there : (n : ℕ) (old value more : List Bool) → old ≡ value ++ more → length value ≡ n → n ≤ length old
+part_there n old value more e size = let sum = ap length e ∙ length-append value more in omega arith
+
+-- ---- tagged values
+
+pub tagged_found : (old first second new value : List Bool) (tag bytes : ℕ) → old ≡ binary 8 tag ++ first → first ≡ binary 16 bytes ++ second → second ≡ value ++ new → length value ≡ 8 * bytes → old ≡ tagged_bits tag value ++ new
+tagged_found old first second new value tag bytes a b c size =
+    let is : length value / 8 ≡ bytes = omega arith in
+    three_parts old first second new (binary 8 tag) (binary 16 bytes) value a b c ∙ ap (λ k. ((binary 8 tag ++ binary 16 k) ++ value) ++ new) (sym is)
+
+-- ---- lists with their length
+
+pub listed_found : (old first second new bits : List Bool) (len zeros : ℕ) → old ≡ binary 64 len ++ first → first ≡ bits ++ second → second ≡ binary ((8 - len % 8) % 8) zeros ++ new → length bits ≡ len → zeros ≡ 0 → old ≡ listed_bits bits ++ new
+listed_found old first second new bits len zeros a b c size none =
+    let few : (8 - len % 8) % 8 ≤ 64 = omega arith in
+    let last : binary ((8 - len % 8) % 8) zeros ≡ replicate ((8 - len % 8) % 8) false = ap (binary ((8 - len % 8) % 8)) none ∙ zeros_of ((8 - len % 8) % 8) few in
+    three_parts old first second new (binary 64 len) bits (binary ((8 - len % 8) % 8) zeros) a b c
+    ∙ ap (λ l. ((binary 64 len ++ bits) ++ l) ++ new) last
+    ∙ ap (λ k. ((binary 64 k ++ bits) ++ replicate ((8 - k % 8) % 8) false) ++ new) (sym size)
+
+pub listed_opened : (old more bits : List Bool) → old ≡ listed_bits bits ++ more → old ≡ binary 64 (length bits) ++ (bits ++ (binary ((8 - length bits % 8) % 8) 0 ++ more))
+listed_opened old more bits e =
+    let n = length bits in
+    let few : (8 - n % 8) % 8 ≤ 64 = omega arith in
+    three_opened old more (binary 64 n) bits (replicate ((8 - n % 8) % 8) false) e ∙ ap (λ l. binary 64 n ++ (bits ++ (l ++ more))) (sym (zeros_of ((8 - n % 8) % 8) few))
+
+pub listed_written : (old first second new bits : List Bool) (len : ℕ) → first ≡ old ++ binary 64 len → second ≡ first ++ bits → new ≡ second ++ binary ((8 - len % 8) % 8) 0 → len ≡ length bits → new ≡ old ++ listed_bits bits
+listed_written old first second new bits len a b c size =
+    let few : (8 - len % 8) % 8 ≤ 64 = omega arith in
+    c ∙ ap (λ l. l ++ binary ((8 - len % 8) % 8) 0) (b ∙ ap (λ l. l ++ bits) a ∙ append_assoc old (binary 64 len) bits)
+    ∙ append_assoc old (binary 64 len ++ bits) (binary ((8 - len % 8) % 8) 0)
+    ∙ ap (λ l. old ++ ((binary 64 len ++ bits) ++ l)) (zeros_of ((8 - len % 8) % 8) few)
+    ∙ ap (λ k. old ++ ((binary 64 k ++ bits) ++ replicate ((8 - k % 8) % 8) false)) size

@@ -1,0 +1,92 @@
+-- Two's complement: which number some digits stand for.
+use Rattle.std.proofs.Common.{◌≡◌, ℕ, zero, suc, ◌+◌, ◌-◌, ◌*◌, ◌/◌, ◌%◌, ◌^◌, ◌<◌, ◌≤◌, refl, sym, ◌∙◌, ap, subst, inl, inr, arith}
+use Rattle.std.specs.Prelude.{ℤ, pos, negsuc, ◌-ℤ◌}
+use Rattle.std.specs.Int.{w64, cast_unsigned}
+use Rattle.std.proofs.Math.Pow.{pow_pos, pow_mono}
+use Rattle.std.proofs.Math.Nat.{mod-eq_of_lt, div-lt_iff_lt-mul, le-div_iff_mul-le}
+use Rattle.std.proofs.lemmas.Bool.{cases_lt, lt-ltb, le-ltb}
+use Rattle.std.proofs.lemmas.Nat.{div-mul-add, mod-mul-add, pow-add}
+use Rattle.bit_addressing.specs.Row.{binary, number_bits}
+use Rattle.bit_streams.proofs.Lists.{binary_low}
+use Rattle.bit_streams.proofs.Turned.{bits_low}
+use Rattle.bit_streams.specs.Signed.{IsSigned, signed_of}
+
+-- the two halves of the numbers of n digits
+pub halves : (n : ℕ) → 0 < n → 2 ^ n ≡ 2 ^ (n - 1) * 2
+halves n some = ap (λ k. 2 ^ k) (let e : n ≡ n - 1 + 1 = omega arith in e) ∙ pow-add 2 (n - 1) 1
+
+pub lower : (n x : ℕ) → x < 2 ^ (n - 1) → signed_of n x ≡ pos x
+lower n x h = rw (lt-ltb x (2 ^ (n - 1)) h) refl
+
+pub upper : (n x : ℕ) → 2 ^ (n - 1) ≤ x → signed_of n x ≡ negsuc (2 ^ n - 1 - x)
+upper n x h = rw (le-ltb x (2 ^ (n - 1)) h) refl
+
+one_less : (a m : ℕ) → 0 < a → (a - 1) * m + m ≡ a * m
+one_less zero m some = absurd (omega arith)
+one_less (suc a) m some = let e : suc a - 1 ≡ a = omega arith in rw e (omega arith)
+
+-- 2 ^ 64 less a number has the low digits of 2 ^ n less the number
+low_of_negative : (n m : ℕ) → n ≤ 64 → suc m ≤ 2 ^ n → (2 ^ 64 - suc m) % 2 ^ n ≡ 2 ^ n - suc m
+low_of_negative n m few h =
+    let whole : 2 ^ (64 - n) * 2 ^ n ≡ 2 ^ 64 = sym (pow-add 2 (64 - n) n) ∙ ap (λ e. 2 ^ e) (let e : 64 - n + n ≡ 64 = omega arith in e) in
+    let less = one_less (2 ^ (64 - n)) (2 ^ n) (pow_pos (64 - n)) in
+    let sum : (2 ^ (64 - n) - 1) * 2 ^ n + 2 ^ n ≡ 2 ^ 64 = less ∙ whole in
+    let is : 2 ^ 64 - suc m ≡ (2 ^ (64 - n) - 1) * 2 ^ n + (2 ^ n - suc m) = omega arith in
+    ap (λ k. k % 2 ^ n) is ∙ mod-mul-add (2 ^ (64 - n) - 1) (2 ^ n) (2 ^ n - suc m) (omega arith)
+
+-- a number of n digits is the one that its digits stand for
+pub signed_back : (n : ℕ) (x : ℤ) → 0 < n → n ≤ 64 → IsSigned n x → signed_of n (cast_unsigned w64 x % 2 ^ n) ≡ x
+signed_back n (pos m) some few is =
+    let half = halves n some in
+    let below = is.below in
+    let within : m < 2 ^ n = omega arith in
+    ap (signed_of n) (mod-eq_of_lt within) ∙ lower n m below
+signed_back n (negsuc m) some few is =
+    let half = halves n some in
+    let below = is.below in
+    let out : 2 ^ n - 1 - (2 ^ n - suc m) ≡ m = omega arith in
+    ap (signed_of n) (low_of_negative n m few (omega arith)) ∙ upper n (2 ^ n - suc m) (omega arith) ∙ ap negsuc out
+
+-- the digits of the number that x stands for are those of x, and it has n digits
+pub signed_digits : (n x : ℕ) → 0 < n → n ≤ 64 → x < 2 ^ n → (cast_unsigned w64 (signed_of n x) % 2 ^ n ≡ x) × IsSigned n (signed_of n x)
+signed_digits n x some few below =
+    let half = halves n some in
+    elim (cases_lt x (2 ^ (n - 1))) [
+      | inl l ↦ (ap (λ z. cast_unsigned w64 z % 2 ^ n) (lower n x l) ∙ mod-eq_of_lt below, subst (IsSigned n) (sym (lower n x l)) (record { below = l }))
+      | inr l ↦
+          let out : 2 ^ n - suc (2 ^ n - 1 - x) ≡ x = omega arith in (
+            ap (λ z. cast_unsigned w64 z % 2 ^ n) (upper n x l) ∙ low_of_negative n (2 ^ n - 1 - x) few (omega arith) ∙ out,
+            subst (IsSigned n) (sym (upper n x l)) (record { below = let h : 2 ^ n - 1 - x < 2 ^ (n - 1) = omega arith in h }),
+          )
+    ]
+
+-- the digits of the number that x stands for
+pub signed_same : (n x : ℕ) → 0 < n → n ≤ 64 → x < 2 ^ n → binary n (cast_unsigned w64 (signed_of n x)) ≡ binary n x
+signed_same n x some few below = sym (binary_low n (cast_unsigned w64 (signed_of n x))) ∙ ap (binary n) (signed_digits n x some few below).0
+
+pub signed_same_bits : (n x : ℕ) → 0 < n → n ≤ 64 → x < 2 ^ n → number_bits (cast_unsigned w64 (signed_of n x)) n ≡ number_bits x n
+signed_same_bits n x some few below = sym (bits_low n (cast_unsigned w64 (signed_of n x))) ∙ ap (λ k. number_bits k n) (signed_digits n x some few below).0
+
+-- which half a number is in, as code asks
+pub in_lower : (n x : ℕ) → x / 2 ^ (n - 1) ≡ 0 → x < 2 ^ (n - 1)
+in_lower n x none = let h = (div-lt_iff_lt-mul {k = 2 ^ (n - 1)} {x = x} {y = 1} (pow_pos (n - 1))).0 (omega arith) in omega arith
+
+pub in_upper : (n x : ℕ) → 0 < x / 2 ^ (n - 1) → 2 ^ (n - 1) ≤ x
+in_upper n x some = let h = (le-div_iff_mul-le {k = 2 ^ (n - 1)} {x = 1} {y = x} (pow_pos (n - 1))).0 (omega arith) in omega arith
+
+-- n digits that are all ones
+pub all_ones : (n : ℕ) → n ≤ 64 → 18446744073709551615 / 2 ^ (64 - n) ≡ 2 ^ n - 1
+all_ones n few =
+    let whole : 2 ^ n * 2 ^ (64 - n) ≡ 2 ^ 64 = sym (pow-add 2 n (64 - n)) ∙ ap (λ e. 2 ^ e) (let e : n + (64 - n) ≡ 64 = omega arith in e) in
+    let less = one_less (2 ^ n) (2 ^ (64 - n)) (pow_pos n) in
+    let some = pow_pos (64 - n) in
+    let is : 18446744073709551615 ≡ (2 ^ n - 1) * 2 ^ (64 - n) + (2 ^ (64 - n) - 1) = omega arith in
+    ap (λ k. k / 2 ^ (64 - n)) is ∙ div-mul-add (2 ^ n - 1) (2 ^ (64 - n)) (2 ^ (64 - n) - 1) (omega arith)
+
+pub lower_fits : (n x : ℕ) → n ≤ 64 → x < 2 ^ (n - 1) → x < 2 ^ 63
+lower_fits n x few h = let most = pow_mono {i = n - 1} {j = 63} (omega arith) in omega arith
+
+-- one less than the negative of a number
+pub below_zero : (m : ℕ) → negsuc 0 -ℤ pos m ≡ negsuc m
+below_zero zero = refl
+below_zero (suc m) = let e : 0 + m ≡ m = omega arith in ap (λ k. negsuc (suc k)) e

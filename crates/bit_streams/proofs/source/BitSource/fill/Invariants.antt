@@ -1,0 +1,6 @@
+use Rattle.std.proofs.Common.{◌*◌, ◌≤◌}
+use Rattle.bit_streams.specs.Streamed.{Stays}
+use Rattle.bit_streams.proofs.source.BitSource.fill.Given as goal
+
+abbrev pub invariant-loop : goal.invariant-loop
+invariant-loop g l = Stays l.fn.self.rest l.self.rest × (l.counter * 8 ≤ l.self.held)

@@ -1,0 +1,8 @@
+pub mod Streams
+pub mod Codes
+pub mod Signed
+pub mod Fields
+pub mod Examples
+pub mod Formats
+pub mod Header
+pub mod Streamed

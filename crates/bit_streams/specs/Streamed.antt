@@ -1,0 +1,60 @@
+-- Bits out of the bytes of a reader, and into those of a writer.
+use Rattle.std.specs.Prelude.{◌≡◌, ℕ, ◌^◌, ◌<◌, Bool, List, ◌++◌, Option, None, Some, ⊤, refl}
+use Rattle.std.specs.Option.{option_map}
+use Rattle.std.specs.Coded.{Coded, code_by, coded×, coded_list, coded_ℕ, coded_bool, coded_option}
+use Rattle.bit_addressing.specs.Row.{binary, row_of}
+
+-- what contracts see of a source: the bits that are left, where they are known, and how many of them were taken from its reader
+pub record Sourced : Type 0 where
+  pub rest : Option (List Bool)
+  pub held : ℕ
+
+-- such a value is stored as its parts
+abbrev pub sourced_code : Coded Sourced
+sourced_code = code_by (Option (List Bool) × ℕ) (coded× (coded_option (coded_list coded_bool)) coded_ℕ) (λ v. (v.rest, v.held)) (λ p. record { rest = p.0; held = p.1 }) (λ _. refl)
+
+-- the bits that are held as a number, and those of the bytes that are known to be left
+abbrev pub bits_left : (ℕ → ℕ → ℕ) → ℕ → ℕ → Option (List ℕ) → Option (List Bool)
+bits_left place held pending bytes = option_map (λ bs. binary held pending ++ row_of place 8 bs) bytes
+
+-- what always holds of a source: few bits are held, as a number of so many digits
+pub record IsHeldBack (held pending : ℕ) : Type 0 where
+  pub few : held < 72
+  pub small : pending < 2 ^ held
+
+-- known bytes lose their first, whose bits write the number x
+abbrev pub Loses : (ℕ → ℕ → ℕ) → Option (List ℕ) → Option (List ℕ) → ℕ → Type 0
+Loses place None new x = ⊤
+Loses place (Some xs) None x = ⊥
+Loses place (Some xs) (Some ys) x = row_of place 8 xs ≡ binary 8 x ++ row_of place 8 ys
+
+-- known bits stay
+abbrev pub Stays : Option (List Bool) → Option (List Bool) → Type 0
+Stays None new = ⊤
+Stays (Some xs) None = ⊥
+Stays (Some xs) (Some ys) = ys ≡ xs
+
+-- known bits lose these from the front
+abbrev pub Passes : Option (List Bool) → Option (List Bool) → List Bool → Type 0
+Passes None new bits = ⊤
+Passes (Some xs) None bits = ⊥
+Passes (Some xs) (Some ys) bits = xs ≡ bits ++ ys
+
+-- what contracts see of a sink: the bits that were written, where they are known, and how many of them its writer has not taken yet
+pub record Sunk : Type 0 where
+  pub list : Option (List Bool)
+  pub held : ℕ
+
+-- such a value is stored as its parts
+abbrev pub sunk_code : Coded Sunk
+sunk_code = code_by (Option (List Bool) × ℕ) (coded× (coded_option (coded_list coded_bool)) coded_ℕ) (λ v. (v.list, v.held)) (λ p. record { list = p.0; held = p.1 }) (λ _. refl)
+
+-- the bits of the bytes that are known to be held, and those of a number after them
+abbrev pub bits_made : (ℕ → ℕ → ℕ) → ℕ → ℕ → Option (List ℕ) → Option (List Bool)
+bits_made place held pending bytes = option_map (λ bs. row_of place 8 bs ++ binary held pending) bytes
+
+-- known bits gain these at the end
+abbrev pub Gains : Option (List Bool) → Option (List Bool) → List Bool → Type 0
+Gains None new bits = ⊤
+Gains (Some xs) None bits = ⊥
+Gains (Some xs) (Some ys) bits = ys ≡ xs ++ bits

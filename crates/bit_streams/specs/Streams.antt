@@ -1,0 +1,60 @@
+-- Readers and writers: what contracts see of them, and what always holds of their registers.
+use Rattle.std.specs.Prelude.{◌≡◌, ℕ, ◌+◌, ◌*◌, ◌^◌, ◌<◌, ◌≤◌, ◌↔◌, Bool, List, drop, length, slice_range, ◌-◌, refl, Result, Err, OnErr}
+use Rattle.std.specs.Coded.{Coded, code_by, coded×, coded_list, coded_ℕ, coded_bool}
+use Rattle.bit_addressing.specs.Row.{binary, words_for}
+use Rattle.bit_addressing.specs.declared.errors.GrowError.{GrowError}
+use Rattle.bit_addressing.specs.declared.errors.GrowError.TheVariants.{TooLong, OutOfMemory}
+use Rattle.bit_addressing.specs.declared.length.TheConstants.{MAX_BITS}
+
+-- what contracts see of a reader: the bits that are left, and how many it has passed
+pub record Reading : Type 0 where
+  pub rest : List Bool
+  pub position : ℕ
+
+-- such a value is stored as its parts
+abbrev pub reading_code : Coded Reading
+reading_code = code_by (List Bool × ℕ) (coded× (coded_list coded_bool) coded_ℕ) (λ v. (v.rest, v.position)) (λ p. record { rest = p.0; position = p.1 }) (λ _. refl)
+
+-- what contracts see of a writer: the bits that were written, and how many there is room for
+pub record Writing : Type 0 where
+  pub list : List Bool
+  pub capacity : ℕ
+
+abbrev pub writing_code : Coded Writing
+writing_code = code_by (List Bool × ℕ) (coded× (coded_list coded_bool) coded_ℕ) (λ v. (v.list, v.capacity)) (λ p. record { list = p.0; capacity = p.1 }) (λ _. refl)
+
+-- a reader passed n bits
+pub record Passed (n : ℕ) (old new : Reading) : Type 0 where
+  pub rest : new.rest ≡ drop n old.rest
+  pub position : new.position ≡ old.position + n
+  pub left : length new.rest + n ≡ length old.rest
+
+-- when a call that makes the list `wanted` bits long is refused: past MAX_BITS, and for memory only past the capacity; the list stays then
+pub record Refuses {A : Type 0} (result : Result A GrowError) (wanted : ℕ) (old new : Writing) : Type 0 where
+  pub too_long : (result ≡ Err TooLong) ↔ (MAX_BITS < wanted)
+  pub memory : result ≡ Err OutOfMemory → old.capacity < wanted
+  pub unchanged : OnErr result (new.list ≡ old.list)
+
+-- what always holds of a writer: after n whole words of w bits fewer than 64 bits wait in the register, as a number of `count` digits
+pub record IsPending (w n count pending : ℕ) : Type 0 where
+  pub few : count < 64
+  pub small : pending < 2 ^ count
+  pub fits : w * n + count ≤ MAX_BITS
+
+-- the highest `have` digits of a register are the items of a row from `from` on, and its other digits are 0
+pub record IsHeld (row : List Bool) (from have window : ℕ) : Type 0 where
+  pub number : ℕ
+  pub is : window ≡ number * 2 ^ (64 - have)
+  pub small : number < 2 ^ have
+  pub digits : binary have number ≡ slice_range row from (from + have)
+  pub few : have < 64
+
+-- what always holds of a reader over n words of w bits: what its register holds comes next in the words' row, and the rest after it
+pub record IsReading (row : List Bool) (w n start from end have window : ℕ) : Type 0 where
+  pub held : IsHeld row from have window
+  pub begins : start ≤ from
+  pub inside : from + have ≤ end
+  pub within : end ≤ w * n
+  pub few : end ≤ start + MAX_BITS
+  pub in_word : start < w
+  pub exact : n ≡ words_for w end

@@ -1,0 +1,113 @@
+//! LEB128: seven binary digits in a byte, the lowest first.
+ghost use Rattle.std.specs.Prelude.{◌≡◌, ℕ, ◌+◌, ◌*◌, ◌^◌, ◌<◌, ◌≤◌, ◌++◌, Bool, List, IfOk, OnErr, OnOk, Ok, length, take};
+ghost use Rattle.bit_addressing.specs.Row.{binary};
+ghost use Rattle.bit_streams.specs.Codes.{leb128, leb_bytes};
+
+use crate::codes::CodeError;
+use crate::reader::BitReader;
+use crate::writer::BitWriter;
+use bit_addressing::{BitOrder, BitStore, GrowError};
+
+impl<T: BitStore, O: BitOrder> BitWriter<T, O> {
+    /// Appends a number in LEB128, 1 to 10 bytes, each from its most significant bit on: seven digits, the lowest group
+    /// first, below a bit that says whether more follow. A refusal keeps what was written before.
+    ///
+    /// ```text
+    /// writer.write_leb128(300)?;       // appends the bytes 172, 2
+    /// ```
+    pub fn write_leb128(&mut self, x: u64) -> Result<(), GrowError>
+        ensures list { OnOk result (self.new.list ≡ self.old.list ++ leb128 x) }
+        ensures unchanged { OnErr result (self.new.list ≡ self.old.list) }
+        ensures capacity { self.old.capacity ≤ self.new.capacity }
+    {
+        let before = self.len();
+        match self.write_bytes(9, x) {
+            Ok(()) => Ok(()),
+            Err(why) => {
+                self.truncate(before);
+                Err(why)
+            }
+        }
+    }
+
+    // Appends the last byte.
+    fn write_last(&mut self, x: u64) -> Result<(), GrowError>
+        ensures list { OnOk result (self.new.list ≡ self.old.list ++ binary 8 x) }
+        ensures begins { take (length self.old.list) self.new.list ≡ self.old.list }
+        ensures capacity { self.old.capacity ≤ self.new.capacity }
+    {
+        match self.write(8, x) {
+            Ok(()) => Ok(()),
+            Err(why) => Err(why),
+        }
+    }
+
+    // Appends a number in at most `more + 1` bytes; after a refusal some of them may be there.
+    fn write_bytes(&mut self, more: u8, x: u64) -> Result<(), GrowError>
+        ensures list { OnOk result (self.new.list ≡ self.old.list ++ leb_bytes more x) }
+        ensures begins { take (length self.old.list) self.new.list ≡ self.old.list }
+        ensures capacity { self.old.capacity ≤ self.new.capacity }
+    {
+        if more == 0 {
+            return self.write_last(x);
+        }
+        if x < 128 {
+            return self.write_last(x);
+        }
+        match self.write(8, x % 128 + 128) {
+            Ok(()) => self.write_bytes(more - 1, x / 128),
+            Err(why) => Err(why),
+        }
+    }
+}
+
+impl<'a, T: BitStore, O: BitOrder> BitReader<'a, T, O> {
+    /// Reads a number in LEB128. `Ended` where the bits end before a last byte, `TooLong` where the number has more than 64
+    /// binary digits, `NotShortest` where a last byte of 0 follows another: then the reader stays where it is.
+    pub fn read_leb128(&mut self) -> Result<u64, CodeError>
+        ensures found { IfOk result (λ x. self.old.rest ≡ leb128 x ++ self.new.rest) }
+        ensures kept { OnErr result (self.new ≡ self.old) }
+        ensures back { (x : ℕ) → (more : List Bool) → x < 2 ^ 64 → self.old.rest ≡ leb128 x ++ more
+            → (result ≡ Ok x) × (self.new.rest ≡ more) }
+    {
+        let before = self.copied();
+        match self.read_bytes(9) {
+            Ok(x) => Ok(x),
+            Err(why) => {
+                *self = before;
+                Err(why)
+            }
+        }
+    }
+
+    // Reads a number in at most `most + 1` bytes; after an error the reader may be anywhere.
+    fn read_bytes(&mut self, most: u8) -> Result<u64, CodeError>
+        ensures found { IfOk result (λ x. self.old.rest ≡ leb_bytes most x ++ self.new.rest) }
+        ensures back { (x : ℕ) → (more : List Bool) → x < 2 ^ 64 → self.old.rest ≡ leb_bytes most x ++ more
+            → x < 2 ^ (8 + 7 * most) → (result ≡ Ok x) × (self.new.rest ≡ more) }
+    {
+        match self.read(8) {
+            None => Err(CodeError::Ended),
+            Some(byte) => {
+                if most == 0 {
+                    return Ok(byte);
+                }
+                if byte < 128 {
+                    return Ok(byte);
+                }
+                match self.read_bytes(most - 1) {
+                    Err(why) => Err(why),
+                    Ok(upper) => {
+                        if upper == 0 {
+                            return Err(CodeError::NotShortest);
+                        }
+                        if upper > u64::MAX / 128 {
+                            return Err(CodeError::TooLong);
+                        }
+                        Ok(upper * 128 + byte % 128)
+                    }
+                }
+            }
+        }
+    }
+}

@@ -1,0 +1,65 @@
+//! The unary code: a number of zeros and a one.
+ghost use Rattle.std.specs.Prelude.{◌≡◌, ℕ, ◌+◌, ◌≤◌, ◌++◌, [], ◌∷◌, Bool, List, IfSome, None, OnErr, OnOk, Some, false, length, replicate};
+ghost use Rattle.bit_streams.specs.Codes.{unary};
+
+use crate::reader::BitReader;
+use crate::writer::BitWriter;
+use bit_addressing::{BitOrder, BitStore, GrowError};
+
+impl<T: BitStore, O: BitOrder> BitWriter<T, O> {
+    /// Appends `zeros` zeros and a one. A refusal keeps what was written before.
+    ///
+    /// ```text
+    /// writer.write_unary(3)?;       // appends 0001
+    /// ```
+    pub fn write_unary(&mut self, zeros: usize) -> Result<(), GrowError>
+        ensures list { OnOk result (self.new.list ≡ self.old.list ++ unary zeros) }
+        ensures unchanged { OnErr result (self.new.list ≡ self.old.list) }
+        ensures capacity { self.old.capacity ≤ self.new.capacity }
+    {
+        let before = self.len();
+        for _ in 0..zeros / 64 {
+            match self.write(64, 0) {
+                Ok(()) => {}
+                Err(why) => {
+                    self.truncate(before);
+                    return Err(why);
+                }
+            }
+        }
+        match self.write((zeros % 64) as u8 + 1, 1) {
+            Ok(()) => Ok(()),
+            Err(why) => {
+                self.truncate(before);
+                Err(why)
+            }
+        }
+    }
+}
+
+impl<'a, T: BitStore, O: BitOrder> BitReader<'a, T, O> {
+    /// Reads zeros and the one after them, and returns how many zeros there were. None exactly where no bit that is left is
+    /// a one, and then the reader stays where it is.
+    ///
+    /// ```text
+    /// of 0001101: reader.read_unary() == Some(3)
+    /// ```
+    pub fn read_unary(&mut self) -> Option<usize>
+        ensures found { IfSome result (λ zeros. self.old.rest ≡ unary zeros ++ self.new.rest) }
+        ensures none { result ≡ None → self.old.rest ≡ replicate (length self.old.rest) false }
+        ensures kept { result ≡ None → self.new ≡ self.old }
+        ensures back { (zeros : ℕ) → (more : List Bool) → self.old.rest ≡ unary zeros ++ more
+            → (result ≡ Some zeros) × (self.new.rest ≡ more) }
+    {
+        let before = self.copied();
+        for zeros in 0..self.remaining() {
+            match self.read_bit() {
+                Some(false) => {}
+                Some(true) => return Some(zeros),
+                None => {}
+            }
+        }
+        *self = before;
+        None
+    }
+}

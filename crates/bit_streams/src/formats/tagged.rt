@@ -1,0 +1,122 @@
+//! Tagged values: a tag, a length, and as many bytes.
+ghost use Rattle.std.specs.Prelude.{◌≡◌, ℕ, ◌+◌, ◌*◌, ◌%◌, ◌^◌, ◌<◌, ◌++◌, Bool, List, Err, IfOk, IsOk, OnErr, OnOk, length};
+ghost use Rattle.bit_addressing.specs.Row.{binary};
+ghost use Rattle.bit_slice.specs.BitSlice.{list_of};
+ghost use Rattle.bit_streams.specs.Formats.{tagged_bits};
+ghost use Rattle.bit_streams.specs.declared.formats.tagged.TaggedFault.TheVariants as faults;
+
+use crate::reader::BitReader;
+use crate::register::joined;
+use crate::writer::BitWriter;
+use bit_addressing::{BitOrder, BitStore, GrowError};
+use bit_slice::BitSlice;
+
+/// Why no tagged value was read: the reader stays where it was.
+#[derive(Clone, Copy, PartialEq, Eq, Debug)]
+pub enum TaggedFault {
+    /// The bits end inside the value.
+    Ended,
+    /// The tag is 0, which is reserved.
+    ReservedTag,
+}
+
+/// A value with a tag that says what it is: 8 bits of tag, 16 bits with how many bytes there are, and these bytes.
+#[derive(Drop)]
+pub struct Tagged<'a, T: BitStore, O: BitOrder> {
+    /// What the value is; not 0.
+    pub tag: u8,
+    /// The value, a multiple of 8 bits.
+    pub value: BitSlice<'a, T, O>,
+}
+
+impl<T: BitStore, O: BitOrder> BitWriter<T, O> {
+    /// Appends a tagged value. A refusal keeps what was written before. Requires that the tag is not 0, and that the value
+    /// is whole bytes, fewer than 65536.
+    pub fn write_tagged<U: BitStore, P: BitOrder>(
+        &mut self,
+        tag: u8,
+        value: BitSlice<'_, U, P>,
+    ) -> Result<(), GrowError>
+        requires tag { 0 < tag }
+        requires whole { length (list_of value) % 8 ≡ 0 }
+        requires few { length (list_of value) < 8 * 2 ^ 16 }
+        ensures list { OnOk result (self.new.list ≡ self.old.list ++ tagged_bits tag (list_of value.entry)) }
+        ensures unchanged { OnErr result (self.new.list ≡ self.old.list) }
+    {
+        let before = self.len();
+        match self.write_front(tag, value.len() / 8) {
+            Ok(()) => {}
+            Err(why) => return Err(why),
+        }
+        match self.write_bits(value) {
+            Ok(()) => Ok(()),
+            Err(why) => {
+                self.truncate(before);
+                Err(why)
+            }
+        }
+    }
+
+    // Appends a tag and how many bytes there are, as one number.
+    fn write_front(&mut self, tag: u8, bytes: usize) -> Result<(), GrowError>
+        requires { bytes < 2 ^ 16 }
+        ensures list { OnOk result (self.new.list ≡ self.old.list ++ (binary 8 tag ++ binary 16 bytes)) }
+        ensures unchanged { OnErr result (self.new.list ≡ self.old.list) }
+    {
+        match self.write(24, joined(tag as u64, 8, 16, bytes as u64)) {
+            Ok(()) => Ok(()),
+            Err(why) => Err(why),
+        }
+    }
+}
+
+impl<'a, T: BitStore, O: BitOrder> BitReader<'a, T, O> {
+    /// Reads a tagged value, without a copy of it.
+    pub fn read_tagged(&mut self) -> Result<Tagged<'a, T, O>, TaggedFault>
+        ensures found { IfOk result (λ it. self.old.rest ≡ tagged_bits it.tag (list_of it.value) ++ self.new.rest) }
+        ensures tag { IfOk result (λ it. 0 < it.tag) }
+        ensures reserved { result ≡ Err faults.ReservedTag → (more : List Bool) × (self.old.rest ≡ binary 8 0 ++ more) }
+        ensures kept { OnErr result (self.new ≡ self.old) }
+        ensures back { (tag : ℕ) → (value more : List Bool) → 0 < tag → tag < 2 ^ 8 → length value % 8 ≡ 0
+            → length value < 8 * 2 ^ 16 → self.old.rest ≡ tagged_bits tag value ++ more
+            → IsOk result × IfOk result (λ it. (it.tag ≡ tag) × (list_of it.value ≡ value)) × (self.new.rest ≡ more) }
+    {
+        let before = self.copied();
+        match self.tagged_parts() {
+            Ok(it) => Ok(it),
+            Err(why) => {
+                *self = before;
+                Err(why)
+            }
+        }
+    }
+
+    // What `read_tagged` returns; after an error the reader may be anywhere.
+    fn tagged_parts(&mut self) -> Result<Tagged<'a, T, O>, TaggedFault>
+        ensures found { IfOk result (λ it. self.old.rest ≡ tagged_bits it.tag (list_of it.value) ++ self.new.rest) }
+        ensures tag { IfOk result (λ it. 0 < it.tag) }
+        ensures reserved { result ≡ Err faults.ReservedTag → (more : List Bool) × (self.old.rest ≡ binary 8 0 ++ more) }
+        ensures back { (tag : ℕ) → (value more : List Bool) → 0 < tag → tag < 2 ^ 8 → length value % 8 ≡ 0
+            → length value < 8 * 2 ^ 16 → self.old.rest ≡ tagged_bits tag value ++ more
+            → IsOk result × IfOk result (λ it. (it.tag ≡ tag) × (list_of it.value ≡ value)) × (self.new.rest ≡ more) }
+    {
+        match self.read(8) {
+            None => Err(TaggedFault::Ended),
+            Some(tag) => {
+                if tag == 0 {
+                    return Err(TaggedFault::ReservedTag);
+                }
+                match self.read(16) {
+                    None => Err(TaggedFault::Ended),
+                    Some(bytes) => match self.read_part(8 * bytes as usize) {
+                        None => Err(TaggedFault::Ended),
+                        Some(value) => Ok(Tagged {
+                            tag: tag as u8,
+                            value,
+                        }),
+                    },
+                }
+            }
+        }
+    }
+}

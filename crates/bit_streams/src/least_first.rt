@@ -1,0 +1,93 @@
+//! Numbers that are written with their least significant digit first.
+ghost use Rattle.std.specs.Prelude.{◌≡◌, ℕ, ◌+◌, ◌^◌, ◌<◌, ◌≤◌, ◌++◌, ◌↔◌, [], Bool, List, IfSome, None, OnOk, Some, length, take};
+ghost use Rattle.bit_addressing.specs.Row.{binary, number_bits};
+ghost use Rattle.bit_streams.specs.Streams.{Passed, Refuses};
+
+use crate::reader::BitReader;
+use crate::writer::BitWriter;
+use bit_addressing::{BitOrder, BitStore, GrowError};
+
+/// The `n` lowest digits of a number in reverse: its digit `i` is the digit `n - 1 - i` of `x`.
+#[inline(always)]
+fn reversed_some(n: u8, x: u64) -> u64
+    requires some { 0 < n }
+    requires few { n ≤ 64 }
+    ensures written { binary n result ≡ number_bits x n }
+    ensures read { number_bits result n ≡ binary n x }
+    ensures below { result < 2 ^ n }
+{
+    x.reverse() >> (64 - n)
+}
+
+impl<T: BitStore, O: BitOrder> BitWriter<T, O> {
+    /// Appends the `n` lowest binary digits of a number, the least significant first. Refused like `write`. Requires that
+    /// `n` is at most 64.
+    #[inline(always)]
+    pub fn write_le(&mut self, n: u8, x: u64) -> Result<(), GrowError>
+        requires { n ≤ 64 }
+        ensures list { OnOk result (self.new.list ≡ self.old.list ++ number_bits x n) }
+        ensures len { OnOk result (length self.new.list ≡ length self.old.list + n) }
+        ensures refusal { Refuses result (length self.old.list + n) self.old self.new }
+        ensures capacity { self.old.capacity ≤ self.new.capacity }
+    {
+        match self.write(n, reversed(n, x)) {
+            Ok(()) => Ok(()),
+            Err(why) => Err(why),
+        }
+    }
+}
+
+impl<'a, T: BitStore, O: BitOrder> BitReader<'a, T, O> {
+    /// Reads the number that the next `n` bits write in binary, the least significant digit first. Requires that `n` is at
+    /// most 64; where it is 0 the number is 0.
+    ///
+    /// ```text
+    /// of 01101001: reader.read_le(3) == Some(6)
+    /// ```
+    #[inline(always)]
+    pub fn read_le(&mut self, n: u8) -> Option<u64>
+        requires { n ≤ 64 }
+        ensures none { (result ≡ None) ↔ (length self.old.rest < n) }
+        ensures digits { IfSome result (λ x. self.old.rest ≡ number_bits x n ++ self.new.rest) }
+        ensures below { IfSome result (λ x. x < 2 ^ n) }
+        ensures passed { IfSome result (λ _. Passed n self.old self.new) }
+        ensures kept { result ≡ None → self.new ≡ self.old }
+        ensures back { (x : ℕ) → (more : List Bool) → self.old.rest ≡ number_bits x n ++ more → x < 2 ^ n
+            → (result ≡ Some x) × (self.new.rest ≡ more) }
+        ensures whole { (x : ℕ) → self.old.rest ≡ number_bits x n → x < 2 ^ n
+            → (result ≡ Some x) × (self.new.rest ≡ []) }
+    {
+        match self.read(n) {
+            None => None,
+            Some(x) => Some(reversed(n, x)),
+        }
+    }
+
+    /// The number that `read_le` would read; the reader stays where it is. Requires that `n` is at most 64.
+    #[inline(always)]
+    pub fn peek_le(&self, n: u8) -> Option<u64>
+        requires { n ≤ 64 }
+        ensures none { (result ≡ None) ↔ (length self.now.rest < n) }
+        ensures digits { IfSome result (λ x. number_bits x n ≡ take n self.now.rest) }
+        ensures below { IfSome result (λ x. x < 2 ^ n) }
+    {
+        match self.peek(n) {
+            None => None,
+            Some(x) => Some(reversed(n, x)),
+        }
+    }
+}
+
+/// Like `reversed_some`, and 0 where there is no digit.
+#[inline(always)]
+fn reversed(n: u8, x: u64) -> u64
+    requires { n ≤ 64 }
+    ensures written { binary n result ≡ number_bits x n }
+    ensures read { number_bits result n ≡ binary n x }
+    ensures below { result < 2 ^ n }
+{
+    if n == 0 {
+        return 0;
+    }
+    reversed_some(n, x)
+}

@@ -1,0 +1,153 @@
+//! What the writer keeps in its register, and the blocks of 64 bits that it appends to its words.
+ghost use Rattle.std.specs.Prelude.{◌≡◌, if◌then◌else◌, ◌+◌, ◌-◌, ◌*◌, ◌/◌, ◌^◌, ◌<◌, ◌≤◌, ◌%◌, ◌++◌, [], ◌∷◌, OnErr, OnOk, length, replicate, slice_range, take, vec_capacity};
+ghost use Rattle.bit_addressing.specs.Row.{binary, row_of};
+ghost use Rattle.bit_addressing.specs.Typed.{row};
+
+use bit_addressing::{BitOrder, BitStore};
+use bit_rows::{cut_words_in_vec, read_binary};
+use std::alloc::AllocError;
+use std::mem::replace;
+
+/// The number of one digit that a bit writes.
+#[inline(always)]
+pub(crate) fn digit_of(bit: bool) -> u64
+    ensures digits { binary 1 result ≡ bit ∷ [] }
+    ensures value { result ≡ (if bit then 1 else 0) }
+{
+    if bit { 1 } else { 0 }
+}
+
+/// A number each of whose `n` lowest digits is `bit`.
+pub(crate) fn run_of(bit: bool, n: u8) -> u64
+    requires { n ≤ 64 }
+    ensures { binary n result ≡ replicate n bit }
+{
+    if bit { u64::MAX } else { 0 }
+}
+
+/// `pending` of `count` digits with the `n` lowest digits of `x` after them.
+#[inline(always)]
+pub(crate) fn joined(pending: u64, count: u8, n: u8, x: u64) -> u64
+    requires few { n < 64 }
+    requires all { count + n ≤ 64 }
+    requires small { pending < 2 ^ count }
+    ensures digits { binary (count + n) result ≡ binary count pending ++ binary n x }
+    ensures below { result < 2 ^ (count + n) }
+    ensures value { result ≡ pending * 2 ^ n + x % 2 ^ n }
+{
+    (pending << n) + x % (1 << n)
+}
+
+/// `pending` of `count` digits, filled up to 64 with the lowest digits of `high`.
+#[inline(always)]
+pub(crate) fn filled(pending: u64, count: u8, high: u64) -> u64
+    requires few { count < 64 }
+    requires small { pending < 2 ^ count }
+    ensures { binary 64 result ≡ binary count pending ++ binary (64 - count) high }
+{
+    if count == 0 {
+        return high;
+    }
+    joined(pending, count, 64 - count, high)
+}
+
+/// The word of 64 bits that shows the number in this order, its most significant digit first.
+#[inline(always)]
+fn block_of<O: BitOrder>(number: u64) -> u64
+    ensures { row_of O.place 64 (result ∷ []) ≡ binary 64 number }
+{
+    O::from_lsb0(number.reverse())
+}
+
+/// Word `i` of those that a block of 64 bits is made of.
+#[inline(always)]
+fn word_of_block<T: BitStore, O: BitOrder>(block: u64, i: u8) -> T
+    requires { i < 64 / T.BITS }
+    ensures { row T.BitStore O.BitOrder (result ∷ [])
+        ≡ slice_range (row_of O.place 64 (block ∷ [])) (i * T.BITS) (i * T.BITS + T.BITS) }
+{
+    T::from_u64(O::unpack::<T>(block) >> (i * T::BITS))
+}
+
+/// Makes room for `more` words. Where that takes memory the words are moved out and back, so that the path that takes
+/// none keeps them in registers.
+#[inline(always)]
+pub(crate) fn make_room<T: BitStore>(words: &mut Vec<T>, more: usize) -> Result<(), AllocError>
+    ensures items { words.new.items ≡ words.old.items }
+    ensures room { OnOk result (length words.new.items + more ≤ vec_capacity words.new) }
+    ensures capacity { vec_capacity words.old ≤ vec_capacity words.new }
+    ensures full { OnErr result (vec_capacity words.old < length words.old.items + more) }
+{
+    if more <= words.capacity() - words.len() {
+        return Ok(());
+    }
+    let alloc = *words.allocator();
+    let (grown, done) = grown_by(replace(words, Vec::new(alloc)), more);
+    let _empty = replace(words, grown);
+    done
+}
+
+/// The words with room for `more` of them, or as they were.
+#[cold]
+#[inline(never)]
+fn grown_by<T: BitStore>(words: Vec<T>, more: usize) -> (Vec<T>, Result<(), AllocError>)
+    ensures items { result.0.items ≡ words.items }
+    ensures room { OnOk result.1 (length result.0.items + more ≤ vec_capacity result.0) }
+    ensures capacity { vec_capacity words ≤ vec_capacity result.0 }
+    ensures full { OnErr result.1 (vec_capacity words < length words.items + more) }
+{
+    let mut words = words;
+    let done = words.reserve(more);
+    (words, done)
+}
+
+/// Appends the 64 digits of a number as whole words, the most significant digit first.
+#[inline(always)]
+pub(crate) fn push_block<T: BitStore, O: BitOrder>(
+    words: &mut Vec<T>,
+    number: u64,
+) -> Result<(), AllocError>
+    ensures bits { OnOk result (row T.BitStore O.BitOrder words.new.items
+        ≡ row T.BitStore O.BitOrder words.old.items ++ binary 64 number) }
+    ensures size { OnOk result (T.BITS * length words.new.items ≡ T.BITS * length words.old.items + 64) }
+    ensures capacity { vec_capacity words.old ≤ vec_capacity words.new }
+    ensures full { OnErr result (T.BITS * vec_capacity words.old < T.BITS * length words.old.items + 64) }
+    ensures unchanged { OnErr result (words.new.items ≡ words.old.items) }
+{
+    let each = 64 / T::BITS;
+    make_room(words, each as usize)?;
+    let block = block_of::<O>(number);
+    for i in 0..each {
+        words.push_reserved(word_of_block::<T, O>(block, i));
+    }
+    Ok(())
+}
+
+/// The first `n` of a number's `count` digits.
+pub(crate) fn front_of(pending: u64, count: u8, n: u8) -> u64
+    requires few { count < 64 }
+    requires inside { n ≤ count }
+    requires small { pending < 2 ^ count }
+    ensures digits { binary n result ≡ take n (binary count pending) }
+    ensures below { result < 2 ^ n }
+{
+    pending >> (count - n)
+}
+
+/// Cuts the words to blocks of 64 bits below `n`, and returns the bits between these blocks and `n`: a number, and how many
+/// digits it has.
+pub(crate) fn cut_at<T: BitStore, O: BitOrder>(words: &mut Vec<T>, n: usize) -> (u64, u8)
+    requires { n ≤ T.BITS * length words.old.items }
+    ensures list { row T.BitStore O.BitOrder words.new.items ++ binary result.1 result.0
+        ≡ take n (row T.BitStore O.BitOrder words.old.items) }
+    ensures few { result.1 < 64 }
+    ensures below { result.0 < 2 ^ result.1 }
+    ensures shorter { T.BITS * length words.new.items + result.1 ≡ n }
+    ensures capacity { vec_capacity words.new ≡ vec_capacity words.old }
+{
+    let count = (n % 64) as u8;
+    let at = n - count as usize;
+    let pending = read_binary::<T, O>(words.as_slice(), at, count);
+    cut_words_in_vec::<T, O>(words, at);
+    (pending, count)
+}

@@ -1,6 +1,6 @@
 -- What the trait's laws say of an array.
 use Rattle.std.specs.Prelude.{◌≡◌, ℕ, ◌+◌, ◌*◌, List, length, map, slice_range}
-use Rattle.std.proofs.Common.{◌-◌, arith, ◌∙◌, ap, sym}
+use Rattle.std.proofs.Common.{◌-◌, arith, ap, sym}
 use Rattle.std.proofs.lemmas.List.{take_all}
 use Rattle.bit_addressing.specs.Row.{row_of}
 use Rattle.bit_addressing.proofs.Typed.{length_row}

@@ -1,6 +1,6 @@
 -- Words of a view, and of a part of it.
-use Rattle.std.proofs.Common.{◌≡◌, ℕ, ◌+◌, ◌-◌, ◌*◌, ◌/◌, ◌%◌, ◌<◌, ◌≤◌, Bool, List, ◌++◌, map, length, take, drop, slice_range, sym, ◌∙◌, ap, subst, arith, rules, mul_comm}
-use Rattle.std.proofs.lemmas.List.{places, same_lists, take_all, take-append-le, length-append, drop-take, take-take, drop_at, take-append-drop, length-take-le, take-map, drop-map, length-map, length-drop, length-take}
+use Rattle.std.proofs.Common.{◌≡◌, ℕ, ◌+◌, ◌-◌, ◌*◌, ◌/◌, ◌%◌, ◌<◌, ◌≤◌, Bool, List, map, length, take, drop, slice_range, sym, ◌∙◌, ap, subst, arith, rules, mul_comm}
+use Rattle.std.proofs.lemmas.List.{places, same_lists, take_all, drop-take, take-take, drop_at, take-append-drop, length-take-le, take-map, drop-map, length-map, length-drop, length-take}
 use Rattle.std.proofs.Math.Nat.{mul-le-mul_left, le_of_mul-le-mul_left, le-mul_of_pos_right, lt_of_mul-lt-mul_left}
 use Rattle.std.proofs.lemmas.Nat.{div-add-mod'}
 use Rattle.std.specs.Prelude.{IfSome, Option, Some, None}

@@ -9,7 +9,7 @@ ghost use Rattle.bit_streams.specs.Streams.{Refuses};
 
 use crate::register::{cut_at, digit_of, filled, front_of, joined, make_room, push_block, run_of};
 use bit_addressing::{BitOrder, BitStore, GrowError, MAX_BITS, elts};
-use bit_containers::BitVec;
+use bit_containers::{BitList, BitVec};
 use bit_slice::BitSlice;
 use std::alloc::Global;
 use std::marker::{Model, PhantomData};

@@ -1,4 +1,4 @@
-use Rattle.std.proofs.Common.{◌+◌, length, slice_range, ◌∙◌, ap, arith, rules}
+use Rattle.std.proofs.Common.{◌+◌, slice_range, ◌∙◌, ap, arith}
 use Rattle.bit_slice.specs.BitSlice.{list_of}
 use Rattle.bit_addressing.specs.Row.{put}
 use Rattle.bit_addressing.specs.Typed.{row}

@@ -1,4 +1,4 @@
-use Rattle.std.proofs.Common.{◌+◌, length, slice_range, sym, ◌∙◌, ap, rules}
+use Rattle.std.proofs.Common.{◌+◌, slice_range, sym, ◌∙◌, ap}
 use Rattle.bit_addressing.specs.Row.{put}
 use Rattle.bit_addressing.specs.Typed.{row}
 use Rattle.bit_slice.specs.BitSlice.{list_of}

@@ -1,4 +1,4 @@
-use Rattle.std.proofs.Common.{length, not, slice_range, ◌∙◌, ap, arith, rules}
+use Rattle.std.proofs.Common.{not, slice_range, ◌∙◌, arith}
 use Rattle.std.proofs.lemmas.List.{length-map}
 use Rattle.bit_slice.specs.Overwritten.{list_in}
 use Rattle.bit_slice.proofs.Parts.{in_row}

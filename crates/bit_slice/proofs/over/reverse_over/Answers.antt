@@ -1,9 +1,7 @@
-use Rattle.std.proofs.Common.{◌≡◌, length, reverse, ◌∙◌, ap, rules}
+use Rattle.std.proofs.Common.{◌≡◌, length, reverse, ◌∙◌}
 use Rattle.std.proofs.lemmas.List.{length-reverse}
 use Rattle.bit_slice.specs.Overwritten.{list_in}
 use Rattle.bit_slice.proofs.Parts.{shown_length}
-use Rattle.bit_addressing.specs.Row.{put}
-use Rattle.bit_addressing.specs.Typed.{row}
 use Rattle.bit_slice.proofs.Overwritten.{rewritten_in}
 use Rattle.bit_slice.proofs.over.reverse_over.Goals as goal
 

@@ -1,9 +1,7 @@
-use Rattle.std.proofs.Common.{◌≡◌, ◌++◌, false, length, drop, replicate, arith, ap, ◌∙◌, rules}
+use Rattle.std.proofs.Common.{◌≡◌, ◌++◌, false, length, drop, replicate, arith}
 use Rattle.std.proofs.lemmas.List.{length-append, length-drop, length-replicate}
 use Rattle.bit_slice.specs.Overwritten.{list_in}
 use Rattle.bit_slice.proofs.Parts.{shown_length}
-use Rattle.bit_addressing.specs.Row.{put}
-use Rattle.bit_addressing.specs.Typed.{row}
 use Rattle.bit_slice.proofs.Overwritten.{rewritten_in}
 use Rattle.bit_slice.proofs.over.shift_left_over.Goals as goal
 

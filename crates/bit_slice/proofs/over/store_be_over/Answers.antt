@@ -1,7 +1,5 @@
-use Rattle.std.proofs.Common.{ap, length, ◌∙◌, rules}
-use Rattle.bit_addressing.specs.Row.{binary, put}
+use Rattle.bit_addressing.specs.Row.{binary}
 use Rattle.bit_rows.proofs.Binary.{length-binary}
-use Rattle.bit_addressing.specs.Typed.{row}
 use Rattle.bit_slice.proofs.Overwritten.{rewritten_in}
 use Rattle.bit_slice.proofs.over.store_be_over.Goals as goal
 

@@ -1,7 +1,5 @@
-use Rattle.std.proofs.Common.{ap, length, ◌∙◌, rules}
-use Rattle.bit_addressing.specs.Row.{number_bits, put}
+use Rattle.bit_addressing.specs.Row.{number_bits}
 use Rattle.bit_rows.proofs.Binary.{length-number_bits}
-use Rattle.bit_addressing.specs.Typed.{row}
 use Rattle.bit_slice.proofs.Overwritten.{rewritten_in}
 use Rattle.bit_slice.proofs.over.store_le_over.Goals as goal
 

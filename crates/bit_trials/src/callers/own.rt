@@ -1,96 +1,97 @@
 //! A list of bits of a caller's own: what it has by implementing the two traits.
-ghost use Rattle.std.specs.Prelude.{◌≡◌, IfSome, Some, not, set, slice_get, slice_index_or, true, false, ◌<◌};
-ghost use Rattle.bit_addressing.specs.Typed.{row as row_in};
+ghost use Rattle.std.specs.Prelude.{◌≡◌, ◌<◌, IfSome, Some, false, length, not, set, slice_get, slice_index_or, true};
 
-use crate::common::check;
-use bit_addressing::{BitOrder, BitStore};
-use bit_containers::{BitList, BitListMut, BitSlice, Lsb0};
+use crate::common::{check, of, ok};
+use bit_containers::boxed::BitBox;
+use bit_containers::{BitList, BitListMut, BitOrder, BitSlice, BitStore, Lsb0};
 
-// Sixteen switches in two bytes.
+/// Which fields of a record are there.
 #[derive(Drop)]
-pub(crate) struct Switches {
-    bytes: [u8; 2],
+pub(crate) struct Presence<T: BitStore, O: BitOrder> {
+    fields: BitBox<T, O>,
 }
 
-impl BitList for Switches {
-    type Store = u8;
+impl<T: BitStore, O: BitOrder> BitList for Presence<T, O> {
+    type Store = T;
 
-    type Order = Lsb0;
+    type Order = O;
 
-    ghost head = { λ _. 0 };
+    ghost head = { λ p. p.fields.head };
 
-    ghost len = { λ _. 16 };
+    ghost len = { λ p. length p.fields.list };
 
-    ghost list = { λ s. row_in ⟦<u8 as BitStore>⟧ ⟦<Lsb0 as BitOrder>⟧ s.bytes };
+    ghost list = { λ p. p.fields.list };
 
-    ghost words = { λ s. s.bytes };
+    ghost words = { λ p. p.fields.words };
 
-    ghost bits = { λ s. row_in ⟦<u8 as BitStore>⟧ ⟦<Lsb0 as BitOrder>⟧ s.bytes };
+    ghost bits = { λ p. p.fields.row };
 
-    fn as_bitslice(&self) -> BitSlice<'_, u8, Lsb0> {
-        let view = BitSlice::from_slice(&self.bytes);
-        // Proof only: the length of the list, and how many words there are.
-        let _len = view.len();
-        let _words = view.as_raw_slice();
-        view
+    fn as_bitslice(&self) -> BitSlice<'_, T, O> {
+        // Proof only: the row is that of the words.
+        let _words = self.fields.as_raw_slice();
+        self.fields.as_bitslice()
     }
 }
 
-impl BitListMut for Switches {
+impl<T: BitStore, O: BitOrder> BitListMut for Presence<T, O> {
     ghost use Rattle.std.specs.Prelude.{refl};
-    ghost use Rattle.bit_array.specs.Lists.{whole_shown};
+    ghost use Rattle.bit_slice.specs.Held.{with_words};
+    ghost use Rattle.bit_slice.proofs.Kept.{kept_words, kept_row, kept_list, kept_len, kept_count};
 
-    ghost count = { λ _. 2 };
+    ghost count = { λ p. length p.fields.words };
 
-    ghost capacity = { λ _. 16 };
+    ghost capacity = { λ p. p.fields.capacity };
 
     ghost loan = { λ _. 0 };
 
-    ghost rewritten = { λ s ws. record { bytes = ws } };
+    ghost rewritten = { λ p ws. record { fields = with_words T.BitStore O.BitOrder p.fields ws } };
 
-    fn as_raw_mut_slice(&mut self) -> &mut [u8] {
-        &mut self.bytes
+    fn as_raw_mut_slice(&mut self) -> &mut [T] {
+        self.fields.as_raw_mut_slice()
     }
 
-    ghost words_rewritten = { λ s ws e. refl };
+    ghost words_rewritten = { λ p ws e. kept_words T.value O.place T.BITS p.fields.words p.fields.head p.fields.list ws e };
 
-    ghost bits_rewritten = { λ s ws e. refl };
+    ghost bits_rewritten = { λ p ws e. kept_row T.value O.place T.BITS p.fields.words p.fields.head p.fields.list ws e };
 
-    ghost list_rewritten = { λ s ws e f. whole_shown ⟦<u8 as BitStore>⟧.value ⟦<Lsb0 as BitOrder>⟧.place 8 ws 2 e };
+    ghost list_rewritten = { λ p ws e f. kept_list T.value O.place T.BITS p.fields.words p.fields.head p.fields.list ws e f };
 
-    ghost head_rewritten = { λ s ws. refl };
+    ghost head_rewritten = { λ p ws. refl };
 
-    ghost len_rewritten = { λ s ws. refl };
+    ghost len_rewritten = { λ p ws. kept_len T.value O.place T.BITS p.fields.words p.fields.head p.fields.list ws };
 
-    ghost count_rewritten = { λ s ws. refl };
+    ghost count_rewritten = { λ p ws. kept_count T.value O.place T.BITS p.fields.words p.fields.head p.fields.list ws };
 
-    ghost capacity_rewritten = { λ s ws. refl };
+    ghost capacity_rewritten = { λ p ws. refl };
 
-    ghost loan_rewritten = { λ s ws. refl };
+    ghost loan_rewritten = { λ p ws. refl };
 }
 
-// The first switch that is on.
-pub(crate) fn first_on(switches: &Switches) -> Option<usize>
-    ensures { IfSome result (λ i. slice_get (⟦<Switches as BitList>⟧.list switches.now) i ≡ Some true) }
+/// The first field that is there.
+pub(crate) fn first_field<T: BitStore, O: BitOrder>(presence: &Presence<T, O>) -> Option<usize>
+    ensures { IfSome result (λ i. slice_get presence.now.fields.list i ≡ Some true) }
 {
-    switches.first_one()
+    presence.first_one()
 }
 
-// Turns a switch the other way.
-pub(crate) fn turn(switches: &mut Switches, i: usize)
-    requires { i < 16 }
-    ensures { ⟦<Switches as BitList>⟧.list switches.new
-        ≡ set (⟦<Switches as BitList>⟧.list switches.old) i
-        (not (slice_index_or (⟦<Switches as BitList>⟧.list switches.old) i false)) }
+/// Makes a field there that was not, or the other way round.
+pub(crate) fn turn<T: BitStore, O: BitOrder>(presence: &mut Presence<T, O>, i: usize)
+    requires { i < length presence.old.fields.list }
+    ensures { presence.new.fields.list
+        ≡ set presence.old.fields.list i (not (slice_index_or presence.old.fields.list i false)) }
 {
-    switches.flip(i);
+    presence.flip(i);
 }
 
 #[test]
-fn a_switch_is_turned(rt: HostRuntime) {
-    let mut switches = Switches { bytes: [0, 4] };
-    check(&rt, first_on(&switches) == Some(10));
-    turn(&mut switches, 1);
-    check(&rt, switches.bytes == [2, 4]);
-    check(&rt, switches.count_ones() == 2);
+fn fields_of_a_record(rt: HostRuntime) {
+    let bits = of::<u8, Lsb0>(&rt, b"0010000001");
+    let mut presence = Presence {
+        fields: ok(&rt, bits.into_boxed_bitslice()),
+    };
+    check(&rt, first_field(&presence) == Some(2));
+    check(&rt, presence.len() == 10);
+    turn(&mut presence, 1);
+    check(&rt, first_field(&presence) == Some(1));
+    check(&rt, presence.count_ones() == 3);
 }

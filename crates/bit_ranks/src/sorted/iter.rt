@@ -58,7 +58,8 @@ impl<'a> Iterator for Numbers<'a> {
 
     /// The first number that is left. None exactly where none is.
     fn next(&mut self) -> Option<u64> {
-        match self.high.next_one(self.place) {
+        let high = self.high;
+        match high.next_one(self.place) {
             None => None,
             Some(place) => {
                 let from = self.at * self.width as usize;

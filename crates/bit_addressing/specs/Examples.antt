@@ -25,6 +25,9 @@ xor4_lawful = lawful_by_test xor4_place refl refl refl refl
 abbrev scramble_place : ℕ → ℕ → ℕ
 scramble_place w i = (5 * i + 3) % w
 
+scramble_lawful : IsLawful scramble_place
+scramble_lawful = lawful_by_test scramble_place refl refl refl refl
+
 -- the words 31 and 89 hold 1, 1, 0, 0, 1 by these two
 halves_exchanged : row_of xor4_place 8 (49 ∷ []) ≡ true ∷ true ∷ false ∷ false ∷ true ∷ false ∷ false ∷ false ∷ []
 unfolding row_of
@@ -33,6 +36,11 @@ halves_exchanged = refl
 scrambled : row_of scramble_place 8 (137 ∷ []) ≡ true ∷ true ∷ false ∷ false ∷ true ∷ false ∷ false ∷ false ∷ []
 unfolding row_of
 scrambled = refl
+
+-- and so does the word 0188 of sixteen bits
+scrambled_in_sixteen : row_of scramble_place 16 (392 ∷ []) ≡ (true ∷ true ∷ false ∷ false ∷ true ∷ []) ++ replicate 11 false
+unfolding row_of
+scrambled_in_sixteen = refl
 
 -- the first word comes first
 word_by_word : row_of (λ w i. i) 8 (1 ∷ 128 ∷ []) ≡ (true ∷ []) ++ (replicate 14 false ++ true ∷ [])
@@ -70,6 +78,14 @@ one_bit_more : words_for 8 9 ≡ 2
 unfolding words_for
 one_bit_more = refl
 
+a_long_word : words_for 64 64 ≡ 1
+unfolding words_for
+a_long_word = refl
+
+one_bit_past_a_long_word : words_for 64 65 ≡ 2
+unfolding words_for
+one_bit_past_a_long_word = refl
+
 put_in_the_middle : put (false ∷ false ∷ false ∷ false ∷ []) 1 (true ∷ true ∷ []) ≡ false ∷ true ∷ true ∷ false ∷ []
 unfolding put
 put_in_the_middle = refl
@@ -100,6 +116,15 @@ within_a_word = refl
 
 over_an_edge : touched 8 7 2 ≡ 2
 over_an_edge = refl
+
+within_a_long_word : touched 64 0 64 ≡ 1
+within_a_long_word = refl
+
+over_an_edge_of_long_words : touched 64 63 2 ≡ 2
+over_an_edge_of_long_words = refl
+
+over_five_long_words : touched 64 60 200 ≡ 5
+over_five_long_words = refl
 
 nothing_touched : touched 8 7 0 ≡ 0
 nothing_touched = refl

@@ -5,9 +5,10 @@ ghost use Rattle.std.specs.Prelude.{◌≡◌, length, IfSome};
 
 use crate::common::{check, holds};
 use bit_containers::array::BitArray;
+use bit_containers::boxed::BitBox;
 use bit_containers::{
-    BitList, BitOrder, BitSlice, BitStore, BitVec, Command, GrowError, IntoBitVec, Lsb0, Msb0,
-    ParseBitsError, Reply, ToBits, run,
+    BitList, BitOrder, BitSlice, BitStore, BitVec, Command, FromBits, GrowError, IntoBitVec, Lsb0,
+    Msb0, ParseBitsError, Reply, ToBits, ToBytes, run,
 };
 use std::alloc::AllocError;
 use std::process::Abort;
@@ -125,12 +126,13 @@ fn eight(rt: &impl AllocGlobal) -> Option<BitVec<u8, Lsb0>>
     BitVec::from_bitslice_headed(rt.alloc(), view).ok()
 }
 
-// Grows a vector of eight bits by 96 ones, in one of eight ways.
+// Grows a vector of eight bits by 96 ones, in one of ten ways.
 fn grow(v: &mut BitVec<u8, Lsb0>, way: u8) -> Result<(), GrowError>
     requires { length v.old.list ≡ 8 }
 {
     let ones = [0xff_u8; 12];
     let more = BitSlice::<u8, Lsb0>::from_slice(&ones);
+    let longer = [0xff_u8; 13];
     match way {
         0 => v.resize(104, true),
         1 => v.extend_from_bitslice(more),
@@ -139,13 +141,18 @@ fn grow(v: &mut BitVec<u8, Lsb0>, way: u8) -> Result<(), GrowError>
         4 => v.extend((0..96).map(|_| true)),
         5 => v.extend_words(ones),
         6 => v.splice(8..8, [true; 96]).finish(),
-        _ => v.splice(5..6, [true; 97]).finish(),
+        7 => v.splice(5..6, [true; 97]).finish(),
+        8 => v.replace_range(8..8, more),
+        _ => v.replace_range(
+            5..6,
+            BitSlice::<u8, Lsb0>::from_slice(&longer).get_range(..97),
+        ),
     }
 }
 
 #[test]
 fn growing_refused(rt: HostRuntime) {
-    for way in 0..8u8 {
+    for way in 0..10u8 {
         let Some(mut v) = eight(&rt) else {
             return;
         };
@@ -241,6 +248,44 @@ fn other_makers_refused(rt: HostRuntime) {
     };
     if let Ok(bytes) = v.to_bytes::<Lsb0>(rt.alloc()) {
         check(&rt, bytes.as_slice() == words.as_slice());
+    }
+}
+
+// Numbers appended one by one, up to the first that is refused.
+#[test]
+fn numbers_refused(rt: HostRuntime) {
+    let Some(mut v) = eight(&rt) else {
+        return;
+    };
+    for i in 0..12usize {
+        if let Err(why) = v.push_binary(64, u64::MAX) {
+            check(&rt, why == GrowError::OutOfMemory);
+            check(&rt, v.len() == 8 + 64 * i);
+            check(&rt, v.count_ones() == 6 + 64 * i);
+            return;
+        }
+    }
+    check(&rt, v.len() == 776);
+    check(&rt, v.count_ones() == 774);
+}
+
+// Boxes of bytes, of indices and of text, and the bytes of a view.
+#[test]
+fn makers_of_boxes_refused(rt: HostRuntime) {
+    let words = [0xa8_u8, 0x07];
+    if let Ok(b) = BitBox::<u32, Lsb0>::from_bytes::<Lsb0>(rt.alloc(), &words) {
+        check(&rt, b.len() == 16);
+    }
+    if let Ok(b) = BitBox::<u32, Lsb0>::from_indices(rt.alloc(), 4, &[2]) {
+        check(&rt, b.len() == 4);
+    }
+    match BitBox::<u8, Msb0>::from_text(rt.alloc(), "[1, 0]") {
+        Ok(b) => check(&rt, b.len() == 2),
+        Err(why) => check(&rt, why == ParseBitsError::OutOfMemory),
+    }
+    let view = BitSlice::<u8, Lsb0>::from_slice(&words).get_range(3..11);
+    if let Ok(bytes) = view.to_bytes::<Lsb0>(rt.alloc()) {
+        check(&rt, bytes.as_slice() == [0xf5].as_slice());
     }
 }
 

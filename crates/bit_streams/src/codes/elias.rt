@@ -1,5 +1,5 @@
 //! Elias's gamma and delta codes of numbers from 1 on.
-ghost use Rattle.std.specs.Prelude.{◌≡◌, ℕ, ◌^◌, ◌<◌, ◌≤◌, ◌++◌, Bool, List, Err, IfOk, OnErr, OnOk, Ok};
+ghost use Rattle.std.specs.Prelude.{◌≡◌, ℕ, ◌^◌, ◌<◌, ◌≤◌, ◌++◌, ◌⊎◌, Bool, List, Err, IfOk, OnErr, OnOk, Ok, false, length, replicate};
 ghost use Rattle.bit_streams.specs.Codes.{delta, gamma, top_place, unary};
 ghost use Rattle.bit_streams.specs.declared.codes.CodeError.TheVariants as errors;
 
@@ -81,6 +81,8 @@ impl<'a, T: BitStore, O: BitOrder> BitReader<'a, T, O> {
     pub fn read_gamma(&mut self) -> Result<u64, CodeError>
         ensures found { IfOk result (λ x. self.old.rest ≡ gamma x ++ self.new.rest) }
         ensures some { IfOk result (λ x. 0 < x) }
+        ensures ended { result ≡ Err errors.Ended → (self.old.rest ≡ replicate (length self.old.rest) false)
+            ⊎ ((zeros : ℕ) × (more : List Bool) × (self.old.rest ≡ unary zeros ++ more) × (length more < zeros)) }
         ensures too_long { result ≡ Err errors.TooLong
             → (zeros : ℕ) × (64 ≤ zeros) × (more : List Bool) × (self.old.rest ≡ unary zeros ++ more) }
         ensures kept { OnErr result (self.new ≡ self.old) }
@@ -101,6 +103,8 @@ impl<'a, T: BitStore, O: BitOrder> BitReader<'a, T, O> {
     fn gamma_parts(&mut self) -> Result<u64, CodeError>
         ensures found { IfOk result (λ x. self.old.rest ≡ gamma x ++ self.new.rest) }
         ensures some { IfOk result (λ x. 0 < x) }
+        ensures ended { result ≡ Err errors.Ended → (self.old.rest ≡ replicate (length self.old.rest) false)
+            ⊎ ((zeros : ℕ) × (more : List Bool) × (self.old.rest ≡ unary zeros ++ more) × (length more < zeros)) }
         ensures too_long { result ≡ Err errors.TooLong
             → (zeros : ℕ) × (64 ≤ zeros) × (more : List Bool) × (self.old.rest ≡ unary zeros ++ more) }
         ensures back { (x : ℕ) → (more : List Bool) → 0 < x → x < 2 ^ 64 → self.old.rest ≡ gamma x ++ more

@@ -1,5 +1,5 @@
 //! Golomb's codes, and Rice's, which are those by a power of two.
-ghost use Rattle.std.specs.Prelude.{◌≡◌, ℕ, ◌+◌, ◌-◌, ◌*◌, ◌/◌, ◌%◌, ◌^◌, ◌<◌, ◌≤◌, ◌++◌, Bool, List, Err, IfOk, IfSome, None, OnErr, OnOk, Ok, Some};
+ghost use Rattle.std.specs.Prelude.{◌≡◌, ℕ, ◌+◌, ◌-◌, ◌*◌, ◌/◌, ◌%◌, ◌^◌, ◌<◌, ◌≤◌, ◌++◌, ◌⊎◌, Bool, List, Err, IfOk, IfSome, None, OnErr, OnOk, Ok, Some, false, length, replicate};
 ghost use Rattle.bit_streams.specs.Codes.{golomb, rest_code, rice, top_place, unary};
 ghost use Rattle.bit_streams.specs.declared.codes.CodeError.TheVariants as errors;
 
@@ -103,6 +103,8 @@ impl<'a, T: BitStore, O: BitOrder> BitReader<'a, T, O> {
     pub fn read_rice(&mut self, k: u8) -> Result<u64, CodeError>
         requires { k < 64 }
         ensures found { IfOk result (λ x. self.old.rest ≡ rice k x ++ self.new.rest) }
+        ensures ended { result ≡ Err errors.Ended → (self.old.rest ≡ replicate (length self.old.rest) false)
+            ⊎ ((quotient : ℕ) × (more : List Bool) × (self.old.rest ≡ unary quotient ++ more) × (length more < k)) }
         ensures too_long { result ≡ Err errors.TooLong
             → (quotient : ℕ) × (2 ^ 64 ≤ quotient * 2 ^ k) × (more : List Bool)
             × (self.old.rest ≡ unary quotient ++ more) }
@@ -124,6 +126,8 @@ impl<'a, T: BitStore, O: BitOrder> BitReader<'a, T, O> {
     fn rice_parts(&mut self, k: u8) -> Result<u64, CodeError>
         requires { k < 64 }
         ensures found { IfOk result (λ x. self.old.rest ≡ rice k x ++ self.new.rest) }
+        ensures ended { result ≡ Err errors.Ended → (self.old.rest ≡ replicate (length self.old.rest) false)
+            ⊎ ((quotient : ℕ) × (more : List Bool) × (self.old.rest ≡ unary quotient ++ more) × (length more < k)) }
         ensures too_long { result ≡ Err errors.TooLong
             → (quotient : ℕ) × (2 ^ 64 ≤ quotient * 2 ^ k) × (more : List Bool)
             × (self.old.rest ≡ unary quotient ++ more) }

@@ -1,7 +1,7 @@
 //! Tagged values: a tag, a length, and as many bytes.
 ghost use Rattle.std.specs.Prelude.{◌≡◌, ℕ, ◌+◌, ◌*◌, ◌%◌, ◌^◌, ◌<◌, ◌++◌, Bool, List, Err, IfOk, IsOk, OnErr, OnOk, length};
 ghost use Rattle.bit_addressing.specs.Row.{binary};
-ghost use Rattle.bit_slice.specs.BitSlice.{list_of};
+ghost use Rattle.bit_slice.specs.BitSlice.{len_of, list_of};
 ghost use Rattle.bit_streams.specs.Formats.{tagged_bits};
 ghost use Rattle.bit_streams.specs.declared.formats.tagged.TaggedFault.TheVariants as faults;
 
@@ -38,8 +38,8 @@ impl<T: BitStore, O: BitOrder> BitWriter<T, O> {
         value: BitSlice<'_, U, P>,
     ) -> Result<(), GrowError>
         requires tag { 0 < tag }
-        requires whole { length (list_of value) % 8 ≡ 0 }
-        requires few { length (list_of value) < 8 * 2 ^ 16 }
+        requires whole { len_of value % 8 ≡ 0 }
+        requires few { len_of value < 8 * 2 ^ 16 }
         ensures list { OnOk result (self.new.list ≡ self.old.list ++ tagged_bits tag (list_of value.entry)) }
         ensures unchanged { OnErr result (self.new.list ≡ self.old.list) }
     {

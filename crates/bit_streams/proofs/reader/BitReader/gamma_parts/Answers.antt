@@ -1,4 +1,4 @@
-use Rattle.std.proofs.Common.{◌≡◌, ◌+◌, ◌*◌, ◌%◌, ◌^◌, ◌++◌, Ok, sym, ◌∙◌, ap, arith}
+use Rattle.std.proofs.Common.{◌≡◌, ◌+◌, ◌*◌, ◌%◌, ◌^◌, ◌++◌, Ok, inl, inr, refl, sym, ◌∙◌, ap, arith}
 use Rattle.std.proofs.Math.Pow.{pow_pos}
 use Rattle.std.proofs.lemmas.Nat.{mod_below}
 use Rattle.bit_addressing.specs.Row.{binary}
@@ -28,3 +28,9 @@ returns-in-Some-read-clause-back g c x more some below e =
     let r = c.in-Some-read.ensures.back (x % 2 ^ c.in-Some.top) more (u.1 ∙ ap (λ k. binary k (x % 2 ^ k) ++ more) (sym t)) (mod_below x (2 ^ c.in-Some.top) (pow_pos c.in-Some.top)) in
     let rest : c.in-Some-read.rest ≡ x % 2 ^ c.in-Some.top = cc in
     (ap Ok (c.joined.ensures.value ∙ ap (λ k. 1 * 2 ^ c.in-Some.top + k % 2 ^ c.in-Some.top) rest ∙ ap (λ k. 1 * 2 ^ k + x % 2 ^ k % 2 ^ k) t ∙ first_digit x some below), r.1)
+
+pub returns-in-None-clause-ended : goal.returns-in-None-clause-ended
+returns-in-None-clause-ended g c e = inl (c.in-None.ensures.none refl)
+
+pub returns-in-None-read-clause-ended : goal.returns-in-None-read-clause-ended
+returns-in-None-read-clause-ended g c e = inr (c.in-Some.top, c.read_unary.new.self.rest, c.in-Some.ensures.found, c.in-None-read.ensures.none.0 refl)

@@ -1,4 +1,4 @@
-use Rattle.std.proofs.Common.{◌≡◌, ◌+◌, ◌*◌, ◌/◌, ◌%◌, ◌^◌, ◌++◌, Ok, ◌∙◌, ap, arith}
+use Rattle.std.proofs.Common.{◌≡◌, ◌+◌, ◌*◌, ◌/◌, ◌%◌, ◌^◌, ◌++◌, Ok, inl, inr, refl, ◌∙◌, ap, arith}
 use Rattle.std.proofs.Math.Pow.{pow_pos}
 use Rattle.std.proofs.lemmas.Nat.{mod_below}
 use Rattle.bit_addressing.specs.Row.{binary}
@@ -34,3 +34,9 @@ returns-in-Some-read-clause-back g c x more below e =
     let q : c.in-Some.quotient ≡ x / 2 ^ k = cc in
     let rest : c.in-Some-read.rest ≡ x % 2 ^ k = cc in
     (ap Ok (c.joined.ensures.value ∙ ap (λ n. n * 2 ^ k + c.in-Some-read.rest % 2 ^ k) q ∙ ap (λ n. x / 2 ^ k * 2 ^ k + n % 2 ^ k) rest ∙ number_joined k x), r.1)
+
+pub returns-in-None-clause-ended : goal.returns-in-None-clause-ended
+returns-in-None-clause-ended g c e = inl (c.in-None.ensures.none refl)
+
+pub returns-in-None-read-clause-ended : goal.returns-in-None-read-clause-ended
+returns-in-None-read-clause-ended g c e = inr (c.in-Some.quotient, c.read_unary.new.self.rest, c.in-Some.ensures.found, c.in-None-read.ensures.none.0 refl)

@@ -1,0 +1,181 @@
+//! Callers that need no proof of their own: each has one fact that a user of streams relies on.
+ghost use Rattle.std.specs.Prelude.{◌≡◌, ℕ, Bool, List, ◌+◌, ◌*◌, ◌/◌, ◌<◌, ◌≤◌, ◌^◌, ◌++◌, [], ◌∷◌, IfOk, IfSome, Ok, Some, OnOk, false, is_some, length, true};
+ghost use Rattle.bit_addressing.specs.Row.{binary};
+ghost use Rattle.bit_streams.specs.Codes.{gamma};
+
+use bit_addressing::{BitOrder, BitStore, GrowError, Msb0};
+use bit_containers::BitVec;
+use bit_streams::{BitReader, BitWriter, CodeError, Fields, Number};
+use std::alloc::Global;
+
+/// A number that is written is read.
+pub fn number_back(alloc: Global, x: u64) -> Result<Option<u64>, GrowError>
+    requires { x < 2 ^ 13 }
+    ensures { IfOk result (λ read. read ≡ Some x) }
+{
+    let mut writer = BitWriter::<u8, Msb0>::new(alloc);
+    writer.write(13, x)?;
+    let bits = writer.finish()?;
+    let mut reader = BitReader::new(bits.as_bitslice());
+    Ok(reader.read(13))
+}
+
+/// The fields of a record.
+#[derive(Clone, Copy, Drop, PartialEq, Eq)]
+pub struct Sighting {
+    /// 3 bits.
+    pub kind: u64,
+    /// 13 bits.
+    pub port: u64,
+    /// 1 bit.
+    pub last: bool,
+}
+
+/// Writes a record field by field.
+pub fn write_sighting<T: BitStore, O: BitOrder>(
+    writer: &mut BitWriter<T, O>,
+    it: Sighting,
+) -> Result<(), GrowError>
+    ensures { OnOk result (writer.new.list
+        ≡ ((writer.old.list ++ binary 3 it.kind) ++ binary 13 it.port) ++ it.last ∷ []) }
+{
+    writer.write(3, it.kind)?;
+    writer.write(13, it.port)?;
+    writer.write_bit(it.last)
+}
+
+/// Reads a record field by field.
+pub fn read_sighting<T: BitStore, O: BitOrder>(reader: &mut BitReader<'_, T, O>) -> Option<Sighting>
+    ensures { (kind port : ℕ) → (last : Bool) → (more : List Bool)
+        → reader.old.rest ≡ ((binary 3 kind ++ binary 13 port) ++ last ∷ []) ++ more → kind < 2 ^ 3 → port < 2 ^ 13
+        → (result ≡ Some (record { kind = kind; port = port; last = last })) × (reader.new.rest ≡ more) }
+{
+    let kind = reader.read(3)?;
+    let port = reader.read(13)?;
+    let last = reader.read_bit()?;
+    Some(Sighting { kind, port, last })
+}
+
+/// A record that is written is read.
+pub fn sighting_back(alloc: Global, it: Sighting) -> Result<Option<Sighting>, GrowError>
+    requires kind { it.kind < 2 ^ 3 }
+    requires port { it.port < 2 ^ 13 }
+    ensures { IfOk result (λ read. read ≡ Some it) }
+{
+    let mut writer = BitWriter::<u8, Msb0>::new(alloc);
+    write_sighting(&mut writer, it)?;
+    writer.align(8, false)?;
+    let bits = writer.finish()?;
+    let mut reader = BitReader::new(bits.as_bitslice());
+    Ok(read_sighting(&mut reader))
+}
+
+/// A value of any fields is read back.
+pub fn value_back<F: Fields + Drop>(alloc: Global, x: &F) -> Result<Option<F>, GrowError>
+    requires { F.fits x.now }
+    ensures { IfOk result (λ read. read ≡ Some x.now) }
+{
+    let mut writer = BitWriter::<u8, Msb0>::new(alloc);
+    x.write(&mut writer)?;
+    let bits = writer.finish()?;
+    let mut reader = BitReader::new(bits.as_bitslice());
+    Ok(F::read(&mut reader))
+}
+
+/// Two values, one after the other, are read back.
+pub fn two_back<F: Fields + Drop>(
+    alloc: Global,
+    x: &F,
+    y: &F,
+) -> Result<(Option<F>, Option<F>), GrowError>
+    requires x { F.fits x.now }
+    requires y { F.fits y.now }
+    ensures { IfOk result (λ read. (read.0 ≡ Some x.now) × (read.1 ≡ Some y.now)) }
+{
+    let mut writer = BitWriter::<u8, Msb0>::new(alloc);
+    x.write(&mut writer)?;
+    y.write(&mut writer)?;
+    let bits = writer.finish()?;
+    let mut reader = BitReader::new(bits.as_bitslice());
+    let first = F::read(&mut reader);
+    let second = F::read(&mut reader);
+    Ok((first, second))
+}
+
+/// A tuple of fields stands for a record.
+pub fn tuple_back(
+    alloc: Global,
+    kind: u64,
+    last: bool,
+) -> Result<Option<(Number<3>, bool)>, GrowError>
+    requires { kind < 2 ^ 3 }
+    ensures { IfOk result (λ read. IfSome read (λ pair. (pair.0.value ≡ kind) × (pair.1 ≡ last))) }
+{
+    let pair = (Number::<3> { value: kind }, last);
+    value_back(alloc, &pair)
+}
+
+/// Five bits, zeros up to a whole byte, and a number of two bytes.
+pub fn padded(alloc: Global, kind: u64, size: u64) -> Result<BitVec<u8, Msb0>, GrowError>
+    ensures { IfOk result (λ v. v.list ≡ (binary 5 kind ++ false ∷ false ∷ false ∷ []) ++ binary 16 size) }
+{
+    let mut writer = BitWriter::<u8, Msb0>::new(alloc);
+    writer.write(5, kind)?;
+    writer.align(8, false)?;
+    writer.write(16, size)?;
+    writer.finish()
+}
+
+/// A code that is written is read.
+pub fn gamma_back(alloc: Global, x: u64) -> Result<Result<u64, CodeError>, GrowError>
+    requires { 0 < x }
+    ensures { IfOk result (λ read. read ≡ Ok x) }
+{
+    let mut writer = BitWriter::<u64, Msb0>::new(alloc);
+    writer.write_gamma(x)?;
+    writer.write_bit(true)?;
+    let bits = writer.finish()?;
+    let mut reader = BitReader::new(bits.as_bitslice());
+    Ok(reader.read_gamma())
+}
+
+/// How many codes come one after another before the bits end, or begin no code.
+pub fn count_codes<T: BitStore, O: BitOrder>(reader: &mut BitReader<'_, T, O>) -> u64 {
+    for count in 0..u64::MAX {
+        match reader.read_gamma() {
+            Err(_) => return count,
+            Ok(_) => {}
+        }
+    }
+    u64::MAX
+}
+
+/// A look does not move: what is seen is what is read next.
+pub fn seen_and_read<T: BitStore, O: BitOrder>(reader: &mut BitReader<'_, T, O>) -> bool
+    ensures { result ≡ true }
+{
+    let seen = reader.peek(5);
+    let read = reader.read(5);
+    seen == read
+}
+
+/// A read that found too few bits takes none of them.
+pub fn shorter<T: BitStore, O: BitOrder>(reader: &mut BitReader<'_, T, O>) -> Option<u64>
+    requires { 16 ≤ length reader.old.rest }
+    ensures below { IfSome result (λ x. x < 2 ^ 32) }
+    ensures some { is_some result ≡ true }
+{
+    match reader.read(32) {
+        Some(x) => Some(x),
+        None => reader.read(16),
+    }
+}
+
+/// The position after two reads.
+pub fn passed<T: BitStore, O: BitOrder>(reader: &mut BitReader<'_, T, O>) -> Option<u64>
+    ensures { IfSome result (λ _. reader.new.position ≡ reader.old.position + 12) }
+{
+    let a = reader.read(5)?;
+    let b = reader.read(7)?;
+    Some(a ^ b)
+}

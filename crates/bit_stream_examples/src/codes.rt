@@ -1,0 +1,121 @@
+//! Codes written and read, and cut off.
+use super::{check, ok};
+use bit_addressing::{Lsb0, Msb0};
+use bit_streams::{BitReader, BitWriter, CodeError, unzigzag, zigzag};
+
+#[test]
+fn codes_there_and_back(rt: HostRuntime) {
+    let mut x = 1u64;
+    for _ in 0..64 {
+        let mut writer = BitWriter::<u8, Msb0>::new(rt.alloc());
+        ok(&rt, writer.write_unary((x % 200) as usize));
+        ok(&rt, writer.write_gamma(x / 2 + 1));
+        ok(&rt, writer.write_delta(x / 2 + 1));
+        ok(&rt, writer.write_rice(5, x % 10_000));
+        ok(&rt, writer.write_golomb(11, x % 10_000));
+        ok(&rt, writer.write_leb128(x));
+        let bits = ok(&rt, writer.finish());
+        let mut reader = BitReader::new(bits.as_bitslice());
+        check(&rt, reader.read_unary() == Some((x % 200) as usize));
+        check(&rt, reader.read_gamma() == Ok(x / 2 + 1));
+        check(&rt, reader.read_delta() == Ok(x / 2 + 1));
+        check(&rt, reader.read_rice(5) == Ok(x % 10_000));
+        check(&rt, reader.read_golomb(11) == Ok(x % 10_000));
+        check(&rt, reader.read_leb128() == Ok(x));
+        check(&rt, reader.remaining() == 0);
+        x = x.wrapping_mul(3);
+    }
+}
+
+#[test]
+fn codes_bit_by_bit(rt: HostRuntime) {
+    let mut writer = BitWriter::<u8, Msb0>::new(rt.alloc());
+    ok(&rt, writer.write_unary(3));
+    ok(&rt, writer.write_gamma(6));
+    ok(&rt, writer.write_delta(6));
+    ok(&rt, writer.write_rice(2, 6));
+    ok(&rt, writer.write_golomb(3, 5));
+    ok(&rt, writer.align(8, false));
+    ok(&rt, writer.write_leb128(300));
+    let bits = ok(&rt, writer.finish());
+    let mut reader = BitReader::new(bits.as_bitslice());
+    check(&rt, reader.read(4) == Some(0b0001));
+    check(&rt, reader.read(5) == Some(0b00110));
+    check(&rt, reader.read(5) == Some(0b01110));
+    check(&rt, reader.read(4) == Some(0b0110));
+    check(&rt, reader.read(4) == Some(0b0111));
+    check(&rt, reader.align(8) == Some(()));
+    check(&rt, reader.read(8) == Some(172));
+    check(&rt, reader.read(8) == Some(2));
+}
+
+#[test]
+fn bad_codes_are_told_apart(rt: HostRuntime) {
+    let mut writer = BitWriter::<u64, Lsb0>::new(rt.alloc());
+    ok(&rt, writer.write(64, 0));
+    ok(&rt, writer.write(5, 1));
+    let bits = ok(&rt, writer.finish());
+    let mut reader = BitReader::new(bits.as_bitslice());
+    check(&rt, reader.read_gamma() == Err(CodeError::TooLong));
+    check(&rt, reader.read_rice(60) == Err(CodeError::TooLong));
+    check(&rt, reader.read_delta() == Err(CodeError::TooLong));
+    check(&rt, reader.position() == 0);
+    check(&rt, reader.read_unary() == Some(68));
+    check(&rt, reader.read_unary().is_none());
+    let mut writer = BitWriter::<u8, Msb0>::new(rt.alloc());
+    ok(&rt, writer.write(24, 0x80_80_00));
+    let bits = ok(&rt, writer.finish());
+    let mut reader = BitReader::new(bits.as_bitslice());
+    check(&rt, reader.read_leb128() == Err(CodeError::NotShortest));
+    let mut writer = BitWriter::<u8, Msb0>::new(rt.alloc());
+    for _ in 0..9 {
+        ok(&rt, writer.write(8, 0xff));
+    }
+    ok(&rt, writer.write(8, 2));
+    let bits = ok(&rt, writer.finish());
+    let mut reader = BitReader::new(bits.as_bitslice());
+    check(&rt, reader.read_leb128() == Err(CodeError::TooLong));
+    check(&rt, reader.position() == 0);
+}
+
+#[test]
+fn cut_at_every_bit(rt: HostRuntime) {
+    let mut writer = BitWriter::<u8, Msb0>::new(rt.alloc());
+    ok(&rt, writer.write_gamma(1000));
+    ok(&rt, writer.write_delta(77));
+    ok(&rt, writer.write_leb128(1 << 40));
+    ok(&rt, writer.write_golomb(7, 23));
+    let bits = ok(&rt, writer.finish());
+    let all = bits.len();
+    for cut in 0..all {
+        let mut reader = BitReader::new(bits.as_bitslice().get_range(..cut));
+        let Ok(gamma) = reader.read_gamma() else {
+            check(&rt, reader.position() == 0);
+            continue;
+        };
+        check(&rt, gamma == 1000);
+        let after = reader.position();
+        let Ok(delta) = reader.read_delta() else {
+            check(&rt, reader.position() == after);
+            continue;
+        };
+        check(&rt, delta == 77);
+        let after = reader.position();
+        let Ok(bytes) = reader.read_leb128() else {
+            check(&rt, reader.position() == after);
+            continue;
+        };
+        check(&rt, bytes == 1 << 40);
+        check(&rt, reader.read_golomb(7) == Err(CodeError::Ended));
+    }
+}
+
+#[test]
+fn signed_numbers_as_unsigned(rt: HostRuntime) {
+    check(&rt, zigzag(0) == 0);
+    check(&rt, zigzag(-1) == 1);
+    check(&rt, zigzag(1) == 2);
+    check(&rt, zigzag(i64::MIN) == u64::MAX);
+    check(&rt, unzigzag(u64::MAX) == i64::MIN);
+    check(&rt, unzigzag(zigzag(-12345)) == -12345);
+}

@@ -1,0 +1,217 @@
+//! Bits written and read, at every width and index, and cut off.
+use super::{check, ok};
+use bit_addressing::{BitOrder, BitStore, Lsb0, Msb0};
+use bit_containers::BitVec;
+use bit_streams::{BitReader, BitWriter};
+use std::process::Abort;
+
+// The next of a run of numbers without a pattern.
+fn next_random(seed: u64) -> u64 {
+    seed.wrapping_mul(6364136223846793005)
+        .wrapping_add(1442695040888963407)
+}
+
+// The `n` lowest digits of a number.
+fn low(x: u64, n: u8) -> u64 {
+    if n == 0 || n > 64 {
+        0
+    } else {
+        (x << (64 - n)) >> (64 - n)
+    }
+}
+
+#[test]
+fn numbers_there_and_back(rt: HostRuntime) {
+    let mut writer = BitWriter::<u8, Msb0>::new(rt.alloc());
+    ok(&rt, writer.write(3, 5));
+    ok(&rt, writer.write_le(13, 4097));
+    ok(&rt, writer.write_bit(true));
+    ok(&rt, writer.write_signed(7, -3));
+    ok(&rt, writer.write_signed_le(7, -64));
+    ok(&rt, writer.align(8, false));
+    check(&rt, writer.len() == 32);
+    let bits = ok(&rt, writer.finish());
+    let mut reader = BitReader::new(bits.as_bitslice());
+    check(&rt, reader.peek(3) == Some(5));
+    check(&rt, reader.read(3) == Some(5));
+    check(&rt, reader.peek_le(13) == Some(4097));
+    check(&rt, reader.read_le(13) == Some(4097));
+    check(&rt, reader.read_bit() == Some(true));
+    check(&rt, reader.read_signed(7) == Some(-3));
+    check(&rt, reader.read_signed_le(7) == Some(-64));
+    check(&rt, reader.position() == 31);
+    check(&rt, reader.align(8) == Some(()));
+    check(&rt, reader.remaining() == 0);
+    check(&rt, reader.read_bit().is_none());
+}
+
+#[test]
+fn the_first_bit_is_the_highest_digit(rt: HostRuntime) {
+    let mut writer = BitWriter::<u8, Msb0>::with_capacity(rt.alloc(), 16);
+    match &mut writer {
+        Ok(writer) => {
+            ok(&rt, writer.write(3, 6));
+            ok(&rt, writer.write_le(3, 6));
+            ok(&rt, writer.align(8, true));
+            ok(&rt, writer.write(8, 0x5a));
+        }
+        Err(_) => check(&rt, false),
+    }
+    let bits = ok(&rt, ok(&rt, writer).finish());
+    let bytes = bits.into_vec();
+    check(&rt, bytes.as_slice() == [0b1100_1111, 0x5a].as_slice());
+}
+
+#[test]
+fn parts_are_views(rt: HostRuntime) {
+    let mut writer = BitWriter::<u16, Lsb0>::new(rt.alloc());
+    ok(&rt, writer.write(64, 0x1234_5678_9abc_def0));
+    ok(&rt, writer.write(40, 0x55_aaaa_5555));
+    let bits = ok(&rt, writer.finish());
+    let mut copy = BitWriter::<u64, Msb0>::new(rt.alloc());
+    ok(&rt, copy.write_bits(bits.as_bitslice()));
+    let copied = ok(&rt, copy.finish());
+    check(&rt, copied.eq_bits(bits.as_bitslice()));
+    let mut reader = BitReader::new(copied.as_bitslice());
+    check(&rt, reader.skip(12) == Some(()));
+    match reader.read_part(20) {
+        Some(part) => check(&rt, part.load_be() == 0x45678),
+        None => check(&rt, false),
+    }
+    check(&rt, reader.rest().len() == 72);
+    check(&rt, reader.read_part(73).is_none());
+    check(&rt, reader.remaining() == 72);
+}
+
+#[test]
+fn a_writer_goes_on_after_a_vector(rt: HostRuntime) {
+    let mut first = BitWriter::<u32, Msb0>::new(rt.alloc());
+    ok(&rt, first.write(64, u64::MAX));
+    ok(&rt, first.write(20, 0x12345));
+    let bits = ok(&rt, first.finish());
+    let mut writer = BitWriter::over(bits);
+    check(&rt, writer.len() == 84);
+    ok(&rt, writer.write(12, 0xabc));
+    writer.truncate(92);
+    ok(&rt, writer.reserve(4));
+    ok(&rt, writer.write(4, 7));
+    writer.truncate(70);
+    writer.truncate(99);
+    check(&rt, writer.len() == 70);
+    let all = ok(&rt, writer.finish());
+    let mut reader = BitReader::new(all.as_bitslice());
+    check(&rt, reader.read(64) == Some(u64::MAX));
+    check(&rt, reader.read(6) == Some(0x12345 >> 14));
+}
+
+#[test]
+fn aligned_where_it_stands(rt: HostRuntime) {
+    let mut writer = BitWriter::<u8, Lsb0>::new(rt.alloc());
+    ok(&rt, writer.align(8, true));
+    check(&rt, writer.len() == 0);
+    ok(&rt, writer.write(16, 0x1234));
+    ok(&rt, writer.align(16, true));
+    check(&rt, writer.len() == 16);
+    let bits = ok(&rt, writer.finish());
+    let mut reader = BitReader::new(bits.as_bitslice());
+    check(&rt, reader.align(8) == Some(()));
+    check(&rt, reader.position() == 0);
+    check(&rt, reader.read(5) == Some(2));
+    check(&rt, reader.align(24).is_none());
+    check(&rt, reader.position() == 5);
+    check(&rt, reader.align(16) == Some(()));
+    check(&rt, reader.align(16) == Some(()));
+    check(&rt, reader.position() == 16);
+}
+
+// The number that the bits from `at` on write, one by one: the first the highest digit, and the first the lowest.
+fn looked_up<T: BitStore, O: BitOrder>(bits: &BitVec<T, O>, at: usize, n: u8) -> (u64, u64) {
+    let (mut first_high, mut first_low) = (0u64, 0u64);
+    for i in 0..n {
+        let bit = bits.as_bitslice().get(at.wrapping_add(i as usize)) == Some(true);
+        first_high = (first_high << 1) | if bit { 1 } else { 0 };
+        if i < 64 && bit {
+            first_low |= 1 << i;
+        }
+    }
+    (first_high, first_low)
+}
+
+// Each width at each index of two bytes, read beside a loop over bits.
+fn each_width_at_each_index<T: BitStore, O: BitOrder>(rt: &impl Abort, bits: &BitVec<T, O>) {
+    for at in 0..17usize {
+        for n in 0..65u8 {
+            let mut reader = BitReader::new(bits.as_bitslice());
+            check(rt, reader.skip(at) == Some(()));
+            let (high, low) = looked_up(bits, at, n);
+            check(rt, reader.peek(n) == Some(high));
+            check(rt, reader.peek_le(n) == Some(low));
+            let mut other = reader.copied();
+            check(rt, reader.read(n) == Some(high));
+            check(rt, other.read_le(n) == Some(low));
+            check(rt, other.position() == reader.position());
+        }
+    }
+}
+
+#[test]
+fn widths_of_bytes(rt: HostRuntime) {
+    let mut writer = BitWriter::<u8, Msb0>::new(rt.alloc());
+    let mut seed = 7;
+    for _ in 0..3 {
+        seed = next_random(seed);
+        ok(&rt, writer.write(64, seed));
+    }
+    let bits = ok(&rt, writer.finish());
+    each_width_at_each_index(&rt, &bits);
+}
+
+#[test]
+fn widths_of_bytes_lowest_first(rt: HostRuntime) {
+    let mut writer = BitWriter::<u8, Lsb0>::new(rt.alloc());
+    let mut seed = 11;
+    for _ in 0..3 {
+        seed = next_random(seed);
+        ok(&rt, writer.write(64, seed));
+    }
+    let bits = ok(&rt, writer.finish());
+    each_width_at_each_index(&rt, &bits);
+}
+
+// Writes twenty numbers without a pattern by widths without one, and reads them back.
+fn one_sequence(rt: &(impl Abort + AllocGlobal), start: u64) {
+    let mut writer = BitWriter::<u8, Msb0>::new(rt.alloc());
+    let mut seed = start;
+    for _ in 0..20 {
+        seed = next_random(seed);
+        let n = ((seed >> 33) % 65) as u8;
+        if seed >> 63 == 0 {
+            ok(rt, writer.write(n, seed));
+        } else {
+            ok(rt, writer.write_le(n, seed));
+        }
+    }
+    let bits = ok(rt, writer.finish());
+    let mut reader = BitReader::new(bits.as_bitslice());
+    let mut seed = start;
+    for _ in 0..20 {
+        seed = next_random(seed);
+        let n = ((seed >> 33) % 65) as u8;
+        let read = if seed >> 63 == 0 {
+            reader.read(n)
+        } else {
+            reader.read_le(n)
+        };
+        check(rt, read == Some(low(seed, n)));
+    }
+    check(rt, reader.remaining() == 0);
+}
+
+#[test]
+fn sequences_read_back(rt: HostRuntime) {
+    let mut seed = 1;
+    for _ in 0..100_000 {
+        seed = next_random(seed);
+        one_sequence(&rt, seed);
+    }
+}

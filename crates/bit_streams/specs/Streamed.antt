@@ -17,7 +17,7 @@ sourced_code = code_by (Option (List Bool) × ℕ) (coded× (coded_option (coded
 abbrev pub bits_left : (ℕ → ℕ → ℕ) → ℕ → ℕ → Option (List ℕ) → Option (List Bool)
 bits_left place held pending bytes = option_map (λ bs. binary held pending ++ row_of place 8 bs) bytes
 
--- what always holds of a source: few bits are held, as a number of so many digits
+-- what always holds of a source: fewer than 72 bits are held, as a number of `held` digits
 pub record IsHeldBack (held pending : ℕ) : Type 0 where
   pub few : held < 72
   pub small : pending < 2 ^ held

@@ -20,6 +20,11 @@ fn main(rt: HostRuntime) -> ExitCode {
             let status = start(rt.alloc(), words.as_slice(), rt.stdin(), rt.stdout());
             ExitCode::from(status)
         }
+        // An argument that is no text is none of the words that the program takes.
+        Err(why) if why.kind() == io::ErrorKind::InvalidData => {
+            let status = start(rt.alloc(), &[], rt.stdin(), rt.stdout());
+            ExitCode::from(status)
+        }
         Err(_) => ExitCode::from(1),
     }
 }

@@ -9,7 +9,7 @@ use crate::common::{check, ok};
 use crate::radix::{In, Radix};
 use bit_addressing::{Lsb0, Msb0};
 use bit_array::{BitArray, BitViewSized, BitWords, IntoIter, TryFromBitSliceError};
-use bit_slice::{BitList, BitSlice};
+use bit_slice::{BitList, BitListMut, BitSlice};
 use std::cmp::Ordering;
 use std::hash::{DefaultHasher, Hash, Hasher};
 

@@ -20,6 +20,26 @@ pub fn number_back(alloc: Global, x: u64) -> Result<Option<u64>, GrowError>
     Ok(reader.read(13))
 }
 
+/// A kind of three bits and a port of thirteen: written into two bytes, and read from them.
+pub fn there_and_back(
+    alloc: Global,
+    kind: u64,
+    port: u64,
+) -> Result<(Option<u64>, Option<u64>), GrowError>
+    requires kind { kind < 2 ^ 3 }
+    requires port { port < 2 ^ 13 }
+    ensures { IfOk result (λ read. (read.0 ≡ Some kind) × (read.1 ≡ Some port)) }
+{
+    let mut writer = BitWriter::<u8, Msb0>::new(alloc);
+    writer.write(3, kind)?;
+    writer.write(13, port)?;
+    let bits = writer.finish()?;
+    let mut reader = BitReader::new(bits.as_bitslice());
+    let kind = reader.read(3);
+    let port = reader.read(13);
+    Ok((kind, port))
+}
+
 /// The fields of a record.
 #[derive(Clone, Copy, Drop, PartialEq, Eq)]
 pub struct Sighting {

@@ -3,7 +3,7 @@ ghost use Rattle.bit_streams.specs.Header.{IsPlain};
 
 use super::{check, ok};
 use bit_addressing::{Lsb0, Msb0};
-use bit_slice::BitSlice;
+use bit_slice::{BitList, BitSlice};
 use bit_streams::{
     BitReader, BitWriter, Fields, Header, HeaderFault, ItemsError, ListFault, Number, Signed,
     TaggedFault, read_items, write_items,

@@ -1,7 +1,7 @@
 //! Bits written and read, at every width and index, and cut off.
 use super::{check, ok};
 use bit_addressing::{BitOrder, BitStore, Lsb0, Msb0};
-use bit_containers::BitVec;
+use bit_containers::{BitList, BitVec};
 use bit_streams::{BitReader, BitWriter};
 use std::process::Abort;
 

@@ -15,14 +15,14 @@ mod fields;
 #[cfg(test)]
 mod streams;
 
-/// That this holds. A test calls it in place of `assert!`, which costs the prover more: a failed
-/// test is told by its name.
+// That this holds. A test calls it in place of `assert!`, which costs the prover more: a failed
+// test is told by its name.
 #[cfg(test)]
 fn check(rt: &impl Abort, holds: bool) {
     assert!(rt; holds);
 }
 
-/// What a call returns that found memory.
+// What a call returns that found memory.
 #[cfg(test)]
 fn ok<V, E>(rt: &impl Abort, outcome: Result<V, E>) -> V {
     match outcome {

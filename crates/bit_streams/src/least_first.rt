@@ -7,7 +7,7 @@ use crate::reader::BitReader;
 use crate::writer::BitWriter;
 use bit_addressing::{BitOrder, BitStore, GrowError};
 
-/// The `n` lowest digits of a number in reverse: its digit `i` is the digit `n - 1 - i` of `x`.
+// The `n` lowest digits of a number in reverse: its digit `i` is the digit `n - 1 - i` of `x`.
 #[inline(always)]
 fn reversed_some(n: u8, x: u64) -> u64
     requires some { 0 < n }
@@ -78,7 +78,7 @@ impl<'a, T: BitStore, O: BitOrder> BitReader<'a, T, O> {
     }
 }
 
-/// Like `reversed_some`, and 0 where there is no digit.
+// Like `reversed_some`, and 0 where there is no digit.
 #[inline(always)]
 fn reversed(n: u8, x: u64) -> u64
     requires { n ≤ 64 }

@@ -55,7 +55,7 @@ impl<'a, T: BitStore, O: BitOrder> Model for BitReader<'a, T, O> {
         T.BITS (length r.words.now) r.start r.from r.end r.have r.window };
 }
 
-/// The number that the 64 bits from `at` on write, the first the most significant. Requires that a word begins at `at`.
+// The number that the 64 bits from `at` on write, the first the most significant. Requires that a word begins at `at`.
 #[inline(always)]
 fn block_at<T: BitStore, O: BitOrder>(words: &[T], at: usize) -> u64
     requires begins { at % T.BITS ≡ 0 }
@@ -65,8 +65,8 @@ fn block_at<T: BitStore, O: BitOrder>(words: &[T], at: usize) -> u64
     read_block::<T, O>(words, at).reverse()
 }
 
-/// The number that the `n` bits from `from` on write, and a register with the bits after them up to the next word or to
-/// `end`: what blocks of whole words can't give, at either end of a view.
+// The number that the `n` bits from `from` on write, and a register with the bits after them up to the next word or to
+// `end`: what blocks of whole words can't give, at either end of a view.
 #[cold]
 #[inline(never)]
 fn read_apart<T: BitStore, O: BitOrder>(

@@ -8,7 +8,7 @@ use bit_rows::{cut_words_in_vec, read_binary};
 use std::alloc::AllocError;
 use std::mem::replace;
 
-/// The number of one digit that a bit writes.
+// The number of one digit that a bit writes.
 #[inline(always)]
 pub(crate) fn digit_of(bit: bool) -> u64
     ensures digits { binary 1 result ≡ bit ∷ [] }
@@ -17,7 +17,7 @@ pub(crate) fn digit_of(bit: bool) -> u64
     if bit { 1 } else { 0 }
 }
 
-/// A number each of whose `n` lowest digits is `bit`.
+// A number each of whose `n` lowest digits is `bit`.
 pub(crate) fn run_of(bit: bool, n: u8) -> u64
     requires { n ≤ 64 }
     ensures { binary n result ≡ replicate n bit }
@@ -25,7 +25,7 @@ pub(crate) fn run_of(bit: bool, n: u8) -> u64
     if bit { u64::MAX } else { 0 }
 }
 
-/// `pending` of `count` digits with the `n` lowest digits of `x` after them.
+// `pending` of `count` digits with the `n` lowest digits of `x` after them.
 #[inline(always)]
 pub(crate) fn joined(pending: u64, count: u8, n: u8, x: u64) -> u64
     requires few { n < 64 }
@@ -38,7 +38,7 @@ pub(crate) fn joined(pending: u64, count: u8, n: u8, x: u64) -> u64
     (pending << n) + x % (1 << n)
 }
 
-/// `pending` of `count` digits, filled up to 64 with the lowest digits of `high`.
+// `pending` of `count` digits, filled up to 64 with the lowest digits of `high`.
 #[inline(always)]
 pub(crate) fn filled(pending: u64, count: u8, high: u64) -> u64
     requires few { count < 64 }
@@ -51,7 +51,7 @@ pub(crate) fn filled(pending: u64, count: u8, high: u64) -> u64
     joined(pending, count, 64 - count, high)
 }
 
-/// The word of 64 bits that shows the number in this order, its most significant digit first.
+// The word of 64 bits that shows the number in this order, its most significant digit first.
 #[inline(always)]
 fn block_of<O: BitOrder>(number: u64) -> u64
     ensures { row_of O.place 64 (result ∷ []) ≡ binary 64 number }
@@ -59,7 +59,7 @@ fn block_of<O: BitOrder>(number: u64) -> u64
     O::from_lsb0(number.reverse())
 }
 
-/// Word `i` of those that a block of 64 bits is made of.
+// Word `i` of those that a block of 64 bits is made of.
 #[inline(always)]
 fn word_of_block<T: BitStore, O: BitOrder>(block: u64, i: u8) -> T
     requires { i < 64 / T.BITS }
@@ -69,8 +69,8 @@ fn word_of_block<T: BitStore, O: BitOrder>(block: u64, i: u8) -> T
     T::from_u64(O::unpack::<T>(block) >> (i * T::BITS))
 }
 
-/// Makes room for `more` words. Where that takes memory the words are moved out and back, so that the path that takes
-/// none keeps them in registers.
+// Makes room for `more` words. Where that takes memory the words are moved out and back, so that the path that takes
+// none keeps them in registers.
 #[inline(always)]
 pub(crate) fn make_room<T: BitStore>(words: &mut Vec<T>, more: usize) -> Result<(), AllocError>
     ensures items { words.new.items ≡ words.old.items }
@@ -87,7 +87,7 @@ pub(crate) fn make_room<T: BitStore>(words: &mut Vec<T>, more: usize) -> Result<
     done
 }
 
-/// The words with room for `more` of them, or as they were.
+// The words with room for `more` of them, or as they were.
 #[cold]
 #[inline(never)]
 fn grown_by<T: BitStore>(words: Vec<T>, more: usize) -> (Vec<T>, Result<(), AllocError>)
@@ -101,7 +101,7 @@ fn grown_by<T: BitStore>(words: Vec<T>, more: usize) -> (Vec<T>, Result<(), Allo
     (words, done)
 }
 
-/// Appends the 64 digits of a number as whole words, the most significant digit first.
+// Appends the 64 digits of a number as whole words, the most significant digit first.
 #[inline(always)]
 pub(crate) fn push_block<T: BitStore, O: BitOrder>(
     words: &mut Vec<T>,
@@ -123,7 +123,7 @@ pub(crate) fn push_block<T: BitStore, O: BitOrder>(
     Ok(())
 }
 
-/// The first `n` of a number's `count` digits.
+// The first `n` of a number's `count` digits.
 pub(crate) fn front_of(pending: u64, count: u8, n: u8) -> u64
     requires few { count < 64 }
     requires inside { n ≤ count }
@@ -134,8 +134,8 @@ pub(crate) fn front_of(pending: u64, count: u8, n: u8) -> u64
     pending >> (count - n)
 }
 
-/// Cuts the words to blocks of 64 bits below `n`, and returns the bits between these blocks and `n`: a number, and how many
-/// digits it has.
+// Cuts the words to blocks of 64 bits below `n`, and returns the bits between these blocks and `n`: a number, and how many
+// digits it has.
 pub(crate) fn cut_at<T: BitStore, O: BitOrder>(words: &mut Vec<T>, n: usize) -> (u64, u8)
     requires { n ≤ T.BITS * length words.old.items }
     ensures list { row T.BitStore O.BitOrder words.new.items ++ binary result.1 result.0

@@ -8,7 +8,7 @@ use crate::reader::BitReader;
 use crate::writer::BitWriter;
 use bit_addressing::{BitOrder, BitStore, GrowError};
 
-/// The signed number that `n` digits stand for, which write `x` in binary.
+// The signed number that `n` digits stand for, which write `x` in binary.
 #[inline(always)]
 fn extended(n: u8, x: u64) -> i64
     requires some { 0 < n }

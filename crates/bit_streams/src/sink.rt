@@ -37,14 +37,14 @@ impl<W: Write, O: BitOrder> Model for BitSink<W, O> {
     ghost invariant = { λ s. IsHeldBack s.held s.pending };
 }
 
-/// The byte whose bits write a number by an order, the first the most significant digit.
+// The byte whose bits write a number by an order, the first the most significant digit.
 fn byte_of<O: BitOrder>(number: u8) -> u8
     ensures { row_of O.place 8 (result ∷ []) ≡ binary 8 number }
 {
     O::from_lsb0(number.reverse())
 }
 
-/// Writes one byte.
+// Writes one byte.
 fn put_byte<W: Write>(inner: &mut W, byte: u8) -> io::Result<()>
     ensures ok { OnOk result (Appends (W.contents inner.old) (W.contents inner.new) (byte ∷ [])) }
     ensures failed { OnErr result (Keeps (W.contents inner.old) (W.contents inner.new)) }

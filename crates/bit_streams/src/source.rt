@@ -47,8 +47,8 @@ impl<R: Read, O: BitOrder> Model for BitSource<R, O> {
     ghost invariant = { λ s. IsHeldBack s.held s.pending };
 }
 
-/// The next byte of a reader, as the number that its bits write by an order, the first the most significant. None at the
-/// end of the bytes.
+// The next byte of a reader, as the number that its bits write by an order, the first the most significant. None at the
+// end of the bytes.
 fn next_byte<R: Read, O: BitOrder>(inner: &mut R) -> io::Result<Option<u64>>
     ensures some { IfOk result (λ byte. IfSome byte (Loses O.place (R.remaining inner.old) (R.remaining inner.new))) }
     ensures below { IfOk result (λ byte. IfSome byte (λ x. x < 2 ^ 8)) }

@@ -9,7 +9,7 @@ use crate::register::joined;
 use crate::writer::BitWriter;
 use bit_addressing::{BitOrder, BitStore, GrowError};
 
-/// The place of the highest digit of a number from 1 on: how many digits it has after the first.
+// The place of the highest digit of a number from 1 on: how many digits it has after the first.
 #[inline(always)]
 pub(crate) fn top_of(x: u64) -> u8
     requires { 0 < x }

@@ -10,7 +10,7 @@ use crate::register::{digit_of, joined};
 use crate::writer::BitWriter;
 use bit_addressing::{BitOrder, BitStore, GrowError};
 
-/// How many rests by `m` have a code of one digit fewer than the others.
+// How many rests by `m` have a code of one digit fewer than the others.
 #[inline(always)]
 fn short_rests(m: u64, top: u8) -> u64
     requires some { 0 < m }

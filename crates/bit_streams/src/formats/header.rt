@@ -66,7 +66,7 @@ type Third = (Number<16>, (Number<32>, Number<32>));
 
 type Parts = (First, (Second, Third));
 
-/// The fields of a header.
+// The fields of a header.
 fn parts_of(h: &Header) -> Parts
     ensures { result ≡ header_parts h.now }
 {
@@ -120,7 +120,7 @@ fn parts_of(h: &Header) -> Parts
     (first, (second, third))
 }
 
-/// The header that has these fields.
+// The header that has these fields.
 fn header_of(parts: Parts) -> Header
     ensures { result ≡ header_from parts }
 {
@@ -142,7 +142,7 @@ fn header_of(parts: Parts) -> Header
     }
 }
 
-/// What a header has that no packet without options has.
+// What a header has that no packet without options has.
 fn fault_of(h: &Header) -> Option<HeaderFault>
     ensures version { (result ≡ Some faults.Version) ↔ (h.now.version ≢ 4) }
     ensures options { result ≡ Some faults.Options → h.now.header_words ≢ 5 }
@@ -162,7 +162,7 @@ fn fault_of(h: &Header) -> Option<HeaderFault>
     None
 }
 
-/// Reads the fields of a header, whatever they are.
+// Reads the fields of a header, whatever they are.
 fn read_fields<T: BitStore, O: BitOrder>(reader: &mut BitReader<'_, T, O>) -> Option<Header>
     ensures found { IfSome result (λ h. reader.old.rest ≡ header_bits h ++ reader.new.rest) }
     ensures fitting { IfSome result HasFields }

@@ -1,5 +1,5 @@
 //! Numbers of one width, one after another in the bits of a vector.
-ghost use Rattle.std.specs.Prelude.{◌≡◌, ◌+◌, ◌*◌, ◌^◌, ◌<◌, ◌≤◌, ◌↔◌, ◌++◌, ◌||◌, [], ◌∷◌, Err, IfOk, IfSome, IsTrue, MatchOption, OnErr, OnOk, eqb, length, ltb, set, slice_get};
+ghost use Rattle.std.specs.Prelude.{◌≡◌, ◌+◌, ◌-◌, ◌*◌, ◌^◌, ◌<◌, ◌≤◌, ◌↔◌, ◌++◌, ◌||◌, [], ◌∷◌, Err, IfOk, IfSome, IsTrue, MatchOption, OnErr, OnOk, eqb, length, ltb, set, slice_get, take};
 ghost use Rattle.bit_addressing.specs.declared.errors.GrowError.{GrowError};
 ghost use Rattle.bit_addressing.specs.declared.length.TheConstants.{MAX_BITS};
 ghost use Rattle.bit_containers.specs.BitVec.{IsClean};
@@ -124,6 +124,8 @@ impl<T: BitStore, O: BitOrder> Records<T, O> {
         ensures unchanged { OnErr result (AreKept self.old self.new) }
         ensures clean { IsClean T.BITS self.new.bits }
         ensures capacity { self.old.bits.capacity ≤ self.new.bits.capacity }
+        ensures no_memory { length self.old.list * self.old.width + self.old.width ≤ self.old.bits.capacity
+            → self.new.bits.capacity ≡ self.old.bits.capacity }
     {
         match self.bits.push_binary(self.width, number) {
             Ok(()) => {
@@ -132,6 +134,60 @@ impl<T: BitStore, O: BitOrder> Records<T, O> {
             }
             Err(why) => Err(why),
         }
+    }
+
+    /// Removes the last number and returns it. None exactly where there is no number; then nothing changes.
+    /// Takes no memory, and the capacity stays.
+    ///
+    /// ```text
+    /// of 41, 8: ages.pop() returns Some(8), and 41 is left
+    /// ```
+    pub fn pop(&mut self) -> Option<u64>
+        ensures popped { MatchOption result (length self.old.list ≡ 0)
+            (λ number. self.old.list ≡ self.new.list ++ number ∷ []) }
+        ensures value { result ≡ slice_get self.old.list (length self.old.list - 1) }
+        ensures list { self.new.list ≡ take (length self.old.list - 1) self.old.list }
+        ensures below { IfSome result (λ number. number < 2 ^ self.old.width) }
+        ensures width { self.new.width ≡ self.old.width }
+        ensures clean { IsClean T.BITS self.new.bits }
+        ensures capacity { self.new.bits.capacity ≡ self.old.bits.capacity }
+    {
+        if self.len == 0 {
+            return None;
+        }
+        let last = self.len - 1;
+        let number = self.get(last);
+        self.truncate(last);
+        number
+    }
+
+    /// Keeps the first `len` numbers and removes the others. Changes nothing where `len` is the length or more.
+    /// Takes no memory, and the capacity stays.
+    ///
+    /// ```text
+    /// of 41, 8, 7: ages.truncate(1) leaves 41
+    /// ```
+    pub fn truncate(&mut self, len: usize)
+        ensures list { self.new.list ≡ take len self.old.list }
+        ensures width { self.new.width ≡ self.old.width }
+        ensures clean { IsClean T.BITS self.new.bits }
+        ensures capacity { self.new.bits.capacity ≡ self.old.bits.capacity }
+    {
+        if len < self.len {
+            self.bits.truncate(len * self.width as usize);
+            self.bits.set_uninitialized(false);
+            self.len = len;
+        }
+    }
+
+    /// Removes every number. The width and the capacity stay.
+    pub fn clear(&mut self)
+        ensures list { self.new.list ≡ [] }
+        ensures width { self.new.width ≡ self.old.width }
+        ensures clean { IsClean T.BITS self.new.bits }
+        ensures capacity { self.new.bits.capacity ≡ self.old.bits.capacity }
+    {
+        self.truncate(0);
     }
 
     /// The bits of the numbers, one after another, each from its most significant digit on: they begin at head 0, and

@@ -1,6 +1,5 @@
-use Rattle.std.proofs.Common.{◌≡◌, ◌*◌, length, take, sym, ◌∙◌, ap, arith}
-use Rattle.std.proofs.lemmas.List.{length-take-le, take_all}
-use Rattle.bit_addressing.proofs.Runs.{mul_mono}
+use Rattle.std.proofs.Common.{◌≡◌, length, take, sym, ◌∙◌, ap, arith}
+use Rattle.std.proofs.lemmas.List.{take_all}
 use Rattle.bit_records.specs.Records.{numbers_in}
 use Rattle.bit_records.proofs.Numbers.{count_of, numbers_taken}
 use Rattle.bit_records.proofs.records.Records.truncate.Goals as goal

@@ -233,3 +233,11 @@ numbers_taken w n m xs positive size most =
 -- a list is what comes before its last number, and that
 pub last_apart : (xs : List ℕ) (n : ℕ) → length xs ≡ n + 1 → xs ≡ take n xs ++ get_or xs n 0 ∷ []
 last_apart xs n e = sym (take_all (n + 1) xs (omega arith)) ∙ take_more xs n 0 (omega arith)
+
+-- bits are equal exactly where the numbers in them are
+pub same_bits : (w n m : ℕ) (xs ys : List Bool) → 0 < w → length xs ≡ n * w → length ys ≡ m * w → numbers_in w xs ≡ numbers_in w ys → xs ≡ ys
+same_bits w n m xs ys positive size size' e = sym (joined_numbers w n xs positive size) ∙ ap (joined w) e ∙ joined_numbers w m ys positive size'
+
+-- the bits of some numbers and of more
+pub bits_of_more : (a b w : ℕ) → a * w + b * w ≡ (a + b) * w
+bits_of_more a b w = grind arith

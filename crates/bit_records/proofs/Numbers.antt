@@ -1,10 +1,10 @@
 -- Numbers out of bits and into them, and what a bit list written over or grown by one number has.
-use Rattle.std.proofs.Common.{◌≡◌, ℕ, zero, suc, ◌+◌, ◌-◌, ◌*◌, ◌/◌, ◌^◌, ◌<◌, ◌≤◌, Bool, false, List, [], ◌∷◌, ◌++◌, map, length, drop, set, reverse, get_or, slice_range, slice_get, Some, sym, ◌∙◌, ap, subst, inl, inr, arith, rules}
+use Rattle.std.proofs.Common.{◌≡◌, ℕ, zero, suc, ◌+◌, ◌-◌, ◌*◌, ◌/◌, ◌^◌, ◌<◌, ◌≤◌, Bool, false, List, [], ◌∷◌, ◌++◌, map, length, take, drop, set, reverse, get_or, slice_range, slice_get, Some, sym, ◌∙◌, ap, subst, inl, inr, arith, rules}
 use Rattle.std.specs.List.{range_with_len}
 use Rattle.std.specs.Simd.Lanes.{mask_l}
 use Rattle.std.proofs.lemmas.Simd.{mask_l-lt}
 use Rattle.std.proofs.lemmas.Bool.{cases_lt}
-use Rattle.std.proofs.lemmas.List.{ext_get_or, get_or-reverse, length-reverse, drop_all, length-append, length-set, places, same_lists, get_or_append_left, get_or-set_same, get_or-set_other}
+use Rattle.std.proofs.lemmas.List.{ext_get_or, get_or-reverse, length-reverse, drop_all, length-take-le, get_or-take, take_all, take_more, length-append, length-set, places, same_lists, get_or_append_left, get_or-set_same, get_or-set_other}
 use Rattle.std.proofs.Math.Seq.{get_or-append_seam}
 use Rattle.std.proofs.lemmas.Option.{slice_get-get_or}
 use Rattle.bit_rows.proofs.Combinations.{put_later}
@@ -204,3 +204,40 @@ pub no_bits : (w n : ℕ) (xs : List Bool) → length xs ≡ n * w → n ≡ 0 �
 no_bits w n xs size none =
     let all : n * w ≡ 0 = ap (λ k. k * w) none ∙ omega arith in
     same_lists _ _ (size ∙ all) (λ i d below. absurd (omega arith))
+
+-- ---- fewer of them
+
+taken_part : (xs : List Bool) (n a b : ℕ) → n ≤ length xs → a ≤ b → b ≤ n → slice_range (take n xs) a b ≡ slice_range xs a b
+taken_part xs n a b h k l = same_lists _ _ (search (rules, places)) (λ i e below. grind (arith, places))
+
+-- the first numbers are those of the first bits
+pub numbers_taken : (w n m : ℕ) (xs : List Bool) → 0 < w → length xs ≡ n * w → m ≤ n → numbers_in w (take (m * w) xs) ≡ take m (numbers_in w xs)
+numbers_taken w n m xs positive size most =
+    let room = mul_mono m n w most in
+    let cut : length (take (m * w) xs) ≡ m * w = length-take-le (m * w) xs (omega arith) in
+    let count = count_of w n xs positive size in
+    let left = count_of w m (take (m * w) xs) positive cut in
+    let few : length (take m (numbers_in w xs)) ≡ m = length-take-le m (numbers_in w xs) (omega arith) in
+    ext_get_or 0 _ _ (left ∙ sym few)
+    (λ i h.
+    let all = length-numbers w xs in
+    let some = length-numbers w (take (m * w) xs) in
+    let here : i < m = omega arith in
+    let more = one_more_word i w in
+    let end = mul_mono (i + 1) m w (omega arith) in
+    number_at w (take (m * w) xs) i (omega arith)
+    ∙ ap written (taken_part xs (m * w) (i * w) (i * w + w) (omega arith) (omega arith) (omega arith))
+    ∙ sym (number_at w xs i (omega arith))
+    ∙ sym (get_or-take m (numbers_in w xs) i 0 here))
+
+-- a list is what comes before its last number, and that
+pub last_apart : (xs : List ℕ) (n : ℕ) → length xs ≡ n + 1 → xs ≡ take n xs ++ get_or xs n 0 ∷ []
+last_apart xs n e = sym (take_all (n + 1) xs (omega arith)) ∙ take_more xs n 0 (omega arith)
+
+-- bits are equal exactly where the numbers in them are
+pub same_bits : (w n m : ℕ) (xs ys : List Bool) → 0 < w → length xs ≡ n * w → length ys ≡ m * w → numbers_in w xs ≡ numbers_in w ys → xs ≡ ys
+same_bits w n m xs ys positive size size' e = sym (joined_numbers w n xs positive size) ∙ ap (joined w) e ∙ joined_numbers w m ys positive size'
+
+-- the bits of some numbers and of more
+pub bits_of_more : (a b w : ℕ) → a * w + b * w ≡ (a + b) * w
+bits_of_more a b w = grind arith

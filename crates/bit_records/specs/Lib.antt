@@ -1,2 +1,4 @@
 pub mod Records
+pub mod Iter
+pub mod Compared
 pub mod Examples

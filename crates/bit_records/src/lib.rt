@@ -1,6 +1,8 @@
 //! Numbers of one width, packed in a vector of bits.
 #![tactic(auto)]
 
+mod iter;
 mod records;
 
+pub use iter::Iter;
 pub use records::Records;

@@ -1,12 +1,13 @@
 //! Numbers of one width, one after another in the bits of a vector.
-ghost use Rattle.std.specs.Prelude.{◌≡◌, ◌+◌, ◌*◌, ◌^◌, ◌<◌, ◌≤◌, ◌↔◌, ◌++◌, ◌||◌, [], ◌∷◌, Err, IfOk, IfSome, IsTrue, MatchOption, OnErr, OnOk, eqb, length, ltb, set, slice_get};
+ghost use Rattle.std.specs.Prelude.{◌≡◌, ◌+◌, ◌-◌, ◌*◌, ◌^◌, ◌<◌, ◌≤◌, ◌↔◌, ◌++◌, ◌||◌, [], ◌∷◌, All, Err, IfOk, IfSome, IsTrue, MatchOption, OnErr, OnOk, eqb, length, ltb, set, slice_get, take};
 ghost use Rattle.bit_addressing.specs.declared.errors.GrowError.{GrowError};
 ghost use Rattle.bit_addressing.specs.declared.length.TheConstants.{MAX_BITS};
 ghost use Rattle.bit_containers.specs.BitVec.{IsClean};
 ghost use Rattle.bit_records.specs.Records.{AreKept, joined};
 
-use bit_containers::{BitOrder, BitStore, BitVec, GrowError, Lsb0};
+use bit_containers::{BitOrder, BitStore, BitVec, GrowError, Lsb0, MAX_BITS};
 use std::alloc::{AllocError, Global};
+use std::fmt;
 use std::marker::Model;
 
 /// Numbers of one width, from 1 to 64 binary digits, packed without a gap: the most significant digit of
@@ -124,6 +125,8 @@ impl<T: BitStore, O: BitOrder> Records<T, O> {
         ensures unchanged { OnErr result (AreKept self.old self.new) }
         ensures clean { IsClean T.BITS self.new.bits }
         ensures capacity { self.old.bits.capacity ≤ self.new.bits.capacity }
+        ensures no_memory { length self.old.list * self.old.width + self.old.width ≤ self.old.bits.capacity
+            → self.new.bits.capacity ≡ self.old.bits.capacity }
     {
         match self.bits.push_binary(self.width, number) {
             Ok(()) => {
@@ -132,6 +135,111 @@ impl<T: BitStore, O: BitOrder> Records<T, O> {
             }
             Err(why) => Err(why),
         }
+    }
+
+    /// Appends the numbers of a slice. Returns `TooLong` exactly where the bits with them would pass `MAX_BITS`, and
+    /// `OutOfMemory` only where they would pass the capacity. A refusal changes nothing but perhaps the
+    /// capacity. Requires that each number has at most as many digits as the width.
+    ///
+    /// ```text
+    /// of 41: ages.extend_from_slice(&[8, 7])? leaves 41, 8, 7
+    /// ```
+    pub fn extend_from_slice(&mut self, numbers: &[u64]) -> Result<(), GrowError>
+        requires { All (λ number. number < 2 ^ self.old.width) numbers.now }
+        ensures list { OnOk result (self.new.list ≡ self.old.list ++ numbers.now) }
+        ensures width { self.new.width ≡ self.old.width }
+        ensures too_long { (result ≡ Err GrowError.TooLong)
+            ↔ (MAX_BITS < (length self.old.list + length numbers.now) * self.old.width) }
+        ensures memory { result ≡ Err GrowError.OutOfMemory
+            → self.old.bits.capacity < (length self.old.list + length numbers.now) * self.old.width }
+        ensures unchanged { OnErr result (AreKept self.old self.new) }
+        ensures clean { IsClean T.BITS self.new.bits }
+        ensures capacity { self.old.bits.capacity ≤ self.new.bits.capacity }
+        ensures no_memory { (length self.old.list + length numbers.now) * self.old.width ≤ self.old.bits.capacity
+            → self.new.bits.capacity ≡ self.old.bits.capacity }
+    {
+        self.reserve(numbers.len())?;
+        for i in 0..numbers.len() {
+            self.push(numbers[i])?;
+        }
+        Ok(())
+    }
+
+    /// Makes room for `more` further numbers, so that appending them takes no memory. Returns `TooLong` exactly where the
+    /// bits with them would pass `MAX_BITS`, and `OutOfMemory` only where they would pass the capacity. No number
+    /// changes.
+    pub fn reserve(&mut self, more: usize) -> Result<(), GrowError>
+        ensures kept { AreKept self.old self.new }
+        ensures room { OnOk result ((length self.old.list + more) * self.old.width ≤ self.new.bits.capacity) }
+        ensures fits { OnOk result ((length self.old.list + more) * self.old.width ≤ MAX_BITS) }
+        ensures too_long { (result ≡ Err GrowError.TooLong)
+            ↔ (MAX_BITS < (length self.old.list + more) * self.old.width) }
+        ensures memory { result ≡ Err GrowError.OutOfMemory
+            → self.old.bits.capacity < (length self.old.list + more) * self.old.width }
+        ensures clean { IsClean T.BITS self.new.bits }
+        ensures capacity { self.old.bits.capacity ≤ self.new.bits.capacity }
+        ensures no_memory { (length self.old.list + more) * self.old.width ≤ self.old.bits.capacity
+            → self.new.bits.capacity ≡ self.old.bits.capacity }
+    {
+        let room = (MAX_BITS - self.bits.len()) / self.width as usize;
+        if more > room {
+            return Err(GrowError::TooLong);
+        }
+        self.bits.reserve(more * self.width as usize)
+    }
+
+    /// Removes the last number and returns it. None exactly where there is no number; then nothing changes.
+    /// Takes no memory, and the capacity stays.
+    ///
+    /// ```text
+    /// of 41, 8: ages.pop() returns Some(8), and 41 is left
+    /// ```
+    pub fn pop(&mut self) -> Option<u64>
+        ensures popped { MatchOption result (length self.old.list ≡ 0)
+            (λ number. self.old.list ≡ self.new.list ++ number ∷ []) }
+        ensures value { result ≡ slice_get self.old.list (length self.old.list - 1) }
+        ensures list { self.new.list ≡ take (length self.old.list - 1) self.old.list }
+        ensures below { IfSome result (λ number. number < 2 ^ self.old.width) }
+        ensures width { self.new.width ≡ self.old.width }
+        ensures clean { IsClean T.BITS self.new.bits }
+        ensures capacity { self.new.bits.capacity ≡ self.old.bits.capacity }
+    {
+        if self.len == 0 {
+            return None;
+        }
+        let last = self.len - 1;
+        let number = self.get(last);
+        self.truncate(last);
+        number
+    }
+
+    /// Keeps the first `len` numbers and removes the others. Changes nothing where `len` is the length or more.
+    /// Takes no memory, and the capacity stays.
+    ///
+    /// ```text
+    /// of 41, 8, 7: ages.truncate(1) leaves 41
+    /// ```
+    pub fn truncate(&mut self, len: usize)
+        ensures list { self.new.list ≡ take len self.old.list }
+        ensures width { self.new.width ≡ self.old.width }
+        ensures clean { IsClean T.BITS self.new.bits }
+        ensures capacity { self.new.bits.capacity ≡ self.old.bits.capacity }
+    {
+        if len < self.len {
+            self.bits.truncate(len * self.width as usize);
+            self.bits.set_uninitialized(false);
+            self.len = len;
+        }
+    }
+
+    /// Removes every number. The width and the capacity stay.
+    pub fn clear(&mut self)
+        ensures list { self.new.list ≡ [] }
+        ensures width { self.new.width ≡ self.old.width }
+        ensures clean { IsClean T.BITS self.new.bits }
+        ensures capacity { self.new.bits.capacity ≡ self.old.bits.capacity }
+    {
+        self.truncate(0);
     }
 
     /// The bits of the numbers, one after another, each from its most significant digit on: they begin at head 0, and
@@ -164,5 +272,35 @@ impl<T: BitStore, O: BitOrder> Clone for Records<T, O> {
             }),
             Err(refused) => Err(refused),
         }
+    }
+}
+
+impl<T: BitStore, O: BitOrder> PartialEq for Records<T, O> {
+    ghost use Rattle.std.specs.Cmp.{partial_equiv_from_equiv};
+    ghost use Rattle.bit_records.specs.Compared.{are_equal, equal_equiv};
+
+    ghost eq = { are_equal };
+
+    ghost laws = { partial_equiv_from_equiv equal_equiv };
+
+    /// Whether both have the same width and the same numbers.
+    fn eq(&self, other: &Self) -> bool
+        ensures value { result ≡ are_equal self.now other.now }
+        ensures same { IsTrue result ↔ ((self.now.width ≡ other.now.width) × (self.now.list ≡ other.now.list)) }
+    {
+        self.width == other.width && self.bits == other.bits
+    }
+}
+
+impl<T: BitStore, O: BitOrder> Eq for Records<T, O> {
+    ghost use Rattle.bit_records.specs.Compared.{equal_equiv};
+
+    ghost laws = { equal_equiv };
+}
+
+/// The numbers as a list, like those of a `Vec`: `[41, 8]`.
+impl<T: BitStore, O: BitOrder> fmt::Debug for Records<T, O> {
+    fn fmt<W: fmt::Write>(&self, f: &mut fmt::Formatter<W>) -> fmt::Result {
+        f.debug_list().entries(self.iter()).finish()
     }
 }

@@ -108,3 +108,62 @@ fn refused(rt: HostRuntime) {
         }
     }
 }
+
+#[test]
+fn shorter(rt: HostRuntime) {
+    let mut records = Records::<u8, Msb0>::new(rt.alloc(), 5).unwrap();
+    check(&rt, records.pop() == None);
+    ok(&rt, records.extend_from_slice(&[1, 31, 0, 7]));
+    check(&rt, records.pop() == Some(7));
+    assert!(rt; records.len() == 3);
+    records.truncate(3);
+    records.truncate(1);
+    check(&rt, records.get(0) == Some(1));
+    check(&rt, records.get(1) == None);
+    let bits = ok(&rt, records.clone()).into_bits();
+    check(&rt, bits.as_raw_slice() == [0x08].as_slice());
+    records.clear();
+    check(&rt, records.is_empty());
+    assert!(rt; records.width() == 5);
+}
+
+#[test]
+fn both_ends(rt: HostRuntime) {
+    let mut records = Records::<u8, Lsb0>::new(rt.alloc(), 5).unwrap();
+    ok(&rt, records.extend_from_slice(&[1, 31, 0]));
+    let mut numbers = records.iter();
+    assert!(rt; numbers.len() == 3);
+    check(&rt, numbers.next_back() == Some(0));
+    check(&rt, numbers.next() == Some(1));
+    check(&rt, numbers.next() == Some(31));
+    check(&rt, numbers.next() == None);
+    check(&rt, numbers.next_back() == None);
+}
+
+#[test]
+fn equal_and_printed(rt: HostRuntime) {
+    let mut records = Records::<u8, Lsb0>::new(rt.alloc(), 5).unwrap();
+    let mut others = Records::<u8, Lsb0>::new(rt.alloc(), 5).unwrap();
+    ok(&rt, records.extend_from_slice(&[1, 31, 0]));
+    ok(&rt, others.push(1));
+    check(&rt, records != others);
+    ok(&rt, others.extend_from_slice(&[31, 0]));
+    check(&rt, records == others);
+    let text = ok(&rt, format!(in rt.alloc(); "{records:?}"));
+    check(&rt, text.as_str() == "[1, 31, 0]");
+}
+
+#[test]
+fn other_width(rt: HostRuntime) {
+    let fives = Records::<u8, Lsb0>::new(rt.alloc(), 5).unwrap();
+    let sixes = Records::<u8, Lsb0>::new(rt.alloc(), 6).unwrap();
+    check(&rt, fives != sixes);
+}
+
+#[test]
+fn reserved(rt: HostRuntime) {
+    let mut records = Records::<u8, Msb0>::new(rt.alloc(), 64).unwrap();
+    check(&rt, records.reserve(usize::MAX) == Err(GrowError::TooLong));
+    ok(&rt, records.reserve(2));
+    check(&rt, records.is_empty());
+}

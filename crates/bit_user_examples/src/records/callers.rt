@@ -1,5 +1,5 @@
 //! Callers of records: what each proves stands in its clauses, and only the loop has a file, its invariant.
-ghost use Rattle.std.specs.Prelude.{◌≡◌, ℕ, ◌+◌, ◌^◌, ◌<◌, ◌++◌, [], ◌∷◌, IfOk, OnOk, Some, length, slice_get, slice_index_or};
+ghost use Rattle.std.specs.Prelude.{◌≡◌, ℕ, ◌+◌, ◌-◌, ◌^◌, ◌<◌, ◌++◌, [], ◌∷◌, IfOk, IsTrue, OnOk, Some, length, slice_get, slice_index_or, take};
 
 use bit_containers::{BitOrder, BitStore, GrowError};
 use bit_records::Records;
@@ -41,4 +41,40 @@ pub fn filled<T: BitStore, O: BitOrder>(
         records.push(numbers[i])?;
     }
     Ok(())
+}
+
+pub fn last_replaced<T: BitStore, O: BitOrder>(
+    records: &mut Records<T, O>,
+    number: u64,
+) -> Result<Option<u64>, GrowError>
+    requires some { 0 < length records.old.list }
+    requires fits { number < 2 ^ records.old.width }
+    ensures last { IfOk result (λ last. last ≡ slice_get records.old.list (length records.old.list - 1)) }
+    ensures list { OnOk result (records.new.list ≡ take (length records.old.list - 1) records.old.list ++ number ∷ []) }
+{
+    let last = records.pop();
+    records.push(number)?;
+    Ok(last)
+}
+
+pub fn two_more<T: BitStore, O: BitOrder>(records: &mut Records<T, O>) -> Result<(), GrowError>
+    requires { records.old.width ≡ 5 }
+    ensures { OnOk result (records.new.list ≡ records.old.list ++ 8 ∷ 31 ∷ []) }
+{
+    records.extend_from_slice(&[8, 31])
+}
+
+pub fn same_numbers<T: BitStore, O: BitOrder>(left: &Records<T, O>, right: &Records<T, O>) -> bool
+    ensures { IsTrue result → left.now.list ≡ right.now.list }
+{
+    left == right
+}
+
+pub fn ends<T: BitStore, O: BitOrder>(records: &Records<T, O>) -> (Option<u64>, Option<u64>)
+    requires { (a b : ℕ) × (records.now.list ≡ a ∷ b ∷ []) }
+    ensures { records.now.list ≡ 7 ∷ 8 ∷ [] → result ≡ (Some 7, Some 8) }
+{
+    let mut numbers = records.iter();
+    let first = numbers.next();
+    (first, numbers.next_back())
 }

@@ -1,4 +1,4 @@
-use Rattle.std.proofs.Common.{◌≡◌, ◌+◌, ◌*◌, ◌^◌, ◌<◌, ◌++◌, ◌↔◌, [], ◌∷◌, Ok, Err, length, sym, subst, ◌∙◌, ap, inl, inr, arith}
+use Rattle.std.proofs.Common.{◌≡◌, ◌+◌, ◌*◌, ◌^◌, ◌<◌, ◌≤◌, ◌++◌, ◌↔◌, [], ◌∷◌, Ok, Err, length, sym, subst, ◌∙◌, ap, inl, inr, arith}
 use Rattle.std.proofs.lemmas.Bool.{cases_lt}
 use Rattle.std.proofs.lemmas.List.{length-append}
 use Rattle.bit_addressing.specs.Row.{binary}
@@ -65,3 +65,21 @@ returns-in-Err-clause-memory g c = λ e.
     let len : i.len ≡ length now.list = sym (count_of i.width i.len i.bits.list inv.some inv.size) ∙ ap (λ r. length r.list) c.self.view_is in
     let wanted : length i.bits.list + i.width ≡ length now.list * now.width + now.width = ap (λ n. n + i.width) inv.size ∙ ap (λ n. n * i.width + i.width) len ∙ ap (λ r. length now.list * r.width + r.width) c.self.view_is in
     subst (λ n. now.bits.capacity < n) wanted (subst (λ r. r.bits.capacity < length i.bits.list + i.width) c.self.view_is (c.in-Err.ensures.refusal.memory e))
+
+pub returns-in-Ok-clause-no_memory : goal.returns-in-Ok-clause-no_memory
+returns-in-Ok-clause-no_memory g c = λ room.
+    let i = c.self.inside in
+    let inv = c.self.invariant in
+    let now = c.args.self.now in
+    let len : i.len ≡ length now.list = sym (count_of i.width i.len i.bits.list inv.some inv.size) ∙ ap (λ r. length r.list) c.self.view_is in
+    let wanted : length i.bits.list + i.width ≡ length now.list * now.width + now.width = ap (λ n. n + i.width) inv.size ∙ ap (λ n. n * i.width + i.width) len ∙ ap (λ r. length now.list * r.width + r.width) c.self.view_is in
+    c.in-Ok.ensures.no_memory (subst (λ n. n ≤ i.bits.capacity) (sym wanted) (subst (λ r. length now.list * now.width + now.width ≤ r.bits.capacity) (sym c.self.view_is) room)) ∙ ap (λ r. r.bits.capacity) c.self.view_is
+
+pub returns-in-Err-clause-no_memory : goal.returns-in-Err-clause-no_memory
+returns-in-Err-clause-no_memory g c = λ room.
+    let i = c.self.inside in
+    let inv = c.self.invariant in
+    let now = c.args.self.now in
+    let len : i.len ≡ length now.list = sym (count_of i.width i.len i.bits.list inv.some inv.size) ∙ ap (λ r. length r.list) c.self.view_is in
+    let wanted : length i.bits.list + i.width ≡ length now.list * now.width + now.width = ap (λ n. n + i.width) inv.size ∙ ap (λ n. n * i.width + i.width) len ∙ ap (λ r. length now.list * r.width + r.width) c.self.view_is in
+    c.in-Err.ensures.no_memory (subst (λ n. n ≤ i.bits.capacity) (sym wanted) (subst (λ r. length now.list * now.width + now.width ≤ r.bits.capacity) (sym c.self.view_is) room)) ∙ ap (λ r. r.bits.capacity) c.self.view_is

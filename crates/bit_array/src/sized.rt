@@ -2,7 +2,7 @@
 ghost use Rattle.std.specs.Prelude.{◌≡◌, ℕ, List, [], ◌∷◌, length, replicate, slice_index_or, refl};
 ghost use Rattle.std.specs.Borrow.{sem};
 ghost use Rattle.std.specs.Mem.{FitsInMemory};
-ghost use Rattle.std.proofs.Common.{rules};
+ghost use Rattle.std.proofs.Common.{rules, ◌∙◌};
 ghost use Rattle.bit_array.specs.Sized.{one_kept};
 ghost use Rattle.bit_slice.specs.Lists.{lends_to};
 
@@ -52,8 +52,12 @@ pub trait BitViewSized: BitWords {
     ghost kept: { (a : Self) (ws : List Self.Store) → length ws ≡ Self.count → Self.words (refilled a ws) ≡ ws };
 }
 
-/// A word, which is the one word of itself. A word type that a user writes gets `BitWords` and `BitViewSized` by it.
-pub trait OneWord: BitStore {
+/// A word, which is the one word of itself.
+pub trait OneWord: BitStore + BitWords<Store = Self> {
+    ghost is_one: { (w : Self) → Self.words w ≡ w ∷ [] };
+
+    ghost counts_one: { Self.count ≡ 1 };
+
     ghost is_small: { FitsInMemory Self.row };
 }
 
@@ -87,8 +91,18 @@ impl<T: BitStore, const N: usize> BitViewSized for [T; N] {
     ghost kept = { λ a ws e. refl };
 }
 
-impl<W: OneWord> BitWords for W {
-    type Store = W;
+impl<W: OneWord> BitViewSized for W {
+    ghost refilled = { λ w ws. slice_index_or ws 0 w };
+
+    fn as_raw_mut_slice(&mut self) -> &mut [W] {
+        slice::from_mut(self)
+    }
+
+    ghost kept = { λ a ws e. W.is_one (slice_index_or ws 0 a) ∙ one_kept a ws (e ∙ W.counts_one) };
+}
+
+impl BitWords for u8 {
+    type Store = u8;
 
     ghost words = { λ w. w ∷ [] };
 
@@ -98,41 +112,131 @@ impl<W: OneWord> BitWords for W {
         1
     }
 
-    fn zero() -> W {
-        W::ZERO
+    fn zero() -> u8 {
+        0
     }
 
-    fn as_raw_slice(&self) -> &[W] {
+    fn as_raw_slice(&self) -> &[u8] {
         slice::from_ref(self)
     }
 }
 
-impl<W: OneWord> BitViewSized for W {
-    ghost refilled = { λ w ws. slice_index_or ws 0 w };
+impl OneWord for u8 {
+    ghost is_one = { λ w. refl };
 
-    fn as_raw_mut_slice(&mut self) -> &mut [W] {
-        slice::from_mut(self)
-    }
+    ghost counts_one = { refl };
 
-    ghost kept = { λ a ws e. one_kept a ws e };
+    ghost is_small = { Prim.search rules };
 }
 
-impl OneWord for u8 {
-    ghost is_small = { Prim.search rules };
+impl BitWords for u16 {
+    type Store = u16;
+
+    ghost words = { λ w. w ∷ [] };
+
+    ghost count = { 1 };
+
+    fn count() -> usize {
+        1
+    }
+
+    fn zero() -> u16 {
+        0
+    }
+
+    fn as_raw_slice(&self) -> &[u16] {
+        slice::from_ref(self)
+    }
 }
 
 impl OneWord for u16 {
+    ghost is_one = { λ w. refl };
+
+    ghost counts_one = { refl };
+
     ghost is_small = { Prim.search rules };
+}
+
+impl BitWords for u32 {
+    type Store = u32;
+
+    ghost words = { λ w. w ∷ [] };
+
+    ghost count = { 1 };
+
+    fn count() -> usize {
+        1
+    }
+
+    fn zero() -> u32 {
+        0
+    }
+
+    fn as_raw_slice(&self) -> &[u32] {
+        slice::from_ref(self)
+    }
 }
 
 impl OneWord for u32 {
+    ghost is_one = { λ w. refl };
+
+    ghost counts_one = { refl };
+
     ghost is_small = { Prim.search rules };
+}
+
+impl BitWords for u64 {
+    type Store = u64;
+
+    ghost words = { λ w. w ∷ [] };
+
+    ghost count = { 1 };
+
+    fn count() -> usize {
+        1
+    }
+
+    fn zero() -> u64 {
+        0
+    }
+
+    fn as_raw_slice(&self) -> &[u64] {
+        slice::from_ref(self)
+    }
 }
 
 impl OneWord for u64 {
+    ghost is_one = { λ w. refl };
+
+    ghost counts_one = { refl };
+
     ghost is_small = { Prim.search rules };
 }
 
+impl BitWords for usize {
+    type Store = usize;
+
+    ghost words = { λ w. w ∷ [] };
+
+    ghost count = { 1 };
+
+    fn count() -> usize {
+        1
+    }
+
+    fn zero() -> usize {
+        0
+    }
+
+    fn as_raw_slice(&self) -> &[usize] {
+        slice::from_ref(self)
+    }
+}
+
 impl OneWord for usize {
+    ghost is_one = { λ w. refl };
+
+    ghost counts_one = { refl };
+
     ghost is_small = { Prim.search rules };
 }

@@ -383,15 +383,3 @@ pub fn exact_chunks<T: BitStore, O: BitOrder>(view: BitSlice<'_, T, O>, n: usize
 {
     view.chunks_exact(n).len()
 }
-
-/// The bits after the whole chunks, when the iterator is used up.
-pub fn rest_after_two<T: BitStore, O: BitOrder>(view: BitSlice<'_, T, O>, n: usize) -> usize
-    requires some { 0 < n }
-    requires two { len_of view / n ≡ 2 }
-    ensures { result ≡ len_of view.entry - len_of view.entry / n * n }
-{
-    let mut chunks = view.chunks_exact(n);
-    let _first = chunks.next();
-    let _second = chunks.next_back();
-    chunks.remainder().len()
-}

@@ -1,5 +1,5 @@
 -- What was written in a list that stands in words from a head on, told by the row of the words.
-use Rattle.std.proofs.Common.{◌≡◌, ℕ, ◌+◌, ◌*◌, ◌≤◌, Bool, List, length, slice_range, refl, sym, ◌∙◌, ap, arith}
+use Rattle.std.proofs.Common.{◌≡◌, ℕ, ◌+◌, ◌*◌, ◌≤◌, Bool, List, length, slice_get, slice_range, refl, sym, ◌∙◌, ap, arith}
 use Rattle.bit_addressing.specs.Bits.{IsWidth}
 use Rattle.bit_addressing.specs.declared.store.BitStore as store
 use Rattle.bit_addressing.specs.declared.order.BitOrder as order
@@ -10,6 +10,7 @@ use Rattle.bit_addressing.proofs.lists.Moved.{shows_moved}
 use Rattle.bit_addressing.proofs.lists.Shown.{shown_written}
 use Rattle.bit_slice.proofs.Clean.{Seen, clean_moved, clean_put, clean_whole}
 use Rattle.bit_slice.proofs.Parts.{in_row, row_size, shown_length}
+use Rattle.bit_slice.proofs.Ranges.{read_before, read_after}
 use Rattle.bit_slice.proofs.Shown.{moved_lands, put_all, shown_filled}
 use Rattle.bit_slice.specs.Overwritten.{list_in, IsMovedWithin, IsRewritten, IsWritten}
 
@@ -17,14 +18,17 @@ module _ {X Y : Type 0} (W : store.Ghosts X) (P : order.Ghosts Y) (old new : Lis
   abbrev seen_in : List X → Seen
   seen_in ws = record { head = head; row = row W P ws; list = list_in W P ws head len }
 
-  pub written_in : (start : ℕ) (bits : List Bool) → start + length bits ≤ len → row W P new ≡ put (row W P old) (head + start) bits → IsWritten W P old new head len start bits
-  written_in start bits fits is =
+  pub written_in : (start end : ℕ) (bits : List Bool) → start + length bits ≡ end → end ≤ len → row W P new ≡ put (row W P old) (head + start) bits → IsWritten W P old new head len start end bits
+  written_in start end bits ends inside is =
+      let fits : start + length bits ≤ len = omega arith in
       let long : length (list_in W P old head len) ≡ len = shown_length W P old head len room in
       let list : list_in W P new head len ≡ put (list_in W P old head len) start bits =
       ap (λ r. slice_range r head (head + len)) is ∙ shown_written (row W P old) bits head len start fits (in_row W P old (head + len) room) in
       record {
         row = is;
         list = list;
+        before = λ j below. ap (λ l. slice_get l j) list ∙ read_before (list_in W P old head len) bits start (length bits) refl (omega arith) j below;
+        after = λ j past. ap (λ l. slice_get l j) list ∙ read_after (list_in W P old head len) bits start (length bits) refl (omega arith) j (omega arith);
         clean = clean_put W.BITS (seen_in old) (seen_in new) start bits (width_positive W.BITS width) (omega (arith, long, fits)) refl list is;
         size = size;
       }

@@ -1,5 +1,5 @@
 //! The calls that write, once for views, arrays, boxes and vectors.
-ghost use Rattle.std.specs.Prelude.{◌≡◌, ℕ, ◌+◌, ◌-◌, ◌*◌, ◌<◌, ◌≤◌, ◌++◌, Bool, List, Some, drop, false, length, map, not, replicate, reverse, set, slice_get, slice_index_or, slice_range, swap, take, true};
+ghost use Rattle.std.specs.Prelude.{◌≡◌, ◌≢◌, ℕ, ◌+◌, ◌-◌, ◌*◌, ◌<◌, ◌≤◌, ◌++◌, Bool, List, Some, drop, false, length, map, not, replicate, reverse, set, slice_get, slice_index_or, slice_range, swap, take, true};
 ghost use Rattle.std.specs.Borrow.{sem};
 ghost use Rattle.std.specs.Option.{option_map};
 ghost use Rattle.bit_addressing.specs.declared.length.TheConstants.{MAX_BITS};
@@ -10,7 +10,7 @@ ghost use Rattle.bit_slice.specs.BitSlice.{len_of, list_of};
 ghost use Rattle.bit_slice.specs.Clean.{StaysClean};
 ghost use Rattle.bit_slice.specs.Lists.{lends_to, BecomesWhole, Stays};
 ghost use Rattle.bit_slice.specs.Operators.{and_not_of, and_of, combined, or_of, part_onto, xor_of, AndsEach, OrsEach, XorsEach, CombinesEach, FlipsEach};
-ghost use Rattle.bit_slice.specs.Overwritten.{list_in};
+ghost use Rattle.bit_slice.specs.Overwritten.{list_in, StaysBefore, StaysFrom};
 
 use crate::edits::AndNot;
 use crate::lists::BitList;
@@ -170,6 +170,10 @@ pub trait BitListMut: BitList {
         ensures row { Self.bits self.new
             ≡ put (Self.bits self.old) (Self.head self.old + R.start_of range)
             (replicate (R.end_of range (Self.len self.old) - R.start_of range) bit) }
+        ensures within { (j : ℕ) → R.start_of range ≤ j → j < R.end_of range (Self.len self.old)
+            → slice_get (Self.list self.new) j ≡ Some bit }
+        ensures before { StaysBefore (R.start_of range) (Self.list self.old) (Self.list self.new) }
+        ensures after { StaysFrom (R.end_of range (Self.len self.old)) (Self.list self.old) (Self.list self.new) }
         ensures clean { StaysClean Self.Store.BITS Self.head Self.bits Self.list self.old self.new }
         ensures stays { Stays Self.head Self.len count capacity loan self.old self.new }
     {
@@ -198,6 +202,10 @@ pub trait BitListMut: BitList {
             ≡ put (Self.bits self.old) (Self.head self.old + R.start_of range)
             (map not
             (slice_range (Self.list self.old) (R.start_of range) (R.end_of range (Self.len self.old)))) }
+        ensures within { (j : ℕ) → R.start_of range ≤ j → j < R.end_of range (Self.len self.old)
+            → slice_get (Self.list self.new) j ≡ option_map not (slice_get (Self.list self.old) j) }
+        ensures before { StaysBefore (R.start_of range) (Self.list self.old) (Self.list self.new) }
+        ensures after { StaysFrom (R.end_of range (Self.len self.old)) (Self.list self.old) (Self.list self.new) }
         ensures clean { StaysClean Self.Store.BITS Self.head Self.bits Self.list self.old self.new }
         ensures stays { Stays Self.head Self.len count capacity loan self.old self.new }
     {
@@ -222,6 +230,8 @@ pub trait BitListMut: BitList {
             (combined F.made
             (slice_range (Self.list self.old) (R.start_of range) (R.end_of range (Self.len self.old)))
             (list_of other.entry)) }
+        ensures before { StaysBefore (R.start_of range) (Self.list self.old) (Self.list self.new) }
+        ensures after { StaysFrom (R.end_of range (Self.len self.old)) (Self.list self.old) (Self.list self.new) }
         ensures clean { StaysClean Self.Store.BITS Self.head Self.bits Self.list self.old self.new }
         ensures stays { Stays Self.head Self.len count capacity loan self.old self.new }
     {
@@ -256,6 +266,8 @@ pub trait BitListMut: BitList {
             ≡ put (Self.bits self.old) (Self.head self.old + R.start_of range)
             (and_of (slice_range (Self.list self.old) (R.start_of range) (R.end_of range (Self.len self.old)))
             (list_of other.entry)) }
+        ensures before { StaysBefore (R.start_of range) (Self.list self.old) (Self.list self.new) }
+        ensures after { StaysFrom (R.end_of range (Self.len self.old)) (Self.list self.old) (Self.list self.new) }
         ensures clean { StaysClean Self.Store.BITS Self.head Self.bits Self.list self.old self.new }
         ensures stays { Stays Self.head Self.len count capacity loan self.old self.new }
     {
@@ -282,6 +294,8 @@ pub trait BitListMut: BitList {
             ≡ put (Self.bits self.old) (Self.head self.old + R.start_of range)
             (or_of (slice_range (Self.list self.old) (R.start_of range) (R.end_of range (Self.len self.old)))
             (list_of other.entry)) }
+        ensures before { StaysBefore (R.start_of range) (Self.list self.old) (Self.list self.new) }
+        ensures after { StaysFrom (R.end_of range (Self.len self.old)) (Self.list self.old) (Self.list self.new) }
         ensures clean { StaysClean Self.Store.BITS Self.head Self.bits Self.list self.old self.new }
         ensures stays { Stays Self.head Self.len count capacity loan self.old self.new }
     {
@@ -308,6 +322,8 @@ pub trait BitListMut: BitList {
             ≡ put (Self.bits self.old) (Self.head self.old + R.start_of range)
             (xor_of (slice_range (Self.list self.old) (R.start_of range) (R.end_of range (Self.len self.old)))
             (list_of other.entry)) }
+        ensures before { StaysBefore (R.start_of range) (Self.list self.old) (Self.list self.new) }
+        ensures after { StaysFrom (R.end_of range (Self.len self.old)) (Self.list self.old) (Self.list self.new) }
         ensures clean { StaysClean Self.Store.BITS Self.head Self.bits Self.list self.old self.new }
         ensures stays { Stays Self.head Self.len count capacity loan self.old self.new }
     {
@@ -329,6 +345,10 @@ pub trait BitListMut: BitList {
         requires same_len { len_of source ≡ R.end_of range (Self.len self.old) - R.start_of range }
         ensures list { Self.list self.new ≡ put (Self.list self.old) (R.start_of range) (list_of source.entry) }
         ensures row { Self.bits self.new ≡ put (Self.bits self.old) (Self.head self.old + R.start_of range) (list_of source.entry) }
+        ensures within { (k : ℕ) → k < len_of source.entry
+            → slice_get (Self.list self.new) (R.start_of range + k) ≡ slice_get (list_of source.entry) k }
+        ensures before { StaysBefore (R.start_of range) (Self.list self.old) (Self.list self.new) }
+        ensures after { StaysFrom (R.end_of range (Self.len self.old)) (Self.list self.old) (Self.list self.new) }
         ensures clean { StaysClean Self.Store.BITS Self.head Self.bits Self.list self.old self.new }
         ensures stays { Stays Self.head Self.len count capacity loan self.old self.new }
     {
@@ -384,6 +404,12 @@ pub trait BitListMut: BitList {
     final fn and_not_bits<U: BitStore, P: BitOrder>(&mut self, other: BitSlice<'_, U, P>)
         ensures list { Self.list self.new ≡ and_not_of (Self.list self.old) (list_of other.entry) }
         ensures row { Self.bits self.new ≡ put (Self.bits self.old) (Self.head self.old) (and_not_of (Self.list self.old) (list_of other.entry)) }
+        ensures both { (j : ℕ) → slice_get (list_of other.entry) j ≡ Some true → j < length (Self.list self.old)
+            → slice_get (Self.list self.new) j ≡ Some false }
+        ensures kept { (j : ℕ) → (slice_get (list_of other.entry) j ≢ Some true)
+            → slice_get (Self.list self.new) j ≡ slice_get (Self.list self.old) j }
+        ensures whole { BecomesWhole Self.Store.BITS Self.head Self.len count Self.bits self.old self.new
+            (and_not_of (Self.list self.old) (list_of other.entry)) }
         ensures clean { StaysClean Self.Store.BITS Self.head Self.bits Self.list self.old self.new }
         ensures stays { Stays Self.head Self.len count capacity loan self.old self.new }
     {

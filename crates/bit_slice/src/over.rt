@@ -88,7 +88,7 @@ pub(crate) fn fill_range_over<T: BitStore, O: BitOrder, R: RangeExt>(
     requires fits { head + len < 2 ^ 64 }
     requires lies { LiesIn (R.start_of range) (R.end_of range len) len }
     ensures { IsWritten T.BitStore O.BitOrder words.old words.new head len (R.start_of range)
-        (replicate (R.end_of range len - R.start_of range) bit) }
+        (R.end_of range len) (replicate (R.end_of range len - R.start_of range) bit) }
 {
     let range = range.normalize(len);
     let (first, end) = (head + range.start, head + range.end);
@@ -106,7 +106,7 @@ pub(crate) fn flip_range_over<T: BitStore, O: BitOrder, R: RangeExt>(
     requires fits { head + len < 2 ^ 64 }
     requires lies { LiesIn (R.start_of range) (R.end_of range len) len }
     ensures { IsWritten T.BitStore O.BitOrder words.old words.new head len (R.start_of range)
-        (map not (slice_range (list_in T.BitStore O.BitOrder words.old head len) (R.start_of range)
+        (R.end_of range len) (map not (slice_range (list_in T.BitStore O.BitOrder words.old head len) (R.start_of range)
         (R.end_of range len))) }
 {
     let range = range.normalize(len);
@@ -127,7 +127,7 @@ pub(crate) fn copy_into_over<T: BitStore, O: BitOrder, R: RangeExt, U: BitStore,
     requires lies { LiesIn (R.start_of range) (R.end_of range len) len }
     requires same_len { len_seen source ≡ R.end_of range len - R.start_of range }
     ensures { IsWritten T.BitStore O.BitOrder words.old words.new head len (R.start_of range)
-        (list_seen source.entry) }
+        (R.end_of range len) (list_seen source.entry) }
 {
     let range = range.normalize(len);
     let (from, count) = (source.head(), source.len());
@@ -150,7 +150,7 @@ pub(crate) fn combine_range_over<
     requires fits { head + len < 2 ^ 64 }
     requires lies { LiesIn (R.start_of range) (R.end_of range len) len }
     ensures { IsWritten T.BitStore O.BitOrder words.old words.new head len (R.start_of range)
-        (combined F.made (slice_range (list_in T.BitStore O.BitOrder words.old head len) (R.start_of range)
+        (R.end_of range len) (combined F.made (slice_range (list_in T.BitStore O.BitOrder words.old head len) (R.start_of range)
         (R.end_of range len)) (list_seen other.entry)) }
 {
     let range = range.normalize(len);
@@ -234,7 +234,7 @@ pub(crate) fn combine_within_over<F: BitOperator, T: BitStore, O: BitOrder, R: R
     requires lies { LiesIn (R.start_of range) (R.end_of range len) len }
     requires room { dest + (R.end_of range len - R.start_of range) ≤ len }
     ensures { IsWritten T.BitStore O.BitOrder words.old words.new head len dest
-        (part_onto (combined F.made) (list_in T.BitStore O.BitOrder words.old head len) (R.start_of range)
+        (dest + (R.end_of range len - R.start_of range)) (part_onto (combined F.made) (list_in T.BitStore O.BitOrder words.old head len) (R.start_of range)
         (R.end_of range len) dest) }
 {
     let range = range.normalize(len);

@@ -16,5 +16,5 @@ returns g c =
     let f = g.F.BitOperator.made in
     let ys = list_of c.args.other in
     let size = length-range _ _ _ room s e c.requires.lies in
-    written_in _ _ _ _ _ _ g.met.T.BitStore.width c.requires.within c.combine_view.ensures.size _ _ (omega (arith, length-combined f (slice_range list s e) ys, size, c.requires.lies))
+    written_in _ _ _ _ _ _ g.met.T.BitStore.width c.requires.within c.combine_view.ensures.size s e _ (omega (arith, length-combined f (slice_range list s e) ys, size, c.requires.lies)) (omega (arith, c.requires.lies))
     (c.combine_view.ensures.bits ∙ combined_range _ _ _ room _ _ _ _ c.normalize-range.ensures.start c.normalize-range.ensures.end c.requires.lies f ys)

@@ -18,7 +18,7 @@ returns g c =
     let v = c.args.source in
     let seen = row g.U.BitStore g.P.BitOrder in
     let size = shown_length g.U.BitStore g.P.BitOrder v.words.now v.head v.len v.fits.room in
-    written_in W P old c.copy_bits.new.words head len g.met.T.BitStore.width c.requires.within c.copy_bits.ensures.size s (list_of v) (omega (arith, size, c.requires.lies, c.requires.same_len))
+    written_in W P old c.copy_bits.new.words head len g.met.T.BitStore.width c.requires.within c.copy_bits.ensures.size s (g.R.RangeExt.end_of c.args.range len) (list_of v) (omega (arith, size, c.requires.lies, c.requires.same_len)) (omega (arith, c.requires.lies))
     (c.copy_bits.ensures.bits
     ∙ ap (λ k. put bits (head + k) (slice_range (seen c.as_raw_slice.result.now) c.head-from.result (c.head-from.result + c.len-count.result))) c.normalize-range.ensures.start
     ∙ ap (λ ws. put bits (head + s) (slice_range (seen ws) c.head-from.result (c.head-from.result + c.len-count.result))) c.as_raw_slice.ensures.words

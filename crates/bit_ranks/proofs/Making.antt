@@ -11,7 +11,7 @@ use Rattle.std.proofs.lemmas.Nat.{mod_below, pow_pos}
 use Rattle.std.proofs.Math.Nat.{le-div_iff_mul-le, div-mul-le_self}
 use Rattle.bit_addressing.specs.Binary.{value}
 use Rattle.bit_addressing.specs.Row.{binary}
-use Rattle.bit_rows.proofs.Binary.{get_or-binary, length-binary, value_of_binary}
+use Rattle.bit_rows.proofs.Binary.{binary_low, get_or-binary, length-binary, value_of_binary}
 use Rattle.bit_addressing.proofs.Words.{has_low}
 use Rattle.bit_addressing.specs.declared.length.TheConstants.{MAX_BITS}
 use Rattle.bit_slice.specs.Places.{ones_of}
@@ -97,14 +97,8 @@ marked_more w xs k list up h inside marked =
 part_before : (xs : List Bool) (at a b : ℕ) → b ≤ at → slice_range (take at xs) a b ≡ slice_range xs a b
 part_before xs at a b h = same_lists _ _ (search (rules, places)) (λ i d below. grind (arith, places))
 
--- the digits are those of the low bits
-low_digits : (w x : ℕ) → binary w x ≡ binary w (x % 2 ^ w)
-low_digits w x =
-    ext_get_or false (binary w x) (binary w (x % 2 ^ w)) (length-binary w x ∙ sym (length-binary w (x % 2 ^ w)))
-    (λ i h. let below : i < w = omega (arith, length-binary w x) in get_or-binary w x i below ∙ sym (has_low x w (w - 1 - i) (omega arith)) ∙ sym (get_or-binary w (x % 2 ^ w) i below))
-
 low_value : (w x : ℕ) → value (binary w x) ≡ x % 2 ^ w
-low_value w x = ap (λ l. value l) (low_digits w x) ∙ value_of_binary w (x % 2 ^ w) (mod_below x (2 ^ w) (pow_pos w))
+low_value w x = ap (λ l. value l) (sym (binary_low w x)) ∙ value_of_binary w (x % 2 ^ w) (mod_below x (2 ^ w) (pow_pos w))
 
 pub lows_more : (w x k : ℕ) (xs : List ℕ) (old new : List Bool) → x ≡ get_or xs k 0 → ((j : ℕ) → j < k → low_part w old j ≡ get_or xs j 0 % 2 ^ w) → slice_range new (k * w) (k * w + w) ≡ binary w x → take (k * w) new ≡ take (k * w) old → (j : ℕ) → j < k + 1 → low_part w new j ≡ get_or xs j 0 % 2 ^ w
 lows_more w x k xs old new is each written before j h = elim (cases_lt j k) [

@@ -10,7 +10,7 @@ mod making;
 mod search;
 
 use crate::ranks::Ranks;
-use bit_containers::{BitVec, Lsb0};
+use bit_containers::{BitList, BitVec, Lsb0};
 pub use errors::SortedError;
 pub use iter::Numbers;
 use std::marker::Model;
@@ -110,5 +110,5 @@ fn low_bits_at(low: &BitVec<u64, Lsb0>, width: u8, k: usize) -> u64
     ensures value { result ≡ low_part width low.now.list k }
     ensures below { result < 2 ^ width }
 {
-    low.read_binary(k * width as usize, width)
+    low.load_be_at(k * width as usize, width)
 }

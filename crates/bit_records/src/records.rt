@@ -5,7 +5,7 @@ ghost use Rattle.bit_addressing.specs.declared.length.TheConstants.{MAX_BITS};
 ghost use Rattle.bit_containers.specs.BitVec.{IsClean};
 ghost use Rattle.bit_records.specs.Records.{AreKept, joined};
 
-use bit_containers::{BitOrder, BitStore, BitVec, GrowError, Lsb0, MAX_BITS};
+use bit_containers::{BitList, BitListMut, BitOrder, BitStore, BitVec, GrowError, Lsb0, MAX_BITS};
 use std::alloc::{AllocError, Global};
 use std::fmt;
 use std::marker::Model;
@@ -93,7 +93,7 @@ impl<T: BitStore, O: BitOrder> Records<T, O> {
             return None;
         }
         let width = self.width;
-        Some(self.bits.read_binary(i * width as usize, width))
+        Some(self.bits.load_be_at(i * width as usize, width))
     }
 
     /// Writes the number at `i`, and no other. Takes no memory. Requires that `i` is below the length, and that
@@ -107,7 +107,7 @@ impl<T: BitStore, O: BitOrder> Records<T, O> {
         ensures capacity { self.new.bits.capacity ≡ self.old.bits.capacity }
     {
         let width = self.width;
-        self.bits.write_binary(i * width as usize, width, number);
+        self.bits.store_be_at(i * width as usize, width, number);
     }
 
     /// Appends a number. Returns `TooLong` exactly where the bits with it would pass `MAX_BITS`, and
@@ -128,7 +128,7 @@ impl<T: BitStore, O: BitOrder> Records<T, O> {
         ensures no_memory { length self.old.list * self.old.width + self.old.width ≤ self.old.bits.capacity
             → self.new.bits.capacity ≡ self.old.bits.capacity }
     {
-        match self.bits.push_binary(self.width, number) {
+        match self.bits.push_be(self.width, number) {
             Ok(()) => {
                 self.len += 1;
                 Ok(())

@@ -29,6 +29,25 @@ pub get_or-binary : (n x i : ℕ) → i < n → get_or (binary n x) i false ≡ 
 unfolding binary
 get_or-binary n x i h = get_or-map-range_with_len (λ i. has_bit x (n - 1 - i)) 0 n i i false h (omega arith)
 
+pub get_or-number_bits : (x n i : ℕ) → i < n → get_or (number_bits x n) i false ≡ has_bit x i
+unfolding number_bits
+get_or-number_bits x n i h = get_or-map-range_with_len (has_bit x) 0 n i i false h (omega arith)
+
+-- the digits of a number are those of its lowest part
+pub binary_low : (b x : ℕ) → binary b (x % 2 ^ b) ≡ binary b x
+binary_low b x = ext_get_or false (binary b (x % 2 ^ b)) (binary b x) (length-binary b (x % 2 ^ b) ∙ sym (length-binary b x))
+    (λ i h.
+    let long = length-binary b (x % 2 ^ b) in
+    let below : i < b = omega arith in
+    get_or-binary b (x % 2 ^ b) i below ∙ has_low x b (b - 1 - i) (omega arith) ∙ sym (get_or-binary b x i below))
+
+pub bits_low : (n x : ℕ) → number_bits (x % 2 ^ n) n ≡ number_bits x n
+bits_low n x = ext_get_or false (number_bits (x % 2 ^ n) n) (number_bits x n) (length-number_bits (x % 2 ^ n) n ∙ sym (length-number_bits x n))
+    (λ i h.
+    let long = length-number_bits (x % 2 ^ n) n in
+    let below : i < n = omega arith in
+    get_or-number_bits (x % 2 ^ n) n i below ∙ has_low x n i below ∙ sym (get_or-number_bits x n i below))
+
 -- a number turned round within 64 places, of which the lowest are left out
 module _ (n x turned : ℕ) (some : 0 < n) (few : n ≤ 64) (round : (p : ℕ) → p < 64 → has_bit turned p ≡ has_bit x (64 - 1 - p)) where
   digit : (j i : ℕ) → i < n → j ≡ n - 1 - i → has_bit (turned / 2 ^ (64 - n)) j ≡ has_bit x i

@@ -29,5 +29,5 @@ pub use searches::{count_bits, differ_at, find_bit};
 pub use single::{fill_bits, flip_words, prove_exact_words, read_bit, swap_bits, write_bit};
 pub use vectors::{
     copy_bits_in_vec, fill_outside_in_vec, insert_bit_in_vec, move_bits_in_vec, remove_bit_in_vec,
-    write_binary_in_vec, write_bit_in_vec, write_chunk_in_vec,
+    write_bit_in_vec, write_chunk_in_vec,
 };

@@ -1,10 +1,10 @@
 //! The calls on words that lie in a vector, which keeps its capacity.
 ghost use Rattle.std.specs.Prelude.{◌≡◌, ◌+◌, ◌-◌, ◌*◌, ◌%◌, ◌^◌, ◌<◌, ◌≤◌, length, replicate, slice_range, set, vec_capacity};
-ghost use Rattle.bit_addressing.specs.Row.{binary, filled, moved, number_bits, put, touched};
+ghost use Rattle.bit_addressing.specs.Row.{filled, moved, number_bits, put, touched};
 ghost use Rattle.bit_addressing.specs.declared.length.TheConstants.{MAX_BITS};
 ghost use Rattle.bit_addressing.specs.Typed.{row};
 
-use crate::chunks::{write_binary, write_chunk};
+use crate::chunks::write_chunk;
 use crate::copies::copy_bits;
 use crate::single::{fill_bits, fill_outside, write_bit};
 use bit_addressing::{BitEnd, BitIdx, BitOrder, BitStore, Meter, move_bits, move_bits_counted};
@@ -210,22 +210,4 @@ pub fn write_chunk_in_vec<T: BitStore, O: BitOrder>(
     ensures capacity { vec_capacity words.new ≡ vec_capacity words.old }
 {
     write_chunk::<T, O>(words.as_mut_slice(), at, n, chunk);
-}
-
-/// Like `write_binary`, in the words of a vector.
-pub fn write_binary_in_vec<T: BitStore, O: BitOrder>(
-    words: &mut Vec<T>,
-    at: usize,
-    n: u8,
-    number: u64,
-)
-    requires few { n ≤ 64 }
-    requires within { at + n ≤ T.BITS * length words.old.items }
-    requires fits { at + n < 2 ^ 64 }
-    ensures bits { row T.BitStore O.BitOrder words.new.items
-        ≡ put (row T.BitStore O.BitOrder words.old.items) at (binary n number) }
-    ensures size { length words.new.items ≡ length words.old.items }
-    ensures capacity { vec_capacity words.new ≡ vec_capacity words.old }
-{
-    write_binary::<T, O>(words.as_mut_slice(), at, n, number);
 }

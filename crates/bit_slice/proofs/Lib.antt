@@ -26,5 +26,6 @@ pub mod Clean
 pub mod Rules
 pub mod Parting
 pub mod Overwritten
+pub mod Signed
 pub mod RangeInRow
 pub mod Kept

@@ -27,6 +27,7 @@ module _ {X Y : Type 0} (W : store.Ghosts X) (P : order.Ghosts Y) (old new : Lis
       record {
         row = is;
         list = list;
+        written = ap (λ l. slice_range l start end) list ∙ ap (slice_range (put (list_in W P old head len) start bits) start) (sym ends) ∙ shown_filled (list_in W P old head len) bits start (length bits) refl (omega arith);
         before = λ j below. ap (λ l. slice_get l j) list ∙ read_before (list_in W P old head len) bits start (length bits) refl (omega arith) j below;
         after = λ j past. ap (λ l. slice_get l j) list ∙ read_after (list_in W P old head len) bits start (length bits) refl (omega arith) j (omega arith);
         clean = clean_put W.BITS (seen_in old) (seen_in new) start bits (width_positive W.BITS width) (omega (arith, long, fits)) refl list is;

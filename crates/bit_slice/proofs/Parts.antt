@@ -10,7 +10,7 @@ use Rattle.bit_addressing.specs.declared.order.BitOrder as order
 use Rattle.bit_addressing.specs.Typed.{row}
 use Rattle.bit_addressing.specs.Row.{row_of, words_for}
 use Rattle.bit_addressing.specs.declared.length.TheConstants.{MAX_BITS}
-use Rattle.bit_addressing.proofs.lists.Shown.{length-run}
+use Rattle.bit_addressing.proofs.lists.Shown.{length-run, shown_part}
 use Rattle.bit_addressing.proofs.lists.Sized.{few_words, room, words_for_all, words_for_le}
 use Rattle.bit_addressing.proofs.Rows.{mul_add, width_positive, row_append, row_take, length-row_of}
 use Rattle.bit_addressing.proofs.Typed.{length_row}
@@ -150,3 +150,7 @@ if_both (Some x) f p q = f x p q
 -- a view has as many bits as its length says
 pub view_length : {X Y : Type 0} {W : store.Ghosts X} {P : order.Ghosts Y} (v : BitSlice X Y W P) → length (list_of v) ≡ len_of v
 view_length {W = W} {P = P} v = shown_length W P v.words.now v.head v.len v.fits.room
+
+-- a run of a view's row is a part of its list
+pub shown_at : {X Y : Type 0} {W : store.Ghosts X} {P : order.Ghosts Y} (v : BitSlice X Y W P) (at n : ℕ) → at + n ≤ len_of v → slice_range (row W P v.words.now) (v.head + at) (v.head + at + n) ≡ slice_range (list_of v) at (at + n)
+shown_at {W = W} {P = P} v at n inside = shown_part (row W P v.words.now) v.head v.len at n inside (in_row W P v.words.now (v.head + v.len) v.fits.room)

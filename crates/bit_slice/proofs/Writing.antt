@@ -1,6 +1,7 @@
 -- How the texts of a list of bits grow.
-use Rattle.std.proofs.Common.{◌≡◌, ℕ, suc, ◌+◌, ◌-◌, ◌<◌, ◌≤◌, Bool, false, List, [], ◌∷◌, ◌++◌, length, get_or, slice_range, refl, ap, sym, ◌∙◌, arith}
+use Rattle.std.proofs.Common.{◌≡◌, ℕ, suc, ◌+◌, ◌-◌, ◌^◌, ◌<◌, ◌≤◌, Bool, false, List, [], ◌∷◌, ◌++◌, length, get_or, slice_range, refl, ap, subst, sym, ◌∙◌, arith}
 use Rattle.std.proofs.lemmas.List.{append_assoc, ext_get_or, take_all}
+use Rattle.std.proofs.lemmas.Simd.{mask_l-lt}
 use Rattle.std.proofs.lemmas.List.FromFn.{length-map-range_with_len, get_or-map-range_with_len, map-range_with_len_more}
 use Rattle.bit_addressing.specs.Bits.{has_bit}
 use Rattle.bit_addressing.proofs.lists.Shown.{length-run}
@@ -23,6 +24,11 @@ unfolding number_bits
 bits_of_number ms n size =
     ext_get_or false (number_bits (number_of ms) n) ms (length-map-range_with_len (has_bit (number_of ms)) 0 n ∙ sym size)
     (λ i h. get_or-map-range_with_len (has_bit (number_of ms)) 0 n i i false (omega (arith, h, length-map-range_with_len (has_bit (number_of ms)) 0 n)) (omega arith) ∙ has_number ms i)
+
+-- the number of n bits has no more digits
+pub number_below : (ms : List Bool) (n : ℕ) → length ms ≡ n → number_of ms < 2 ^ n
+unfolding number_of
+number_below ms n size = subst (λ k. number_of ms < 2 ^ k) size (mask_l-lt ms)
 
 -- a number that was read is written
 pub run_of_number : (zs : List Bool) (x at n : ℕ) → at + n ≤ length zs → x ≡ number_of (slice_range zs at (at + n)) → number_bits x n ≡ slice_range zs at (at + n)

@@ -18,4 +18,5 @@ pub mod Owned
 pub mod Pulls
 pub mod Clean
 pub mod Overwritten
+pub mod Signed
 pub mod Held

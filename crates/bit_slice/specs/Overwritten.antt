@@ -22,6 +22,7 @@ StaysFrom at old new = (j : ℕ) → at ≤ j → slice_get new j ≡ slice_get 
 pub record IsWritten {X Y : Type 0} (W : store.Ghosts X) (P : order.Ghosts Y) (old new : List X) (head len start end : ℕ) (bits : List Bool) : Type 0 where
   pub row : row_of W P new ≡ put (row_of W P old) (head + start) bits
   pub list : list_in W P new head len ≡ put (list_in W P old head len) start bits
+  pub written : slice_range (list_in W P new head len) start end ≡ bits
   pub before : StaysBefore start (list_in W P old head len) (list_in W P new head len)
   pub after : StaysFrom end (list_in W P old head len) (list_in W P new head len)
   pub clean : IsCleanRow W.BITS head (row_of W P old) (list_in W P old head len) → IsCleanRow W.BITS head (row_of W P new) (list_in W P new head len)

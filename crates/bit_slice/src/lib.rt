@@ -9,6 +9,7 @@ mod edits;
 mod iter;
 mod lists;
 mod lists_mut;
+mod numbers;
 mod ops;
 mod over;
 mod run;
@@ -31,5 +32,6 @@ pub use slice_mut::BitSliceMut;
 /// What the crates above make of words and of texts. Users of bits need none of it.
 pub mod inner {
     pub use crate::lists_mut::flip_row;
+    pub use crate::numbers::{extended, reversed};
     pub use crate::texts::{hash_bits, write_digits, write_list};
 }

@@ -12,9 +12,11 @@ ghost use Rattle.bit_slice.specs.BitSlice.{words_of, head_of, len_of, row_of, li
 ghost use Rattle.bit_slice.specs.Indices.{ones_left, zeros_left};
 ghost use Rattle.bit_slice.specs.Operators.{bits_cmp, and_of, or_of, xor_of, and_not_of};
 ghost use Rattle.bit_slice.specs.Pieces.{part, chunk_count, chunks_of, exact_chunks_of, back_chunks_of, windows_of};
-ghost use Rattle.bit_slice.specs.PiecesLeft.{chunks_left, exact_chunks_left, exact_first, exact_last, remainder_of, back_chunks_left, windows_left};
+ghost use Rattle.bit_slice.specs.PiecesLeft.{chunks_left, chunks_walk, exact_chunks_left, exact_chunks_walk, exact_first, exact_last, remainder_of, back_chunks_left, back_chunks_walk, windows_left, windows_walk, BeginsIn};
 ghost use Rattle.bit_slice.specs.Places.{ones_of, zeros_of};
+ghost use Rattle.bit_slice.specs.Signed.{IsSigned, signed_binary, signed_bits, signed_of};
 
+use crate::numbers::extended;
 use crate::ops::{equal_views, first_difference};
 use crate::slice::BitSlice;
 use crate::slice::chunks::{Chunks, ChunksExact, RChunks, Windows};
@@ -750,6 +752,8 @@ pub trait BitList {
         requires some { 0 < size }
         ensures list { chunks_left result ≡ chunks_of size (list self.now) }
         ensures count { length (chunks_left result) ≡ chunk_count (len self.now) size }
+        ensures begins { BeginsIn (take (words_for Self.Store.BITS (head self.now + len self.now)) (words self.now))
+            (head self.now) (len self.now) size (chunk_count (len self.now) size) (chunks_walk result) }
         ensures runs { EveryRun (YieldsFirstBy (list_of {X = Self.Store} {Y = Self.Order} {W = Self.Store.BitStore} {P = Self.Order.BitOrder})
             (chunks_left {X = Self.Store} {Y = Self.Order} {W = Self.Store.BitStore} {P = Self.Order.BitOrder}))
             (λ p. ItemsMapTo p list_of (chunks_left p.from)) }
@@ -772,6 +776,8 @@ pub trait BitList {
         ensures list { exact_chunks_left result ≡ exact_chunks_of size (list self.now) }
         ensures count { length (exact_chunks_left result) ≡ len self.now / size }
         ensures remainder { remainder_of result ≡ drop (len self.now / size * size) (list self.now) }
+        ensures begins { BeginsIn (take (words_for Self.Store.BITS (head self.now + len self.now)) (words self.now))
+            (head self.now) (len self.now) size (len self.now / size) (exact_chunks_walk result) }
         ensures runs { EveryRun (exact_first {X = Self.Store} {Y = Self.Order} {W = Self.Store.BitStore} {P = Self.Order.BitOrder})
             (λ p. ItemsMapTo p list_of (exact_chunks_left p.from)) }
         ensures runs_back { EveryRun (exact_last {X = Self.Store} {Y = Self.Order} {W = Self.Store.BitStore} {P = Self.Order.BitOrder})
@@ -790,6 +796,8 @@ pub trait BitList {
         requires some { 0 < size }
         ensures list { back_chunks_left result ≡ back_chunks_of size (list self.now) }
         ensures count { length (back_chunks_left result) ≡ chunk_count (len self.now) size }
+        ensures begins { BeginsIn (take (words_for Self.Store.BITS (head self.now + len self.now)) (words self.now))
+            (head self.now) (len self.now) size (chunk_count (len self.now) size) (back_chunks_walk result) }
         ensures runs { EveryRun (YieldsFirstBy (list_of {X = Self.Store} {Y = Self.Order} {W = Self.Store.BitStore} {P = Self.Order.BitOrder})
             (back_chunks_left {X = Self.Store} {Y = Self.Order} {W = Self.Store.BitStore} {P = Self.Order.BitOrder}))
             (λ p. ItemsMapTo p list_of (back_chunks_left p.from)) }
@@ -811,6 +819,8 @@ pub trait BitList {
         requires some { 0 < size }
         ensures list { windows_left result ≡ windows_of size (list self.now) }
         ensures count { length (windows_left result) ≡ len self.now + 1 - size }
+        ensures begins { BeginsIn (take (words_for Self.Store.BITS (head self.now + len self.now)) (words self.now))
+            (head self.now) (len self.now) size (len self.now + 1 - size) (windows_walk result) }
         ensures runs { EveryRun (YieldsFirstBy (list_of {X = Self.Store} {Y = Self.Order} {W = Self.Store.BitStore} {P = Self.Order.BitOrder})
             (windows_left {X = Self.Store} {Y = Self.Order} {W = Self.Store.BitStore} {P = Self.Order.BitOrder}))
             (λ p. ItemsMapTo p list_of (windows_left p.from)) }
@@ -851,6 +861,74 @@ pub trait BitList {
     {
         let view = self.as_bitslice();
         read_binary::<Self::Store, Self::Order>(view.words, view.head, view.len as u8)
+    }
+
+    /// The `n` bits from index `at` on as a number, the first bit the least significant. Requires that `n` is at
+    /// most 64, and that the bits lie in the list.
+    ///
+    /// ```text
+    /// of 01101001: bits.load_le_at(1, 4) == 11
+    /// ```
+    final fn load_le_at(&self, at: usize, n: u8) -> u64
+        requires few { n ≤ 64 }
+        requires within { at + n ≤ len self.now }
+        ensures value { result ≡ number_of (slice_range (list self.now) at (at + n)) }
+        ensures bits { number_bits result n ≡ slice_range (list self.now) at (at + n) }
+        ensures below { result < 2 ^ n }
+    {
+        let view = self.as_bitslice();
+        read_chunk::<Self::Store, Self::Order>(view.words, view.head + at, n)
+    }
+
+    /// The `n` bits from index `at` on as a number, the first bit the most significant. Requires that `n` is at
+    /// most 64, and that the bits lie in the list.
+    ///
+    /// ```text
+    /// of 01101001: bits.load_be_at(1, 4) == 13
+    /// ```
+    final fn load_be_at(&self, at: usize, n: u8) -> u64
+        requires few { n ≤ 64 }
+        requires within { at + n ≤ len self.now }
+        ensures value { result ≡ value (slice_range (list self.now) at (at + n)) }
+        ensures digits { binary n result ≡ slice_range (list self.now) at (at + n) }
+        ensures below { result < 2 ^ n }
+    {
+        let view = self.as_bitslice();
+        read_binary::<Self::Store, Self::Order>(view.words, view.head + at, n)
+    }
+
+    /// Like `load_le_at`, but the number is in two's complement: the last of the `n` bits is its sign. Requires
+    /// that `n` is from 1 to 64, and that the bits lie in the list.
+    ///
+    /// ```text
+    /// of 01101001: bits.load_signed_le_at(1, 4) == -5
+    /// ```
+    final fn load_signed_le_at(&self, at: usize, n: u8) -> i64
+        requires some { 0 < n }
+        requires few { n ≤ 64 }
+        requires within { at + n ≤ len self.now }
+        ensures value { result ≡ signed_of n (number_of (slice_range (list self.now) at (at + n))) }
+        ensures bits { signed_bits result n ≡ slice_range (list self.now) at (at + n) }
+        ensures fits { IsSigned n result }
+    {
+        extended(n, self.load_le_at(at, n))
+    }
+
+    /// Like `load_be_at`, but the number is in two's complement: the first of the `n` bits is its sign. Requires
+    /// that `n` is from 1 to 64, and that the bits lie in the list.
+    ///
+    /// ```text
+    /// of 01101001: bits.load_signed_be_at(1, 4) == -3
+    /// ```
+    final fn load_signed_be_at(&self, at: usize, n: u8) -> i64
+        requires some { 0 < n }
+        requires few { n ≤ 64 }
+        requires within { at + n ≤ len self.now }
+        ensures value { result ≡ signed_of n (value (slice_range (list self.now) at (at + n))) }
+        ensures digits { signed_binary n result ≡ slice_range (list self.now) at (at + n) }
+        ensures fits { IsSigned n result }
+    {
+        extended(n, self.load_be_at(at, n))
     }
 }
 

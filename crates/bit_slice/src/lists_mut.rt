@@ -1,23 +1,26 @@
 //! The calls that write, once for views, arrays, boxes and vectors.
-ghost use Rattle.std.specs.Prelude.{◌≡◌, ◌≢◌, ℕ, ◌+◌, ◌-◌, ◌*◌, ◌<◌, ◌≤◌, ◌++◌, Bool, List, Some, drop, false, length, map, not, replicate, reverse, set, slice_get, slice_index_or, slice_range, swap, take, true};
+ghost use Rattle.std.specs.Prelude.{◌≡◌, ◌≢◌, ℕ, ◌+◌, ◌-◌, ◌*◌, ◌^◌, ◌<◌, ◌≤◌, ◌++◌, Bool, List, Some, drop, false, length, map, not, replicate, reverse, set, slice_get, slice_index_or, slice_range, swap, take, true};
 ghost use Rattle.std.specs.Borrow.{sem};
 ghost use Rattle.std.specs.Option.{option_map};
 ghost use Rattle.bit_addressing.specs.declared.length.TheConstants.{MAX_BITS};
+ghost use Rattle.bit_addressing.specs.Binary.{value};
 ghost use Rattle.bit_addressing.specs.Range.{LiesIn};
-ghost use Rattle.bit_addressing.specs.Row.{binary, moved, number_bits, put, touched};
+ghost use Rattle.bit_addressing.specs.Row.{binary, moved, number_bits, number_of, put, touched};
 ghost use Rattle.bit_addressing.specs.Typed.{row as row_of};
 ghost use Rattle.bit_slice.specs.BitSlice.{len_of, list_of};
 ghost use Rattle.bit_slice.specs.Clean.{StaysClean};
 ghost use Rattle.bit_slice.specs.Lists.{lends_to, BecomesWhole, Stays};
 ghost use Rattle.bit_slice.specs.Operators.{and_not_of, and_of, combined, or_of, part_onto, xor_of, AndsEach, OrsEach, XorsEach, CombinesEach, FlipsEach};
 ghost use Rattle.bit_slice.specs.Overwritten.{list_in, StaysBefore, StaysFrom};
+ghost use Rattle.bit_slice.specs.Signed.{IsSigned, signed_binary, signed_bits, signed_of};
 
 use crate::edits::AndNot;
 use crate::lists::BitList;
 use crate::over::{
     combine_over, combine_range_over, combine_within_over, copy_into_over, copy_over, fill_over,
     fill_range_over, flip_range_over, move_within_over, reverse_over, rotate_over, set_over,
-    shift_left_over, shift_right_over, store_be_over, store_le_over, swap_over,
+    shift_left_over, shift_right_over, store_be_at_over, store_be_over, store_le_at_over,
+    store_le_over, swap_over,
 };
 use crate::slice::BitSlice;
 use crate::slice_mut::BitSliceMut;
@@ -396,6 +399,106 @@ pub trait BitListMut: BitList {
         store_be_over::<Self::Store, Self::Order>(self.as_raw_mut_slice(), head, len, number);
     }
 
+    /// Writes the `n` lowest bits of a number over those from index `at` on, the least significant first, and changes
+    /// no other bit. Takes no memory. Requires that `n` is at most 64, and that the bits lie in the list.
+    ///
+    /// ```text
+    /// of 00000000: bits.store_le_at(1, 3, 6) leaves 00110000
+    /// ```
+    final fn store_le_at(&mut self, at: usize, n: u8, number: u64)
+        requires few { n ≤ 64 }
+        requires within { at + n ≤ Self.len self.old }
+        ensures list { Self.list self.new ≡ put (Self.list self.old) at (number_bits number n) }
+        ensures row { Self.bits self.new ≡ put (Self.bits self.old) (Self.head self.old + at) (number_bits number n) }
+        ensures written { slice_range (Self.list self.new) at (at + n) ≡ number_bits number n }
+        ensures read_back { number < 2 ^ n → number_of (slice_range (Self.list self.new) at (at + n)) ≡ number }
+        ensures before { StaysBefore at (Self.list self.old) (Self.list self.new) }
+        ensures after { StaysFrom (at + n) (Self.list self.old) (Self.list self.new) }
+        ensures clean { StaysClean Self.Store.BITS Self.head Self.bits Self.list self.old self.new }
+        ensures stays { Stays Self.head Self.len count capacity loan self.old self.new }
+    {
+        let (head, len) = (self.head(), self.len());
+        store_le_at_over::<Self::Store, Self::Order>(
+            self.as_raw_mut_slice(),
+            head,
+            len,
+            at,
+            n,
+            number,
+        );
+    }
+
+    /// Writes the `n` lowest bits of a number over those from index `at` on, the most significant first, and changes
+    /// no other bit. Takes no memory. Requires that `n` is at most 64, and that the bits lie in the list.
+    ///
+    /// ```text
+    /// of 00000000: bits.store_be_at(1, 3, 6) leaves 01100000
+    /// ```
+    final fn store_be_at(&mut self, at: usize, n: u8, number: u64)
+        requires few { n ≤ 64 }
+        requires within { at + n ≤ Self.len self.old }
+        ensures list { Self.list self.new ≡ put (Self.list self.old) at (binary n number) }
+        ensures row { Self.bits self.new ≡ put (Self.bits self.old) (Self.head self.old + at) (binary n number) }
+        ensures written { slice_range (Self.list self.new) at (at + n) ≡ binary n number }
+        ensures read_back { number < 2 ^ n → value (slice_range (Self.list self.new) at (at + n)) ≡ number }
+        ensures before { StaysBefore at (Self.list self.old) (Self.list self.new) }
+        ensures after { StaysFrom (at + n) (Self.list self.old) (Self.list self.new) }
+        ensures clean { StaysClean Self.Store.BITS Self.head Self.bits Self.list self.old self.new }
+        ensures stays { Stays Self.head Self.len count capacity loan self.old self.new }
+    {
+        let (head, len) = (self.head(), self.len());
+        store_be_at_over::<Self::Store, Self::Order>(
+            self.as_raw_mut_slice(),
+            head,
+            len,
+            at,
+            n,
+            number,
+        );
+    }
+
+    /// Like `store_le_at`, but writes a number in two's complement: its last bit is the sign where the number has `n`
+    /// digits.
+    ///
+    /// ```text
+    /// of 00000000: bits.store_signed_le_at(1, 3, -2) leaves 00110000
+    /// ```
+    final fn store_signed_le_at(&mut self, at: usize, n: u8, number: i64)
+        requires few { n ≤ 64 }
+        requires within { at + n ≤ Self.len self.old }
+        ensures list { Self.list self.new ≡ put (Self.list self.old) at (signed_bits number n) }
+        ensures row { Self.bits self.new ≡ put (Self.bits self.old) (Self.head self.old + at) (signed_bits number n) }
+        ensures written { slice_range (Self.list self.new) at (at + n) ≡ signed_bits number n }
+        ensures read_back { 0 < n → IsSigned n number → signed_of n (number_of (slice_range (Self.list self.new) at (at + n))) ≡ number }
+        ensures before { StaysBefore at (Self.list self.old) (Self.list self.new) }
+        ensures after { StaysFrom (at + n) (Self.list self.old) (Self.list self.new) }
+        ensures clean { StaysClean Self.Store.BITS Self.head Self.bits Self.list self.old self.new }
+        ensures stays { Stays Self.head Self.len count capacity loan self.old self.new }
+    {
+        self.store_le_at(at, n, number.cast_unsigned());
+    }
+
+    /// Like `store_be_at`, but writes a number in two's complement: its first bit is the sign where the number has `n`
+    /// digits.
+    ///
+    /// ```text
+    /// of 00000000: bits.store_signed_be_at(1, 3, -2) leaves 01100000
+    /// ```
+    final fn store_signed_be_at(&mut self, at: usize, n: u8, number: i64)
+        requires few { n ≤ 64 }
+        requires within { at + n ≤ Self.len self.old }
+        ensures list { Self.list self.new ≡ put (Self.list self.old) at (signed_binary n number) }
+        ensures row { Self.bits self.new ≡ put (Self.bits self.old) (Self.head self.old + at) (signed_binary n number) }
+        ensures written { slice_range (Self.list self.new) at (at + n) ≡ signed_binary n number }
+        ensures read_back { 0 < n → IsSigned n number → signed_of n (value (slice_range (Self.list self.new) at (at + n))) ≡ number }
+        ensures before { StaysBefore at (Self.list self.old) (Self.list self.new) }
+        ensures after { StaysFrom (at + n) (Self.list self.old) (Self.list self.new) }
+        ensures clean { StaysClean Self.Store.BITS Self.head Self.bits Self.list self.old self.new }
+        ensures stays { Stays Self.head Self.len count capacity loan self.old self.new }
+    {
+        self.store_be_at(at, n, number.cast_unsigned());
+    }
+
     /// Clears each bit that is true in a view. No dead bit changes. Takes no memory.
     ///
     /// ```text
@@ -404,7 +507,7 @@ pub trait BitListMut: BitList {
     final fn and_not_bits<U: BitStore, P: BitOrder>(&mut self, other: BitSlice<'_, U, P>)
         ensures list { Self.list self.new ≡ and_not_of (Self.list self.old) (list_of other.entry) }
         ensures row { Self.bits self.new ≡ put (Self.bits self.old) (Self.head self.old) (and_not_of (Self.list self.old) (list_of other.entry)) }
-        ensures both { (j : ℕ) → slice_get (list_of other.entry) j ≡ Some true → j < length (Self.list self.old)
+        ensures both { (j : ℕ) → slice_get (list_of other.entry) j ≡ Some true → j < Self.len self.old
             → slice_get (Self.list self.new) j ≡ Some false }
         ensures kept { (j : ℕ) → (slice_get (list_of other.entry) j ≢ Some true)
             → slice_get (Self.list self.new) j ≡ slice_get (Self.list self.old) j }
@@ -413,6 +516,8 @@ pub trait BitListMut: BitList {
         ensures clean { StaysClean Self.Store.BITS Self.head Self.bits Self.list self.old self.new }
         ensures stays { Stays Self.head Self.len count capacity loan self.old self.new }
     {
+        // Proof only: the length of the list.
+        let _len = self.len();
         self.combine::<AndNot, U, P>(other);
     }
 

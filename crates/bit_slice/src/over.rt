@@ -275,6 +275,43 @@ pub(crate) fn store_be_over<T: BitStore, O: BitOrder>(
     write_binary::<T, O>(words, head, len as u8, number);
 }
 
+// Writes the `n` lowest bits of a number over those from index `at` on, the least significant first. Requires
+// that `n` is at most 64, and that the bits lie in the list.
+pub(crate) fn store_le_at_over<T: BitStore, O: BitOrder>(
+    words: &mut [T],
+    head: usize,
+    len: usize,
+    at: usize,
+    n: u8,
+    number: u64,
+)
+    requires within { head + len ≤ T.BITS * length words.old }
+    requires fits { head + len < 2 ^ 64 }
+    requires few { n ≤ 64 }
+    requires lies { at + n ≤ len }
+    ensures { IsWritten T.BitStore O.BitOrder words.old words.new head len at (at + n) (number_bits number n) }
+{
+    write_chunk::<T, O>(words, head + at, n, number);
+}
+
+// Like `store_le_at_over`, but the most significant bit is the first.
+pub(crate) fn store_be_at_over<T: BitStore, O: BitOrder>(
+    words: &mut [T],
+    head: usize,
+    len: usize,
+    at: usize,
+    n: u8,
+    number: u64,
+)
+    requires within { head + len ≤ T.BITS * length words.old }
+    requires fits { head + len < 2 ^ 64 }
+    requires few { n ≤ 64 }
+    requires lies { at + n ≤ len }
+    ensures { IsWritten T.BitStore O.BitOrder words.old words.new head len at (at + n) (binary n number) }
+{
+    write_binary::<T, O>(words, head + at, n, number);
+}
+
 // Combines each bit of the list, by `F`, with the bit at its index in a view, or with false past the view's end.
 pub(crate) fn combine_over<F: BitOperator, T: BitStore, O: BitOrder, U: BitStore, P: BitOrder>(
     words: &mut [T],

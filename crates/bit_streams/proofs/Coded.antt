@@ -7,8 +7,8 @@ use Rattle.std.specs.Int.{w64, leading_zeros}
 use Rattle.std.specs.Int.Count.{leading_unique}
 use Rattle.bit_addressing.proofs.Runs.{div_mono}
 use Rattle.bit_addressing.specs.Row.{binary}
+use Rattle.bit_rows.proofs.Binary.{binary_low}
 use Rattle.bit_streams.specs.Codes.{delta, gamma, rice, top_place, unary}
-use Rattle.bit_streams.proofs.Lists.{binary_low}
 
 -- the digits after the first ones
 pub digits_joined : (k q r : ℕ) → binary k (q * 2 ^ k + r % 2 ^ k) ≡ binary k r

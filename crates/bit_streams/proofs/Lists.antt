@@ -22,7 +22,7 @@ use Rattle.bit_addressing.proofs.Words.{has_low}
 use Rattle.bit_addressing.proofs.Runs.{mul_mono, slices_joined}
 use Rattle.bit_addressing.specs.Binary.{value}
 use Rattle.bit_addressing.specs.Row.{binary}
-use Rattle.bit_rows.proofs.Binary.{length-binary, value_of_binary, get_or-binary, binary_parted}
+use Rattle.bit_rows.proofs.Binary.{length-binary, value_of_binary, get_or-binary, binary_low, binary_parted}
 
 pub digits_then_rest : (n x : ℕ) (xs : List Bool) → binary n x ≡ take n xs → xs ≡ binary n x ++ drop n xs
 digits_then_rest n x xs e = sym (ap (λ l. l ++ drop n xs) e ∙ take-append-drop n xs)
@@ -63,13 +63,6 @@ none_left xs at e = elim (cases_lt at (length xs)) [
 ]
 
 -- ---- digits of two numbers joined
-
-pub binary_low : (b x : ℕ) → binary b (x % 2 ^ b) ≡ binary b x
-binary_low b x = ext_get_or false (binary b (x % 2 ^ b)) (binary b x) (length-binary b (x % 2 ^ b) ∙ sym (length-binary b x))
-    (λ i h.
-    let long = length-binary b (x % 2 ^ b) in
-    let below : i < b = omega arith in
-    get_or-binary b (x % 2 ^ b) i below ∙ has_low x b (b - 1 - i) (omega arith) ∙ sym (get_or-binary b x i below))
 
 pub joined_digits : (a b p x : ℕ) → binary (a + b) (p * 2 ^ b + x % 2 ^ b) ≡ binary a p ++ binary b x
 joined_digits a b p x =

@@ -7,9 +7,9 @@ use Rattle.std.proofs.lemmas.List.{ext_get_or, length-append, length-replicate, 
 use Rattle.std.proofs.lemmas.Nat.{div-add-mod', mod-mul-add, mod_below}
 use Rattle.bit_addressing.specs.Bits.{has_bit}
 use Rattle.bit_addressing.specs.Row.{binary}
-use Rattle.bit_rows.proofs.Binary.{length-binary, get_or-binary, binary_parted}
+use Rattle.bit_rows.proofs.Binary.{binary_low, binary_parted, get_or-binary, length-binary}
 use Rattle.bit_streams.specs.Codes.{unary}
-use Rattle.bit_streams.proofs.Lists.{heads, tails, binary_low}
+use Rattle.bit_streams.proofs.Lists.{heads, tails}
 
 pub aligned_at : (p m : ℕ) → 0 < m → (p + (m - p % m)) % m ≡ 0
 aligned_at p m some =

@@ -2,7 +2,7 @@
 use Rattle.std.specs.Prelude.{◌≡◌, pos, negsuc, true, false, [], ◌∷◌, ◌++◌, refl}
 use Rattle.bit_addressing.specs.Row.{binary}
 use Rattle.bit_streams.specs.Codes.{delta, gamma, golomb, leb128, leb_bytes, rice, unary, zigzag}
-use Rattle.bit_streams.specs.Signed.{signed_of}
+use Rattle.bit_slice.specs.Signed.{signed_of}
 
 unary_three : unary 3 ≡ false ∷ false ∷ false ∷ true ∷ []
 unary_three = refl

@@ -1,6 +1,5 @@
 pub mod Streams
 pub mod Codes
-pub mod Signed
 pub mod Fields
 pub mod Examples
 pub mod Formats

@@ -2,7 +2,7 @@
 ghost use Rattle.std.specs.Prelude.{◌≡◌, ℕ, ℤ, ◌+◌, ◌^◌, ◌<◌, ◌≤◌, ◌++◌, [], ◌∷◌, Bool, List, IfSome, None, OnErr, OnOk, Some, ⊤, false, true, length};
 ghost use Rattle.bit_addressing.specs.Row.{binary};
 ghost use Rattle.bit_streams.specs.Fields.{OptionFits, option_bits};
-ghost use Rattle.bit_streams.specs.Signed.{IsSigned, signed_binary};
+ghost use Rattle.bit_slice.specs.Signed.{IsSigned, signed_binary};
 
 use crate::reader::BitReader;
 use crate::writer::BitWriter;

@@ -1,23 +1,12 @@
 //! Numbers that are written with their least significant digit first.
 ghost use Rattle.std.specs.Prelude.{◌≡◌, ℕ, ◌+◌, ◌^◌, ◌<◌, ◌≤◌, ◌++◌, ◌↔◌, [], Bool, List, IfSome, None, OnOk, Some, length, take};
-ghost use Rattle.bit_addressing.specs.Row.{binary, number_bits};
+ghost use Rattle.bit_addressing.specs.Row.{number_bits};
 ghost use Rattle.bit_streams.specs.Streams.{Passed, Refuses};
 
 use crate::reader::BitReader;
 use crate::writer::BitWriter;
 use bit_addressing::{BitOrder, BitStore, GrowError};
-
-// The `n` lowest digits of a number in reverse: its digit `i` is the digit `n - 1 - i` of `x`.
-#[inline(always)]
-fn reversed_some(n: u8, x: u64) -> u64
-    requires some { 0 < n }
-    requires few { n ≤ 64 }
-    ensures written { binary n result ≡ number_bits x n }
-    ensures read { number_bits result n ≡ binary n x }
-    ensures below { result < 2 ^ n }
-{
-    x.reverse() >> (64 - n)
-}
+use bit_slice::inner::reversed;
 
 impl<T: BitStore, O: BitOrder> BitWriter<T, O> {
     /// Appends the `n` lowest binary digits of a number, the least significant first. Refused like `write`. Requires that
@@ -76,18 +65,4 @@ impl<'a, T: BitStore, O: BitOrder> BitReader<'a, T, O> {
             Some(x) => Some(reversed(n, x)),
         }
     }
-}
-
-// Like `reversed_some`, and 0 where there is no digit.
-#[inline(always)]
-fn reversed(n: u8, x: u64) -> u64
-    requires { n ≤ 64 }
-    ensures written { binary n result ≡ number_bits x n }
-    ensures read { number_bits result n ≡ binary n x }
-    ensures below { result < 2 ^ n }
-{
-    if n == 0 {
-        return 0;
-    }
-    reversed_some(n, x)
 }

@@ -1,27 +1,13 @@
 //! Signed numbers in two's complement.
-ghost use Rattle.std.specs.Prelude.{◌≡◌, ℕ, ℤ, ◌+◌, ◌^◌, ◌<◌, ◌≤◌, ◌++◌, ◌↔◌, [], Bool, List, IfSome, None, OnOk, Some, length, take};
+ghost use Rattle.std.specs.Prelude.{◌≡◌, ℕ, ℤ, ◌+◌, ◌<◌, ◌≤◌, ◌++◌, ◌↔◌, [], Bool, List, IfSome, None, OnOk, Some, length, take};
 ghost use Rattle.bit_addressing.specs.Binary.{value};
-ghost use Rattle.bit_streams.specs.Signed.{IsSigned, signed_binary, signed_bits, signed_of};
+ghost use Rattle.bit_slice.specs.Signed.{IsSigned, signed_binary, signed_bits, signed_of};
 ghost use Rattle.bit_streams.specs.Streams.{Passed, Refuses};
 
 use crate::reader::BitReader;
 use crate::writer::BitWriter;
 use bit_addressing::{BitOrder, BitStore, GrowError};
-
-// The signed number that `n` digits stand for, which write `x` in binary.
-#[inline(always)]
-fn extended(n: u8, x: u64) -> i64
-    requires some { 0 < n }
-    requires few { n ≤ 64 }
-    requires below { x < 2 ^ n }
-    ensures { result ≡ signed_of n x }
-{
-    if x >> (n - 1) == 0 {
-        x as i64
-    } else {
-        -1 - ((u64::MAX >> (64 - n)) - x) as i64
-    }
-}
+use bit_slice::inner::extended;
 
 impl<T: BitStore, O: BitOrder> BitWriter<T, O> {
     /// Appends the `n` lowest digits of a number in two's complement, the most significant first. Refused like `write`.

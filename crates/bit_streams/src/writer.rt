@@ -99,7 +99,7 @@ impl<T: BitStore, O: BitOrder> BitWriter<T, O> {
         let len = bits.len();
         let count = (len % 64) as u8;
         let at = len - count as usize;
-        let pending = bits.read_binary(at, count);
+        let pending = bits.load_be_at(at, count);
         bits.truncate(at);
         BitWriter {
             words: bits.into_vec(),
@@ -279,7 +279,7 @@ impl<T: BitStore, O: BitOrder> BitWriter<T, O> {
         ensures memory { result ≡ Err GrowError.OutOfMemory → self.capacity < length self.list }
     {
         let mut bits = BitVec::from_vec(self.words);
-        match bits.push_binary(self.count, self.pending) {
+        match bits.push_be(self.count, self.pending) {
             Ok(()) => Ok(bits),
             Err(why) => Err(why),
         }

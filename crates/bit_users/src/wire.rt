@@ -148,19 +148,19 @@ impl Header {
         ensures clean { IfOk result (λ v. IsClean 8 v) }
     {
         let mut bits = BitVec::with_capacity(alloc, 160)?;
-        bits.push_binary(4, self.version as u64)?;
-        bits.push_binary(4, self.header_words as u64)?;
-        bits.push_binary(6, self.service as u64)?;
-        bits.push_binary(2, self.congestion as u64)?;
-        bits.push_binary(16, self.total_length as u64)?;
-        bits.push_binary(16, self.identification as u64)?;
-        bits.push_binary(3, self.flags as u64)?;
-        bits.push_binary(13, self.fragment_offset as u64)?;
-        bits.push_binary(8, self.time_to_live as u64)?;
-        bits.push_binary(8, self.protocol as u64)?;
-        bits.push_binary(16, self.checksum as u64)?;
-        bits.push_binary(32, self.source as u64)?;
-        bits.push_binary(32, self.destination as u64)?;
+        bits.push_be(4, self.version as u64)?;
+        bits.push_be(4, self.header_words as u64)?;
+        bits.push_be(6, self.service as u64)?;
+        bits.push_be(2, self.congestion as u64)?;
+        bits.push_be(16, self.total_length as u64)?;
+        bits.push_be(16, self.identification as u64)?;
+        bits.push_be(3, self.flags as u64)?;
+        bits.push_be(13, self.fragment_offset as u64)?;
+        bits.push_be(8, self.time_to_live as u64)?;
+        bits.push_be(8, self.protocol as u64)?;
+        bits.push_be(16, self.checksum as u64)?;
+        bits.push_be(32, self.source as u64)?;
+        bits.push_be(32, self.destination as u64)?;
         Ok(bits)
     }
 }

@@ -4,7 +4,7 @@ ghost use Rattle.std.specs.Option.{option_map};
 ghost use Rattle.bit_addressing.specs.Binary.{value};
 ghost use Rattle.bit_addressing.specs.Row.{binary, put};
 ghost use Rattle.bit_slice.specs.Operators.{or_of};
-ghost use Rattle.bit_slice.specs.BitSlice.{len_of, list_of};
+ghost use Rattle.bit_slice.specs.BitSlice.{head_of, len_of, list_of, words_of, IsPlaced};
 ghost use Rattle.bit_slice.specs.BitSliceMut.{len_of as len_there, list_of as list_there};
 ghost use Rattle.bit_slice.specs.Places.{ones_of, zeros_of};
 ghost use Rattle.bit_slice.specs.Pieces.{chunk_count, chunks_of, part};
@@ -382,4 +382,43 @@ pub fn exact_chunks<T: BitStore, O: BitOrder>(view: BitSlice<'_, T, O>, n: usize
     ensures { result ≡ len_of view.entry / n }
 {
     view.chunks_exact(n).len()
+}
+
+/// How many bits are left after all whole chunks, however many of them were given.
+pub fn rest_after_two<T: BitStore, O: BitOrder>(view: BitSlice<'_, T, O>, n: usize) -> usize
+    requires { 0 < n }
+    ensures { result ≡ length (drop (len_of view.entry / n * n) (list_of view.entry)) }
+{
+    let mut chunks = view.chunks_exact(n);
+    let _first = chunks.next();
+    let _last = chunks.next_back();
+    chunks.remainder().len()
+}
+
+/// The bits that are left when all whole chunks were given, one after another.
+pub fn rest_after_all<'a, T: BitStore, O: BitOrder>(
+    view: BitSlice<'a, T, O>,
+    n: usize,
+) -> BitSlice<'a, T, O>
+    requires { 0 < n }
+    ensures { list_of result ≡ drop (len_of view.entry / n * n) (list_of view.entry) }
+{
+    let mut chunks = view.chunks_exact(n);
+    while chunks.next().is_some() {}
+    chunks.remainder()
+}
+
+/// The second chunk begins one chunk after the view's head, in the view's own words.
+pub fn second_given<'a, T: BitStore, O: BitOrder>(
+    view: BitSlice<'a, T, O>,
+    n: usize,
+) -> Option<BitSlice<'a, T, O>>
+    requires { 0 < n }
+    ensures { IfSome result (IsPlaced (words_of view.entry) (head_of view.entry) (1 * n)) }
+{
+    let mut chunks = view.chunks(n);
+    if chunks.next().is_none() {
+        return None;
+    }
+    chunks.next()
 }

@@ -227,7 +227,7 @@ fn low_bits(
 {
     let mut list = BitVec::repeat(alloc, false, len)?;
     for k in 0..numbers.len() {
-        list.write_binary(k * width as usize, width, numbers[k]);
+        list.store_be_at(k * width as usize, width, numbers[k]);
     }
     Ok(list)
 }

@@ -1,7 +1,7 @@
 //! The parts of a view by their number: chunks from the front and from the end, and windows.
 ghost use Rattle.std.specs.Iterator.{YieldsFirstBy, YieldsLastBy};
 ghost use Rattle.std.specs.Iterator.Runs.{EveryRun, ItemsMapTo, ItemsMapToReversed};
-ghost use Rattle.std.specs.Prelude.{◌≡◌, ℕ, ◌+◌, ◌-◌, ◌*◌, ◌/◌, ◌%◌, ◌<◌, ◌≤◌, IfSome, Some, drop, length, take};
+ghost use Rattle.std.specs.Prelude.{⊤, ◌≡◌, ℕ, ◌+◌, ◌-◌, ◌*◌, ◌/◌, ◌%◌, ◌<◌, ◌≤◌, IfSome, Some, drop, length, take};
 ghost use Rattle.bit_slice.specs.BitSlice.{words_of, head_of, len_of, list_of, IsPlaced};
 ghost use Rattle.bit_slice.specs.Pieces.{part, part_back, chunk_count, chunks_of, exact_chunks_of, back_chunks_of, windows_of};
 
@@ -10,7 +10,7 @@ use bit_addressing::{BitOrder, BitStore};
 use std::iter::{DoubleEndedIterator, ExactSizeIterator, FusedIterator, Iterator};
 
 impl<'a, T: BitStore, O: BitOrder> BitSlice<'a, T, O> {
-    ghost use Rattle.bit_slice.specs.PiecesLeft.{chunks_left, exact_chunks_left, exact_first, exact_last, remainder_of, back_chunks_left, windows_left};
+    ghost use Rattle.bit_slice.specs.PiecesLeft.{chunks_left, chunks_walk, exact_chunks_left, exact_chunks_walk, exact_first, exact_last, remainder_of, back_chunks_left, back_chunks_walk, windows_left, windows_walk, BeginsIn};
 
     /// The chunk of number `k`: the one that `chunks(size)` gives after `k` others. Requires that `size`
     /// is not 0, and that the chunk begins before the end.
@@ -41,6 +41,8 @@ impl<'a, T: BitStore, O: BitOrder> BitSlice<'a, T, O> {
         requires some { 0 < size }
         ensures list { chunks_left result ≡ chunks_of size (list_of self.entry) }
         ensures count { length (chunks_left result) ≡ chunk_count (len_of self.entry) size }
+        ensures begins { BeginsIn (words_of self.entry) (head_of self.entry) (len_of self.entry) size
+            (chunk_count (len_of self.entry) size) (chunks_walk result) }
         ensures runs { EveryRun (YieldsFirstBy (list_of {X = T} {Y = O} {W = T.BitStore} {P = O.BitOrder})
             (chunks_left {X = T} {Y = O} {W = T.BitStore} {P = O.BitOrder}))
             (λ p. ItemsMapTo p list_of (chunks_left p.from)) }
@@ -67,6 +69,8 @@ impl<'a, T: BitStore, O: BitOrder> BitSlice<'a, T, O> {
         ensures list { exact_chunks_left result ≡ exact_chunks_of size (list_of self.entry) }
         ensures count { length (exact_chunks_left result) ≡ len_of self.entry / size }
         ensures remainder { remainder_of result ≡ drop (len_of self.entry / size * size) (list_of self.entry) }
+        ensures begins { BeginsIn (words_of self.entry) (head_of self.entry) (len_of self.entry) size
+            (len_of self.entry / size) (exact_chunks_walk result) }
         ensures runs { EveryRun (exact_first {X = T} {Y = O} {W = T.BitStore} {P = O.BitOrder})
             (λ p. ItemsMapTo p list_of (exact_chunks_left p.from)) }
         ensures runs_back { EveryRun (exact_last {X = T} {Y = O} {W = T.BitStore} {P = O.BitOrder})
@@ -90,6 +94,8 @@ impl<'a, T: BitStore, O: BitOrder> BitSlice<'a, T, O> {
         requires some { 0 < size }
         ensures list { back_chunks_left result ≡ back_chunks_of size (list_of self.entry) }
         ensures count { length (back_chunks_left result) ≡ chunk_count (len_of self.entry) size }
+        ensures begins { BeginsIn (words_of self.entry) (head_of self.entry) (len_of self.entry) size
+            (chunk_count (len_of self.entry) size) (back_chunks_walk result) }
         ensures runs { EveryRun (YieldsFirstBy (list_of {X = T} {Y = O} {W = T.BitStore} {P = O.BitOrder})
             (back_chunks_left {X = T} {Y = O} {W = T.BitStore} {P = O.BitOrder}))
             (λ p. ItemsMapTo p list_of (back_chunks_left p.from)) }
@@ -115,6 +121,8 @@ impl<'a, T: BitStore, O: BitOrder> BitSlice<'a, T, O> {
         requires some { 0 < size }
         ensures list { windows_left result ≡ windows_of size (list_of self.entry) }
         ensures count { length (windows_left result) ≡ len_of self.entry + 1 - size }
+        ensures begins { BeginsIn (words_of self.entry) (head_of self.entry) (len_of self.entry) size
+            (len_of self.entry + 1 - size) (windows_walk result) }
         ensures runs { EveryRun (YieldsFirstBy (list_of {X = T} {Y = O} {W = T.BitStore} {P = O.BitOrder})
             (windows_left {X = T} {Y = O} {W = T.BitStore} {P = O.BitOrder}))
             (λ p. ItemsMapTo p list_of (windows_left p.from)) }
@@ -150,7 +158,8 @@ impl<'a, T: BitStore, O: BitOrder> Chunks<'a, T, O> {
     // The chunk of number `k`.
     fn part(&self, k: usize) -> BitSlice<'a, T, O>
         requires { k < self.now.upto }
-        ensures { list_of result ≡ part self.now.size (list_of self.now.view) (k * self.now.size) }
+        ensures list { list_of result ≡ part self.now.size (list_of self.now.view) (k * self.now.size) }
+        ensures place { IsPlaced (words_of self.now.view) (head_of self.now.view) (k * self.now.size) result }
     {
         let start = k * self.size;
         let count = self.size.min(self.view.len() - start);
@@ -166,10 +175,10 @@ impl<'a, T: BitStore, O: BitOrder> Chunks<'a, T, O> {
 }
 
 impl<'a, T: BitStore, O: BitOrder> Iterator for Chunks<'a, T, O> {
-    ghost use Rattle.std.specs.Iterator.{YieldsFirstBy, UpTo, at_most, item_count};
+    ghost use Rattle.std.specs.Iterator.{YieldsFirstBy, MakesProgress, UpTo, at_most, item_count};
     ghost use Rattle.std.specs.Iterator.SizeHint.{IsWithinCount};
     ghost use Rattle.bit_slice.specs.BitSlice.{list_of};
-    ghost use Rattle.bit_slice.specs.PiecesLeft.{chunks_left};
+    ghost use Rattle.bit_slice.specs.PiecesLeft.{chunks_left, chunks_walk, StepsForward};
 
     type Item = BitSlice<'a, T, O>;
 
@@ -178,7 +187,11 @@ impl<'a, T: BitStore, O: BitOrder> Iterator for Chunks<'a, T, O> {
     ghost remaining = { item_count chunks_left };
 
     /// The first chunk that is left. None exactly where none is.
-    fn next(&mut self) -> Option<BitSlice<'a, T, O>> {
+    fn next(&mut self) -> Option<BitSlice<'a, T, O>>
+        ensures steps { YieldsFirstBy list_of chunks_left self.old result self.new }
+        ensures goes { MakesProgress (λ _. ⊤) (item_count chunks_left) self.old result self.new }
+        ensures place { IfSome result (λ part. StepsForward ((chunks_walk self.old).from * (chunks_walk self.old).size) (chunks_walk self.old) part (chunks_walk self.new)) }
+    {
         if self.from == self.upto {
             return None;
         }
@@ -199,14 +212,18 @@ impl<'a, T: BitStore, O: BitOrder> Iterator for Chunks<'a, T, O> {
 }
 
 impl<'a, T: BitStore, O: BitOrder> DoubleEndedIterator for Chunks<'a, T, O> {
-    ghost use Rattle.std.specs.Iterator.{YieldsLastBy};
+    ghost use Rattle.std.specs.Iterator.{YieldsLastBy, MakesProgress, item_count};
     ghost use Rattle.bit_slice.specs.BitSlice.{list_of};
-    ghost use Rattle.bit_slice.specs.PiecesLeft.{chunks_left};
+    ghost use Rattle.bit_slice.specs.PiecesLeft.{chunks_left, chunks_walk, StepsBack};
 
     ghost next_back_gives = { YieldsLastBy list_of chunks_left };
 
     /// The last chunk that is left. None exactly where none is.
-    fn next_back(&mut self) -> Option<BitSlice<'a, T, O>> {
+    fn next_back(&mut self) -> Option<BitSlice<'a, T, O>>
+        ensures steps { YieldsLastBy list_of chunks_left self.old result self.new }
+        ensures goes { MakesProgress (λ _. ⊤) (item_count chunks_left) self.old result self.new }
+        ensures place { IfSome result (λ part. StepsBack (((chunks_walk self.old).upto - 1) * (chunks_walk self.old).size) (chunks_walk self.old) part (chunks_walk self.new)) }
+    {
         if self.upto == self.from {
             return None;
         }
@@ -238,12 +255,15 @@ pub struct ChunksExact<'a, T: BitStore, O: BitOrder> {
 }
 
 impl<'a, T: BitStore, O: BitOrder> ChunksExact<'a, T, O> {
-    ghost use Rattle.bit_slice.specs.PiecesLeft.{exact_chunks_left, remainder_of};
+    ghost use Rattle.bit_slice.specs.PiecesLeft.{exact_chunks_left, exact_chunks_walk, remainder_of};
 
     /// The bits at the end of the view that no chunk has, fewer than a chunk has.
     pub fn remainder(&self) -> BitSlice<'a, T, O>
         ensures list { list_of result ≡ remainder_of self.now }
-        ensures few { len_of result < self.now.size }
+        ensures len { len_of result ≡ length (remainder_of self.now) }
+        ensures few { len_of result < (exact_chunks_walk self.now).size }
+        ensures place { let w = exact_chunks_walk self.now in
+            IsPlaced (words_of w.view) (head_of w.view) (len_of w.view / w.size * w.size) result }
     {
         let len = self.view.len();
         self.view.get_range(len - len % self.size..len)
@@ -252,7 +272,8 @@ impl<'a, T: BitStore, O: BitOrder> ChunksExact<'a, T, O> {
     // The chunk of number `k`.
     fn part(&self, k: usize) -> BitSlice<'a, T, O>
         requires { k < self.now.upto }
-        ensures { list_of result ≡ part self.now.size (list_of self.now.view) (k * self.now.size) }
+        ensures list { list_of result ≡ part self.now.size (list_of self.now.view) (k * self.now.size) }
+        ensures place { IsPlaced (words_of self.now.view) (head_of self.now.view) (k * self.now.size) result }
     {
         let start = k * self.size;
         self.view.get_range(start..start + self.size)
@@ -267,9 +288,9 @@ impl<'a, T: BitStore, O: BitOrder> ChunksExact<'a, T, O> {
 }
 
 impl<'a, T: BitStore, O: BitOrder> Iterator for ChunksExact<'a, T, O> {
-    ghost use Rattle.std.specs.Iterator.{UpTo, at_most, item_count};
+    ghost use Rattle.std.specs.Iterator.{MakesProgress, UpTo, at_most, item_count};
     ghost use Rattle.std.specs.Iterator.SizeHint.{IsWithinCount};
-    ghost use Rattle.bit_slice.specs.PiecesLeft.{exact_chunks_left, exact_first};
+    ghost use Rattle.bit_slice.specs.PiecesLeft.{exact_chunks_left, exact_first, exact_chunks_walk, StepsForward};
 
     type Item = BitSlice<'a, T, O>;
 
@@ -278,7 +299,11 @@ impl<'a, T: BitStore, O: BitOrder> Iterator for ChunksExact<'a, T, O> {
     ghost remaining = { item_count exact_chunks_left };
 
     /// The first chunk that is left. None exactly where none is. The remainder stays.
-    fn next(&mut self) -> Option<BitSlice<'a, T, O>> {
+    fn next(&mut self) -> Option<BitSlice<'a, T, O>>
+        ensures steps { exact_first self.old result self.new }
+        ensures goes { MakesProgress (λ _. ⊤) (item_count exact_chunks_left) self.old result self.new }
+        ensures place { IfSome result (λ part. StepsForward ((exact_chunks_walk self.old).from * (exact_chunks_walk self.old).size) (exact_chunks_walk self.old) part (exact_chunks_walk self.new)) }
+    {
         if self.from == self.upto {
             return None;
         }
@@ -299,12 +324,17 @@ impl<'a, T: BitStore, O: BitOrder> Iterator for ChunksExact<'a, T, O> {
 }
 
 impl<'a, T: BitStore, O: BitOrder> DoubleEndedIterator for ChunksExact<'a, T, O> {
-    ghost use Rattle.bit_slice.specs.PiecesLeft.{exact_last};
+    ghost use Rattle.std.specs.Iterator.{MakesProgress, item_count};
+    ghost use Rattle.bit_slice.specs.PiecesLeft.{exact_last, exact_chunks_left, exact_chunks_walk, StepsBack};
 
     ghost next_back_gives = { exact_last };
 
     /// The last chunk that is left. None exactly where none is. The remainder stays.
-    fn next_back(&mut self) -> Option<BitSlice<'a, T, O>> {
+    fn next_back(&mut self) -> Option<BitSlice<'a, T, O>>
+        ensures steps { exact_last self.old result self.new }
+        ensures goes { MakesProgress (λ _. ⊤) (item_count exact_chunks_left) self.old result self.new }
+        ensures place { IfSome result (λ part. StepsBack (((exact_chunks_walk self.old).upto - 1) * (exact_chunks_walk self.old).size) (exact_chunks_walk self.old) part (exact_chunks_walk self.new)) }
+    {
         if self.upto == self.from {
             return None;
         }
@@ -342,7 +372,8 @@ impl<'a, T: BitStore, O: BitOrder> RChunks<'a, T, O> {
     // The chunk of number `k`.
     fn part(&self, k: usize) -> BitSlice<'a, T, O>
         requires { k < self.now.upto }
-        ensures { list_of result ≡ part_back self.now.size (list_of self.now.view) (k * self.now.size) }
+        ensures list { list_of result ≡ part_back self.now.size (list_of self.now.view) (k * self.now.size) }
+        ensures place { IsPlaced (words_of self.now.view) (head_of self.now.view) (len_of self.now.view - k * self.now.size - self.now.size) result }
     {
         let end = self.view.len() - k * self.size;
         self.view.get_range(end.saturating_sub(self.size)..end)
@@ -357,10 +388,10 @@ impl<'a, T: BitStore, O: BitOrder> RChunks<'a, T, O> {
 }
 
 impl<'a, T: BitStore, O: BitOrder> Iterator for RChunks<'a, T, O> {
-    ghost use Rattle.std.specs.Iterator.{YieldsFirstBy, UpTo, at_most, item_count};
+    ghost use Rattle.std.specs.Iterator.{YieldsFirstBy, MakesProgress, UpTo, at_most, item_count};
     ghost use Rattle.std.specs.Iterator.SizeHint.{IsWithinCount};
     ghost use Rattle.bit_slice.specs.BitSlice.{list_of};
-    ghost use Rattle.bit_slice.specs.PiecesLeft.{back_chunks_left};
+    ghost use Rattle.bit_slice.specs.PiecesLeft.{back_chunks_left, back_chunks_walk, StepsForward};
 
     type Item = BitSlice<'a, T, O>;
 
@@ -369,7 +400,11 @@ impl<'a, T: BitStore, O: BitOrder> Iterator for RChunks<'a, T, O> {
     ghost remaining = { item_count back_chunks_left };
 
     /// The first chunk that is left. None exactly where none is.
-    fn next(&mut self) -> Option<BitSlice<'a, T, O>> {
+    fn next(&mut self) -> Option<BitSlice<'a, T, O>>
+        ensures steps { YieldsFirstBy list_of back_chunks_left self.old result self.new }
+        ensures goes { MakesProgress (λ _. ⊤) (item_count back_chunks_left) self.old result self.new }
+        ensures place { IfSome result (λ part. StepsForward (len_of (back_chunks_walk self.old).view - (back_chunks_walk self.old).from * (back_chunks_walk self.old).size - (back_chunks_walk self.old).size) (back_chunks_walk self.old) part (back_chunks_walk self.new)) }
+    {
         if self.from == self.upto {
             return None;
         }
@@ -390,14 +425,18 @@ impl<'a, T: BitStore, O: BitOrder> Iterator for RChunks<'a, T, O> {
 }
 
 impl<'a, T: BitStore, O: BitOrder> DoubleEndedIterator for RChunks<'a, T, O> {
-    ghost use Rattle.std.specs.Iterator.{YieldsLastBy};
+    ghost use Rattle.std.specs.Iterator.{YieldsLastBy, MakesProgress, item_count};
     ghost use Rattle.bit_slice.specs.BitSlice.{list_of};
-    ghost use Rattle.bit_slice.specs.PiecesLeft.{back_chunks_left};
+    ghost use Rattle.bit_slice.specs.PiecesLeft.{back_chunks_left, back_chunks_walk, StepsBack};
 
     ghost next_back_gives = { YieldsLastBy list_of back_chunks_left };
 
     /// The last chunk that is left. None exactly where none is.
-    fn next_back(&mut self) -> Option<BitSlice<'a, T, O>> {
+    fn next_back(&mut self) -> Option<BitSlice<'a, T, O>>
+        ensures steps { YieldsLastBy list_of back_chunks_left self.old result self.new }
+        ensures goes { MakesProgress (λ _. ⊤) (item_count back_chunks_left) self.old result self.new }
+        ensures place { IfSome result (λ part. StepsBack (len_of (back_chunks_walk self.old).view - ((back_chunks_walk self.old).upto - 1) * (back_chunks_walk self.old).size - (back_chunks_walk self.old).size) (back_chunks_walk self.old) part (back_chunks_walk self.new)) }
+    {
         if self.upto == self.from {
             return None;
         }
@@ -435,7 +474,8 @@ impl<'a, T: BitStore, O: BitOrder> Windows<'a, T, O> {
     // The window of number `k`.
     fn part(&self, k: usize) -> BitSlice<'a, T, O>
         requires { k < self.now.upto }
-        ensures { list_of result ≡ part self.now.size (list_of self.now.view) k }
+        ensures list { list_of result ≡ part self.now.size (list_of self.now.view) k }
+        ensures place { IsPlaced (words_of self.now.view) (head_of self.now.view) (k) result }
     {
         self.view.get_range(k..k + self.size)
     }
@@ -449,10 +489,10 @@ impl<'a, T: BitStore, O: BitOrder> Windows<'a, T, O> {
 }
 
 impl<'a, T: BitStore, O: BitOrder> Iterator for Windows<'a, T, O> {
-    ghost use Rattle.std.specs.Iterator.{YieldsFirstBy, UpTo, at_most, item_count};
+    ghost use Rattle.std.specs.Iterator.{YieldsFirstBy, MakesProgress, UpTo, at_most, item_count};
     ghost use Rattle.std.specs.Iterator.SizeHint.{IsWithinCount};
     ghost use Rattle.bit_slice.specs.BitSlice.{list_of};
-    ghost use Rattle.bit_slice.specs.PiecesLeft.{windows_left};
+    ghost use Rattle.bit_slice.specs.PiecesLeft.{windows_left, windows_walk, StepsForward};
 
     type Item = BitSlice<'a, T, O>;
 
@@ -461,7 +501,11 @@ impl<'a, T: BitStore, O: BitOrder> Iterator for Windows<'a, T, O> {
     ghost remaining = { item_count windows_left };
 
     /// The first window that is left. None exactly where none is.
-    fn next(&mut self) -> Option<BitSlice<'a, T, O>> {
+    fn next(&mut self) -> Option<BitSlice<'a, T, O>>
+        ensures steps { YieldsFirstBy list_of windows_left self.old result self.new }
+        ensures goes { MakesProgress (λ _. ⊤) (item_count windows_left) self.old result self.new }
+        ensures place { IfSome result (λ part. StepsForward ((windows_walk self.old).from) (windows_walk self.old) part (windows_walk self.new)) }
+    {
         if self.from == self.upto {
             return None;
         }
@@ -482,14 +526,18 @@ impl<'a, T: BitStore, O: BitOrder> Iterator for Windows<'a, T, O> {
 }
 
 impl<'a, T: BitStore, O: BitOrder> DoubleEndedIterator for Windows<'a, T, O> {
-    ghost use Rattle.std.specs.Iterator.{YieldsLastBy};
+    ghost use Rattle.std.specs.Iterator.{YieldsLastBy, MakesProgress, item_count};
     ghost use Rattle.bit_slice.specs.BitSlice.{list_of};
-    ghost use Rattle.bit_slice.specs.PiecesLeft.{windows_left};
+    ghost use Rattle.bit_slice.specs.PiecesLeft.{windows_left, windows_walk, StepsBack};
 
     ghost next_back_gives = { YieldsLastBy list_of windows_left };
 
     /// The last window that is left. None exactly where none is.
-    fn next_back(&mut self) -> Option<BitSlice<'a, T, O>> {
+    fn next_back(&mut self) -> Option<BitSlice<'a, T, O>>
+        ensures steps { YieldsLastBy list_of windows_left self.old result self.new }
+        ensures goes { MakesProgress (λ _. ⊤) (item_count windows_left) self.old result self.new }
+        ensures place { IfSome result (λ part. StepsBack (((windows_walk self.old).upto - 1)) (windows_walk self.old) part (windows_walk self.new)) }
+    {
         if self.upto == self.from {
             return None;
         }

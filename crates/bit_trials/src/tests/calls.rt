@@ -94,23 +94,23 @@ fn over_another(rt: HostRuntime) {
 #[test]
 fn numbers_of_five_digits(rt: HostRuntime) {
     let mut v = BitVec::<u8, Msb0>::new(rt.alloc());
-    ok(&rt, v.push_binary(5, 1));
-    ok(&rt, v.push_binary(5, 31));
-    ok(&rt, v.push_binary(5, 0));
+    ok(&rt, v.push_be(5, 1));
+    ok(&rt, v.push_be(5, 31));
+    ok(&rt, v.push_be(5, 0));
     shows(&rt, &v, &[0x0f, 0xc0]);
-    check(&rt, v.read_binary(5, 5) == 31);
-    v.write_binary(5, 5, 0);
+    check(&rt, v.load_be_at(5, 5) == 31);
+    v.store_be_at(5, 5, 0);
     shows(&rt, &v, &[0x08, 0x00]);
 }
 
 #[test]
 fn numbers_of_three_digits(rt: HostRuntime) {
     let mut v = BitVec::<u8, Lsb0>::new(rt.alloc());
-    ok(&rt, v.push_binary(3, 5));
-    ok(&rt, v.push_binary(3, 3));
-    ok(&rt, v.push_binary(3, 6));
+    ok(&rt, v.push_be(3, 5));
+    ok(&rt, v.push_be(3, 3));
+    ok(&rt, v.push_be(3, 6));
     shows(&rt, &v, &[0xf5, 0x00]);
-    v.write_binary(3, 3, 0);
+    v.store_be_at(3, 3, 0);
     shows(&rt, &v, &[0xc5, 0x00]);
 }
 
@@ -158,4 +158,22 @@ fn a_hundred_bits(rt: HostRuntime) {
     check(&rt, v.count_ones() == 34);
     check(&rt, v.get(66) == Some(true));
     check(&rt, v.get(65) == Some(false));
+}
+
+#[test]
+fn numbers_of_four_digits(rt: HostRuntime) {
+    let mut v = of::<u8, Msb0>(&rt, b"01101001");
+    check(&rt, v.load_be_at(1, 4) == 13);
+    check(&rt, v.load_le_at(1, 4) == 11);
+    check(&rt, v.load_signed_be_at(1, 4) == -3);
+    check(&rt, v.load_signed_le_at(1, 4) == -5);
+    check(&rt, v.load_be_at(8, 0) == 0);
+    v.store_le_at(0, 4, 1);
+    holds(&rt, &v, b"10001001");
+    v.store_signed_be_at(4, 3, -2);
+    holds(&rt, &v, b"10001101");
+    v.store_signed_le_at(4, 3, -2);
+    holds(&rt, &v, b"10000111");
+    ok(&rt, v.push_le(3, 6));
+    holds(&rt, &v, b"10000111011");
 }

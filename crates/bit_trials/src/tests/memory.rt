@@ -258,7 +258,7 @@ fn numbers_refused(rt: HostRuntime) {
         return;
     };
     for i in 0..12usize {
-        if let Err(why) = v.push_binary(64, u64::MAX) {
+        if let Err(why) = v.push_be(64, u64::MAX) {
             check(&rt, why == GrowError::OutOfMemory);
             check(&rt, v.len() == 8 + 64 * i);
             check(&rt, v.count_ones() == 6 + 64 * i);

@@ -22,4 +22,4 @@ returns-clause-value g c =
     let i = c.self.inside in
     let inv = c.self.invariant in
     sym (ap (λ v. slice_get v.list c.args.i) (sym c.self.view_is)
-    ∙ number_is i.width i.len c.args.i c.read_binary.result i.bits.list inv.some inv.few inv.size (omega arith) c.read_binary.ensures.digits c.read_binary.ensures.below)
+    ∙ number_is i.width i.len c.args.i c.load_be_at.result i.bits.list inv.some inv.few inv.size (omega arith) c.load_be_at.ensures.digits c.load_be_at.ensures.below)

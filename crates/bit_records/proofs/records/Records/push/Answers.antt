@@ -16,7 +16,7 @@ invariant_of-self g c =
     let inv = c.self.invariant in
     let xs = i.bits.list in
     let bits = binary i.width c.args.number in
-    let long : length c.push_binary.new.self.list ≡ length xs + i.width = ap length c.in-Ok.ensures.list ∙ length-append xs bits ∙ ap (λ n. length xs + n) (length-binary i.width c.args.number) in
+    let long : length c.push_be.new.self.list ≡ length xs + i.width = ap length c.in-Ok.ensures.list ∙ length-append xs bits ∙ ap (λ n. length xs + n) (length-binary i.width c.args.number) in
     let more = one_more_word i.len i.width in
     let size = inv.size in
     record {

@@ -5,9 +5,9 @@ use Rattle.std.proofs.lemmas.Int.{to_z-of_z}
 use Rattle.std.proofs.Math.Pow.{pow_pos}
 use Rattle.std.proofs.lemmas.Nat.{mod_below}
 use Rattle.bit_addressing.specs.Row.{binary}
-use Rattle.bit_streams.specs.Signed.{IsSigned, signed_binary, signed_of}
-use Rattle.bit_streams.proofs.Lists.{binary_low}
-use Rattle.bit_streams.proofs.Twos.{signed_back, signed_digits, signed_same}
+use Rattle.bit_slice.specs.Signed.{IsSigned, signed_binary, signed_of}
+use Rattle.bit_slice.proofs.Signed.{signed_back, signed_digits, signed_same}
+use Rattle.bit_rows.proofs.Binary.{binary_low}
 use Rattle.bit_streams.proofs.reader.BitReader.read_signed.Goals as goal
 
 pub returns-in-Some-clause-value : goal.returns-in-Some-clause-value

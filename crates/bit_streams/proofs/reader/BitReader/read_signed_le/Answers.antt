@@ -5,9 +5,9 @@ use Rattle.std.proofs.lemmas.Int.{to_z-of_z}
 use Rattle.std.proofs.Math.Pow.{pow_pos}
 use Rattle.std.proofs.lemmas.Nat.{mod_below}
 use Rattle.bit_addressing.specs.Row.{number_bits}
-use Rattle.bit_streams.specs.Signed.{IsSigned, signed_bits, signed_of}
-use Rattle.bit_streams.proofs.Turned.{bits_low}
-use Rattle.bit_streams.proofs.Twos.{signed_back, signed_digits, signed_same_bits}
+use Rattle.bit_slice.specs.Signed.{IsSigned, signed_bits, signed_of}
+use Rattle.bit_slice.proofs.Signed.{signed_back, signed_digits, signed_same_bits}
+use Rattle.bit_rows.proofs.Binary.{bits_low}
 use Rattle.bit_streams.proofs.reader.BitReader.read_signed_le.Goals as goal
 
 pub returns-in-Some-clause-digits : goal.returns-in-Some-clause-digits

@@ -5,9 +5,9 @@ use Rattle.bit_users.proofs.wire.Header.join_fields.Goals as goal
 
 pub returns-clause-bits : goal.returns-clause-bits
 returns-clause-bits c =
-    let all = c.push_binary-13.new.self.list in
-    joined_field all _ _ _ _ c.in_ok-push_binary.ensures.list (joined_field all _ _ _ _ c.in_ok-push_binary-2.ensures.list (joined_field all _ _ _ _ c.in_ok-push_binary-3.ensures.list (joined_field all _ _ _ _ c.in_ok-push_binary-4.ensures.list (joined_field all _ _ _ _ c.in_ok-push_binary-5.ensures.list (joined_field all _ _ _ _ c.in_ok-push_binary-6.ensures.list (joined_field all _ _ _ _ c.in_ok-push_binary-7.ensures.list (joined_field all _ _ _ _ c.in_ok-push_binary-8.ensures.list (joined_field all _ _ _ _ c.in_ok-push_binary-9.ensures.list (joined_field all _ _ _ _ c.in_ok-push_binary-10.ensures.list (joined_field all _ _ _ _ c.in_ok-push_binary-11.ensures.list (joined_field all _ _ _ _ c.in_ok-push_binary-12.ensures.list (joined_field all _ _ _ _ c.in_ok-push_binary-13.ensures.list (no_field all)))))))))))))
+    let all = c.push_be-13.new.self.list in
+    joined_field all _ _ _ _ c.in_ok-push_be.ensures.list (joined_field all _ _ _ _ c.in_ok-push_be-2.ensures.list (joined_field all _ _ _ _ c.in_ok-push_be-3.ensures.list (joined_field all _ _ _ _ c.in_ok-push_be-4.ensures.list (joined_field all _ _ _ _ c.in_ok-push_be-5.ensures.list (joined_field all _ _ _ _ c.in_ok-push_be-6.ensures.list (joined_field all _ _ _ _ c.in_ok-push_be-7.ensures.list (joined_field all _ _ _ _ c.in_ok-push_be-8.ensures.list (joined_field all _ _ _ _ c.in_ok-push_be-9.ensures.list (joined_field all _ _ _ _ c.in_ok-push_be-10.ensures.list (joined_field all _ _ _ _ c.in_ok-push_be-11.ensures.list (joined_field all _ _ _ _ c.in_ok-push_be-12.ensures.list (joined_field all _ _ _ _ c.in_ok-push_be-13.ensures.list (no_field all)))))))))))))
     ∙ ap (λ l. l ++ written_fields (fields_of c.args.self)) c.in_ok-bits.ensures.list
 
 pub returns-clause-clean : goal.returns-clause-clean
-returns-clause-clean c = c.in_ok-push_binary-13.ensures.clean (c.in_ok-push_binary-12.ensures.clean (c.in_ok-push_binary-11.ensures.clean (c.in_ok-push_binary-10.ensures.clean (c.in_ok-push_binary-9.ensures.clean (c.in_ok-push_binary-8.ensures.clean (c.in_ok-push_binary-7.ensures.clean (c.in_ok-push_binary-6.ensures.clean (c.in_ok-push_binary-5.ensures.clean (c.in_ok-push_binary-4.ensures.clean (c.in_ok-push_binary-3.ensures.clean (c.in_ok-push_binary-2.ensures.clean (c.in_ok-push_binary.ensures.clean c.in_ok-bits.ensures.clean))))))))))))
+returns-clause-clean c = c.in_ok-push_be-13.ensures.clean (c.in_ok-push_be-12.ensures.clean (c.in_ok-push_be-11.ensures.clean (c.in_ok-push_be-10.ensures.clean (c.in_ok-push_be-9.ensures.clean (c.in_ok-push_be-8.ensures.clean (c.in_ok-push_be-7.ensures.clean (c.in_ok-push_be-6.ensures.clean (c.in_ok-push_be-5.ensures.clean (c.in_ok-push_be-4.ensures.clean (c.in_ok-push_be-3.ensures.clean (c.in_ok-push_be-2.ensures.clean (c.in_ok-push_be.ensures.clean c.in_ok-bits.ensures.clean))))))))))))

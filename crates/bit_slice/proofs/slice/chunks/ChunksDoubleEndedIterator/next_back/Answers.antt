@@ -7,7 +7,7 @@ use Rattle.bit_slice.proofs.slice.chunks.ChunksDoubleEndedIterator.next_back.Goa
 pub returns-clause-steps : goal.returns-clause-steps
 returns-clause-steps g c =
     let s = c.args.self.now in
-    part_ends _ s.from s.upto (omega (arith, s.fits.0)) _ c.part-part.ensures
+    part_ends _ s.from s.upto (omega (arith, s.fits.0)) _ c.part-part.ensures.list
 
 pub returns-clause-goes : goal.returns-clause-goes
 returns-clause-goes g c =

@@ -10,7 +10,7 @@ use Rattle.bit_containers.proofs.Vectors.{kept, shown, no_room_for, refilled, sa
 use Rattle.bit_containers.proofs.Growing.{grew_by}
 use Rattle.bit_containers.proofs.Clean.{clean_grown}
 use Rattle.bit_containers.proofs.Elements.{exactly, more_room}
-use Rattle.bit_containers.proofs.vec.BitVec.push_binary.Goals as goal
+use Rattle.bit_containers.proofs.vec.BitVec.push_be.Goals as goal
 
 pub returns-in_err-push_binary_in_vec-clause-refusal : goal.returns-in_err-push_binary_in_vec-clause-refusal
 returns-in_err-push_binary_in_vec-clause-refusal g c =

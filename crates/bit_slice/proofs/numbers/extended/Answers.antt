@@ -3,8 +3,8 @@ use Rattle.std.specs.Prelude.{negsuc, ◌-ℤ◌}
 use Rattle.std.specs.Int.{cast_signed, cast_unsigned}
 use Rattle.std.proofs.Math.Pow.{pow_mono}
 use Rattle.std.proofs.lemmas.Int.{to_z-of_z, to_z_pos}
-use Rattle.bit_streams.proofs.Twos.{all_ones, below_zero, halves, in_upper, upper}
-use Rattle.bit_streams.proofs.signed.extended.Goals as goal
+use Rattle.bit_slice.proofs.Signed.{all_ones, below_zero, halves, in_upper, upper}
+use Rattle.bit_slice.proofs.numbers.extended.Goals as goal
 
 pub overflow_sub-result-else-x-n-eq0 : goal.overflow_sub-result-else-x-n-eq0
 overflow_sub-result-else-x-n-eq0 c =

@@ -1,15 +1,19 @@
--- Two's complement: which number some digits stand for.
-use Rattle.std.proofs.Common.{◌≡◌, ℕ, zero, suc, ◌+◌, ◌-◌, ◌*◌, ◌/◌, ◌%◌, ◌^◌, ◌<◌, ◌≤◌, refl, sym, ◌∙◌, ap, subst, inl, inr, arith}
+-- Numbers and their digits: in reverse, and in two's complement.
+use Rattle.std.proofs.Common.{◌≡◌, ℕ, zero, suc, false, ◌+◌, ◌-◌, ◌*◌, ◌/◌, ◌%◌, ◌^◌, ◌<◌, ◌≤◌, length, eqb, get_or, refl, sym, ◌∙◌, ap, subst, inl, inr, arith}
 use Rattle.std.specs.Prelude.{ℤ, pos, negsuc, ◌-ℤ◌}
 use Rattle.std.specs.Int.{w64, cast_unsigned}
 use Rattle.std.proofs.Math.Pow.{pow_pos, pow_mono}
-use Rattle.std.proofs.Math.Nat.{mod-eq_of_lt, div-lt_iff_lt-mul, le-div_iff_mul-le}
+use Rattle.std.proofs.Math.Nat.{div-eq_of_lt, mod-eq_of_lt, div-lt_iff_lt-mul, le-div_iff_mul-le}
 use Rattle.std.proofs.lemmas.Bool.{cases_lt, lt-ltb, le-ltb}
-use Rattle.std.proofs.lemmas.Nat.{div-mul-add, mod-mul-add, pow-add}
-use Rattle.bit_addressing.specs.Row.{binary, number_bits}
-use Rattle.bit_streams.proofs.Lists.{binary_low}
-use Rattle.bit_streams.proofs.Turned.{bits_low}
-use Rattle.bit_streams.specs.Signed.{IsSigned, signed_of}
+use Rattle.std.proofs.lemmas.List.{ext_get_or, get_or_past}
+use Rattle.std.proofs.lemmas.Nat.{div-mul-add, mod-mul-add, mod_below, pow-add}
+use Rattle.bit_addressing.specs.Bits.{has_bit}
+use Rattle.bit_addressing.specs.Row.{binary, number_bits, number_of}
+use Rattle.bit_addressing.proofs.Words.{has_shr_low}
+use Rattle.bit_rows.proofs.Binary.{binary_low, bits_low, get_or-binary, get_or-number_bits, length-binary, length-number_bits, value_of_binary}
+use Rattle.bit_addressing.proofs.Chunks.{number_from_bits}
+use Rattle.bit_addressing.specs.Binary.{value}
+use Rattle.bit_slice.specs.Signed.{IsSigned, signed_of}
 
 -- the two halves of the numbers of n digits
 pub halves : (n : ℕ) → 0 < n → 2 ^ n ≡ 2 ^ (n - 1) * 2
@@ -90,3 +94,48 @@ lower_fits n x few h = let most = pow_mono {i = n - 1} {j = 63} (omega arith) in
 pub below_zero : (m : ℕ) → negsuc 0 -ℤ pos m ≡ negsuc m
 below_zero zero = refl
 below_zero (suc m) = let e : 0 + m ≡ m = omega arith in ap (λ k. negsuc (suc k)) e
+
+-- a signed number of n digits is the one that its digits write
+pub signed_written : (n : ℕ) (x : ℤ) → 0 < n → n ≤ 64 → IsSigned n x → signed_of n (value (binary n (cast_unsigned w64 x))) ≡ x
+signed_written n x some few is =
+    let y = cast_unsigned w64 x in
+    ap (signed_of n) (ap (λ l. value l) (sym (binary_low n y)) ∙ value_of_binary n (y % 2 ^ n) (mod_below y (2 ^ n) (pow_pos n))) ∙ signed_back n x some few is
+
+-- ---- digits in reverse
+
+pub turned_digits : (n x turned : ℕ) → 0 < n → n ≤ 64 → ((p : ℕ) → p < 64 → has_bit turned p ≡ has_bit x (64 - 1 - p)) → binary n (turned / 2 ^ (64 - n)) ≡ number_bits x n
+turned_digits n x turned some few round = ext_get_or false (binary n (turned / 2 ^ (64 - n))) (number_bits x n) (length-binary n (turned / 2 ^ (64 - n)) ∙ sym (length-number_bits x n))
+    (λ i h.
+    let long = length-binary n (turned / 2 ^ (64 - n)) in
+    let below : i < n = omega arith in
+    let back : 64 - 1 - (n - 1 - i + (64 - n)) ≡ i = omega arith in
+    get_or-binary n (turned / 2 ^ (64 - n)) i below ∙ has_shr_low turned (64 - n) (n - 1 - i) ∙ round (n - 1 - i + (64 - n)) (omega arith) ∙ ap (has_bit x) back
+    ∙ sym (get_or-number_bits x n i below))
+
+pub none_turned : (n x : ℕ) → n ≡ 0 → (binary n 0 ≡ number_bits x n) × (number_bits 0 n ≡ binary n x)
+unfolding binary number_bits
+none_turned n x none = rw none (refl, refl)
+
+-- ---- numbers whose least significant digit comes first
+
+no_digit : (n x i : ℕ) → x < 2 ^ n → n ≤ i → has_bit x i ≡ false
+no_digit n x i below past =
+    let most = pow_mono {i = n} {j = i} past in
+    let none : x / 2 ^ i ≡ 0 = div-eq_of_lt (omega arith) in
+    ap (λ k. eqb (k % 2) 1) none
+
+-- a number of n digits is known by them
+pub number_of_bits : (n x : ℕ) → n ≤ 64 → x < 2 ^ n → x ≡ number_of (number_bits x n)
+number_of_bits n x few below =
+    let most = pow_mono {i = n} {j = 64} few in
+    let long = length-number_bits x n in
+    number_from_bits x (number_bits x n) (omega arith) (omega arith)
+    (λ i h. elim (cases_lt i n) [
+      | inl l ↦ sym (get_or-number_bits x n i l)
+      | inr l ↦ no_digit n x i below l ∙ sym (get_or_past (number_bits x n) i false (omega arith))
+    ])
+
+pub signed_bits_written : (n : ℕ) (x : ℤ) → 0 < n → n ≤ 64 → IsSigned n x → signed_of n (number_of (number_bits (cast_unsigned w64 x) n)) ≡ x
+signed_bits_written n x some few is =
+    let y = cast_unsigned w64 x in
+    ap (signed_of n) (ap number_of (sym (bits_low n y)) ∙ sym (number_of_bits n (y % 2 ^ n) few (mod_below y (2 ^ n) (pow_pos n)))) ∙ signed_back n x some few is

@@ -1,5 +1,5 @@
-use Rattle.bit_streams.proofs.Turned.{none_turned}
-use Rattle.bit_streams.proofs.least_first.reversed.Goals as goal
+use Rattle.bit_slice.proofs.Signed.{none_turned}
+use Rattle.bit_slice.proofs.numbers.reversed.Goals as goal
 
 pub returns-then-n-eq0-clause-written : goal.returns-then-n-eq0-clause-written
 returns-then-n-eq0-clause-written c = (none_turned c.args.n c.args.x c.if-n-eq0.true).0

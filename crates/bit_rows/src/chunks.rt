@@ -34,7 +34,11 @@ fn read_over<T: BitStore, O: BitOrder>(words: &[T], at: usize, n: u8) -> u64
     let mut k = at / width;
     let skip = (at % width) as u8;
     let each = 64 / width;
-    if k + 2 * each <= words.len() {
+    if O::goes_by_shifts() && skip + n <= 64 && k + each <= words.len() {
+        let block = word_number::<u64, O>(O::pack(words, k)) >> skip;
+        return block & (u64::MAX >> (64 - n));
+    }
+    if O::goes_by_shifts() && k + 2 * each <= words.len() {
         let block = word_number::<u64, O>(block_at::<O, T, O>(words, k, skip));
         return block & (u64::MAX >> (64 - n));
     }
@@ -137,7 +141,41 @@ pub fn write_chunk<T: BitStore, O: BitOrder>(words: &mut [T], at: usize, n: u8, 
     write_part::<T, O>(words, at / width, low, high, new);
 }
 
-// Like `write_chunk`, of bits that lie in several words: two of them are written by themselves.
+// Writes at the places from `at` on as many bits of a block of 64 bits, those that follow the index that `at` has in
+// its word, and no other bit. It only writes words, so that no load waits for a store that is narrower. Requires that
+// the run lies in the words, and the bits in the block.
+#[inline(always)]
+fn write_from_block<T: BitStore, O: BitOrder>(words: &mut [T], at: usize, n: u8, block: u64)
+    requires some { 0 < n }
+    requires block { at % T.BITS + n ≤ 64 }
+    requires within { at + n ≤ T.BITS * length words.old }
+    requires fits { at + n < 2 ^ 64 }
+    ensures bits { row T.BitStore O.BitOrder words.new
+        ≡ put (row T.BitStore O.BitOrder words.old) at (run_at (row_of O.place 64 (block ∷ [])) (at % T.BITS) n) }
+    ensures size { length words.new ≡ length words.old }
+{
+    let Span {
+        first,
+        low,
+        last,
+        end,
+    } = Span::of::<T>(at, at + n as usize);
+    let front = word_of_block::<T, O>(block, 0);
+    if first == last {
+        write_part::<T, O>(words, first, low, end, front);
+        return;
+    }
+    write_part::<T, O>(words, first, low, T::BITS as usize, front);
+    let more = (last - first) as u8;
+    for i in 1..more {
+        words[first + i as usize] = word_of_block::<T, O>(block, i);
+    }
+    let back = word_of_block::<T, O>(block, more);
+    write_part::<T, O>(words, last, 0, end, back);
+}
+
+// Like `write_chunk`, of bits that lie in several words: by a block of 64 bits where that holds them, and two words
+// by themselves.
 fn write_over<T: BitStore, O: BitOrder>(words: &mut [T], at: usize, n: u8, chunk: u64)
     requires some { 0 < n }
     requires few { n ≤ 64 }
@@ -153,6 +191,11 @@ fn write_over<T: BitStore, O: BitOrder>(words: &mut [T], at: usize, n: u8, chunk
         last,
         end,
     } = Span::of::<T>(at, at + n as usize);
+    if O::goes_by_shifts() && low + n as usize <= 64 {
+        let block = O::from_lsb0::<u64>(chunk << low);
+        write_from_block::<T, O>(words, at, n, block);
+        return;
+    }
     if last != first + 1 {
         copy_bits::<T, O, u64, Lsb0>(words, at, &[chunk], 0, n as usize);
         return;
@@ -176,6 +219,18 @@ pub fn read_binary<T: BitStore, O: BitOrder>(words: &[T], at: usize, n: u8) -> u
     if n == 0 {
         return 0;
     }
+    let width = T::BITS as usize;
+    let (k, skip) = (at / width, (at % width) as u8);
+    let each = 64 / width;
+    // The word's bits are turned round before they are shifted, so that by Msb0 this is no work.
+    if O::goes_by_shifts() && skip + n <= 64 && k + each <= words.len() {
+        let block = word_number::<u64, O>(O::pack(words, k)).reverse();
+        return block << skip >> (64 - n);
+    }
+    if O::goes_by_shifts() && k + 2 * each <= words.len() {
+        let block = word_number::<u64, O>(block_at::<O, T, O>(words, k, skip)).reverse();
+        return block >> (64 - n);
+    }
     read_chunk::<T, O>(words, at, n).reverse() >> (64 - n)
 }
 
@@ -191,6 +246,13 @@ pub fn write_binary<T: BitStore, O: BitOrder>(words: &mut [T], at: usize, n: u8,
     ensures size { length words.new ≡ length words.old }
 {
     if n == 0 {
+        return;
+    }
+    let low = (at % T::BITS as usize) as u8;
+    // As in `read_binary`, the digits are turned round where they stand in the block.
+    if O::goes_by_shifts() && low + n <= 64 {
+        let digits = (number << (64 - n) >> low).reverse();
+        write_from_block::<T, O>(words, at, n, O::from_lsb0::<u64>(digits));
         return;
     }
     write_chunk::<T, O>(words, at, n, number.reverse() >> (64 - n));

@@ -82,10 +82,21 @@ lowest_moved place block x low n within ordered = run_of_block place block (x * 
     has_shl_high 64 x low (low + i) (omega arith) (omega arith) ∙ ap (has_bit x) back ∙ sym (get_or-map-range_with_len (has_bit x) 0 n i i false h (omega arith)))
 
 -- the digits of a number, moved to the highest places and down again, and turned round
-pub digits_moved : (place : ℕ → ℕ → ℕ) (block turned x low n : ℕ) → low + n ≤ 64 → ((p : ℕ) → p < 64 → has_bit turned p ≡ has_bit (x * 2 ^ (64 - n) % 2 ^ 64 / 2 ^ low) (64 - 1 - p)) → ((i : ℕ) → i < 64 → has_bit block (place 64 i) ≡ has_bit turned i) → slice_range (row_of place 64 (block ∷ [])) low (low + n) ≡ binary n x
-digits_moved place block turned x low n within round ordered = run_of_block place block turned low n (binary n x) within (length-binary n x) ordered (λ i h.
+pub digits_down : (turned x low n i : ℕ) → low + n ≤ 64 → ((p : ℕ) → p < 64 → has_bit turned p ≡ has_bit (x * 2 ^ (64 - n) % 2 ^ 64 / 2 ^ low) (64 - 1 - p)) → i < n → has_bit turned (low + i) ≡ has_bit x (n - 1 - i)
+digits_down turned x low n i within round h =
     let up : ℕ = x * 2 ^ (64 - n) % 2 ^ 64 in
     let down : 64 - 1 - (low + i) + low ≡ 64 - 1 - i = omega arith in
     let back : 64 - 1 - i - (64 - n) ≡ n - 1 - i = omega arith in
     round (low + i) (omega arith) ∙ has_shr_low up low (64 - 1 - (low + i)) ∙ ap (has_bit up) down
-    ∙ has_shl_high 64 x (64 - n) (64 - 1 - i) (omega arith) (omega arith) ∙ ap (has_bit x) back ∙ sym (get_or-binary n x i h))
+    ∙ has_shl_high 64 x (64 - n) (64 - 1 - i) (omega arith) (omega arith) ∙ ap (has_bit x) back
+
+-- the digits of a number that was turned round, moved to the lowest places and up again
+pub digits_up : (turned x low n i : ℕ) → low + n ≤ 64 → ((p : ℕ) → p < 64 → has_bit turned p ≡ has_bit x (64 - 1 - p)) → i < n → has_bit (turned / 2 ^ (64 - n) * 2 ^ low % 2 ^ 64) (low + i) ≡ has_bit x (n - 1 - i)
+digits_up turned x low n i within round h =
+    let back : low + i - low ≡ i = omega arith in
+    let there : 64 - 1 - (i + (64 - n)) ≡ n - 1 - i = omega arith in
+    has_shl_high 64 (turned / 2 ^ (64 - n)) low (low + i) (omega arith) (omega arith) ∙ ap (has_bit (turned / 2 ^ (64 - n))) back ∙ has_shr_low turned (64 - n) i
+    ∙ round (i + (64 - n)) (omega arith) ∙ ap (has_bit x) there
+
+pub digits_moved : (place : ℕ → ℕ → ℕ) (block made x low n : ℕ) → low + n ≤ 64 → ((i : ℕ) → i < n → has_bit made (low + i) ≡ has_bit x (n - 1 - i)) → ((i : ℕ) → i < 64 → has_bit block (place 64 i) ≡ has_bit made i) → slice_range (row_of place 64 (block ∷ [])) low (low + n) ≡ binary n x
+digits_moved place block made x low n within shown ordered = run_of_block place block made low n (binary n x) within (length-binary n x) ordered (λ i h. shown i h ∙ sym (get_or-binary n x i h))

@@ -1,8 +1,9 @@
 //! Runs of up to 64 bits as numbers, whatever the words and the order that they lie in.
 //!
 //! Calls between words of two types or orders go through these numbers, 64 bits at a time.
-ghost use Rattle.std.specs.Prelude.{◌≡◌, ℕ, true, ◌+◌, ◌*◌, ◌/◌, ◌%◌, ◌^◌, ◌<◌, ◌≤◌, [], ◌∷◌, length};
+ghost use Rattle.std.specs.Prelude.{◌≡◌, ℕ, true, ◌+◌, ◌-◌, ◌*◌, ◌/◌, ◌%◌, ◌^◌, ◌<◌, ◌≤◌, [], ◌∷◌, length};
 ghost use Rattle.bit_addressing.specs.Binary.{value};
+ghost use Rattle.bit_addressing.specs.Bits.{has_bit};
 ghost use Rattle.bit_addressing.specs.Row.{binary, number_bits, number_of, put, row_of};
 ghost use Rattle.bit_addressing.specs.Table.{IsPairTable};
 ghost use Rattle.bit_addressing.specs.Typed.{row};
@@ -10,7 +11,7 @@ ghost use Rattle.bit_rows.specs.Runs.{run_at, AreAlike, AreEqualRuns};
 
 use crate::copies::copy_bits;
 use crate::single::write_part;
-use bit_addressing::inner::{PairTable, Span, in_row};
+use bit_addressing::inner::{PairTable, Span, in_row, in_word};
 use bit_addressing::{BitIdx, BitOrder, BitStore, Lsb0};
 
 // The bits of a word as a number: the bit at index `i` is at place `i`.
@@ -154,24 +155,21 @@ fn write_from_block<T: BitStore, O: BitOrder>(words: &mut [T], at: usize, n: u8,
         ≡ put (row T.BitStore O.BitOrder words.old) at (run_at (row_of O.place 64 (block ∷ [])) (at % T.BITS) n) }
     ensures size { length words.new ≡ length words.old }
 {
-    let Span {
-        first,
-        low,
-        last,
-        end,
-    } = Span::of::<T>(at, at + n as usize);
+    let width = T::BITS as usize;
+    let (first, low) = in_word::<T>(at);
+    let (begin, upto) = (low as usize, low as usize + n as usize);
     let front = word_of_block::<T, O>(block, 0);
-    if first == last {
-        write_part::<T, O>(words, first, low, end, front);
+    if upto <= width {
+        write_part::<T, O>(words, first, begin, upto, front);
         return;
     }
-    write_part::<T, O>(words, first, low, T::BITS as usize, front);
-    let more = (last - first) as u8;
-    for i in 1..more {
+    write_part::<T, O>(words, first, begin, width, front);
+    let Span { last, end, .. } = Span::of::<T>(begin, upto);
+    for i in 1..last as u8 {
         words[first + i as usize] = word_of_block::<T, O>(block, i);
     }
-    let back = word_of_block::<T, O>(block, more);
-    write_part::<T, O>(words, last, 0, end, back);
+    let back = word_of_block::<T, O>(block, last as u8);
+    write_part::<T, O>(words, first + last, 0, end, back);
 }
 
 // Like `write_chunk`, of bits that lie in several words: by a block of 64 bits where that holds them, and two words
@@ -207,6 +205,38 @@ fn write_over<T: BitStore, O: BitOrder>(words: &mut [T], at: usize, n: u8, chunk
     write_part::<T, O>(words, last, 0, end, back);
 }
 
+// Whether 64 bits from word `k` on lie in this many words. Requires that word `k` is there, if words have 64 bits: such
+// words need no test.
+#[inline(always)]
+fn holds_block<T: BitStore>(words: usize, k: usize) -> bool
+    requires word { T.BITS ≡ 64 → k < words }
+    requires fits { k + 64 < 2 ^ 64 }
+    ensures { result ≡ true → k * T.BITS + 64 ≤ T.BITS * words }
+{
+    T::BITS == 64 || k + (64 / T::BITS) as usize <= words
+}
+
+// Whether an order goes by shifts from the highest place down. It is a hint for speed alone: digits of such a word that
+// are turned round before they are shifted are the word itself, and the compiler leaves out both turns.
+#[inline(always)]
+fn highest_first<O: BitOrder>() -> bool {
+    O::goes_by_shifts() && O::at(BitIdx::<u64>::new_unchecked(0)).into_inner() == 63
+}
+
+// A number of 64 bits that has `n` digits of another from place `low` on, the most significant first. Requires that
+// they lie in it.
+#[inline(always)]
+fn digits_from<O: BitOrder>(number: u64, n: u8, low: u8) -> u64
+    requires some { 0 < n }
+    requires within { low + n ≤ 64 }
+    ensures { (i : ℕ) → i < n → has_bit result (low + i) ≡ has_bit number (n - 1 - i) }
+{
+    if highest_first::<O>() {
+        return (number << (64 - n) >> low).reverse();
+    }
+    number.reverse() >> (64 - n) << low
+}
+
 /// The number that the `n` bits of the row from `at` on write in binary, the most significant digit
 /// first: each word is read once. Requires that `n` is at most 64, and the run lies in the words.
 pub fn read_binary<T: BitStore, O: BitOrder>(words: &[T], at: usize, n: u8) -> u64
@@ -221,15 +251,16 @@ pub fn read_binary<T: BitStore, O: BitOrder>(words: &[T], at: usize, n: u8) -> u
     }
     let width = T::BITS as usize;
     let (k, skip) = (at / width, (at % width) as u8);
-    let each = 64 / width;
-    // The word's bits are turned round before they are shifted, so that by Msb0 this is no work.
-    if O::goes_by_shifts() && skip + n <= 64 && k + each <= words.len() {
-        let block = word_number::<u64, O>(O::pack(words, k)).reverse();
-        return block << skip >> (64 - n);
+    if O::goes_by_shifts() && skip + n <= 64 && holds_block::<T>(words.len(), k) {
+        let block = word_number::<u64, O>(O::pack(words, k));
+        if highest_first::<O>() {
+            return block.reverse() << skip >> (64 - n);
+        }
+        return (block >> skip & (u64::MAX >> (64 - n))).reverse() >> (64 - n);
     }
-    if O::goes_by_shifts() && k + 2 * each <= words.len() {
-        let block = word_number::<u64, O>(block_at::<O, T, O>(words, k, skip)).reverse();
-        return block >> (64 - n);
+    if highest_first::<O>() && k + 2 * (64 / width) <= words.len() {
+        let block = word_number::<u64, O>(block_at::<O, T, O>(words, k, skip));
+        return block.reverse() >> (64 - n);
     }
     read_chunk::<T, O>(words, at, n).reverse() >> (64 - n)
 }
@@ -249,9 +280,8 @@ pub fn write_binary<T: BitStore, O: BitOrder>(words: &mut [T], at: usize, n: u8,
         return;
     }
     let low = (at % T::BITS as usize) as u8;
-    // As in `read_binary`, the digits are turned round where they stand in the block.
     if O::goes_by_shifts() && low + n <= 64 {
-        let digits = (number << (64 - n) >> low).reverse();
+        let digits = digits_from::<O>(number, n, low);
         write_from_block::<T, O>(words, at, n, O::from_lsb0::<u64>(digits));
         return;
     }

@@ -17,7 +17,7 @@ returns-then-low-n-le64-clause-bits g c =
     let zs = row_of g.O.BitOrder.place 64 (c.from_lsb0.result ∷ []) in
     let low : at % w ≡ at % c.BITS.result = ap (λ m. at % m) (sym c.BITS.ensures) in
     c.write_from_block.ensures.bits
-    ∙ ap (put old at) (ap (λ m. slice_range zs m (m + n)) low ∙ digits_moved g.O.BitOrder.place c.from_lsb0.result c.reverse-digits.result c.args.number (at % c.BITS.result) n c.if-low-n-le64.true c.reverse-digits.ensures c.from_lsb0.ensures)
+    ∙ ap (put old at) (ap (λ m. slice_range zs m (m + n)) low ∙ digits_moved g.O.BitOrder.place c.from_lsb0.result c.digits_from-digits.result c.args.number (at % c.BITS.result) n c.if-low-n-le64.true c.digits_from-digits.ensures c.from_lsb0.ensures)
 
 pub returns-clause-bits : goal.returns-clause-bits
 returns-clause-bits g c = c.write_chunk.ensures.bits ∙ ap (put (row g.T.BitStore g.O.BitOrder c.args.words.now) c.args.at) (chunk_of c.args.n c.args.number c.reverse.result (omega arith) c.requires.few c.reverse.ensures)

@@ -104,6 +104,15 @@ binary_parted n m x =
           ∙ sym (get_or-append_right a b n i false la (omega arith))
     ])
 
+-- the digits of a number's lower part
+pub binary_low : (n x : ℕ) → binary n (x % 2 ^ n) ≡ binary n x
+binary_low n x =
+    let left = length-binary n (x % 2 ^ n) in
+    let right = length-binary n x in
+    ext_get_or false (binary n (x % 2 ^ n)) (binary n x) (left ∙ sym right) (λ i h.
+    let below : i < n = omega arith in
+    get_or-binary n (x % 2 ^ n) i below ∙ has_low x n (n - 1 - i) (omega arith) ∙ sym (get_or-binary n x i below))
+
 -- ---- the number that digits write
 
 pub value_one_more : (n : ℕ) (xs : List Bool) (b : Bool) → value_after n (xs ++ b ∷ []) ≡ value_after n xs * 2 + cond b 1 0

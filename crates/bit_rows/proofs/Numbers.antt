@@ -1,5 +1,5 @@
 -- Numbers read out of a block of 64 bits, and runs written out of one.
-use Rattle.std.proofs.Common.{◌≡◌, ℕ, ◌+◌, ◌-◌, ◌*◌, ◌/◌, ◌%◌, ◌^◌, ◌<◌, ◌≤◌, Bool, false, List, [], ◌∷◌, length, get_or, slice_range, sym, ◌∙◌, ap, subst, inl, inr, arith, mul_comm}
+use Rattle.std.proofs.Common.{◌≡◌, ℕ, ◌+◌, ◌-◌, ◌*◌, ◌/◌, ◌%◌, ◌^◌, ◌<◌, ◌≤◌, Bool, false, List, [], ◌∷◌, ◌++◌, length, get_or, slice_range, sym, ◌∙◌, ap, subst, inl, inr, arith, mul_comm}
 use Rattle.std.proofs.lemmas.Bool.{cases_lt}
 use Rattle.std.proofs.lemmas.List.{ext_get_or}
 use Rattle.bit_addressing.specs.Bits.{has_bit, IsWidth}
@@ -12,7 +12,7 @@ use Rattle.bit_addressing.proofs.Words.{has_shl_high, has_shl_low, has_shr_low}
 use Rattle.bit_addressing.proofs.lists.Put.{put_joined}
 use Rattle.bit_addressing.proofs.lists.Shown.{get_or-run, length-between, length-run, shown_part}
 use Rattle.bit_addressing.proofs.lists.Sized.{right_sum}
-use Rattle.bit_rows.proofs.Binary.{get_or-binary, length-binary}
+use Rattle.bit_rows.proofs.Binary.{binary_low, binary_parted, get_or-binary, length-binary}
 use Rattle.std.proofs.lemmas.List.FromFn.{length-map-range_with_len, get_or-map-range_with_len}
 
 -- a block lies in the words
@@ -100,3 +100,11 @@ digits_up turned x low n i within round h =
 
 pub digits_moved : (place : ℕ → ℕ → ℕ) (block made x low n : ℕ) → low + n ≤ 64 → ((i : ℕ) → i < n → has_bit made (low + i) ≡ has_bit x (n - 1 - i)) → ((i : ℕ) → i < 64 → has_bit block (place 64 i) ≡ has_bit made i) → slice_range (row_of place 64 (block ∷ [])) low (low + n) ≡ binary n x
 digits_moved place block made x low n within shown ordered = run_of_block place block made low n (binary n x) within (length-binary n x) ordered (λ i h. shown i h ∙ sym (get_or-binary n x i h))
+
+-- digits that are written in two parts
+pub digits_joined : (xs : List Bool) (at front rest x : ℕ) → at + front + rest ≤ length xs → put (put xs at (binary front (x / 2 ^ rest))) (at + front) (binary rest x) ≡ put xs at (binary (front + rest) x)
+digits_joined xs at front rest x fits =
+    let a = length-binary front (x / 2 ^ rest) in
+    let b = length-binary rest x in
+    put_joined xs (binary front (x / 2 ^ rest)) (binary rest x) at (at + front) (omega arith) (omega arith)
+    ∙ ap (put xs at) (ap (λ l. binary front (x / 2 ^ rest) ++ l) (sym (binary_low rest x)) ∙ sym (binary_parted front rest x))

@@ -237,6 +237,39 @@ fn digits_from<O: BitOrder>(number: u64, n: u8, low: u8) -> u64
     number.reverse() >> (64 - n) << low
 }
 
+// Like `write_binary`, of digits that lie in the 64 bits from the word of `at` on. Requires that there is a digit.
+#[inline(always)]
+fn write_digits<T: BitStore, O: BitOrder>(words: &mut [T], at: usize, n: u8, number: u64)
+    requires some { 0 < n }
+    requires block { at % T.BITS + n ≤ 64 }
+    requires within { at + n ≤ T.BITS * length words.old }
+    requires fits { at + n < 2 ^ 64 }
+    ensures bits { row T.BitStore O.BitOrder words.new
+        ≡ put (row T.BitStore O.BitOrder words.old) at (binary n number) }
+    ensures size { length words.new ≡ length words.old }
+{
+    let low = (at % T::BITS as usize) as u8;
+    let digits = digits_from::<O>(number, n, low);
+    write_from_block::<T, O>(words, at, n, O::from_lsb0::<u64>(digits));
+}
+
+// Like `write_digits`, of digits that go on after those 64 bits. It is no part of its callers, so that these are short.
+#[inline(never)]
+fn write_digits_over<T: BitStore, O: BitOrder>(words: &mut [T], at: usize, n: u8, number: u64)
+    requires few { n ≤ 64 }
+    requires over { 64 < at % T.BITS + n }
+    requires within { at + n ≤ T.BITS * length words.old }
+    requires fits { at + n < 2 ^ 64 }
+    ensures bits { row T.BitStore O.BitOrder words.new
+        ≡ put (row T.BitStore O.BitOrder words.old) at (binary n number) }
+    ensures size { length words.new ≡ length words.old }
+{
+    let front = 64 - (at % T::BITS as usize) as u8;
+    let rest = n - front;
+    write_digits::<T, O>(words, at, front, number >> rest);
+    write_digits::<T, O>(words, at + front as usize, rest, number);
+}
+
 /// The number that the `n` bits of the row from `at` on write in binary, the most significant digit
 /// first: each word is read once. Requires that `n` is at most 64, and the run lies in the words.
 pub fn read_binary<T: BitStore, O: BitOrder>(words: &[T], at: usize, n: u8) -> u64
@@ -280,9 +313,12 @@ pub fn write_binary<T: BitStore, O: BitOrder>(words: &mut [T], at: usize, n: u8,
         return;
     }
     let low = (at % T::BITS as usize) as u8;
-    if O::goes_by_shifts() && low + n <= 64 {
-        let digits = digits_from::<O>(number, n, low);
-        write_from_block::<T, O>(words, at, n, O::from_lsb0::<u64>(digits));
+    if O::goes_by_shifts() {
+        if low + n <= 64 {
+            write_digits::<T, O>(words, at, n, number);
+            return;
+        }
+        write_digits_over::<T, O>(words, at, n, number);
         return;
     }
     write_chunk::<T, O>(words, at, n, number.reverse() >> (64 - n));

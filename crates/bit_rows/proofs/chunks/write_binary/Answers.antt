@@ -1,23 +1,11 @@
-use Rattle.std.proofs.Common.{◌≡◌, ◌+◌, ◌%◌, [], ◌∷◌, slice_range, ap, sym, ◌∙◌, arith}
-use Rattle.bit_addressing.specs.Row.{put, row_of}
+use Rattle.std.proofs.Common.{ap, ◌∙◌, arith}
+use Rattle.bit_addressing.specs.Row.{put}
 use Rattle.bit_addressing.specs.Typed.{row}
 use Rattle.bit_rows.proofs.Binary.{chunk_of, no_digits}
-use Rattle.bit_rows.proofs.Numbers.{digits_moved}
 use Rattle.bit_rows.proofs.chunks.write_binary.Goals as goal
 
 pub returns-then-n-eq0-clause-bits : goal.returns-then-n-eq0-clause-bits
 returns-then-n-eq0-clause-bits g c = no_digits (row g.T.BitStore g.O.BitOrder c.args.words.now) c.args.at c.args.n c.args.number (omega arith)
-
-pub returns-then-low-n-le64-clause-bits : goal.returns-then-low-n-le64-clause-bits
-returns-then-low-n-le64-clause-bits g c =
-    let w = g.T.BitStore.BITS in
-    let at = c.args.at in
-    let n = c.args.n in
-    let old = row g.T.BitStore g.O.BitOrder c.args.words.now in
-    let zs = row_of g.O.BitOrder.place 64 (c.from_lsb0.result ∷ []) in
-    let low : at % w ≡ at % c.BITS.result = ap (λ m. at % m) (sym c.BITS.ensures) in
-    c.write_from_block.ensures.bits
-    ∙ ap (put old at) (ap (λ m. slice_range zs m (m + n)) low ∙ digits_moved g.O.BitOrder.place c.from_lsb0.result c.digits_from-digits.result c.args.number (at % c.BITS.result) n c.if-low-n-le64.true c.digits_from-digits.ensures c.from_lsb0.ensures)
 
 pub returns-clause-bits : goal.returns-clause-bits
 returns-clause-bits g c = c.write_chunk.ensures.bits ∙ ap (put (row g.T.BitStore g.O.BitOrder c.args.words.now) c.args.at) (chunk_of c.args.n c.args.number c.reverse.result (omega arith) c.requires.few c.reverse.ensures)

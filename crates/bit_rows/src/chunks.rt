@@ -142,9 +142,9 @@ pub fn write_chunk<T: BitStore, O: BitOrder>(words: &mut [T], at: usize, n: u8, 
     write_part::<T, O>(words, at / width, low, high, new);
 }
 
-// Writes at the places from `at` on as many bits of a block of 64 bits, those that follow the index that `at` has in
-// its word, and no other bit. It only writes words, so that no load waits for a store that is narrower. Requires that
-// the run lies in the words, and the bits in the block.
+// Writes at the places from `at` on `n` bits of a block of 64 bits, those from the index on that `at` has in its word, and
+// no other bit. Each word that the run touches is stored by itself, since to load a block right after narrower stores takes
+// longer. Requires that the run lies in the words, and the bits in the block.
 #[inline(always)]
 fn write_from_block<T: BitStore, O: BitOrder>(words: &mut [T], at: usize, n: u8, block: u64)
     requires some { 0 < n }
@@ -284,16 +284,13 @@ pub fn read_binary<T: BitStore, O: BitOrder>(words: &[T], at: usize, n: u8) -> u
     }
     let width = T::BITS as usize;
     let (k, skip) = (at / width, (at % width) as u8);
-    if O::goes_by_shifts() && skip + n <= 64 && holds_block::<T>(words.len(), k) {
-        let block = word_number::<u64, O>(O::pack(words, k));
-        if highest_first::<O>() {
-            return block.reverse() << skip >> (64 - n);
-        }
-        return (block >> skip & (u64::MAX >> (64 - n))).reverse() >> (64 - n);
+    if highest_first::<O>() && skip + n <= 64 && holds_block::<T>(words.len(), k) {
+        let block = word_number::<u64, O>(O::pack(words, k)).reverse();
+        return block << skip >> (64 - n);
     }
     if highest_first::<O>() && k + 2 * (64 / width) <= words.len() {
-        let block = word_number::<u64, O>(block_at::<O, T, O>(words, k, skip));
-        return block.reverse() >> (64 - n);
+        let block = word_number::<u64, O>(block_at::<O, T, O>(words, k, skip)).reverse();
+        return block >> (64 - n);
     }
     read_chunk::<T, O>(words, at, n).reverse() >> (64 - n)
 }

@@ -216,8 +216,8 @@ fn holds_block<T: BitStore>(words: usize, k: usize) -> bool
     T::BITS == 64 || k + (64 / T::BITS) as usize <= words
 }
 
-// Whether an order goes by shifts from the highest place down. It is a hint for speed alone: digits of such a word that
-// are turned round before they are shifted are the word itself, and the compiler leaves out both turns.
+// Whether an order goes by shifts, and its index 0 is the highest place. It is a hint for speed alone: the number of such a
+// word, turned round, is the word itself, and the compiler leaves out both turns where no shift stands between them.
 #[inline(always)]
 fn highest_first<O: BitOrder>() -> bool {
     O::goes_by_shifts() && O::at(BitIdx::<u64>::new_unchecked(0)).into_inner() == 63

@@ -1,4 +1,8 @@
-//! The ones of bytes, whose first bit is the highest one, by loops written by hand. Prints what the program prints.
+//! The ones of bytes, whose first bit is the highest one, and records and codes in them, by loops written by hand. Prints
+//! what the program prints.
+mod records;
+
+use records::{Code, Found, Record};
 use std::hint::black_box;
 use std::time::Instant;
 
@@ -53,6 +57,160 @@ fn timed(name: &str, repetitions: usize, bytes: &[u8], sum: fn(&[u8]) -> usize) 
     println!("{name} {best} {found}");
 }
 
+/// Numbers appended to bytes, byte by byte or eight at a time.
+#[derive(Default)]
+struct Writer {
+    bytes: Vec<u8>,
+    pending: u64,
+    count: u32,
+}
+
+impl Writer {
+    #[inline(always)]
+    fn write(&mut self, n: u32, x: u64) {
+        if cfg!(blocks) && self.count + n >= 64 {
+            let rest = self.count + n - 64;
+            let block = if self.count == 0 { x } else { self.pending << (64 - self.count) | x >> rest };
+            self.bytes.extend_from_slice(&block.to_be_bytes());
+            (self.pending, self.count) = (x & ((1 << rest) - 1), rest);
+            return;
+        }
+        self.pending = self.pending << n | x;
+        self.count += n;
+        while !cfg!(blocks) && self.count >= 8 {
+            self.count -= 8;
+            self.bytes.push((self.pending >> self.count) as u8);
+        }
+    }
+
+    fn finish(mut self) -> Vec<u8> {
+        while self.count >= 8 {
+            self.count -= 8;
+            self.bytes.push((self.pending >> self.count) as u8);
+        }
+        if self.count > 0 {
+            self.bytes.push((self.pending << (8 - self.count)) as u8);
+        }
+        self.bytes
+    }
+}
+
+/// A window whose next bit is the highest, filled byte by byte or from eight bytes.
+struct Reader<'a> {
+    bytes: &'a [u8],
+    at: usize,
+    window: u64,
+    have: u32,
+}
+
+impl Reader<'_> {
+    /// At least 56 bits are held afterwards, or all that are left.
+    #[inline(always)]
+    fn fill(&mut self) {
+        if cfg!(blocks) && self.at + 8 <= self.bytes.len() {
+            self.window |= u64::from_be_bytes(self.bytes[self.at..self.at + 8].try_into().unwrap()) >> self.have;
+            self.at += (63 - self.have as usize) / 8;
+            self.have |= 56;
+            return;
+        }
+        while self.have <= 56 && self.at < self.bytes.len() {
+            self.window |= (self.bytes[self.at] as u64) << (56 - self.have);
+            self.at += 1;
+            self.have += 8;
+        }
+    }
+
+    #[inline(always)]
+    fn read(&mut self, n: u32) -> u64 {
+        if self.have < n {
+            self.fill();
+        }
+        let x = self.window >> (64 - n);
+        self.skip(n);
+        x
+    }
+
+    #[inline(always)]
+    fn skip(&mut self, n: u32) {
+        self.window <<= n;
+        self.have -= n;
+    }
+}
+
+#[inline(never)]
+fn pack(records: &[Record]) -> Vec<u8> {
+    let mut writer = Writer { bytes: Vec::with_capacity(8 * records.len()), ..Writer::default() };
+    for it in records {
+        writer.write(3, it.kind as u64);
+        writer.write(13, it.port as u64);
+        writer.write(1, it.up as u64);
+        writer.write(20, it.size as u64);
+        writer.write(27, it.sum as u64);
+    }
+    writer.finish()
+}
+
+#[inline(never)]
+fn unpack(bytes: &[u8], records: &mut [Record]) -> usize {
+    let mut reader = Reader { bytes, at: 0, window: 0, have: 0 };
+    for record in records.iter_mut() {
+        let (kind, port, up) = (reader.read(3) as u32, reader.read(13) as u32, reader.read(1) == 1);
+        *record = Record { kind, port, up, size: reader.read(20) as u32, sum: reader.read(27) as u32 };
+    }
+    records.len()
+}
+
+#[inline(never)]
+fn encode(codes: &[Code], symbols: &[u16]) -> Vec<u8> {
+    let mut writer = Writer::default();
+    for symbol in symbols {
+        let code = codes[*symbol as usize];
+        writer.write(code.len as u32, code.bits);
+    }
+    writer.write(15, 0);
+    writer.finish()
+}
+
+#[inline(never)]
+fn decode(bytes: &[u8], table: &[Found], count: usize) -> usize {
+    let mut reader = Reader { bytes, at: 0, window: 0, have: 0 };
+    let mut total = 0usize;
+    for _ in 0..count {
+        if reader.have < 15 {
+            reader.fill();
+        }
+        let found = table[(reader.window >> 52) as usize];
+        let (symbol, len) = if found.len == 0 { records::long_symbol(reader.window) } else { (found.symbol as usize, found.len as u32) };
+        reader.skip(len);
+        total = total.wrapping_mul(3).wrapping_add(symbol);
+    }
+    total
+}
+
+fn timed_stream<V, A>(name: &str, repetitions: usize, make: impl Fn() -> V, work: impl Fn(&mut V) -> A, check: impl Fn(&V, A) -> usize) {
+    let (mut best, mut sum) = (u128::MAX, 0);
+    for _ in 0..repetitions {
+        let mut value = black_box(make());
+        let start = Instant::now();
+        let answer = black_box(work(&mut value));
+        best = best.min(start.elapsed().as_nanos());
+        sum = check(black_box(&value), answer);
+    }
+    println!("{name} {best} {sum}");
+}
+
+fn streams(n: usize, r: usize) {
+    let ones = |bytes: &Vec<u8>| bytes.iter().map(|b| b.count_ones() as usize).sum::<usize>();
+    let all = records::records(n);
+    timed_stream("pack_records", r, || (), |_| pack(&all), |_, bytes| ones(&bytes));
+    let bytes = pack(&all);
+    timed_stream("unpack_records", r, || records::empty_records(n), |made| unpack(&bytes, made), |made, found| records::sum_of_records(made) + found);
+    let (codes, table, all) = (records::codes(), records::found_by_look(), records::symbols(n));
+    timed_stream("codes_append", r, || (), |_| encode(&codes, &all), |_, bytes| ones(&bytes));
+    let bytes = encode(&codes, &all);
+    timed_stream("codes_decode", r, || (), |_| decode(&bytes, &table, n), |_, total| total);
+}
+
 fn main() {
     let words: Vec<usize> = std::env::args().skip(1).map(|w| w.parse().unwrap()).collect();
     let (n, repetitions) = (words[0], words[1]);
@@ -61,4 +219,5 @@ fn main() {
     for (name, step) in [("ones_67th", 67), ("ones_5003rd", 5003)] {
         timed(name, repetitions, &bytes_of(n, |i| i % step == 0), sum);
     }
+    streams(n / 16, repetitions);
 }

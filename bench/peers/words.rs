@@ -1,4 +1,7 @@
 //! The calls of the bench on a vector of words written by hand. Prints what the program prints, each line after a name.
+mod records;
+
+use records::{Code, Found, Record};
 use std::fmt::Write;
 use std::hint::black_box;
 use std::time::Instant;
@@ -407,6 +410,97 @@ fn arrays(r: usize) {
     timed("array256_equal", r, || (), equal, |_, t| t);
 }
 
+/// Numbers appended to words, the first bit the highest.
+#[derive(Default)]
+struct Writer {
+    words: Vec<u64>,
+    pending: u64,
+    count: u32,
+}
+
+impl Writer {
+    fn write(&mut self, n: u32, x: u64) {
+        let room = 64 - self.count;
+        if n < room {
+            self.pending = self.pending << n | x;
+            self.count += n;
+        } else {
+            let rest = n - room;
+            self.words.push(if room == 64 { x >> rest } else { self.pending << room | x >> rest });
+            self.pending = x & ((1 << rest) - 1);
+            self.count = rest;
+        }
+    }
+
+    fn finish(mut self) -> Vec<u64> {
+        if self.count > 0 {
+            self.words.push(self.pending << (64 - self.count));
+        }
+        self.words
+    }
+}
+
+#[inline(never)]
+fn pack(records: &[Record]) -> Vec<u64> {
+    let mut words = Vec::with_capacity(records.len());
+    for it in records {
+        let head = (it.kind as u64) << 61 | (it.port as u64) << 48 | (it.up as u64) << 47;
+        words.push(head | (it.size as u64) << 27 | it.sum as u64);
+    }
+    words
+}
+
+#[inline(never)]
+fn unpack(words: &[u64], records: &mut [Record]) -> usize {
+    for (word, record) in words.iter().zip(records) {
+        let (kind, port, up) = ((word >> 61) as u32, (word >> 48 & 0x1fff) as u32, word >> 47 & 1 == 1);
+        *record = Record { kind, port, up, size: (word >> 27 & 0xfffff) as u32, sum: (word & 0x7ffffff) as u32 };
+    }
+    words.len()
+}
+
+#[inline(never)]
+fn encode(codes: &[Code], symbols: &[u16]) -> Vec<u64> {
+    let mut writer = Writer::default();
+    for symbol in symbols {
+        let code = codes[*symbol as usize];
+        writer.write(code.len as u32, code.bits);
+    }
+    writer.write(15, 0);
+    writer.finish()
+}
+
+/// A window whose next bit is the highest takes half a word where fewer than 32 bits are left in it.
+#[inline(never)]
+fn decode(words: &[u64], table: &[Found], count: usize) -> usize {
+    let (mut window, mut have, mut half, mut total) = (0u64, 0u32, 0, 0usize);
+    for _ in 0..count {
+        if have < 32 && half < 2 * words.len() {
+            window |= (words[half / 2] << (half % 2 * 32) >> 32) << (32 - have);
+            have += 32;
+            half += 1;
+        }
+        let found = table[(window >> 52) as usize];
+        let (symbol, len) = if found.len == 0 { records::long_symbol(window) } else { (found.symbol as usize, found.len as u32) };
+        window <<= len;
+        have -= len;
+        total = total.wrapping_mul(3).wrapping_add(symbol);
+    }
+    total
+}
+
+fn streams(n: usize, r: usize) {
+    let ones = |words: &Vec<u64>| words.iter().map(|w| w.count_ones() as usize).sum::<usize>();
+    let all = records::records(n);
+    timed("pack_records", r, || (), |_| pack(&all), |_, words| ones(&words));
+    let words = pack(&all);
+    timed("unpack_records", r, || records::empty_records(n), |made| unpack(&words, made), |made, found| records::sum_of_records(made) + found);
+    let (codes, table, all) = (records::codes(), records::found_by_look(), records::symbols(n));
+    timed("codes_append", r, || (), |_| encode(&codes, &all), |_, words| ones(&words));
+    let words = encode(&codes, &all);
+    timed("codes_decode", r, || (), |_| decode(&words, &table, n), |_, total| total);
+}
+
 fn main() {
     let words: Vec<usize> = std::env::args().skip(1).map(|w| w.parse().unwrap()).collect();
     let (n, r) = (words[0], words[1]);
@@ -417,4 +511,5 @@ fn main() {
     small(50, r);
     small(300, r);
     arrays(r);
+    streams(n / 16, r);
 }

@@ -1,7 +1,9 @@
 //! Callers that need no proof of their own: each has one fact that a user of streams relies on.
-ghost use Rattle.std.specs.Prelude.{◌≡◌, ℕ, Bool, List, ◌+◌, ◌*◌, ◌/◌, ◌<◌, ◌≤◌, ◌^◌, ◌++◌, [], ◌∷◌, IfOk, IfSome, Ok, Some, OnOk, false, is_some, length, true};
+ghost use Rattle.std.specs.Prelude.{◌≡◌, ◌≢◌, ℕ, All, Bool, List, ◌+◌, ◌*◌, ◌/◌, ◌<◌, ◌≤◌, ◌^◌, ◌++◌, [], ◌∷◌, IfOk, IfSome, None, Ok, Some, OnOk, false, is_some, length, true};
 ghost use Rattle.bit_addressing.specs.Row.{binary};
 ghost use Rattle.bit_streams.specs.Codes.{gamma};
+ghost use Rattle.bit_streams.specs.Refusals.{DeltaEnds, DeltaPasses, GolombEnds, GolombPasses, LebEnds, LebPadded, LebPasses};
+ghost use Rattle.bit_streams.specs.declared.codes.CodeError.TheVariants as errors;
 
 use bit_addressing::{BitOrder, BitStore, GrowError, Msb0};
 use bit_containers::BitVec;
@@ -135,6 +137,17 @@ pub fn tuple_back(
     value_back(alloc, &pair)
 }
 
+/// An array of fields is read back.
+pub fn array_back(
+    alloc: Global,
+    numbers: [Number<5>; 3],
+) -> Result<Option<[Number<5>; 3]>, GrowError>
+    requires { All (λ x. x.value < 2 ^ 5) numbers }
+    ensures { IfOk result (λ read. read ≡ Some numbers) }
+{
+    value_back(alloc, &numbers)
+}
+
 /// Five bits, zeros up to a whole byte, and a number of two bytes.
 pub fn padded(alloc: Global, kind: u64, size: u64) -> Result<BitVec<u8, Msb0>, GrowError>
     ensures { IfOk result (λ v. v.list ≡ (binary 5 kind ++ false ∷ false ∷ false ∷ []) ++ binary 16 size) }
@@ -198,4 +211,59 @@ pub fn passed<T: BitStore, O: BitOrder>(reader: &mut BitReader<'_, T, O>) -> Opt
     let a = reader.read(5)?;
     let b = reader.read(7)?;
     Some(a ^ b)
+}
+
+/// A number in LEB128 is written and read, with a bit after it.
+pub fn leb128_back(alloc: Global, x: u64) -> Result<Result<u64, CodeError>, GrowError>
+    ensures { IfOk result (λ read. read ≡ Ok x) }
+{
+    let mut writer = BitWriter::<u8, Msb0>::new(alloc);
+    writer.write_leb128(x)?;
+    writer.write_bit(true)?;
+    let bits = writer.finish()?;
+    let mut reader = BitReader::new(bits.as_bitslice());
+    Ok(reader.read_leb128())
+}
+
+/// Why no number in LEB128 is read, and then none of its bits is passed.
+pub fn leb128_fault<T: BitStore, O: BitOrder>(reader: &mut BitReader<'_, T, O>) -> Option<CodeError>
+    ensures ended { result ≡ Some errors.Ended → LebEnds 9 reader.old.rest }
+    ensures padded { result ≡ Some errors.NotShortest → LebPadded 9 reader.old.rest }
+    ensures too_long { result ≡ Some errors.TooLong → LebPasses 9 reader.old.rest }
+    ensures kept { result ≢ None → reader.new ≡ reader.old }
+{
+    match reader.read_leb128() {
+        Ok(_x) => None,
+        Err(why) => Some(why),
+    }
+}
+
+/// A delta code that is not read ended, or is too long.
+pub fn delta_or_end<T: BitStore, O: BitOrder>(reader: &mut BitReader<'_, T, O>) -> Option<bool>
+    ensures ended { result ≡ Some true → DeltaEnds reader.old.rest }
+    ensures too_long { result ≡ Some false → DeltaPasses reader.old.rest }
+{
+    match reader.read_delta() {
+        Ok(_x) => None,
+        Err(CodeError::Ended) => Some(true),
+        Err(CodeError::TooLong) => Some(false),
+        Err(CodeError::NotShortest) => None,
+    }
+}
+
+/// A Golomb code that is not read ended, or is too long.
+pub fn golomb_or_end<T: BitStore, O: BitOrder>(
+    reader: &mut BitReader<'_, T, O>,
+    m: u64,
+) -> Option<bool>
+    requires { 0 < m }
+    ensures ended { result ≡ Some true → GolombEnds m reader.old.rest }
+    ensures too_long { result ≡ Some false → GolombPasses m reader.old.rest }
+{
+    match reader.read_golomb(m) {
+        Ok(_x) => None,
+        Err(CodeError::Ended) => Some(true),
+        Err(CodeError::TooLong) => Some(false),
+        Err(CodeError::NotShortest) => None,
+    }
 }

@@ -110,6 +110,42 @@ fn cut_at_every_bit(rt: HostRuntime) {
     }
 }
 
+// The bits of a writer, read to the end of a code that ends too soon, or that is of too long a number.
+#[test]
+fn each_fault_has_its_error(rt: HostRuntime) {
+    let mut writer = BitWriter::<u8, Msb0>::new(rt.alloc());
+    ok(&rt, writer.write(16, 0x8080));
+    ok(&rt, writer.write(7, 0));
+    let bits = ok(&rt, writer.finish());
+    let mut reader = BitReader::new(bits.as_bitslice());
+    check(&rt, reader.read_leb128() == Err(CodeError::Ended));
+    // A gamma code of 65, which is too many digits for a number, and then of 64, of which 63 would follow.
+    let mut writer = BitWriter::<u8, Msb0>::new(rt.alloc());
+    ok(&rt, writer.write_gamma(65));
+    ok(&rt, writer.write_gamma(64));
+    ok(&rt, writer.write(62, 0));
+    let bits = ok(&rt, writer.finish());
+    let mut reader = BitReader::new(bits.as_bitslice());
+    check(&rt, reader.read_delta() == Err(CodeError::TooLong));
+    check(&rt, reader.read_gamma() == Ok(65));
+    check(&rt, reader.read_delta() == Err(CodeError::Ended));
+    check(&rt, reader.position() == 13);
+    // The quotient 1 by 2 to the power 63 and the rest 2 to the power 62, and the quotient 2.
+    let mut writer = BitWriter::<u64, Lsb0>::new(rt.alloc());
+    ok(&rt, writer.write_golomb(1 << 63, (1 << 63) + (1 << 62)));
+    ok(&rt, writer.write_unary(2));
+    ok(&rt, writer.write(62, 0));
+    let bits = ok(&rt, writer.finish());
+    let mut reader = BitReader::new(bits.as_bitslice());
+    check(
+        &rt,
+        reader.read_golomb(1 << 63) == Ok((1 << 63) + (1 << 62)),
+    );
+    check(&rt, reader.read_golomb(1 << 63) == Err(CodeError::Ended));
+    check(&rt, reader.read_golomb(1 << 62) == Ok(1 << 63));
+    check(&rt, reader.remaining() == 0);
+}
+
 #[test]
 fn signed_numbers_as_unsigned(rt: HostRuntime) {
     check(&rt, zigzag(0) == 0);

@@ -181,3 +181,27 @@ fn values_one_after_another(rt: HostRuntime) {
     }
     check(&rt, reader.remaining() == 0);
 }
+
+#[test]
+fn arrays_of_fields(rt: HostRuntime) {
+    let numbers = [
+        (Number::<3> { value: 5 }, true),
+        (Number::<3> { value: 0 }, false),
+        (Number::<3> { value: 7 }, true),
+    ];
+    let mut writer = BitWriter::<u8, Msb0>::new(rt.alloc());
+    ok(&rt, numbers.write(&mut writer));
+    check(&rt, writer.len() == 12);
+    ok(&rt, writer.write(11, 0b101_0000_1111));
+    let bits = ok(&rt, writer.finish());
+    let mut reader = BitReader::new(bits.as_bitslice());
+    check(&rt, reader.peek(12) == Some(0b1011_0000_1111));
+    check(
+        &rt,
+        <[(Number<3>, bool); 3]>::read(&mut reader) == Some(numbers),
+    );
+    check(&rt, reader.position() == 12);
+    check(&rt, <[(Number<3>, bool); 3]>::read(&mut reader).is_none());
+    check(&rt, reader.position() == 12);
+    check(&rt, <[bool; 0]>::read(&mut reader).is_none());
+}

@@ -1,6 +1,6 @@
 //! Bits written and read, at every width and index, and cut off.
 use super::{check, ok};
-use bit_addressing::{BitOrder, BitStore, Lsb0, Msb0};
+use bit_addressing::{BitOrder, BitStore, GrowError, Lsb0, Msb0};
 use bit_containers::{BitList, BitVec};
 use bit_streams::{BitReader, BitWriter};
 use std::process::Abort;
@@ -214,4 +214,87 @@ fn sequences_read_back(rt: HostRuntime) {
         seed = next_random(seed);
         one_sequence(&rt, seed);
     }
+}
+
+// A record of 3, 13, 1, 20 and 27 bits.
+fn write_record(writer: &mut BitWriter<u8, Msb0>, x: u64) -> Result<(), GrowError> {
+    writer.write(3, x)?;
+    writer.write(13, x >> 3)?;
+    writer.write_bit((x >> 16) & 1 == 1)?;
+    writer.write(20, x >> 17)?;
+    writer.write(27, x >> 37)
+}
+
+// The record as one number: what `write_record` was given.
+fn read_record<T: BitStore, O: BitOrder>(reader: &mut BitReader<'_, T, O>) -> Option<u64> {
+    let kind = reader.read(3)?;
+    let port = reader.read(13)?;
+    let last = if reader.read_bit()? { 1u64 } else { 0 };
+    let size = reader.read(20)?;
+    let sum = reader.read(27)?;
+    Some(kind | (port << 3) | (last << 16) | (size << 17) | (sum << 37))
+}
+
+// Records after `before` bits, read from the vector, from a copy in words of 64 bits, and from a part that ends inside one.
+fn records_after(rt: &(impl Abort + AllocGlobal), before: u8) {
+    let mut writer = BitWriter::<u8, Msb0>::new(rt.alloc());
+    ok(rt, writer.write(before & 31, u64::MAX));
+    let mut seed = 3;
+    for _ in 0..40 {
+        seed = next_random(seed);
+        ok(rt, write_record(&mut writer, seed));
+    }
+    let bits = ok(rt, writer.finish());
+    let mut wide = BitWriter::<u64, Lsb0>::new(rt.alloc());
+    ok(rt, wide.write_bits(bits.as_bitslice()));
+    let wide = ok(rt, wide.finish());
+    let all = bits.as_bitslice();
+    let part = all.get_range(((before & 31) as usize).min(all.len())..);
+    let mut readers = (BitReader::new(part), BitReader::new(wide.as_bitslice()));
+    check(rt, readers.1.skip((before & 31) as usize) == Some(()));
+    let mut seed = 3;
+    for _ in 0..40 {
+        seed = next_random(seed);
+        check(rt, read_record(&mut readers.0) == Some(seed));
+        check(rt, read_record(&mut readers.1) == Some(seed));
+    }
+    check(rt, readers.0.remaining() == 0);
+    check(rt, read_record(&mut readers.1).is_none());
+}
+
+#[test]
+fn records_read_back_after_each_number_of_bits(rt: HostRuntime) {
+    for before in 0..32u8 {
+        records_after(&rt, before);
+    }
+}
+
+// Every request for memory may be refused: what was written stays, and can be written on.
+#[test]
+fn a_refusal_keeps_what_was_written(rt: HostRuntime) {
+    let mut writer = BitWriter::<u8, Msb0>::new(rt.alloc());
+    let mut seed = 5;
+    for _ in 0..40 {
+        seed = next_random(seed);
+        let before = writer.len();
+        let mut done = write_record(&mut writer, seed);
+        if done.is_err() {
+            check(&rt, done == Err(GrowError::OutOfMemory));
+            writer.truncate(before);
+            check(&rt, writer.len() == before);
+            done = write_record(&mut writer, seed);
+        }
+        ok(&rt, done);
+    }
+    if writer.reserve(0).is_err() {
+        ok(&rt, writer.reserve(0));
+    }
+    let bits = ok(&rt, writer.finish());
+    let mut reader = BitReader::new(bits.as_bitslice());
+    let mut seed = 5;
+    for _ in 0..40 {
+        seed = next_random(seed);
+        check(&rt, read_record(&mut reader) == Some(seed));
+    }
+    check(&rt, reader.remaining() == 0);
 }

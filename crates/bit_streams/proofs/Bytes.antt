@@ -1,10 +1,13 @@
 -- LEB128: the bytes of a number, one by one.
-use Rattle.std.proofs.Common.{◌≡◌, ℕ, zero, suc, ◌+◌, ◌-◌, ◌*◌, ◌/◌, ◌%◌, ◌^◌, ◌<◌, ◌≤◌, Bool, List, ◌++◌, append_assoc, refl, ◌∙◌, ap, subst, inl, inr, arith}
+use Rattle.std.proofs.Common.{◌≡◌, ℕ, zero, suc, ◌+◌, ◌-◌, ◌*◌, ◌/◌, ◌%◌, ◌^◌, ◌<◌, ◌≤◌, Bool, List, [], ◌∷◌, ◌++◌, append-nil, append_assoc, refl, sym, ◌∙◌, ap, subst, inl, inr, arith}
 use Rattle.std.proofs.Math.Nat.{div-lt_iff_lt-mul}
 use Rattle.std.proofs.lemmas.Bool.{cases_lt, lt-ltb, le-ltb}
 use Rattle.std.proofs.lemmas.Nat.{pow-add}
 use Rattle.bit_addressing.specs.Row.{binary}
+use Rattle.std.proofs.lemmas.List.Elements.{All-cons, All-nil}
 use Rattle.bit_streams.specs.Codes.{leb_bytes}
+use Rattle.bit_streams.specs.Fields.{items_bits}
+use Rattle.bit_streams.specs.Refusals.{LebEnds, LebPadded, LebPasses}
 
 pub leb_none : (m x : ℕ) → m ≡ 0 → leb_bytes m x ≡ binary 8 x
 unfolding leb_bytes
@@ -74,3 +77,54 @@ first_byte (suc m) x old more h e = elim (cases_lt x 128) [
     more_is = λ _ _. (refl, refl);
   }
 ]
+
+-- ---- bytes that are no number
+
+-- fewer than 8 bits, after a byte that says that more follow
+pub ends_on : (old mid : List Bool) (byte m : ℕ) → old ≡ binary 8 byte ++ mid → 128 ≤ byte → 0 < m → LebEnds (m - 1) mid → LebEnds m old
+ends_on old mid byte m is high more p =
+    let size = p.4 in (
+      byte ∷ p.0,
+      p.1,
+      is ∙ ap (λ l. binary 8 byte ++ l) p.2 ∙ sym (append_assoc (binary 8 byte) (items_bits (binary 8) p.0) p.1),
+      All-cons (λ b. 128 ≤ b) byte p.0 high p.3,
+      omega arith,
+      p.5,
+    )
+
+pub padded_on : (old mid : List Bool) (byte m : ℕ) → old ≡ binary 8 byte ++ mid → 128 ≤ byte → 0 < m → LebPadded (m - 1) mid → LebPadded m old
+padded_on old mid byte m is high more p =
+    let size = p.4 in (
+      byte ∷ p.0,
+      p.1,
+      is ∙ ap (λ l. binary 8 byte ++ l) p.2 ∙ sym (append_assoc (binary 8 byte) (items_bits (binary 8) p.0) (binary 8 0 ++ p.1)),
+      All-cons (λ b. 128 ≤ b) byte p.0 high p.3,
+      omega arith,
+      omega arith,
+    )
+
+-- the number after such a byte is 0
+pub padded_here : (old mid new : List Bool) (byte m upper : ℕ) → old ≡ binary 8 byte ++ mid → mid ≡ leb_bytes (m - 1) upper ++ new → upper ≡ 0 → 128 ≤ byte → 0 < m → LebPadded m old
+padded_here old mid new byte m upper is next none high more = (
+  byte ∷ [],
+  new,
+  is ∙ ap (λ l. binary 8 byte ++ l) (next ∙ ap (λ u. leb_bytes (m - 1) u ++ new) none ∙ ap (λ l. l ++ new) (leb_last (m - 1) 0 (omega arith)))
+      ∙ ap (λ l. l ++ (binary 8 0 ++ new)) (sym (append-nil (binary 8 byte))),
+  All-cons (λ b. 128 ≤ b) byte [] high (All-nil (λ b. 128 ≤ b)),
+  omega arith,
+  omega arith,
+)
+
+-- the number passes 64 digits here
+pub passes_here : (old mid new : List Bool) (byte m upper : ℕ) → old ≡ binary 8 byte ++ mid → mid ≡ leb_bytes (m - 1) upper ++ new → 2 ^ 64 ≤ upper * 128 + byte % 128 → 128 ≤ byte → byte < 256 → 0 < m → LebPasses m old
+passes_here old mid new byte m upper is next past high low more = (
+  upper * 128 + byte % 128,
+  past,
+  new,
+  is ∙ ap (λ l. binary 8 byte ++ l) next ∙ sym (append_assoc (binary 8 byte) (leb_bytes (m - 1) upper) new)
+      ∙ ap (λ l. l ++ new) (sym (leb_read m byte upper more (omega arith) high low)),
+)
+
+pub passes_on : (old mid : List Bool) (byte m : ℕ) → old ≡ binary 8 byte ++ mid → 128 ≤ byte → byte < 256 → 0 < m → LebPasses (m - 1) mid → LebPasses m old
+passes_on old mid byte m is high low more p =
+    let past = p.1 in passes_here old mid p.2 byte m p.0 is p.3 (omega arith) high low more

@@ -1,7 +1,7 @@
 -- Codes of numbers: what is written is one of them, and which number a list that begins with one has.
 use Rattle.std.proofs.Common.{◌≡◌, ℕ, zero, suc, ◌+◌, ◌-◌, ◌*◌, ◌/◌, ◌%◌, ◌^◌, ◌<◌, ◌≤◌, Bool, List, ◌++◌, append_assoc, refl, sym, ◌∙◌, ap, subst, arith}
 use Rattle.std.proofs.Math.Pow.{pow_pos}
-use Rattle.std.proofs.Math.Nat.{mod-eq_of_lt, div-lt_iff_lt-mul}
+use Rattle.std.proofs.Math.Nat.{mod-eq_of_lt, div-lt_iff_lt-mul, le-div_iff_mul-le}
 use Rattle.std.proofs.lemmas.Nat.{div-mul-add, mod-mul-add, div-add-mod', mod_below, pow-add, leading_top}
 use Rattle.std.specs.Int.{w64, leading_zeros}
 use Rattle.std.specs.Int.Count.{leading_unique}
@@ -51,6 +51,11 @@ quotient_fits k q few h =
 pub quotient_past : (k q : ℕ) → 18446744073709551615 / 2 ^ k < q → 2 ^ 64 ≤ q * 2 ^ k
 quotient_past k q h =
     let past = (div-lt_iff_lt-mul {k = 2 ^ k} {x = 18446744073709551615} {y = q} (pow_pos k)).0 h in
+    omega arith
+
+pub quotient_below : (k q : ℕ) → q ≤ 18446744073709551615 / 2 ^ k → q * 2 ^ k < 2 ^ 64
+quotient_below k q h =
+    let most = (le-div_iff_mul-le {k = 2 ^ k} {x = q} {y = 18446744073709551615} (pow_pos k)).0 h in
     omega arith
 
 pub quotient_within : (k x : ℕ) → x < 2 ^ 64 → x / 2 ^ k ≤ 18446744073709551615 / 2 ^ k

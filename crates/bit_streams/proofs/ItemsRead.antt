@@ -1,5 +1,7 @@
 -- Values of one kind, one after another.
-use Rattle.std.proofs.Common.{◌≡◌, zero, suc, ◌+◌, ◌<◌, Bool, List, [], ◌∷◌, ◌++◌, append_assoc, append-nil, length, sym, ◌∙◌, ap, arith}
+use Rattle.std.proofs.Common.{◌≡◌, ℕ, zero, suc, ◌+◌, ◌<◌, Bool, List, [], ◌∷◌, ◌++◌, Some, append_assoc, append-nil, length, replicate, take, refl, sym, ◌∙◌, ap, arith}
+use Rattle.std.proofs.lemmas.List.Elements.{All-append, All-nil}
+use Rattle.std.proofs.lemmas.Option.{same_Some}
 use Rattle.std.specs.Prelude.{All}
 use Rattle.std.proofs.lemmas.List.{length-append, nil_from_length}
 use Rattle.bit_streams.specs.Fields.{items_bits}
@@ -65,3 +67,46 @@ module _ {X : Type 0} (bits : X → List Bool) where
       let sum : length xs ≡ length items + length c.left = ap length c.is ∙ length-append items c.left in
       let none : c.left ≡ [] = nil_from_length c.left (omega arith) in
       (sym (c.is ∙ ap (λ l. items ++ l) none ∙ append-nil items), c.bits_are ∙ ap (λ l. items_bits bits l ++ more) none)
+
+  -- some of n values were read: they come first, and whichever n values come first begin with them
+  pub record SoFar (fits : X → Type 0) (old : List Bool) (n : ℕ) (items : List X) (now : List Bool) : Type 0 where
+    pub found : old ≡ items_bits bits items ++ now
+    pub fit : All fits items
+    pub back : (xs : List X) → (more : List Bool) → length xs ≡ n → All fits xs → old ≡ items_bits bits xs ++ more → Coming fits xs items now more
+
+  pub none_so_far : (fits : X → Type 0) (old : List Bool) (n : ℕ) → SoFar fits old n [] old
+  none_so_far fits old n = record {
+    found = refl;
+    fit = All-nil fits;
+    back = λ xs more size fit e. record {
+      left = xs;
+      is = refl;
+      fit = fit;
+      bits_are = e;
+    };
+  }
+
+  -- one more value was read, as whichever value comes first
+  pub one_more : (fits : X → Type 0) (old : List Bool) (n : ℕ) (items : List X) (now new : List Bool) (x : X) → SoFar fits old n items now → length items < n → now ≡ bits x ++ new → fits x
+      → ((y : X) → (more : List Bool) → fits y → now ≡ bits y ++ more → (Some x ≡ Some y) × (new ≡ more)) → SoFar fits old n (items ++ x ∷ []) new
+  one_more fits old n items now new x s short next fit_x is_first = record {
+    found = more_read old now new items x s.found next;
+    fit = All-append fits items (x ∷ []) s.fit (all_one fits x fit_x);
+    back = λ xs more size fit e.
+        let m = next_of fits xs items now more (omega arith) (s.back xs more size fit e) in
+        let b = is_first m.next (items_bits bits m.left ++ more) m.fits_next m.bits_are in
+        coming_on fits xs items (items ++ x ∷ []) now new more x m (same_Some x m.next b.0) b.1 refl;
+  }
+
+  -- all are read
+  pub read_all : (fits : X → Type 0) (old : List Bool) (n : ℕ) (items xs : List X) (now more : List Bool) → SoFar fits old n items now → length items ≡ n → length xs ≡ n → All fits xs → old ≡ items_bits bits xs ++ more → (items ≡ xs) × (now ≡ more)
+  read_all fits old n items xs now more s size size_xs fit e = all_read fits xs items now more (size ∙ sym size_xs) (s.back xs more size_xs fit e)
+
+  -- no value comes next where one is still to come
+  pub none_next : (fits : X → Type 0) (old : List Bool) (n : ℕ) (items xs : List X) (now more : List Bool) → SoFar fits old n items now → length items < n → length xs ≡ n → All fits xs → old ≡ items_bits bits xs ++ more → NextOf fits xs items now more
+  none_next fits old n items xs now more s short size fit e = next_of fits xs items now more (omega arith) (s.back xs more size fit e)
+
+-- a list of one value has it first
+pub first_taken : {X : Type 0} (n : ℕ) (x : X) → 0 < n → take 1 (replicate n x) ≡ x ∷ []
+first_taken zero x some = absurd (omega arith)
+first_taken (suc n) x some = refl

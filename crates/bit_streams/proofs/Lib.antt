@@ -1,5 +1,6 @@
 pub mod Lists
 pub mod Windows
+pub mod Padded
 pub mod Zeros
 pub mod Turned
 pub mod Coded

@@ -1,10 +1,9 @@
 -- A list that begins with the digits of a number, or with a bit.
-use Rattle.std.proofs.Common.{◌≡◌, ℕ, ◌+◌, ◌-◌, ◌*◌, ◌/◌, ◌%◌, ◌^◌, ◌<◌, ◌≤◌, Bool, true, false, cond, List, [], ◌∷◌, ◌++◌, length, take, drop, slice_range, append_assoc, rules, slice_get, get_or, Some, None, Ok, Err, Result, nat_eq, sym, ◌∙◌, ap, subst, refl, zero, suc, inl, inr, arith}
+use Rattle.std.proofs.Common.{◌≡◌, ℕ, ◌+◌, ◌*◌, ◌/◌, ◌%◌, ◌^◌, ◌<◌, ◌≤◌, Bool, true, false, cond, List, [], ◌∷◌, ◌++◌, length, take, drop, slice_range, append_assoc, rules, slice_get, get_or, Some, None, Ok, Err, Result, nat_eq, sym, ◌∙◌, ap, subst, refl, zero, suc, inl, inr, arith}
 use Rattle.std.proofs.lemmas.List.{take-append-drop, take_all, drop_at, length-append, drop_all, drop_more, same_lists, places}
 use Rattle.std.proofs.lemmas.Option.{slice_get_within, slice_get-get_or, get_or_from_slice_get}
 use Rattle.std.proofs.lemmas.Bool.{cases_lt}
 use Rattle.std.proofs.Math.Seq.{take-append_seam}
-use Rattle.std.proofs.lemmas.List.{ext_get_or}
 use Rattle.std.proofs.lemmas.Nat.{div-mul-add, mod-mul-add, mod_below, pow-add, pow_below}
 use Rattle.std.proofs.Math.Nat.{mod-eq_of_lt, mul_comm}
 use Rattle.std.proofs.Math.Pow.{pow_pos, pow_mono}
@@ -18,11 +17,10 @@ use Rattle.bit_addressing.specs.declared.errors.GrowError.{GrowError}
 use Rattle.bit_addressing.specs.declared.errors.GrowError.TheVariants.{TooLong, OutOfMemory}
 use Rattle.bit_streams.specs.Streams.{Passed, Reading, Writing, Refuses}
 use Rattle.bit_addressing.specs.Bits.{IsWidth}
-use Rattle.bit_addressing.proofs.Words.{has_low}
 use Rattle.bit_addressing.proofs.Runs.{mul_mono, slices_joined}
 use Rattle.bit_addressing.specs.Binary.{value}
 use Rattle.bit_addressing.specs.Row.{binary}
-use Rattle.bit_rows.proofs.Binary.{length-binary, value_of_binary, get_or-binary, binary_low, binary_parted}
+use Rattle.bit_rows.proofs.Binary.{length-binary, value_of_binary, binary_low, binary_parted}
 
 pub digits_then_rest : (n x : ℕ) (xs : List Bool) → binary n x ≡ take n xs → xs ≡ binary n x ++ drop n xs
 digits_then_rest n x xs e = sym (ap (λ l. l ++ drop n xs) e ∙ take-append-drop n xs)

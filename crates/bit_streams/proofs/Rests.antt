@@ -1,6 +1,6 @@
 -- Golomb's codes: the rest by a number, and the quotient.
 use Rattle.std.proofs.Common.{◌≡◌, ℕ, zero, suc, ◌+◌, ◌-◌, ◌*◌, ◌/◌, ◌%◌, ◌^◌, ◌<◌, ◌≤◌, Bool, true, false, cond, List, [], ◌∷◌, ◌++◌, append_assoc, refl, sym, ◌∙◌, ap, subst, inl, inr, arith}
-use Rattle.std.proofs.Math.Nat.{le-div_iff_mul-le, mod-eq_of_lt}
+use Rattle.std.proofs.Math.Nat.{div-lt_iff_lt-mul, le-div_iff_mul-le, mod-eq_of_lt}
 use Rattle.std.proofs.lemmas.Bool.{cases_lt, lt-ltb, le-ltb}
 use Rattle.std.proofs.lemmas.Nat.{div-mul-add, mod-mul-add, div-add-mod', le-div, mod_below, pow-add, pow_below}
 use Rattle.bit_addressing.specs.Row.{binary}
@@ -107,6 +107,9 @@ golomb_joined m q r h = ap (λ k. unary k ++ rest_code m ((q * m + r) % m)) (div
 
 pub product_fits : (q a m : ℕ) → 0 < m → q ≤ a / m → q * m ≤ a
 product_fits q a m positive h = (le-div_iff_mul-le positive).0 h
+
+pub product_past : (q a m : ℕ) → 0 < m → a / m < q → a < q * m
+product_past q a m positive h = (div-lt_iff_lt-mul {k = m} {x = a} {y = q} positive).0 h
 
 pub quotient_small : (m x : ℕ) → 0 < m → x < 2 ^ 64 → x / m ≤ (18446744073709551615 - x % m) / m
 quotient_small m x positive h = let d = div-add-mod' x m in le-div (x / m) (18446744073709551615 - x % m) m positive (omega arith)

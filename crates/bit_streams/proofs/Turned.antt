@@ -1,15 +1,8 @@
 -- Digits in reverse, and numbers whose least significant digit comes first.
-use Rattle.std.proofs.Common.{◌≡◌, ℕ, ◌+◌, ◌-◌, ◌/◌, ◌%◌, ◌^◌, ◌<◌, ◌≤◌, Bool, false, List, ◌++◌, length, get_or, take, drop, eqb, refl, sym, ◌∙◌, ap, inl, inr, arith}
-use Rattle.std.proofs.Math.Nat.{div-eq_of_lt}
-use Rattle.std.proofs.Math.Pow.{pow_mono}
-use Rattle.std.proofs.lemmas.Bool.{cases_lt}
-use Rattle.std.proofs.lemmas.List.{ext_get_or, drop_at, get_or_past, length-append}
-use Rattle.std.proofs.lemmas.List.FromFn.{get_or-map-range_with_len}
-use Rattle.bit_addressing.specs.Bits.{has_bit}
-use Rattle.bit_addressing.specs.Row.{binary, number_bits, number_of}
-use Rattle.bit_addressing.proofs.Chunks.{number_from_bits}
-use Rattle.bit_addressing.proofs.Words.{has_low, has_shr_low}
-use Rattle.bit_rows.proofs.Binary.{length-binary, length-number_bits, get_or-binary, get_or-number_bits}
+use Rattle.std.proofs.Common.{◌≡◌, ℕ, ◌+◌, ◌^◌, ◌<◌, ◌≤◌, Bool, List, ◌++◌, length, take, drop, sym, ◌∙◌, ap, arith}
+use Rattle.std.proofs.lemmas.List.{drop_at, length-append}
+use Rattle.bit_addressing.specs.Row.{number_bits, number_of}
+use Rattle.bit_rows.proofs.Binary.{length-number_bits}
 use Rattle.bit_slice.proofs.Signed.{number_of_bits}
 use Rattle.bit_streams.proofs.Lists.{take_front}
 

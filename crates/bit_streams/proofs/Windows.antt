@@ -11,7 +11,7 @@ use Rattle.bit_addressing.proofs.lists.Sized.{words_even, sized_cut}
 use Rattle.bit_addressing.proofs.Rows.{width_positive}
 use Rattle.bit_addressing.specs.Bits.{IsWidth}
 use Rattle.bit_rows.proofs.Binary.{length-binary, binary_parted}
-use Rattle.bit_streams.specs.Streams.{IsHeld, IsReading}
+use Rattle.bit_streams.specs.Streams.{IsHeld}
 use Rattle.bit_streams.proofs.Lists.{whole_blocks, slice_whole, take_front, joined_digits, joined_below}
 
 -- two parts of a run
@@ -116,7 +116,7 @@ module _ (row : List Bool) (from have window n block : ℕ) (held : IsHeld row f
         },
       )
 
-slice_empty : (row : List Bool) (a b : ℕ) → a ≡ b → slice_range row a b ≡ []
+pub slice_empty : (row : List Bool) (a b : ℕ) → a ≡ b → slice_range row a b ≡ []
 slice_empty row a b e = same_lists _ _ (search (rules, places)) (λ i d below. grind (arith, places))
 
 -- a number is held whose digits come next
@@ -169,25 +169,6 @@ taken_next row from have window n block held over few room below next =
       subst (λ k. window / 2 ^ (64 - n) + k < 2 ^ n) high t.1,
       subst (λ k. IsHeld row (from + n) (64 - (n - have)) k) (sym (shifted_out block (64 - (n - have)) (n - have) (omega arith) (omega arith))) t.2,
     )
-
-module _ (row : List Bool) (w n start from end have window : ℕ) (r : IsReading row w n start from end have window) (size : length row ≡ w * n) where
-  pub length_rest : length (slice_range row from end) ≡ end - from
-  length_rest =
-      let inside = r.inside in
-      let within = r.within in
-      let to : from + (end - from) ≡ end = omega arith in
-      ap (λ e. length (slice_range row from e)) (sym to) ∙ length-run row from (end - from) (omega arith)
-
-  pub reading_on : (by after held_after : ℕ) → from + by + after ≤ end → IsHeld row (from + by) after held_after → IsReading row w n start (from + by) end after held_after
-  reading_on by after held_after fits held = record {
-    held = held;
-    begins = let b = r.begins in omega arith;
-    inside = fits;
-    within = r.within;
-    few = r.few;
-    in_word = r.in_word;
-    exact = r.exact;
-  }
 
 pub dropped : (row : List Bool) (from n end : ℕ) → from + n ≤ end → end ≤ length row → (drop n (slice_range row from end) ≡ slice_range row (from + n) end) × (length (slice_range row (from + n) end) + n ≡ length (slice_range row from end))
 dropped row from n end h room =

@@ -1,5 +1,5 @@
 -- Readers and writers: what contracts see of them, and what always holds of their registers.
-use Rattle.std.specs.Prelude.{◌≡◌, ℕ, ◌+◌, ◌*◌, ◌^◌, ◌<◌, ◌≤◌, ◌↔◌, Bool, List, drop, length, slice_range, ◌-◌, refl, Result, Err, OnErr}
+use Rattle.std.specs.Prelude.{◌≡◌, ℕ, ◌+◌, ◌-◌, ◌*◌, ◌%◌, ◌^◌, ◌<◌, ◌≤◌, ◌++◌, ◌↔◌, Bool, false, List, drop, length, replicate, slice_range, refl, Result, Err, OnErr}
 use Rattle.std.specs.Coded.{Coded, code_by, coded×, coded_list, coded_ℕ, coded_bool}
 use Rattle.bit_addressing.specs.Row.{binary, words_for}
 use Rattle.bit_addressing.specs.declared.errors.GrowError.{GrowError}
@@ -35,11 +35,12 @@ pub record Refuses {A : Type 0} (result : Result A GrowError) (wanted : ℕ) (ol
   pub memory : result ≡ Err OutOfMemory → old.capacity < wanted
   pub unchanged : OnErr result (new.list ≡ old.list)
 
--- what always holds of a writer: after n whole words of w bits fewer than 64 bits wait in the register, as a number of `count` digits
+-- what always holds of a writer: after n words of w bits, which are whole blocks of 64 bits, fewer than 64 bits wait in the register, as a number of `count` digits
 pub record IsPending (w n count pending : ℕ) : Type 0 where
   pub few : count < 64
   pub small : pending < 2 ^ count
-  pub fits : w * n + count ≤ MAX_BITS
+  pub blocks : w * n % 64 ≡ 0
+  pub fits : w * n ≤ MAX_BITS
 
 -- the highest `have` digits of a register are the items of a row from `from` on, and its other digits are 0
 pub record IsHeld (row : List Bool) (from have window : ℕ) : Type 0 where
@@ -49,11 +50,15 @@ pub record IsHeld (row : List Bool) (from have window : ℕ) : Type 0 where
   pub digits : binary have number ≡ slice_range row from (from + have)
   pub few : have < 64
 
--- what always holds of a reader over n words of w bits: what its register holds comes next in the words' row, and the rest after it
-pub record IsReading (row : List Bool) (w n start from end have window : ℕ) : Type 0 where
-  pub held : IsHeld row from have window
-  pub begins : start ≤ from
-  pub inside : from + have ≤ end
+-- a row and 64 zeros after it
+unfoldable pub padded : List Bool → List Bool
+padded row = row ++ replicate 64 false
+
+-- what always holds of a reader over n words of w bits, of whose view `left` bits are left: what its register holds comes next in the words' padded row
+pub record IsReading (row : List Bool) (w n start left end have window : ℕ) : Type 0 where
+  pub held : IsHeld (padded row) (end - left) have window
+  pub ahead : end - left + have ≤ w * n + 64
+  pub begins : start + left ≤ end
   pub within : end ≤ w * n
   pub few : end ≤ start + MAX_BITS
   pub in_word : start < w

@@ -1,9 +1,10 @@
 //! Values that are written as bits and read back.
-ghost use Rattle.std.specs.Prelude.{◌≡◌, ℕ, ℤ, ◌+◌, ◌^◌, ◌<◌, ◌≤◌, ◌++◌, [], ◌∷◌, Bool, List, IfSome, None, OnErr, OnOk, Some, ⊤, false, true, length};
+ghost use Rattle.std.specs.Prelude.{◌≡◌, ℕ, ℤ, ◌+◌, ◌^◌, ◌<◌, ◌≤◌, ◌++◌, [], ◌∷◌, All, Bool, List, IfSome, None, OnErr, OnOk, Some, ⊤, false, true, length};
 ghost use Rattle.bit_addressing.specs.Row.{binary};
-ghost use Rattle.bit_streams.specs.Fields.{OptionFits, option_bits};
+ghost use Rattle.bit_streams.specs.Fields.{OptionFits, items_bits, option_bits};
 ghost use Rattle.bit_slice.specs.Signed.{IsSigned, signed_binary};
 
+use crate::items::write_items;
 use crate::reader::BitReader;
 use crate::writer::BitWriter;
 use bit_addressing::{BitOrder, BitStore, GrowError};
@@ -193,5 +194,40 @@ impl<V: Fields + Drop> Fields for Option<V> {
                 Some(value) => Some(Some(value)),
             },
         }
+    }
+}
+
+/// Fields of one kind, at least one, one after another.
+impl<F: Fields + Copy + Drop, const N: usize> Fields for [F; N] {
+    ghost fits = { λ xs. (0 < N) × (length xs ≡ N) × All F.fits xs };
+
+    ghost bits_of = { λ xs. items_bits F.bits_of xs };
+
+    fn write<T: BitStore, O: BitOrder>(
+        &self,
+        writer: &mut BitWriter<T, O>,
+    ) -> Result<(), GrowError> {
+        write_items(self.as_slice(), writer)
+    }
+
+    fn read<T: BitStore, O: BitOrder>(reader: &mut BitReader<'_, T, O>) -> Option<[F; N]> {
+        if N == 0 {
+            return None;
+        }
+        let before = reader.copied();
+        let mut all = match F::read(reader) {
+            None => return None,
+            Some(first) => [first; N],
+        };
+        for i in 1..N {
+            match F::read(reader) {
+                None => {
+                    *reader = before;
+                    return None;
+                }
+                Some(next) => all[i] = next,
+            }
+        }
+        Some(all)
     }
 }

@@ -5,7 +5,7 @@ ghost use Rattle.bit_addressing.specs.Row.{binary};
 ghost use Rattle.bit_addressing.specs.Typed.{row};
 ghost use Rattle.bit_addressing.specs.declared.length.TheConstants.{MAX_BITS};
 ghost use Rattle.bit_slice.specs.BitSlice.{len_of, list_of};
-ghost use Rattle.bit_streams.specs.Streams.{IsHeld, Passed};
+ghost use Rattle.bit_streams.specs.Streams.{Passed, padded};
 
 use bit_addressing::{BitOrder, BitStore};
 use bit_rows::{read_binary, read_block};
@@ -27,13 +27,16 @@ use std::marker::{Model, PhantomData};
 #[derive(Drop)]
 pub struct BitReader<'a, T: BitStore, O: BitOrder> {
     words: &'a [T],
-    // The indices, in the row of the words, of the view's first bit, of the next bit, and after the view's last bit.
+    // The indices, in the row of the words, of the view's first bit, and after its last bit.
     start: usize,
-    from: usize,
     end: usize,
-    // The next `have` bits, fewer than 64: the first is the highest, and the bits below them are 0.
+    // How many bits of the view are left.
+    left: usize,
+    // The next `have` bits, fewer than 64: the first is the highest, and the bits below them are 0. They may lie past the
+    // view's end, where the words' bits or zeros are held: so a register is filled by 64 bits everywhere, and a compiler
+    // that sees the widths of a record's fields knows how many are held at each.
     window: u64,
-    have: u8,
+    have: usize,
     order: PhantomData<O>,
 }
 
@@ -47,12 +50,12 @@ impl<'a, T: BitStore, O: BitOrder> Model for BitReader<'a, T, O> {
     ghost coded = { reading_code };
 
     ghost view = { λ r. record {
-      rest = slice_range (row T.BitStore O.BitOrder r.words.now) r.from r.end;
-      position = r.from - r.start;
+      rest = slice_range (row T.BitStore O.BitOrder r.words.now) (r.end - r.left) r.end;
+      position = r.end - r.left - r.start;
     } };
 
     ghost invariant = { λ r. IsReading (row T.BitStore O.BitOrder r.words.now)
-        T.BITS (length r.words.now) r.start r.from r.end r.have r.window };
+        T.BITS (length r.words.now) r.start r.left r.end r.have r.window };
 }
 
 // The number that the 64 bits from `at` on write, the first the most significant. Requires that a word begins at `at`.
@@ -65,33 +68,51 @@ fn block_at<T: BitStore, O: BitOrder>(words: &[T], at: usize) -> u64
     read_block::<T, O>(words, at).reverse()
 }
 
-// The number that the `n` bits from `from` on write, and a register with the bits after them up to the next word or to
-// `end`: what blocks of whole words can't give, at either end of a view.
+// The number that the 64 bits from `at` on write, where those past the words are 0. Requires that `at` lies in the words.
+#[inline(always)]
+fn bits_at<T: BitStore, O: BitOrder>(words: &[T], at: usize) -> u64
+    requires inside { at < T.BITS * length words.now }
+    requires fits { T.BITS * length words.now < 2 ^ 64 }
+    ensures { binary 64 result ≡ slice_range (padded (row T.BitStore O.BitOrder words.now)) at (at + 64) }
+{
+    let room = words.len() * T::BITS as usize - at;
+    let skip = at % T::BITS as usize;
+    if room < 64 {
+        return last_bits::<T, O>(words, at);
+    }
+    if skip == 0 {
+        return block_at::<T, O>(words, at);
+    }
+    if room < 128 {
+        return last_bits::<T, O>(words, at);
+    }
+    joined_blocks::<T, O>(words, at, skip)
+}
+
+// The 64 bits from `at` on out of two blocks of whole words. Requires that `skip` bits of a word lie before `at`.
+#[inline(always)]
+fn joined_blocks<T: BitStore, O: BitOrder>(words: &[T], at: usize, skip: usize) -> u64
+    requires within { at + 128 ≤ T.BITS * length words.now }
+    requires before { skip ≡ at % T.BITS }
+    requires some { 0 < skip }
+    requires fits { T.BITS * length words.now < 2 ^ 64 }
+    ensures { binary 64 result ≡ slice_range (row T.BitStore O.BitOrder words.now) at (at + 64) }
+{
+    let first = block_at::<T, O>(words, at - skip);
+    let second = block_at::<T, O>(words, at - skip + 64);
+    ((first << (skip - 1)) << 1) + (second >> (64 - skip))
+}
+
+// Like `bits_at`, where no whole block is there.
 #[cold]
 #[inline(never)]
-fn read_apart<T: BitStore, O: BitOrder>(
-    words: &[T],
-    from: usize,
-    n: u8,
-    end: usize,
-) -> (u64, u64, u8)
-    requires few { n ≤ 64 }
-    requires inside { from + n ≤ end }
-    requires room { end ≤ T.BITS * length words.now }
-    ensures digits { binary n result.0 ≡ slice_range (row T.BitStore O.BitOrder words.now) from (from + n) }
-    ensures below { result.0 < 2 ^ n }
-    ensures held { IsHeld (row T.BitStore O.BitOrder words.now) (from + n) result.2 result.1 }
-    ensures within { from + n + result.2 ≤ end }
+fn last_bits<T: BitStore, O: BitOrder>(words: &[T], at: usize) -> u64
+    requires inside { at < T.BITS * length words.now }
+    requires fits { T.BITS * length words.now < 2 ^ 64 }
+    ensures { binary 64 result ≡ slice_range (padded (row T.BitStore O.BitOrder words.now)) at (at + 64) }
 {
-    let x = read_binary::<T, O>(words, from, n);
-    let next = from + n as usize;
-    let width = T::BITS as usize;
-    let pad = ((width - next % width) % width).min(end - next) as u8;
-    if pad == 0 {
-        return (x, 0, 0);
-    }
-    let y = read_binary::<T, O>(words, next, pad);
-    (x, y << (64 - pad), pad)
+    let n = (words.len() * T::BITS as usize - at).min(64) as u8;
+    read_binary::<T, O>(words, at, n) << (64 - n)
 }
 
 impl<'a, T: BitStore, O: BitOrder> BitReader<'a, T, O> {
@@ -104,8 +125,8 @@ impl<'a, T: BitStore, O: BitOrder> BitReader<'a, T, O> {
         BitReader {
             words: bits.as_raw_slice(),
             start,
-            from: start,
             end: start + len,
+            left: len,
             window: 0,
             have: 0,
             order: PhantomData,
@@ -129,8 +150,8 @@ impl<'a, T: BitStore, O: BitOrder> BitReader<'a, T, O> {
         BitReader {
             words: self.words,
             start: self.start,
-            from: self.from,
             end: self.end,
+            left: self.left,
             window: self.window,
             have: self.have,
             order: PhantomData,
@@ -143,7 +164,7 @@ impl<'a, T: BitStore, O: BitOrder> BitReader<'a, T, O> {
         ensures value { result ≡ length self.now.rest }
         ensures few { result ≤ MAX_BITS }
     {
-        self.end - self.from
+        self.left
     }
 
     /// How many bits of the view the reader has passed.
@@ -151,7 +172,7 @@ impl<'a, T: BitStore, O: BitOrder> BitReader<'a, T, O> {
     pub fn position(&self) -> usize
         ensures { result ≡ self.now.position }
     {
-        self.from - self.start
+        self.end - self.left - self.start
     }
 
     /// The bits that are left, as a view.
@@ -159,7 +180,7 @@ impl<'a, T: BitStore, O: BitOrder> BitReader<'a, T, O> {
         ensures { list_of result ≡ self.now.rest }
     {
         let all = BitSlice::from_parts(self.words, self.start, self.end - self.start);
-        all.get_range(self.from - self.start..self.end - self.start)
+        all.get_range(self.end - self.left - self.start..self.end - self.start)
     }
 
     /// Reads the next `n` bits as a view of them.
@@ -230,10 +251,10 @@ impl<'a, T: BitStore, O: BitOrder> BitReader<'a, T, O> {
         ensures passed { IfSome result (λ _. Passed n self.old self.new) }
         ensures kept { result ≡ None → self.new ≡ self.old }
     {
-        if self.end - self.from < n {
+        if n > self.left {
             return None;
         }
-        self.from += n;
+        self.left -= n;
         self.window = 0;
         self.have = 0;
         Some(())
@@ -249,34 +270,26 @@ impl<'a, T: BitStore, O: BitOrder> BitReader<'a, T, O> {
         ensures position { IfSome result (λ _. self.new.position ≡ self.old.position + n) }
         ensures kept { result ≡ None → self.new ≡ self.old }
     {
+        let n = n as usize;
         if n == 0 {
             return Some(0);
+        }
+        if self.left < n {
+            return None;
         }
         if n <= self.have {
             let x = self.window >> (64 - n);
             self.window = self.window << n;
             self.have -= n;
-            self.from += n as usize;
+            self.left -= n;
             return Some(x);
-        }
-        if self.end - self.from < n as usize {
-            return None;
         }
         let need = n - self.have;
-        let at = self.from + self.have as usize;
-        if self.end - at >= 64 && at % T::BITS as usize == 0 {
-            let block = block_at::<T, O>(self.words, at);
-            let left = 64 - need;
-            let x = (self.window >> (64 - n)) + (block >> left);
-            self.window = (block << (need - 1)) << 1;
-            self.have = left;
-            self.from += n as usize;
-            return Some(x);
-        }
-        let (x, window, have) = read_apart::<T, O>(self.words, self.from, n, self.end);
-        self.window = window;
-        self.have = have;
-        self.from += n as usize;
+        let block = bits_at::<T, O>(self.words, self.end - self.left + self.have);
+        let x = (self.window >> (64 - n)) + (block >> (64 - need));
+        self.window = (block << (need - 1)) << 1;
+        self.have = 64 - need;
+        self.left -= n;
         Some(x)
     }
 

@@ -143,6 +143,7 @@ pub(crate) fn cut_at<T: BitStore, O: BitOrder>(words: &mut Vec<T>, n: usize) -> 
     ensures few { result.1 < 64 }
     ensures below { result.0 < 2 ^ result.1 }
     ensures shorter { T.BITS * length words.new.items + result.1 ≡ n }
+    ensures blocks { T.BITS * length words.new.items % 64 ≡ 0 }
     ensures capacity { vec_capacity words.new ≡ vec_capacity words.old }
 {
     let count = (n % 64) as u8;

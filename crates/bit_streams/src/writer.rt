@@ -164,15 +164,15 @@ impl<T: BitStore, O: BitOrder> BitWriter<T, O> {
         ensures refusal { Refuses result (length self.old.list + n) self.old self.new }
         ensures capacity { self.old.capacity ≤ self.new.capacity }
     {
-        let len = self.words.len() * T::BITS as usize + self.count as usize;
-        if n as usize > MAX_BITS - len {
-            return Err(GrowError::TooLong);
-        }
         let room = 64 - self.count;
         if n < room {
             self.pending = joined(self.pending, self.count, n, x);
             self.count += n;
             return Ok(());
+        }
+        // Up to here no test is needed: a register that isn't full stays within MAX_BITS, since the words are whole blocks.
+        if self.words.len() * T::BITS as usize > MAX_BITS - 64 {
+            return Err(GrowError::TooLong);
         }
         let rest = n - room;
         let block = filled(self.pending, self.count, x >> rest);

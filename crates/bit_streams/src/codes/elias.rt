@@ -1,6 +1,7 @@
 //! Elias's gamma and delta codes of numbers from 1 on.
-ghost use Rattle.std.specs.Prelude.{◌≡◌, ℕ, ◌^◌, ◌<◌, ◌≤◌, ◌++◌, ◌⊎◌, Bool, List, Err, IfOk, OnErr, OnOk, Ok, false, length, replicate};
-ghost use Rattle.bit_streams.specs.Codes.{delta, gamma, top_place, unary};
+ghost use Rattle.std.specs.Prelude.{◌≡◌, ◌≢◌, ℕ, ◌^◌, ◌<◌, ◌≤◌, ◌++◌, Bool, List, Err, IfOk, OnErr, OnOk, Ok};
+ghost use Rattle.bit_streams.specs.Codes.{delta, gamma, top_place};
+ghost use Rattle.bit_streams.specs.Refusals.{DeltaEnds, DeltaPasses, GammaEnds, GammaPasses};
 ghost use Rattle.bit_streams.specs.declared.codes.CodeError.TheVariants as errors;
 
 use crate::codes::CodeError;
@@ -81,10 +82,9 @@ impl<'a, T: BitStore, O: BitOrder> BitReader<'a, T, O> {
     pub fn read_gamma(&mut self) -> Result<u64, CodeError>
         ensures found { IfOk result (λ x. self.old.rest ≡ gamma x ++ self.new.rest) }
         ensures some { IfOk result (λ x. 0 < x) }
-        ensures ended { result ≡ Err errors.Ended → (self.old.rest ≡ replicate (length self.old.rest) false)
-            ⊎ ((zeros : ℕ) × (more : List Bool) × (self.old.rest ≡ unary zeros ++ more) × (length more < zeros)) }
-        ensures too_long { result ≡ Err errors.TooLong
-            → (zeros : ℕ) × (64 ≤ zeros) × (more : List Bool) × (self.old.rest ≡ unary zeros ++ more) }
+        ensures ended { result ≡ Err errors.Ended → GammaEnds self.old.rest }
+        ensures too_long { result ≡ Err errors.TooLong → GammaPasses self.old.rest }
+        ensures shortest { result ≢ Err errors.NotShortest }
         ensures kept { OnErr result (self.new ≡ self.old) }
         ensures back { (x : ℕ) → (more : List Bool) → 0 < x → x < 2 ^ 64 → self.old.rest ≡ gamma x ++ more
             → (result ≡ Ok x) × (self.new.rest ≡ more) }
@@ -103,10 +103,9 @@ impl<'a, T: BitStore, O: BitOrder> BitReader<'a, T, O> {
     fn gamma_parts(&mut self) -> Result<u64, CodeError>
         ensures found { IfOk result (λ x. self.old.rest ≡ gamma x ++ self.new.rest) }
         ensures some { IfOk result (λ x. 0 < x) }
-        ensures ended { result ≡ Err errors.Ended → (self.old.rest ≡ replicate (length self.old.rest) false)
-            ⊎ ((zeros : ℕ) × (more : List Bool) × (self.old.rest ≡ unary zeros ++ more) × (length more < zeros)) }
-        ensures too_long { result ≡ Err errors.TooLong
-            → (zeros : ℕ) × (64 ≤ zeros) × (more : List Bool) × (self.old.rest ≡ unary zeros ++ more) }
+        ensures ended { result ≡ Err errors.Ended → GammaEnds self.old.rest }
+        ensures too_long { result ≡ Err errors.TooLong → GammaPasses self.old.rest }
+        ensures shortest { result ≢ Err errors.NotShortest }
         ensures back { (x : ℕ) → (more : List Bool) → 0 < x → x < 2 ^ 64 → self.old.rest ≡ gamma x ++ more
             → (result ≡ Ok x) × (self.new.rest ≡ more) }
     {
@@ -125,10 +124,13 @@ impl<'a, T: BitStore, O: BitOrder> BitReader<'a, T, O> {
     }
 
     /// Reads the number of a delta code. `Ended` where the bits end inside the code, `TooLong` where its count of digits
-    /// passes 64: then the reader stays where it is.
+    /// passes 64, or has itself no gamma code below 64 zeros: then the reader stays where it is.
     pub fn read_delta(&mut self) -> Result<u64, CodeError>
         ensures found { IfOk result (λ x. self.old.rest ≡ delta x ++ self.new.rest) }
         ensures some { IfOk result (λ x. 0 < x) }
+        ensures ended { result ≡ Err errors.Ended → DeltaEnds self.old.rest }
+        ensures too_long { result ≡ Err errors.TooLong → DeltaPasses self.old.rest }
+        ensures shortest { result ≢ Err errors.NotShortest }
         ensures kept { OnErr result (self.new ≡ self.old) }
         ensures back { (x : ℕ) → (more : List Bool) → 0 < x → x < 2 ^ 64 → self.old.rest ≡ delta x ++ more
             → (result ≡ Ok x) × (self.new.rest ≡ more) }
@@ -147,6 +149,9 @@ impl<'a, T: BitStore, O: BitOrder> BitReader<'a, T, O> {
     fn delta_parts(&mut self) -> Result<u64, CodeError>
         ensures found { IfOk result (λ x. self.old.rest ≡ delta x ++ self.new.rest) }
         ensures some { IfOk result (λ x. 0 < x) }
+        ensures ended { result ≡ Err errors.Ended → DeltaEnds self.old.rest }
+        ensures too_long { result ≡ Err errors.TooLong → DeltaPasses self.old.rest }
+        ensures shortest { result ≢ Err errors.NotShortest }
         ensures back { (x : ℕ) → (more : List Bool) → 0 < x → x < 2 ^ 64 → self.old.rest ≡ delta x ++ more
             → (result ≡ Ok x) × (self.new.rest ≡ more) }
     {

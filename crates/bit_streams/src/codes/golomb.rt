@@ -1,6 +1,7 @@
 //! Golomb's codes, and Rice's, which are those by a power of two.
-ghost use Rattle.std.specs.Prelude.{◌≡◌, ℕ, ◌+◌, ◌-◌, ◌*◌, ◌/◌, ◌%◌, ◌^◌, ◌<◌, ◌≤◌, ◌++◌, ◌⊎◌, Bool, List, Err, IfOk, IfSome, None, OnErr, OnOk, Ok, Some, false, length, replicate};
+ghost use Rattle.std.specs.Prelude.{◌≡◌, ◌≢◌, ℕ, ◌+◌, ◌-◌, ◌*◌, ◌/◌, ◌%◌, ◌^◌, ◌<◌, ◌≤◌, ◌++◌, Bool, List, Err, IfOk, IfSome, None, OnErr, OnOk, Ok, Some};
 ghost use Rattle.bit_streams.specs.Codes.{golomb, rest_code, rice, top_place, unary};
+ghost use Rattle.bit_streams.specs.Refusals.{GolombEnds, GolombPasses, RiceEnds};
 ghost use Rattle.bit_streams.specs.declared.codes.CodeError.TheVariants as errors;
 
 use crate::codes::CodeError;
@@ -103,8 +104,8 @@ impl<'a, T: BitStore, O: BitOrder> BitReader<'a, T, O> {
     pub fn read_rice(&mut self, k: u8) -> Result<u64, CodeError>
         requires { k < 64 }
         ensures found { IfOk result (λ x. self.old.rest ≡ rice k x ++ self.new.rest) }
-        ensures ended { result ≡ Err errors.Ended → (self.old.rest ≡ replicate (length self.old.rest) false)
-            ⊎ ((quotient : ℕ) × (more : List Bool) × (self.old.rest ≡ unary quotient ++ more) × (length more < k)) }
+        ensures ended { result ≡ Err errors.Ended → RiceEnds k self.old.rest }
+        ensures shortest { result ≢ Err errors.NotShortest }
         ensures too_long { result ≡ Err errors.TooLong
             → (quotient : ℕ) × (2 ^ 64 ≤ quotient * 2 ^ k) × (more : List Bool)
             × (self.old.rest ≡ unary quotient ++ more) }
@@ -126,8 +127,8 @@ impl<'a, T: BitStore, O: BitOrder> BitReader<'a, T, O> {
     fn rice_parts(&mut self, k: u8) -> Result<u64, CodeError>
         requires { k < 64 }
         ensures found { IfOk result (λ x. self.old.rest ≡ rice k x ++ self.new.rest) }
-        ensures ended { result ≡ Err errors.Ended → (self.old.rest ≡ replicate (length self.old.rest) false)
-            ⊎ ((quotient : ℕ) × (more : List Bool) × (self.old.rest ≡ unary quotient ++ more) × (length more < k)) }
+        ensures ended { result ≡ Err errors.Ended → RiceEnds k self.old.rest }
+        ensures shortest { result ≢ Err errors.NotShortest }
         ensures too_long { result ≡ Err errors.TooLong
             → (quotient : ℕ) × (2 ^ 64 ≤ quotient * 2 ^ k) × (more : List Bool)
             × (self.old.rest ≡ unary quotient ++ more) }
@@ -153,6 +154,9 @@ impl<'a, T: BitStore, O: BitOrder> BitReader<'a, T, O> {
     pub fn read_golomb(&mut self, m: u64) -> Result<u64, CodeError>
         requires { 0 < m }
         ensures found { IfOk result (λ x. self.old.rest ≡ golomb m x ++ self.new.rest) }
+        ensures ended { result ≡ Err errors.Ended → GolombEnds m self.old.rest }
+        ensures too_long { result ≡ Err errors.TooLong → GolombPasses m self.old.rest }
+        ensures shortest { result ≢ Err errors.NotShortest }
         ensures kept { OnErr result (self.new ≡ self.old) }
         ensures back { (x : ℕ) → (more : List Bool) → x < 2 ^ 64 → self.old.rest ≡ golomb m x ++ more
             → (result ≡ Ok x) × (self.new.rest ≡ more) }
@@ -171,6 +175,9 @@ impl<'a, T: BitStore, O: BitOrder> BitReader<'a, T, O> {
     fn golomb_parts(&mut self, m: u64) -> Result<u64, CodeError>
         requires { 0 < m }
         ensures found { IfOk result (λ x. self.old.rest ≡ golomb m x ++ self.new.rest) }
+        ensures ended { result ≡ Err errors.Ended → GolombEnds m self.old.rest }
+        ensures too_long { result ≡ Err errors.TooLong → GolombPasses m self.old.rest }
+        ensures shortest { result ≢ Err errors.NotShortest }
         ensures back { (x : ℕ) → (more : List Bool) → x < 2 ^ 64 → self.old.rest ≡ golomb m x ++ more
             → (result ≡ Ok x) × (self.new.rest ≡ more) }
     {

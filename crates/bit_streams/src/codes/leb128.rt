@@ -1,7 +1,9 @@
 //! LEB128: seven binary digits in a byte, the lowest first.
-ghost use Rattle.std.specs.Prelude.{◌≡◌, ℕ, ◌+◌, ◌*◌, ◌^◌, ◌<◌, ◌≤◌, ◌++◌, Bool, List, IfOk, OnErr, OnOk, Ok, length, take};
+ghost use Rattle.std.specs.Prelude.{◌≡◌, ℕ, ◌+◌, ◌*◌, ◌^◌, ◌<◌, ◌≤◌, ◌++◌, Bool, List, Err, IfOk, OnErr, OnOk, Ok, length, take};
 ghost use Rattle.bit_addressing.specs.Row.{binary};
 ghost use Rattle.bit_streams.specs.Codes.{leb128, leb_bytes};
+ghost use Rattle.bit_streams.specs.Refusals.{LebEnds, LebPadded, LebPasses};
+ghost use Rattle.bit_streams.specs.declared.codes.CodeError.TheVariants as errors;
 
 use crate::codes::CodeError;
 use crate::reader::BitReader;
@@ -66,6 +68,9 @@ impl<'a, T: BitStore, O: BitOrder> BitReader<'a, T, O> {
     /// binary digits, `NotShortest` where a last byte of 0 follows another: then the reader stays where it is.
     pub fn read_leb128(&mut self) -> Result<u64, CodeError>
         ensures found { IfOk result (λ x. self.old.rest ≡ leb128 x ++ self.new.rest) }
+        ensures ended { result ≡ Err errors.Ended → LebEnds 9 self.old.rest }
+        ensures too_long { result ≡ Err errors.TooLong → LebPasses 9 self.old.rest }
+        ensures padded { result ≡ Err errors.NotShortest → LebPadded 9 self.old.rest }
         ensures kept { OnErr result (self.new ≡ self.old) }
         ensures back { (x : ℕ) → (more : List Bool) → x < 2 ^ 64 → self.old.rest ≡ leb128 x ++ more
             → (result ≡ Ok x) × (self.new.rest ≡ more) }
@@ -83,6 +88,9 @@ impl<'a, T: BitStore, O: BitOrder> BitReader<'a, T, O> {
     // Reads a number in at most `most + 1` bytes; after an error the reader may be anywhere.
     fn read_bytes(&mut self, most: u8) -> Result<u64, CodeError>
         ensures found { IfOk result (λ x. self.old.rest ≡ leb_bytes most x ++ self.new.rest) }
+        ensures ended { result ≡ Err errors.Ended → LebEnds most self.old.rest }
+        ensures too_long { result ≡ Err errors.TooLong → LebPasses most self.old.rest }
+        ensures padded { result ≡ Err errors.NotShortest → LebPadded most self.old.rest }
         ensures back { (x : ℕ) → (more : List Bool) → x < 2 ^ 64 → self.old.rest ≡ leb_bytes most x ++ more
             → x < 2 ^ (8 + 7 * most) → (result ≡ Ok x) × (self.new.rest ≡ more) }
     {

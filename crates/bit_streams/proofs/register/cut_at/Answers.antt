@@ -15,3 +15,8 @@ returns-clause-list g c =
 pub returns-clause-shorter : goal.returns-clause-shorter
 returns-clause-shorter g c =
     cut_size g.T.BitStore.BITS c.args.n (c.args.n - c.args.n % 64) (c.args.n % 64) (length c.cut_words_in_vec.new.words.items) g.met.T.BitStore.width refl refl c.cut_words_in_vec.ensures.size
+
+pub returns-clause-blocks : goal.returns-clause-blocks
+returns-clause-blocks g c =
+    let shorter = cut_size g.T.BitStore.BITS c.args.n (c.args.n - c.args.n % 64) (c.args.n % 64) (length c.cut_words_in_vec.new.words.items) g.met.T.BitStore.width refl refl c.cut_words_in_vec.ensures.size in
+    omega arith

@@ -2,7 +2,7 @@ use Rattle.std.proofs.Common.{◌≡◌, ◌+◌, ◌-◌, ◌*◌, ◌/◌, ◌
 use Rattle.std.proofs.lemmas.Bool.{cases_lt}
 use Rattle.bit_addressing.specs.Row.{binary}
 use Rattle.bit_streams.specs.Codes.{leb_bytes}
-use Rattle.bit_streams.proofs.Bytes.{first_byte, leb_last, leb_none, leb_read, leb_within}
+use Rattle.bit_streams.proofs.Bytes.{ends_on, first_byte, leb_last, leb_none, leb_read, leb_within, padded_here, padded_on, passes_here, passes_on}
 use Rattle.bit_streams.proofs.Coded.{both_parts}
 use Rattle.bit_streams.proofs.reader.BitReader.+read_bytes.Goals as goal
 
@@ -111,3 +111,30 @@ returns-else-upper-clause-back g t c x more below e within =
           let first = i.0 in
           (ap Ok (let sum : c.in-Ok.upper * 128 + c.in-Some.byte % 128 ≡ x = omega arith in sum), u.1)
     ]
+
+pub returns-then-upper-eq0-clause-padded : goal.returns-then-upper-eq0-clause-padded
+returns-then-upper-eq0-clause-padded g t c e =
+    let some = c.if-most-eq0.false in
+    padded_here c.args.self.now.rest c.read.new.self.rest c.read_bytes.new.self.rest c.in-Some.byte c.args.most c.in-Ok.upper c.in-Some.ensures.digits c.in-Ok.ensures.found c.if-upper-eq0.true c.if-byte-lt128.false (omega arith)
+
+pub returns-then-upper-clause-too_long : goal.returns-then-upper-clause-too_long
+returns-then-upper-clause-too_long g t c e =
+    let some = c.if-most-eq0.false in
+    let low = c.in-Some.ensures.below in
+    passes_here c.args.self.now.rest c.read.new.self.rest c.read_bytes.new.self.rest c.in-Some.byte c.args.most c.in-Ok.upper c.in-Some.ensures.digits c.in-Ok.ensures.found (omega arith) c.if-byte-lt128.false (omega arith) (omega arith)
+
+pub returns-in-Err-clause-ended : goal.returns-in-Err-clause-ended
+returns-in-Err-clause-ended g t c e =
+    let some = c.if-most-eq0.false in
+    ends_on c.args.self.now.rest c.read.new.self.rest c.in-Some.byte c.args.most c.in-Some.ensures.digits c.if-byte-lt128.false (omega arith) (c.in-Err.ensures.ended e)
+
+pub returns-in-Err-clause-too_long : goal.returns-in-Err-clause-too_long
+returns-in-Err-clause-too_long g t c e =
+    let some = c.if-most-eq0.false in
+    let low = c.in-Some.ensures.below in
+    passes_on c.args.self.now.rest c.read.new.self.rest c.in-Some.byte c.args.most c.in-Some.ensures.digits c.if-byte-lt128.false (omega arith) (omega arith) (c.in-Err.ensures.too_long e)
+
+pub returns-in-Err-clause-padded : goal.returns-in-Err-clause-padded
+returns-in-Err-clause-padded g t c e =
+    let some = c.if-most-eq0.false in
+    padded_on c.args.self.now.rest c.read.new.self.rest c.in-Some.byte c.args.most c.in-Some.ensures.digits c.if-byte-lt128.false (omega arith) (c.in-Err.ensures.padded e)

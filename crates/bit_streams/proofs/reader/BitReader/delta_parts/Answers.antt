@@ -1,4 +1,4 @@
-use Rattle.std.proofs.Common.{◌≡◌, ◌+◌, ◌-◌, ◌*◌, ◌%◌, ◌^◌, ◌++◌, Ok, sym, ◌∙◌, ap, arith}
+use Rattle.std.proofs.Common.{◌≡◌, ◌+◌, ◌-◌, ◌*◌, ◌%◌, ◌^◌, ◌++◌, Ok, inl, inr, refl, sym, ◌∙◌, ap, arith}
 use Rattle.std.proofs.Math.Pow.{pow_pos}
 use Rattle.std.proofs.lemmas.Nat.{mod_below}
 use Rattle.bit_addressing.specs.Row.{binary}
@@ -35,3 +35,14 @@ returns-in-Some-clause-back g c x more some below e =
     let r = c.in-Some.ensures.back (x % 2 ^ top) more (u.1 ∙ ap (λ k. binary k (x % 2 ^ k) ++ more) (sym t)) (mod_below x (2 ^ top) (pow_pos top)) in
     let rest : c.in-Some.rest ≡ x % 2 ^ top = cc in
     (ap Ok (c.joined.ensures.value ∙ ap (λ k. 1 * 2 ^ top + k % 2 ^ top) rest ∙ ap (λ k. 1 * 2 ^ k + x % 2 ^ k % 2 ^ k) t ∙ first_digit x some below), r.1)
+
+pub returns-in-Err-clause-ended : goal.returns-in-Err-clause-ended
+returns-in-Err-clause-ended g c e = inl (c.in-Err.ensures.ended e)
+
+pub returns-in-Err-clause-too_long : goal.returns-in-Err-clause-too_long
+returns-in-Err-clause-too_long g c e = inl (c.in-Err.ensures.too_long e)
+
+pub returns-in-None-clause-ended : goal.returns-in-None-clause-ended
+returns-in-None-clause-ended g c e =
+    let short = c.in-None.ensures.none.0 refl in
+    inr (c.in-Ok.count, c.read_gamma.new.self.rest, c.in-Ok.ensures.found, omega arith, omega arith)

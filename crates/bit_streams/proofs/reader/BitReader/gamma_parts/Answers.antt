@@ -33,4 +33,4 @@ pub returns-in-None-clause-ended : goal.returns-in-None-clause-ended
 returns-in-None-clause-ended g c e = inl (c.in-None.ensures.none refl)
 
 pub returns-in-None-read-clause-ended : goal.returns-in-None-read-clause-ended
-returns-in-None-read-clause-ended g c e = inr (c.in-Some.top, c.read_unary.new.self.rest, c.in-Some.ensures.found, c.in-None-read.ensures.none.0 refl)
+returns-in-None-read-clause-ended g c e = inr (c.in-Some.top, c.read_unary.new.self.rest, c.in-Some.ensures.found, c.in-None-read.ensures.none.0 refl, omega arith)

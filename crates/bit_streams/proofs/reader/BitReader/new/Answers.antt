@@ -1,8 +1,9 @@
-use Rattle.std.proofs.Common.{◌≡◌, ◌+◌, ◌*◌, length, ap, arith}
+use Rattle.std.proofs.Common.{◌≡◌, ◌+◌, ◌-◌, ◌*◌, length, ap, arith}
 use Rattle.bit_addressing.specs.Typed.{row}
 use Rattle.bit_addressing.specs.Row.{words_for}
 use Rattle.bit_addressing.proofs.Rows.{width_positive}
 use Rattle.bit_addressing.proofs.lists.Sized.{room}
+use Rattle.bit_streams.specs.Streams.{padded}
 use Rattle.bit_streams.proofs.Windows.{nothing_held}
 use Rattle.bit_streams.proofs.reader.BitReader.new.Goals as goal
 
@@ -15,9 +16,9 @@ invariant_of-result g c =
     let size : w * length c.as_raw_slice.result.now ≡ w * words_for w end = ap (λ n. w * n) count in
     let few = c.len-len.ensures.few in
     record {
-      held = nothing_held (row g.T.BitStore g.O.BitOrder c.as_raw_slice.result.now) c.head-start.result;
+      held = nothing_held (padded (row g.T.BitStore g.O.BitOrder c.as_raw_slice.result.now)) (end - c.len-len.result);
+      ahead = omega arith;
       begins = omega arith;
-      inside = omega arith;
       within = omega arith;
       few = omega arith;
       in_word = omega arith;

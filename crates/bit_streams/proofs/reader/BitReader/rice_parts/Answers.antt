@@ -3,7 +3,7 @@ use Rattle.std.proofs.Math.Pow.{pow_pos}
 use Rattle.std.proofs.lemmas.Nat.{mod_below}
 use Rattle.bit_addressing.specs.Row.{binary}
 use Rattle.bit_streams.specs.Codes.{rice, unary}
-use Rattle.bit_streams.proofs.Coded.{both_parts, number_joined, parts_opened, quotient_fits, quotient_past, rice_joined, rice_parted}
+use Rattle.bit_streams.proofs.Coded.{both_parts, number_joined, parts_opened, quotient_below, quotient_fits, quotient_past, rice_joined, rice_parted}
 use Rattle.bit_streams.proofs.reader.BitReader.rice_parts.Goals as goal
 
 pub returns-then-quotient-k-clause-too_long : goal.returns-then-quotient-k-clause-too_long
@@ -39,4 +39,4 @@ pub returns-in-None-clause-ended : goal.returns-in-None-clause-ended
 returns-in-None-clause-ended g c e = inl (c.in-None.ensures.none refl)
 
 pub returns-in-None-read-clause-ended : goal.returns-in-None-read-clause-ended
-returns-in-None-read-clause-ended g c e = inr (c.in-Some.quotient, c.read_unary.new.self.rest, c.in-Some.ensures.found, c.in-None-read.ensures.none.0 refl)
+returns-in-None-read-clause-ended g c e = inr (c.in-Some.quotient, c.read_unary.new.self.rest, c.in-Some.ensures.found, c.in-None-read.ensures.none.0 refl, quotient_below c.args.k c.in-Some.quotient (omega arith))

@@ -1,0 +1,104 @@
+-- A reader over a row with zeros after it, whose register is filled by 64 bits everywhere.
+use Rattle.std.proofs.Common.{◌≡◌, ℕ, ◌+◌, ◌-◌, ◌*◌, ◌/◌, ◌%◌, ◌^◌, ◌<◌, ◌≤◌, Bool, false, List, ◌++◌, ◌⊎◌, inl, inr, length, replicate, slice_range, sym, ◌∙◌, ap, subst, arith, rules}
+use Rattle.std.proofs.lemmas.List.{length-append, same_lists, places}
+use Rattle.std.proofs.lemmas.Nat.{shl_whole}
+use Rattle.std.proofs.Math.Nat.{mod-eq_of_lt}
+use Rattle.std.proofs.Math.Pow.{pow_pos}
+use Rattle.bit_addressing.specs.Row.{binary}
+use Rattle.bit_addressing.proofs.lists.Shown.{length-run}
+use Rattle.bit_streams.specs.Streams.{IsHeld, IsReading, padded}
+use Rattle.bit_streams.proofs.Lists.{joined_digits}
+use Rattle.bit_addressing.proofs.Runs.{slices_joined}
+use Rattle.bit_streams.proofs.Windows.{nothing_held, rest_parted, slice_empty, taken_next}
+use Rattle.bit_streams.proofs.Zeros.{zeros_of}
+
+pub length-padded : (row : List Bool) → length (padded row) ≡ length row + 64
+unfolding padded
+length-padded row = length-append row (replicate 64 false)
+
+before_zeros : (row zeros : List Bool) (a b : ℕ) → b ≤ length row → slice_range (row ++ zeros) a b ≡ slice_range row a b
+before_zeros row zeros a b room = same_lists _ _ (search (rules, places)) (λ i d below. grind (arith, places))
+
+after_row : (row : List Bool) (m k a b : ℕ) → a ≡ length row → b ≡ a + k → k ≤ m → slice_range (row ++ replicate m false) a b ≡ replicate k false
+after_row row m k a b from to few = same_lists _ _ (search (rules, places)) (λ i d below. grind (arith, places))
+
+-- a part of the row itself
+pub padded_part : (row : List Bool) (a b : ℕ) → b ≤ length row → slice_range (padded row) a b ≡ slice_range row a b
+unfolding padded
+padded_part row a b room = before_zeros row (replicate 64 false) a b room
+
+zeros_after : (row : List Bool) (k a b : ℕ) → a ≡ length row → b ≡ a + k → k ≤ 64 → slice_range (padded row) a b ≡ replicate k false
+unfolding padded
+zeros_after row k a b from to few = after_row row 64 k a b from to few
+
+-- 64 bits of which n are the row's: all, or up to its end
+pub padded_begin : (row : List Bool) (at n : ℕ) → at + n ≤ length row → n ≤ 64 → (n ≡ 64) ⊎ (at + n ≡ length row) → slice_range (padded row) at (at + 64) ≡ slice_range row at (at + n) ++ replicate (64 - n) false
+padded_begin row at n room few end =
+    let long = length-padded row in
+    let zeros : slice_range (padded row) (at + n) (at + 64) ≡ replicate (64 - n) false = elim end [
+      | inl e ↦ slice_empty (padded row) (at + n) (at + 64) (omega arith) ∙ (let none : 0 ≡ 64 - n = omega arith in ap (λ k. replicate k false) none)
+      | inr e ↦ zeros_after row (64 - n) (at + n) (at + 64) e (omega arith) (omega arith)
+    ] in
+    sym (slices_joined (padded row) at (at + n) (at + 64) (omega arith) (omega arith) (omega arith))
+    ∙ ap (λ l. l ++ slice_range (padded row) (at + n) (at + 64)) (padded_part row at (at + n) room) ∙ ap (λ l. slice_range row at (at + n) ++ l) zeros
+
+-- the last digits are zeros
+pub digits_padded : (n x : ℕ) → n ≤ 64 → x < 2 ^ n → binary 64 (x * 2 ^ (64 - n) % 2 ^ 64) ≡ binary n x ++ replicate (64 - n) false
+digits_padded n x few below =
+    let none : 0 % 2 ^ (64 - n) ≡ 0 = mod-eq_of_lt (pow_pos (64 - n)) in
+    let all : n + (64 - n) ≡ 64 = omega arith in
+    let sum : x * 2 ^ (64 - n) ≡ x * 2 ^ (64 - n) + 0 % 2 ^ (64 - n) = omega (arith, none) in
+    ap (binary 64) (shl_whole x n (64 - n) 64 below (omega arith) ∙ sum) ∙ ap (λ k. binary k (x * 2 ^ (64 - n) + 0 % 2 ^ (64 - n))) (sym all)
+    ∙ joined_digits n (64 - n) x 0 ∙ ap (λ l. binary n x ++ l) (zeros_of (64 - n) (omega arith))
+
+-- 64 bits that begin inside a word, out of the blocks of two words
+pub across : (row : List Bool) (at skip first second : ℕ) → 0 < skip → skip < 64 → skip ≤ at → at - skip + 64 + 64 ≤ length row → first < 2 ^ 64 → second < 2 ^ 64
+    → binary 64 first ≡ slice_range row (at - skip) (at - skip + 64) → binary 64 second ≡ slice_range row (at - skip + 64) (at - skip + 64 + 64)
+    → (binary 64 (first * 2 ^ (skip - 1) % 2 ^ 64 * 2 ^ 1 % 2 ^ 64 + second / 2 ^ (64 - skip)) ≡ slice_range row at (at + 64))
+    × (first * 2 ^ (skip - 1) % 2 ^ 64 * 2 ^ 1 % 2 ^ 64 + second / 2 ^ (64 - skip) < 2 ^ 64)
+across row at skip first second some few before room a b is next =
+    let from : at - skip + skip ≡ at = omega arith in
+    let end : at - skip + 64 ≡ at + (64 - skip) = omega arith in
+    let same : at - skip ≡ at - skip + 0 = omega arith in
+    let held = (taken_next row (at - skip) 0 0 skip first (nothing_held row (at - skip)) some (omega arith) (omega arith) a (subst (λ f. binary 64 first ≡ slice_range row f (f + 64)) same is)).2 in
+    let all : skip - 0 ≡ skip = omega arith in
+    let later : IsHeld row (at - skip + skip) (64 - skip) (first * 2 ^ (skip - 1) % 2 ^ 64 * 2 ^ 1 % 2 ^ 64) = subst (λ k. IsHeld row (at - skip + skip) (64 - k) (first * 2 ^ (k - 1) % 2 ^ 64 * 2 ^ 1 % 2 ^ 64)) all held in
+    let rest : IsHeld row at (64 - skip) (first * 2 ^ (skip - 1) % 2 ^ 64 * 2 ^ 1 % 2 ^ 64) = subst (λ f. IsHeld row f (64 - skip) (first * 2 ^ (skip - 1) % 2 ^ 64 * 2 ^ 1 % 2 ^ 64)) from later in
+    let t = taken_next row at (64 - skip) (first * 2 ^ (skip - 1) % 2 ^ 64 * 2 ^ 1 % 2 ^ 64) 64 second rest (omega arith) (omega arith) (omega arith) b (subst (λ f. binary 64 second ≡ slice_range row f (f + 64)) end next) in
+    let none : (first * 2 ^ (skip - 1) % 2 ^ 64 * 2 ^ 1 % 2 ^ 64) / 2 ^ (64 - 64) ≡ first * 2 ^ (skip - 1) % 2 ^ 64 * 2 ^ 1 % 2 ^ 64 = omega arith in
+    let by : 64 - (64 - (64 - skip)) ≡ 64 - skip = omega arith in
+    let sum : (first * 2 ^ (skip - 1) % 2 ^ 64 * 2 ^ 1 % 2 ^ 64) / 2 ^ (64 - 64) + second / 2 ^ (64 - (64 - (64 - skip))) ≡ first * 2 ^ (skip - 1) % 2 ^ 64 * 2 ^ 1 % 2 ^ 64 + second / 2 ^ (64 - skip) =
+    ap (λ k. k + second / 2 ^ (64 - (64 - (64 - skip)))) none ∙ ap (λ k. first * 2 ^ (skip - 1) % 2 ^ 64 * 2 ^ 1 % 2 ^ 64 + second / 2 ^ k) by in
+    (subst (λ x. binary 64 x ≡ slice_range row at (at + 64)) sum t.0, subst (λ x. x < 2 ^ 64) sum t.1)
+
+module _ (row : List Bool) (w n start left end have window : ℕ) (r : IsReading row w n start left end have window) (size : length row ≡ w * n) where
+  pub length_rest : length (slice_range row (end - left) end) ≡ left
+  length_rest =
+      let begins = r.begins in
+      let within = r.within in
+      let to : end - left + left ≡ end = omega arith in
+      ap (λ e. length (slice_range row (end - left) e)) (sym to) ∙ length-run row (end - left) left (omega arith)
+
+  -- k bits further
+  pub reading_on : (k after held_after : ℕ) → k ≤ left → end - left + k + after ≤ w * n + 64 → IsHeld (padded row) (end - left + k) after held_after → IsReading row w n start (left - k) end after held_after
+  reading_on k after held_after few ahead held =
+      let begins = r.begins in
+      let to : end - left + k ≡ end - (left - k) = omega arith in
+      record {
+        held = subst (λ f. IsHeld (padded row) f after held_after) to held;
+        ahead = omega arith;
+        begins = omega arith;
+        within = r.within;
+        few = r.few;
+        in_word = r.in_word;
+        exact = r.exact;
+      }
+
+  -- what is left begins with the k bits that are taken
+  pub taken_off : (ds : List Bool) (k : ℕ) → k ≤ left → ds ≡ slice_range (padded row) (end - left) (end - left + k) → slice_range row (end - left) end ≡ ds ++ slice_range row (end - (left - k)) end
+  taken_off ds k few is =
+      let begins = r.begins in
+      let within = r.within in
+      let to : end - left + k ≡ end - (left - k) = omega arith in
+      subst (λ f. slice_range row (end - left) end ≡ ds ++ slice_range row f end) to
+      (rest_parted row ds (end - left) k end (is ∙ padded_part row (end - left) (end - left + k) (omega arith)) (omega arith) (omega arith))

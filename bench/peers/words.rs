@@ -516,6 +516,9 @@ fn streams(n: usize, r: usize) {
     timed("pack_records", r, || (), |_| pack(&all), |_, words| ones(&words));
     let words = pack(&all);
     timed("unpack_records", r, || records::empty_records(n), |made| unpack(&words, made), |made, found| records::sum_of_records(made) + found);
+    // By hand it is the same work, at indices or one after another.
+    timed("store_records_at", r, || (), |_| pack(&all), |_, words| ones(&words));
+    timed("load_records_at", r, || records::empty_records(n), |made| unpack(&words, made), |made, found| records::sum_of_records(made) + found);
     let (codes, table, all) = (records::codes(), records::found_by_look(), records::symbols(n));
     timed("codes_append", r, || (), |_| encode(&codes, &all), |_, words| ones(&words));
     let words = encode(&codes, &all);

@@ -16,7 +16,6 @@ use Rattle.bit_addressing.specs.declared.length.TheConstants.{MAX_BITS}
 use Rattle.bit_addressing.specs.declared.errors.GrowError.{GrowError}
 use Rattle.bit_addressing.specs.declared.errors.GrowError.TheVariants.{TooLong, OutOfMemory}
 use Rattle.bit_streams.specs.Streams.{Passed, Reading, Writing, Refuses}
-use Rattle.bit_addressing.specs.Bits.{IsWidth}
 use Rattle.bit_addressing.proofs.Runs.{mul_mono, slices_joined}
 use Rattle.bit_addressing.specs.Binary.{value}
 use Rattle.bit_addressing.specs.Row.{binary}

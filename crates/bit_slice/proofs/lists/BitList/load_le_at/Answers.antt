@@ -1,4 +1,4 @@
-use Rattle.std.proofs.Common.{◌+◌, length, slice_range, sym, ◌∙◌, ap, subst, arith}
+use Rattle.std.proofs.Common.{◌+◌, slice_range, ◌∙◌, ap, arith}
 use Rattle.bit_addressing.specs.Row.{number_bits, number_of}
 use Rattle.bit_addressing.proofs.lists.Shown.{length-run}
 use Rattle.bit_slice.proofs.Parts.{shown_at}

@@ -1,4 +1,4 @@
-use Rattle.std.proofs.Common.{◌+◌, slice_get, ap, sym, ◌∙◌, arith, rules}
+use Rattle.std.proofs.Common.{◌+◌, slice_get, ap, ◌∙◌, arith, rules}
 use Rattle.bit_slice.specs.BitSlice.{list_of}
 use Rattle.bit_slice.proofs.Parts.{view_length}
 use Rattle.bit_slice.proofs.Ranges.{read_copied}

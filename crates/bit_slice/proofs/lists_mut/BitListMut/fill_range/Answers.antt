@@ -1,4 +1,4 @@
-use Rattle.std.proofs.Common.{◌+◌, ◌-◌, slice_get, ap, ◌∙◌, arith, rules}
+use Rattle.std.proofs.Common.{slice_get, ap, ◌∙◌, arith, rules}
 use Rattle.bit_slice.proofs.Ranges.{read_filled}
 use Rattle.bit_slice.proofs.lists_mut.BitListMut.fill_range.Goals as goal
 

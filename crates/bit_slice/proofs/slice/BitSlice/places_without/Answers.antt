@@ -1,4 +1,4 @@
-use Rattle.std.proofs.Common.{◌<◌, ◌+◌, w64, sym, ◌∙◌, arith}
+use Rattle.std.proofs.Common.{◌<◌, w64, sym, ◌∙◌, arith}
 use Rattle.std.specs.Int.{trailing_zeros}
 use Rattle.std.proofs.lemmas.Bool.{true≢false}
 use Rattle.bit_rows.proofs.Lowest.{has_below_lowest}

@@ -1,8 +1,7 @@
-use Rattle.std.proofs.Common.{◌≡◌, ℕ, ◌+◌, ◌/◌, ◌%◌, ◌^◌, ◌<◌, ◌&&◌, true, not, w64, eqb, bit_and, sym, ◌∙◌, ap, arith}
+use Rattle.std.proofs.Common.{◌≡◌, ℕ, ◌/◌, ◌%◌, ◌^◌, ◌<◌, ◌&&◌, not, w64, eqb, ◌∙◌, ap, arith}
 use Rattle.std.proofs.Math.Nat.{div-le_self}
 use Rattle.bit_addressing.specs.Bits.{has_bit}
 use Rattle.bit_addressing.proofs.Words.{has_and, has_none, has_not, has_shr_low}
-use Rattle.bit_slice.specs.Places.{HasAt}
 use Rattle.bit_slice.proofs.slice.find.places.Goals as goal
 use Rattle.bit_slice.proofs.slice.find.places.Goals.{then-pattern-i-eq1, else-pattern-i-eq1}
 

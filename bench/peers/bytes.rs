@@ -205,6 +205,9 @@ fn streams(n: usize, r: usize) {
     timed_stream("pack_records", r, || (), |_| pack(&all), |_, bytes| ones(&bytes));
     let bytes = pack(&all);
     timed_stream("unpack_records", r, || records::empty_records(n), |made| unpack(&bytes, made), |made, found| records::sum_of_records(made) + found);
+    // By hand it is the same work, at indices or one after another.
+    timed_stream("store_records_at", r, || (), |_| pack(&all), |_, bytes| ones(&bytes));
+    timed_stream("load_records_at", r, || records::empty_records(n), |made| unpack(&bytes, made), |made, found| records::sum_of_records(made) + found);
     let (codes, table, all) = (records::codes(), records::found_by_look(), records::symbols(n));
     timed_stream("codes_append", r, || (), |_| encode(&codes, &all), |_, bytes| ones(&bytes));
     let bytes = encode(&codes, &all);

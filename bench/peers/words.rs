@@ -17,6 +17,26 @@ fn bit_at(i: usize) -> bool {
 }
 
 impl Bits {
+    /// Where the `n` digits of a number begin, the highest first: all 64 places of a word are tried at once.
+    fn find(&self, number: u64, n: usize) -> usize {
+        for k in 0..self.words.len() {
+            let (low, high) = (self.words[k], *self.words.get(k + 1).unwrap_or(&0));
+            let mut left = !0u64;
+            for i in 0..n {
+                let here = if i == 0 { low } else { low >> i | high << (64 - i) };
+                left &= if number >> (n - 1 - i) & 1 == 1 { here } else { !here };
+                if left == 0 {
+                    break;
+                }
+            }
+            let at = k * 64 + left.trailing_zeros() as usize;
+            if left != 0 && at + n <= self.len {
+                return at;
+            }
+        }
+        self.len
+    }
+
     fn made(n: usize, seed: usize) -> Bits {
         let mut made = Bits::default();
         for i in 0..n {
@@ -322,6 +342,7 @@ fn views(n: usize, r: usize) {
     }
     timed("is_subset", r, none, |_| row.words.iter().zip(&same.words).all(|(a, b)| a & !b == 0), |_, t| t as usize);
     timed("count_xor", r, none, |_| row.words.iter().zip(&same.words).map(|(a, b)| (a ^ b).count_ones() as usize).sum::<usize>(), |_, t| t);
+    timed("find_24", r, none, |_| row.find(0xb7_0f33, 24), |_, at| at);
     let copy_down = |v: &mut Bits| {
         let last = n - 3;
         let kept: Vec<bool> = (last..n).map(|i| v.get(i) == Some(true)).collect();
@@ -495,6 +516,9 @@ fn streams(n: usize, r: usize) {
     timed("pack_records", r, || (), |_| pack(&all), |_, words| ones(&words));
     let words = pack(&all);
     timed("unpack_records", r, || records::empty_records(n), |made| unpack(&words, made), |made, found| records::sum_of_records(made) + found);
+    // By hand it is the same work, at indices or one after another.
+    timed("store_records_at", r, || (), |_| pack(&all), |_, words| ones(&words));
+    timed("load_records_at", r, || records::empty_records(n), |made| unpack(&words, made), |made, found| records::sum_of_records(made) + found);
     let (codes, table, all) = (records::codes(), records::found_by_look(), records::symbols(n));
     timed("codes_append", r, || (), |_| encode(&codes, &all), |_, words| ones(&words));
     let words = encode(&codes, &all);

@@ -9,9 +9,10 @@ use Rattle.std.proofs.lemmas.List.FromFn.{length-map-range_with_len, get_or-map-
 use Rattle.bit_addressing.specs.Bits.{has_bit}
 use Rattle.bit_addressing.specs.Binary.{value, value_after}
 use Rattle.bit_addressing.specs.Row.{binary, number_bits, number_of, put}
-use Rattle.bit_addressing.proofs.Chunks.{has_number}
+use Rattle.bit_addressing.proofs.Chunks.{IsRead, has_number}
 use Rattle.bit_addressing.proofs.Words.{has_low, has_shr_low}
 use Rattle.bit_addressing.proofs.lists.Put.{put_none}
+use Rattle.bit_addressing.proofs.lists.Shown.{get_or-run, length-run}
 
 pub length-number_bits : (x n : ℕ) → length (number_bits x n) ≡ n
 unfolding number_bits
@@ -48,6 +49,13 @@ bits_low n x = ext_get_or false (number_bits (x % 2 ^ n) n) (number_bits x n) (l
     let below : i < n = omega arith in
     get_or-number_bits (x % 2 ^ n) n i below ∙ has_low x n i below ∙ sym (get_or-number_bits x n i below))
 
+-- the n highest of 64 bits are a number of n digits
+pub few_digits : (n x : ℕ) → n ≤ 64 → x < 2 ^ 64 → x / 2 ^ (64 - n) < 2 ^ n
+few_digits n x few fits =
+    let all : 64 ≡ n + (64 - n) = omega arith in
+    let parts : 2 ^ 64 ≡ 2 ^ n * 2 ^ (64 - n) = ap (λ k. 2 ^ k) all ∙ pow-add 2 n (64 - n) in
+    (div-lt_iff_lt-mul (pow_pos (64 - n))).1 (subst (λ k. x < k) parts fits)
+
 -- a number turned round within 64 places, of which the lowest are left out
 module _ (n x turned : ℕ) (some : 0 < n) (few : n ≤ 64) (round : (p : ℕ) → p < 64 → has_bit turned p ≡ has_bit x (64 - 1 - p)) where
   digit : (j i : ℕ) → i < n → j ≡ n - 1 - i → has_bit (turned / 2 ^ (64 - n)) j ≡ has_bit x i
@@ -63,12 +71,18 @@ module _ (n x turned : ℕ) (some : 0 < n) (few : n ≤ 64) (round : (p : ℕ) �
       let below : i < n = omega arith in
       get_or-binary n (turned / 2 ^ (64 - n)) i below ∙ digit (n - 1 - i) i below refl ∙ ap (λ m. has_bit m i) is ∙ has_number ms i)
 
+  -- the same of a chunk that was read out of a list, and may have more bits than digits
+  pub digits_read : (ms : List Bool) (at got : ℕ) → IsRead ms at got x → n ≤ got → at + n ≤ length ms → binary n (turned / 2 ^ (64 - n)) ≡ slice_range ms at (at + n)
+  digits_read ms at got read enough fits =
+      let left = length-binary n (turned / 2 ^ (64 - n)) in
+      let right : length (slice_range ms at (at + n)) ≡ n = length-run ms at n fits in
+      ext_get_or false (binary n (turned / 2 ^ (64 - n))) (slice_range ms at (at + n)) (left ∙ sym right) (λ i h.
+      let below : i < n = omega arith in
+      get_or-binary n (turned / 2 ^ (64 - n)) i below ∙ digit (n - 1 - i) i below refl ∙ read.shown i (omega arith) (omega arith) ∙ sym (get_or-run ms at n i below))
+
   -- which has no more digits
   pub digits_below : turned < 2 ^ 64 → turned / 2 ^ (64 - n) < 2 ^ n
-  digits_below fits =
-      let all : 64 ≡ n + (64 - n) = omega arith in
-      let parts : 2 ^ 64 ≡ 2 ^ n * 2 ^ (64 - n) = ap (λ k. 2 ^ k) all ∙ pow-add 2 n (64 - n) in
-      (div-lt_iff_lt-mul (pow_pos (64 - n))).1 (subst (λ k. turned < k) parts fits)
+  digits_below fits = few_digits n turned few fits
 
   -- the chunk of a number's digits
   pub chunk_of : number_bits (turned / 2 ^ (64 - n)) n ≡ binary n x

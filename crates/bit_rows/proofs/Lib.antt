@@ -2,6 +2,7 @@ pub mod Lowest
 pub mod Onto
 pub mod Canon
 pub mod Binary
+pub mod Numbers
 pub mod Differs
 pub mod Finds
 pub mod Wholes

@@ -1,8 +1,9 @@
 //! Runs of up to 64 bits as numbers, whatever the words and the order that they lie in.
 //!
 //! Calls between words of two types or orders go through these numbers, 64 bits at a time.
-ghost use Rattle.std.specs.Prelude.{◌≡◌, ℕ, true, ◌+◌, ◌*◌, ◌/◌, ◌%◌, ◌^◌, ◌<◌, ◌≤◌, [], ◌∷◌, length};
+ghost use Rattle.std.specs.Prelude.{◌≡◌, ℕ, true, ◌+◌, ◌-◌, ◌*◌, ◌/◌, ◌%◌, ◌^◌, ◌<◌, ◌≤◌, [], ◌∷◌, length};
 ghost use Rattle.bit_addressing.specs.Binary.{value};
+ghost use Rattle.bit_addressing.specs.Bits.{has_bit};
 ghost use Rattle.bit_addressing.specs.Row.{binary, number_bits, number_of, put, row_of};
 ghost use Rattle.bit_addressing.specs.Table.{IsPairTable};
 ghost use Rattle.bit_addressing.specs.Typed.{row};
@@ -10,7 +11,7 @@ ghost use Rattle.bit_rows.specs.Runs.{run_at, AreAlike, AreEqualRuns};
 
 use crate::copies::copy_bits;
 use crate::single::write_part;
-use bit_addressing::inner::{PairTable, Span, in_row};
+use bit_addressing::inner::{PairTable, Span, in_row, in_word};
 use bit_addressing::{BitIdx, BitOrder, BitStore, Lsb0};
 
 // The bits of a word as a number: the bit at index `i` is at place `i`.
@@ -34,7 +35,11 @@ fn read_over<T: BitStore, O: BitOrder>(words: &[T], at: usize, n: u8) -> u64
     let mut k = at / width;
     let skip = (at % width) as u8;
     let each = 64 / width;
-    if k + 2 * each <= words.len() {
+    if O::goes_by_shifts() && skip + n <= 64 && k + each <= words.len() {
+        let block = word_number::<u64, O>(O::pack(words, k)) >> skip;
+        return block & (u64::MAX >> (64 - n));
+    }
+    if O::goes_by_shifts() && k + 2 * each <= words.len() {
         let block = word_number::<u64, O>(block_at::<O, T, O>(words, k, skip));
         return block & (u64::MAX >> (64 - n));
     }
@@ -137,7 +142,38 @@ pub fn write_chunk<T: BitStore, O: BitOrder>(words: &mut [T], at: usize, n: u8, 
     write_part::<T, O>(words, at / width, low, high, new);
 }
 
-// Like `write_chunk`, of bits that lie in several words: two of them are written by themselves.
+// Writes at the places from `at` on `n` bits of a block of 64 bits, those from the index on that `at` has in its word, and
+// no other bit. Each word that the run touches is stored by itself, since to load a block right after narrower stores takes
+// longer. Requires that the run lies in the words, and the bits in the block.
+#[inline(always)]
+fn write_from_block<T: BitStore, O: BitOrder>(words: &mut [T], at: usize, n: u8, block: u64)
+    requires some { 0 < n }
+    requires block { at % T.BITS + n ≤ 64 }
+    requires within { at + n ≤ T.BITS * length words.old }
+    requires fits { at + n < 2 ^ 64 }
+    ensures bits { row T.BitStore O.BitOrder words.new
+        ≡ put (row T.BitStore O.BitOrder words.old) at (run_at (row_of O.place 64 (block ∷ [])) (at % T.BITS) n) }
+    ensures size { length words.new ≡ length words.old }
+{
+    let width = T::BITS as usize;
+    let (first, low) = in_word::<T>(at);
+    let (begin, upto) = (low as usize, low as usize + n as usize);
+    let front = word_of_block::<T, O>(block, 0);
+    if upto <= width {
+        write_part::<T, O>(words, first, begin, upto, front);
+        return;
+    }
+    write_part::<T, O>(words, first, begin, width, front);
+    let Span { last, end, .. } = Span::of::<T>(begin, upto);
+    for i in 1..last as u8 {
+        words[first + i as usize] = word_of_block::<T, O>(block, i);
+    }
+    let back = word_of_block::<T, O>(block, last as u8);
+    write_part::<T, O>(words, first + last, 0, end, back);
+}
+
+// Like `write_chunk`, of bits that lie in several words: by a block of 64 bits where that holds them, and two words
+// by themselves.
 fn write_over<T: BitStore, O: BitOrder>(words: &mut [T], at: usize, n: u8, chunk: u64)
     requires some { 0 < n }
     requires few { n ≤ 64 }
@@ -153,6 +189,11 @@ fn write_over<T: BitStore, O: BitOrder>(words: &mut [T], at: usize, n: u8, chunk
         last,
         end,
     } = Span::of::<T>(at, at + n as usize);
+    if O::goes_by_shifts() && low + n as usize <= 64 {
+        let block = O::from_lsb0::<u64>(chunk << low);
+        write_from_block::<T, O>(words, at, n, block);
+        return;
+    }
     if last != first + 1 {
         copy_bits::<T, O, u64, Lsb0>(words, at, &[chunk], 0, n as usize);
         return;
@@ -162,6 +203,71 @@ fn write_over<T: BitStore, O: BitOrder>(words: &mut [T], at: usize, n: u8, chunk
     write_part::<T, O>(words, first, low, T::BITS as usize, front);
     let back = word_of_run::<T, O, u64, Lsb0>(&[chunk], split as usize, end as u8, 0);
     write_part::<T, O>(words, last, 0, end, back);
+}
+
+// Whether 64 bits from word `k` on lie in this many words. Requires that word `k` is there, if words have 64 bits: such
+// words need no test.
+#[inline(always)]
+fn holds_block<T: BitStore>(words: usize, k: usize) -> bool
+    requires word { T.BITS ≡ 64 → k < words }
+    requires fits { k + 64 < 2 ^ 64 }
+    ensures { result ≡ true → k * T.BITS + 64 ≤ T.BITS * words }
+{
+    T::BITS == 64 || k + (64 / T::BITS) as usize <= words
+}
+
+// Whether an order goes by shifts, and its index 0 is the highest place. It is a hint for speed alone: the number of such a
+// word, turned round, is the word itself, and the compiler leaves out both turns where no shift stands between them.
+#[inline(always)]
+fn highest_first<O: BitOrder>() -> bool {
+    O::goes_by_shifts() && O::at(BitIdx::<u64>::new_unchecked(0)).into_inner() == 63
+}
+
+// A number of 64 bits that has `n` digits of another from place `low` on, the most significant first. Requires that
+// they lie in it.
+#[inline(always)]
+fn digits_from<O: BitOrder>(number: u64, n: u8, low: u8) -> u64
+    requires some { 0 < n }
+    requires within { low + n ≤ 64 }
+    ensures { (i : ℕ) → i < n → has_bit result (low + i) ≡ has_bit number (n - 1 - i) }
+{
+    if highest_first::<O>() {
+        return (number << (64 - n) >> low).reverse();
+    }
+    number.reverse() >> (64 - n) << low
+}
+
+// Like `write_binary`, of digits that lie in the 64 bits from the word of `at` on. Requires that there is a digit.
+#[inline(always)]
+fn write_digits<T: BitStore, O: BitOrder>(words: &mut [T], at: usize, n: u8, number: u64)
+    requires some { 0 < n }
+    requires block { at % T.BITS + n ≤ 64 }
+    requires within { at + n ≤ T.BITS * length words.old }
+    requires fits { at + n < 2 ^ 64 }
+    ensures bits { row T.BitStore O.BitOrder words.new
+        ≡ put (row T.BitStore O.BitOrder words.old) at (binary n number) }
+    ensures size { length words.new ≡ length words.old }
+{
+    let low = (at % T::BITS as usize) as u8;
+    let digits = digits_from::<O>(number, n, low);
+    write_from_block::<T, O>(words, at, n, O::from_lsb0::<u64>(digits));
+}
+
+// Like `write_digits`, of digits that go on after those 64 bits. It is no part of its callers, so that these are short.
+#[inline(never)]
+fn write_digits_over<T: BitStore, O: BitOrder>(words: &mut [T], at: usize, n: u8, number: u64)
+    requires few { n ≤ 64 }
+    requires over { 64 < at % T.BITS + n }
+    requires within { at + n ≤ T.BITS * length words.old }
+    requires fits { at + n < 2 ^ 64 }
+    ensures bits { row T.BitStore O.BitOrder words.new
+        ≡ put (row T.BitStore O.BitOrder words.old) at (binary n number) }
+    ensures size { length words.new ≡ length words.old }
+{
+    let front = 64 - (at % T::BITS as usize) as u8;
+    let rest = n - front;
+    write_digits::<T, O>(words, at, front, number >> rest);
+    write_digits::<T, O>(words, at + front as usize, rest, number);
 }
 
 /// The number that the `n` bits of the row from `at` on write in binary, the most significant digit
@@ -175,6 +281,16 @@ pub fn read_binary<T: BitStore, O: BitOrder>(words: &[T], at: usize, n: u8) -> u
 {
     if n == 0 {
         return 0;
+    }
+    let width = T::BITS as usize;
+    let (k, skip) = (at / width, (at % width) as u8);
+    if highest_first::<O>() && skip + n <= 64 && holds_block::<T>(words.len(), k) {
+        let block = word_number::<u64, O>(O::pack(words, k)).reverse();
+        return block << skip >> (64 - n);
+    }
+    if highest_first::<O>() && k + 2 * (64 / width) <= words.len() {
+        let block = word_number::<u64, O>(block_at::<O, T, O>(words, k, skip)).reverse();
+        return block >> (64 - n);
     }
     read_chunk::<T, O>(words, at, n).reverse() >> (64 - n)
 }
@@ -191,6 +307,15 @@ pub fn write_binary<T: BitStore, O: BitOrder>(words: &mut [T], at: usize, n: u8,
     ensures size { length words.new ≡ length words.old }
 {
     if n == 0 {
+        return;
+    }
+    let low = (at % T::BITS as usize) as u8;
+    if O::goes_by_shifts() {
+        if low + n <= 64 {
+            write_digits::<T, O>(words, at, n, number);
+            return;
+        }
+        write_digits_over::<T, O>(words, at, n, number);
         return;
     }
     write_chunk::<T, O>(words, at, n, number.reverse() >> (64 - n));

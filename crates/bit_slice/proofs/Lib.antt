@@ -27,5 +27,6 @@ pub mod Rules
 pub mod Parting
 pub mod Overwritten
 pub mod Signed
+pub mod Patterns
 pub mod RangeInRow
 pub mod Kept

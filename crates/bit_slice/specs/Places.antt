@@ -22,6 +22,10 @@ pub record IsLast (bit : Bool) (xs : List Bool) (lo hi i : ℕ) : Type 0 where
   pub here : slice_index_or xs i false ≡ bit
   pub after : IsAbsent bit xs (i + 1) hi
 
+-- from place p on, a number has the m lowest bits of a pattern
+abbrev pub HasAt : ℕ → ℕ → ℕ → ℕ → Type 0
+HasAt number pattern m p = (q : ℕ) → q < m → has_bit number (p + q) ≡ has_bit pattern q
+
 -- a number is that of the items from lo up to hi, which are at most 64
 pub record IsChunk (xs : List Bool) (lo hi chunk : ℕ) : Type 0 where
   pub ordered : lo ≤ hi

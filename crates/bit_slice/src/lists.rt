@@ -604,7 +604,7 @@ pub trait BitList {
     }
 
     /// The first index at which the bits of `other`, of any word type and order, begin in the list. None
-    /// exactly where they begin nowhere. Each index is tried in turn.
+    /// exactly where they begin nowhere. The first 33 bits of `other` are tried at 32 indices at once.
     ///
     /// ```text
     /// of 01101001 and 001: bits.find(other) == Some(5)
@@ -618,19 +618,7 @@ pub trait BitList {
         ensures none { IfNone result ((j : ℕ) → j + len_of other.entry ≤ len self.now
             → part (len_of other.entry) (list self.now) j ≢ list_of other.entry) }
     {
-        let view = self.as_bitslice();
-        let n = other.len;
-        if n > view.len {
-            return None;
-        }
-        let mut at = 0;
-        while at <= view.len - n {
-            if equal_views(view.get_range(at..at + n), other) {
-                return Some(at);
-            }
-            at += 1;
-        }
-        None
+        self.as_bitslice().find_part(other)
     }
 
     /// Whether the bits of `other` begin somewhere in the list.

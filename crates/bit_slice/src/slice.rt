@@ -10,6 +10,7 @@ ghost use Rattle.bit_addressing.specs.declared.length.TheConstants.{MAX_BITS};
 ghost use Rattle.bit_slice.specs.Fits.{IsView};
 
 pub(crate) mod chunks;
+mod find;
 pub(crate) mod indices;
 mod parts;
 mod search;

@@ -78,14 +78,6 @@ joined_below a b p x h =
     let all : 2 ^ (a + b) ≡ 2 ^ a * 2 ^ b = pow-add 2 a b in
     omega arith
 
-pub whole_blocks : (w : ℕ) → IsWidth w → 64 / w * w ≡ 64
-whole_blocks w width = elim width [
-  | inl e ↦ rw e refl
-  | inr (inl e) ↦ rw e refl
-  | inr (inr (inl e)) ↦ rw e refl
-  | inr (inr (inr e)) ↦ rw e refl
-]
-
 -- what a register computes, where nothing passes 64 digits
 pub joined_fits : (a b p x : ℕ) → b < 64 → a + b ≤ 64 → p < 2 ^ a → (p * 2 ^ b % 2 ^ 64 + x % (1 * 2 ^ b % 2 ^ 64) ≡ p * 2 ^ b + x % 2 ^ b) × (p * 2 ^ b + x % 2 ^ b < 2 ^ 64)
 joined_fits a b p x few all small =

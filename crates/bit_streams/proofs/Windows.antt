@@ -11,8 +11,9 @@ use Rattle.bit_addressing.proofs.lists.Sized.{words_even, sized_cut}
 use Rattle.bit_addressing.proofs.Rows.{width_positive}
 use Rattle.bit_addressing.specs.Bits.{IsWidth}
 use Rattle.bit_rows.proofs.Binary.{length-binary, binary_parted}
+use Rattle.bit_addressing.proofs.Packs.{pack_fills}
 use Rattle.bit_streams.specs.Streams.{IsHeld}
-use Rattle.bit_streams.proofs.Lists.{whole_blocks, slice_whole, take_front, joined_digits, joined_below}
+use Rattle.bit_streams.proofs.Lists.{slice_whole, take_front, joined_digits, joined_below}
 
 -- two parts of a run
 pub parted_run : (row xs ys : List Bool) (a b c : ℕ) → slice_range row a c ≡ xs ++ ys → a ≤ b → b ≤ c → c ≤ length row → length xs ≡ b - a → (slice_range row a b ≡ xs) × (slice_range row b c ≡ ys)
@@ -177,7 +178,7 @@ dropped row from n end h room =
 pub blocks_fill : (w at : ℕ) → IsWidth w → at % 64 ≡ 0 → w * words_for w at ≡ at
 blocks_fill w at width even =
     let positive = width_positive w width in
-    let whole = whole_blocks w width in
+    let whole = pack_fills w width in
     let blocks : at ≡ at / 64 * (64 / w) * w + 0 =
     (let d = div-add-mod' at 64 in let e : at ≡ at / 64 * 64 = omega arith in e) ∙ ap (λ k. at / 64 * k) (sym whole) ∙ sym (mul_assoc (at / 64) (64 / w) w) ∙ (let z : at / 64 * (64 / w) * w ≡ at / 64 * (64 / w) * w + 0 = omega arith in z) in
     let none : at % w ≡ 0 = ap (λ k. k % w) blocks ∙ mod-mul-add (at / 64 * (64 / w)) w 0 positive in

@@ -24,7 +24,7 @@ impl<'a, T: BitStore, O: BitOrder> BitSlice<'a, T, O> {
 
     // The `n` bits from index `at` on as a number. Requires that the view has them, and `n` is at most 64.
     #[inline(always)]
-    fn chunk_at(self, at: usize, n: usize) -> u64
+    pub(crate) fn chunk_at(self, at: usize, n: usize) -> u64
         requires few { n ≤ 64 }
         requires inside { at + n ≤ len_of self }
         ensures { IsChunk (list_of self.entry) at (at + n) result }

@@ -1,5 +1,6 @@
-use Rattle.std.proofs.Common.{◌≡◌, ◌+◌, ◌-◌, ◌*◌, ◌/◌, ◌%◌, ◌^◌, ◌<◌, bit_or, length, slice_range, sym, ◌∙◌, ap, subst, arith}
+use Rattle.std.proofs.Common.{◌≡◌, ℕ, ◌+◌, ◌-◌, ◌*◌, ◌/◌, ◌%◌, ◌^◌, ◌<◌, bit_or, length, slice_range, sym, ◌∙◌, ap, subst, arith}
 use Rattle.std.proofs.lemmas.Nat.{div-add-mod'}
+use Rattle.std.proofs.Math.Nat.{mod-lt}
 use Rattle.bit_addressing.specs.Row.{number_of}
 use Rattle.bit_addressing.specs.Typed.{row}
 use Rattle.bit_addressing.proofs.Blocks.{two_blocks}
@@ -7,16 +8,36 @@ use Rattle.bit_addressing.proofs.Chunks.{IsRead, no_bits, read_block, read_first
 use Rattle.bit_addressing.proofs.Rows.{width_positive, width_small, word_below}
 use Rattle.bit_addressing.proofs.Runs.{inside_words}
 use Rattle.bit_addressing.proofs.Typed.{length_row}
+use Rattle.bit_rows.proofs.Numbers.{one_block, read_later}
 use Rattle.bit_rows.proofs.chunks.read_over.Goals as goal
 
 pub returns-then-n-eq0 : goal.returns-then-n-eq0
 returns-then-n-eq0 g c = no_bits (row g.T.BitStore g.O.BitOrder c.args.words.now) c.args.at c.args.n c.if-n-eq0.true
 
-pub block_at-requires-clause-words : goal.block_at-requires-clause-words
-block_at-requires-clause-words g c = two_blocks (c.args.at / c.BITS-width.result) g.met.T.BitStore.width c.BITS-width.ensures (omega arith)
+pub pack-requires : goal.pack-requires
+pack-requires g c = one_block (c.args.at / c.BITS-width.result) g.met.T.BitStore.width c.BITS-width.ensures (omega arith)
 
 pub returns-then-k-each : goal.returns-then-k-each
 returns-then-k-each g c =
+    let w = g.T.BitStore.BITS in
+    let at = c.args.at in
+    let width = c.BITS-width.result in
+    let skip : ℕ = at % width in
+    let small = width_small w g.met.T.BitStore.width in
+    let positive = width_positive w g.met.T.BitStore.width in
+    let zs = row g.T.BitStore g.O.BitOrder c.args.words.now in
+    let size : length zs ≡ w * length c.args.words.now = length_row g.T.BitStore.value g.O.BitOrder.place w c.args.words.now in
+    let here : at / width * w + skip ≡ at = ap (λ n. at / width * n + skip) (sym c.BITS-width.ensures) ∙ div-add-mod' at width in
+    let x = c.word_number.result in
+    let number : x ≡ number_of (slice_range zs (at / width * w) (at / width * w + 64)) = c.word_number.ensures ∙ ap number_of c.pack.ensures in
+    let low : skip < width = mod-lt at (omega arith) in
+    read_done zs at c.args.n (64 - skip) (x / 2 ^ skip) (read_later zs (at / width * w) at skip x (sym here) (omega arith) (read_block zs (at / width * w) x number)) (omega arith) (omega arith) c.requires.few (omega arith)
+
+pub block_at-requires-clause-words : goal.block_at-requires-clause-words
+block_at-requires-clause-words g c = two_blocks (c.args.at / c.BITS-width.result) g.met.T.BitStore.width c.BITS-width.ensures (omega arith)
+
+pub returns-then-k-each-2 : goal.returns-then-k-each-2
+returns-then-k-each-2 g c =
     let w = g.T.BitStore.BITS in
     let at = c.args.at in
     let width = c.BITS-width.result in
@@ -40,8 +61,8 @@ loop-got-init g c =
     let rest : at % width ≡ at % w = ap (λ n. at % n) c.BITS-width.ensures in
     let word : at / width ≡ at / w = ap (λ n. at / n) c.BITS-width.ensures in
     record {
-      read = subst (λ m. IsRead (row g.T.BitStore g.O.BitOrder c.args.words.now) at (m - at % width) (c.word_number.result / 2 ^ (at % width))) (sym c.BITS.ensures)
-          (read_first g.T.BitStore.value g.O.BitOrder.place w positive c.args.words.now at (at / width) (at % width) c.word_number.result c.index-words-k.result (omega arith) word rest c.index-words-k.is c.word_number.ensures);
+      read = subst (λ m. IsRead (row g.T.BitStore g.O.BitOrder c.args.words.now) at (m - at % width) (c.word_number-2.result / 2 ^ (at % width))) (sym c.BITS.ensures)
+          (read_first g.T.BitStore.value g.O.BitOrder.place w positive c.args.words.now at (at / width) (at % width) c.word_number-2.result c.index-words-k.result (omega arith) word rest c.index-words-k.is c.word_number-2.ensures);
       reached = reach_first w at (at / width) (at % width) c.BITS.result positive word rest c.BITS.ensures;
       few = omega arith;
     }

@@ -1,4 +1,5 @@
-use Rattle.std.proofs.Common.{◌≡◌, ◌+◌, ◌-◌, ◌*◌, Bool, List, [], ◌∷◌, length, slice_range, sym, ◌∙◌, ap, arith}
+use Rattle.std.proofs.Common.{◌≡◌, ◌+◌, ◌-◌, ◌*◌, ◌%◌, Bool, List, [], ◌∷◌, length, slice_range, sym, ◌∙◌, ap, arith}
+use Rattle.std.proofs.lemmas.Nat.{mod-mul-add}
 use Rattle.bit_addressing.specs.Row.{put, row_of}
 use Rattle.bit_addressing.specs.Typed.{row}
 use Rattle.bit_addressing.proofs.lists.Put.{put_joined}
@@ -8,7 +9,21 @@ use Rattle.bit_addressing.proofs.Chunks.{lowest_bits}
 use Rattle.bit_addressing.proofs.Rows.{length-row_of}
 use Rattle.bit_addressing.proofs.Runs.{slices_joined}
 use Rattle.bit_addressing.proofs.Typed.{length_row}
+use Rattle.bit_rows.proofs.Numbers.{lowest_moved}
 use Rattle.bit_rows.proofs.chunks.write_over.Goals as goal
+
+pub returns-then-low-n-le64-clause-bits : goal.returns-then-low-n-le64-clause-bits
+returns-then-low-n-le64-clause-bits g c =
+    let w = g.T.BitStore.BITS in
+    let run = c.of-first.ensures in
+    let s = c.of-first.result in
+    let at = c.args.at in
+    let n = c.args.n in
+    let old = row g.T.BitStore g.O.BitOrder c.args.words.now in
+    let zs = row_of g.O.BitOrder.place 64 (c.from_lsb0-block.result ∷ []) in
+    let low : at % w ≡ s.low = ap (λ m. m % w) (sym run.begins) ∙ mod-mul-add s.first w s.low run.low_below in
+    c.write_from_block.ensures.bits
+    ∙ ap (put old at) (ap (λ m. slice_range zs m (m + n)) low ∙ lowest_moved g.O.BitOrder.place c.from_lsb0-block.result c.args.chunk s.low n c.if-low-n-le64.true c.from_lsb0-block.ensures)
 
 pub returns-then-last-first-clause-bits : goal.returns-then-last-first-clause-bits
 returns-then-last-first-clause-bits g c = c.copy_bits.ensures.bits ∙ ap (put (row g.T.BitStore g.O.BitOrder c.args.words.now) c.args.at) (lowest_bits c.args.chunk c.args.n c.requires.few)

@@ -4,7 +4,8 @@ use Rattle.bit_addressing.specs.Row.{row_of}
 use Rattle.bit_addressing.specs.Typed.{row}
 use Rattle.bit_addressing.proofs.Rows.{row_append, width_positive, length-row_of}
 use Rattle.bit_addressing.proofs.Runs.{mul_mono}
-use Rattle.bit_streams.proofs.Lists.{one_more, slice_whole, whole_blocks}
+use Rattle.bit_addressing.proofs.Packs.{pack_fills}
+use Rattle.bit_streams.proofs.Lists.{one_more, slice_whole}
 use Rattle.bit_streams.proofs.register.push_block.Goals as goal
 
 pub loop-i-preserved : goal.loop-i-preserved
@@ -16,7 +17,7 @@ loop-i-preserved g c =
     let word = c.word_of_block.result in
     let b = row_of place 64 (c.block_of-block.result ∷ []) in
     let positive = width_positive w g.met.T.BitStore.width in
-    let whole = whole_blocks w g.met.T.BitStore.width in
+    let whole = pack_fills w g.met.T.BitStore.width in
     let size : length b ≡ 64 * 1 = length-row_of place 64 (c.block_of-block.result ∷ []) in
     let count : 64 / c.BITS-each.result ≡ 64 / w = ap (λ n. 64 / n) c.BITS-each.ensures in
     let most = mul_mono (c.loop-i.i + 1) (64 / w) w (omega arith) in
@@ -39,7 +40,7 @@ pub returns-clause-bits : goal.returns-clause-bits
 returns-clause-bits g c =
     let w = g.T.BitStore.BITS in
     let b = row_of g.O.BitOrder.place 64 (c.block_of-block.result ∷ []) in
-    let whole = whole_blocks w g.met.T.BitStore.width in
+    let whole = pack_fills w g.met.T.BitStore.width in
     let size : length b ≡ 64 * 1 = length-row_of g.O.BitOrder.place 64 (c.block_of-block.result ∷ []) in
     let count : 64 / c.BITS-each.result ≡ 64 / w = ap (λ n. 64 / n) c.BITS-each.ensures in
     let end : c.loop-i.i ≡ 64 / w = omega arith in

@@ -2,7 +2,8 @@ use Rattle.std.proofs.Common.{◌≡◌, ◌*◌, get_or, length, refl, take, �
 use Rattle.bit_addressing.specs.Row.{binary}
 use Rattle.bit_rows.proofs.Binary.{length-binary}
 use Rattle.bit_containers.proofs.Removing.{take_before_put}
-use Rattle.bit_ranks.proofs.Making.{low_inside, lows_more}
+use Rattle.bit_ranks.proofs.Making.{lows_more}
+use Rattle.bit_ranks.proofs.Packed.{low_inside}
 use Rattle.bit_ranks.proofs.sorted.making.low_bits.Goals as goal
 
 pub loop-k-preserved : goal.loop-k-preserved

@@ -1,15 +1,16 @@
 -- A reader over a row with zeros after it, whose register is filled by 64 bits everywhere.
-use Rattle.std.proofs.Common.{◌≡◌, ℕ, ◌+◌, ◌-◌, ◌*◌, ◌/◌, ◌%◌, ◌^◌, ◌<◌, ◌≤◌, Bool, false, List, ◌++◌, ◌⊎◌, inl, inr, length, replicate, slice_range, sym, ◌∙◌, ap, subst, arith, rules}
-use Rattle.std.proofs.lemmas.List.{length-append, same_lists, places}
-use Rattle.std.proofs.lemmas.Nat.{shl_whole}
-use Rattle.std.proofs.Math.Nat.{mod-eq_of_lt}
+use Rattle.std.proofs.Common.{◌≡◌, ℕ, zero, suc, ◌+◌, ◌-◌, ◌*◌, ◌/◌, ◌%◌, ◌^◌, ◌<◌, ◌≤◌, Bool, false, List, ◌++◌, ◌⊎◌, inl, inr, length, replicate, slice_range, sym, ◌∙◌, ap, subst, arith, rules}
+use Rattle.std.proofs.lemmas.List.{length-append, nil_from_length, same_lists, places}
+use Rattle.std.proofs.lemmas.Nat.{pow-add, shl_whole}
+use Rattle.std.proofs.Math.Nat.{div-div-eq-div-mul, div-lt_iff_lt-mul, mod-eq_of_lt}
 use Rattle.std.proofs.Math.Pow.{pow_pos}
 use Rattle.bit_addressing.specs.Row.{binary}
+use Rattle.bit_rows.proofs.Binary.{length-binary}
 use Rattle.bit_addressing.proofs.lists.Shown.{length-run}
 use Rattle.bit_streams.specs.Streams.{IsHeld, IsReading, padded}
 use Rattle.bit_streams.proofs.Lists.{joined_digits}
-use Rattle.bit_addressing.proofs.Runs.{slices_joined}
-use Rattle.bit_streams.proofs.Windows.{nothing_held, rest_parted, slice_empty, taken_next}
+use Rattle.bit_addressing.proofs.Runs.{mul_mono, slices_joined}
+use Rattle.bit_streams.proofs.Windows.{nothing_held, rest_parted, slice_empty, taken, taken_next}
 use Rattle.bit_streams.proofs.Zeros.{zeros_of}
 
 pub length-padded : (row : List Bool) → length (padded row) ≡ length row + 64
@@ -50,6 +51,43 @@ digits_padded n x few below =
     let sum : x * 2 ^ (64 - n) ≡ x * 2 ^ (64 - n) + 0 % 2 ^ (64 - n) = omega (arith, none) in
     ap (binary 64) (shl_whole x n (64 - n) 64 below (omega arith) ∙ sum) ∙ ap (λ k. binary k (x * 2 ^ (64 - n) + 0 % 2 ^ (64 - n))) (sym all)
     ∙ joined_digits n (64 - n) x 0 ∙ ap (λ l. binary n x ++ l) (zeros_of (64 - n) (omega arith))
+
+-- a register has no digit past 64
+held_below : (row : List Bool) (from have window : ℕ) → IsHeld row from have window → window < 2 ^ 64
+held_below row from have window held =
+    let few = held.few in
+    let small = held.small in
+    let most = mul_mono (held.number + 1) (2 ^ have) (2 ^ (64 - have)) (omega arith) in
+    let one : (held.number + 1) * 2 ^ (64 - have) ≡ held.number * 2 ^ (64 - have) + 2 ^ (64 - have) = omega arith in
+    let all : have + (64 - have) ≡ 64 = omega arith in
+    let whole : 2 ^ have * 2 ^ (64 - have) ≡ 2 ^ 64 = sym (pow-add 2 have (64 - have)) ∙ ap (λ e. 2 ^ e) all in
+    let p = pow_pos (64 - have) in
+    let is = held.is in
+    omega arith
+
+-- the first n bits are taken, also none
+pub taken_any : (row : List Bool) (from have window n : ℕ) → IsHeld row from have window → n ≤ have → from + have ≤ length row
+    → (binary n (window / 2 ^ 1 / 2 ^ (63 - n)) ≡ slice_range row from (from + n)) × (window / 2 ^ 1 / 2 ^ (63 - n) < 2 ^ n) × IsHeld row (from + n) (have - n) (window * 2 ^ n % 2 ^ 64)
+taken_any row from have window zero held within room =
+    let below = held_below row from have window held in
+    let half : window / 2 ^ 1 < 1 * 2 ^ 63 = omega arith in
+    let a : from ≡ from + 0 = omega arith in
+    let b : have ≡ have - 0 = omega arith in
+    let c : window ≡ window * 2 ^ 0 % 2 ^ 64 = sym (mod-eq_of_lt below) ∙ ap (λ k. k % 2 ^ 64) (let e : window ≡ window * 2 ^ 0 = omega arith in e) in (
+      nil_from_length (binary 0 (window / 2 ^ 1 / 2 ^ 63)) (length-binary 0 (window / 2 ^ 1 / 2 ^ 63)) ∙ sym (slice_empty row from (from + 0) a),
+      (div-lt_iff_lt-mul (pow_pos 63)).1 half,
+      subst (λ k. IsHeld row (from + 0) (have - 0) k) c (subst (λ k. IsHeld row (from + 0) k window) b (subst (λ k. IsHeld row k have window) a held)),
+    )
+taken_any row from have window (suc m) held within room =
+    let few = held.few in
+    let t = taken row from have window (suc m) (omega arith) held within room in
+    let sum : 1 + (63 - suc m) ≡ 64 - suc m = omega arith in
+    let both : 2 ^ 1 * 2 ^ (63 - suc m) ≡ 2 ^ (64 - suc m) = sym (pow-add 2 1 (63 - suc m)) ∙ ap (λ e. 2 ^ e) sum in
+    let same : window / 2 ^ (64 - suc m) ≡ window / 2 ^ 1 / 2 ^ (63 - suc m) = ap (λ k. window / k) (sym both) ∙ sym (div-div-eq-div-mul window (2 ^ 1) (2 ^ (63 - suc m))) in (
+      subst (λ x. binary (suc m) x ≡ slice_range row from (from + suc m)) same t.0,
+      subst (λ x. x < 2 ^ suc m) same t.1,
+      t.2,
+    )
 
 -- 64 bits that begin inside a word, out of the blocks of two words
 pub across : (row : List Bool) (at skip first second : ℕ) → 0 < skip → skip < 64 → skip ≤ at → at - skip + 64 + 64 ≤ length row → first < 2 ^ 64 → second < 2 ^ 64

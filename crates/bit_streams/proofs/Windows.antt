@@ -144,10 +144,6 @@ nothing_held row from = record {
 pub rest_parted : (row ds : List Bool) (from n end : ℕ) → ds ≡ slice_range row from (from + n) → from + n ≤ end → end ≤ length row → slice_range row from end ≡ ds ++ slice_range row (from + n) end
 rest_parted row ds from n end is h room = sym (slices_joined row from (from + n) end (omega arith) h room) ∙ ap (λ l. l ++ slice_range row (from + n) end) (sym is)
 
-pub no_digits_first : (n : ℕ) (xs : List Bool) → n ≡ 0 → xs ≡ binary n 0 ++ xs
-unfolding binary
-no_digits_first n xs none = rw none refl
-
 high_small : (block left need : ℕ) → left + need ≡ 64 → block < 2 ^ 64 → block / 2 ^ left < 2 ^ need
 high_small block left need all below = (div-lt_iff_lt-mul (pow_pos left)).1 (subst (λ k. block < k) (pow_parts 64 need left (omega arith)) below)
 

@@ -271,14 +271,12 @@ impl<'a, T: BitStore, O: BitOrder> BitReader<'a, T, O> {
         ensures kept { result ≡ None → self.new ≡ self.old }
     {
         let n = n as usize;
-        if n == 0 {
-            return Some(0);
-        }
         if self.left < n {
             return None;
         }
         if n <= self.have {
-            let x = self.window >> (64 - n);
+            // By two shifts, so that where `n` is 0 none is by 64, and no test of it is needed.
+            let x = (self.window >> 1) >> (63 - n);
             self.window = self.window << n;
             self.have -= n;
             self.left -= n;

@@ -6,12 +6,9 @@ use Rattle.bit_addressing.proofs.lists.Sized.{room}
 use Rattle.bit_addressing.specs.Typed.{row}
 use Rattle.bit_addressing.proofs.Typed.{length_row}
 use Rattle.bit_streams.specs.Streams.{padded}
-use Rattle.bit_streams.proofs.Windows.{no_digits_first, taken, taken_next}
-use Rattle.bit_streams.proofs.Padded.{length_rest, length-padded, reading_on, taken_off}
+use Rattle.bit_streams.proofs.Windows.{taken_next}
+use Rattle.bit_streams.proofs.Padded.{length_rest, length-padded, reading_on, taken_any, taken_off}
 use Rattle.bit_streams.proofs.reader.BitReader.next.Goals as goal
-
-pub returns-then-n-eq0-clause-digits : goal.returns-then-n-eq0-clause-digits
-returns-then-n-eq0-clause-digits g c = no_digits_first c.args.n c.args.self.now.rest c.if-n-eq0.true
 
 pub returns-then-self-n-clause-none : goal.returns-then-self-n-clause-none
 returns-then-self-n-clause-none g c =
@@ -35,7 +32,7 @@ invariant_of-self g c =
     let few = r.held.few in
     let ahead = r.ahead in
     let wide = length-padded rows in
-    let t = taken (padded rows) (i.end - i.left) i.have i.window c.args.n (omega arith) r.held (omega arith) (omega arith) in
+    let t = taken_any (padded rows) (i.end - i.left) i.have i.window c.args.n r.held (omega arith) (omega arith) in
     reading_on rows w count i.start i.left i.end i.have i.window r long c.args.n (i.have - c.args.n) (i.window * 2 ^ c.args.n % 2 ^ 64) (omega arith) (omega arith) t.2
 
 pub returns-then-n-self-clause-none : goal.returns-then-n-self-clause-none
@@ -60,8 +57,8 @@ returns-then-n-self-clause-digits g c =
     let few = r.held.few in
     let ahead = r.ahead in
     let wide = length-padded rows in
-    let t = taken (padded rows) (i.end - i.left) i.have i.window c.args.n (omega arith) r.held (omega arith) (omega arith) in
-    ap (λ v. v.rest) (sym c.self.view_is) ∙ taken_off rows w count i.start i.left i.end i.have i.window r long (binary c.args.n (i.window / 2 ^ (64 - c.args.n))) c.args.n (omega arith) t.0
+    let t = taken_any (padded rows) (i.end - i.left) i.have i.window c.args.n r.held (omega arith) (omega arith) in
+    ap (λ v. v.rest) (sym c.self.view_is) ∙ taken_off rows w count i.start i.left i.end i.have i.window r long (binary c.args.n (i.window / 2 ^ 1 / 2 ^ (63 - c.args.n))) c.args.n (omega arith) t.0
 
 pub returns-then-n-self-clause-below : goal.returns-then-n-self-clause-below
 returns-then-n-self-clause-below g c =
@@ -74,7 +71,7 @@ returns-then-n-self-clause-below g c =
     let few = r.held.few in
     let ahead = r.ahead in
     let wide = length-padded rows in
-    let t = taken (padded rows) (i.end - i.left) i.have i.window c.args.n (omega arith) r.held (omega arith) (omega arith) in
+    let t = taken_any (padded rows) (i.end - i.left) i.have i.window c.args.n r.held (omega arith) (omega arith) in
     t.1
 
 pub overflow_add-x : goal.overflow_add-x

@@ -1,6 +1,7 @@
 -- Where the first bits of a pattern may begin in a list.
-use Rattle.std.proofs.Common.{◌≡◌, ◌≢◌, ℕ, ◌+◌, ◌-◌, ◌<◌, ◌≤◌, Bool, false, List, length, get_or, take, drop, slice_range, sym, ◌∙◌, ap, inl, inr, arith}
-use Rattle.std.proofs.lemmas.Bool.{cases_lt}
+use Rattle.std.proofs.Common.{◌≡◌, ◌≢◌, ℕ, ◌+◌, ◌-◌, ◌<◌, ◌≤◌, Bool, false, ◌||◌, List, length, get_or, take, drop, slice_range, refl, sym, ◌∙◌, ap, inl, inr, arith}
+use Rattle.std.proofs.Math.Bool.{or-false}
+use Rattle.std.proofs.lemmas.Bool.{cases_lt, lt-ltb, le-ltb}
 use Rattle.std.proofs.lemmas.List.{get_or-take, get_or-drop, take-take}
 use Rattle.bit_addressing.specs.Bits.{has_bit}
 use Rattle.bit_addressing.specs.Row.{number_bits, number_of}
@@ -8,16 +9,34 @@ use Rattle.bit_addressing.proofs.Chunks.{has_number}
 use Rattle.bit_addressing.proofs.lists.Shown.{get_or-run, length-run}
 use Rattle.bit_rows.proofs.Binary.{get_or-number_bits}
 use Rattle.bit_slice.specs.Pieces.{part}
-use Rattle.bit_slice.specs.Places.{HasAt}
+use Rattle.bit_slice.specs.Places.{bit_of_two, HasAt}
 use Rattle.bit_slice.proofs.Writing.{bits_of_number}
 
--- a number of 64 items has the pattern where the list has it
-pub has_at : (xs : List Bool) (at j m pattern number : ℕ) → m ≤ 33 → j < 32 → at + 64 ≤ length xs → number ≡ number_of (slice_range xs at (at + 64)) → part m xs (at + j) ≡ number_bits pattern m → HasAt number pattern m j
-has_at xs at j m pattern number few below room is same q inside =
+-- ---- two numbers
+
+pub of_first : (low high q : ℕ) → q < 64 → bit_of_two low high q ≡ has_bit low q
+of_first low high q h = rw (lt-ltb q 64 h) refl
+
+pub of_second : (low high q : ℕ) → 64 ≤ q → bit_of_two low high q ≡ has_bit high (q - 64)
+of_second low high q h = rw (le-ltb q 64 h) refl
+
+pub or_none : (a b : Bool) → b ≡ false → (a || b) ≡ a
+or_none a b none = rw none (or-false a)
+
+pub none_or : (a b : Bool) → a ≡ false → (a || b) ≡ b
+none_or a b none = rw none refl
+
+-- a number of n items has them
+pub item_of_chunk : (xs : List Bool) (at n q number : ℕ) → q < n → number ≡ number_of (slice_range xs at (at + n)) → has_bit number q ≡ get_or xs (at + q) false
+item_of_chunk xs at n q number below is = ap (λ x. has_bit x q) is ∙ has_number (slice_range xs at (at + n)) q ∙ get_or-run xs at n q below
+
+-- ---- patterns
+
+-- two numbers of the items from an index on have the pattern where the list has it
+pub has_at : (xs : List Bool) (at j m pattern low high : ℕ) → m ≤ 64 → j < 64 → at + j + m ≤ length xs → ((q : ℕ) → q < 128 → at + q < length xs → bit_of_two low high q ≡ get_or xs (at + q) false) → part m xs (at + j) ≡ number_bits pattern m → HasAt low high pattern m j
+has_at xs at j m pattern low high few below room read same q inside =
     let place : at + (j + q) ≡ at + j + q = omega arith in
-    ap (λ x. has_bit x (j + q)) is
-    ∙ has_number (slice_range xs at (at + 64)) (j + q)
-    ∙ get_or-run xs at 64 (j + q) (omega arith)
+    read (j + q) (omega arith) (omega arith)
     ∙ ap (λ i. get_or xs i false) place
     ∙ sym (get_or-take m (drop (at + j) xs) q false inside ∙ get_or-drop (at + j) xs q false)
     ∙ ap (λ l. get_or l q false) same
@@ -33,11 +52,11 @@ first_bits xs ys n m j pattern few room is same =
     ∙ sym (bits_of_number (slice_range ys 0 (0 + m)) m (length-run ys 0 m (omega (arith, room))))
     ∙ ap (λ x. number_bits x m) (sym is)
 
--- it begins at none of the indices up to one more
-pub none_up_to : (xs ys : List Bool) (n m at skip pattern : ℕ) → m ≤ n → m ≤ length ys → pattern ≡ number_of (slice_range ys 0 (0 + m)) → ((j : ℕ) → j < at → part n xs j ≢ ys) → ((j : ℕ) → j < skip → part m xs (at + j) ≢ number_bits pattern m) → (j : ℕ) → j < at + skip → part n xs j ≢ ys
-none_up_to xs ys n m at skip pattern few room is before none j below same = elim (cases_lt j at) [
-  | inl l ↦ before j l same
+-- it begins at none of the indices up to one more, where it has room
+pub none_up_to : (xs ys : List Bool) (len n m at skip pattern : ℕ) → m ≤ n → m ≤ length ys → pattern ≡ number_of (slice_range ys 0 (0 + m)) → ((j : ℕ) → j < at → j + n ≤ len → part n xs j ≢ ys) → ((j : ℕ) → j < skip → at + j + m ≤ len → part m xs (at + j) ≢ number_bits pattern m) → (j : ℕ) → j < at + skip → j + n ≤ len → part n xs j ≢ ys
+none_up_to xs ys len n m at skip pattern few room is before none j below fits same = elim (cases_lt j at) [
+  | inl l ↦ before j l fits same
   | inr l ↦
       let place : at + (j - at) ≡ j = omega arith in
-      none (j - at) (omega arith) (ap (part m xs) place ∙ first_bits xs ys n m j pattern few room is same)
+      none (j - at) (omega arith) (omega arith) (ap (part m xs) place ∙ first_bits xs ys n m j pattern few room is same)
 ]

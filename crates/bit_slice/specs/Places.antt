@@ -1,5 +1,5 @@
 -- Where a bit stands in a list, and the indices of the items that are true or false.
-use Rattle.std.specs.Prelude.{◌≡◌, ℕ, ◌+◌, ◌-◌, ◌%◌, ◌<◌, ◌≤◌, Bool, false, true, not, List, [], ◌∷◌, length, slice_index_or, slice_range, refl}
+use Rattle.std.specs.Prelude.{◌≡◌, ℕ, ◌+◌, ◌-◌, ◌%◌, ◌<◌, ◌≤◌, Bool, false, true, not, if◌then◌else◌, nat_lt, List, [], ◌∷◌, length, slice_index_or, slice_range, refl}
 use Rattle.std.specs.List.{filter, range_with_len}
 use Rattle.bit_addressing.specs.Bits.{has_bit}
 use Rattle.bit_addressing.specs.Row.{number_of}
@@ -22,9 +22,13 @@ pub record IsLast (bit : Bool) (xs : List Bool) (lo hi i : ℕ) : Type 0 where
   pub here : slice_index_or xs i false ≡ bit
   pub after : IsAbsent bit xs (i + 1) hi
 
--- from place p on, a number has the m lowest bits of a pattern
-abbrev pub HasAt : ℕ → ℕ → ℕ → ℕ → Type 0
-HasAt number pattern m p = (q : ℕ) → q < m → has_bit number (p + q) ≡ has_bit pattern q
+-- bit q of two numbers of 64 bits, those of the second after those of the first
+abbrev pub bit_of_two : ℕ → ℕ → ℕ → Bool
+bit_of_two low high q = if nat_lt q 64 then has_bit low q else has_bit high (q - 64)
+
+-- from place p on, two numbers have the m lowest bits of a pattern
+abbrev pub HasAt : ℕ → ℕ → ℕ → ℕ → ℕ → Type 0
+HasAt low high pattern m p = (q : ℕ) → q < m → bit_of_two low high (p + q) ≡ has_bit pattern q
 
 -- a number is that of the items from lo up to hi, which are at most 64
 pub record IsChunk (xs : List Bool) (lo hi chunk : ℕ) : Type 0 where

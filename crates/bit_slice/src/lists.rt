@@ -604,7 +604,7 @@ pub trait BitList {
     }
 
     /// The first index at which the bits of `other`, of any word type and order, begin in the list. None
-    /// exactly where they begin nowhere. The first 33 bits of `other` are tried at 32 indices at once.
+    /// exactly where they begin nowhere. The first 64 bits of `other` are tried at 64 indices at once.
     ///
     /// ```text
     /// of 01101001 and 001: bits.find(other) == Some(5)

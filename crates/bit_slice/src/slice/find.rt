@@ -1,26 +1,35 @@
 //! Where the bits of one view begin in another.
-ghost use Rattle.std.specs.Prelude.{◌≡◌, ◌≢◌, ℕ, ◌+◌, ◌<◌, ◌≤◌, IfNone, IfSome, true};
+ghost use Rattle.std.specs.Prelude.{◌≡◌, ◌≢◌, ℕ, ◌+◌, ◌<◌, ◌≤◌, IfNone, IfSome, false, slice_index_or, true};
 ghost use Rattle.bit_addressing.specs.Bits.{has_bit};
 ghost use Rattle.bit_addressing.specs.Row.{number_bits};
 ghost use Rattle.bit_slice.specs.BitSlice.{len_of, list_of};
 ghost use Rattle.bit_slice.specs.Pieces.{part};
-ghost use Rattle.bit_slice.specs.Places.{HasAt};
+ghost use Rattle.bit_slice.specs.Places.{bit_of_two, HasAt};
 
 use crate::ops::equal_views;
 use crate::slice::BitSlice;
 use bit_addressing::{BitOrder, BitStore};
 
-// The places of a number where the `m` lowest bits of a pattern may begin: bit `p` of the result is true wherever they do.
-// All places are tried at once, bit by bit of the pattern, until none is left.
+// The 64 bits from place `i` on of two numbers, those of `high` after those of `low`. Requires that `i` is below 64.
 #[inline(always)]
-fn places(number: u64, pattern: u64, m: u8) -> u64
+fn from_place(low: u64, high: u64, i: u8) -> u64
+    requires { i < 64 }
+    ensures { (p : ℕ) → p < 64 → has_bit result p ≡ bit_of_two low high (p + i) }
+{
+    low >> i | (high << 1) << (63 - i)
+}
+
+// The places in `low` at which the `m` lowest bits of a pattern may begin in two numbers: bit `p` of the result is true
+// wherever they do. All places are tried at once, bit by bit of the pattern, until none is left.
+#[inline(always)]
+fn places(low: u64, high: u64, pattern: u64, m: u8) -> u64
     requires { m ≤ 64 }
-    ensures { (p : ℕ) → p < 64 → HasAt number pattern m p → has_bit result p ≡ true }
+    ensures { (p : ℕ) → p < 64 → HasAt low high pattern m p → has_bit result p ≡ true }
 {
     let mut left = !0u64;
     let mut i = 0;
     while i < m && left != 0 {
-        let here = number >> i;
+        let here = from_place(low, high, i);
         left &= if (pattern >> i) % 2 == 1 { here } else { !here };
         i += 1;
     }
@@ -28,46 +37,36 @@ fn places(number: u64, pattern: u64, m: u8) -> u64
 }
 
 impl<'a, T: BitStore, O: BitOrder> BitSlice<'a, T, O> {
-    // How many places from `at` on, up to 32, the `m` lowest bits of a pattern do not begin at. Requires that the view has
-    // 64 bits from there on.
+    // The 128 bits from index `at` on as two numbers, or those that are left. Requires that `at` is at most the length.
+    #[inline(always)]
+    fn two_chunks(self, at: usize) -> (u64, u64)
+        requires { at ≤ len_of self }
+        ensures { (q : ℕ) → q < 128 → at + q < len_of self.entry
+            → bit_of_two result.0 result.1 q ≡ slice_index_or (list_of self.entry) (at + q) false }
+    {
+        let left = self.len - at;
+        let low = self.chunk_at(at, left.min(64));
+        if left <= 64 {
+            return (low, 0);
+        }
+        (low, self.chunk_at(at + 64, (left - 64).min(64)))
+    }
+
+    // How many indices from `at` on, up to 64, the `m` lowest bits of a pattern do not begin at, where they have room.
+    // Requires that `at` is at most the length.
     #[inline(always)]
     fn places_without(self, at: usize, pattern: u64, m: u8) -> usize
-        requires few { m ≤ 33 }
-        requires inside { at + 64 ≤ len_of self }
-        ensures most { result ≤ 32 }
-        ensures none { (j : ℕ) → j < result → part m (list_of self.entry) (at + j) ≢ number_bits pattern m }
+        requires few { m ≤ 64 }
+        requires inside { at ≤ len_of self }
+        ensures most { result ≤ 64 }
+        ensures none { (j : ℕ) → j < result → at + j + m ≤ len_of self.entry
+            → part m (list_of self.entry) (at + j) ≢ number_bits pattern m }
     {
-        let left = places(self.chunk_at(at, 64), pattern, m);
-        (left.trailing_zeros() as usize).min(32)
+        let (low, high) = self.two_chunks(at);
+        places(low, high, pattern, m).trailing_zeros() as usize
     }
 
-    // The first index from `from` on at which the bits of `other` begin. Each is tried in turn. Requires that at most one
-    // index before `from` leaves no room for them.
-    fn find_from<U: BitStore, P: BitOrder>(
-        self,
-        other: BitSlice<'_, U, P>,
-        from: usize,
-    ) -> Option<usize>
-        requires { from + len_of other ≤ len_of self + 1 }
-        ensures inside { IfSome result (λ i. i + len_of other.entry ≤ len_of self.entry) }
-        ensures found { IfSome result (λ i. part (len_of other.entry) (list_of self.entry) i ≡ list_of other.entry) }
-        ensures before { IfSome result
-            (λ i. (j : ℕ) → from ≤ j → j < i → part (len_of other.entry) (list_of self.entry) j ≢ list_of other.entry) }
-        ensures none { IfNone result ((j : ℕ) → from ≤ j → j + len_of other.entry ≤ len_of self.entry
-            → part (len_of other.entry) (list_of self.entry) j ≢ list_of other.entry) }
-    {
-        let n = other.len;
-        let mut at = from;
-        while at + n <= self.len {
-            if equal_views(self.get_range(at..at + n), other) {
-                return Some(at);
-            }
-            at += 1;
-        }
-        None
-    }
-
-    // The first index at which the bits of `other` begin: 32 places at a time by its first bits, and what may begin there is
+    // The first index at which the bits of `other` begin: 64 at a time by its first bits, and what may begin there is
     // compared.
     pub(crate) fn find_part<U: BitStore, P: BitOrder>(
         self,
@@ -81,22 +80,22 @@ impl<'a, T: BitStore, O: BitOrder> BitSlice<'a, T, O> {
             → part (len_of other.entry) (list_of self.entry) j ≢ list_of other.entry) }
     {
         let n = other.len;
-        if n > self.len {
-            return None;
-        }
-        let m = n.min(33);
+        let m = n.min(64);
         let pattern = other.chunk_at(0, m);
         let mut at = 0;
-        while at + 31 + n.max(33) <= self.len {
+        while at + n <= self.len {
             let skip = self.places_without(at, pattern, m as u8);
             at += skip;
-            if skip < 32 {
+            if skip < 64 {
+                if at + n > self.len {
+                    return None;
+                }
                 if equal_views(self.get_range(at..at + n), other) {
                     return Some(at);
                 }
                 at += 1;
             }
         }
-        self.find_from(other, at)
+        None
     }
 }

@@ -4,7 +4,7 @@ use Rattle.bit_slice.specs.Places.{HasAt}
 use Rattle.bit_slice.proofs.slice.find.places.Given as goal
 
 abbrev pub invariant-loop-i : goal.invariant-loop-i
-invariant-loop-i l = (p : ℕ) → p < 64 → HasAt l.number l.pattern l.m p → has_bit l.left p ≡ true
+invariant-loop-i l = (p : ℕ) → p < 64 → HasAt l.low l.high l.pattern l.m p → has_bit l.left p ≡ true
 
 abbrev pub decreases-loop-i : goal.decreases-loop-i
 decreases-loop-i l = l.m - l.i

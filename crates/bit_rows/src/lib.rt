@@ -3,7 +3,7 @@
 //!
 //! Every container stands on these functions. Each says what becomes of the row, the list of all bits
 //! of its words, and each takes a place in the row as a number of bits from its beginning. Those that
-//! end in `_in_vec` work on the words of a vector, and keep its capacity.
+//! end in `_in_vec` work on the words of a vector.
 #![tactic(auto)]
 
 mod chunks;

@@ -153,8 +153,8 @@ impl<W: Write, O: BitOrder> BitSink<W, O> {
         }
     }
 
-    /// Fills the last byte up with zeros, gives the writer all bytes, and flushes it. After an error nothing is lost: the
-    /// same call can be made again.
+    /// Fills the last byte up with zeros, gives the writer all bytes, and flushes it. After an error the same call can be
+    /// made again.
     pub fn finish(&mut self) -> io::Result<()>
         ensures list { OnOk result (Gains self.old.list self.new.list (replicate ((8 - self.old.held % 8) % 8) false)) }
         ensures done { OnOk result (self.new.held ≡ 0) }

@@ -16,8 +16,8 @@ use std::marker::{Model, PhantomData};
 
 /// Appends bits to words that it owns, and gives them back as a vector.
 ///
-/// The last bits wait in a register until there are 64 of them, so words are written whole. A call is refused as
-/// `TooLong` exactly where the list would pass `MAX_BITS`, and as `OutOfMemory` only where it would pass the capacity;
+/// The last bits wait in a register until there are 64 of them, so words are written whole. Bits and numbers are refused
+/// as `TooLong` exactly where the list would pass `MAX_BITS`, and as `OutOfMemory` only where it would pass the capacity;
 /// what was written before stays. In contracts a writer `w` is `w.list`, the bits that were written, and `w.capacity`,
 /// how many there is room for.
 ///

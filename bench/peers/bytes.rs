@@ -2,7 +2,7 @@
 //! what the program prints.
 mod records;
 
-use records::{Code, Found, Record};
+use records::{Digits, Found, Record};
 use std::hint::black_box;
 use std::time::Instant;
 
@@ -65,7 +65,9 @@ struct Writer {
     count: u32,
 }
 
-impl Writer {
+impl records::Digits for Writer {
+    type Made = Vec<u8>;
+
     #[inline(always)]
     fn write(&mut self, n: u32, x: u64) {
         if cfg!(blocks) && self.count + n >= 64 {
@@ -161,17 +163,6 @@ fn unpack(bytes: &[u8], records: &mut [Record]) -> usize {
 }
 
 #[inline(never)]
-fn encode(codes: &[Code], symbols: &[u16]) -> Vec<u8> {
-    let mut writer = Writer::default();
-    for symbol in symbols {
-        let code = codes[*symbol as usize];
-        writer.write(code.len as u32, code.bits);
-    }
-    writer.write(15, 0);
-    writer.finish()
-}
-
-#[inline(never)]
 fn decode(bytes: &[u8], table: &[Found], count: usize) -> usize {
     let mut reader = Reader { bytes, at: 0, window: 0, have: 0 };
     let mut total = 0usize;
@@ -187,31 +178,9 @@ fn decode(bytes: &[u8], table: &[Found], count: usize) -> usize {
     total
 }
 
-fn timed_stream<V, A>(name: &str, repetitions: usize, make: impl Fn() -> V, work: impl Fn(&mut V) -> A, check: impl Fn(&V, A) -> usize) {
-    let (mut best, mut sum) = (u128::MAX, 0);
-    for _ in 0..repetitions {
-        let mut value = black_box(make());
-        let start = Instant::now();
-        let answer = black_box(work(&mut value));
-        best = best.min(start.elapsed().as_nanos());
-        sum = check(black_box(&value), answer);
-    }
-    println!("{name} {best} {sum}");
-}
-
 fn streams(n: usize, r: usize) {
-    let ones = |bytes: &Vec<u8>| bytes.iter().map(|b| b.count_ones() as usize).sum::<usize>();
-    let all = records::records(n);
-    timed_stream("pack_records", r, || (), |_| pack(&all), |_, bytes| ones(&bytes));
-    let bytes = pack(&all);
-    timed_stream("unpack_records", r, || records::empty_records(n), |made| unpack(&bytes, made), |made, found| records::sum_of_records(made) + found);
-    // By hand it is the same work, at indices or one after another.
-    timed_stream("store_records_at", r, || (), |_| pack(&all), |_, bytes| ones(&bytes));
-    timed_stream("load_records_at", r, || records::empty_records(n), |made| unpack(&bytes, made), |made, found| records::sum_of_records(made) + found);
-    let (codes, table, all) = (records::codes(), records::found_by_look(), records::symbols(n));
-    timed_stream("codes_append", r, || (), |_| encode(&codes, &all), |_, bytes| ones(&bytes));
-    let bytes = encode(&codes, &all);
-    timed_stream("codes_decode", r, || (), |_| decode(&bytes, &table, n), |_, total| total);
+    let ones = |bytes: &Vec<u8>| bytes.iter().map(|b| b.count_ones() as usize).sum();
+    records::streams::<Writer>(n, r, ones, pack, |bytes, made| unpack(bytes, made), |bytes, table, count| decode(bytes, table, count));
 }
 
 fn main() {

@@ -1,4 +1,6 @@
 //! The records and codes that the peers pack and read: what bench/program/streams.rt.txt makes.
+use std::hint::black_box;
+use std::time::Instant;
 
 /// A record whose fields take 3, 13, 1, 20 and 27 bits.
 #[derive(Clone, Copy)]
@@ -92,4 +94,58 @@ pub fn found_by_look() -> Vec<Found> {
 pub fn long_symbol(window: u64) -> (usize, u32) {
     let x = (window >> 49) as usize;
     if x >> 8 == 127 { (127 + (x & 0xff), 15) } else { (63 + (x >> 2 & 63), 13) }
+}
+
+/// What takes the digits of numbers, the most significant first.
+pub trait Digits: Default {
+    type Made;
+
+    fn write(&mut self, n: u32, x: u64);
+
+    fn finish(self) -> Self::Made;
+}
+
+#[inline(never)]
+fn encode<W: Digits>(codes: &[Code], symbols: &[u16]) -> W::Made {
+    let mut writer = W::default();
+    for symbol in symbols {
+        let code = codes[*symbol as usize];
+        writer.write(code.len as u32, code.bits);
+    }
+    writer.write(15, 0);
+    writer.finish()
+}
+
+/// Runs the work a number of times, each on a value made anew, and prints the shortest time.
+pub fn timed<V, A>(name: &str, repetitions: usize, make: impl Fn() -> V, work: impl Fn(&mut V) -> A, check: impl Fn(&V, A) -> usize) {
+    let (mut best, mut sum) = (u128::MAX, 0);
+    for _ in 0..repetitions {
+        let mut value = black_box(make());
+        let start = Instant::now();
+        let answer = black_box(work(&mut value));
+        best = best.min(start.elapsed().as_nanos());
+        sum = check(black_box(&value), answer);
+    }
+    println!("{name} {best} {sum}");
+}
+
+/// The rows of records and codes. By hand it is the same work at indices and one after another.
+pub fn streams<W: Digits>(
+    n: usize,
+    r: usize,
+    ones: impl Fn(&W::Made) -> usize,
+    pack: impl Fn(&[Record]) -> W::Made,
+    unpack: impl Fn(&W::Made, &mut [Record]) -> usize,
+    decode: impl Fn(&W::Made, &[Found], usize) -> usize,
+) {
+    let all = records(n);
+    let packed = pack(&all);
+    for (write, read) in [("pack_records", "unpack_records"), ("store_records_at", "load_records_at")] {
+        timed(write, r, || (), |_| pack(&all), |_, made| ones(&made));
+        timed(read, r, || empty_records(n), |made| unpack(&packed, made), |made, found| sum_of_records(made) + found);
+    }
+    let (codes, table, all) = (codes(), found_by_look(), symbols(n));
+    timed("codes_append", r, || (), |_| encode::<W>(&codes, &all), |_, made| ones(&made));
+    let made = encode::<W>(&codes, &all);
+    timed("codes_decode", r, || (), |_| decode(&made, &table, n), |_, total| total);
 }

@@ -1,10 +1,9 @@
 //! The calls of the bench on a vector of words written by hand. Prints what the program prints, each line after a name.
 mod records;
 
-use records::{Code, Found, Record};
+use records::{Digits, Found, Record, timed};
 use std::fmt::Write;
 use std::hint::black_box;
-use std::time::Instant;
 
 #[derive(Clone, Default)]
 struct Bits {
@@ -291,18 +290,6 @@ fn ranks(n: usize, r: usize) {
     }), |_, t| t);
 }
 
-fn timed<V, A>(name: &str, repetitions: usize, make: impl Fn() -> V, work: impl Fn(&mut V) -> A, check: impl Fn(&V, A) -> usize) {
-    let (mut best, mut sum) = (u128::MAX, 0);
-    for _ in 0..repetitions {
-        let mut value = black_box(make());
-        let start = Instant::now();
-        let answer = black_box(work(&mut value));
-        best = best.min(start.elapsed().as_nanos());
-        sum = check(black_box(&value), answer);
-    }
-    println!("{name} {best} {sum}");
-}
-
 fn large(n: usize, r: usize) {
     let row = Bits::made(n, 0);
     let other = Bits::made(n, 5);
@@ -439,7 +426,9 @@ struct Writer {
     count: u32,
 }
 
-impl Writer {
+impl records::Digits for Writer {
+    type Made = Vec<u64>;
+
     fn write(&mut self, n: u32, x: u64) {
         let room = 64 - self.count;
         if n < room {
@@ -480,17 +469,6 @@ fn unpack(words: &[u64], records: &mut [Record]) -> usize {
     words.len()
 }
 
-#[inline(never)]
-fn encode(codes: &[Code], symbols: &[u16]) -> Vec<u64> {
-    let mut writer = Writer::default();
-    for symbol in symbols {
-        let code = codes[*symbol as usize];
-        writer.write(code.len as u32, code.bits);
-    }
-    writer.write(15, 0);
-    writer.finish()
-}
-
 /// A window whose next bit is the highest takes half a word where fewer than 32 bits are left in it.
 #[inline(never)]
 fn decode(words: &[u64], table: &[Found], count: usize) -> usize {
@@ -511,18 +489,8 @@ fn decode(words: &[u64], table: &[Found], count: usize) -> usize {
 }
 
 fn streams(n: usize, r: usize) {
-    let ones = |words: &Vec<u64>| words.iter().map(|w| w.count_ones() as usize).sum::<usize>();
-    let all = records::records(n);
-    timed("pack_records", r, || (), |_| pack(&all), |_, words| ones(&words));
-    let words = pack(&all);
-    timed("unpack_records", r, || records::empty_records(n), |made| unpack(&words, made), |made, found| records::sum_of_records(made) + found);
-    // By hand it is the same work, at indices or one after another.
-    timed("store_records_at", r, || (), |_| pack(&all), |_, words| ones(&words));
-    timed("load_records_at", r, || records::empty_records(n), |made| unpack(&words, made), |made, found| records::sum_of_records(made) + found);
-    let (codes, table, all) = (records::codes(), records::found_by_look(), records::symbols(n));
-    timed("codes_append", r, || (), |_| encode(&codes, &all), |_, words| ones(&words));
-    let words = encode(&codes, &all);
-    timed("codes_decode", r, || (), |_| decode(&words, &table, n), |_, total| total);
+    let ones = |words: &Vec<u64>| words.iter().map(|w| w.count_ones() as usize).sum();
+    records::streams::<Writer>(n, r, ones, pack, |words, made| unpack(words, made), |words, table, count| decode(words, table, count));
 }
 
 fn main() {

@@ -1,7 +1,7 @@
 //! The calls of the bench on a vector of words written by hand. Prints what the program prints, each line after a name.
 mod records;
 
-use records::{Digits, Found, Record, timed};
+use records::{Found, Record, timed};
 use std::fmt::Write;
 use std::hint::black_box;
 

@@ -3,7 +3,7 @@ use Rattle.std.proofs.Common.{◌≡◌, ℕ, zero, suc, false, ◌+◌, ◌-◌
 use Rattle.std.specs.Prelude.{ℤ, pos, negsuc, ◌-ℤ◌}
 use Rattle.std.specs.Int.{w64, cast_unsigned}
 use Rattle.std.proofs.Math.Pow.{pow_pos, pow_mono}
-use Rattle.std.proofs.Math.Nat.{div-eq_of_lt, mod-eq_of_lt, div-lt_iff_lt-mul, le-div_iff_mul-le}
+use Rattle.std.proofs.Math.Nat.{div-eq_of_lt, mod-eq_of_lt, le-div_iff_mul-le}
 use Rattle.std.proofs.lemmas.Bool.{cases_lt, lt-ltb, le-ltb}
 use Rattle.std.proofs.lemmas.List.{ext_get_or, get_or_past}
 use Rattle.std.proofs.lemmas.Nat.{div-mul-add, mod-mul-add, mod_below, pow-add}
@@ -71,10 +71,6 @@ signed_same n x some few below = sym (binary_low n (cast_unsigned w64 (signed_of
 pub signed_same_bits : (n x : ℕ) → 0 < n → n ≤ 64 → x < 2 ^ n → number_bits (cast_unsigned w64 (signed_of n x)) n ≡ number_bits x n
 signed_same_bits n x some few below = sym (bits_low n (cast_unsigned w64 (signed_of n x))) ∙ ap (λ k. number_bits k n) (signed_digits n x some few below).0
 
--- which half a number is in, as code asks
-pub in_lower : (n x : ℕ) → x / 2 ^ (n - 1) ≡ 0 → x < 2 ^ (n - 1)
-in_lower n x none = let h = (div-lt_iff_lt-mul {k = 2 ^ (n - 1)} {x = x} {y = 1} (pow_pos (n - 1))).0 (omega arith) in omega arith
-
 pub in_upper : (n x : ℕ) → 0 < x / 2 ^ (n - 1) → 2 ^ (n - 1) ≤ x
 in_upper n x some = let h = (le-div_iff_mul-le {k = 2 ^ (n - 1)} {x = 1} {y = x} (pow_pos (n - 1))).0 (omega arith) in omega arith
 
@@ -86,9 +82,6 @@ all_ones n few =
     let some = pow_pos (64 - n) in
     let is : 18446744073709551615 ≡ (2 ^ n - 1) * 2 ^ (64 - n) + (2 ^ (64 - n) - 1) = omega arith in
     ap (λ k. k / 2 ^ (64 - n)) is ∙ div-mul-add (2 ^ n - 1) (2 ^ (64 - n)) (2 ^ (64 - n) - 1) (omega arith)
-
-pub lower_fits : (n x : ℕ) → n ≤ 64 → x < 2 ^ (n - 1) → x < 2 ^ 63
-lower_fits n x few h = let most = pow_mono {i = n - 1} {j = 63} (omega arith) in omega arith
 
 -- one less than the negative of a number
 pub below_zero : (m : ℕ) → negsuc 0 -ℤ pos m ≡ negsuc m

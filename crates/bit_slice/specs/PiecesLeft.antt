@@ -47,15 +47,19 @@ pub record Walk {X Y : Type 0} (W : store.Ghosts X) (P : order.Ghosts Y) : Type 
   pub from : ℕ
   pub upto : ℕ
 
+-- how far an iterator over chunks is
 abbrev pub chunks_walk : {X Y : Type 0} {W : store.Ghosts X} {P : order.Ghosts Y} → Chunks X Y W P → Walk W P
 chunks_walk s = record { view = s.view; size = s.size; from = s.from; upto = s.upto }
 
+-- how far an iterator over exact chunks is
 abbrev pub exact_chunks_walk : {X Y : Type 0} {W : store.Ghosts X} {P : order.Ghosts Y} → ChunksExact X Y W P → Walk W P
 exact_chunks_walk s = record { view = s.view; size = s.size; from = s.from; upto = s.upto }
 
+-- how far an iterator over chunks from the end is
 abbrev pub back_chunks_walk : {X Y : Type 0} {W : store.Ghosts X} {P : order.Ghosts Y} → RChunks X Y W P → Walk W P
 back_chunks_walk s = record { view = s.view; size = s.size; from = s.from; upto = s.upto }
 
+-- how far an iterator over windows is
 abbrev pub windows_walk : {X Y : Type 0} {W : store.Ghosts X} {P : order.Ghosts Y} → Windows X Y W P → Walk W P
 windows_walk s = record { view = s.view; size = s.size; from = s.from; upto = s.upto }
 

@@ -5,7 +5,6 @@ use Rattle.std.proofs.Math.Nat.{mod-eq_of_lt, div-lt_iff_lt-mul, le-div_iff_mul-
 use Rattle.std.proofs.lemmas.Nat.{div-mul-add, mod-mul-add, div-add-mod', mod_below, pow-add, leading_top}
 use Rattle.std.specs.Int.{w64, leading_zeros}
 use Rattle.std.specs.Int.Count.{leading_unique}
-use Rattle.bit_addressing.proofs.Runs.{div_mono}
 use Rattle.bit_addressing.specs.Row.{binary}
 use Rattle.bit_rows.proofs.Binary.{binary_low}
 use Rattle.bit_streams.specs.Codes.{delta, gamma, rice, top_place, unary}
@@ -58,9 +57,6 @@ quotient_below k q h =
     let most = (le-div_iff_mul-le {k = 2 ^ k} {x = q} {y = 18446744073709551615} (pow_pos k)).0 h in
     omega arith
 
-pub quotient_within : (k x : ℕ) → x < 2 ^ 64 → x / 2 ^ k ≤ 18446744073709551615 / 2 ^ k
-quotient_within k x h = div_mono x 18446744073709551615 (2 ^ k) (pow_pos k) (omega arith)
-
 -- ---- Elias's codes
 
 -- the place of a number's highest digit
@@ -81,9 +77,6 @@ top_of_joined t r few =
     let double : 2 ^ (t + 1) ≡ 2 ^ t * 2 = pow-add 2 t 1 in
     let count : 63 - t ≡ leading_zeros w64 (1 * 2 ^ t + r % 2 ^ t) = leading_unique 64 (1 * 2 ^ t + r % 2 ^ t) (63 - t) (t + 1) (omega arith) (omega arith) (omega arith) in
     omega arith
-
-pub some_joined : (t r : ℕ) → 0 < 1 * 2 ^ t + r % 2 ^ t
-some_joined t r = let p = pow_pos t in omega arith
 
 pub gamma_joined : (t r : ℕ) → t < 64 → gamma (1 * 2 ^ t + r % 2 ^ t) ≡ unary t ++ binary t r
 gamma_joined t r few =

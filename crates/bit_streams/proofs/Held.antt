@@ -71,12 +71,6 @@ module _ (place : ℕ → ℕ → ℕ) where
   more_held None held pending n x = tt
   more_held (Some xs) held pending n x = ap (λ l. row_of place 8 xs ++ l) (joined_digits held n pending x) ∙ sym (append_assoc (row_of place 8 xs) (binary held pending) (binary n x))
 
-pub stays_on : (a b c : Option (List Bool)) → Stays a b → Stays b c → Stays a c
-stays_on None b c e f = tt
-stays_on (Some xs) None c e f = absurd e
-stays_on (Some xs) (Some ys) None e f = f
-stays_on (Some xs) (Some ys) (Some zs) e f = f ∙ e
-
 pub stays_same : (a : Option (List Bool)) → Stays a a
 stays_same None = tt
 stays_same (Some xs) = refl
@@ -86,23 +80,6 @@ passes_on None b c bits e f = tt
 passes_on (Some xs) None c bits e f = absurd e
 passes_on (Some xs) (Some ys) None bits e f = f
 passes_on (Some xs) (Some ys) (Some zs) bits e f = sym e ∙ f
-
-pub gains_on : (a b c : Option (List Bool)) (bits : List Bool) → Stays a b → Gains b c bits → Gains a c bits
-gains_on None b c bits e f = tt
-gains_on (Some xs) None c bits e f = absurd e
-gains_on (Some xs) (Some ys) None bits e f = f
-gains_on (Some xs) (Some ys) (Some zs) bits e f = f ∙ ap (λ l. l ++ bits) e
-
-pub gains_kept : (a b c : Option (List Bool)) (bits : List Bool) → Gains a b bits → Stays b c → Gains a c bits
-gains_kept None b c bits e f = tt
-gains_kept (Some xs) None c bits e f = absurd e
-gains_kept (Some xs) (Some ys) None bits e f = f
-gains_kept (Some xs) (Some ys) (Some zs) bits e f = f ∙ e
-
-pub short_of : (a b : Option (List Bool)) (held n : ℕ) → Stays a b → IfSome b (λ bits. length bits ≡ held) → held < n → IfSome a (λ bits. length bits < n)
-short_of None b held n e f h = tt
-short_of (Some xs) None held n e f h = absurd e
-short_of (Some xs) (Some ys) held n e f h = let s = ap length e in omega arith
 
 -- ---- numbers of 128 digits
 

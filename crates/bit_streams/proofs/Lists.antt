@@ -1,6 +1,6 @@
 -- A list that begins with the digits of a number, or with a bit.
-use Rattle.std.proofs.Common.{◌≡◌, ℕ, ◌+◌, ◌*◌, ◌/◌, ◌%◌, ◌^◌, ◌<◌, ◌≤◌, Bool, true, false, cond, List, [], ◌∷◌, ◌++◌, length, take, drop, slice_range, append_assoc, rules, slice_get, get_or, Some, None, Ok, Err, Result, nat_eq, sym, ◌∙◌, ap, subst, refl, zero, suc, inl, inr, arith}
-use Rattle.std.proofs.lemmas.List.{take-append-drop, take_all, drop_at, length-append, drop_all, drop_more, same_lists, places}
+use Rattle.std.proofs.Common.{◌≡◌, ℕ, ◌+◌, ◌*◌, ◌/◌, ◌%◌, ◌^◌, ◌<◌, ◌≤◌, Bool, true, false, cond, List, [], ◌∷◌, ◌++◌, length, take, drop, slice_range, append_assoc, rules, slice_get, get_or, Some, None, Ok, Err, nat_eq, sym, ◌∙◌, ap, subst, refl, zero, suc, inl, inr, arith}
+use Rattle.std.proofs.lemmas.List.{take-append-drop, drop_at, length-append, drop_all, same_lists, places}
 use Rattle.std.proofs.lemmas.Option.{slice_get_within, slice_get-get_or, get_or_from_slice_get}
 use Rattle.std.proofs.lemmas.Bool.{cases_lt}
 use Rattle.std.proofs.Math.Seq.{take-append_seam}
@@ -13,16 +13,12 @@ use Rattle.bit_addressing.specs.declared.order.BitOrder as order
 use Rattle.bit_addressing.specs.Typed.{row}
 use Rattle.bit_addressing.proofs.Typed.{length_row}
 use Rattle.bit_addressing.specs.declared.length.TheConstants.{MAX_BITS}
-use Rattle.bit_addressing.specs.declared.errors.GrowError.{GrowError}
 use Rattle.bit_addressing.specs.declared.errors.GrowError.TheVariants.{TooLong, OutOfMemory}
 use Rattle.bit_streams.specs.Streams.{Passed, Reading, Writing, Refuses}
 use Rattle.bit_addressing.proofs.Runs.{mul_mono, slices_joined}
 use Rattle.bit_addressing.specs.Binary.{value}
 use Rattle.bit_addressing.specs.Row.{binary}
 use Rattle.bit_rows.proofs.Binary.{length-binary, value_of_binary, binary_low, binary_parted}
-
-pub digits_then_rest : (n x : ℕ) (xs : List Bool) → binary n x ≡ take n xs → xs ≡ binary n x ++ drop n xs
-digits_then_rest n x xs e = sym (ap (λ l. l ++ drop n xs) e ∙ take-append-drop n xs)
 
 pub take_front : (n : ℕ) (ys zs : List Bool) → length ys ≡ n → take n (ys ++ zs) ≡ ys
 take_front n ys zs e = ap (λ k. take k (ys ++ zs)) (sym e) ∙ take-append_seam ys zs
@@ -41,11 +37,6 @@ has_digits n x xs more e =
 
 bit_here : (xs : List Bool) (at : ℕ) (b : Bool) → slice_get xs at ≡ Some b → (at < length xs) × (get_or xs at false ≡ b)
 bit_here xs at b e = (slice_get_within xs at b e, get_or_from_slice_get xs at b false e)
-
-pub bit_first : (xs : List Bool) (at : ℕ) (b : Bool) → slice_get xs at ≡ Some b → drop at xs ≡ b ∷ drop (at + 1) xs
-bit_first xs at b e =
-    let h = bit_here xs at b e in
-    drop_more xs at false h.0 ∙ ap (λ c. c ∷ drop (at + 1) xs) h.1
 
 pub heads : {a b : Bool} {xs ys : List Bool} → a ∷ xs ≡ b ∷ ys → a ≡ b
 heads e = ap (λ l. get_or l 0 false) e
@@ -89,9 +80,6 @@ joined_fits a b p x few all small =
 
 pub slice_whole : (n : ℕ) (xs : List Bool) → length xs ≡ n → slice_range xs 0 n ≡ xs
 slice_whole n xs size = same_lists _ _ (search (rules, places)) (λ i e below. grind (arith, places))
-
-pub slice_none : (xs : List Bool) (n : ℕ) → slice_range xs 0 (0 * n) ≡ []
-slice_none xs n = same_lists _ _ (search (rules, places)) (λ i e below. grind (arith, places))
 
 -- one more word of a block
 pub one_more : (old now b word : List Bool) (i w : ℕ) → now ≡ old ++ slice_range b 0 (i * w) → word ≡ slice_range b (i * w) (i * w + w) → (i + 1) * w ≤ length b → now ++ word ≡ old ++ slice_range b 0 ((i + 1) * w)
@@ -170,24 +158,8 @@ bit_read zero h = refl
 bit_read (suc zero) h = refl
 bit_read (suc (suc x)) h = absurd (omega arith)
 
--- a writer that goes back to where it was
-pub went_back : (n : ℕ) (old now cut more : List Bool) → cut ≡ take n now → n ≡ length old → now ≡ old ++ more → cut ≡ old
-went_back n old now cut more is size on = is ∙ ap (take n) on ∙ take_front n old more (sym size)
-
--- what was written before still comes first
-pub begins_on : (old now new more : List Bool) → new ≡ now ++ more → take (length old) now ≡ old → take (length old) new ≡ old
-begins_on old now new more is begins =
-    ap (take (length old)) (is ∙ ap (λ l. l ++ more) (sym (take-append-drop (length old) now) ∙ ap (λ l. l ++ drop (length old) now) begins) ∙ append_assoc old (drop (length old) now) more)
-    ∙ take_front (length old) old (drop (length old) now ++ more) refl
-
 pub begins_with : (old new more : List Bool) → new ≡ old ++ more → take (length old) new ≡ old
 begins_with old new more is = ap (take (length old)) is ∙ take_front (length old) old more refl
-
-pub begins_same : (old new : List Bool) → new ≡ old → take (length old) new ≡ old
-begins_same old new is = ap (take (length old)) is ∙ take_all (length old) old (omega arith)
-
-pub refuses_at : (wanted other : ℕ) (result : Result (Unit {0}) GrowError) (old new : Writing) → wanted ≡ other → Refuses result wanted old new → Refuses result other old new
-refuses_at wanted other result old new e r = subst (λ k. Refuses result k old new) e r
 
 pub passed_at : (n m : ℕ) (old new : Reading) → n ≡ m → Passed n old new → Passed m old new
 passed_at n m old new e p = subst (λ k. Passed k old new) e p

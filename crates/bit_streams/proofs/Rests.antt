@@ -1,8 +1,8 @@
 -- Golomb's codes: the rest by a number, and the quotient.
 use Rattle.std.proofs.Common.{◌≡◌, ℕ, zero, suc, ◌+◌, ◌-◌, ◌*◌, ◌/◌, ◌%◌, ◌^◌, ◌<◌, ◌≤◌, Bool, true, false, cond, List, [], ◌∷◌, ◌++◌, append_assoc, refl, sym, ◌∙◌, ap, subst, inl, inr, arith}
-use Rattle.std.proofs.Math.Nat.{div-lt_iff_lt-mul, le-div_iff_mul-le, mod-eq_of_lt}
+use Rattle.std.proofs.Math.Nat.{div-lt_iff_lt-mul, mod-eq_of_lt}
 use Rattle.std.proofs.lemmas.Bool.{cases_lt, lt-ltb, le-ltb}
-use Rattle.std.proofs.lemmas.Nat.{div-mul-add, mod-mul-add, div-add-mod', le-div, mod_below, pow-add, pow_below}
+use Rattle.std.proofs.lemmas.Nat.{div-mul-add, mod-mul-add, div-add-mod', mod_below, pow-add, pow_below}
 use Rattle.bit_addressing.specs.Row.{binary}
 use Rattle.bit_rows.proofs.Binary.{binary_parted}
 use Rattle.bit_streams.specs.Codes.{golomb, rest_code, top_place, unary}
@@ -48,10 +48,6 @@ parity y = by_rest (y % 2) (mod_below y 2 (omega arith)) (div-add-mod' y 2)
     by_rest zero h e = (false, sym e)
     by_rest (suc zero) h e = (true, sym e)
     by_rest (suc (suc r)) h e = absurd (omega arith)
-
--- what is read of a rest: its first digits, and where they are those of no short code one more
-pub rest_found_short : (m top short r : ℕ) (old new : List Bool) → top ≡ top_place m → short ≡ 2 ^ (top + 1) - m → r < short → old ≡ binary top r ++ new → old ≡ rest_code m r ++ new
-rest_found_short m top short r old new is count h first = first ∙ ap (λ l. l ++ new) (sym (short_rest m top short r is count h))
 
 pub rest_found_long : (m top short r digit : ℕ) (b : Bool) (old mid new : List Bool) → top ≡ top_place m → short ≡ 2 ^ (top + 1) - m → short ≤ r → digit ≡ cond b 1 0 → old ≡ binary top r ++ mid → mid ≡ b ∷ new
     → old ≡ rest_code m (r - short + r + digit) ++ new
@@ -105,14 +101,8 @@ first_digits m top short x old more least most double is count below e = elim (c
 pub golomb_joined : (m q r : ℕ) → r < m → golomb m (q * m + r) ≡ unary q ++ rest_code m r
 golomb_joined m q r h = ap (λ k. unary k ++ rest_code m ((q * m + r) % m)) (div-mul-add q m r h) ∙ ap (λ k. unary q ++ rest_code m k) (mod-mul-add q m r h)
 
-pub product_fits : (q a m : ℕ) → 0 < m → q ≤ a / m → q * m ≤ a
-product_fits q a m positive h = (le-div_iff_mul-le positive).0 h
-
 pub product_past : (q a m : ℕ) → 0 < m → a / m < q → a < q * m
 product_past q a m positive h = (div-lt_iff_lt-mul {k = m} {x = a} {y = q} positive).0 h
-
-pub quotient_small : (m x : ℕ) → 0 < m → x < 2 ^ 64 → x / m ≤ (18446744073709551615 - x % m) / m
-quotient_small m x positive h = let d = div-add-mod' x m in le-div (x / m) (18446744073709551615 - x % m) m positive (omega arith)
 
 pub one_shl : (t : ℕ) → t < 64 → 1 * 2 ^ t % 2 ^ 64 ≡ 2 ^ t
 one_shl t few = ap (λ k. k % 2 ^ 64) (let e : 1 * 2 ^ t ≡ 2 ^ t = omega arith in e) ∙ mod-eq_of_lt (pow_below t 64 few)

@@ -1,7 +1,7 @@
 -- What a register of 64 bits gives, whose next bit is its highest.
 use Rattle.std.proofs.Common.{◌≡◌, ℕ, ◌+◌, ◌-◌, ◌*◌, ◌/◌, ◌%◌, ◌^◌, ◌<◌, ◌≤◌, Bool, List, [], ◌++◌, append_assoc, length, take, drop, slice_range, refl, sym, ◌∙◌, ap, subst, arith, rules}
 use Rattle.std.proofs.lemmas.List.{take-append-drop, length-take-le, drop_at, length-append, nil_from_length, same_lists, places}
-use Rattle.std.proofs.lemmas.Nat.{mod-mul-add, mod_below, pow-add, div-add-mod', shl_whole, mul-mod_first}
+use Rattle.std.proofs.lemmas.Nat.{mod-mul-add, mod_below, pow-add, div-add-mod', mul-mod_first}
 use Rattle.std.proofs.Math.Pow.{pow_pos}
 use Rattle.std.proofs.Math.Nat.{mul_assoc, mul_comm, mul-div-mul_right, mul-div_cancel, mod-eq_of_lt, div-lt_iff_lt-mul}
 use Rattle.bit_addressing.specs.Row.{binary, sized, words_for}
@@ -120,16 +120,6 @@ module _ (row : List Bool) (from have window n block : ℕ) (held : IsHeld row f
 pub slice_empty : (row : List Bool) (a b : ℕ) → a ≡ b → slice_range row a b ≡ []
 slice_empty row a b e = same_lists _ _ (search (rules, places)) (λ i d below. grind (arith, places))
 
--- a number is held whose digits come next
-pub number_held : (row : List Bool) (from n x : ℕ) → 0 < n → n < 64 → x < 2 ^ n → binary n x ≡ slice_range row from (from + n) → IsHeld row from n (x * 2 ^ (64 - n) % 2 ^ 64)
-number_held row from n x some few below is = record {
-  number = x;
-  is = shl_whole x n (64 - n) 64 below (omega arith);
-  small = below;
-  digits = is;
-  few = few;
-}
-
 -- nothing is held
 pub nothing_held : (row : List Bool) (from : ℕ) → IsHeld row from 0 0
 nothing_held row from = record {
@@ -228,11 +218,6 @@ front_digits count n p h =
 
 pub front_below : (count n p : ℕ) → n ≤ count → p < 2 ^ count → p / 2 ^ (count - n) < 2 ^ n
 front_below count n p h small = (div-lt_iff_lt-mul (pow_pos (count - n))).1 (subst (λ k. p < k) (pow_parts count n (count - n) (omega arith)) small)
-
--- a part of a view of a row is a part of what is left
-pub part_taken : (row : List Bool) (start from end n : ℕ) → start ≤ from → from + n ≤ end → end ≤ length row
-    → slice_range (slice_range (slice_range row start (start + (end - start))) (from - start) (end - start)) 0 n ≡ take n (slice_range row from end)
-part_taken row start from end n begins h room = same_lists _ _ (search (rules, places)) (λ i d below. grind (arith, places))
 
 pub rest_taken : (row : List Bool) (start from end : ℕ) → start ≤ from → from ≤ end → end ≤ length row
     → slice_range (slice_range row start (start + (end - start))) (from - start) (end - start) ≡ slice_range row from end

@@ -46,10 +46,6 @@ no_one zero (suc q) ys e = let l = ap length e in absurd (omega arith)
 no_one (suc n) zero ys e = absurd (let h = heads e in cc)
 no_one (suc n) (suc q) ys e = no_one n q ys (tails e)
 
--- one more zero
-pub zero_passed : (old now rest : List Bool) (q : ℕ) → old ≡ replicate q false ++ now → now ≡ false ∷ rest → old ≡ replicate (q + 1) false ++ rest
-zero_passed old now rest q is next = is ∙ ap (λ l. replicate q false ++ l) next ∙ sym (append_assoc (replicate q false) (false ∷ []) rest) ∙ ap (λ l. l ++ rest) (zeros_joined q 1)
-
 pub one_passed : (old now rest : List Bool) (q : ℕ) → old ≡ replicate q false ++ now → now ≡ true ∷ rest → old ≡ unary q ++ rest
 one_passed old now rest q is next = is ∙ ap (λ l. replicate q false ++ l) next ∙ sym (append_assoc (replicate q false) (true ∷ []) rest)
 
@@ -109,9 +105,6 @@ zeros_of n few = filled_digits n 0 false few block_of_zeros
 
 pub ones_of : (n : ℕ) → n ≤ 64 → binary n 18446744073709551615 ≡ replicate n true
 ones_of n few = filled_digits n 18446744073709551615 true few block_of_ones
-
-pub no_pad : (l m : ℕ) → 0 < m → l % m ≡ 0 → (m - l % m) % m ≡ 0
-no_pad l m some none = ap (λ k. (m - k) % m) none ∙ (let e : m - 0 ≡ 1 * m + 0 = omega arith in ap (λ k. k % m) e ∙ mod-mul-add 1 m 0 some)
 
 pub some_pad : (l m over : ℕ) → 0 < m → over ≡ l % m → 0 < over → (m - l % m) % m ≡ m - over
 some_pad l m over some is there = ap (λ k. (m - k) % m) (sym is) ∙ mod-eq_of_lt (omega arith)

@@ -272,6 +272,7 @@ fn write_digits_over<T: BitStore, O: BitOrder>(words: &mut [T], at: usize, n: u8
 
 /// The number that the `n` bits of the row from `at` on write in binary, the most significant digit
 /// first: each word is read once. Requires that `n` is at most 64, and the run lies in the words.
+#[inline(always)]
 pub fn read_binary<T: BitStore, O: BitOrder>(words: &[T], at: usize, n: u8) -> u64
     requires few { n ≤ 64 }
     requires within { at + n ≤ T.BITS * length words.now }
@@ -298,6 +299,7 @@ pub fn read_binary<T: BitStore, O: BitOrder>(words: &[T], at: usize, n: u8) -> u
 /// Writes a number in binary by `n` digits at the places from `at` on, the most significant digit first,
 /// and no other bit; digits above the `n` lowest are left out. What `read_binary` reads. Requires that
 /// `n` is at most 64, and the run lies in the words.
+#[inline(always)]
 pub fn write_binary<T: BitStore, O: BitOrder>(words: &mut [T], at: usize, n: u8, number: u64)
     requires few { n ≤ 64 }
     requires within { at + n ≤ T.BITS * length words.old }

@@ -1,5 +1,5 @@
 -- Where the first bits of a pattern may begin in a list.
-use Rattle.std.proofs.Common.{◌≡◌, ◌≢◌, ℕ, ◌+◌, ◌-◌, ◌<◌, ◌≤◌, Bool, false, ◌||◌, List, length, get_or, take, drop, slice_range, refl, sym, ◌∙◌, ap, inl, inr, arith}
+use Rattle.std.proofs.Common.{◌≡◌, ◌≢◌, ℕ, ◌+◌, ◌-◌, ◌<◌, ◌≤◌, Bool, false, true, not, if◌then◌else◌, ◌||◌, List, length, get_or, take, drop, slice_range, refl, sym, ◌∙◌, ap, inl, inr, arith}
 use Rattle.std.proofs.Math.Bool.{or-false}
 use Rattle.std.proofs.lemmas.Bool.{cases_lt, lt-ltb, le-ltb}
 use Rattle.std.proofs.lemmas.List.{get_or-take, get_or-drop, take-take}
@@ -26,9 +26,24 @@ or_none a b none = rw none (or-false a)
 pub none_or : (a b : Bool) → a ≡ false → (a || b) ≡ b
 none_or a b none = rw none refl
 
+pub xor_none : (a b : Bool) → a ≡ true → b ≡ false → (if a then not b else b) ≡ true
+xor_none a b whole none = rw whole (ap not none)
+
+pub xor_all : (a b : Bool) → a ≡ false → b ≡ true → (if a then not b else b) ≡ true
+xor_all a b none whole = rw none whole
+
 -- a number of n items has them
 pub item_of_chunk : (xs : List Bool) (at n q number : ℕ) → q < n → number ≡ number_of (slice_range xs at (at + n)) → has_bit number q ≡ get_or xs (at + q) false
 item_of_chunk xs at n q number below is = ap (λ x. has_bit x q) is ∙ has_number (slice_range xs at (at + n)) q ∙ get_or-run xs at n q below
+
+-- two numbers of 64 items each have the 128 from an index on
+pub items_of_two : (xs : List Bool) (at low high : ℕ) → low ≡ number_of (slice_range xs at (at + 64)) → high ≡ number_of (slice_range xs (at + 64) (at + 64 + 64)) → (q : ℕ) → q < 128 → bit_of_two low high q ≡ get_or xs (at + q) false
+items_of_two xs at low high first second q inside = elim (cases_lt q 64) [
+  | inl l ↦ of_first low high q l ∙ item_of_chunk xs at 64 q low l first
+  | inr l ↦
+      let place : at + 64 + (q - 64) ≡ at + q = omega arith in
+      of_second low high q l ∙ item_of_chunk xs (at + 64) 64 (q - 64) high (omega arith) second ∙ ap (λ i. get_or xs i false) place
+]
 
 -- ---- patterns
 
@@ -52,11 +67,14 @@ first_bits xs ys n m j pattern few room is same =
     ∙ sym (bits_of_number (slice_range ys 0 (0 + m)) m (length-run ys 0 m (omega (arith, room))))
     ∙ ap (λ x. number_bits x m) (sym is)
 
--- it begins at none of the indices up to one more, where it has room
-pub none_up_to : (xs ys : List Bool) (len n m at skip pattern : ℕ) → m ≤ n → m ≤ length ys → pattern ≡ number_of (slice_range ys 0 (0 + m)) → ((j : ℕ) → j < at → j + n ≤ len → part n xs j ≢ ys) → ((j : ℕ) → j < skip → at + j + m ≤ len → part m xs (at + j) ≢ number_bits pattern m) → (j : ℕ) → j < at + skip → j + n ≤ len → part n xs j ≢ ys
-none_up_to xs ys len n m at skip pattern few room is before none j below fits same = elim (cases_lt j at) [
+-- it begins nowhere up to an index, if its first bits begin nowhere from another on
+pub none_to : (xs ys : List Bool) (len n m at to pattern : ℕ) → m ≤ n → m ≤ length ys → pattern ≡ number_of (slice_range ys 0 (0 + m)) → ((j : ℕ) → j < at → j + n ≤ len → part n xs j ≢ ys) → ((j : ℕ) → at ≤ j → j < to → j + m ≤ len → part m xs j ≢ number_bits pattern m) → (j : ℕ) → j < to → j + n ≤ len → part n xs j ≢ ys
+none_to xs ys len n m at to pattern few room is before none j below fits same = elim (cases_lt j at) [
   | inl l ↦ before j l fits same
-  | inr l ↦
-      let place : at + (j - at) ≡ j = omega arith in
-      none (j - at) (omega arith) (omega arith) (ap (part m xs) place ∙ first_bits xs ys n m j pattern few room is same)
+  | inr l ↦ none j l below (omega (arith, few, fits)) (first_bits xs ys n m j pattern few room is same)
 ]
+
+-- the same with the indices counted from the other on
+pub none_up_to : (xs ys : List Bool) (len n m at skip pattern : ℕ) → m ≤ n → m ≤ length ys → pattern ≡ number_of (slice_range ys 0 (0 + m)) → ((j : ℕ) → j < at → j + n ≤ len → part n xs j ≢ ys) → ((j : ℕ) → j < skip → at + j + m ≤ len → part m xs (at + j) ≢ number_bits pattern m) → (j : ℕ) → j < at + skip → j + n ≤ len → part n xs j ≢ ys
+none_up_to xs ys len n m at skip pattern few room is before none =
+    none_to xs ys len n m at (at + skip) pattern few room is before (λ j from below fits same. let place : at + (j - at) ≡ j = omega arith in none (j - at) (omega arith) (omega arith) (ap (part m xs) place ∙ same))

@@ -857,6 +857,7 @@ pub trait BitList {
     /// ```text
     /// of 01101001: bits.load_le_at(1, 4) == 11
     /// ```
+    #[inline(always)]
     final fn load_le_at(&self, at: usize, n: u8) -> u64
         requires few { n ≤ 64 }
         requires within { at + n ≤ len self.now }
@@ -874,6 +875,7 @@ pub trait BitList {
     /// ```text
     /// of 01101001: bits.load_be_at(1, 4) == 13
     /// ```
+    #[inline(always)]
     final fn load_be_at(&self, at: usize, n: u8) -> u64
         requires few { n ≤ 64 }
         requires within { at + n ≤ len self.now }

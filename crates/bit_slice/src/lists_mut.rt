@@ -405,6 +405,7 @@ pub trait BitListMut: BitList {
     /// ```text
     /// of 00000000: bits.store_le_at(1, 3, 6) leaves 00110000
     /// ```
+    #[inline(always)]
     final fn store_le_at(&mut self, at: usize, n: u8, number: u64)
         requires few { n ≤ 64 }
         requires within { at + n ≤ Self.len self.old }
@@ -434,6 +435,7 @@ pub trait BitListMut: BitList {
     /// ```text
     /// of 00000000: bits.store_be_at(1, 3, 6) leaves 01100000
     /// ```
+    #[inline(always)]
     final fn store_be_at(&mut self, at: usize, n: u8, number: u64)
         requires few { n ≤ 64 }
         requires within { at + n ≤ Self.len self.old }

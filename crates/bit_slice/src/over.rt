@@ -277,6 +277,7 @@ pub(crate) fn store_be_over<T: BitStore, O: BitOrder>(
 
 // Writes the `n` lowest bits of a number over those from index `at` on, the least significant first. Requires
 // that `n` is at most 64, and that the bits lie in the list.
+#[inline(always)]
 pub(crate) fn store_le_at_over<T: BitStore, O: BitOrder>(
     words: &mut [T],
     head: usize,
@@ -295,6 +296,7 @@ pub(crate) fn store_le_at_over<T: BitStore, O: BitOrder>(
 }
 
 // Like `store_le_at_over`, but the most significant bit is the first.
+#[inline(always)]
 pub(crate) fn store_be_at_over<T: BitStore, O: BitOrder>(
     words: &mut [T],
     head: usize,

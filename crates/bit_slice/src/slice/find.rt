@@ -19,6 +19,36 @@ fn from_place(low: u64, high: u64, i: u8) -> u64
     low >> i | (high << 1) << (63 - i)
 }
 
+// The places in two numbers at which bit `i` of a pattern may stand, moved back by `i`: bit `p` of the result is true
+// wherever the bit of place `p + i` is bit `i` of the pattern. Requires that `i` is below 64.
+#[inline(always)]
+fn agreeing(low: u64, high: u64, pattern: u64, i: u8) -> u64
+    requires { i < 64 }
+    ensures { (p : ℕ) → p < 64 → bit_of_two low high (p + i) ≡ has_bit pattern i → has_bit result p ≡ true }
+{
+    let here = from_place(low, high, i);
+    let flips = if (pattern >> i) % 2 == 1 { 0 } else { !0u64 };
+    here ^ flips
+}
+
+// How many bits of a pattern `first_places` compares. After 10 bits about one word in 16 still has a place, where its bits
+// have no pattern, so the test after them is seldom true.
+const FIRST: u8 = 10;
+
+// Like `places`, for the first bits of a pattern alone. It has no test, and its shifts are by constants.
+#[inline(always)]
+fn first_places(low: u64, high: u64, pattern: u64) -> u64
+    ensures { (p : ℕ) → p < 64 → HasAt low high pattern FIRST p → has_bit result p ≡ true }
+{
+    let mut left = !0u64;
+    let mut i = 0;
+    while i < FIRST {
+        left &= agreeing(low, high, pattern, i);
+        i += 1;
+    }
+    left
+}
+
 // The places in `low` at which the `m` lowest bits of a pattern may begin in two numbers: bit `p` of the result is true
 // wherever they do. All places are tried at once, bit by bit of the pattern, until none is left.
 #[inline(always)]
@@ -28,9 +58,12 @@ fn places(low: u64, high: u64, pattern: u64, m: u8) -> u64
 {
     let mut left = !0u64;
     let mut i = 0;
+    if m >= FIRST {
+        left = first_places(low, high, pattern);
+        i = FIRST;
+    }
     while i < m && left != 0 {
-        let here = from_place(low, high, i);
-        left &= if (pattern >> i) % 2 == 1 { here } else { !here };
+        left &= agreeing(low, high, pattern, i);
         i += 1;
     }
     left
@@ -66,6 +99,33 @@ impl<'a, T: BitStore, O: BitOrder> BitSlice<'a, T, O> {
         places(low, high, pattern, m).trailing_zeros() as usize
     }
 
+    // The indices from `at` on at which the `m` lowest bits of a pattern do not begin are skipped, 64 at a time, while there
+    // are 128 bits to look at: each word is read once. Requires that `at` is at most the length.
+    #[inline(always)]
+    fn skip_words(self, at: usize, pattern: u64, m: u8) -> usize
+        requires few { m ≤ 64 }
+        requires inside { at ≤ len_of self }
+        ensures from { at ≤ result }
+        ensures upto { result ≤ len_of self.entry }
+        ensures none { (j : ℕ) → at ≤ j → j < result → j + m ≤ len_of self.entry
+            → part m (list_of self.entry) j ≢ number_bits pattern m }
+    {
+        if self.len - at < 128 {
+            return at;
+        }
+        let mut i = at;
+        let mut low = self.chunk_at(i, 64);
+        while self.len - i >= 128 {
+            let high = self.chunk_at(i + 64, 64);
+            if places(low, high, pattern, m) != 0 {
+                return i;
+            }
+            low = high;
+            i += 64;
+        }
+        i
+    }
+
     // The first index at which the bits of `other` begin: 64 at a time by its first bits, and what may begin there is
     // compared.
     pub(crate) fn find_part<U: BitStore, P: BitOrder>(
@@ -84,9 +144,12 @@ impl<'a, T: BitStore, O: BitOrder> BitSlice<'a, T, O> {
         let pattern = other.chunk_at(0, m);
         let mut at = 0;
         while at + n <= self.len {
-            let skip = self.places_without(at, pattern, m as u8);
+            at = self.skip_words(at, pattern, m as u8);
+            // Up to where 64 bits of whole words begin, since only those are read without a call.
+            let step = 64 - (self.head + at) % 64;
+            let skip = self.places_without(at, pattern, m as u8).min(step);
             at += skip;
-            if skip < 64 {
+            if skip < step {
                 if at + n > self.len {
                     return None;
                 }

@@ -19,6 +19,7 @@ pub mod Rotating
 pub mod Moved
 pub mod Within
 pub mod Halves
+pub mod Hashing
 pub mod Writing
 pub mod Digits
 pub mod Owned

@@ -206,7 +206,7 @@ module _ (xs : List Bool) (head len by : ℕ) (inside : by ≤ len) (room : head
       ap (λ k. put (moved xs head (head + by) (len - by)) head (replicate k false)) count ∙ moved_back (replicate by false) (length-replicate by false)
 
 -- bits kept in words of 64 are read back
-pub kept_back : (place : ℕ → ℕ → ℕ) (words : List ℕ) (ys : List Bool) (n : ℕ) → length ys ≡ n → n ≤ 64 * length words → slice_range (put (row_of place 64 words) 0 ys) 0 (0 + n) ≡ ys
-kept_back place words ys n size room =
+pub kept_back : (place : ℕ → ℕ → ℕ) (words : List ℕ) (ys : List Bool) (at n : ℕ) → length ys ≡ n → at + n ≤ 64 * length words → slice_range (put (row_of place 64 words) at ys) at (at + n) ≡ ys
+kept_back place words ys at n size room =
     let all : length (row_of place 64 words) ≡ 64 * length words = length-row_of place 64 words in
-    shown_filled (row_of place 64 words) ys 0 n (sym size) (omega arith)
+    shown_filled (row_of place 64 words) ys at n (sym size) (omega arith)

@@ -1,6 +1,6 @@
 //! Changes of runs of bits in words: they are flipped, reversed, rotated, and combined with another
 //! run of the same words.
-ghost use Rattle.std.specs.Prelude.{◌≡◌, ◌+◌, ◌-◌, ◌*◌, ◌/◌, ◌^◌, ◌<◌, ◌≤◌, ◌++◌, drop, false, length, map, not, replicate, slice_range, take};
+ghost use Rattle.std.specs.Prelude.{◌≡◌, ◌+◌, ◌-◌, ◌*◌, ◌%◌, ◌/◌, ◌^◌, ◌<◌, ◌≤◌, ◌++◌, drop, false, length, map, not, replicate, slice_range, take};
 ghost use Rattle.bit_addressing.specs.declared.length.TheConstants.{MAX_BITS};
 ghost use Rattle.bit_addressing.specs.Row.{put};
 ghost use Rattle.bit_addressing.specs.Typed.{row};
@@ -50,8 +50,8 @@ pub(crate) fn flip_bits<T: BitStore, O: BitOrder>(words: &mut [T], from: usize, 
     }
 }
 
-// How many bits a combination keeps beside the words at most: 16 words of 64 bits.
-const KEPT: usize = 1024;
+// How many bits a combination keeps beside the words at most: 128 words of 64 bits.
+const KEPT: usize = 8192;
 
 // Moves the `len` bits of the words' row from `head` on by `by` indices towards the front. The first `by` bits are
 // dropped, and the last `by` become false. No other bit changes. Requires that the run lies in the words, and `by`
@@ -95,15 +95,17 @@ pub(crate) fn shift_bits_right<T: BitStore, O: BitOrder>(
     fill_bits::<T, O>(words, head, head + by, false);
 }
 
-// Combines the `n` bits from `at` on with those from `from` on, at most 1024: these are kept first, and then combined
-// by words.
-fn combine_piece<F: BitOperator, T: BitStore, O: BitOrder>(
+// Combines the `n` bits from `at` on with those from `from` on, of which a copy is kept in `N` words: at the index in its
+// word at which they begin, so that the copy takes no shifts. Requires that the words hold them there, and are at most 129.
+#[inline(always)]
+fn combine_kept<F: BitOperator, T: BitStore, O: BitOrder, const N: usize>(
     words: &mut [T],
     from: usize,
     at: usize,
     n: usize,
 )
-    requires few { n ≤ 1024 }
+    requires memory { N ≤ 129 }
+    requires few { from % 64 + n ≤ 64 * N }
     requires source { from + n ≤ T.BITS * length words.old }
     requires target { at + n ≤ T.BITS * length words.old }
     requires source_fits { from + n < 2 ^ 64 }
@@ -114,9 +116,35 @@ fn combine_piece<F: BitOperator, T: BitStore, O: BitOrder>(
         (slice_range (row T.BitStore O.BitOrder words.old) from (from + n))) }
     ensures size { length words.new ≡ length words.old }
 {
-    let mut kept = [0u64; 16];
-    copy_bits::<u64, O, T, O>(&mut kept, 0, words, from, n);
-    combine_bits::<F, T, O, u64, O>(words, at, &kept, 0, n);
+    let skip = from % 64;
+    let mut kept = [0u64; N];
+    copy_bits::<u64, O, T, O>(&mut kept, skip, words, from, n);
+    combine_bits::<F, T, O, u64, O>(words, at, &kept, skip, n);
+}
+
+// Like `combine_kept`, of at most 8192 bits. Fewer take fewer words, since each is written with zeros first.
+fn combine_piece<F: BitOperator, T: BitStore, O: BitOrder>(
+    words: &mut [T],
+    from: usize,
+    at: usize,
+    n: usize,
+)
+    requires few { n ≤ 8192 }
+    requires source { from + n ≤ T.BITS * length words.old }
+    requires target { at + n ≤ T.BITS * length words.old }
+    requires source_fits { from + n < 2 ^ 64 }
+    requires fits { at + n < 2 ^ 64 }
+    ensures bits { row T.BitStore O.BitOrder words.new
+        ≡ put (row T.BitStore O.BitOrder words.old) at
+        (combined F.made (slice_range (row T.BitStore O.BitOrder words.old) at (at + n))
+        (slice_range (row T.BitStore O.BitOrder words.old) from (from + n))) }
+    ensures size { length words.new ≡ length words.old }
+{
+    if n <= 448 {
+        combine_kept::<F, T, O, 8>(words, from, at, n);
+    } else {
+        combine_kept::<F, T, O, 129>(words, from, at, n);
+    }
 }
 
 // Like `combine_within`, from the front on. Requires that `at` is not after `from`.

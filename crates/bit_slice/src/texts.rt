@@ -3,7 +3,7 @@ ghost use Rattle.std.specs.Prelude.{◌≡◌, ℕ, ◌+◌, ◌*◌, ◌<◌, �
 ghost use Rattle.std.specs.Fmt.{WritesStyledOnOk, digit_glyph};
 ghost use Rattle.std.specs.List.{fold};
 ghost use Rattle.std.specs.Str.{IsAscii};
-ghost use Rattle.bit_addressing.specs.Row.{binary, words_for};
+ghost use Rattle.bit_addressing.specs.Row.{binary, number_bits, words_for};
 ghost use Rattle.bit_addressing.specs.Text.{list_text, digit_of};
 ghost use Rattle.bit_addressing.specs.Bits.{has_bit};
 ghost use Rattle.bit_addressing.specs.Binary.{value_after};
@@ -291,12 +291,29 @@ pub fn write_digits<T: BitStore, O: BitOrder, W: fmt::Write>(
     f.write_str("]")
 }
 
+// Feeds a hasher the hash of each of the `n` lowest bits of a number, that of place 0 first. Requires that `n` is at most
+// 64.
+#[inline(always)]
+fn hash_number<H: Hasher>(number: u64, n: u8, state: &mut H)
+    requires { n ≤ 64 }
+    ensures { state.new ≡ fold H.write state.old (bits_fed (number_bits number n)) }
+{
+    for i in 0..n {
+        let bit = (number >> i) % 2 == 1;
+        bit.hash(state);
+    }
+}
+
 /// Feeds a hasher the hash of each bit of a view as a truth value, in order, and nothing else. Takes no
 /// memory.
 pub fn hash_bits<T: BitStore, O: BitOrder, H: Hasher>(view: BitSlice<'_, T, O>, state: &mut H)
     ensures { state.new ≡ fold H.write state.old (bits_fed (list_of view.entry)) }
 {
-    for bit in view.iter() {
-        bit.hash(state);
+    let len = view.len();
+    let mut at = 0;
+    while len - at >= 64 {
+        hash_number(view.chunk_at(at, 64), 64, state);
+        at += 64;
     }
+    hash_number(view.chunk_at(at, len - at), (len - at) as u8, state);
 }

@@ -21,7 +21,7 @@ returns-clause-bits g c =
     let count : length rest ≡ n = length-run xs (head + by) n (omega arith) in
     let end : head + by + n ≡ head + len = omega arith in
     let others : len - n ≡ by = omega arith in
-    let back = ap (λ l. slice_range l 0 (0 + n)) c.copy_bits.ensures.bits ∙ kept_back g.O.BitOrder.place _ rest n count (omega (arith, length-map c.args.kept.now (λ x. x), c.requires.few)) in
+    let back = ap (λ l. slice_range l 0 (0 + n)) c.copy_bits.ensures.bits ∙ kept_back g.O.BitOrder.place _ rest 0 n count (omega (arith, length-map c.args.kept.now (λ x. x), c.requires.few)) in
     c.copy_bits-2.ensures.bits
     ∙ ap (put (row g.T.BitStore g.O.BitOrder c.move_bits.new.words) head) back
     ∙ ap (λ l. put l head rest) (c.move_bits.ensures.bits ∙ ap (moved xs head (head + n)) (sym others))

@@ -16,7 +16,7 @@ returns-clause-bits g c =
     let room = in_row g.T.BitStore g.O.BitOrder c.args.words.now (head + len) c.requires.within in
     let front = slice_range xs head (head + by) in
     let count : length front ≡ by = length-run xs head by (omega arith) in
-    let back = ap (λ l. slice_range l 0 (0 + by)) c.copy_bits.ensures.bits ∙ kept_back g.O.BitOrder.place _ front by count (omega (arith, length-map c.args.kept.now (λ x. x), c.requires.few)) in
+    let back = ap (λ l. slice_range l 0 (0 + by)) c.copy_bits.ensures.bits ∙ kept_back g.O.BitOrder.place _ front 0 by count (omega (arith, length-map c.args.kept.now (λ x. x), c.requires.few)) in
     c.copy_bits-2.ensures.bits
     ∙ ap (put (row g.T.BitStore g.O.BitOrder c.move_bits.new.words) (head + (len - by))) back
     ∙ ap (λ l. put l (head + (len - by)) front) c.move_bits.ensures.bits

@@ -1,5 +1,6 @@
 -- What a contract sees of an iterator that owns a box's words, and what calls do to it.
-use Rattle.std.specs.Prelude.{ℕ, Bool, List, refl}
+use Rattle.std.specs.Prelude.{◌≡◌, ℕ, ◌+◌, Bool, List, Option, length, refl}
+use Rattle.std.specs.Iterator.{YieldsFirst, YieldsLast}
 use Rattle.std.specs.Coded.{Coded, code_by, coded×, coded_list, coded_ℕ, coded_bool}
 use Rattle.bit_addressing.specs.declared.store.BitStore as store
 use Rattle.bit_addressing.specs.declared.order.BitOrder as order
@@ -20,6 +21,14 @@ left_code {X} c =
 -- the bits that are left
 abbrev pub rest_of : {X : Type 0} → Left X → List Bool
 rest_of bits = bits.list
+
+-- a call that gives the first bit that is left: the words stay, and the bits that are left end where they did
+abbrev pub first_left : {X : Type 0} → Left X → Option Bool → Left X → Type 0
+first_left s r t = YieldsFirst rest_of s r t × (t.words ≡ s.words) × (t.head + length t.list ≡ s.head + length s.list)
+
+-- a call that gives the last: the words stay, and the bits that are left begin where they did
+abbrev pub last_left : {X : Type 0} → Left X → Option Bool → Left X → Type 0
+last_left s r t = YieldsLast rest_of s r t × (t.words ≡ s.words) × (t.head ≡ s.head)
 
 -- A copy: the same bits, from head 0 on, and each bit after them is false.
 abbrev pub IsCopy : {X Y : Type 0} → store.Ghosts X → order.Ghosts Y → Left X → Left X → Type 0

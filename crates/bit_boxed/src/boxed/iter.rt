@@ -9,8 +9,7 @@ ghost use Rattle.std.specs.Borrow.{sem};
 ghost use Rattle.bit_slice.specs.BitSlice.{words_of, head_of, len_of, list_of};
 ghost use Rattle.bit_slice.specs.BitSliceMut.{words_of as lent_words, head_of as lent_head, len_of as lent_len, list_of as lent_list, loan_of};
 ghost use Rattle.bit_slice.specs.Iter.{rest_of as rest_lent};
-ghost use Rattle.bit_slice.specs.Owned.{GivesInOrder, GivesInReverse};
-ghost use Rattle.bit_boxed.specs.IntoIter.{rest_of};
+ghost use Rattle.bit_boxed.specs.IntoIter.{rest_of, first_left, last_left};
 ghost use Rattle.bit_boxed.specs.LendsLeft.{lends_left};
 
 use crate::boxed::BitBox;
@@ -90,8 +89,8 @@ impl<T: BitStore, O: BitOrder> IntoIter<T, O> {
         ensures head { result.head ≡ inner.head }
         ensures list { result.list ≡ inner.list }
         ensures few { length result.list ≤ MAX_BITS }
-        ensures runs { GivesInOrder (rest_of {X = T}) }
-        ensures runs_back { GivesInReverse (rest_of {X = T}) }
+        ensures runs { YieldsInOrder (first_left {X = T}) rest_of }
+        ensures runs_back { YieldsInReverse (last_left {X = T}) rest_of }
     {
         let upto = inner.len();
         IntoIter {
@@ -112,8 +111,8 @@ impl<T: BitStore, O: BitOrder> IntoIter<T, O> {
         ensures head { result.head ≡ head }
         ensures list { result.list ≡ slice_range (row T.BitStore O.BitOrder words.items) head (head + len) }
         ensures few { length result.list ≤ MAX_BITS }
-        ensures runs { GivesInOrder (rest_of {X = T}) }
-        ensures runs_back { GivesInReverse (rest_of {X = T}) }
+        ensures runs { YieldsInOrder (first_left {X = T}) rest_of }
+        ensures runs_back { YieldsInReverse (last_left {X = T}) rest_of }
     {
         IntoIter::of(BitBox::kept(words, head, len))
     }
@@ -171,18 +170,18 @@ impl<T: BitStore, O: BitOrder> IntoIter<T, O> {
 
 impl<T: BitStore, O: BitOrder> Iterator for IntoIter<T, O> {
     ghost use Rattle.std.specs.Prelude.{⊤};
-    ghost use Rattle.std.specs.Iterator.{YieldsFirst, MakesProgress, UpTo, at_most, item_count};
+    ghost use Rattle.std.specs.Iterator.{MakesProgress, UpTo, at_most, item_count};
     ghost use Rattle.std.specs.Iterator.SizeHint.{IsWithinCount};
 
     type Item = bool;
 
-    ghost next_gives = { YieldsFirst (rest_of {X = T}) };
+    ghost next_gives = { first_left {X = T} };
 
     ghost remaining = { item_count (rest_of {X = T}) };
 
     /// The first bit that is left. None exactly where none is.
     fn next(&mut self) -> Option<bool>
-        ensures steps { YieldsFirst (rest_of {X = T}) self.old result self.new }
+        ensures steps { first_left self.old result self.new }
         ensures goes { MakesProgress (λ _. ⊤) (item_count (rest_of {X = T})) self.old result self.new }
         ensures words { self.new.words ≡ self.old.words }
         ensures end { self.new.head + length self.new.list ≡ self.old.head + length self.old.list }
@@ -208,13 +207,13 @@ impl<T: BitStore, O: BitOrder> Iterator for IntoIter<T, O> {
 
 impl<T: BitStore, O: BitOrder> DoubleEndedIterator for IntoIter<T, O> {
     ghost use Rattle.std.specs.Prelude.{⊤};
-    ghost use Rattle.std.specs.Iterator.{YieldsLast, MakesProgress, item_count};
+    ghost use Rattle.std.specs.Iterator.{MakesProgress, item_count};
 
-    ghost next_back_gives = { YieldsLast (rest_of {X = T}) };
+    ghost next_back_gives = { last_left {X = T} };
 
     /// The last bit that is left. None exactly where none is.
     fn next_back(&mut self) -> Option<bool>
-        ensures steps { YieldsLast (rest_of {X = T}) self.old result self.new }
+        ensures steps { last_left self.old result self.new }
         ensures goes { MakesProgress (λ _. ⊤) (item_count (rest_of {X = T})) self.old result self.new }
         ensures words { self.new.words ≡ self.old.words }
         ensures head { self.new.head ≡ self.old.head }
@@ -242,7 +241,7 @@ impl<T: BitStore, O: BitOrder> IntoIterator for BitBox<T, O> {
     type IntoIter = IntoIter<T, O>;
 
     ghost into_iter_gives = { λ b r. (r.words ≡ b.words) × (r.head ≡ b.head) × (r.list ≡ b.list)
-        × (length r.list ≤ MAX_BITS) × GivesInOrder (rest_of {X = T}) × GivesInReverse (rest_of {X = T}) };
+        × (length r.list ≤ MAX_BITS) × YieldsInOrder (first_left {X = T}) rest_of × YieldsInReverse (last_left {X = T}) rest_of };
 
     /// The bits in order, from both ends; the box is consumed, and its words are kept.
     fn into_iter(self) -> IntoIter<T, O> {

@@ -4,8 +4,7 @@ ghost use Rattle.std.specs.Iterator.{YieldsFirst, YieldsLast};
 ghost use Rattle.std.specs.Iterator.Runs.{YieldsInOrder, YieldsInReverse};
 ghost use Rattle.bit_addressing.specs.declared.length.TheConstants.{MAX_BITS};
 ghost use Rattle.bit_slice.specs.Iter.{rest_of};
-ghost use Rattle.bit_slice.specs.Owned.{GivesInOrder, GivesInReverse};
-ghost use Rattle.bit_boxed.specs.IntoIter.{rest_of as rest_owned};
+ghost use Rattle.bit_boxed.specs.IntoIter.{rest_of as rest_owned, first_left, last_left};
 
 use crate::vec::BitVec;
 use bit_addressing::{BitOrder, BitStore};
@@ -51,8 +50,8 @@ impl<T: BitStore, O: BitOrder> IntoIterator for BitVec<T, O> {
     type IntoIter = IntoIter<T, O>;
 
     ghost into_iter_gives = { λ v r. (r.words ≡ v.words) × (r.head ≡ v.head) × (r.list ≡ v.list)
-        × (length r.list ≤ MAX_BITS) × GivesInOrder (rest_owned {X = T})
-        × GivesInReverse (rest_owned {X = T}) };
+        × (length r.list ≤ MAX_BITS) × YieldsInOrder (first_left {X = T}) rest_owned
+        × YieldsInReverse (last_left {X = T}) rest_owned };
 
     /// The bits in order, from both ends; the vector is consumed, and its words are kept. Takes no memory.
     fn into_iter(self) -> IntoIter<T, O> {

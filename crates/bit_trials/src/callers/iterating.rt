@@ -1,6 +1,7 @@
 //! Callers that go over the bits.
-ghost use Rattle.std.specs.Prelude.{◌≡◌, length, map, not, slice_get, count_by, reverse, IfOk};
+ghost use Rattle.std.specs.Prelude.{◌≡◌, ◌+◌, length, map, not, slice_get, count_by, reverse, IfOk};
 
+use bit_containers::boxed::IntoIter;
 use bit_containers::{BitOrder, BitStore, BitVec};
 use std::alloc::{AllocError, Global};
 
@@ -53,4 +54,14 @@ pub fn handed_over<T: BitStore, O: BitOrder>(v: &BitVec<T, O>) -> usize
     ensures { result ≡ length v.now.list }
 {
     v.into_iter().count()
+}
+
+pub fn after_third<T: BitStore, O: BitOrder>(v: BitVec<T, O>) -> (Option<bool>, IntoIter<T, O>)
+    ensures bit { result.0 ≡ slice_get v.list 2 }
+    ensures words { result.1.words ≡ v.words }
+    ensures end { result.1.head + length result.1.list ≡ v.head + length v.list }
+{
+    let mut bits = v.into_iter();
+    let third = bits.nth(2);
+    (third, bits)
 }

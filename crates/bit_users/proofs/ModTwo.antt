@@ -1,5 +1,5 @@
 -- Sums and products mod 2 of square matrices, as functions of a row and a column.
-use Rattle.std.proofs.Common.{◌≡◌, ◌≢◌, ℕ, zero, suc, ◌+◌, ◌<◌, ◌≤◌, Bool, true, false, not, ◌&&◌, refl, sym, ◌∙◌, ap, inl, inr, arith, ltb, eq-eqb}
+use Rattle.std.proofs.Common.{◌≡◌, ◌≢◌, ℕ, zero, suc, ◌<◌, ◌≤◌, Bool, true, false, not, ◌&&◌, refl, sym, ◌∙◌, ap, inl, inr, arith, ltb, eq-eqb}
 use Rattle.std.proofs.lemmas.Bool.{cases_eq, cases_lt, ne_eqb, lt-ltb, le-ltb, true≢false}
 use Rattle.std.specs.Prelude.{◌==◌}
 use Rattle.bit_slice.proofs.Sets.{and_false}

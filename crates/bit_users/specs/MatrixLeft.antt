@@ -1,5 +1,5 @@
 -- What the iterators over a matrix have left.
-use Rattle.std.specs.Prelude.{ℕ, ◌-◌, Bool, List, map}
+use Rattle.std.specs.Prelude.{◌-◌, Bool, List, map}
 use Rattle.std.specs.List.{range_with_len}
 use Rattle.bit_users.specs.Matrix.{item, row_bits}
 use Rattle.bit_users.specs.declared.matrix.iter.Rows.{Rows}

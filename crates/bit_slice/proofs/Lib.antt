@@ -30,3 +30,6 @@ pub mod Signed
 pub mod Patterns
 pub mod RangeInRow
 pub mod Kept
+pub mod Halved
+pub mod Numbered
+pub mod BitRuns

@@ -187,7 +187,8 @@ impl<T: BitStore, O: BitOrder> Ranks<T, O> {
         ensures none { IfNone result (count_by (is_bit bit) self.now.list ≤ k) }
         ensures few { IfSome result (λ i. i < MAX_BITS) }
     {
-        let len = self.bits.len();
+        // Proof only: there are at most `MAX_BITS` bits.
+        let _len = self.bits.len();
         let block = self.block_of(bit, k);
         let left = k - self.before_block(bit, block);
         nth_from::<T, O>(self.bits.as_bitslice(), block * BLOCK, left, bit)

@@ -14,7 +14,7 @@ use Rattle.bit_slice.specs.Edges.{edges_of, first_in, IsRunUpto}
 use Rattle.bit_slice.specs.Numbered.{is_bit}
 use Rattle.bit_slice.specs.Operators.{xor_of}
 use Rattle.bit_slice.specs.Pieces.{part}
-use Rattle.bit_slice.specs.Places.{IsAbsent, IsChunk, IsChunkLeft, IsNext, places_between}
+use Rattle.bit_slice.specs.Places.{IsAbsent, IsChunk, IsChunkLeft, places_between}
 use Rattle.bit_slice.proofs.Chunked.{absent_joined, first_inside, first_set, next_after, next_at_end, none_before, none_until}
 use Rattle.bit_slice.proofs.Found.{item_is}
 use Rattle.bit_slice.proofs.Patterns.{item_of_chunk}
@@ -202,9 +202,9 @@ module _ (xs : List Bool) (start lo hi chunk : ℕ) (bit : Bool) (run : IsRunUpt
   pub upto_end : chunk ≡ 0 → IsRunUpto bit xs start hi
   upto_end none = subst (IsRunUpto bit xs start) (next_at_end (edges_of xs) lo hi chunk left none) run
 
-  -- more bits are read
-  pub read_more : (upto more : ℕ) → chunk ≡ 0 → IsChunk (edges_of xs) hi upto more → more < 2 ^ 64 → IsRunUpto bit xs start (first_in hi upto more)
-  read_more upto more none is fits =
+  -- bits are read from a later index on, where none before it begins a run
+  pub read_more : (from upto more : ℕ) → chunk ≡ 0 → hi ≤ from → IsAbsent true (edges_of xs) hi from → IsChunk (edges_of xs) from upto more → more < 2 ^ 64 → IsRunUpto bit xs start (first_in from upto more)
+  read_more from upto more none later absent is fits =
       let all = upto_end none in
       let o = all.ordered in
       let few = is.ordered in
@@ -212,7 +212,8 @@ module _ (xs : List Bool) (start lo hi chunk : ℕ) (bit : Bool) (run : IsRunUpt
         begins = all.begins;
         here = all.here;
         ordered = omega arith;
-        same = absent_joined true (edges_of xs) (start + 1) hi (first_in hi upto more) all.same (none_before (edges_of xs) hi upto more is fits);
+        same = absent_joined true (edges_of xs) (start + 1) hi (first_in from upto more) all.same
+            (absent_joined true (edges_of xs) hi from (first_in from upto more) absent (none_before (edges_of xs) from upto more is fits));
       }
 
   -- the lowest bit that is left is where the next run begins
@@ -248,34 +249,6 @@ still_left len start end chunk done some = elim (cases_lt start len) [
   | inl l ↦ l
   | inr l ↦ absurd (some (done l).1)
 ]
-
--- a run goes on as long as no item is another
-pub run_longer : (xs : List Bool) (start end upto : ℕ) (bit : Bool) → IsRunUpto bit xs start end → end ≤ upto → upto ≤ length xs → IsAbsent (not bit) xs end upto → IsRunUpto bit xs start upto
-run_longer xs start end upto bit run longer inside none =
-    let o = run.ordered in
-    let e : end - 1 + 1 ≡ end = omega arith in
-    let rest : IsAbsent true (edges_of xs) (end - 1 + 1) upto = none_begins xs (end - 1) upto bit inside (λ j a b. elim (cases_lt j end) [
-      | inl l ↦ equal_upto xs start bit run.here end (omega arith) run.same j (omega arith) l
-      | inr l ↦ none.each j l b ∙ not_not bit
-    ]) in
-    record {
-      begins = run.begins;
-      here = run.here;
-      ordered = omega arith;
-      same = absent_joined true (edges_of xs) (start + 1) end upto run.same (subst (λ n. IsAbsent true (edges_of xs) n upto) e rest);
-    }
-
--- the first item that is another ends the run, and begins the next
-module _ (xs : List Bool) (start end upto i : ℕ) (bit : Bool) (run : IsRunUpto bit xs start end) (next : IsNext (not bit) xs end upto i) (inside : upto ≤ length xs) where
-  pub run_to_next : IsRunUpto bit xs start i
-  run_to_next = let b = next.begins in let w = next.within in run_longer xs start end i bit run b (omega arith) next.before
-
-  pub next_begins : get_or (edges_of xs) i false ≡ true
-  next_begins =
-      let o = run.ordered in
-      let b = next.begins in
-      let w = next.within in
-      begins_after xs i bit (omega arith) (omega arith) (last_of_run xs start i bit run_to_next (omega arith)) next.here
 
 -- the runs that are left, where the list has a length
 pub runs_upto : (xs : List Bool) (len start end : ℕ) (bit : Bool) → length xs ≡ len → IsRunUpto bit xs start end → end ≤ len → (end < len → get_or xs end false ≡ not bit) → map (run_at xs) (places_between (λ b. b) (edges_of xs) start len) ≡ (record { start = start; end = end; bit = bit }) ∷ map (run_at xs) (places_between (λ b. b) (edges_of xs) end len)
@@ -316,3 +289,24 @@ each_inside xs n i j bit inside same a b =
 pub each_of_run : (xs : List Bool) (n len : ℕ) (bit : Bool) → length xs ≡ len → (r : Option ℕ) → IfSome r (λ i. i + n ≤ len) → IfSome r (λ i. part n xs i ≡ replicate n bit) → IfSome r (λ i. (j : ℕ) → i ≤ j → j < i + n → slice_get xs j ≡ Some bit)
 each_of_run xs n len bit size None inside same = tt
 each_of_run xs n len bit size (Some i) inside same = λ j a b. each_inside xs n i j bit (omega arith) same a b
+
+-- ---- searches for the next item that differs
+
+module _ (xs : List Bool) (at upto : ℕ) (bit : Bool) (later : 0 < at) (inside : upto ≤ length xs) (before : get_or xs (at - 1) false ≡ bit) where
+  -- where no item differs from the one before, the item before the last index is as that before the first
+  pub bit_before : at ≤ upto → IsAbsent true (edges_of xs) at upto → get_or xs (upto - 1) false ≡ bit
+  bit_before longer none =
+      let e : at ≡ at - 1 + 1 = omega arith in
+      elim (cases_lt at upto) [
+        | inl l ↦ equal_upto xs (at - 1) bit before upto inside (subst (λ n. IsAbsent true (edges_of xs) n upto) e none) (upto - 1) (omega arith) (omega arith)
+        | inr l ↦ let z : at - 1 ≡ upto - 1 = omega arith in ap (λ n. get_or xs n false) (sym z) ∙ before
+      ]
+
+  -- where no item is another, none differs from the one before
+  pub none_absent : IsAbsent (not bit) xs at upto → IsAbsent true (edges_of xs) at upto
+  none_absent none =
+      let e : at - 1 + 1 ≡ at = omega arith in
+      subst (λ n. IsAbsent true (edges_of xs) n upto) e (none_begins xs (at - 1) upto bit inside (λ j a b. elim (cases_lt j at) [
+        | inl l ↦ let z : at - 1 ≡ j = omega arith in ap (λ n. get_or xs n false) (sym z) ∙ before
+        | inr l ↦ none.each j l b ∙ not_not bit
+      ]))

@@ -1,10 +1,10 @@
 //! The runs of equal bits of a view.
-ghost use Rattle.std.specs.Prelude.{◌≡◌, ◌≢◌, ℕ, ◌+◌, ◌-◌, ◌<◌, ◌≤◌, Bool, IfNone, IfSome, if◌then◌else◌, length, not, replicate, false, slice_index_or};
+ghost use Rattle.std.specs.Prelude.{◌≡◌, ◌≢◌, ℕ, ◌+◌, ◌-◌, ◌%◌, ◌<◌, ◌≤◌, Bool, IfNone, IfSome, if◌then◌else◌, not, replicate, true, false, slice_index_or};
 ghost use Rattle.bit_addressing.specs.Bits.{has_bit};
-ghost use Rattle.bit_slice.specs.BitSlice.{len_of, list_of};
+ghost use Rattle.bit_slice.specs.BitSlice.{head_of, len_of, list_of};
 ghost use Rattle.bit_slice.specs.Edges.{edges_of, first_in, IsRunUpto};
 ghost use Rattle.bit_slice.specs.Pieces.{part};
-ghost use Rattle.bit_slice.specs.Places.{IsChunk, IsChunkLeft};
+ghost use Rattle.bit_slice.specs.Places.{IsAbsent, IsChunk, IsChunkLeft};
 
 use crate::slice::BitSlice;
 use bit_addressing::{BitOrder, BitStore};
@@ -102,6 +102,108 @@ impl<'a, T: BitStore, O: BitOrder> BitSlice<'a, T, O> {
         steps(self.chunk_at(at, n), before) & (u64::MAX >> (64 - n))
     }
 
+    // Like `edges_at`, of the block of 64 bits from index `at` on. Requires that a block begins there.
+    #[inline(always)]
+    fn edges_of_block(self, at: usize, before: bool) -> u64
+        requires begins { (head_of self + at) % 64 ≡ 0 }
+        requires inside { at + 64 ≤ len_of self }
+        requires later { 0 < at }
+        requires before { slice_index_or (list_of self) (at - 1) false ≡ before }
+        ensures { IsChunk (edges_of (list_of self.entry)) at (at + 64) result }
+    {
+        steps(self.block_at(at), before)
+    }
+
+    // Like `edges_from`, where the next bit that differs is searched by the call that finds a bit.
+    #[inline(never)]
+    fn edges_found(self, at: usize, before: bool) -> (usize, usize, u64)
+        requires later { 0 < at }
+        requires inside { at ≤ len_of self }
+        requires before { slice_index_or (list_of self) (at - 1) false ≡ before }
+        ensures begins { at ≤ result.0 }
+        ensures ends { result.1 ≤ len_of self.entry }
+        ensures before { IsAbsent true (edges_of (list_of self.entry)) at result.0 }
+        ensures chunk { IsChunk (edges_of (list_of self.entry)) result.0 result.1 result.2 }
+        ensures none { result.2 ≡ 0 → result.0 ≡ len_of self.entry }
+    {
+        match self.find_next(at, self.len, !before) {
+            None => (self.len, self.len, 0),
+            Some(i) => {
+                let n = (64 - (self.head + i) % 64).min(self.len - i);
+                (i, i + n, self.edges_at(i, n, before))
+            }
+        }
+    }
+
+    // Like `edges_from`, where up to 512 bits are read by blocks before the next one that differs is searched. Requires
+    // that a block begins at index `at`, if bits are left.
+    #[inline(always)]
+    fn edges_near(self, at: usize, before: bool) -> (usize, usize, u64)
+        requires begins { at < len_of self → (head_of self + at) % 64 ≡ 0 }
+        requires later { 0 < at }
+        requires inside { at ≤ len_of self }
+        requires before { slice_index_or (list_of self) (at - 1) false ≡ before }
+        ensures begins { at ≤ result.0 }
+        ensures ends { result.1 ≤ len_of self.entry }
+        ensures before { IsAbsent true (edges_of (list_of self.entry)) at result.0 }
+        ensures chunk { IsChunk (edges_of (list_of self.entry)) result.0 result.1 result.2 }
+        ensures none { result.2 ≡ 0 → result.0 ≡ len_of self.entry }
+    {
+        let mut end = at;
+        let near = (self.len - at).min(512);
+        'turns: while end - at + 64 <= near {
+            let chunk = self.edges_of_block(end, before);
+            if chunk != 0 {
+                return (end, end + 64, chunk);
+            }
+            end += 64;
+        }
+        self.edges_found(end, before)
+    }
+
+    // Like `edges_from`, where no block begins at index `at`, or fewer bits are left.
+    #[inline(never)]
+    fn edges_before_block(self, at: usize, before: bool) -> (usize, usize, u64)
+        requires later { 0 < at }
+        requires inside { at ≤ len_of self }
+        requires before { slice_index_or (list_of self) (at - 1) false ≡ before }
+        ensures begins { at ≤ result.0 }
+        ensures ends { result.1 ≤ len_of self.entry }
+        ensures before { IsAbsent true (edges_of (list_of self.entry)) at result.0 }
+        ensures chunk { IsChunk (edges_of (list_of self.entry)) result.0 result.1 result.2 }
+        ensures none { result.2 ≡ 0 → result.0 ≡ len_of self.entry }
+    {
+        if at == self.len {
+            return (at, at, 0);
+        }
+        let n = (64 - (self.head + at) % 64).min(self.len - at);
+        let chunk = self.edges_at(at, n, before);
+        if chunk != 0 {
+            return (at, at + n, chunk);
+        }
+        self.edges_near(at + n, before)
+    }
+
+    // Searches bits from index `at` on of which one differs from the bit before: up to 64 that end with a word. Returns
+    // where they begin, where they end, and which of them differ, as a number, or the length twice and 0 where no bit
+    // differs. Requires that `before` is the bit before index `at`.
+    #[inline(always)]
+    fn edges_from(self, at: usize, before: bool) -> (usize, usize, u64)
+        requires later { 0 < at }
+        requires inside { at ≤ len_of self }
+        requires before { slice_index_or (list_of self) (at - 1) false ≡ before }
+        ensures begins { at ≤ result.0 }
+        ensures ends { result.1 ≤ len_of self.entry }
+        ensures before { IsAbsent true (edges_of (list_of self.entry)) at result.0 }
+        ensures chunk { IsChunk (edges_of (list_of self.entry)) result.0 result.1 result.2 }
+        ensures none { result.2 ≡ 0 → result.0 ≡ len_of self.entry }
+    {
+        if (self.head + at) % 64 == 0 && self.len - at >= 64 {
+            return self.edges_near(at, before);
+        }
+        self.edges_before_block(at, before)
+    }
+
     // The first index from `from` on at which `n` bits begin that are `bit`.
     pub(crate) fn find_run(self, n: usize, bit: bool, from: usize) -> Option<usize>
         ensures begins { IfSome result (λ i. from ≤ i) }
@@ -168,25 +270,24 @@ impl<'a, T: BitStore, O: BitOrder> BitSlice<'a, T, O> {
 }
 
 impl<'a, T: BitStore, O: BitOrder> IterRuns<'a, T, O> {
-    ghost use Rattle.std.specs.Prelude.{◌∷◌, [], MatchOption};
+    ghost use Rattle.std.specs.Prelude.{◌∷◌};
     ghost use Rattle.std.specs.Iterator.{YieldsFirst};
     ghost use Rattle.bit_slice.specs.BitRuns.{runs_left};
 
-    // Reads the bits up to the end of the next word. Requires that no bit is left of those that were read, and that a
-    // run is left.
+    // Reads bits up to one at which another run begins, or all of them. Requires that no bit is left of those that were
+    // read, and that a run is left.
     #[inline(always)]
-    fn read_near(&mut self)
+    fn read_on(&mut self)
         requires none { self.old.chunk ≡ 0 }
         requires left { self.old.start < len_of self.old.view }
-        requires more { self.old.end < len_of self.old.view }
         ensures same { runs_left self.new ≡ runs_left self.old }
         ensures left { self.new.start < len_of self.new.view }
+        ensures last { self.new.chunk ≡ 0 → self.new.end ≡ len_of self.new.view }
     {
-        let at = self.end;
-        let n = (64 - (self.view.head + at) % 64).min(self.view.len - at);
-        self.chunk = self.view.edges_at(at, n, self.bit);
-        self.base = at;
-        self.end = at + n;
+        let (base, end, chunk) = self.view.edges_from(self.end, self.bit);
+        self.base = base;
+        self.end = end;
+        self.chunk = chunk;
     }
 
     // Returns the next run, and clears the bit at which the one after it begins. Requires that the chunk has a bit.
@@ -206,36 +307,21 @@ impl<'a, T: BitStore, O: BitOrder> IterRuns<'a, T, O> {
         run
     }
 
-    // Returns the next run, whose end is searched from the end of the bits on that were read. Requires that no bit is
-    // left of those, and that a run is left.
-    #[inline(never)]
-    fn take_far(&mut self) -> BitRun
+    // Returns the last run. Requires that it is left, and that all bits were read and none is left of them.
+    #[inline(always)]
+    fn take_last(&mut self) -> BitRun
         requires none { self.old.chunk ≡ 0 }
         requires left { self.old.start < len_of self.old.view }
+        requires last { self.old.end ≡ len_of self.old.view }
         ensures { runs_left self.old ≡ result ∷ runs_left self.new }
     {
-        let start = self.start;
-        let bit = self.bit;
-        let len = self.view.len;
-        match self.view.find_next(self.end, len, !bit) {
-            None => {
-                self.start = len;
-                self.base = len;
-                self.end = len;
-                BitRun {
-                    start,
-                    end: len,
-                    bit,
-                }
-            }
-            Some(i) => {
-                self.start = i;
-                self.bit = !bit;
-                self.base = i + 1;
-                self.end = i + 1;
-                BitRun { start, end: i, bit }
-            }
-        }
+        let run = BitRun {
+            start: self.start,
+            end: self.end,
+            bit: self.bit,
+        };
+        self.start = run.end;
+        run
     }
 }
 
@@ -256,11 +342,9 @@ impl<'a, T: BitStore, O: BitOrder> Iterator for IterRuns<'a, T, O> {
             if self.start == self.view.len {
                 return None;
             }
-            if self.end < self.view.len {
-                self.read_near();
-            }
+            self.read_on();
             if self.chunk == 0 {
-                return Some(self.take_far());
+                return Some(self.take_last());
             }
         }
         Some(self.take_first())

@@ -1,4 +1,4 @@
-use Rattle.std.proofs.Common.{◌≡◌, ◌+◌, ◌*◌, ◌≤◌, ℕ, Bool, List, Option, count_by, subst, arith}
+use Rattle.std.proofs.Common.{◌≡◌, ◌+◌, ◌*◌, ◌≤◌, ℕ, Bool, List, Option, count_by, subst, ap, ◌∙◌, arith}
 use Rattle.std.specs.Prelude.{IfNone, IfSome}
 use Rattle.bit_slice.specs.BitSlice.{list_of}
 use Rattle.bit_slice.specs.Numbered.{count_before, is_bit, IsNumbered}
@@ -15,12 +15,12 @@ none_of bit xs ys from left k same all r none =
 
 pub returns-clause-some : goal.returns-clause-some
 returns-clause-some g c =
-    let before = c.before_block-left.ensures in
-    let few = c.block_of.ensures.before in
-    some_of c.args.bit (list_of c.as_bitslice.result) c.args.self.now.list (c.block_of.result * 512) _ c.args.k c.as_bitslice.ensures.list (omega arith) c.nth_from.result c.nth_from.ensures.some
+    let before = c.before_block.ensures in
+    let few = c.block_of-block.ensures.before in
+    some_of c.args.bit (list_of c.as_bitslice.result) c.args.self.now.list (c.block_of-block.result * 512) _ c.args.k (c.as_bitslice.ensures.list ∙ ap (λ v. v.list) c.self.view_is) (omega arith) c.nth_from.result c.nth_from.ensures.some
 
 pub returns-clause-none : goal.returns-clause-none
 returns-clause-none g c =
-    let before = c.before_block-left.ensures in
-    let few = c.block_of.ensures.before in
-    none_of c.args.bit (list_of c.as_bitslice.result) c.args.self.now.list (c.block_of.result * 512) _ c.args.k c.as_bitslice.ensures.list (omega arith) c.nth_from.result c.nth_from.ensures.none
+    let before = c.before_block.ensures in
+    let few = c.block_of-block.ensures.before in
+    none_of c.args.bit (list_of c.as_bitslice.result) c.args.self.now.list (c.block_of-block.result * 512) _ c.args.k (c.as_bitslice.ensures.list ∙ ap (λ v. v.list) c.self.view_is) (omega arith) c.nth_from.result c.nth_from.ensures.none

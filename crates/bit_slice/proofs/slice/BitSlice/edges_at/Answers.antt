@@ -1,5 +1,4 @@
-use Rattle.std.proofs.Common.{◌≡◌, ℕ, zero, suc, ◌+◌, ◌-◌, ◌<◌, false, not, if◌then◌else◌, get_or, slice_range, sym, ◌∙◌, ap, arith}
-use Rattle.bit_addressing.specs.Bits.{has_bit}
+use Rattle.std.proofs.Common.{◌+◌, slice_range, arith}
 use Rattle.bit_addressing.proofs.lists.Shown.{length-run}
 use Rattle.bit_slice.specs.BitSlice.{list_of}
 use Rattle.bit_slice.specs.Edges.{edges_of}

@@ -1,9 +1,7 @@
-use Rattle.std.proofs.Common.{◌+◌, w64, map, ◌∷◌, ap, ◌∙◌, sym, arith}
+use Rattle.std.proofs.Common.{◌+◌, w64, arith}
 use Rattle.std.specs.Int.{trailing_zeros}
-use Rattle.bit_slice.specs.BitRuns.{run_at}
 use Rattle.bit_slice.specs.BitSlice.{list_of}
 use Rattle.bit_slice.specs.Edges.{edges_of}
-use Rattle.bit_slice.specs.Places.{places_between}
 use Rattle.bit_slice.proofs.BitRuns.{next_inside, other_there, run_after, run_to, runs_upto, still_left}
 use Rattle.bit_slice.proofs.Chunked.{chunk_after}
 use Rattle.bit_slice.proofs.Parts.{view_length}

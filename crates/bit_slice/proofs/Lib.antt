@@ -33,3 +33,4 @@ pub mod Kept
 pub mod Halved
 pub mod Numbered
 pub mod BitRuns
+pub mod Swapped

@@ -741,6 +741,8 @@ pub trait BitList {
     /// ```
     final fn iter_runs(&self) -> IterRuns<'_, Self::Store, Self::Order>
         ensures list { runs_left result ≡ runs_of (list self.now) }
+        ensures most { length (runs_left result) ≤ len self.now }
+        ensures few { length (runs_left result) ≤ MAX_BITS }
         ensures runs { YieldsInOrder
             (YieldsFirst (runs_left {X = Self.Store} {Y = Self.Order} {W = Self.Store.BitStore} {P = Self.Order.BitOrder})) runs_left }
     {

@@ -273,6 +273,18 @@ pub fn flipped_twice<T: BitStore, O: BitOrder>(view: &mut BitSliceMut<'_, T, O>)
     view.flip_all();
 }
 
+pub fn exchanged<T: BitStore, O: BitOrder, U: BitStore, P: BitOrder>(
+    left: &mut BitSliceMut<'_, T, O>,
+    right: &mut BitSliceMut<'_, U, P>,
+)
+    requires { len_there left.old ≡ len_there right.old }
+    ensures left { list_there left.new ≡ map not (list_there right.old) }
+    ensures right { list_there right.new ≡ list_there left.old }
+{
+    left.swap_with(right);
+    left.flip_all();
+}
+
 pub fn shifted<T: BitStore, O: BitOrder>(view: &mut BitSliceMut<'_, T, O>, by: usize)
     requires { by ≤ len_there view.old }
     ensures { list_there view.new ≡ map not (drop by (list_there view.old) ++ replicate by false) }

@@ -264,7 +264,15 @@ fn cut_into_runs(rt: HostRuntime) {
     }
     check(&rt, count == 8);
     check(&rt, ends == [1, 2, 3, 5, 6, 17, 18, 21, 0]);
-    check(&rt, view.iter_runs().nth(4) == Some(BitRun { start: 5, end: 6, bit: true }));
+    check(
+        &rt,
+        view.iter_runs().nth(4)
+            == Some(BitRun {
+                start: 5,
+                end: 6,
+                bit: true,
+            }),
+    );
     check(&rt, view.next_run(4, false, 0) == Some(6));
     check(&rt, view.next_run(12, false, 0).is_none());
 }
@@ -273,7 +281,22 @@ fn cut_into_runs(rt: HostRuntime) {
 fn stripped(rt: HostRuntime) {
     let view = BitSlice::<u8, Msb0>::from_slice(&[0x69]);
     let part = BitSlice::<u8, Lsb0>::from_slice(&[0x06]).get_range(0..4);
-    check(&rt, view.strip_prefix(part).map_or(0, |rest| rest.load_be()) == 9);
+    check(
+        &rt,
+        view.strip_prefix(part).map_or(0, |rest| rest.load_be()) == 9,
+    );
     check(&rt, view.strip_suffix(part).is_none());
     check(&rt, view.find_from(1, part.get_range(0..2)) == Some(3));
+}
+
+#[test]
+fn lists_exchanged(rt: HostRuntime) {
+    let (mut left, mut right) = ([0x69_u8, 0xf0], [0x000a_u16]);
+    let mut first = BitSliceMut::<u8, Msb0>::from_slice_mut(&mut left);
+    let mut part = first.part_mut(4, 12);
+    let mut second = BitSliceMut::<u16, Lsb0>::from_slice_mut(&mut right);
+    let mut other = second.part_mut(0, 8);
+    part.swap_with(&mut other);
+    check(&rt, left == [0x65, 0x00]);
+    check(&rt, right == [0x00f9]);
 }

@@ -85,8 +85,8 @@ fn steps(chunk: u64, before: bool) -> u64
 impl<'a, T: BitStore, O: BitOrder> BitSlice<'a, T, O> {
     ghost use Rattle.std.specs.Iterator.{YieldsFirst};
     ghost use Rattle.std.specs.Iterator.Runs.{YieldsInOrder};
-    ghost use Rattle.std.specs.List.{flat_map};
-    ghost use Rattle.bit_slice.specs.BitRuns.{bits_of_run, runs_left, runs_of};
+    ghost use Rattle.std.specs.Prelude.{length};
+    ghost use Rattle.bit_slice.specs.BitRuns.{runs_left, runs_of};
 
     // Which of the `n` bits from index `at` on differ from the bit before, as a number. Requires that the view has them,
     // that they are from 1 to 64, and that `before` is the bit before them.
@@ -254,6 +254,7 @@ impl<'a, T: BitStore, O: BitOrder> BitSlice<'a, T, O> {
     /// ```
     pub fn iter_runs(self) -> IterRuns<'a, T, O>
         ensures list { runs_left result ≡ runs_of (list_of self.entry) }
+        ensures most { length (runs_left result) ≤ len_of self.entry }
         ensures runs { YieldsInOrder (YieldsFirst (runs_left {X = T} {Y = O} {W = T.BitStore} {P = O.BitOrder}))
             runs_left }
     {

@@ -6,9 +6,9 @@ use Rattle.std.proofs.lemmas.Option.{get_or_from_slice_get, slice_get_within}
 use Rattle.std.proofs.lemmas.List.{length-drop}
 use Rattle.bit_slice.specs.Places.{ones_of}
 use Rattle.bit_slice.proofs.Places.{places_count, places_none}
-use Rattle.bit_ranks.specs.Ranks.{ones_before}
+use Rattle.bit_slice.specs.Numbered.{ones_before}
 use Rattle.bit_ranks.specs.Sorted.{IsNextFrom, low_part, number_at, numbers_of}
-use Rattle.bit_ranks.proofs.Numbered.{as_many, before_end, index_numbered, one_more, parted}
+use Rattle.bit_slice.proofs.Numbered.{as_many, before_end, index_numbered, one_more, parted}
 use Rattle.bit_ranks.proofs.Packed.{length_numbers, low_inside, number_fits, number_is, one_at, shifted}
 
 -- no one is between two indices

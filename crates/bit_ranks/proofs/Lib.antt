@@ -1,4 +1,3 @@
-pub mod Halves
 pub mod Left
 pub mod Making
 pub mod Numbered

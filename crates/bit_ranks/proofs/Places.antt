@@ -11,9 +11,9 @@ use Rattle.std.proofs.lemmas.Option.{get_or_from_slice_get, slice_get-get_or, sl
 use Rattle.bit_slice.specs.Places.{ones_of}
 use Rattle.bit_slice.proofs.Places.{places_count, places_none, ranges_joined}
 use Rattle.bit_slice.proofs.Rules.{zeros_and_ones}
-use Rattle.bit_ranks.specs.Ranks.{ones_before, zeros_before}
+use Rattle.bit_slice.specs.Numbered.{ones_before, zeros_before}
 use Rattle.bit_ranks.specs.Sorted.{AreSameHigh, IsUptoHigh, high_part}
-use Rattle.bit_ranks.proofs.Numbered.{around, as_many, before_end, index_numbered, more_before, one_more, at_most_index, parted}
+use Rattle.bit_slice.proofs.Numbered.{around, as_many, before_end, index_numbered, more_before, one_more, at_most_index, parted}
 
 range_increases : (a n : ℕ) → IsStrictlyIncreasing (range_with_len a n)
 range_increases a n k h =

@@ -5,7 +5,7 @@ use Rattle.std.specs.List.Sorted.{IsNonDecreasing}
 use Rattle.bit_addressing.specs.Binary.{value}
 use Rattle.bit_addressing.specs.declared.length.TheConstants.{MAX_BITS}
 use Rattle.bit_slice.specs.Places.{ones_of}
-use Rattle.bit_ranks.specs.Ranks.{ones_before}
+use Rattle.bit_slice.specs.Numbered.{ones_before}
 
 -- the high bits of number k: how many zeros are before the k-th one
 abbrev pub high_part : List Bool → ℕ → ℕ

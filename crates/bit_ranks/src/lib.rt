@@ -5,7 +5,6 @@
 mod ones;
 mod ranks;
 mod sorted;
-mod word;
 
 pub use ones::OnesFrom;
 pub use ranks::Ranks;

@@ -4,12 +4,13 @@ ghost use Rattle.bit_addressing.specs.declared.length.TheConstants.{MAX_BITS};
 ghost use Rattle.bit_slice.specs.BitSlice.{head_of, len_of, list_of, words_of};
 ghost use Rattle.bit_addressing.specs.Row.{words_for};
 ghost use Rattle.bit_slice.specs.Places.{ones_of, zeros_of};
-ghost use Rattle.bit_ranks.specs.Ranks.{IsIndex, IsNumbered, count_before, is_bit, ones_before, zeros_before};
+ghost use Rattle.bit_slice.specs.Numbered.{IsNumbered, count_before, is_bit, ones_before, zeros_before};
+ghost use Rattle.bit_ranks.specs.Ranks.{IsIndex};
 
-use crate::word::{marked, place_of};
 use bit_boxed::BitBox;
 use bit_containers::{BitOrder, BitStore, Lsb0};
 use bit_slice::BitSlice;
+use bit_slice::inner::nth_from;
 use std::alloc::{AllocError, Global};
 use std::marker::Model;
 
@@ -186,21 +187,11 @@ impl<T: BitStore, O: BitOrder> Ranks<T, O> {
         ensures none { IfNone result (count_by (is_bit bit) self.now.list ≤ k) }
         ensures few { IfSome result (λ i. i < MAX_BITS) }
     {
-        let len = self.bits.len();
+        // Proof only: there are at most `MAX_BITS` bits.
+        let _len = self.bits.len();
         let block = self.block_of(bit, k);
-        let mut from = block * BLOCK;
-        let mut left = k - self.before_block(bit, block);
-        'scan: while from < len {
-            let upto = (from + 64).min(len);
-            let word = marked(self.bits.get_range(from..upto), bit);
-            let count = word.count_ones() as usize;
-            if left < count {
-                return Some(from + place_of(word, left as u32) as usize);
-            }
-            left -= count;
-            from = upto;
-        }
-        None
+        let left = k - self.before_block(bit, block);
+        nth_from::<T, O>(self.bits.as_bitslice(), block * BLOCK, left, bit)
     }
 
     // The last block before which at most `k` bits are `bit`.

@@ -208,6 +208,21 @@ module _ (xs : List Bool) (from n : ℕ) (bit : Bool) (size : length xs ≡ n) (
   next_none_from None h = λ j a b. next_none xs lo n bit size None h j (omega arith) b
   next_none_from (Some i) h = tt
 
+-- the last index before one that may be past the end
+module _ (xs : List Bool) (before end : ℕ) (bit : Bool) (ends : end ≤ before) (inside : end ≤ length xs) where
+  pub prev_found : (r : Option ℕ) → MatchOption r (IsAbsent bit xs 0 end) (λ i. IsLast bit xs 0 end i) → IfSome r (λ i. slice_get xs i ≡ Some bit)
+  prev_found None h = tt
+  prev_found (Some i) h = let w = h.within in item_is xs i bit (omega arith) h.here
+
+  module _ (n : ℕ) (least : (j : ℕ) → j < before → j < n → j < end) where
+    pub prev_between : (r : Option ℕ) → MatchOption r (IsAbsent bit xs 0 end) (λ i. IsLast bit xs 0 end i) → IfSome r (λ i. (j : ℕ) → i < j → j < before → j < n → slice_get xs j ≡ Some (not bit))
+    prev_between None h = tt
+    prev_between (Some i) h = λ j a b c. let l = least j b c in item_is xs j (not bit) (omega arith) (h.after.each j (omega arith) l)
+
+    pub prev_none : (r : Option ℕ) → MatchOption r (IsAbsent bit xs 0 end) (λ i. IsLast bit xs 0 end i) → IfNone r ((j : ℕ) → j < before → j < n → slice_get xs j ≡ Some (not bit))
+    prev_none None h = λ j a b. let l = least j a b in item_is xs j (not bit) (omega arith) (h.each j (omega arith) l)
+    prev_none (Some i) h = tt
+
 -- the same from the front on
 module _ (xs : List Bool) (n : ℕ) (bit : Bool) (size : length xs ≡ n) where
   pub first_before : (r : Option ℕ) → MatchOption r (IsAbsent bit xs 0 n) (λ i. IsNext bit xs 0 n i) → IfSome r (λ i. (j : ℕ) → j < i → slice_get xs j ≡ Some (not bit))

@@ -6,6 +6,7 @@ use Rattle.std.proofs.iter.runs.Sources.{from_front, from_back, as_is, as_is_bac
 use Rattle.bit_addressing.specs.declared.store.BitStore as store
 use Rattle.bit_addressing.specs.declared.order.BitOrder as order
 use Rattle.bit_slice.specs.Iter.{rest_of}
+use Rattle.bit_slice.specs.BitRuns.{runs_left}
 use Rattle.bit_slice.specs.BitSlice.{list_of}
 use Rattle.bit_slice.specs.Indices.{ones_left, zeros_left}
 use Rattle.bit_slice.specs.PiecesLeft.{chunks_left, exact_chunks_left, back_chunks_left, windows_left, exact_first, exact_last}
@@ -29,6 +30,10 @@ module _ {X Y : Type 0} (W : store.Ghosts X) (P : order.Ghosts Y) where
 
   pub zeros_runs_back : YieldsInReverse (YieldsLast (zeros_left {X = X} {Y = Y} {W = W} {P = P})) zeros_left
   zeros_runs_back p s = as_is_back p (zeros_left p.from) (from_back (YieldsLast (zeros_left {X = X} {Y = Y} {W = W} {P = P})) (λ b. b) zeros_left (λ s t h. ap length h.0) (λ s x t h. h) p s)
+
+module _ {X Y : Type 0} (W : store.Ghosts X) (P : order.Ghosts Y) where
+  pub bit_runs_in_order : YieldsInOrder (YieldsFirst (runs_left {X = X} {Y = Y} {W = W} {P = P})) runs_left
+  bit_runs_in_order p s = as_is p (runs_left p.from) (from_front (YieldsFirst (runs_left {X = X} {Y = Y} {W = W} {P = P})) (λ r. r) runs_left (λ s t h. ap length h.0) (λ s x t h. h) p s)
 
 module _ {X Y : Type 0} (W : store.Ghosts X) (P : order.Ghosts Y) where
   pub chunks_runs : EveryRun (YieldsFirstBy (list_of {X = X} {Y = Y} {W = W} {P = P}) (chunks_left {X = X} {Y = Y} {W = W} {P = P})) (λ p. ItemsMapTo p list_of (chunks_left p.from))

@@ -31,3 +31,7 @@ pub mod Signed
 pub mod Patterns
 pub mod RangeInRow
 pub mod Kept
+pub mod Halved
+pub mod Numbered
+pub mod BitRuns
+pub mod Swapped

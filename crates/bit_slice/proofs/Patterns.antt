@@ -2,7 +2,7 @@
 use Rattle.std.proofs.Common.{◌≡◌, ◌≢◌, ℕ, ◌+◌, ◌-◌, ◌<◌, ◌≤◌, Bool, false, true, not, if◌then◌else◌, ◌||◌, List, length, get_or, take, drop, slice_range, refl, sym, ◌∙◌, ap, inl, inr, arith}
 use Rattle.std.proofs.Math.Bool.{or-false}
 use Rattle.std.proofs.lemmas.Bool.{cases_lt, lt-ltb, le-ltb}
-use Rattle.std.proofs.lemmas.List.{get_or-take, get_or-drop, take-take}
+use Rattle.std.proofs.lemmas.List.{drop-drop, get_or-take, get_or-drop, length-drop, take-take, take_all}
 use Rattle.bit_addressing.specs.Bits.{has_bit}
 use Rattle.bit_addressing.specs.Row.{number_bits, number_of}
 use Rattle.bit_addressing.proofs.Chunks.{has_number}
@@ -78,3 +78,21 @@ none_to xs ys len n m at to pattern few room is before none j below fits same = 
 pub none_up_to : (xs ys : List Bool) (len n m at skip pattern : ℕ) → m ≤ n → m ≤ length ys → pattern ≡ number_of (slice_range ys 0 (0 + m)) → ((j : ℕ) → j < at → j + n ≤ len → part n xs j ≢ ys) → ((j : ℕ) → j < skip → at + j + m ≤ len → part m xs (at + j) ≢ number_bits pattern m) → (j : ℕ) → j < at + skip → j + n ≤ len → part n xs j ≢ ys
 none_up_to xs ys len n m at skip pattern few room is before none =
     none_to xs ys len n m at (at + skip) pattern few room is before (λ j from below fits same. let place : at + (j - at) ≡ j = omega arith in none (j - at) (omega arith) (omega arith) (ap (part m xs) place ∙ same))
+
+-- ---- from an index on
+
+-- where a pattern begins in the items from an index on
+pub part_later : (xs : List Bool) (n from len i : ℕ) → length xs ≡ len → part n (slice_range xs from len) i ≡ part n xs (from + i)
+part_later xs n from len i size =
+    ap (λ l. take n (drop i l)) (take_all (len - from) (drop from xs) (omega (arith, length-drop from xs)))
+    ∙ ap (take n) (drop-drop i from xs)
+
+pub none_later : (xs ys : List Bool) (n from len upto : ℕ) → length xs ≡ len → ((i : ℕ) → i < upto → part n (slice_range xs from len) i ≢ ys) → (j : ℕ) → from ≤ j → j < from + upto → part n xs j ≢ ys
+none_later xs ys n from len upto size none j a b same =
+    let e : from + (j - from) ≡ j = omega arith in
+    none (j - from) (omega arith) (part_later xs n from len (j - from) size ∙ ap (part n xs) e ∙ same)
+
+pub none_there : (xs ys : List Bool) (n from len : ℕ) → length xs ≡ len → ((i : ℕ) → i + n ≤ len - from → part n (slice_range xs from len) i ≢ ys) → (j : ℕ) → from ≤ j → j + n ≤ len → part n xs j ≢ ys
+none_there xs ys n from len size none j a b same =
+    let e : from + (j - from) ≡ j = omega arith in
+    none (j - from) (omega arith) (part_later xs n from len (j - from) size ∙ ap (part n xs) e ∙ same)

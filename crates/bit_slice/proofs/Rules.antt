@@ -72,6 +72,25 @@ xor_twice (true ∷ xs) (false ∷ ys) = ap (λ l. true ∷ l) (xor_twice xs ys)
 xor_twice (false ∷ xs) (true ∷ ys) = ap (λ l. false ∷ l) (xor_twice xs ys)
 xor_twice (true ∷ xs) (true ∷ ys) = ap (λ l. true ∷ l) (xor_twice xs ys)
 
+-- two lists exchanged by three steps
+pub xor_back : (xs ys : List Bool) → length xs ≡ length ys → xor_of ys (xor_of xs ys) ≡ xs
+xor_back [] [] h = refl
+xor_back [] (y ∷ ys) h = absurd (omega arith)
+xor_back (x ∷ xs) [] h = absurd (omega arith)
+xor_back (false ∷ xs) (false ∷ ys) h = ap (λ l. false ∷ l) (xor_back xs ys (omega arith))
+xor_back (true ∷ xs) (false ∷ ys) h = ap (λ l. true ∷ l) (xor_back xs ys (omega arith))
+xor_back (false ∷ xs) (true ∷ ys) h = ap (λ l. false ∷ l) (xor_back xs ys (omega arith))
+xor_back (true ∷ xs) (true ∷ ys) h = ap (λ l. true ∷ l) (xor_back xs ys (omega arith))
+
+pub xor_other : (xs ys : List Bool) → length xs ≡ length ys → xor_of (xor_of xs ys) xs ≡ ys
+xor_other [] [] h = refl
+xor_other [] (y ∷ ys) h = absurd (omega arith)
+xor_other (x ∷ xs) [] h = absurd (omega arith)
+xor_other (false ∷ xs) (false ∷ ys) h = ap (λ l. false ∷ l) (xor_other xs ys (omega arith))
+xor_other (true ∷ xs) (false ∷ ys) h = ap (λ l. false ∷ l) (xor_other xs ys (omega arith))
+xor_other (false ∷ xs) (true ∷ ys) h = ap (λ l. true ∷ l) (xor_other xs ys (omega arith))
+xor_other (true ∷ xs) (true ∷ ys) h = ap (λ l. true ∷ l) (xor_other xs ys (omega arith))
+
 pub not_of_and : (xs ys : List Bool) → length xs ≤ length ys → map not (and_of xs ys) ≡ or_of (map not xs) (map not ys)
 not_of_and [] ys h = refl
 not_of_and (x ∷ xs) [] h = absurd (omega arith)

@@ -20,3 +20,6 @@ pub mod Clean
 pub mod Overwritten
 pub mod Signed
 pub mod Held
+pub mod Numbered
+pub mod Edges
+pub mod BitRuns

@@ -27,11 +27,13 @@ pub use run::{run_mut, split_run_mut};
 pub use slice::BitSlice;
 pub use slice::chunks::{Chunks, ChunksExact, RChunks, Windows};
 pub use slice::indices::{IterOnes, IterZeros};
+pub use slice::runs::{BitRun, IterRuns};
 pub use slice_mut::BitSliceMut;
 
 /// What the crates above make of words and of texts. Users of bits need none of it.
 pub mod inner {
     pub use crate::lists_mut::flip_row;
     pub use crate::numbers::{extended, reversed};
+    pub use crate::slice::nth::nth_from;
     pub use crate::texts::{hash_bits, write_digits, write_list};
 }

@@ -2,14 +2,16 @@
 ghost use Rattle.std.specs.Iterator.{YieldsFirst, YieldsFirstBy, YieldsLast, YieldsLastBy};
 ghost use Rattle.std.specs.Iterator.Runs.{EveryRun, ItemsMapTo, ItemsMapToReversed, YieldsInOrder, YieldsInReverse};
 ghost use Rattle.std.specs.List.{list_any, list_all, position, prefix_len, suffix_len, All};
-ghost use Rattle.std.specs.Prelude.{◌≡◌, ◌≢◌, ℕ, ◌+◌, ◌-◌, ◌*◌, ◌/◌, ◌%◌, ◌^◌, ◌<◌, ◌≤◌, ◌&&◌, ◌↔◌, ◌++◌, ◌∷◌, [], Bool, List, IsNone, IsTrue, IfNone, IfSome, EachIndex, SomeIndex, Some, count_by, drop, false, length, not, slice_get, slice_range, take, true};
+ghost use Rattle.std.specs.Prelude.{◌≡◌, ◌≢◌, ℕ, ◌+◌, ◌-◌, ◌*◌, ◌/◌, ◌%◌, ◌^◌, ◌<◌, ◌≤◌, ◌&&◌, ◌↔◌, ◌++◌, ◌∷◌, [], Bool, List, IsNone, IsTrue, IfNone, IfSome, EachIndex, SomeIndex, Some, count_by, drop, false, length, not, replicate, slice_get, slice_range, take, true};
 ghost use Rattle.bit_addressing.specs.declared.length.TheConstants.{MAX_BITS};
 ghost use Rattle.bit_addressing.specs.Binary.{value};
 ghost use Rattle.bit_addressing.specs.Range.{LiesIn};
 ghost use Rattle.bit_addressing.specs.Row.{binary, number_bits, number_of, words_for};
 ghost use Rattle.bit_addressing.specs.Typed.{row as row_in};
+ghost use Rattle.bit_slice.specs.BitRuns.{runs_left, runs_of};
 ghost use Rattle.bit_slice.specs.BitSlice.{words_of, head_of, len_of, row_of, list_of, IsPlaced};
 ghost use Rattle.bit_slice.specs.Indices.{ones_left, zeros_left};
+ghost use Rattle.bit_slice.specs.Numbered.{ones_before, zeros_before};
 ghost use Rattle.bit_slice.specs.Operators.{bits_cmp, and_of, or_of, xor_of, and_not_of};
 ghost use Rattle.bit_slice.specs.Pieces.{part, chunk_count, chunks_of, exact_chunks_of, back_chunks_of, windows_of};
 ghost use Rattle.bit_slice.specs.PiecesLeft.{chunks_left, chunks_walk, exact_chunks_left, exact_chunks_walk, exact_first, exact_last, remainder_of, back_chunks_left, back_chunks_walk, windows_left, windows_walk, BeginsIn};
@@ -21,6 +23,8 @@ use crate::ops::{equal_views, first_difference};
 use crate::slice::BitSlice;
 use crate::slice::chunks::{Chunks, ChunksExact, RChunks, Windows};
 use crate::slice::indices::{IterOnes, IterZeros};
+use crate::slice::nth::nth_from;
+use crate::slice::runs::IterRuns;
 use crate::slice::sets::{any_pair, count_pairs};
 use crate::slice_mut::BitSliceMut;
 use bit_addressing::{BitOrder, BitStore, RangeExt};
@@ -204,6 +208,54 @@ pub trait BitList {
             view.head + view.len,
             false,
         ).is_none()
+    }
+
+    /// How many bits at a range of indices are true. Requires that the range lies in the length.
+    ///
+    /// ```text
+    /// of 01101001: bits.count_ones_in(1..5) == 3
+    /// ```
+    final fn count_ones_in<R: RangeExt>(&self, range: R) -> usize
+        requires lies { LiesIn (R.start_of range) (R.end_of range (len self.now)) (len self.now) }
+        ensures value { result
+            ≡ count_by (λ bit. bit) (slice_range (list self.now) (R.start_of range) (R.end_of range (len self.now))) }
+        ensures few { result ≤ R.end_of range (len self.now) - R.start_of range }
+    {
+        self.as_bitslice().get_range(range).count_ones()
+    }
+
+    /// Whether some bit at a range of indices is true. Of an empty range it is false. Requires that the range lies in
+    /// the length.
+    ///
+    /// ```text
+    /// of 01101001: bits.any_in(5..7) == false
+    /// ```
+    final fn any_in<R: RangeExt>(&self, range: R) -> bool
+        requires lies { LiesIn (R.start_of range) (R.end_of range (len self.now)) (len self.now) }
+        ensures value { result
+            ≡ list_any (λ bit. bit) (slice_range (list self.now) (R.start_of range) (R.end_of range (len self.now))) }
+        ensures index { IsTrue result ↔ SomeIndex (slice_range (list self.now) (R.start_of range) (R.end_of range (len self.now)))
+            (λ i. slice_get (slice_range (list self.now) (R.start_of range) (R.end_of range (len self.now))) i
+            ≡ Some true) }
+    {
+        self.as_bitslice().get_range(range).any()
+    }
+
+    /// Whether every bit at a range of indices is true. Of an empty range it is true. Requires that the range lies in
+    /// the length.
+    ///
+    /// ```text
+    /// of 01101001: bits.all_in(1..3) == true
+    /// ```
+    final fn all_in<R: RangeExt>(&self, range: R) -> bool
+        requires lies { LiesIn (R.start_of range) (R.end_of range (len self.now)) (len self.now) }
+        ensures value { result
+            ≡ list_all (λ bit. bit) (slice_range (list self.now) (R.start_of range) (R.end_of range (len self.now))) }
+        ensures index { IsTrue result ↔ EachIndex (slice_range (list self.now) (R.start_of range) (R.end_of range (len self.now)))
+            (λ i. slice_get (slice_range (list self.now) (R.start_of range) (R.end_of range (len self.now))) i
+            ≡ Some true) }
+    {
+        self.as_bitslice().get_range(range).all()
     }
 
     /// Whether the list and that of `other`, of any word type and order, are equal. Heads and dead bits don't
@@ -454,6 +506,84 @@ pub trait BitList {
         view.find_next(from.min(view.len), view.len, false)
     }
 
+    /// The index of the last bit before index `before` that is true. None exactly where none is. Bits from the length
+    /// on count as none.
+    ///
+    /// ```text
+    /// of 01101001: bits.prev_one(4) == Some(2)
+    /// ```
+    final fn prev_one(&self, before: usize) -> Option<usize>
+        ensures ends { IfSome result (λ i. i < before) }
+        ensures inside { IfSome result (λ i. i < len self.now) }
+        ensures few { IfSome result (λ i. i < MAX_BITS) }
+        ensures found { IfSome result (λ i. slice_get (list self.now) i ≡ Some true) }
+        ensures between { IfSome result
+            (λ i. (j : ℕ) → i < j → j < before → j < len self.now → slice_get (list self.now) j ≡ Some false) }
+        ensures none { IfNone result
+            ((j : ℕ) → j < before → j < len self.now → slice_get (list self.now) j ≡ Some false) }
+    {
+        let view = self.as_bitslice();
+        view.find_last(0, before.min(view.len), true)
+    }
+
+    /// The index of the last bit before index `before` that is false. None exactly where none is. Bits from the length
+    /// on count as none.
+    ///
+    /// ```text
+    /// of 01101001: bits.prev_zero(3) == Some(0)
+    /// ```
+    final fn prev_zero(&self, before: usize) -> Option<usize>
+        ensures ends { IfSome result (λ i. i < before) }
+        ensures inside { IfSome result (λ i. i < len self.now) }
+        ensures few { IfSome result (λ i. i < MAX_BITS) }
+        ensures found { IfSome result (λ i. slice_get (list self.now) i ≡ Some false) }
+        ensures between { IfSome result
+            (λ i. (j : ℕ) → i < j → j < before → j < len self.now → slice_get (list self.now) j ≡ Some true) }
+        ensures none { IfNone result
+            ((j : ℕ) → j < before → j < len self.now → slice_get (list self.now) j ≡ Some true) }
+    {
+        let view = self.as_bitslice();
+        view.find_last(0, before.min(view.len), false)
+    }
+
+    /// The index of the `k`-th bit that is true, counted from 0. None exactly where at most `k` are. 64 bits are
+    /// counted at a time.
+    ///
+    /// ```text
+    /// of 01101001: bits.nth_one(2) == Some(4)
+    /// ```
+    final fn nth_one(&self, k: usize) -> Option<usize>
+        ensures value { result ≡ slice_get (ones_of (list self.now)) k }
+        ensures inside { IfSome result (λ i. i < len self.now) }
+        ensures few { IfSome result (λ i. i < MAX_BITS) }
+        ensures found { IfSome result (λ i. slice_get (list self.now) i ≡ Some true) }
+        ensures before { IfSome result (λ i. ones_before (list self.now) i ≡ k) }
+        ensures only { (i : ℕ) → slice_get (list self.now) i ≡ Some true → ones_before (list self.now) i ≡ k
+            → result ≡ Some i }
+        ensures none { IsNone result ↔ (count_by (λ bit. bit) (list self.now) ≤ k) }
+    {
+        nth_from::<Self::Store, Self::Order>(self.as_bitslice(), 0, k, true)
+    }
+
+    /// The index of the `k`-th bit that is false, counted from 0. None exactly where at most `k` are. 64 bits are
+    /// counted at a time.
+    ///
+    /// ```text
+    /// of 01101001: bits.nth_zero(1) == Some(3)
+    /// ```
+    final fn nth_zero(&self, k: usize) -> Option<usize>
+        ensures value { result ≡ slice_get (zeros_of (list self.now)) k }
+        ensures inside { IfSome result (λ i. i < len self.now) }
+        ensures few { IfSome result (λ i. i < MAX_BITS) }
+        ensures found { IfSome result (λ i. slice_get (list self.now) i ≡ Some false) }
+        ensures before { IfSome result (λ i. zeros_before (list self.now) i ≡ k) }
+        ensures only { (i : ℕ) → slice_get (list self.now) i ≡ Some false → zeros_before (list self.now) i ≡ k
+            → result ≡ Some i }
+        ensures none { IsNone result ↔ (count_by not (list self.now) ≤ k) }
+    {
+        nth_from::<Self::Store, Self::Order>(self.as_bitslice(), 0, k, false)
+    }
+
     /// How many bits at the front are true, up to the first that is false.
     ///
     /// ```text
@@ -603,6 +733,42 @@ pub trait BitList {
         self.as_bitslice().iter_zeros()
     }
 
+    /// The runs of equal bits, in order: where each begins and ends, and what its bits are. 64 bits are read at a
+    /// time.
+    ///
+    /// ```text
+    /// of 01101001: bits.iter_runs().nth(1) == Some(BitRun { start: 1, end: 3, bit: true })
+    /// ```
+    final fn iter_runs(&self) -> IterRuns<'_, Self::Store, Self::Order>
+        ensures list { runs_left result ≡ runs_of (list self.now) }
+        ensures most { length (runs_left result) ≤ len self.now }
+        ensures few { length (runs_left result) ≤ MAX_BITS }
+        ensures runs { YieldsInOrder
+            (YieldsFirst (runs_left {X = Self.Store} {Y = Self.Order} {W = Self.Store.BitStore} {P = Self.Order.BitOrder})) runs_left }
+    {
+        self.as_bitslice().iter_runs()
+    }
+
+    /// The first index from `from` on at which `n` bits side by side are `bit`. None exactly where they are so
+    /// nowhere.
+    ///
+    /// ```text
+    /// of 01101001: bits.next_run(2, false, 1) == Some(5)
+    /// ```
+    final fn next_run(&self, n: usize, bit: bool, from: usize) -> Option<usize>
+        ensures begins { IfSome result (λ i. from ≤ i) }
+        ensures inside { IfSome result (λ i. i + n ≤ len self.now) }
+        ensures few { IfSome result (λ i. i + n ≤ MAX_BITS) }
+        ensures found { IfSome result (λ i. part n (list self.now) i ≡ replicate n bit) }
+        ensures each { IfSome result (λ i. (j : ℕ) → i ≤ j → j < i + n → slice_get (list self.now) j ≡ Some bit) }
+        ensures before { IfSome result
+            (λ i. (j : ℕ) → from ≤ j → j < i → part n (list self.now) j ≢ replicate n bit) }
+        ensures none { IfNone result ((j : ℕ) → from ≤ j → j + n ≤ len self.now
+            → part n (list self.now) j ≢ replicate n bit) }
+    {
+        self.as_bitslice().find_run(n, bit, from)
+    }
+
     /// The first index at which the bits of `other`, of any word type and order, begin in the list. None
     /// exactly where they begin nowhere. The first 64 bits of `other` are tried at 64 indices at once.
     ///
@@ -619,6 +785,35 @@ pub trait BitList {
             → part (len_of other.entry) (list self.now) j ≢ list_of other.entry) }
     {
         self.as_bitslice().find_part(other)
+    }
+
+    /// Like `find`, but the first index from `from` on.
+    ///
+    /// ```text
+    /// of 01101001 and 01: bits.find_from(1, other) == Some(3)
+    /// ```
+    final fn find_from<U: BitStore, P: BitOrder>(
+        &self,
+        from: usize,
+        other: BitSlice<'_, U, P>,
+    ) -> Option<usize>
+        ensures begins { IfSome result (λ i. from ≤ i) }
+        ensures inside { IfSome result (λ i. i + len_of other.entry ≤ len self.now) }
+        ensures few { IfSome result (λ i. i + len_of other.entry ≤ MAX_BITS) }
+        ensures found { IfSome result (λ i. part (len_of other.entry) (list self.now) i ≡ list_of other.entry) }
+        ensures before { IfSome result
+            (λ i. (j : ℕ) → from ≤ j → j < i → part (len_of other.entry) (list self.now) j ≢ list_of other.entry) }
+        ensures none { IfNone result ((j : ℕ) → from ≤ j → j + len_of other.entry ≤ len self.now
+            → part (len_of other.entry) (list self.now) j ≢ list_of other.entry) }
+    {
+        let view = self.as_bitslice();
+        if from > view.len {
+            return None;
+        }
+        match view.get_range(from..view.len).find_part(other) {
+            None => None,
+            Some(i) => Some(from + i),
+        }
     }
 
     /// Whether the bits of `other` begin somewhere in the list.
@@ -711,6 +906,50 @@ pub trait BitList {
         let view = self.as_bitslice();
         other.len() <= view.len
             && equal_views(view.get_range(view.len - other.len()..view.len), other)
+    }
+
+    /// The view of what follows the bits of `other`. None exactly where the list does not begin with them.
+    ///
+    /// ```text
+    /// of 01101001 and 011: bits.strip_prefix(other)? shows 01001
+    /// ```
+    final fn strip_prefix<U: BitStore, P: BitOrder>(
+        &self,
+        other: BitSlice<'_, U, P>,
+    ) -> Option<BitSlice<'_, Self::Store, Self::Order>>
+        ensures both { IfSome result (λ rest. list self.now ≡ list_of other.entry ++ list_of rest) }
+        ensures none { IsNone result ↔ (take (len_of other.entry) (list self.now) ≢ list_of other.entry) }
+        ensures rest_len { IfSome result (λ rest. len_of other.entry + len_of rest ≡ len self.now) }
+        ensures rest_place { IfSome result
+            (λ rest. IsPlaced (words self.now) (head self.now) (len_of other.entry) rest) }
+    {
+        if self.starts_with(other) {
+            Some(self.get_range(other.len..self.len()))
+        } else {
+            None
+        }
+    }
+
+    /// The view of what precedes the bits of `other`. None exactly where the list does not end with them.
+    ///
+    /// ```text
+    /// of 01101001 and 001: bits.strip_suffix(other)? shows 01101
+    /// ```
+    final fn strip_suffix<U: BitStore, P: BitOrder>(
+        &self,
+        other: BitSlice<'_, U, P>,
+    ) -> Option<BitSlice<'_, Self::Store, Self::Order>>
+        ensures both { IfSome result (λ rest. list self.now ≡ list_of rest ++ list_of other.entry) }
+        ensures none { IsNone result
+            ↔ (drop (len self.now - len_of other.entry) (list self.now) ≢ list_of other.entry) }
+        ensures rest_len { IfSome result (λ rest. len_of rest + len_of other.entry ≡ len self.now) }
+        ensures rest_place { IfSome result (λ rest. IsPlaced (words self.now) (head self.now) 0 rest) }
+    {
+        if self.ends_with(other) {
+            Some(self.get_range(0..self.len() - other.len))
+        } else {
+            None
+        }
     }
 
     /// The chunk of number `k`: the view that `chunks(size)` gives after `k` others. Requires that `size` is

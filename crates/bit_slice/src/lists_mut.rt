@@ -598,6 +598,32 @@ pub trait BitListMut: BitList {
         self.combine::<Xor, U, P>(other);
     }
 
+    /// Exchanges the bits with those of another list, of any kind, word type and order. No dead bit changes. Takes no
+    /// memory. Requires that both have as many bits.
+    ///
+    /// ```text
+    /// of 01101001 and 01010101: bits.swap_with(&mut other) leaves 01010101
+    /// ```
+    final fn swap_with<B: BitListMut>(&mut self, other: &mut B)
+        requires { Self.len self.old ≡ B.len other.old }
+        ensures list { Self.list self.new ≡ B.list other.old }
+        ensures other_list { B.list other.new ≡ Self.list self.old }
+        ensures row { Self.bits self.new ≡ put (Self.bits self.old) (Self.head self.old) (B.list other.old) }
+        ensures other_row { B.bits other.new ≡ put (B.bits other.old) (B.head other.old) (Self.list self.old) }
+        ensures whole { BecomesWhole Self.Store.BITS Self.head Self.len count Self.bits self.old self.new (B.list other.old) }
+        ensures other_whole { BecomesWhole B.Store.BITS B.head B.len B.count B.bits other.old other.new (Self.list self.old) }
+        ensures clean { StaysClean Self.Store.BITS Self.head Self.bits Self.list self.old self.new }
+        ensures other_clean { StaysClean B.Store.BITS B.head B.bits B.list other.old other.new }
+        ensures stays { Stays Self.head Self.len count capacity loan self.old self.new }
+        ensures other_stays { Stays B.head B.len B.count B.capacity B.loan other.old other.new }
+    {
+        // Proof only: the bits lie in the words.
+        let _view = self.as_bitslice();
+        self.xor_bits(other.as_bitslice());
+        other.xor_bits(self.as_bitslice());
+        self.xor_bits(other.as_bitslice());
+    }
+
     /// Writes the bits of a view, with any word type and order, over those of the list. No dead bit
     /// changes. Takes no memory. Requires that the view has as many bits as the list.
     ///

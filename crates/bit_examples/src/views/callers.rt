@@ -4,13 +4,14 @@ ghost use Rattle.std.specs.Option.{option_map};
 ghost use Rattle.bit_addressing.specs.Binary.{value};
 ghost use Rattle.bit_addressing.specs.Row.{binary, put};
 ghost use Rattle.bit_slice.specs.Operators.{or_of};
+ghost use Rattle.bit_slice.specs.BitRuns.{runs_of};
 ghost use Rattle.bit_slice.specs.BitSlice.{head_of, len_of, list_of, words_of, IsPlaced};
 ghost use Rattle.bit_slice.specs.BitSliceMut.{len_of as len_there, list_of as list_there};
 ghost use Rattle.bit_slice.specs.Places.{ones_of, zeros_of};
 ghost use Rattle.bit_slice.specs.Pieces.{chunk_count, chunks_of, part};
 
 use bit_addressing::{BitOrder, BitStore};
-use bit_slice::{BitList, BitListMut, BitSlice, BitSliceMut};
+use bit_slice::{BitList, BitListMut, BitRun, BitSlice, BitSliceMut};
 use std::alloc::{AllocError, Global};
 
 pub fn bit_at_first<T: BitStore, O: BitOrder>(view: BitSlice<'_, T, O>) -> Option<bool>
@@ -43,6 +44,83 @@ pub fn bit_at_next<T: BitStore, O: BitOrder>(view: BitSlice<'_, T, O>, from: usi
     match view.next_zero(from) {
         Some(i) => i >= from && !view[i],
         None => true,
+    }
+}
+
+pub fn bit_at_prev<T: BitStore, O: BitOrder>(view: BitSlice<'_, T, O>, before: usize) -> bool
+    ensures { IsTrue result }
+{
+    match view.prev_one(before) {
+        Some(i) => i < before && view[i],
+        None => true,
+    }
+}
+
+pub fn after_prev<T: BitStore, O: BitOrder>(
+    view: BitSlice<'_, T, O>,
+    before: usize,
+    j: usize,
+) -> Option<bool>
+    requires { j < before }
+    ensures { IfSome result (λ b. b ≡ true) }
+{
+    match view.prev_zero(before) {
+        Some(i) => if i < j { view.get(j) } else { None },
+        None => view.get(j),
+    }
+}
+
+pub fn ones_before_nth<T: BitStore, O: BitOrder>(
+    view: BitSlice<'_, T, O>,
+    k: usize,
+) -> Option<usize>
+    ensures { IfSome result (λ count. count ≡ k) }
+{
+    match view.nth_one(k) {
+        Some(i) => Some(view.count_ones_in(..i)),
+        None => None,
+    }
+}
+
+pub fn more_than<T: BitStore, O: BitOrder>(view: BitSlice<'_, T, O>, k: usize) -> bool
+    ensures { IsTrue result }
+{
+    view.nth_zero(k).is_some() == (k < view.count_zeros())
+}
+
+pub fn some_in_half<T: BitStore, O: BitOrder>(view: BitSlice<'_, T, O>) -> bool
+    ensures { IsTrue result }
+{
+    let half = view.len() / 2;
+    view.any_in(half..) == view.get_range(half..).any() && view.all_in(..0)
+}
+
+pub fn listed_runs<T: BitStore, O: BitOrder>(
+    alloc: Global,
+    view: BitSlice<'_, T, O>,
+) -> Result<Vec<BitRun>, AllocError>
+    ensures { IfOk result (λ all. all.items ≡ runs_of (list_of view.entry)) }
+{
+    view.iter_runs().collect::<Vec<BitRun>>(alloc)
+}
+
+pub fn runs_by_loop<T: BitStore, O: BitOrder>(view: BitSlice<'_, T, O>) -> usize
+    ensures { result ≡ length (runs_of (list_of view.entry)) }
+{
+    view.iter_runs().count()
+}
+
+pub fn in_next_run<T: BitStore, O: BitOrder>(
+    view: BitSlice<'_, T, O>,
+    n: usize,
+    from: usize,
+) -> Option<bool>
+    requires { 0 < n }
+    ensures { IfSome result (λ b. b ≡ false) }
+{
+    match view.next_run(n, false, from) {
+        Some(i) => view.get(i + (n - 1)),
+        None => None,
     }
 }
 
@@ -195,6 +273,18 @@ pub fn flipped_twice<T: BitStore, O: BitOrder>(view: &mut BitSliceMut<'_, T, O>)
     view.flip_all();
 }
 
+pub fn exchanged<T: BitStore, O: BitOrder, U: BitStore, P: BitOrder>(
+    left: &mut BitSliceMut<'_, T, O>,
+    right: &mut BitSliceMut<'_, U, P>,
+)
+    requires { len_there left.old ≡ len_there right.old }
+    ensures left { list_there left.new ≡ map not (list_there right.old) }
+    ensures right { list_there right.new ≡ list_there left.old }
+{
+    left.swap_with(right);
+    left.flip_all();
+}
+
 pub fn shifted<T: BitStore, O: BitOrder>(view: &mut BitSliceMut<'_, T, O>, by: usize)
     requires { by ≤ len_there view.old }
     ensures { list_there view.new ≡ map not (drop by (list_there view.old) ++ replicate by false) }
@@ -344,6 +434,40 @@ pub fn found_part<T: BitStore, O: BitOrder, U: BitStore, P: BitOrder>(
         Some(i) => view.get_range(i..i + other.len()).eq_bits(other),
         None => true,
     }
+}
+
+pub fn found_later<T: BitStore, O: BitOrder, U: BitStore, P: BitOrder>(
+    view: BitSlice<'_, T, O>,
+    from: usize,
+    other: BitSlice<'_, U, P>,
+) -> bool
+    ensures { IsTrue result }
+{
+    match view.find_from(from, other) {
+        Some(i) => from <= i && view.get_range(i..i + other.len()).eq_bits(other),
+        None => true,
+    }
+}
+
+pub fn without_front<T: BitStore, O: BitOrder, U: BitStore, P: BitOrder>(
+    view: BitSlice<'_, T, O>,
+    other: BitSlice<'_, U, P>,
+) -> usize
+    ensures { result ≤ len_of view.entry }
+{
+    match view.strip_prefix(other) {
+        Some(rest) => rest.len(),
+        None => view.len(),
+    }
+}
+
+pub fn stripped_where_it_ends<T: BitStore, O: BitOrder, U: BitStore, P: BitOrder>(
+    view: BitSlice<'_, T, O>,
+    other: BitSlice<'_, U, P>,
+) -> bool
+    ensures { IsTrue result }
+{
+    view.strip_suffix(other).is_some() == view.ends_with(other)
 }
 
 pub fn number_of_field<T: BitStore, O: BitOrder>(view: BitSlice<'_, T, O>) -> u64

@@ -6,7 +6,7 @@ ghost use Rattle.bit_addressing.specs.declared.length.TheConstants.{MAX_BITS};
 use crate::common::{check, ok};
 use crate::rows::orders::Xor4;
 use bit_addressing::{BitOrder, BitStore, Lsb0, MAX_BITS, Msb0};
-use bit_slice::{BitList, BitListMut, BitSlice, BitSliceMut, split_run_mut};
+use bit_slice::{BitList, BitListMut, BitRun, BitSlice, BitSliceMut, split_run_mut};
 use std::process::Abort;
 
 // What is written through a view stands in the caller's own words.
@@ -226,4 +226,77 @@ fn told_apart(rt: HostRuntime) {
         &rt,
         text.as_str() == "BitSlice { head: 1, bits: 3 } [1, 0, 1]",
     );
+}
+
+#[test]
+fn searched_backward(rt: HostRuntime) {
+    let view = BitSlice::<u8, Msb0>::from_slice(&[0x69, 0x00, 0x10]);
+    check(&rt, view.prev_one(24) == Some(19));
+    check(&rt, view.prev_one(19) == Some(7));
+    check(&rt, view.prev_one(1).is_none());
+    check(&rt, view.prev_zero(5) == Some(3));
+}
+
+#[test]
+fn found_by_number(rt: HostRuntime) {
+    let view = BitSlice::<u8, Msb0>::from_slice(&[0x69, 0x00, 0x10]);
+    check(&rt, view.nth_one(4) == Some(19));
+    check(&rt, view.nth_one(5).is_none());
+    check(&rt, view.nth_zero(4) == Some(8));
+    check(&rt, view.count_ones_in(2..8) == 3);
+    check(&rt, view.any_in(19..20) && !view.any_in(8..19));
+    check(&rt, view.all_in(1..3));
+}
+
+// Runs within a word, over words and at both ends, where the list begins and ends inside of words.
+#[test]
+fn cut_into_runs(rt: HostRuntime) {
+    let words = [0x69_u8, 0x00, 0x10];
+    let view = BitSlice::<u8, Msb0>::from_slice(&words).get_range(2..23);
+    let mut ends = [0_usize; 9];
+    let mut count = 0;
+    for run in view.iter_runs() {
+        check(&rt, view[run.start] == run.bit);
+        if count < 9 {
+            ends[count] = run.end;
+        }
+        count += 1;
+    }
+    check(&rt, count == 8);
+    check(&rt, ends == [1, 2, 3, 5, 6, 17, 18, 21, 0]);
+    check(
+        &rt,
+        view.iter_runs().nth(4)
+            == Some(BitRun {
+                start: 5,
+                end: 6,
+                bit: true,
+            }),
+    );
+    check(&rt, view.next_run(4, false, 0) == Some(6));
+    check(&rt, view.next_run(12, false, 0).is_none());
+}
+
+#[test]
+fn stripped(rt: HostRuntime) {
+    let view = BitSlice::<u8, Msb0>::from_slice(&[0x69]);
+    let part = BitSlice::<u8, Lsb0>::from_slice(&[0x06]).get_range(0..4);
+    check(
+        &rt,
+        view.strip_prefix(part).map_or(0, |rest| rest.load_be()) == 9,
+    );
+    check(&rt, view.strip_suffix(part).is_none());
+    check(&rt, view.find_from(1, part.get_range(0..2)) == Some(3));
+}
+
+#[test]
+fn lists_exchanged(rt: HostRuntime) {
+    let (mut left, mut right) = ([0x69_u8, 0xf0], [0x000a_u16]);
+    let mut first = BitSliceMut::<u8, Msb0>::from_slice_mut(&mut left);
+    let mut part = first.part_mut(4, 12);
+    let mut second = BitSliceMut::<u16, Lsb0>::from_slice_mut(&mut right);
+    let mut other = second.part_mut(0, 8);
+    part.swap_with(&mut other);
+    check(&rt, left == [0x65, 0x00]);
+    check(&rt, right == [0x00f9]);
 }

@@ -3,7 +3,7 @@ ghost use Rattle.std.specs.Prelude.{◌≡◌, ℕ, ◌+◌, ◌*◌, ◌<◌, �
 ghost use Rattle.std.specs.List.Sorted.{IsNonDecreasing};
 ghost use Rattle.bit_addressing.specs.declared.length.TheConstants.{MAX_BITS};
 ghost use Rattle.bit_slice.specs.Places.{ones_of};
-ghost use Rattle.bit_ranks.specs.Ranks.{zeros_before};
+ghost use Rattle.bit_slice.specs.Numbered.{zeros_before};
 ghost use Rattle.bit_ranks.specs.Sorted.{AreSameHigh, IsUptoHigh, high_part, low_part};
 
 use crate::ranks::Ranks;

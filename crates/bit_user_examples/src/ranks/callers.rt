@@ -1,6 +1,6 @@
 //! Callers of ranks and of sorted numbers: what each proves stands in its clauses, and none has a file.
 ghost use Rattle.std.specs.Prelude.{◌≡◌, ◌<◌, ◌≤◌, false, true, IfOk, IfSome, IsTrue, Some, length, slice_get};
-ghost use Rattle.bit_ranks.specs.Ranks.{ones_before};
+ghost use Rattle.bit_slice.specs.Numbered.{ones_before};
 
 use bit_boxed::BitBox;
 use bit_containers::{BitOrder, BitStore};

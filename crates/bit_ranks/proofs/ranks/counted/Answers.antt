@@ -1,7 +1,8 @@
 use Rattle.std.proofs.Common.{◌≡◌, ◌+◌, ◌*◌, [], ◌∷◌, count_by, get_or, length, subst, sym, ap, ◌∙◌, arith, ◌<◌, ℕ, List, length-append}
 use Rattle.bit_slice.specs.BitSlice.{list_of}
-use Rattle.bit_ranks.specs.Ranks.{ones_before}
-use Rattle.bit_ranks.proofs.Numbered.{parted, counts_more}
+use Rattle.bit_slice.specs.Numbered.{ones_before}
+use Rattle.bit_slice.proofs.Numbered.{parted}
+use Rattle.bit_ranks.proofs.Numbered.{counts_more}
 use Rattle.bit_ranks.proofs.ranks.counted.Goals as goal
 
 pub loop-block-preserved : goal.loop-block-preserved

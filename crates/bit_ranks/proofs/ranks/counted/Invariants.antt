@@ -1,6 +1,6 @@
 use Rattle.std.proofs.Common.{◌≡◌, ◌+◌, ◌*◌, ◌<◌, ℕ, length, get_or, vec_capacity}
 use Rattle.bit_slice.specs.BitSlice.{list_of}
-use Rattle.bit_ranks.specs.Ranks.{ones_before}
+use Rattle.bit_slice.specs.Numbered.{ones_before}
 use Rattle.bit_ranks.proofs.ranks.counted.Given as goal
 
 abbrev pub invariant-loop-block : goal.invariant-loop-block

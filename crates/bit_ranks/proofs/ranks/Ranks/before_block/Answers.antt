@@ -1,5 +1,5 @@
 use Rattle.std.proofs.Common.{◌*◌, sym, ap, ◌∙◌}
-use Rattle.bit_ranks.specs.Ranks.{count_before}
+use Rattle.bit_slice.specs.Numbered.{count_before}
 use Rattle.bit_ranks.proofs.Numbered.{zeros_left}
 use Rattle.bit_ranks.proofs.ranks.Ranks.before_block.Goals as goal
 

@@ -1,5 +1,5 @@
 use Rattle.std.proofs.Common.{◌+◌, ◌-◌, ◌*◌, ◌<◌, ◌≤◌, length}
-use Rattle.bit_ranks.specs.Ranks.{count_before}
+use Rattle.bit_slice.specs.Numbered.{count_before}
 use Rattle.bit_ranks.proofs.ranks.Ranks.block_of.Given as goal
 
 abbrev pub invariant-narrow : goal.invariant-narrow

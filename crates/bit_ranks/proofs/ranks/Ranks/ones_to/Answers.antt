@@ -1,6 +1,6 @@
 use Rattle.std.proofs.Common.{◌≡◌, ◌<◌, ◌+◌, ◌-◌, ◌*◌, get_or, length, ap, ◌∙◌, arith}
 use Rattle.std.proofs.lemmas.Option.{slice_get-get_or}
-use Rattle.bit_ranks.proofs.Numbered.{at_most_index}
+use Rattle.bit_slice.proofs.Numbered.{at_most_index}
 use Rattle.bit_ranks.proofs.ranks.Ranks.ones_to.Goals as goal
 
 pub returns-clause-few : goal.returns-clause-few

@@ -1,5 +1,5 @@
 use Rattle.std.proofs.Common.{◌/◌, ◌*◌, count_by, slice_range, ap, ◌∙◌, arith}
-use Rattle.bit_ranks.proofs.Numbered.{parted}
+use Rattle.bit_slice.proofs.Numbered.{parted}
 use Rattle.bit_ranks.proofs.ranks.Ranks.rank1.Goals as goal
 
 pub returns-clause-value : goal.returns-clause-value

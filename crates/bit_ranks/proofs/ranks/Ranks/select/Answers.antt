@@ -1,35 +1,26 @@
-use Rattle.std.proofs.Common.{length, map, slice_range, ap, ◌∙◌, arith}
-use Rattle.bit_addressing.specs.Row.{number_of}
-use Rattle.bit_ranks.specs.Ranks.{is_bit}
-use Rattle.bit_ranks.proofs.Numbered.{found_numbered, counted_more}
+use Rattle.std.proofs.Common.{◌≡◌, ◌+◌, ◌*◌, ◌≤◌, ℕ, Bool, List, Option, count_by, subst, ap, ◌∙◌, arith}
+use Rattle.std.specs.Prelude.{IfNone, IfSome}
+use Rattle.bit_slice.specs.BitSlice.{list_of}
+use Rattle.bit_slice.specs.Numbered.{count_before, is_bit, IsNumbered}
 use Rattle.bit_ranks.proofs.ranks.Ranks.select.Goals as goal
 
-pub returns-then-left-count-clause-some : goal.returns-then-left-count-clause-some
-returns-then-left-count-clause-some g c =
-    let xs = c.args.self.now.list in
-    let i = c.scan.invariant in
-    let from = c.scan.from in
-    let upto = c.min-upto.result in
-    let word = c.marked-word.ensures ∙ ap (λ l. number_of (map (is_bit c.args.bit) l)) c.get_range.ensures.list ∙ ap (λ v. number_of (map (is_bit c.args.bit) (slice_range v.list from upto))) c.self.view_is in
-    let end = c.len-len.ensures.value ∙ ap (λ v. length v.list) c.self.view_is in
-    found_numbered c.args.bit xs from upto c.scan.left c.args.k c.marked-word.result c.place_of.result (omega arith) (omega arith) (omega arith) word i.before c.place_of.ensures.set c.place_of.ensures.before
+-- counted from the front on
+some_of : (bit : Bool) (xs ys : List Bool) (from left k : ℕ) → xs ≡ ys → count_before bit ys from + left ≡ k → (r : Option ℕ) → IfSome r (λ i. IsNumbered bit xs (count_before bit xs from + left) i) → IfSome r (λ i. IsNumbered bit ys k i)
+some_of bit xs ys from left k same all r some =
+    subst (λ n. IfSome r (λ i. IsNumbered bit ys n i)) all (subst (λ (l : List Bool). IfSome r (λ i. IsNumbered bit l (count_before bit l from + left) i)) same some)
 
-pub returns-then-left-count-clause-few : goal.returns-then-left-count-clause-few
-returns-then-left-count-clause-few g c =
-    let n = (returns-then-left-count-clause-some g c).inside in
-    let end = c.len-len.ensures.value ∙ ap (λ v. length v.list) c.self.view_is in
-    let most = c.len-len.ensures.bound in
-    omega arith
+none_of : (bit : Bool) (xs ys : List Bool) (from left k : ℕ) → xs ≡ ys → count_before bit ys from + left ≡ k → (r : Option ℕ) → IfNone r (count_by (is_bit bit) xs ≤ count_before bit xs from + left) → IfNone r (count_by (is_bit bit) ys ≤ k)
+none_of bit xs ys from left k same all r none =
+    subst (λ n. IfNone r (count_by (is_bit bit) ys ≤ n)) all (subst (λ (l : List Bool). IfNone r (count_by (is_bit bit) l ≤ count_before bit l from + left)) same none)
 
-pub scan-preserved : goal.scan-preserved
-scan-preserved g c =
-    let xs = c.args.self.now.list in
-    let i = c.scan.invariant in
-    let from = c.scan.from in
-    let upto = c.min-upto.result in
-    let word = c.marked-word.ensures ∙ ap (λ l. number_of (map (is_bit c.args.bit) l)) c.get_range.ensures.list ∙ ap (λ v. number_of (map (is_bit c.args.bit) (slice_range v.list from upto))) c.self.view_is in
-    let end = c.len-len.ensures.value ∙ ap (λ v. length v.list) c.self.view_is in
-    record {
-      within = omega arith;
-      before = counted_more c.args.bit xs from upto c.scan.left c.args.k c.marked-word.result (omega arith) (omega arith) word i.before (omega arith);
-    }
+pub returns-clause-some : goal.returns-clause-some
+returns-clause-some g c =
+    let before = c.before_block.ensures in
+    let few = c.block_of-block.ensures.before in
+    some_of c.args.bit (list_of c.as_bitslice.result) c.args.self.now.list (c.block_of-block.result * 512) _ c.args.k (c.as_bitslice.ensures.list ∙ ap (λ v. v.list) c.self.view_is) (omega arith) c.nth_from.result c.nth_from.ensures.some
+
+pub returns-clause-none : goal.returns-clause-none
+returns-clause-none g c =
+    let before = c.before_block.ensures in
+    let few = c.block_of-block.ensures.before in
+    none_of c.args.bit (list_of c.as_bitslice.result) c.args.self.now.list (c.block_of-block.result * 512) _ c.args.k (c.as_bitslice.ensures.list ∙ ap (λ v. v.list) c.self.view_is) (omega arith) c.nth_from.result c.nth_from.ensures.none

@@ -1,5 +1,5 @@
 use Rattle.std.proofs.Common.{false}
-use Rattle.bit_ranks.proofs.Numbered.{given_value, given_found, given_only}
+use Rattle.bit_slice.proofs.Numbered.{given_value, given_found, given_only}
 use Rattle.bit_ranks.proofs.ranks.Ranks.select0.Goals as goal
 
 pub returns-clause-value : goal.returns-clause-value

@@ -2,8 +2,8 @@ use Rattle.std.proofs.Common.{◌≡◌, ◌+◌, ◌/◌, ◌%◌, ◌^◌, sym
 use Rattle.std.specs.Prelude.{count_ones}
 use Rattle.std.proofs.Math.Nat.{mod-eq_of_lt}
 use Rattle.std.proofs.lemmas.Nat.{shr-shr, ones_le_self}
-use Rattle.bit_ranks.proofs.Halves.{halved, ones_parted, ones_masked, one_left, one_wide}
-use Rattle.bit_ranks.proofs.word.place_of.Goals as goal
+use Rattle.bit_slice.proofs.Halved.{halved, ones_parted, ones_masked, one_left, one_wide}
+use Rattle.bit_slice.proofs.slice.nth.place_of.Goals as goal
 
 pub halves-init : goal.halves-init
 halves-init c =

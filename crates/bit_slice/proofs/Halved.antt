@@ -4,7 +4,7 @@ use Rattle.std.specs.Prelude.{count_ones, eqb, bit_and}
 use Rattle.std.proofs.lemmas.Nat.{ones_cat, mod-pow-add, mod_below, pow_pos, and_mask, one_shl}
 use Rattle.std.proofs.Math.Nat.{pow-suc}
 use Rattle.std.proofs.lemmas.Nat.{ones_le_self}
-use Rattle.bit_ranks.specs.Ranks.{IsPower}
+use Rattle.bit_slice.specs.Numbered.{IsPower}
 
 -- a power of two above 1 is twice a power of two
 pub halved : (n : ℕ) → IsPower n → 1 < n → (n / 2 + n / 2 ≡ n) × IsPower (n / 2)

@@ -1,7 +1,7 @@
 use Rattle.std.proofs.Common.{◌≡◌, ◌+◌, ◌/◌, ◌%◌, ◌^◌, ◌<◌, ◌≤◌}
 use Rattle.std.specs.Prelude.{count_ones}
-use Rattle.bit_ranks.specs.Ranks.{IsPower}
-use Rattle.bit_ranks.proofs.word.place_of.Given as goal
+use Rattle.bit_slice.specs.Numbered.{IsPower}
+use Rattle.bit_slice.proofs.slice.nth.place_of.Given as goal
 
 abbrev pub invariant-halves : goal.invariant-halves
 invariant-halves l = record {

@@ -20,6 +20,7 @@ use std::alloc::{AllocError, Global};
 use std::boxed::BoxedSlice;
 use std::marker::{Model, PhantomData};
 
+mod assign;
 mod iter;
 mod lists;
 mod ops;

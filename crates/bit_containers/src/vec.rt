@@ -15,6 +15,7 @@ use std::alloc::{AllocError, Global};
 use std::marker::{Model, PhantomData};
 
 mod api;
+mod assign;
 mod boxes;
 mod capacity;
 mod closures;
@@ -23,6 +24,7 @@ mod convert;
 mod drain;
 mod elements;
 mod extend;
+mod filling;
 mod items;
 mod iter;
 mod lists;

@@ -20,3 +20,4 @@ pub mod Clean
 pub mod Overwritten
 pub mod Signed
 pub mod Held
+pub mod Written

@@ -11,7 +11,8 @@ use bit_addressing::{BitOrder, BitStore};
 use bit_slice::{AndNot, BitListMut, BitSlice};
 use std::ops::{BitAndAssign, BitOrAssign, BitXorAssign, ShlAssign, ShrAssign, SubAssign};
 
-impl<'a, A: BitViewSized, O: BitOrder, U: BitStore, P: BitOrder> BitAndAssign<BitSlice<'a, U, P>> for BitArray<A, O> {
+impl<'a, A: BitViewSized, O: BitOrder, U: BitStore, P: BitOrder> BitAndAssign<BitSlice<'a, U, P>>
+    for BitArray<A, O> {
     ghost bitand_assign_gives = { λ a b c. (row A.Store.BitStore O.BitOrder (A.words c)
         ≡ and_of (row A.Store.BitStore O.BitOrder (A.words a)) (list_of b))
         × AndsEach (row A.Store.BitStore O.BitOrder (A.words a)) (list_of b)
@@ -27,7 +28,8 @@ impl<'a, A: BitViewSized, O: BitOrder, U: BitStore, P: BitOrder> BitAndAssign<Bi
     }
 }
 
-impl<'a, A: BitViewSized, O: BitOrder, U: BitStore, P: BitOrder> BitOrAssign<BitSlice<'a, U, P>> for BitArray<A, O> {
+impl<'a, A: BitViewSized, O: BitOrder, U: BitStore, P: BitOrder> BitOrAssign<BitSlice<'a, U, P>>
+    for BitArray<A, O> {
     ghost bitor_assign_gives = { λ a b c. (row A.Store.BitStore O.BitOrder (A.words c)
         ≡ or_of (row A.Store.BitStore O.BitOrder (A.words a)) (list_of b))
         × OrsEach (row A.Store.BitStore O.BitOrder (A.words a)) (list_of b)
@@ -43,7 +45,8 @@ impl<'a, A: BitViewSized, O: BitOrder, U: BitStore, P: BitOrder> BitOrAssign<Bit
     }
 }
 
-impl<'a, A: BitViewSized, O: BitOrder, U: BitStore, P: BitOrder> BitXorAssign<BitSlice<'a, U, P>> for BitArray<A, O> {
+impl<'a, A: BitViewSized, O: BitOrder, U: BitStore, P: BitOrder> BitXorAssign<BitSlice<'a, U, P>>
+    for BitArray<A, O> {
     ghost bitxor_assign_gives = { λ a b c. (row A.Store.BitStore O.BitOrder (A.words c)
         ≡ xor_of (row A.Store.BitStore O.BitOrder (A.words a)) (list_of b))
         × XorsEach (row A.Store.BitStore O.BitOrder (A.words a)) (list_of b)
@@ -59,7 +62,8 @@ impl<'a, A: BitViewSized, O: BitOrder, U: BitStore, P: BitOrder> BitXorAssign<Bi
     }
 }
 
-impl<'a, A: BitViewSized, O: BitOrder, U: BitStore, P: BitOrder> SubAssign<BitSlice<'a, U, P>> for BitArray<A, O> {
+impl<'a, A: BitViewSized, O: BitOrder, U: BitStore, P: BitOrder> SubAssign<BitSlice<'a, U, P>>
+    for BitArray<A, O> {
     ghost sub_assign_gives = { λ a b c. (row A.Store.BitStore O.BitOrder (A.words c)
         ≡ and_not_of (row A.Store.BitStore O.BitOrder (A.words a)) (list_of b))
         × AndNotsEach (row A.Store.BitStore O.BitOrder (A.words a)) (list_of b)

@@ -1,3 +1,4 @@
 pub mod Boxes
 pub mod Pulling
 pub mod Leaving
+pub mod Copies

@@ -21,6 +21,7 @@ use std::boxed::BoxedSlice;
 use std::marker::{Model, PhantomData};
 
 mod assign;
+mod filling;
 mod iter;
 mod lists;
 mod ops;

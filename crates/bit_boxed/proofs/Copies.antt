@@ -1,11 +1,14 @@
 -- What is pulled out of an iterator over references whose items are copied, and where a call is refused.
-use Rattle.std.proofs.Common.{◌≡◌, ◌<◌, ◌≤◌, List, [], ◌∷◌, length, map, Bor, refl, sym, ap, subst, arith}
+use Rattle.std.proofs.Common.{◌≡◌, ℕ, ◌<◌, ◌≤◌, List, [], ◌∷◌, length, map, Bor, refl, sym, ◌∙◌, ap, subst, arith}
 use Rattle.std.specs.Prelude.{Option, Some, None, Result, Err}
 use Rattle.bit_addressing.specs.declared.length.TheConstants.{MAX_BITS}
 use Rattle.bit_addressing.specs.declared.errors.GrowError.{GrowError}
 use Rattle.bit_addressing.specs.declared.errors.GrowError.TheVariants.{TooLong, OutOfMemory}
 use Rattle.std.specs.Option.{option_copied}
 use Rattle.std.specs.Iterator.{Yields}
+use Rattle.std.specs.Iterator.Runs.{EachRunFrom}
+use Rattle.std.proofs.lemmas.List.{length-map}
+use Rattle.std.proofs.iter.runs.Adapters.{copied_runs}
 use Rattle.bit_slice.specs.Pulls.{GivesAll, GivesFirst}
 use Rattle.std.specs.Iterator.Adapters.{copied_source, copied_steps}
 use Rattle.std.specs.declared.iter.Copied.{Copied}
@@ -51,6 +54,13 @@ module _ {U S A : Type 0} (becomes : U → S → Type 0) (steps : S → Option (
   first_copied P h =
       let given = pulled_copies steps h.0 h.1 h.2 h.4 in
       (copied_source h.0, given.0, copied_source h.2, subst (λ s. becomes iter (copied_source s)) (sym h.3) starts, given.1, subst P given.2 h.5)
+
+  -- what holds of how many items each run gives holds of how many are copied
+  pub each_copied : (Q : ℕ → Type 0) → ((s : S) → becomes iter s → EachRunFrom steps s (λ run. Q (length run.items))) → (s : Copied S) → s ≡ copies → EachRunFrom (copied_steps steps) s (λ run. Q (length run.items))
+  each_copied Q each s is run seen from =
+      let q = copied_runs steps copies (copied_source copies) refl run seen (from ∙ is) in
+      let same : length run.items ≡ length q.0.items = ap length q.2.2 ∙ length-map q.0.items (λ b. b.now) in
+      subst Q (sym same) (each (copied_source copies) starts q.0 q.0.seen q.1)
 
 -- where a call is refused after its first items, there are some
 module _ {U S A V : Type 0} (becomes : U → S → Type 0) (steps : S → Option A → S → Type 0) (iter : U) where

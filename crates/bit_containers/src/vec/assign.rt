@@ -9,7 +9,8 @@ use bit_addressing::{BitOrder, BitStore};
 use bit_slice::{AndNot, BitListMut, BitSlice};
 use std::ops::{BitAndAssign, BitOrAssign, BitXorAssign, ShlAssign, ShrAssign, SubAssign};
 
-impl<'a, T: BitStore, O: BitOrder, U: BitStore, P: BitOrder> BitAndAssign<BitSlice<'a, U, P>> for BitVec<T, O> {
+impl<'a, T: BitStore, O: BitOrder, U: BitStore, P: BitOrder> BitAndAssign<BitSlice<'a, U, P>>
+    for BitVec<T, O> {
     ghost bitand_assign_gives = { λ a b c. IsWritten T.BITS (and_of a.list (list_of b)) a c
         × AndsEach a.list (list_of b) c.list };
 
@@ -23,7 +24,8 @@ impl<'a, T: BitStore, O: BitOrder, U: BitStore, P: BitOrder> BitAndAssign<BitSli
     }
 }
 
-impl<'a, T: BitStore, O: BitOrder, U: BitStore, P: BitOrder> BitOrAssign<BitSlice<'a, U, P>> for BitVec<T, O> {
+impl<'a, T: BitStore, O: BitOrder, U: BitStore, P: BitOrder> BitOrAssign<BitSlice<'a, U, P>>
+    for BitVec<T, O> {
     ghost bitor_assign_gives = { λ a b c. IsWritten T.BITS (or_of a.list (list_of b)) a c
         × OrsEach a.list (list_of b) c.list };
 
@@ -37,7 +39,8 @@ impl<'a, T: BitStore, O: BitOrder, U: BitStore, P: BitOrder> BitOrAssign<BitSlic
     }
 }
 
-impl<'a, T: BitStore, O: BitOrder, U: BitStore, P: BitOrder> BitXorAssign<BitSlice<'a, U, P>> for BitVec<T, O> {
+impl<'a, T: BitStore, O: BitOrder, U: BitStore, P: BitOrder> BitXorAssign<BitSlice<'a, U, P>>
+    for BitVec<T, O> {
     ghost bitxor_assign_gives = { λ a b c. IsWritten T.BITS (xor_of a.list (list_of b)) a c
         × XorsEach a.list (list_of b) c.list };
 
@@ -51,7 +54,8 @@ impl<'a, T: BitStore, O: BitOrder, U: BitStore, P: BitOrder> BitXorAssign<BitSli
     }
 }
 
-impl<'a, T: BitStore, O: BitOrder, U: BitStore, P: BitOrder> SubAssign<BitSlice<'a, U, P>> for BitVec<T, O> {
+impl<'a, T: BitStore, O: BitOrder, U: BitStore, P: BitOrder> SubAssign<BitSlice<'a, U, P>>
+    for BitVec<T, O> {
     ghost sub_assign_gives = { λ a b c. IsWritten T.BITS (and_not_of a.list (list_of b)) a c
         × AndNotsEach a.list (list_of b) c.list };
 

@@ -15,6 +15,7 @@ use std::alloc::{AllocError, Global};
 use std::marker::{Model, PhantomData};
 
 mod api;
+mod arrays;
 mod assign;
 mod boxes;
 mod capacity;

@@ -8,8 +8,10 @@ use bit_addressing::{BitOrder, BitStore, Lsb0, MAX_BITS};
 use bit_rows::prove_exact_words;
 use std::marker::{Model, PhantomData};
 
+mod assign;
 mod iter;
 mod lists;
+mod making;
 mod ops;
 mod slice;
 mod traits;

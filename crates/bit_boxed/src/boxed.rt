@@ -20,6 +20,8 @@ use std::alloc::{AllocError, Global};
 use std::boxed::BoxedSlice;
 use std::marker::{Model, PhantomData};
 
+mod assign;
+mod filling;
 mod iter;
 mod lists;
 mod ops;

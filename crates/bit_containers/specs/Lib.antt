@@ -5,7 +5,45 @@ pub mod Drain
 pub mod Examples
 pub mod Items
 pub mod Lends
+pub mod Length
 pub mod Machine
 pub mod Making
 pub mod Splice
 pub mod Text
+pub use Rattle.bit_addressing.specs.Binary
+pub use Rattle.bit_addressing.specs.Bits
+pub use Rattle.bit_addressing.specs.Order
+pub use Rattle.bit_addressing.specs.Range
+pub use Rattle.bit_addressing.specs.Row
+pub use Rattle.bit_addressing.specs.Text as ListText
+pub use Rattle.bit_addressing.specs.Typed
+pub use Rattle.bit_rows.specs.Runs
+pub use Rattle.bit_slice.specs.BitSlice
+pub use Rattle.bit_slice.specs.BitSliceMut
+pub use Rattle.bit_slice.specs.Clean
+pub use Rattle.bit_slice.specs.Comparisons
+pub use Rattle.bit_slice.specs.Counted
+pub use Rattle.bit_slice.specs.CountedMut
+pub use Rattle.bit_slice.specs.Fits
+pub use Rattle.bit_slice.specs.Held
+pub use Rattle.bit_slice.specs.Indices
+pub use Rattle.bit_slice.specs.Iter
+pub use Rattle.bit_slice.specs.Lends as ViewLends
+pub use Rattle.bit_slice.specs.Lists
+pub use Rattle.bit_slice.specs.Mirrored
+pub use Rattle.bit_slice.specs.Operators
+pub use Rattle.bit_slice.specs.Overwritten
+pub use Rattle.bit_slice.specs.Owned
+pub use Rattle.bit_slice.specs.Pieces
+pub use Rattle.bit_slice.specs.PiecesLeft
+pub use Rattle.bit_slice.specs.Places
+pub use Rattle.bit_slice.specs.Pulls
+pub use Rattle.bit_slice.specs.Signed
+pub use Rattle.bit_slice.specs.Texts
+pub use Rattle.bit_slice.specs.Written
+pub use Rattle.bit_array.specs.Errors as ArrayErrors
+pub use Rattle.bit_array.specs.Sized
+pub use Rattle.bit_boxed.specs.BitBox
+pub use Rattle.bit_boxed.specs.IntoIter
+pub use Rattle.bit_boxed.specs.Lends as BoxLends
+pub use Rattle.bit_boxed.specs.LendsLeft

@@ -2,6 +2,7 @@
 //! `array` and `boxed`.
 #![tactic(auto)]
 
+mod literals;
 mod machine;
 pub mod vec;
 

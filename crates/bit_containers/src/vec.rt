@@ -15,6 +15,8 @@ use std::alloc::{AllocError, Global};
 use std::marker::{Model, PhantomData};
 
 mod api;
+mod arrays;
+mod assign;
 mod boxes;
 mod capacity;
 mod closures;
@@ -23,6 +25,7 @@ mod convert;
 mod drain;
 mod elements;
 mod extend;
+mod filling;
 mod items;
 mod iter;
 mod lists;

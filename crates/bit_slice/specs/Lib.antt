@@ -23,3 +23,4 @@ pub mod Held
 pub mod Numbered
 pub mod Edges
 pub mod BitRuns
+pub mod Written

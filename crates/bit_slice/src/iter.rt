@@ -4,7 +4,10 @@ ghost use Rattle.bit_addressing.specs.declared.length.TheConstants.{MAX_BITS};
 ghost use Rattle.bit_addressing.specs.Typed.{row};
 ghost use Rattle.bit_slice.specs.Fits.{IsRun};
 
-use bit_addressing::{BitOrder, BitStore};
+mod copies;
+
+use crate::slice::{BitSlice, words_at};
+use bit_addressing::{BitOrder, BitStore, elts};
 use bit_rows::read_bit;
 use std::iter::{DoubleEndedIterator, ExactSizeIterator, FusedIterator, Iterator};
 use std::marker::PhantomData;
@@ -22,6 +25,7 @@ pub struct Iter<'a, T: BitStore, O: BitOrder> {
 }
 
 impl<'a, T: BitStore, O: BitOrder> Iter<'a, T, O> {
+    ghost use Rattle.bit_slice.specs.BitSlice.{len_of, list_of};
     ghost use Rattle.bit_slice.specs.Iter.{rest_of};
 
     // The bits at the indices `from..upto` of the words' row.
@@ -35,6 +39,23 @@ impl<'a, T: BitStore, O: BitOrder> Iter<'a, T, O> {
             upto,
             order: PhantomData,
         }
+    }
+
+    /// The view of the bits that are left, in the words that have them.
+    ///
+    /// ```text
+    /// of 01101001 and two bits taken: bits.as_bitslice() shows 101001
+    /// ```
+    pub fn as_bitslice(&self) -> BitSlice<'a, T, O>
+        ensures list { list_of result ≡ rest_of self.now }
+        ensures len { len_of result ≡ length (rest_of self.now) }
+    {
+        let width = T::BITS as usize;
+        let head = self.from % width;
+        let len = self.upto - self.from;
+        let first = self.from / width;
+        let count = elts::<T>(head + len);
+        BitSlice::from_parts(words_at(self.words, first, count), head, len)
     }
 }
 

@@ -295,7 +295,7 @@ impl<'a, T: BitStore, O: BitOrder> BitSlice<'a, T, O> {
 }
 
 // The `count` words from word `first` on.
-fn words_at<T: BitStore>(words: &[T], first: usize, count: usize) -> &[T]
+pub(crate) fn words_at<T: BitStore>(words: &[T], first: usize, count: usize) -> &[T]
     requires { first + count ≤ length words.now }
     ensures { result.now ≡ slice_range words.now first (first + count) }
 {

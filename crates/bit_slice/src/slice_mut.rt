@@ -11,6 +11,7 @@ ghost use Rattle.bit_slice.specs.Fits.{IsView};
 ghost use Rattle.bit_slice.specs.Lists.{BecomesWhole};
 
 mod parts;
+mod traits;
 
 use crate::counted_mut::CountedMut;
 use crate::edits::flip_bits;

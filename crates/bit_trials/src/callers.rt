@@ -9,6 +9,7 @@ mod laws;
 mod lending;
 mod making;
 mod numbers;
+mod operators;
 mod own;
 mod reading;
 mod removing;

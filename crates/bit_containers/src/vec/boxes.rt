@@ -1,4 +1,4 @@
-//! Boxes made of bytes, of indices and of text, and bytes made of boxes and of views.
+//! Boxes and vectors made of bytes, of indices and of text, and bytes made of boxes, vectors and views.
 ghost use Rattle.std.specs.Prelude.{◌≡◌, ℕ, ◌*◌, ◌<◌, ◌↔◌, All, Bool, Contains, Err, IfErr, IfOk, List, OnErr, Some, length, slice_get, true};
 ghost use Rattle.bit_addressing.specs.Row.{words_for};
 ghost use Rattle.bit_addressing.specs.Typed.{row, words_for_list};
@@ -94,6 +94,50 @@ impl<T: BitStore, O: BitOrder> FromBits for BitBox<T, O> {
     }
 }
 
+impl<T: BitStore, O: BitOrder> FromBits for BitVec<T, O> {
+    ghost bits_in = { λ v. v.list };
+
+    /// Like the vector's own `from_bytes`.
+    fn from_bytes<P: BitOrder>(alloc: Global, bytes: &[u8]) -> Result<BitVec<T, O>, GrowError>
+        ensures head { IfOk result (λ v. v.head ≡ 0) }
+        ensures list { IfOk result (λ v. v.list ≡ row ⟦<u8 as BitStore>⟧ P.BitOrder bytes.now) }
+        ensures len { IfOk result (λ v. length v.list ≡ 8 * length bytes.now) }
+        ensures clean { IfOk result (λ v. IsClean T.BITS v) }
+        ensures too_long { (result ≡ Err GrowError.TooLong) ↔ (MAX_BITS < 8 * length bytes.now) }
+        ensures memory { result ≡ Err GrowError.OutOfMemory → 0 < length bytes.now }
+    {
+        BitVec::<T, O>::from_bytes::<P>(alloc, bytes)
+    }
+
+    /// Like the vector's own `from_indices`. Requires that each index is below `len`.
+    fn from_indices(alloc: Global, len: usize, indices: &[usize]) -> Result<BitVec<T, O>, GrowError>
+        requires { All (λ i. i < len) indices.now }
+        ensures head { IfOk result (λ v. v.head ≡ 0) }
+        ensures list { IfOk result (λ v. v.list ≡ marked len indices.now) }
+        ensures len { IfOk result (λ v. length v.list ≡ len) }
+        ensures index { IfOk result (λ v. (j : ℕ) → (slice_get v.list j ≡ Some true) ↔ Contains indices.now j) }
+        ensures clean { IfOk result (λ v. IsClean T.BITS v) }
+        ensures too_long { (result ≡ Err GrowError.TooLong) ↔ (MAX_BITS < len) }
+        ensures memory { result ≡ Err GrowError.OutOfMemory → 0 < len }
+    {
+        BitVec::<T, O>::from_indices(alloc, len, indices)
+    }
+
+    /// Like the vector's own `from_text`.
+    fn from_text(alloc: Global, text: &str) -> Result<BitVec<T, O>, ParseBitsError>
+        ensures head { IfOk result (λ v. v.head ≡ 0) }
+        ensures list { IfOk result (λ v. bits_said text.now ≡ Some v.list) }
+        ensures clean { IfOk result (λ v. IsClean T.BITS v) }
+        ensures says { IfOk result (λ v. IsTextOf text.now v.list) }
+        ensures reads_back { IfOk result (λ v. (bits : List Bool) → IsTextOf text.now bits → v.list ≡ bits) }
+        ensures wrong { IfErr result (IsWrongAt text.now) }
+        ensures too_long { result ≡ Err ParseBitsError.TooLong → MAX_BITS < length text.now }
+        ensures memory { result ≡ Err ParseBitsError.OutOfMemory → 0 < length text.now }
+    {
+        BitVec::<T, O>::from_text(alloc, text)
+    }
+}
+
 /// Values whose bits are written as bytes.
 ///
 /// ```text
@@ -116,6 +160,20 @@ impl<T: BitStore, O: BitOrder> ToBytes for BitBox<T, O> {
     ghost bits_in = { λ b. b.list };
 
     /// The list as bytes: as `BitVec::to_bytes`.
+    fn to_bytes<P: BitOrder>(&self, alloc: Global) -> Result<Vec<u8>, AllocError>
+        ensures bytes { IfOk result
+            (λ bytes. bytes.items ≡ words_for_list ⟦<u8 as BitStore>⟧ P.BitOrder self.now.list) }
+        ensures len { IfOk result (λ bytes. length bytes.items ≡ words_for 8 (length self.now.list)) }
+        ensures memory { OnErr result (0 < length self.now.list) }
+    {
+        bytes_of::<P, T, O>(self.as_bitslice(), alloc)
+    }
+}
+
+impl<T: BitStore, O: BitOrder> ToBytes for BitVec<T, O> {
+    ghost bits_in = { λ v. v.list };
+
+    /// The list as bytes: as the vector's own `to_bytes`.
     fn to_bytes<P: BitOrder>(&self, alloc: Global) -> Result<Vec<u8>, AllocError>
         ensures bytes { IfOk result
             (λ bytes. bytes.items ≡ words_for_list ⟦<u8 as BitStore>⟧ P.BitOrder self.now.list) }

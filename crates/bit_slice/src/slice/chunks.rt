@@ -5,6 +5,8 @@ ghost use Rattle.std.specs.Prelude.{⊤, ◌≡◌, ℕ, ◌+◌, ◌-◌, ◌*�
 ghost use Rattle.bit_slice.specs.BitSlice.{words_of, head_of, len_of, list_of, IsPlaced};
 ghost use Rattle.bit_slice.specs.Pieces.{part, part_back, chunk_count, chunks_of, exact_chunks_of, back_chunks_of, windows_of};
 
+mod copies;
+
 use crate::slice::BitSlice;
 use bit_addressing::{BitOrder, BitStore};
 use std::iter::{DoubleEndedIterator, ExactSizeIterator, FusedIterator, Iterator};

@@ -6,6 +6,8 @@ ghost use Rattle.std.specs.List.{All};
 ghost use Rattle.bit_slice.specs.BitSlice.{head_of, len_of, list_of};
 ghost use Rattle.bit_slice.specs.Places.{BlocksFit, IsChunkLeft, ones_of, places_between, zeros_of};
 
+mod copies;
+
 use crate::lists::BitList;
 use crate::slice::BitSlice;
 use bit_addressing::{BitOrder, BitStore};

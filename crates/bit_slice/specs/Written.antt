@@ -1,0 +1,17 @@
+-- What an operator leaves of a list, and of a container whose list has a head.
+use Rattle.std.specs.Prelude.{◌≡◌, ℕ, Bool, ◌&&◌, not, List, []}
+use Rattle.bit_addressing.specs.Row.{put}
+use Rattle.bit_slice.specs.Held.{Held, IsClean, Stayed}
+use Rattle.bit_slice.specs.Operators.{CombinesEach}
+
+-- at each index of both lists, the third has true where the first alone has
+abbrev pub AndNotsEach : List Bool → List Bool → List Bool → Type 0
+AndNotsEach = CombinesEach (λ x y. x && not y)
+
+-- the list is written over with these bits: no other bit of the row changes, and a clean container stays clean
+abbrev pub IsWritten : {X : Type 0} → ℕ → List Bool → Held X → Held X → Type 0
+IsWritten w bits old new = (new.list ≡ bits) × (new.row ≡ put old.row old.head bits) × Stayed old new × (IsClean w old → IsClean w new)
+
+-- a container with no bit and no word, which has taken no memory
+abbrev pub IsEmpty : {X : Type 0} → ℕ → Held X → Type 0
+IsEmpty w v = (v.list ≡ []) × (v.words ≡ []) × (v.head ≡ 0) × (v.capacity ≡ 0) × IsClean w v

@@ -16,6 +16,7 @@ mod run;
 mod slice;
 mod slice_mut;
 mod texts;
+mod view_bits;
 
 pub use counted::Counted;
 pub use counted_mut::CountedMut;
@@ -29,6 +30,7 @@ pub use slice::chunks::{Chunks, ChunksExact, RChunks, Windows};
 pub use slice::indices::{IterOnes, IterZeros};
 pub use slice::runs::{BitRun, IterRuns};
 pub use slice_mut::BitSliceMut;
+pub use view_bits::{ViewBits, ViewBitsMut};
 
 /// What the crates above make of words and of texts. Users of bits need none of it.
 pub mod inner {

@@ -2,11 +2,13 @@
 
 mod arrays;
 mod bits;
+mod collecting;
 mod generic;
 mod growing;
 mod iterating;
 mod laws;
 mod lending;
+mod literals;
 mod making;
 mod numbers;
 mod operators;
@@ -14,5 +16,6 @@ mod own;
 mod reading;
 mod removing;
 mod rules;
+mod views;
 mod words;
 mod writing;

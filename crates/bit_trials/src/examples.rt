@@ -1,4 +1,5 @@
 //! Examples of the vector: exact words, lists and replies.
+mod collecting;
 mod commands;
 mod converting;
 mod copies;

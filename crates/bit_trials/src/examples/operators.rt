@@ -1,5 +1,6 @@
 //! Vectors combined, flipped and compared.
 use crate::common::{check, holds, of, ok, shows};
+use bit_containers::array::BitArray;
 use bit_containers::{BitSlice, BitVec, Lsb0, Msb0};
 
 #[test]
@@ -61,4 +62,44 @@ fn compared_with_a_longer(rt: HostRuntime) {
 fn compared_by_the_first_bit(rt: HostRuntime) {
     let (low, high) = (of::<u8, Msb0>(&rt, b"01"), of(&rt, b"1"));
     check(&rt, low < high);
+}
+
+#[test]
+fn combined_with_views(rt: HostRuntime) {
+    let mask = of::<u64, Msb0>(&rt, b"101");
+    let mut v = of::<u8, Lsb0>(&rt, b"0111");
+    v &= mask.as_bitslice();
+    holds(&rt, &v, b"0010");
+    v |= mask.as_bitslice();
+    holds(&rt, &v, b"1010");
+    v ^= mask.as_bitslice();
+    holds(&rt, &v, b"0000");
+    v |= mask.as_bitslice();
+    v -= mask.get_range(..1);
+    holds(&rt, &v, b"0010");
+    v <<= 2;
+    holds(&rt, &v, b"1000");
+    v >>= 3;
+    holds(&rt, &v, b"0001");
+}
+
+#[test]
+fn boxes_and_arrays_combined_with_views(rt: HostRuntime) {
+    let mask = of::<u16, Lsb0>(&rt, b"101");
+    let mut b = ok(&rt, of::<u8, Msb0>(&rt, b"0111").into_boxed_bitslice());
+    b &= mask.as_bitslice();
+    b <<= 1;
+    b |= mask.as_bitslice();
+    b ^= mask.get_range(..1);
+    b -= mask.get_range(1..);
+    b >>= 1;
+    check(&rt, b.as_raw_slice() == [0x10].as_slice());
+    let mut a = BitArray::<u8, Msb0>::new(0x70);
+    a &= mask.as_bitslice();
+    a |= mask.as_bitslice();
+    a ^= mask.get_range(..1);
+    a -= mask.get_range(1..);
+    a <<= 1;
+    a >>= 2;
+    check(&rt, a.into_inner() == 0x10);
 }

@@ -1,7 +1,7 @@
 //! One loop for each number of bits that a byte is shifted by.
 
 /// A call for each index of a byte, with the index bound to a name. A processor shifts bytes side by side by a number
-/// that the compiler knows, so each index gets a loop of its own (docs/SPEED.md, "A move within bytes").
+/// that the compiler knows, so each index gets a loop of its own (docs/TUNING.md, "A move within bytes").
 #[macro_export]
 macro_rules! each_shift {
     ($at:expr, $by:ident => $call:expr) => {

@@ -198,7 +198,7 @@ fn shift_words<T: BitStore, O: BitOrder>(
     }
 }
 
-// Like `shift_words`, by a table that is made here (docs/SPEED.md, "An order that a user writes", the moves).
+// Like `shift_words`, by a table that is made here (docs/TUNING.md, "An order that a user writes", the moves).
 #[inline(never)]
 fn shift_by_table<T: BitStore, O: BitOrder>(
     row: &mut WordRow<T>,

@@ -21,7 +21,7 @@ pub fn repeated<T: BitStore>(bit: bool) -> T
 }
 
 // The word moved up until its lowest bit stands where those of a word moved down by `count` end. Words of 16
-// and 32 bits go in two steps, of which the compiler makes a faster loop (docs/SPEED.md, "What is not fast",
+// and 32 bits go in two steps, of which the compiler makes a faster loop (docs/TUNING.md, "What is not fast",
 // words of 16 bits). Requires that `count` is above 0 and below `T::BITS`.
 #[inline(always)]
 pub(crate) fn shl_by_rest<T: BitStore>(word: T, count: u8) -> T

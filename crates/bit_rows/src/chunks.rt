@@ -358,7 +358,7 @@ fn word_of_window<T: BitStore, O: BitOrder, U: BitStore, P: BitOrder>(
     O::from_lsb0(T::from_u64(bits))
 }
 
-// Like `word_of_window`, bit by bit (docs/SPEED.md, "An order that a user writes", the copies).
+// Like `word_of_window`, bit by bit (docs/TUNING.md, "An order that a user writes", the copies).
 #[inline(always)]
 fn word_by_bits<T: BitStore, O: BitOrder, U: BitStore, P: BitOrder>(
     source: &[U],

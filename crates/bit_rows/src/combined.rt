@@ -135,7 +135,7 @@ fn combine_after<F: BitOperator, T: BitStore, O: BitOrder, U: BitStore, P: BitOr
     }
 }
 
-// Like `combine_after`, by a table that is made here, in words of one width (docs/SPEED.md, "An order that a user
+// Like `combine_after`, by a table that is made here, in words of one width (docs/TUNING.md, "An order that a user
 // writes", the copies).
 #[inline(never)]
 fn combine_by_table<F: BitOperator, T: BitStore, O: BitOrder, U: BitStore, P: BitOrder>(
@@ -205,7 +205,7 @@ fn combine_blocks<F: BitOperator, T: BitStore, O: BitOrder, U: BitStore, P: BitO
     }
 }
 
-// Like `combine_after`, by blocks of 64 bits, as far as they go (docs/SPEED.md, "Rows of words", u64 into u8).
+// Like `combine_after`, by blocks of 64 bits, as far as they go (docs/TUNING.md, "Rows of words", u64 into u8).
 #[inline(always)]
 fn combine_unlike<F: BitOperator, T: BitStore, O: BitOrder, U: BitStore, P: BitOrder>(
     words: &mut [T],
@@ -231,7 +231,7 @@ fn combine_unlike<F: BitOperator, T: BitStore, O: BitOrder, U: BitStore, P: BitO
     combine_after::<F, T, O, U, P>(words, next, last, source, from, skip);
 }
 
-// Like `combine_after`, with a loop for each number of bits that a byte is shifted by (docs/SPEED.md, "A move within
+// Like `combine_after`, with a loop for each number of bits that a byte is shifted by (docs/TUNING.md, "A move within
 // bytes").
 #[inline(always)]
 fn combine_shifted<F: BitOperator, T: BitStore, O: BitOrder, U: BitStore, P: BitOrder>(
@@ -271,7 +271,7 @@ fn goes_by_table<T: BitStore, O: BitOrder, U: BitStore, P: BitOrder>(skip: u8, w
 }
 
 // Like `combine_after`, of the bits that stand as far after bit `from` of the row. Where that is a word's
-// first bit no word has to be shifted, so the compiler is shown this case by itself (docs/SPEED.md, "Rows of
+// first bit no word has to be shifted, so the compiler is shown this case by itself (docs/TUNING.md, "Rows of
 // words", equal heads).
 fn combine_whole<F: BitOperator, T: BitStore, O: BitOrder, U: BitStore, P: BitOrder>(
     words: &mut [T],

@@ -44,7 +44,7 @@ pub fn resize_words_in_vec<T: BitStore, O: BitOrder>(
 
 // Appends words whose bits are all `bit` until there are `count`. Allocates, and can fail, only where the capacity is
 // too small. Requires that there are no more than `count`. Each of the two words is known to the compiler, which then
-// fills memory by one call (docs/SPEED.md, resize).
+// fills memory by one call (docs/TUNING.md, resize).
 #[inline(always)]
 fn grow_words_by_bit<T: BitStore, O: BitOrder>(
     words: &mut Vec<T>,

@@ -10,7 +10,7 @@ use bit_addressing::inner::{Span, in_row, in_word};
 use bit_addressing::{BitEnd, BitIdx, BitOrder, BitStore, Lsb0};
 
 // How many bits are set in the words `first..last`, by blocks of 64 bits as far as they go
-// (docs/SPEED.md, "Rows of words", count). Requires that the words are there.
+// (docs/TUNING.md, "Rows of words", count). Requires that the words are there.
 fn count_words<T: BitStore, O: BitOrder>(words: &[T], first: usize, last: usize) -> usize
     requires ordered { first ≤ last }
     requires within { last ≤ length words.now }
@@ -81,7 +81,7 @@ pub fn count_bits<T: BitStore, O: BitOrder>(words: &[T], from: usize, upto: usiz
 
 // How many of the first `count` blocks of 64 bits, from index `skip` of word `k` and index `over` of word `l` on, are
 // equal, by turns of 16 blocks up to one that is not. A turn is tested once, so that the compiler shifts and turns
-// its words side by side (docs/SPEED.md, "Small vectors, arrays, texts and searches", `==` at other heads). Requires
+// its words side by side (docs/TUNING.md, "Small vectors, arrays, texts and searches", `==` at other heads). Requires
 // that the indices are in the words, the blocks are there, and each has another after it.
 #[inline(always)]
 fn equal_blocks<T: BitStore, O: BitOrder, U: BitStore, P: BitOrder>(
@@ -391,7 +391,8 @@ pub fn differ_at<T: BitStore, O: BitOrder, U: BitStore, P: BitOrder>(
 }
 
 // Counts the leading 64-bit blocks from place `from` on that hold no `bit`, up to the last one with a block after it.
-// Returns 0 for a short run, which is faster searched by chunks (docs/SPEED.md, "Rows of words", find). Requires that `from` is at most `upto`, which is at most the row's length.
+// Returns 0 for a short run, which is faster searched by chunks (docs/TUNING.md, "Rows of words", find). Requires that
+// `from` is at most `upto`, which is at most the row's length.
 fn blocks_without<T: BitStore, O: BitOrder>(
     words: &[T],
     from: usize,
@@ -418,7 +419,7 @@ fn blocks_without<T: BitStore, O: BitOrder>(
 }
 
 // How many of the first `count` words from word `k` on have the bit of `other` alone, by turns of `each` words up
-// to one that does not. A turn is tested once, so that the compiler takes its words side by side (docs/SPEED.md,
+// to one that does not. A turn is tested once, so that the compiler takes its words side by side (docs/TUNING.md,
 // "Small vectors, arrays, texts and searches", any). Requires that all bits of `other` are the same, and that the
 // words are there.
 fn turns_without<T: BitStore, O: BitOrder>(

@@ -135,7 +135,7 @@ fn exchange_by<T: BitStore, O: BitOrder>(
     plain[end] = word;
 }
 
-// Like `exchange_by`, by a table that is made here (docs/SPEED.md, "An order that a user writes").
+// Like `exchange_by`, by a table that is made here (docs/TUNING.md, "An order that a user writes").
 #[inline(never)]
 fn exchange_by_table<T: BitStore, O: BitOrder>(shifted: &mut [T], plain: &mut [T], next: T, at: u8)
     requires within { at < T.BITS }
@@ -313,7 +313,7 @@ fn rotate_once<T: BitStore, O: BitOrder>(words: &mut [T], head: usize, len: usiz
 }
 
 // Like `rotate_bits`, of many bits: the shorter side is carried to its place by whole words, past as many bits of the
-// other as it has, until what is left on one side is better kept (docs/SPEED.md, "Rotations").
+// other as it has, until what is left on one side is better kept (docs/TUNING.md, "Rotations").
 #[inline(never)]
 fn rotate_long<T: BitStore, O: BitOrder>(words: &mut [T], head: usize, len: usize, by: usize)
     requires room { T.BITS * length words.old ≤ MAX_BITS + 2 * T.BITS }

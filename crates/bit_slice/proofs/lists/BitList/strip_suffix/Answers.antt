@@ -1,6 +1,5 @@
 use Rattle.std.proofs.Common.{◌-◌, length, ap, arith}
 use Rattle.std.proofs.lemmas.List.{length-drop}
-use Rattle.bit_slice.specs.BitSlice.{list_of}
 use Rattle.bit_slice.proofs.Counting.{told}
 use Rattle.bit_slice.proofs.Parts.{view_length}
 use Rattle.bit_slice.proofs.lists.BitList.strip_suffix.Goals as goal

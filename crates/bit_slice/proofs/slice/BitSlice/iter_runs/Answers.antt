@@ -1,4 +1,4 @@
-use Rattle.std.proofs.Common.{◌+◌, length, map, refl, sym, ◌∙◌, ap, arith}
+use Rattle.std.proofs.Common.{map, refl, ◌∙◌, ap, arith}
 use Rattle.bit_slice.specs.BitRuns.{run_at}
 use Rattle.bit_slice.specs.BitSlice.{list_of}
 use Rattle.bit_slice.specs.Edges.{edges_of}

@@ -1,7 +1,7 @@
 use Rattle.std.proofs.Common.{◌+◌, arith}
 use Rattle.bit_slice.specs.BitSlice.{list_of}
-use Rattle.bit_slice.specs.Numbered.{count_before, is_bit}
-use Rattle.bit_slice.proofs.Numbered.{before_end, counted_more, found_numbered}
+use Rattle.bit_slice.specs.Numbered.{count_before}
+use Rattle.bit_slice.proofs.Numbered.{counted_more, found_numbered}
 use Rattle.bit_slice.proofs.Parts.{view_length}
 use Rattle.bit_slice.proofs.slice.nth.nth_from.Goals as goal
 

@@ -256,7 +256,7 @@ fn cut_into_runs(rt: HostRuntime) {
     let mut ends = [0_usize; 9];
     let mut count = 0;
     for run in view.iter_runs() {
-        check(&rt, view[run.start] == run.bit);
+        check(&rt, view.get(run.start) == Some(run.bit));
         if count < 9 {
             ends[count] = run.end;
         }

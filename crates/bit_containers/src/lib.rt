@@ -14,8 +14,9 @@ pub use bit_array as array;
 pub use bit_boxed as boxed;
 pub use bit_rows::{And, BitOperator, Or, Xor, equal_words, find_bit};
 pub use bit_slice::{
-    AndNot, BitList, BitListMut, BitSlice, BitSliceMut, Chunks, ChunksExact, Counted, CountedMut,
-    Iter, IterOnes, IterZeros, RChunks, ViewBits, ViewBitsMut, Windows, run_mut, split_run_mut,
+    AndNot, BitList, BitListMut, BitRun, BitSlice, BitSliceMut, Chunks, ChunksExact, Counted,
+    CountedMut, Iter, IterOnes, IterRuns, IterZeros, RChunks, ViewBits, ViewBitsMut, Windows,
+    run_mut, split_run_mut,
 };
 pub use machine::{Command, Reply, Stop, run};
 pub use vec::{

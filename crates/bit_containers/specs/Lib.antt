@@ -18,12 +18,14 @@ pub use Rattle.bit_addressing.specs.Row
 pub use Rattle.bit_addressing.specs.Text as ListText
 pub use Rattle.bit_addressing.specs.Typed
 pub use Rattle.bit_rows.specs.Runs
+pub use Rattle.bit_slice.specs.BitRuns
 pub use Rattle.bit_slice.specs.BitSlice
 pub use Rattle.bit_slice.specs.BitSliceMut
 pub use Rattle.bit_slice.specs.Clean
 pub use Rattle.bit_slice.specs.Comparisons
 pub use Rattle.bit_slice.specs.Counted
 pub use Rattle.bit_slice.specs.CountedMut
+pub use Rattle.bit_slice.specs.Edges
 pub use Rattle.bit_slice.specs.Fits
 pub use Rattle.bit_slice.specs.Held
 pub use Rattle.bit_slice.specs.Indices
@@ -31,6 +33,7 @@ pub use Rattle.bit_slice.specs.Iter
 pub use Rattle.bit_slice.specs.Lends as ViewLends
 pub use Rattle.bit_slice.specs.Lists
 pub use Rattle.bit_slice.specs.Mirrored
+pub use Rattle.bit_slice.specs.Numbered
 pub use Rattle.bit_slice.specs.Operators
 pub use Rattle.bit_slice.specs.Overwritten
 pub use Rattle.bit_slice.specs.Owned

@@ -259,8 +259,8 @@ fn cut_into_runs(rt: HostRuntime) {
         check(&rt, view.get(run.start) == Some(run.bit));
         if count < 9 {
             ends[count] = run.end;
+            count += 1;
         }
-        count += 1;
     }
     check(&rt, count == 8);
     check(&rt, ends == [1, 2, 3, 5, 6, 17, 18, 21, 0]);

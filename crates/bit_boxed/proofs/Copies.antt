@@ -66,5 +66,5 @@ module _ {U S A : Type 0} (becomes : U → S → Type 0) (steps : S → Option (
 module _ {U S A V : Type 0} (becomes : U → S → Type 0) (steps : S → Option A → S → Type 0) (iter : U) where
   pub refused_first : (why : GrowError) (result : Result V GrowError) → result ≡ Err why → (result ≡ Err TooLong → GivesFirst becomes steps iter (λ items. MAX_BITS < length items))
       → (result ≡ Err OutOfMemory → GivesFirst becomes steps iter (λ items. (0 < length items) × (length items ≤ MAX_BITS))) → GivesFirst becomes steps iter (λ items. 0 < length items)
-  refused_first TooLong result is long wants = let h = long is in (h.0, h.1, h.2, h.3, h.4, omega (arith, h.5))
-  refused_first OutOfMemory result is long wants = let h = wants is in (h.0, h.1, h.2, h.3, h.4, h.5.0)
+  refused_first TooLong result is long memory = let h = long is in (h.0, h.1, h.2, h.3, h.4, omega (arith, h.5))
+  refused_first OutOfMemory result is long memory = let h = memory is in (h.0, h.1, h.2, h.3, h.4, h.5.0)

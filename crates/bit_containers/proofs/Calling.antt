@@ -5,24 +5,9 @@ use Rattle.std.specs.Borrow.{Bor}
 use Rattle.std.specs.List.{filter, range_with_len}
 use Rattle.bit_addressing.specs.Row.{words_for, number_bits}
 use Rattle.bit_containers.specs.BitVec.{Held, Grew, IsKept}
-use Rattle.bit_containers.specs.Closures.{ResultsFrom, ResultsAtEach, kept, keep_where}
+use Rattle.bit_slice.specs.Closures.{ResultsAtEach, kept, keep_where}
 use Rattle.bit_rows.proofs.Binary.{number_bits_none}
 use Rattle.bit_containers.proofs.Growing.{grew_none}
-
-module _ {F : Type 0} (step : F → ℕ → Bool → F → Type 0) where
-  pub results_more : (f : F) (i : ℕ) (results : List Bool) (g : F) (j : ℕ) (b : Bool) (h : F) → ResultsFrom step f i results g → step g j b h → j ≡ i + length results → ResultsFrom step f i (results ++ b ∷ []) h
-  results_more f i [] g j b h run called at =
-      let same : j ≡ i = omega arith in
-      (h, rw (run, ← same) called, refl)
-  results_more f i (a ∷ results) g j b h run called at =
-      (run.0, run.1, results_more run.0 (i + 1) results g j b h run.2 called (omega arith))
-
-  -- where each result is that of a function of the index, those are the values of that function at the indices
-  pub filled_with : (of : ℕ → Bool) → ((f : F) (i : ℕ) (given : Bool) (next : F) → step f i given next → given ≡ of i)
-      → (f : F) (i : ℕ) (results : List Bool) (last : F) → ResultsFrom step f i results last → results ≡ map of (range_with_len i (length results))
-  filled_with of says f i [] last run = refl
-  filled_with of says f i (a ∷ results) last run =
-      rw (says f i a run.0 run.1) (ap (λ l. of i ∷ l) (filled_with of says run.0 (i + 1) results last run.2))
 
 -- a vector that was kept has grown by nothing
 pub grew_kept : {X : Type 0} (w : ℕ) (old new : Held X) → length old.row ≡ w * words_for w (old.head + length old.list) → IsKept old new → Grew w old new []

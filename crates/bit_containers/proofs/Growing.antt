@@ -18,6 +18,7 @@ use Rattle.std.proofs.Common.{Result, Err, ◌≢◌}
 use Rattle.bit_addressing.specs.declared.errors.GrowError.{GrowError}
 use Rattle.bit_addressing.specs.declared.errors.GrowError.TheVariants.{TooLong, OutOfMemory}
 use Rattle.bit_addressing.specs.declared.length.TheConstants.{MAX_BITS}
+use Rattle.bit_slice.proofs.Writing.{number_bits_next}
 use Rattle.bit_containers.specs.BitVec.{Held, Grew, RefusesOnly}
 use Rattle.bit_containers.specs.Making.{highest_bits}
 
@@ -115,22 +116,6 @@ sized_false w n positive =
     same_lists _ _ (search (rules, places)) (λ i d below. grind (arith, places))
 
 -- ---- bits gathered in a number
-
--- one bit more in a number
-pub number_bits_next : (x y n : ℕ) (b : Bool) → ((p : ℕ) → p < n + 1 → has_bit y p ≡ (if eqb p n then b else has_bit x p)) → number_bits y (n + 1) ≡ number_bits x n ++ b ∷ []
-unfolding number_bits
-number_bits_next x y n b change =
-    let gone : n - n ≡ 0 = omega arith in
-    let xs : List Bool = map (has_bit x) (range_with_len 0 n) in
-    let size : length xs ≡ n = length-map-range_with_len (has_bit x) 0 n in
-    let left : length (number_bits y (n + 1)) ≡ n + 1 = length-map-range_with_len (has_bit y) 0 (n + 1) in
-    ext_get_or false (number_bits y (n + 1)) (xs ++ b ∷ []) (left ∙ sym (length_push xs b ∙ ap (λ k. k + 1) size))
-    (λ i h.
-    let below : i < n + 1 = omega arith in
-    get_or-map-range_with_len (has_bit y) 0 (n + 1) i i false below (omega arith) ∙ change i below ∙ elim (eqb_tells i n) [
-      | inl e ↦ rw (e.0, e.1) (sym (get_or-append_right xs (b ∷ []) n n false size (omega arith) ∙ ap (λ k. get_or (b ∷ []) k false) gone))
-      | inr e ↦ rw e.0 (sym (get_or_append_left xs (b ∷ []) false i (omega (arith, e.1)) ∙ get_or-map-range_with_len (has_bit x) 0 n i i false (omega (arith, e.1)) (omega arith)))
-    ])
 
 pub length-highest_bits : (x n : ℕ) → length (highest_bits x n) ≡ n
 unfolding highest_bits

@@ -1,5 +1,4 @@
 pub mod BitVec
-pub mod Closures
 pub mod Compared
 pub mod Drain
 pub mod Examples
@@ -22,6 +21,7 @@ pub use Rattle.bit_slice.specs.BitRuns
 pub use Rattle.bit_slice.specs.BitSlice
 pub use Rattle.bit_slice.specs.BitSliceMut
 pub use Rattle.bit_slice.specs.Clean
+pub use Rattle.bit_slice.specs.Closures
 pub use Rattle.bit_slice.specs.Comparisons
 pub use Rattle.bit_slice.specs.Counted
 pub use Rattle.bit_slice.specs.CountedMut
@@ -32,6 +32,7 @@ pub use Rattle.bit_slice.specs.Indices
 pub use Rattle.bit_slice.specs.Iter
 pub use Rattle.bit_slice.specs.Lends as ViewLends
 pub use Rattle.bit_slice.specs.Lists
+pub use Rattle.bit_slice.specs.Masked
 pub use Rattle.bit_slice.specs.Mirrored
 pub use Rattle.bit_slice.specs.Numbered
 pub use Rattle.bit_slice.specs.Operators

@@ -47,7 +47,7 @@ unfolding put
 put_same xs a b h l = same_lists _ _ (search (rules, places)) (λ i e below. grind (arith, places))
 
 -- what stands after a run that is written stays
-put_kept : (xs ys : List Bool) (d n b : ℕ) → n ≡ d + length ys → n ≤ b → b ≤ length xs → put xs d (ys ++ slice_range xs n b) ≡ put xs d ys
+pub put_kept : (xs ys : List Bool) (d n b : ℕ) → n ≡ d + length ys → n ≤ b → b ≤ length xs → put xs d (ys ++ slice_range xs n b) ≡ put xs d ys
 put_kept xs ys d n b is h l =
     let long = length-put xs ys d (omega arith) in
     let size : length (slice_range xs n b) ≡ b - n = length-between xs n b l in

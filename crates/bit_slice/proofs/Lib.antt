@@ -1,3 +1,4 @@
+pub mod Called
 pub mod Lending
 pub mod Shown
 pub mod Parts
@@ -35,3 +36,5 @@ pub mod Halved
 pub mod Numbered
 pub mod BitRuns
 pub mod Swapped
+pub mod Masking
+pub mod Pairs

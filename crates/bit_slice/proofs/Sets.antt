@@ -188,6 +188,14 @@ module _ (f : Bool → Bool → Bool) (xs ys : List Bool) where
       let sum = rw (long, wide) at (count_both n keeps (omega (arith, long, wide, least))) in
       omega (arith, sum, a, b, d)
 
+  -- what both have and what the left has alone, of a list whose length is known
+  pub counted_left : (len n : ℕ) → length xs ≡ len → ((x : Bool) → f x false ≡ x) → n ≡ min len (length ys)
+      → (shared left : ℕ) → shared ≡ ones (slice_range made 0 n) → left ≡ ones (slice_range xs n len) → shared + left ≡ ones made
+  counted_left len n long keeps least shared left a b =
+      let split = rw long at (count_split n (omega (arith, long, least))) in
+      let rest = rw long at (ap ones (rest_kept n keeps (omega (arith, long, least)))) in
+      omega (arith, split, rest, a, b)
+
 -- ---- laws of the counts
 
 abbrev bit : Bool → ℕ
@@ -341,6 +349,10 @@ apart_index xs ys r is = (
 )
 
 -- beside false, or keeps an item
+pub and_not_keeps : (x : Bool) → (x && not false) ≡ x
+and_not_keeps true = refl
+and_not_keeps false = refl
+
 pub or_keeps : (x : Bool) → (x || false) ≡ x
 or_keeps true = refl
 or_keeps false = refl

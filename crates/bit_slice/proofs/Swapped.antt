@@ -13,7 +13,7 @@ use Rattle.bit_slice.proofs.Parts.{in_row}
 use Rattle.bit_slice.proofs.Rules.{xor_back, xor_other}
 
 -- what is put over other items in their place
-put_again : (xs ys zs : List Bool) (d : ℕ) → length ys ≡ length zs → d + length zs ≤ length xs → put (put xs d ys) d zs ≡ put xs d zs
+pub put_again : (xs ys zs : List Bool) (d : ℕ) → length ys ≡ length zs → d + length zs ≤ length xs → put (put xs d ys) d zs ≡ put xs d zs
 unfolding put
 put_again xs ys zs d same h = same_lists _ _ (search (rules, places)) (λ i b below. grind (arith, places))
 

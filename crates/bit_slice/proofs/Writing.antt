@@ -1,6 +1,8 @@
 -- How the texts of a list of bits grow.
-use Rattle.std.proofs.Common.{◌≡◌, ℕ, suc, ◌+◌, ◌-◌, ◌^◌, ◌<◌, ◌≤◌, Bool, false, List, [], ◌∷◌, ◌++◌, length, get_or, slice_range, refl, ap, subst, sym, ◌∙◌, arith}
-use Rattle.std.proofs.lemmas.List.{append_assoc, ext_get_or, take_all}
+use Rattle.std.proofs.Common.{◌≡◌, ℕ, suc, eqb, if◌then◌else◌, map, inl, inr, ◌+◌, ◌-◌, ◌^◌, ◌<◌, ◌≤◌, Bool, false, List, [], ◌∷◌, ◌++◌, length, get_or, slice_range, refl, ap, subst, sym, ◌∙◌, arith}
+use Rattle.std.proofs.lemmas.Bool.Decides.{eqb_tells}
+use Rattle.std.proofs.lemmas.List.{append_assoc, ext_get_or, get_or-append_right, get_or_append_left, length_push, take_all}
+use Rattle.std.specs.List.{range_with_len}
 use Rattle.std.proofs.lemmas.Simd.{mask_l-lt}
 use Rattle.std.proofs.lemmas.List.FromFn.{length-map-range_with_len, get_or-map-range_with_len, map-range_with_len_more}
 use Rattle.bit_addressing.specs.Bits.{has_bit}
@@ -37,6 +39,22 @@ run_of_number zs x at n inside is = ap (λ y. number_bits y n) is ∙ bits_of_nu
 pub number_bits_more : (x n : ℕ) → number_bits x (n + 1) ≡ number_bits x n ++ has_bit x n ∷ []
 unfolding number_bits
 number_bits_more x n = map-range_with_len_more (has_bit x) 0 n n (omega arith)
+
+-- one bit more in a number
+pub number_bits_next : (x y n : ℕ) (b : Bool) → ((p : ℕ) → p < n + 1 → has_bit y p ≡ (if eqb p n then b else has_bit x p)) → number_bits y (n + 1) ≡ number_bits x n ++ b ∷ []
+unfolding number_bits
+number_bits_next x y n b change =
+    let gone : n - n ≡ 0 = omega arith in
+    let xs : List Bool = map (has_bit x) (range_with_len 0 n) in
+    let size : length xs ≡ n = length-map-range_with_len (has_bit x) 0 n in
+    let left : length (number_bits y (n + 1)) ≡ n + 1 = length-map-range_with_len (has_bit y) 0 (n + 1) in
+    ext_get_or false (number_bits y (n + 1)) (xs ++ b ∷ []) (left ∙ sym (length_push xs b ∙ ap (λ k. k + 1) size))
+    (λ i h.
+    let below : i < n + 1 = omega arith in
+    get_or-map-range_with_len (has_bit y) 0 (n + 1) i i false below (omega arith) ∙ change i below ∙ elim (eqb_tells i n) [
+      | inl e ↦ rw (e.0, e.1) (sym (get_or-append_right xs (b ∷ []) n n false size (omega arith) ∙ ap (λ k. get_or (b ∷ []) k false) gone))
+      | inr e ↦ rw e.0 (sym (get_or_append_left xs (b ∷ []) false i (omega (arith, e.1)) ∙ get_or-map-range_with_len (has_bit x) 0 n i i false (omega (arith, e.1)) (omega arith)))
+    ])
 
 -- ---- digits after commas
 

@@ -17,6 +17,7 @@ pub mod Texts
 pub mod Owned
 pub mod Pulls
 pub mod Clean
+pub mod Closures
 pub mod Overwritten
 pub mod Signed
 pub mod Held
@@ -24,3 +25,4 @@ pub mod Numbered
 pub mod Edges
 pub mod BitRuns
 pub mod Written
+pub mod Masked

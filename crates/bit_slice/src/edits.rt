@@ -6,11 +6,15 @@ ghost use Rattle.bit_addressing.specs.Row.{put};
 ghost use Rattle.bit_addressing.specs.Typed.{row};
 ghost use Rattle.bit_slice.specs.Operators.{combined};
 
+mod filled;
+mod masked;
 mod reverse;
 mod rotate;
 
 use bit_addressing::{BitOrder, BitStore, move_bits};
 use bit_rows::{BitOperator, combine_bits, copy_bits, fill_bits, read_chunk, write_chunk};
+pub(crate) use filled::fill_by;
+pub(crate) use masked::{copy_masked, deposit_masked};
 pub(crate) use reverse::reverse_bits;
 pub(crate) use rotate::rotate_bits;
 

@@ -35,7 +35,7 @@ pub use view_bits::{ViewBits, ViewBitsMut};
 /// What the crates above make of words and of texts. Users of bits need none of it.
 pub mod inner {
     pub use crate::lists_mut::flip_row;
-    pub use crate::numbers::{extended, reversed};
+    pub use crate::numbers::{extended, reversed, with_next};
     pub use crate::slice::nth::nth_from;
     pub use crate::texts::{hash_bits, write_digits, write_list};
 }

@@ -18,6 +18,7 @@ ghost use Rattle.bit_slice.specs.PiecesLeft.{chunks_left, chunks_walk, exact_chu
 ghost use Rattle.bit_slice.specs.Places.{ones_of, zeros_of};
 ghost use Rattle.bit_slice.specs.Signed.{IsSigned, signed_binary, signed_bits, signed_of};
 
+use crate::edits::AndNot;
 use crate::numbers::extended;
 use crate::ops::{equal_views, first_difference};
 use crate::slice::BitSlice;
@@ -400,6 +401,21 @@ pub trait BitList {
         shared + view.ones_from(both) + other.ones_from(both)
     }
 
+    /// How many indices are true here, and false in `other` or past its end.
+    ///
+    /// ```text
+    /// of 01101001 and 11110000: bits.count_and_not(other) == 2
+    /// ```
+    final fn count_and_not<U: BitStore, P: BitOrder>(&self, other: BitSlice<'_, U, P>) -> usize
+        ensures value { result ≡ count_by (λ b. b) (and_not_of (list self.now) (list_of other.entry)) }
+        ensures few { result ≤ len self.now }
+    {
+        let view = self.as_bitslice();
+        let both = view.len.min(other.len);
+        let shared = count_pairs::<AndNot, Self::Store, Self::Order, U, P>(view, other, both);
+        shared + view.ones_from(both)
+    }
+
     /// The index of the first bit that is true. None exactly where none is.
     ///
     /// ```text
@@ -504,6 +520,103 @@ pub trait BitList {
     {
         let view = self.as_bitslice();
         view.find_next(from.min(view.len), view.len, false)
+    }
+
+    /// The index of the first bit from index `from` on that is true here and in `other`. None exactly where none is, as where `from` is the
+    /// length or more. 64 bits are combined at a time.
+    ///
+    /// ```text
+    /// of 01101001 and 01010101: bits.next_and(other, 2) == Some(7)
+    /// ```
+    final fn next_and<U: BitStore, P: BitOrder>(
+        &self,
+        other: BitSlice<'_, U, P>,
+        from: usize,
+    ) -> Option<usize>
+        ensures begins { IfSome result (λ i. from ≤ i) }
+        ensures inside { IfSome result (λ i. i < len self.now) }
+        ensures few { IfSome result (λ i. i < MAX_BITS) }
+        ensures found { IfSome result (λ i. slice_get (and_of (list self.now) (list_of other.entry)) i ≡ Some true) }
+        ensures before { IfSome result (λ i. (j : ℕ) → from ≤ j → j < i
+            → slice_get (and_of (list self.now) (list_of other.entry)) j ≡ Some false) }
+        ensures none { IfNone result ((j : ℕ) → from ≤ j → j < len self.now
+            → slice_get (and_of (list self.now) (list_of other.entry)) j ≡ Some false) }
+    {
+        let view = self.as_bitslice();
+        view.find_pair::<And, U, P>(other, from.min(view.len))
+    }
+
+    /// The index of the first bit from index `from` on that is true here, and false in `other` or past its end. None exactly where none is, as where `from` is the
+    /// length or more. 64 bits are combined at a time.
+    ///
+    /// ```text
+    /// of 01101001 and 01010101: bits.next_and_not(other, 3) == Some(4)
+    /// ```
+    final fn next_and_not<U: BitStore, P: BitOrder>(
+        &self,
+        other: BitSlice<'_, U, P>,
+        from: usize,
+    ) -> Option<usize>
+        ensures begins { IfSome result (λ i. from ≤ i) }
+        ensures inside { IfSome result (λ i. i < len self.now) }
+        ensures few { IfSome result (λ i. i < MAX_BITS) }
+        ensures found { IfSome result (λ i. slice_get (and_not_of (list self.now) (list_of other.entry)) i ≡ Some true) }
+        ensures before { IfSome result (λ i. (j : ℕ) → from ≤ j → j < i
+            → slice_get (and_not_of (list self.now) (list_of other.entry)) j ≡ Some false) }
+        ensures none { IfNone result ((j : ℕ) → from ≤ j → j < len self.now
+            → slice_get (and_not_of (list self.now) (list_of other.entry)) j ≡ Some false) }
+    {
+        let view = self.as_bitslice();
+        view.find_pair::<AndNot, U, P>(other, from.min(view.len))
+    }
+
+    /// The index of the first bit of this list from index `from` on that is true here or in `other`. None exactly where none is, as where `from` is the
+    /// length or more. 64 bits are combined at a time.
+    ///
+    /// ```text
+    /// of 01101001 and 01010101: bits.next_or(other, 5) == Some(5)
+    /// ```
+    final fn next_or<U: BitStore, P: BitOrder>(
+        &self,
+        other: BitSlice<'_, U, P>,
+        from: usize,
+    ) -> Option<usize>
+        ensures begins { IfSome result (λ i. from ≤ i) }
+        ensures inside { IfSome result (λ i. i < len self.now) }
+        ensures few { IfSome result (λ i. i < MAX_BITS) }
+        ensures found { IfSome result (λ i. slice_get (or_of (list self.now) (list_of other.entry)) i ≡ Some true) }
+        ensures before { IfSome result (λ i. (j : ℕ) → from ≤ j → j < i
+            → slice_get (or_of (list self.now) (list_of other.entry)) j ≡ Some false) }
+        ensures none { IfNone result ((j : ℕ) → from ≤ j → j < len self.now
+            → slice_get (or_of (list self.now) (list_of other.entry)) j ≡ Some false) }
+    {
+        let view = self.as_bitslice();
+        view.find_pair::<Or, U, P>(other, from.min(view.len))
+    }
+
+    /// The index of the first bit of this list from index `from` on that differs from that of `other`, or from false past its
+    /// end. None exactly where none is, as where `from` is the
+    /// length or more. 64 bits are combined at a time.
+    ///
+    /// ```text
+    /// of 01101001 and 01010101: bits.next_xor(other, 5) == Some(5)
+    /// ```
+    final fn next_xor<U: BitStore, P: BitOrder>(
+        &self,
+        other: BitSlice<'_, U, P>,
+        from: usize,
+    ) -> Option<usize>
+        ensures begins { IfSome result (λ i. from ≤ i) }
+        ensures inside { IfSome result (λ i. i < len self.now) }
+        ensures few { IfSome result (λ i. i < MAX_BITS) }
+        ensures found { IfSome result (λ i. slice_get (xor_of (list self.now) (list_of other.entry)) i ≡ Some true) }
+        ensures before { IfSome result (λ i. (j : ℕ) → from ≤ j → j < i
+            → slice_get (xor_of (list self.now) (list_of other.entry)) j ≡ Some false) }
+        ensures none { IfNone result ((j : ℕ) → from ≤ j → j < len self.now
+            → slice_get (xor_of (list self.now) (list_of other.entry)) j ≡ Some false) }
+    {
+        let view = self.as_bitslice();
+        view.find_pair::<Xor, U, P>(other, from.min(view.len))
     }
 
     /// The index of the last bit before index `before` that is true. None exactly where none is. Bits from the length

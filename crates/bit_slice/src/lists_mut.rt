@@ -9,12 +9,14 @@ ghost use Rattle.bit_addressing.specs.Row.{binary, moved, number_bits, number_of
 ghost use Rattle.bit_addressing.specs.Typed.{row as row_of};
 ghost use Rattle.bit_slice.specs.BitSlice.{len_of, list_of};
 ghost use Rattle.bit_slice.specs.Clean.{StaysClean};
+ghost use Rattle.bit_slice.specs.Closures.{CallableFrom, ResultsFrom};
 ghost use Rattle.bit_slice.specs.Lists.{lends_to, BecomesWhole, Stays};
+ghost use Rattle.bit_slice.specs.Masked.{deposited, masked};
 ghost use Rattle.bit_slice.specs.Operators.{and_not_of, and_of, combined, or_of, part_onto, xor_of, AndsEach, OrsEach, XorsEach, CombinesEach, FlipsEach};
 ghost use Rattle.bit_slice.specs.Overwritten.{list_in, StaysBefore, StaysFrom};
 ghost use Rattle.bit_slice.specs.Signed.{IsSigned, signed_binary, signed_bits, signed_of};
 
-use crate::edits::AndNot;
+use crate::edits::{AndNot, copy_masked, deposit_masked, fill_by};
 use crate::lists::BitList;
 use crate::over::{
     combine_over, combine_range_over, combine_within_over, copy_into_over, copy_over, fill_over,
@@ -188,6 +190,41 @@ pub trait BitListMut: BitList {
             range,
             bit,
         );
+    }
+
+    /// Writes at each index what `f` returns there. It is called once for each index, in order. No dead bit changes.
+    /// Takes no memory. Requires that `f` can be called at each index.
+    ///
+    /// ```text
+    /// of 01101001: bits.fill_with(|i| i % 3 == 0) leaves 10010010
+    /// ```
+    final fn fill_with<F: FnMut(usize) -> bool>(&mut self, mut f: F)
+        requires { CallableFrom F.pre F.step f 0 (Self.len self.old) }
+        ensures list { (last : F) × ResultsFrom F.step f 0 (Self.list self.new) last }
+        ensures row { Self.bits self.new ≡ put (Self.bits self.old) (Self.head self.old) (Self.list self.new) }
+        ensures whole { BecomesWhole Self.Store.BITS Self.head Self.len count Self.bits self.old self.new (Self.list self.new) }
+        ensures clean { StaysClean Self.Store.BITS Self.head Self.bits Self.list self.old self.new }
+        ensures stays { Stays Self.head Self.len count capacity loan self.old self.new }
+    {
+        self.fill_by(&mut f);
+    }
+
+    /// Like `fill_with`, with a function that is lent: it ends in the state that the last call left, and where there is
+    /// no bit in the one that it had.
+    ///
+    /// ```text
+    /// of 01101001: bits.fill_by(&mut |i: usize| i % 3 == 0) leaves 10010010
+    /// ```
+    final fn fill_by<F: FnMut(usize) -> bool>(&mut self, f: &mut F)
+        requires { CallableFrom F.pre F.step f.old 0 (Self.len self.old) }
+        ensures list { ResultsFrom F.step f.old 0 (Self.list self.new) f.new }
+        ensures row { Self.bits self.new ≡ put (Self.bits self.old) (Self.head self.old) (Self.list self.new) }
+        ensures whole { BecomesWhole Self.Store.BITS Self.head Self.len count Self.bits self.old self.new (Self.list self.new) }
+        ensures clean { StaysClean Self.Store.BITS Self.head Self.bits Self.list self.old self.new }
+        ensures stays { Stays Self.head Self.len count capacity loan self.old self.new }
+    {
+        let (head, len) = (self.head(), self.len());
+        fill_by::<Self::Store, Self::Order, F>(self.as_raw_mut_slice(), head, len, f);
     }
 
     /// Flips the bit at each index of a range, and no other bit. Takes no memory. Requires that the range lies in
@@ -596,6 +633,71 @@ pub trait BitListMut: BitList {
         ensures stays { Stays Self.head Self.len count capacity loan self.old self.new }
     {
         self.combine::<Xor, U, P>(other);
+    }
+
+    /// Writes the bits of a view at the indices where a mask has ones: a multiplexer. A bit past the end of the view is
+    /// false, and one past the end of the mask does not change, nor does a dead bit. Takes no memory.
+    ///
+    /// ```text
+    /// of 01101001, the mask 11110000 and 10101010: bits.copy_where(mask, source) leaves 10101001
+    /// ```
+    final fn copy_where<U: BitStore, P: BitOrder, V: BitStore, Q: BitOrder>(
+        &mut self,
+        mask: BitSlice<'_, U, P>,
+        source: BitSlice<'_, V, Q>,
+    )
+        ensures list { Self.list self.new ≡ masked (Self.list self.old) (list_of mask.entry) (list_of source.entry) }
+        ensures row { Self.bits self.new ≡ put (Self.bits self.old) (Self.head self.old)
+            (masked (Self.list self.old) (list_of mask.entry) (list_of source.entry)) }
+        ensures copied { (j : ℕ) → slice_get (list_of mask.entry) j ≡ Some true → j < Self.len self.old
+            → j < len_of source.entry → slice_get (Self.list self.new) j ≡ slice_get (list_of source.entry) j }
+        ensures kept { (j : ℕ) → (slice_get (list_of mask.entry) j ≢ Some true)
+            → slice_get (Self.list self.new) j ≡ slice_get (Self.list self.old) j }
+        ensures whole { BecomesWhole Self.Store.BITS Self.head Self.len count Self.bits self.old self.new
+            (masked (Self.list self.old) (list_of mask.entry) (list_of source.entry)) }
+        ensures clean { StaysClean Self.Store.BITS Self.head Self.bits Self.list self.old self.new }
+        ensures stays { Stays Self.head Self.len count capacity loan self.old self.new }
+    {
+        let (head, len) = (self.head(), self.len());
+        copy_masked::<Self::Store, Self::Order, U, P, V, Q>(
+            self.as_raw_mut_slice(),
+            head,
+            len,
+            mask,
+            source,
+        );
+    }
+
+    /// Writes the bits of a view, one after another, at the indices where a mask has ones, or false where none is
+    /// left: what `extend_where` of a vector takes out of a list by a mask goes back by the same mask. A bit past the
+    /// end of the mask does not change, nor does a dead bit. Takes no memory.
+    ///
+    /// ```text
+    /// of 00000000, the mask 01101001 and 1011: bits.deposit(mask, source) leaves 01001001
+    /// ```
+    final fn deposit<U: BitStore, P: BitOrder, V: BitStore, Q: BitOrder>(
+        &mut self,
+        mask: BitSlice<'_, U, P>,
+        source: BitSlice<'_, V, Q>,
+    )
+        ensures list { Self.list self.new ≡ deposited (Self.list self.old) (list_of mask.entry) (list_of source.entry) }
+        ensures row { Self.bits self.new ≡ put (Self.bits self.old) (Self.head self.old)
+            (deposited (Self.list self.old) (list_of mask.entry) (list_of source.entry)) }
+        ensures kept { (j : ℕ) → (slice_get (list_of mask.entry) j ≢ Some true)
+            → slice_get (Self.list self.new) j ≡ slice_get (Self.list self.old) j }
+        ensures whole { BecomesWhole Self.Store.BITS Self.head Self.len count Self.bits self.old self.new
+            (deposited (Self.list self.old) (list_of mask.entry) (list_of source.entry)) }
+        ensures clean { StaysClean Self.Store.BITS Self.head Self.bits Self.list self.old self.new }
+        ensures stays { Stays Self.head Self.len count capacity loan self.old self.new }
+    {
+        let (head, len) = (self.head(), self.len());
+        deposit_masked::<Self::Store, Self::Order, U, P, V, Q>(
+            self.as_raw_mut_slice(),
+            head,
+            len,
+            mask,
+            source,
+        );
     }
 
     /// Exchanges the bits with those of another list, of any kind, word type and order. No dead bit changes. Takes no

@@ -1,9 +1,22 @@
 //! Numbers of up to 64 digits: their digits in reverse, and those of two's complement.
-ghost use Rattle.std.specs.Prelude.{◌≡◌, ◌^◌, ◌<◌, ◌≤◌};
+ghost use Rattle.std.specs.Prelude.{◌≡◌, ◌+◌, ◌^◌, ◌<◌, ◌≤◌, [], ◌∷◌, ◌++◌};
 ghost use Rattle.bit_addressing.specs.Row.{binary, number_bits};
 ghost use Rattle.bit_slice.specs.Signed.{signed_of};
 
-use bit_addressing::BitRegister;
+use bit_addressing::{BitRegister, BitStore};
+
+/// A number with bit `i` written. Requires that `i` is below 64.
+///
+/// ```text
+/// with_next(0b0010, 2, true) == 0b0110
+/// ```
+#[inline(always)]
+pub fn with_next(number: u64, i: u8, bit: bool) -> u64
+    requires { i < 64 }
+    ensures { number_bits result (i + 1) ≡ number_bits number i ++ bit ∷ [] }
+{
+    number.with_bit(i, bit)
+}
 
 // Like `reversed`, of one digit or more.
 #[inline(always)]

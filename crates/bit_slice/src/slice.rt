@@ -13,6 +13,7 @@ pub(crate) mod chunks;
 mod find;
 pub(crate) mod indices;
 pub(crate) mod nth;
+pub(crate) mod pairs;
 mod parts;
 pub(crate) mod runs;
 mod search;

@@ -10,6 +10,7 @@ ghost use Rattle.bit_addressing.specs.declared.length.TheConstants.{MAX_BITS};
 ghost use Rattle.bit_slice.specs.Fits.{IsView};
 ghost use Rattle.bit_slice.specs.Lists.{BecomesWhole};
 
+mod assign;
 mod parts;
 mod traits;
 

@@ -2,7 +2,7 @@
 ghost use Rattle.std.specs.Prelude.{◌-◌, ◌≤◌, ◌++◌, false, drop, length, replicate, take};
 ghost use Rattle.bit_slice.specs.BitSlice.{list_of};
 ghost use Rattle.bit_slice.specs.Operators.{and_not_of, and_of, or_of, xor_of, AndsEach, OrsEach, XorsEach};
-ghost use Rattle.bit_slice.specs.Written.{AndNotsEach, IsWritten};
+ghost use Rattle.bit_slice.specs.Written.{AndNotsEach, IsAssigned};
 
 use crate::boxed::BitBox;
 use bit_addressing::{BitOrder, BitStore};
@@ -11,7 +11,7 @@ use std::ops::{BitAndAssign, BitOrAssign, BitXorAssign, ShlAssign, ShrAssign, Su
 
 impl<'a, T: BitStore, O: BitOrder, U: BitStore, P: BitOrder> BitAndAssign<BitSlice<'a, U, P>>
     for BitBox<T, O> {
-    ghost bitand_assign_gives = { λ a b c. IsWritten T.BITS (and_of a.list (list_of b)) a c
+    ghost bitand_assign_gives = { λ a b c. IsAssigned T.BITS (and_of a.list (list_of b)) a c
         × AndsEach a.list (list_of b) c.list };
 
     /// Clears each bit that is false in a view, and each past its end. Like `and_bits`.
@@ -26,7 +26,7 @@ impl<'a, T: BitStore, O: BitOrder, U: BitStore, P: BitOrder> BitAndAssign<BitSli
 
 impl<'a, T: BitStore, O: BitOrder, U: BitStore, P: BitOrder> BitOrAssign<BitSlice<'a, U, P>>
     for BitBox<T, O> {
-    ghost bitor_assign_gives = { λ a b c. IsWritten T.BITS (or_of a.list (list_of b)) a c
+    ghost bitor_assign_gives = { λ a b c. IsAssigned T.BITS (or_of a.list (list_of b)) a c
         × OrsEach a.list (list_of b) c.list };
 
     /// Sets each bit that is true in a view. Like `or_bits`.
@@ -41,7 +41,7 @@ impl<'a, T: BitStore, O: BitOrder, U: BitStore, P: BitOrder> BitOrAssign<BitSlic
 
 impl<'a, T: BitStore, O: BitOrder, U: BitStore, P: BitOrder> BitXorAssign<BitSlice<'a, U, P>>
     for BitBox<T, O> {
-    ghost bitxor_assign_gives = { λ a b c. IsWritten T.BITS (xor_of a.list (list_of b)) a c
+    ghost bitxor_assign_gives = { λ a b c. IsAssigned T.BITS (xor_of a.list (list_of b)) a c
         × XorsEach a.list (list_of b) c.list };
 
     /// Flips each bit that is true in a view. Like `xor_bits`.
@@ -56,7 +56,7 @@ impl<'a, T: BitStore, O: BitOrder, U: BitStore, P: BitOrder> BitXorAssign<BitSli
 
 impl<'a, T: BitStore, O: BitOrder, U: BitStore, P: BitOrder> SubAssign<BitSlice<'a, U, P>>
     for BitBox<T, O> {
-    ghost sub_assign_gives = { λ a b c. IsWritten T.BITS (and_not_of a.list (list_of b)) a c
+    ghost sub_assign_gives = { λ a b c. IsAssigned T.BITS (and_not_of a.list (list_of b)) a c
         × AndNotsEach a.list (list_of b) c.list };
 
     /// Clears each bit that is true in a view. Like `and_not_bits`.
@@ -72,7 +72,7 @@ impl<'a, T: BitStore, O: BitOrder, U: BitStore, P: BitOrder> SubAssign<BitSlice<
 impl<T: BitStore, O: BitOrder> ShlAssign<usize> for BitBox<T, O> {
     ghost can_shl_assign = { λ a by. by ≤ length a.list };
 
-    ghost shl_assign_gives = { λ a by c. IsWritten T.BITS (drop by a.list ++ replicate by false) a c };
+    ghost shl_assign_gives = { λ a by c. IsAssigned T.BITS (drop by a.list ++ replicate by false) a c };
 
     /// Like `shift_left`. Requires that `rhs` is at most the length.
     ///
@@ -87,7 +87,7 @@ impl<T: BitStore, O: BitOrder> ShlAssign<usize> for BitBox<T, O> {
 impl<T: BitStore, O: BitOrder> ShrAssign<usize> for BitBox<T, O> {
     ghost can_shr_assign = { λ a by. by ≤ length a.list };
 
-    ghost shr_assign_gives = { λ a by c. IsWritten T.BITS
+    ghost shr_assign_gives = { λ a by c. IsAssigned T.BITS
         (replicate by false ++ take (length a.list - by) a.list) a c };
 
     /// Like `shift_right`. Requires that `rhs` is at most the length.

@@ -3,20 +3,12 @@ ghost use Rattle.std.specs.Prelude.{◌≡◌, ◌+◌, ◌-◌, ◌%◌, ◌<�
 ghost use Rattle.bit_addressing.specs.Row.{number_bits, put};
 ghost use Rattle.bit_addressing.specs.declared.length.TheConstants.{MAX_BITS};
 ghost use Rattle.bit_containers.specs.BitVec.{Grew, Shrank, Stayed, RefusesOnly};
-ghost use Rattle.bit_containers.specs.Closures.{CallableAtEach, CallableFrom, ResultsFrom, ResultsAtEach, kept};
+ghost use Rattle.bit_slice.specs.Closures.{CallableAtEach, CallableFrom, ResultsFrom, ResultsAtEach, kept};
 
 use crate::vec::BitVec;
 use bit_addressing::{BitOrder, BitStore, GrowError};
 use bit_rows::write_chunk_in_vec;
-
-// Sets bit `got` of a number. Requires that `got` is below 64.
-#[inline(always)]
-fn with_next(number: u64, got: u8, bit: bool) -> u64
-    requires { got < 64 }
-    ensures { number_bits result (got + 1) ≡ number_bits number got ++ bit ∷ [] }
-{
-    number.with_bit(got, bit)
-}
+use bit_slice::inner::with_next;
 
 impl<T: BitStore, O: BitOrder> BitVec<T, O> {
     /// Keeps the first `n` bits, or appends what `f` returns at each new index until there are `n`. Memory is taken

@@ -14,7 +14,7 @@ use bit_rows::{And, BitOperator, Or, Xor, count_blocks, false_blocks, read_chunk
 // The `n` bits from index `at` on that the operator makes of two views, as a number, the first at
 // place 0.
 #[inline(always)]
-fn pair_chunk<F: BitOperator, T: BitStore, O: BitOrder, U: BitStore, P: BitOrder>(
+pub(crate) fn pair_chunk<F: BitOperator, T: BitStore, O: BitOrder, U: BitStore, P: BitOrder>(
     left: BitSlice<'_, T, O>,
     right: BitSlice<'_, U, P>,
     at: usize,

@@ -132,7 +132,7 @@ pub fn cut<O: BitOrder>(v: &mut BitVec<u8, O>) -> Result<(), GrowError>
 }
 
 /// Each appended bit is that of a function of its index.
-#[tactic(auto, using(bit_containers::proofs::Calling::filled_with))]
+#[tactic(auto, using(bit_slice::proofs::Called::filled_with))]
 pub fn striped<T: BitStore, O: BitOrder>(alloc: Global, n: usize) -> Result<BitVec<T, O>, GrowError>
     ensures { IfOk result (λ v. v.list ≡ map (λ i. eqb (i % 2) 0) (range_with_len 0 n)) }
 {

@@ -1,7 +1,8 @@
 use Rattle.std.proofs.Common.{◌∷◌, [], ◌++◌, length, refl, sym, ap, ◌∙◌, arith, append_assoc, length-append, append-nil}
 use Rattle.std.proofs.lemmas.List.{length_push}
 use Rattle.bit_addressing.proofs.Rows.{width_positive}
-use Rattle.bit_containers.proofs.Calling.{results_more, grew_kept}
+use Rattle.bit_slice.proofs.Called.{results_more}
+use Rattle.bit_containers.proofs.Calling.{grew_kept}
 use Rattle.bit_containers.proofs.Growing.{grew_twice}
 use Rattle.bit_containers.proofs.vec.BitVec.resize_by.Goals as goal
 

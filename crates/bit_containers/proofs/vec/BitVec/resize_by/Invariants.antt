@@ -1,7 +1,7 @@
 use Rattle.std.proofs.Common.{◌≡◌, ◌++◌, ◌≤◌, Bool, List, length}
 use Rattle.bit_addressing.specs.declared.length.TheConstants.{MAX_BITS}
 use Rattle.bit_containers.specs.BitVec.{Grew}
-use Rattle.bit_containers.specs.Closures.{ResultsFrom}
+use Rattle.bit_slice.specs.Closures.{ResultsFrom}
 use Rattle.bit_containers.proofs.vec.BitVec.resize_by.Given as goal
 
 abbrev pub invariant-loop-index : goal.invariant-loop-index

@@ -38,3 +38,4 @@ pub mod BitRuns
 pub mod Swapped
 pub mod Masking
 pub mod Pairs
+pub mod Multiples

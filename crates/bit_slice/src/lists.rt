@@ -882,6 +882,33 @@ pub trait BitList {
         self.as_bitslice().find_run(n, bit, from)
     }
 
+    /// Like `next_run`, but the index is a multiple of `align`. Requires that `align` is at least 1.
+    ///
+    /// ```text
+    /// of 10000001: bits.next_aligned_run(2, 4, false, 1) == Some(4)
+    /// ```
+    final fn next_aligned_run(
+        &self,
+        n: usize,
+        align: usize,
+        bit: bool,
+        from: usize,
+    ) -> Option<usize>
+        requires { 0 < align }
+        ensures begins { IfSome result (λ i. from ≤ i) }
+        ensures aligned { IfSome result (λ i. i % align ≡ 0) }
+        ensures inside { IfSome result (λ i. i + n ≤ len self.now) }
+        ensures few { IfSome result (λ i. i + n ≤ MAX_BITS) }
+        ensures found { IfSome result (λ i. part n (list self.now) i ≡ replicate n bit) }
+        ensures each { IfSome result (λ i. (j : ℕ) → i ≤ j → j < i + n → slice_get (list self.now) j ≡ Some bit) }
+        ensures before { IfSome result (λ i. (j : ℕ) → from ≤ j → j < i → j % align ≡ 0
+            → part n (list self.now) j ≢ replicate n bit) }
+        ensures none { IfNone result ((j : ℕ) → from ≤ j → j + n ≤ len self.now → j % align ≡ 0
+            → part n (list self.now) j ≢ replicate n bit) }
+    {
+        self.as_bitslice().find_aligned_run(n, align, bit, from)
+    }
+
     /// The first index at which the bits of `other`, of any word type and order, begin in the list. None
     /// exactly where they begin nowhere. The first 64 bits of `other` are tried at 64 indices at once.
     ///

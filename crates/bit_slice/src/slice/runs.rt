@@ -235,6 +235,38 @@ impl<'a, T: BitStore, O: BitOrder> BitSlice<'a, T, O> {
         None
     }
 
+    // Like `find_run`, but the index is a multiple of `align`. Requires that `align` is at least 1.
+    pub(crate) fn find_aligned_run(
+        self,
+        n: usize,
+        align: usize,
+        bit: bool,
+        from: usize,
+    ) -> Option<usize>
+        requires { 0 < align }
+        ensures begins { IfSome result (λ i. from ≤ i) }
+        ensures aligned { IfSome result (λ i. i % align ≡ 0) }
+        ensures inside { IfSome result (λ i. i + n ≤ len_of self.entry) }
+        ensures found { IfSome result (λ i. part n (list_of self.entry) i ≡ replicate n bit) }
+        ensures before { IfSome result (λ i. (j : ℕ) → from ≤ j → j < i → j % align ≡ 0
+            → part n (list_of self.entry) j ≢ replicate n bit) }
+        ensures none { IfNone result ((j : ℕ) → from ≤ j → j + n ≤ len_of self.entry → j % align ≡ 0
+            → part n (list_of self.entry) j ≢ replicate n bit) }
+    {
+        let mut at = from;
+        while let Some(i) = self.find_run(n, bit, at) {
+            let gap = (align - i % align) % align;
+            if gap == 0 {
+                return Some(i);
+            }
+            if gap > self.len - i {
+                return None;
+            }
+            at = i + gap;
+        }
+        None
+    }
+
     // The first bit, or false where the view is empty.
     #[inline(always)]
     fn first_bit(self) -> bool

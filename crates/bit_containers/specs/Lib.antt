@@ -7,6 +7,7 @@ pub mod Lends
 pub mod Length
 pub mod Machine
 pub mod Making
+pub mod Repeated
 pub mod Splice
 pub mod Text
 pub use Rattle.bit_addressing.specs.Binary

@@ -32,6 +32,7 @@ mod lists;
 mod making;
 mod numbers;
 mod ops;
+mod pieces;
 mod slice;
 mod splice;
 mod text;

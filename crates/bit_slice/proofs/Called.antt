@@ -1,5 +1,5 @@
 -- What the calls of a function that keeps a state returned, one after another.
-use Rattle.std.proofs.Common.{◌≡◌, ◌≤◌, ℕ, suc, ◌+◌, ◌<◌, refl, sym, ap, ◌∙◌, Bool, List, [], ◌∷◌, ◌++◌, length, length-append, map, arith}
+use Rattle.std.proofs.Common.{◌≡◌, ◌≤◌, ℕ, ◌+◌, refl, ap, Bool, List, [], ◌∷◌, ◌++◌, length, length-append, map, arith}
 use Rattle.std.specs.List.{range_with_len}
 use Rattle.bit_slice.specs.Closures.{CallableFrom, ResultsFrom}
 

@@ -1,11 +1,11 @@
 -- Lists that are written where a mask is true.
-use Rattle.std.proofs.Common.{◌≡◌, ℕ, zero, suc, ◌+◌, ◌-◌, ◌/◌, ◌^◌, ◌<◌, ◌≤◌, Bool, true, false, not, cond, ◌&&◌, List, [], ◌∷◌, ◌++◌, length, take, drop, get_or, map, min, slice_range, refl, sym, ◌∙◌, ap, inl, inr, arith, append-nil}
-use Rattle.std.specs.Prelude.{count_by, count_ones, if◌then◌else◌}
+use Rattle.std.proofs.Common.{◌≡◌, ℕ, zero, suc, ◌+◌, ◌-◌, ◌/◌, ◌^◌, ◌<◌, ◌≤◌, Bool, true, false, not, cond, ◌&&◌, List, [], ◌∷◌, ◌++◌, length, take, drop, get_or, min, slice_range, refl, sym, ◌∙◌, ap, inl, inr, arith}
+use Rattle.std.specs.Prelude.{count_ones, if◌then◌else◌}
 use Rattle.std.specs.Prelude.{slice_get, Some, ◌≢◌}
 use Rattle.std.specs.List.{items_where_true}
 use Rattle.std.proofs.Math.Seq.{take-add}
 use Rattle.std.proofs.lemmas.Bool.{cases_lt}
-use Rattle.std.proofs.lemmas.List.{get_or-drop, get_or_past, length-drop, length-take-le, map-id, take_all, take-append-drop}
+use Rattle.std.proofs.lemmas.List.{get_or-drop, get_or_past, length-drop, length-take-le, map-id, take-append-drop}
 use Rattle.std.proofs.lemmas.List.FromFn.{get_or-map-range_with_len}
 use Rattle.std.proofs.lemmas.List.Recursion.{is_count_by}
 use Rattle.bit_addressing.specs.Bits.{has_bit}

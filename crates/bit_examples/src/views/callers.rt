@@ -1,9 +1,10 @@
 //! Callers of the searches, indices, parts and changes of views.
-ghost use Rattle.std.specs.Prelude.{◌≡◌, ℕ, ◌+◌, ◌-◌, ◌*◌, ◌/◌, ◌<◌, ◌≤◌, ◌↔◌, ◌++◌, EachIndex, slice_range, IfOk, IfSome, IsTrue, Some, count_by, drop, false, length, map, not, replicate, reverse, slice_get, sum, take, true};
+ghost use Rattle.std.specs.Prelude.{◌≡◌, ℕ, ◌+◌, ◌-◌, ◌*◌, ◌/◌, ◌%◌, ◌<◌, ◌≤◌, ◌↔◌, ◌++◌, eqb, EachIndex, slice_range, IfOk, IfSome, IsTrue, Some, count_by, drop, false, length, map, not, replicate, reverse, slice_get, sum, take, true};
+ghost use Rattle.std.specs.List.{range_with_len};
 ghost use Rattle.std.specs.Option.{option_map};
 ghost use Rattle.bit_addressing.specs.Binary.{value};
 ghost use Rattle.bit_addressing.specs.Row.{binary, put};
-ghost use Rattle.bit_slice.specs.Operators.{or_of};
+ghost use Rattle.bit_slice.specs.Operators.{and_of, or_of};
 ghost use Rattle.bit_slice.specs.BitRuns.{runs_of};
 ghost use Rattle.bit_slice.specs.BitSlice.{head_of, len_of, list_of, words_of, IsPlaced};
 ghost use Rattle.bit_slice.specs.BitSliceMut.{len_of as len_there, list_of as list_there};
@@ -545,4 +546,72 @@ pub fn second_given<'a, T: BitStore, O: BitOrder>(
         return None;
     }
     chunks.next()
+}
+
+/// Each bit is that of a function of its index.
+#[tactic(auto, using(bit_slice::proofs::Called::filled_with, bit_slice::proofs::Parts::shown_length))]
+pub fn striped<T: BitStore, O: BitOrder>(view: &mut BitSliceMut<'_, T, O>)
+    ensures { list_there view.new ≡ map (λ i. eqb (i % 2) 0) (range_with_len 0 (length (list_there view.new))) }
+{
+    view.fill_with(|i| i % 2 == 0);
+}
+
+pub fn chosen<T: BitStore, O: BitOrder, U: BitStore, P: BitOrder>(
+    view: &mut BitSliceMut<'_, T, O>,
+    mask: BitSlice<'_, U, P>,
+    source: BitSlice<'_, T, O>,
+    i: usize,
+)
+    requires inside { i < len_there view.old }
+    requires there { i < len_of source }
+    requires one { slice_get (list_of mask) i ≡ Some true }
+    ensures { slice_get (list_there view.new) i ≡ slice_get (list_of source.entry) i }
+{
+    view.copy_where(mask, source);
+}
+
+/// What a mask leaves out is as before.
+pub fn left_out<T: BitStore, O: BitOrder, U: BitStore, P: BitOrder>(
+    view: &mut BitSliceMut<'_, T, O>,
+    mask: BitSlice<'_, U, P>,
+    source: BitSlice<'_, T, O>,
+    i: usize,
+)
+    requires { slice_get (list_of mask) i ≡ Some false }
+    ensures { slice_get (list_there view.new) i ≡ slice_get (list_there view.old) i }
+{
+    view.deposit(mask, source);
+}
+
+/// Before the first common one, no index is in both.
+pub fn first_common<T: BitStore, O: BitOrder, U: BitStore, P: BitOrder>(
+    left: BitSlice<'_, T, O>,
+    right: BitSlice<'_, U, P>,
+) -> Option<usize>
+    ensures found { IfSome result (λ i. slice_get (and_of (list_of left.entry) (list_of right.entry)) i ≡ Some true) }
+    ensures before { IfSome result
+        (λ i. (j : ℕ) → j < i → slice_get (and_of (list_of left.entry) (list_of right.entry)) j ≡ Some false) }
+{
+    left.next_and(right, 0)
+}
+
+/// A run at a multiple has all its bits.
+pub fn free_at_multiple<T: BitStore, O: BitOrder>(view: BitSlice<'_, T, O>, n: usize) -> Option<bool>
+    requires { 0 < n }
+    ensures { IfSome result (λ b. b ≡ false) }
+{
+    match view.next_aligned_run(n, 8, false, 0) {
+        Some(i) => view.get(i),
+        None => None,
+    }
+}
+
+pub fn masked_in_place<T: BitStore, O: BitOrder>(
+    view: &mut BitSliceMut<'_, T, O>,
+    mask: BitSlice<'_, u8, O>,
+)
+    ensures list { list_there view.new ≡ and_of (list_there view.old) (list_of mask.entry) }
+    ensures len { len_there view.new ≡ len_there view.old }
+{
+    *view &= mask;
 }

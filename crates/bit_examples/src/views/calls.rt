@@ -300,3 +300,64 @@ fn lists_exchanged(rt: HostRuntime) {
     check(&rt, left == [0x65, 0x00]);
     check(&rt, right == [0x00f9]);
 }
+
+#[test]
+fn written_by_a_function(rt: HostRuntime) {
+    let mut words = [0x00_u8, 0xff];
+    let mut view = BitSliceMut::<u8, Msb0>::from_slice_mut(&mut words);
+    let mut part = view.part_mut(2, 12);
+    part.fill_with(|i| i % 3 == 0);
+    check(&rt, words == [0x24, 0x9f]);
+}
+
+#[test]
+fn written_at_a_mask(rt: HostRuntime) {
+    let mut words = [0x69_u8, 0xf0];
+    let mut view = BitSliceMut::<u8, Msb0>::from_slice_mut(&mut words);
+    let mask = BitSlice::<u16, Lsb0>::from_slice(&[0x00f0]);
+    let source = BitSlice::<u8, Msb0>::from_slice(&[0xaa, 0xaa]);
+    view.copy_where(mask, source);
+    check(&rt, words == [0x6a, 0xf0]);
+}
+
+#[test]
+fn deposited(rt: HostRuntime) {
+    let mut words = [0x00_u8];
+    let mut view = BitSliceMut::<u8, Msb0>::from_slice_mut(&mut words);
+    let mask = BitSlice::<u8, Msb0>::from_slice(&[0x69]);
+    let source = BitSlice::<u8, Lsb0>::from_slice(&[0x0d]).get_range(0..4);
+    view.deposit(mask, source);
+    check(&rt, words == [0x49]);
+}
+
+#[test]
+fn searched_together(rt: HostRuntime) {
+    let left = BitSlice::<u8, Msb0>::from_slice(&[0x69, 0x00, 0x10]);
+    let right = BitSlice::<u8, Msb0>::from_slice(&[0x55, 0x00, 0x10]);
+    check(&rt, left.next_and(right, 2) == Some(7));
+    check(&rt, left.next_and_not(right, 0) == Some(2));
+    check(&rt, left.next_or(right, 8) == Some(19));
+    check(&rt, left.next_xor(right, 6).is_none());
+    check(&rt, left.next_xor(right.get_range(0..8), 6) == Some(19));
+    check(&rt, left.count_and_not(right) == 2);
+}
+
+#[test]
+fn runs_at_multiples(rt: HostRuntime) {
+    let view = BitSlice::<u8, Msb0>::from_slice(&[0x81]);
+    check(&rt, view.next_aligned_run(2, 4, false, 1) == Some(4));
+    check(&rt, view.next_aligned_run(2, 4, false, 5).is_none());
+}
+
+#[test]
+fn combined_by_operators(rt: HostRuntime) {
+    let mut words = [0x69_u8];
+    let mut view = BitSliceMut::<u8, Msb0>::from_slice_mut(&mut words);
+    view &= BitSlice::<u8, Msb0>::from_slice(&[0x55]);
+    view |= BitSlice::<u16, Msb0>::from_slice(&[0x0fff]);
+    view ^= BitSlice::<u8, Lsb0>::from_slice(&[0xff]);
+    view -= BitSlice::<u8, Msb0>::from_slice(&[0x80]);
+    view <<= 1;
+    view >>= 2;
+    check(&rt, words == [0x18]);
+}

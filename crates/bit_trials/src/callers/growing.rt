@@ -1,9 +1,9 @@
 //! Callers that grow a vector.
 ghost use Rattle.std.specs.Prelude.{◌≡◌, ◌+◌, ◌-◌, ◌%◌, ◌≤◌, ◌<◌, ◌++◌, map, not, true, false, [], ◌∷◌, take, replicate, length, IfOk, OnOk, OnErr, Ok, IsOk, eqb};
-ghost use Rattle.std.specs.List.{range_with_len};
+ghost use Rattle.std.specs.List.{items_where_true, range_with_len};
 ghost use Rattle.bit_addressing.specs.declared.length.TheConstants.{MAX_BITS};
 
-use bit_containers::{BitOrder, BitStore, BitVec, GrowError, Lsb0, Msb0};
+use bit_containers::{BitOrder, BitRun, BitStore, BitVec, GrowError, Lsb0, Msb0};
 use std::alloc::Global;
 
 /// Within the capacity no push is refused.
@@ -139,4 +139,32 @@ pub fn striped<T: BitStore, O: BitOrder>(alloc: Global, n: usize) -> Result<BitV
     let mut v = BitVec::new(alloc);
     v.resize_with(n, |i| i % 2 == 0)?;
     Ok(v)
+}
+
+/// What a mask takes out is as long as the mask says, and after what was there.
+pub fn taken_out<T: BitStore, O: BitOrder>(
+    v: &mut BitVec<T, O>,
+    source: &BitVec<u8, Msb0>,
+    mask: &BitVec<u64, Lsb0>,
+) -> Result<(), GrowError>
+    ensures taken { OnOk result (v.new.list ≡ v.old.list ++ items_where_true mask.now.list source.now.list) }
+    ensures kept { OnErr result (v.new.list ≡ v.old.list) }
+{
+    v.extend_where(source.as_bitslice(), mask.as_bitslice())
+}
+
+pub fn thrice(v: &mut BitVec<u8, Msb0>, pattern: &BitVec<u8, Lsb0>) -> Result<(), GrowError>
+    requires v { v.old.list ≡ true ∷ [] }
+    requires pattern { pattern.now.list ≡ false ∷ true ∷ [] }
+    ensures { OnOk result (v.new.list ≡ true ∷ false ∷ true ∷ false ∷ true ∷ false ∷ true ∷ []) }
+{
+    v.extend_repeated(pattern.as_bitslice(), 3)
+}
+
+/// Two runs, one after the other.
+pub fn two_runs(v: &mut BitVec<u8, Msb0>, first: BitRun, second: BitRun) -> Result<(), GrowError>
+    ensures { OnOk result (v.new.list ≡ v.old.list ++ replicate (first.end - first.start) first.bit
+        ++ replicate (second.end - second.start) second.bit ++ []) }
+{
+    v.extend_from_runs(&[first, second])
 }

@@ -1,6 +1,6 @@
 //! What users of other libraries write, by the calls of this one.
 use crate::common::{check, holds, of, ok};
-use bit_containers::{BitList, BitListMut, BitVec, Lsb0, Msb0, ViewBits, bits};
+use bit_containers::{BitList, BitListMut, BitRun, BitVec, Lsb0, Msb0, ViewBits, bits};
 
 #[test]
 fn made(rt: HostRuntime) {
@@ -93,4 +93,46 @@ fn runs(rt: HostRuntime) {
         longest = run.len().max(longest);
     }
     check(&rt, longest == 3);
+}
+
+#[test]
+fn taken_and_put_back_by_a_mask(rt: HostRuntime) {
+    let v = of::<u8, Msb0>(&rt, b"01101001");
+    let mask = of::<u16, Lsb0>(&rt, b"11110000");
+    let mut taken = of::<u8, Lsb0>(&rt, b"01");
+    ok(
+        &rt,
+        taken.extend_where(v.as_bitslice(), mask.as_bitslice()),
+    );
+    holds(&rt, &taken, b"010110");
+    let mut w = of::<u8, Msb0>(&rt, b"00000000");
+    w.deposit(mask.as_bitslice(), taken.get_range(2..6));
+    holds(&rt, &w, b"01100000");
+}
+
+#[test]
+fn repeated(rt: HostRuntime) {
+    let mut v = of::<u8, Msb0>(&rt, b"01");
+    let pattern = of::<u64, Lsb0>(&rt, b"110");
+    ok(&rt, v.extend_repeated(pattern.as_bitslice(), 3));
+    holds(&rt, &v, b"01110110110");
+}
+
+#[test]
+fn made_again_from_runs(rt: HostRuntime) {
+    let mut v = of::<u8, Msb0>(&rt, b"01");
+    let runs = [
+        BitRun {
+            start: 0,
+            end: 3,
+            bit: true,
+        },
+        BitRun {
+            start: 3,
+            end: 5,
+            bit: false,
+        },
+    ];
+    ok(&rt, v.extend_from_runs(&runs));
+    holds(&rt, &v, b"0111100");
 }

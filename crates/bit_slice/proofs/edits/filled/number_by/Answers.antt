@@ -1,4 +1,4 @@
-use Rattle.std.proofs.Common.{◌≡◌, ◌+◌, length, refl, sym, subst, arith}
+use Rattle.std.proofs.Common.{◌≡◌, ◌+◌, refl, sym, subst, arith}
 use Rattle.bit_addressing.specs.Row.{number_bits}
 use Rattle.bit_rows.proofs.Binary.{length-number_bits, number_bits_none}
 use Rattle.bit_slice.specs.Closures.{ResultsFrom}

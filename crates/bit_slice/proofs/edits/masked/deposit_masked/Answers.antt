@@ -1,10 +1,10 @@
-use Rattle.std.proofs.Common.{◌≡◌, ◌+◌, ◌-◌, ◌*◌, ◌≤◌, length, min, slice_range, sym, ◌∙◌, ap, subst, arith, refl}
+use Rattle.std.proofs.Common.{◌≡◌, ◌+◌, ◌-◌, ◌*◌, ◌≤◌, length, min, slice_range, sym, ◌∙◌, ap, arith, refl}
 use Rattle.bit_addressing.specs.Row.{number_bits, put}
 use Rattle.bit_addressing.specs.Typed.{row}
 use Rattle.bit_slice.specs.BitSlice.{list_of}
 use Rattle.bit_slice.specs.Masked.{deposited}
 use Rattle.bit_slice.specs.Overwritten.{list_in}
-use Rattle.bit_slice.proofs.Masking.{ones, all_done, length-deposited, more_done, more_taken, nothing_done, ones_of_number, still_there, written_to}
+use Rattle.bit_slice.proofs.Masking.{ones, all_done, length-deposited, more_done, more_taken, nothing_done, ones_of_number, still_there}
 use Rattle.bit_slice.proofs.Overwritten.{rewritten_in}
 use Rattle.bit_slice.proofs.Parts.{in_row, shown_length}
 use Rattle.bit_slice.proofs.Writing.{run_of_number}

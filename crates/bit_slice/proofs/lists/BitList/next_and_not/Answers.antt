@@ -1,4 +1,4 @@
-use Rattle.std.proofs.Common.{◌&&◌, not, ◌∙◌, arith}
+use Rattle.std.proofs.Common.{◌&&◌, not}
 use Rattle.bit_slice.specs.BitSlice.{list_of}
 use Rattle.bit_slice.proofs.Pairs.{pair_before, pair_found, pair_none}
 use Rattle.bit_slice.proofs.Parts.{view_length}

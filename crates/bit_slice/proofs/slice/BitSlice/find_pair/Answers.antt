@@ -1,4 +1,4 @@
-use Rattle.std.proofs.Common.{◌≡◌, ◌+◌, ◌≤◌, length, min, true, arith}
+use Rattle.std.proofs.Common.{◌+◌, ◌≤◌, length, min, true, arith}
 use Rattle.bit_slice.specs.BitSlice.{list_of}
 use Rattle.bit_slice.specs.Operators.{combined}
 use Rattle.bit_slice.specs.Places.{IsChunk}

@@ -1,0 +1,116 @@
+-- Bits that are appended where a mask has ones, again and again, and by runs.
+use Rattle.std.proofs.Common.{◌≡◌, ℕ, zero, suc, ◌+◌, ◌-◌, ◌*◌, ◌<◌, ◌≤◌, Bool, true, false, cond, List, [], ◌∷◌, ◌++◌, length, take, drop, min, slice_range, refl, sym, ◌∙◌, ap, arith, append_assoc, append-nil, length-append}
+use Rattle.std.specs.Prelude.{count_by}
+use Rattle.std.specs.List.{flat_map, items_where_true}
+use Rattle.std.proofs.Math.Seq.{take-add}
+use Rattle.std.proofs.lemmas.List.{length-take-le, take-append-drop, take_all}
+use Rattle.std.proofs.lemmas.List.Sums.{sum_by-cons}
+use Rattle.bit_containers.specs.Repeated.{repeated}
+
+-- ---- the items that a mask has
+
+-- a mask in two parts
+pub extracted_append : (ms vs xs us : List Bool) → length ms ≡ length xs → items_where_true (ms ++ vs) (xs ++ us) ≡ items_where_true ms xs ++ items_where_true vs us
+extracted_append [] vs [] us h = refl
+extracted_append [] vs (x ∷ xs) us h = absurd (omega arith)
+extracted_append (m ∷ ms) vs [] us h = absurd (omega arith)
+extracted_append (true ∷ ms) vs (x ∷ xs) us h = ap (λ l. x ∷ l) (extracted_append ms vs xs us (omega arith))
+extracted_append (false ∷ ms) vs (x ∷ xs) us h = extracted_append ms vs xs us (omega arith)
+
+-- one item more
+pub extracted_one : (m x : Bool) → items_where_true (m ∷ []) (x ∷ []) ≡ cond m (x ∷ []) []
+extracted_one true x = refl
+extracted_one false x = refl
+
+-- as many items as the mask has ones
+pub length-extracted : (ms xs : List Bool) → length ms ≡ length xs → length (items_where_true ms xs) ≡ count_by (λ b. b) ms
+length-extracted [] [] h = refl
+length-extracted [] (x ∷ xs) h = absurd (omega arith)
+length-extracted (m ∷ ms) [] h = absurd (omega arith)
+length-extracted (true ∷ ms) (x ∷ xs) h =
+    let one : count_by (λ b. b) (true ∷ ms) ≡ 1 + count_by (λ b. b) ms = sum_by-cons (λ b. cond b 1 0) true ms in
+    let rest = length-extracted ms xs (omega arith) in
+    omega arith
+length-extracted (false ∷ ms) (x ∷ xs) h =
+    let none : count_by (λ b. b) (false ∷ ms) ≡ 0 + count_by (λ b. b) ms = sum_by-cons (λ b. cond b 1 0) false ms in
+    let rest = length-extracted ms xs (omega arith) in
+    omega arith
+
+-- where the mask or the list ends
+extracted_none : (ms xs : List Bool) → min (length ms) (length xs) ≡ 0 → items_where_true ms xs ≡ []
+extracted_none [] xs none = refl
+extracted_none (m ∷ ms) [] none = refl
+extracted_none (m ∷ ms) (x ∷ xs) none = absurd (omega arith)
+
+taken_more : (zs : List Bool) (at n : ℕ) → take (at + n) zs ≡ take at zs ++ slice_range zs at (at + n)
+taken_more zs at n =
+    let k : n ≡ at + n - at = omega arith in
+    take-add at n zs ∙ ap (λ j. take at zs ++ take j (drop at zs)) k
+
+-- what is extracted up to an index
+abbrev pub extracted_to : List Bool → List Bool → ℕ → List Bool
+extracted_to ms xs n = items_where_true (take n ms) (take n xs)
+
+module _ (ms xs : List Bool) where
+  -- one part more
+  pub extracted_more : (at n : ℕ) → at + n ≤ length ms → at + n ≤ length xs → extracted_to ms xs (at + n) ≡ extracted_to ms xs at ++ items_where_true (slice_range ms at (at + n)) (slice_range xs at (at + n))
+  extracted_more at n fits inside =
+      let a : length (take at ms) ≡ at = length-take-le at ms (omega arith) in
+      let b : length (take at xs) ≡ at = length-take-le at xs (omega arith) in
+      ap (λ l. items_where_true l (take (at + n) xs)) (taken_more ms at n)
+      ∙ ap (λ l. items_where_true (take at ms ++ slice_range ms at (at + n)) l) (taken_more xs at n)
+      ∙ extracted_append (take at ms) (slice_range ms at (at + n)) (take at xs) (slice_range xs at (at + n)) (a ∙ sym b)
+
+  -- the rest from an index on
+  parted : (at : ℕ) → at ≤ length ms → at ≤ length xs → items_where_true ms xs ≡ extracted_to ms xs at ++ items_where_true (drop at ms) (drop at xs)
+  parted at fits inside =
+      let a : length (take at ms) ≡ at = length-take-le at ms (omega arith) in
+      let b : length (take at xs) ≡ at = length-take-le at xs (omega arith) in
+      ap (λ l. items_where_true l xs) (sym (take-append-drop at ms))
+      ∙ ap (λ l. items_where_true (take at ms ++ drop at ms) l) (sym (take-append-drop at xs))
+      ∙ extracted_append (take at ms) (drop at ms) (take at xs) (drop at xs) (a ∙ sym b)
+
+  -- no more than all of it
+  pub extracted_few : (at : ℕ) → at ≤ length ms → at ≤ length xs → length (extracted_to ms xs at) ≤ length (items_where_true ms xs)
+  extracted_few at fits inside =
+      let whole = ap length (parted at fits inside) ∙ length-append (extracted_to ms xs at) (items_where_true (drop at ms) (drop at xs)) in
+      omega arith
+
+  -- all of it
+  pub extracted_all : (upto : ℕ) → upto ≡ min (length xs) (length ms) → extracted_to ms xs upto ≡ items_where_true ms xs
+  extracted_all upto is =
+      let c = length-drop upto ms in
+      let d = length-drop upto xs in
+      sym (parted upto (omega arith) (omega arith) ∙ ap (λ l. extracted_to ms xs upto ++ l) (extracted_none (drop upto ms) (drop upto xs) (omega arith)) ∙ append-nil (extracted_to ms xs upto))
+
+  -- as many as the mask has ones up to where one of the two ends
+  pub extracted_count : (upto n : ℕ) → upto ≡ min (length xs) (length ms) → n ≡ count_by (λ b. b) (slice_range ms 0 upto) → n ≡ length (items_where_true ms xs)
+  extracted_count upto n is counted =
+      let a : length (take upto ms) ≡ upto = length-take-le upto ms (omega arith) in
+      let b : length (take upto xs) ≡ upto = length-take-le upto xs (omega arith) in
+      let k : upto - 0 ≡ upto = omega arith in
+      counted ∙ ap (λ j. count_by (λ b. b) (take j ms)) k
+      ∙ sym (length-extracted (take upto ms) (take upto xs) (a ∙ sym b)) ∙ ap length (extracted_all upto is)
+
+-- ---- a list again and again
+
+pub repeated_sum : (m n : ℕ) (xs : List Bool) → repeated (m + n) xs ≡ repeated m xs ++ repeated n xs
+repeated_sum zero n xs = let none : 0 + n ≡ n = omega arith in ap (λ k. repeated k xs) none
+repeated_sum (suc m) n xs =
+    let next : suc m + n ≡ suc (m + n) = omega arith in
+    ap (λ k. repeated k xs) next ∙ ap (λ l. xs ++ l) (repeated_sum m n xs) ∙ sym (append_assoc xs (repeated m xs) (repeated n xs))
+
+pub length-repeated : (n : ℕ) (xs : List Bool) → length (repeated n xs) ≡ n * length xs
+length-repeated zero xs = omega arith
+length-repeated (suc n) xs =
+    let next : suc n * length xs ≡ length xs + n * length xs = grind arith in
+    length-append xs (repeated n xs) ∙ ap (λ k. length xs + k) (length-repeated n xs) ∙ sym next
+
+-- a part of what was appended is a list again and again
+pub repeated_part : (old xs : List Bool) (m n : ℕ) → m ≤ n → slice_range (old ++ repeated n xs) (length old) (length old + m * length xs) ≡ repeated m xs
+repeated_part old xs m n h =
+    let parts : m + (n - m) ≡ n = omega arith in
+    let long = length-repeated m xs in
+    ap (λ k. slice_range (old ++ repeated k xs) (length old) (length old + m * length xs)) (sym parts)
+    ∙ ap (λ l. slice_range (old ++ l) (length old) (length old + m * length xs)) (repeated_sum m (n - m) xs)
+    ∙ same_lists _ _ (grind (arith, places)) (λ i b below. grind (arith, places))

@@ -3,8 +3,12 @@ use Rattle.std.proofs.Common.{◌≡◌, ℕ, zero, suc, ◌+◌, ◌-◌, ◌*�
 use Rattle.std.specs.Prelude.{count_by}
 use Rattle.std.specs.List.{flat_map, items_where_true}
 use Rattle.std.proofs.Math.Seq.{take-add}
-use Rattle.std.proofs.lemmas.List.{length-take-le, take-append-drop, take_all}
+use Rattle.std.proofs.lemmas.List.{length-drop, length-take-le, places, same_lists, take-append-drop}
 use Rattle.std.proofs.lemmas.List.Sums.{sum_by-cons}
+use Rattle.bit_addressing.specs.Bits.{has_bit}
+use Rattle.bit_addressing.specs.Row.{number_bits}
+use Rattle.bit_rows.proofs.Binary.{length-number_bits}
+use Rattle.bit_slice.proofs.Writing.{number_bits_more}
 use Rattle.bit_containers.specs.Repeated.{repeated}
 
 -- ---- the items that a mask has
@@ -35,6 +39,25 @@ length-extracted (false ∷ ms) (x ∷ xs) h =
     let none : count_by (λ b. b) (false ∷ ms) ≡ 0 + count_by (λ b. b) ms = sum_by-cons (λ b. cond b 1 0) false ms in
     let rest = length-extracted ms xs (omega arith) in
     omega arith
+
+-- one bit of a number more, where the mask has a one, or not
+module _ (mask number i gathered got : ℕ) where
+  next : items_where_true (number_bits mask (i + 1)) (number_bits number (i + 1)) ≡ items_where_true (number_bits mask i) (number_bits number i) ++ cond (has_bit mask i) (has_bit number i ∷ []) []
+  next =
+      ap (λ l. items_where_true l (number_bits number (i + 1))) (number_bits_more mask i)
+      ∙ ap (λ l. items_where_true (number_bits mask i ++ has_bit mask i ∷ []) l) (number_bits_more number i)
+      ∙ extracted_append (number_bits mask i) (has_bit mask i ∷ []) (number_bits number i) (has_bit number i ∷ []) (length-number_bits mask i ∙ sym (length-number_bits number i))
+      ∙ ap (λ l. items_where_true (number_bits mask i) (number_bits number i) ++ l) (extracted_one (has_bit mask i) (has_bit number i))
+
+  pub bit_taken : (later : ℕ) → has_bit mask i ≡ true → number_bits gathered got ≡ items_where_true (number_bits mask i) (number_bits number i) → number_bits later (got + 1) ≡ number_bits gathered got ++ has_bit number i ∷ [] → number_bits later (got + 1) ≡ items_where_true (number_bits mask (i + 1)) (number_bits number (i + 1))
+  bit_taken later one before wrote =
+      wrote ∙ ap (λ l. l ++ has_bit number i ∷ []) before
+      ∙ sym (next ∙ ap (λ b. items_where_true (number_bits mask i) (number_bits number i) ++ cond b (has_bit number i ∷ []) []) one)
+
+  pub bit_not_taken : has_bit mask i ≡ false → number_bits gathered got ≡ items_where_true (number_bits mask i) (number_bits number i) → number_bits gathered got ≡ items_where_true (number_bits mask (i + 1)) (number_bits number (i + 1))
+  bit_not_taken none before =
+      before
+      ∙ sym (next ∙ ap (λ b. items_where_true (number_bits mask i) (number_bits number i) ++ cond b (has_bit number i ∷ []) []) none ∙ append-nil (items_where_true (number_bits mask i) (number_bits number i)))
 
 -- where the mask or the list ends
 extracted_none : (ms xs : List Bool) → min (length ms) (length xs) ≡ 0 → items_where_true ms xs ≡ []

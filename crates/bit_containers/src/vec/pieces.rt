@@ -1,5 +1,5 @@
 //! Growth by the bits that a mask has, by a pattern again and again, and by runs.
-ghost use Rattle.std.specs.Prelude.{◌≡◌, ◌+◌, ◌*◌, ◌≤◌, ◌++◌, length, OnOk};
+ghost use Rattle.std.specs.Prelude.{◌≡◌, ◌+◌, ◌-◌, ◌*◌, ◌<◌, ◌≤◌, ◌++◌, length, replicate, slice_range, OnOk};
 ghost use Rattle.std.specs.List.{flat_map, items_where_true};
 ghost use Rattle.bit_addressing.specs.Row.{number_bits};
 ghost use Rattle.bit_addressing.specs.declared.length.TheConstants.{MAX_BITS};
@@ -9,7 +9,7 @@ ghost use Rattle.bit_slice.specs.BitRuns.{bits_of_run};
 ghost use Rattle.bit_slice.specs.BitSlice.{len_of, list_of};
 
 use crate::vec::BitVec;
-use bit_addressing::{BitOrder, BitStore, GrowError, MAX_BITS};
+use bit_addressing::{BitOrder, BitRegister, BitStore, GrowError, MAX_BITS};
 use bit_slice::inner::with_next;
 use bit_slice::{BitList, BitRun, BitSlice};
 
@@ -24,8 +24,8 @@ fn gather_bits(number: u64, mask: u64, n: u8) -> (u64, u8)
     let mut gathered = 0;
     let mut got = 0;
     for i in 0..n {
-        if mask >> i & 1 == 1 {
-            gathered = with_next(gathered, got, number >> i & 1 == 1);
+        if mask.bit(i) {
+            gathered = with_next(gathered, got, number.bit(i));
             got += 1;
         }
     }
@@ -40,6 +40,7 @@ impl<T: BitStore, O: BitOrder> BitVec<T, O> {
         requires fits { length self.old.list + n ≤ MAX_BITS }
         ensures list { self.new.list ≡ self.old.list ++ number_bits number n }
         ensures row { Grew T.BITS self.old self.new (number_bits number n) }
+        ensures clean { IsClean T.BITS self.old → IsClean T.BITS self.new }
         ensures capacity { self.new.capacity ≡ self.old.capacity }
     {
         let _there_is_room = self.push_le(n, number);
@@ -80,6 +81,45 @@ impl<T: BitStore, O: BitOrder> BitVec<T, O> {
         Ok(())
     }
 
+    // Like `extend_from_bitslice`, where there is room.
+    fn append_reserved<U: BitStore, P: BitOrder>(&mut self, view: BitSlice<'_, U, P>)
+        requires room { length self.old.list + len_of view ≤ self.old.capacity }
+        requires fits { length self.old.list + len_of view ≤ MAX_BITS }
+        ensures list { self.new.list ≡ self.old.list ++ list_of view.entry }
+        ensures row { Grew T.BITS self.old self.new (list_of view.entry) }
+        ensures clean { IsClean T.BITS self.old → IsClean T.BITS self.new }
+        ensures capacity { self.new.capacity ≡ self.old.capacity }
+    {
+        let _there_is_room = self.extend_from_bitslice(view);
+    }
+
+    // Like `extend_from_within`, where there is room.
+    fn copy_reserved(&mut self, from: usize, upto: usize)
+        requires ordered { from ≤ upto }
+        requires inside { upto ≤ length self.old.list }
+        requires room { length self.old.list + (upto - from) ≤ self.old.capacity }
+        requires fits { length self.old.list + (upto - from) ≤ MAX_BITS }
+        ensures list { self.new.list ≡ self.old.list ++ slice_range self.old.list from upto }
+        ensures row { Grew T.BITS self.old self.new (slice_range self.old.list from upto) }
+        ensures clean { IsClean T.BITS self.old → IsClean T.BITS self.new }
+        ensures capacity { self.new.capacity ≡ self.old.capacity }
+    {
+        let _there_is_room = self.extend_from_within(from..upto);
+    }
+
+    // Appends a bit `more` times, where there is room.
+    fn run_reserved(&mut self, more: usize, bit: bool)
+        requires some { 0 < more }
+        requires room { length self.old.list + more ≤ self.old.capacity }
+        requires fits { length self.old.list + more ≤ MAX_BITS }
+        ensures list { self.new.list ≡ self.old.list ++ replicate more bit }
+        ensures row { Grew T.BITS self.old self.new (replicate more bit) }
+        ensures clean { IsClean T.BITS self.old → IsClean T.BITS self.new }
+        ensures capacity { self.new.capacity ≡ self.old.capacity }
+    {
+        let _there_is_room = self.resize(self.len + more, bit);
+    }
+
     /// Appends the bits of a view `times` times. What was appended is copied, twice as much at each step. It is
     /// refused like `extend_from_bitslice`.
     ///
@@ -108,11 +148,11 @@ impl<T: BitStore, O: BitOrder> BitVec<T, O> {
             return Err(GrowError::TooLong);
         }
         self.reserve(times * len)?;
-        let _there_is_room = self.extend_from_bitslice(view);
+        self.append_reserved(view);
         let mut done = 1;
         while done < times {
             let more = done.min(times - done);
-            let _there_is_room = self.extend_from_within(start..start + more * len);
+            self.copy_reserved(start, start + more * len);
             done += more;
         }
         Ok(())
@@ -140,7 +180,9 @@ impl<T: BitStore, O: BitOrder> BitVec<T, O> {
         }
         self.reserve(more)?;
         for run in runs {
-            let _there_is_room = self.resize(self.len + run.len(), run.bit);
+            if run.len() != 0 {
+                self.run_reserved(run.len(), run.bit);
+            }
         }
         Ok(())
     }

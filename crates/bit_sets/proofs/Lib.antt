@@ -1,0 +1,11 @@
+pub mod CountedSets
+pub mod Left
+pub mod Making
+pub mod Members
+pub mod Merging
+pub mod Packed
+pub mod Places
+pub mod Retaining
+pub mod Runs
+pub mod Searched
+pub mod Sieve

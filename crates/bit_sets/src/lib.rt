@@ -1,0 +1,8 @@
+//! Sets of numbers, one bit each, and sorted numbers in little memory.
+#![tactic(auto)]
+
+mod number_set;
+mod sorted;
+
+pub use number_set::{Merged, NumberSet};
+pub use sorted::{Numbers, SortedError, SortedNumbers};

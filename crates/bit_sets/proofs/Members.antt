@@ -1,6 +1,6 @@
 -- The members of what is made of two sets.
-use Rattle.std.proofs.Common.{◌≡◌, ◌≢◌, ℕ, zero, suc, Bool, true, false, not, ◌&&◌, ◌||◌, List, [], ◌∷◌, ◌++◌, ◌<◌, ◌≤◌, ◌+◌, ◌-◌, ap, get_or, max, replicate, length, subst, sym, ◌∙◌, slice_get, Some, refl, inl, inr, arith}
-use Rattle.std.specs.Prelude.{◌⊎◌, ◌↔◌, if◌then◌else◌}
+use Rattle.std.proofs.Common.{◌≡◌, ◌≢◌, ℕ, zero, suc, Bool, true, false, not, ◌&&◌, ◌||◌, List, [], ◌∷◌, ◌++◌, ◌<◌, ◌≤◌, ◌+◌, ◌-◌, ap, append-nil, get_or, max, min, replicate, length, subst, sym, ◌∙◌, slice_get, None, Option, Some, refl, inl, inr, arith}
+use Rattle.std.specs.Prelude.{◌⊎◌, ◌↔◌, IfNone, IfSome, if◌then◌else◌}
 use Rattle.std.proofs.lemmas.Bool.{cases_lt, true≢false}
 use Rattle.std.proofs.lemmas.Option.{get_or_from_slice_get, slice_get-get_or}
 use Rattle.bit_addressing.specs.Row.{put}
@@ -91,6 +91,17 @@ in_bit xs k = (
   (λ set. elim (cases_lt k (length xs)) [ inl low ↦ slice_get-get_or xs k false low ∙ ap Some set | inr past ↦ absurd (true≢false (sym set ∙ get_or_past xs k false past)) ]),
 )
 
+-- a number that is not in a set
+pub out_bit : (xs : List Bool) (k : ℕ) → (IsIn xs k → ⊥) → get_or xs k false ≡ false
+out_bit xs k out = is_false (get_or xs k false) (λ is. out ((in_bit xs k).1 is))
+  where
+    is_false : (b : Bool) → (b ≡ true → ⊥) → b ≡ false
+    is_false true h = absurd (h refl)
+    is_false false h = refl
+
+pub inside_bound : (xs : List Bool) (k : ℕ) → IsIn xs k → k < length xs
+inside_bound xs k here = elim (cases_lt k (length xs)) [ inl low ↦ low | inr past ↦ absurd (true≢false (sym ((in_bit xs k).0 here) ∙ get_or_past xs k false past)) ]
+
 -- the bits of a range that was filled, and those outside
 range_bit : (xs : List Bool) (a b : ℕ) (bit : Bool) (k : ℕ) → a ≤ b → b ≤ length xs → a ≤ k → k < b → get_or (put xs a (replicate (b - a) bit)) k false ≡ bit
 range_bit xs a b bit k ordered inside low high =
@@ -157,6 +168,29 @@ toggled xs ys zs n all is =
     let more = length-replicate (n - length xs) false in
     let size : length zs ≡ length (filled_up xs n) = ap length is ∙ length-combined (λ x y. if x then not y else y) (filled_up xs n) ys in
     toggled_each xs ys zs (omega arith) (combined_all (λ x y. if x then not y else y) xs ys zs n is)
+
+-- the same, of a list that is not longer
+pub exchanged : (xs ys zs : List Bool) → length ys ≤ length xs → zs ≡ xor_of xs ys → (k : ℕ) → IsIn zs k ↔ ((IsIn xs k × (IsIn ys k → ⊥)) ⊎ (IsIn ys k × (IsIn xs k → ⊥)))
+exchanged xs ys zs within is =
+    let none : length ys - length xs ≡ 0 = omega arith in
+    let same : filled_up xs (length ys) ≡ xs = ap (λ n. xs ++ replicate n false) none ∙ append-nil xs in
+    toggled xs ys zs (length ys) refl (is ∙ ap (λ l. xor_of l ys) (sym same))
+
+-- the numbers below a bound that are not in a set
+pub complemented : (xs ys zs : List Bool) (n : ℕ) → ys ≡ replicate n true → ((k : ℕ) → IsIn zs k ↔ (IsIn ys k × (IsIn xs k → ⊥))) → (k : ℕ) → IsIn zs k ↔ ((k < n) × (IsIn xs k → ⊥))
+complemented xs ys zs n is out k = (
+  (λ h. let w = (out k).0 h in let low = inside_bound ys k w.0 in let size = ap length is in let all = length-replicate n true in (omega arith, w.1)),
+  (λ w. (out k).1 ((in_bit ys k).1 (ap (λ l. get_or l k false) is ∙ get_or-replicate n k true false w.0), w.1)),
+)
+
+-- what is not found up to an index is not in the set up to a number
+pub none_upto : (xs : List Bool) (limit upto before : ℕ) (r : Option ℕ) → length xs ≤ limit → before ≡ min upto limit + 1 → IfNone r ((j : ℕ) → j < before → j < length xs → slice_get xs j ≡ Some false) → IfNone r ((k : ℕ) → k ≤ upto → IsIn xs k → ⊥)
+none_upto xs limit upto before (Some i) few is h = h
+none_upto xs limit upto before None few is h = λ k most here. let low = inside_bound xs k here in let absent = h k (omega arith) low in cc
+
+pub none_between : (xs : List Bool) (limit upto before : ℕ) (r : Option ℕ) → length xs ≤ limit → before ≡ min upto limit + 1 → IfSome r (λ i. (j : ℕ) → i < j → j < before → j < length xs → slice_get xs j ≡ Some false) → IfSome r (λ i. (k : ℕ) → i < k → k ≤ upto → IsIn xs k → ⊥)
+none_between xs limit upto before None few is h = h
+none_between xs limit upto before (Some i) few is h = λ k above most here. let low = inside_bound xs k here in let absent = h k above (omega arith) low in cc
 
 -- the text of a set whose numbers were written one after another
 pub set_written : (xs : List Bool) (first : ℕ) (rest : List ℕ) → ones_of xs ≡ first ∷ rest → ((123 ∷ decimal first) ++ flat_map (λ k. 44 ∷ 32 ∷ decimal k) rest) ++ 125 ∷ [] ≡ set_text xs

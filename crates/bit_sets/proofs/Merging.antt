@@ -16,7 +16,7 @@ use Rattle.bit_sets.specs.Merged.{made_by, merged_left, merged_list}
 use Rattle.bit_sets.specs.NumberSet.{IsIn}
 use Rattle.bit_sets.specs.declared.number_set.merged.Merging.{Merging}
 use Rattle.bit_sets.specs.declared.number_set.merged.Merging.TheVariants.{Either, Both, LeftAlone, OneAlone}
-use Rattle.bit_sets.proofs.Members.{in_bit}
+use Rattle.bit_sets.proofs.Members.{in_bit, out_bit}
 
 pub length_merged : (merging : Merging) (xs ys : List Bool) → length (merged_list merging xs ys) ≡ max (length xs) (length ys)
 length_merged merging xs ys =
@@ -36,18 +36,11 @@ none_made Both = refl
 none_made LeftAlone = refl
 none_made OneAlone = refl
 
-not_in : (xs : List Bool) (k : ℕ) → (IsIn xs k → ⊥) → get_or xs k false ≡ false
-not_in xs k out = clear (get_or xs k false) (λ e. out ((in_bit xs k).1 e))
-  where
-    clear : (b : Bool) → (b ≡ true → ⊥) → b ≡ false
-    clear true h = absurd (h refl)
-    clear false h = refl
-
 -- a number in neither set is not given
 neither : (merging : Merging) (xs ys : List Bool) (k : ℕ) → ((IsIn xs k ⊎ IsIn ys k) → ⊥) → get_or (merged_list merging xs ys) k false ≡ false
 neither merging xs ys k out = elim (cases_lt k (max (length xs) (length ys))) [
   | inl inside ↦
-      merged_bit merging xs ys k inside ∙ ap (λ b. made_by merging b (get_or ys k false)) (not_in xs k (λ h. out (inl h))) ∙ ap (made_by merging false) (not_in ys k (λ h. out (inr h))) ∙ none_made merging
+      merged_bit merging xs ys k inside ∙ ap (λ b. made_by merging b (get_or ys k false)) (out_bit xs k (λ h. out (inl h))) ∙ ap (made_by merging false) (out_bit ys k (λ h. out (inr h))) ∙ none_made merging
   | inr past ↦ (let size = length_merged merging xs ys in get_or_past (merged_list merging xs ys) k false (omega arith))
 ]
 

@@ -1,6 +1,7 @@
 -- The numbers of a set that a function keeps, and those that an iterator gives.
-use Rattle.std.proofs.Common.{◌≡◌, ◌≢◌, ℕ, zero, suc, ◌+◌, ◌<◌, ◌≤◌, Bool, true, false, cond, List, [], ◌∷◌, ◌++◌, get_or, length, max, refl, sym, ◌∙◌, ap, subst, inl, inr, arith, append-nil}
+use Rattle.std.proofs.Common.{◌≡◌, ◌≢◌, ℕ, zero, suc, ◌+◌, ◌<◌, ◌≤◌, Bool, true, false, cond, List, [], ◌∷◌, ◌++◌, get_or, length, max, refl, sym, ◌∙◌, ap, subst, inl, inr, arith, append-nil, Option}
 use Rattle.std.specs.Prelude.{◌⊎◌, ◌↔◌, Contains}
+use Rattle.std.specs.Iterator.{Yields}
 use Rattle.std.specs.List.{filter, items_where_true, range_with_len}
 use Rattle.std.proofs.lemmas.Bool.{cases_eq, cases_lt, true≢false}
 use Rattle.std.proofs.lemmas.List.{get_or_past}
@@ -10,7 +11,6 @@ use Rattle.bit_slice.proofs.Places.{ranges_joined}
 use Rattle.bit_slice.specs.Places.{ones_of}
 use Rattle.bit_sets.specs.InTurn.{ResultsInTurn, HasTaken, IsRefused, bound_of}
 use Rattle.bit_sets.specs.NumberSet.{IsIn}
-use Rattle.bit_sets.proofs.Members.{in_bit}
 
 -- ---- calls in turn
 
@@ -120,17 +120,6 @@ module _ {F : Type 0} (step : F → ℕ → Bool → F → Type 0) where
       pub retained_more : (then : List Bool) (index : ℕ) → index ≡ number + 1 → length then ≡ length new → ((k : ℕ) → k ≢ number → get_or then k false ≡ get_or new k false) → get_or then number false ≡ given → HasRetained f old next then index
       retained_more then index at size others bit = let same : suc number ≡ index = omega arith in subst (HasRetained f old next then) same (retained_next then size others bit)
 
--- a number that is not in a set
-pub out_bit : (xs : List Bool) (k : ℕ) → (IsIn xs k → ⊥) → get_or xs k false ≡ false
-out_bit xs k out = is_false (get_or xs k false) (λ is. out ((in_bit xs k).1 is))
-  where
-    is_false : (b : Bool) → (b ≡ true → ⊥) → b ≡ false
-    is_false true h = absurd (h refl)
-    is_false false h = refl
-
-pub inside_bound : (xs : List Bool) (k : ℕ) → IsIn xs k → k < length xs
-inside_bound xs k here = elim (cases_lt k (length xs)) [ inl low ↦ low | inr past ↦ absurd (true≢false (sym ((in_bit xs k).0 here) ∙ get_or_past xs k false past)) ]
-
 -- ---- numbers that are put in
 
 -- one number more
@@ -163,3 +152,8 @@ refused_at old now new numbers number too_long was same past why = record {
   past = let long = ap length same in omega arith;
   why = why;
 }
+
+-- the items before the last ones
+pub yields_front : {S A : Type 0} (steps : S → Option A → S → Type 0) (s : S) (xs ys : List A) (t : S) → Yields steps s (xs ++ ys) t → (m : S) × Yields steps s xs m
+yields_front steps s [] ys t run = (s, refl)
+yields_front steps s (x ∷ xs) ys t run = let more = yields_front steps run.0 xs ys t run.2 in (more.0, (run.0, run.1, more.1))

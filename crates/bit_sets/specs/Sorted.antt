@@ -92,6 +92,11 @@ pub record IsNextFrom (n w : ℕ) (high low : List Bool) (at place : ℕ) : Type
   pub reached : place ≤ length high
   pub before : ones_before high place ≡ at
 
+-- the first `end` numbers have their ones before index `upto`, and the others from there on
+pub record IsUptoNumber (high : List Bool) (end upto : ℕ) : Type 0 where
+  pub reached : upto ≤ length high
+  pub before : ones_before high upto ≡ end
+
 -- of 2, 3, 9 and 9 one bit is low
 abbrev four : List ℕ
 four = 2 ∷ 3 ∷ 9 ∷ 9 ∷ []

@@ -4,5 +4,5 @@
 mod number_set;
 mod sorted;
 
-pub use number_set::{Merged, NumberSet};
+pub use number_set::{Merged, NumberSet, SetRange};
 pub use sorted::{Numbers, SortedError, SortedNumbers};

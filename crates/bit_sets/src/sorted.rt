@@ -1,5 +1,5 @@
 //! Ascending numbers in little more memory than their gaps need.
-ghost use Rattle.std.specs.Prelude.{◌≡◌, ℕ, ◌+◌, ◌*◌, ◌/◌, ◌^◌, ◌<◌, ◌≤◌, ◌↔◌, All, IsTrue, length, slice_get};
+ghost use Rattle.std.specs.Prelude.{◌≡◌, ℕ, ◌+◌, ◌-◌, ◌*◌, ◌/◌, ◌^◌, ◌<◌, ◌≤◌, ◌↔◌, All, IsTrue, length, slice_get};
 ghost use Rattle.std.specs.List.Sorted.{IsNonDecreasing};
 ghost use Rattle.bit_addressing.specs.declared.length.TheConstants.{MAX_BITS};
 ghost use Rattle.bit_sets.specs.Sorted.{last_of, low_part, low_width};
@@ -8,6 +8,7 @@ mod errors;
 mod iter;
 mod making;
 mod search;
+mod traits;
 
 use bit_containers::{BitList, BitVec, Lsb0};
 use bit_ranks::Ranks;
@@ -64,6 +65,20 @@ impl SortedNumbers {
         ensures { IsTrue result ↔ (length self.now ≡ 0) }
     {
         self.len() == 0
+    }
+
+    /// The first number, the smallest. None exactly where there is none.
+    pub fn first(&self) -> Option<u64>
+        ensures { result ≡ slice_get self.now 0 }
+    {
+        self.get(0)
+    }
+
+    /// The last number, the greatest. None exactly where there is none.
+    pub fn last(&self) -> Option<u64>
+        ensures { result ≡ slice_get self.now (length self.now - 1) }
+    {
+        self.get(self.len().saturating_sub(1))
     }
 
     /// How many bits the two lists take, without the counts of the ones: at most `w + 2` for each number, where

@@ -1,10 +1,13 @@
-//! Sets of numbers and sorted numbers, each call once; callers in `callers.rt`.
+//! Sets of numbers, each call once, and beside plain loops; callers in `callers.rt`.
 mod callers;
+mod loops;
+mod many;
 mod merged;
 mod sorted;
 
 use crate::{check, ok};
 use bit_addressing::GrowError;
+use bit_containers::BitList;
 use bit_sets::NumberSet;
 use std::process::Abort;
 
@@ -14,107 +17,123 @@ fn has(rt: &(impl Abort + AllocGlobal), set: &NumberSet, numbers: &[usize]) {
     check(rt, members.as_slice() == numbers);
 }
 
-// A set of those of these numbers that are below a bound.
-fn set_of(rt: &(impl Abort + AllocGlobal), bound: usize, numbers: &[usize]) -> NumberSet {
-    let mut set = ok(rt, NumberSet::new(rt.alloc(), bound));
+// The set of these numbers.
+fn set_of(rt: &(impl Abort + AllocGlobal), numbers: &[usize]) -> NumberSet {
+    let mut set = NumberSet::new(rt.alloc());
     for number in numbers {
-        if *number < set.bound() {
-            set.insert(*number);
-        }
+        let _new = ok(rt, set.insert(*number));
     }
     set
 }
 
 #[test]
 fn sets_of_numbers(rt: HostRuntime) {
-    let mut small = ok(&rt, NumberSet::new(rt.alloc(), 200));
-    assert!(rt; small.bound() == 200);
-    small.insert(3);
-    small.insert(64);
-    small.insert(65);
-    small.insert(199);
-    check(&rt, small.contains(64));
+    let mut small = NumberSet::new(rt.alloc());
+    check(&rt, ok(&rt, small.insert(3)));
+    check(&rt, ok(&rt, small.insert(199)));
+    check(&rt, !ok(&rt, small.insert(3)));
+    check(&rt, small.bound() == 200);
+    check(&rt, small.contains(199));
     check(&rt, !small.contains(0));
     check(&rt, !small.contains(200));
-    check(&rt, small.count() == 4);
-    check(&rt, small.next_from(66) == Some(199));
-    small.remove(3);
-    has(&rt, &small, &[64, 65, 199]);
+    check(&rt, small.len() == 2);
+    check(&rt, small.remove(3));
+    check(&rt, !small.remove(3));
+    check(&rt, !small.remove(500));
+    has(&rt, &small, &[199]);
 }
 
 #[test]
-fn unions(rt: HostRuntime) {
-    let small = set_of(&rt, 200, &[64, 65, 199]);
-    let even = set_of(&rt, 200, &[0, 64, 128]);
-    assert!(rt; small.bound() == 200);
-    assert!(rt; even.bound() == 200);
-    check(&rt, even.next_from(129) == None);
-    has(&rt, &small.union(even), &[0, 64, 65, 128, 199]);
+fn numbers_within_the_bound(rt: HostRuntime) {
+    let mut set = ok(&rt, NumberSet::with_bound(rt.alloc(), 100));
+    assert!(rt; set.bound() == 100);
+    check(&rt, set.insert_within(99));
+    ok(&rt, set.raise_bound(300));
+    check(&rt, set.bound() == 300);
+    has(&rt, &set, &[99]);
 }
 
 #[test]
-fn differences(rt: HostRuntime) {
-    let both = set_of(&rt, 200, &[0, 64, 65, 128, 199]);
-    let few = set_of(&rt, 200, &[65, 66]);
-    assert!(rt; both.bound() == 200);
-    assert!(rt; few.bound() == 200);
-    has(&rt, &both.difference(few), &[0, 64, 128, 199]);
+fn numbers_toggled(rt: HostRuntime) {
+    let mut set = set_of(&rt, &[2, 5]);
+    check(&rt, !ok(&rt, set.toggle(5)));
+    check(&rt, ok(&rt, set.toggle(70)));
+    has(&rt, &set, &[2, 70]);
+    check(&rt, set.toggle(usize::MAX) == Err(GrowError::TooLong));
 }
 
 #[test]
-fn intersections(rt: HostRuntime) {
-    let rest = set_of(&rt, 200, &[0, 64, 128, 199]);
-    let last = set_of(&rt, 200, &[199, 1]);
-    assert!(rt; rest.bound() == 200);
-    assert!(rt; last.bound() == 200);
-    has(&rt, &rest.intersection(last), &[199]);
+fn numbers_at_both_ends(rt: HostRuntime) {
+    let mut set = set_of(&rt, &[2, 64, 65, 199]);
+    check(&rt, set.first() == Some(2));
+    check(&rt, set.last() == Some(199));
+    check(&rt, set.pop_first() == Some(2));
+    check(&rt, set.pop_last() == Some(199));
+    has(&rt, &set, &[64, 65]);
+    check(&rt, set_of(&rt, &[]).pop_first().is_none());
+    check(&rt, set_of(&rt, &[]).pop_last().is_none());
 }
 
 #[test]
-fn sets_that_grow(rt: HostRuntime) {
-    let mut low = ok(&rt, NumberSet::from_numbers(rt.alloc(), 10, &[2, 7, 2]));
-    check(&rt, ok(&rt, low.insert_growing(70)));
-    check(&rt, !ok(&rt, low.insert_growing(7)));
-    assert!(rt; low.bound() == 71);
-    has(&rt, &low, &[2, 7, 70]);
+fn numbers_searched(rt: HostRuntime) {
+    let set = set_of(&rt, &[2, 64, 199]);
+    check(&rt, set.next_at_least(3) == Some(64));
+    check(&rt, set.next_at_least(200).is_none());
+    check(&rt, set.previous_at_most(64) == Some(64));
+    check(&rt, set.previous_at_most(usize::MAX) == Some(199));
+    check(&rt, set.previous_at_most(1).is_none());
+}
+
+#[test]
+fn sets_from_slices(rt: HostRuntime) {
+    let low = ok(&rt, NumberSet::from_numbers(rt.alloc(), 10, &[2, 7, 2]));
+    check(&rt, low.bound() == 10);
+    has(&rt, &low, &[2, 7]);
 }
 
 #[test]
 fn sets_that_are_united(rt: HostRuntime) {
-    let mut low = set_of(&rt, 71, &[2, 7, 70]);
-    let high = set_of(&rt, 200, &[7, 150]);
-    ok(&rt, low.unite(&high));
-    assert!(rt; low.bound() == 200);
+    let mut low = set_of(&rt, &[2, 7, 70]);
+    let high = set_of(&rt, &[7, 150]);
+    ok(&rt, low.union_with(&high));
     has(&rt, &low, &[2, 7, 70, 150]);
     check(&rt, high.is_subset(&low));
     check(&rt, low.is_superset(&high));
     check(&rt, !low.is_subset(&high));
-    check(&rt, low.count_intersection(&high) == 2);
 }
 
 #[test]
 fn sets_in_place(rt: HostRuntime) {
-    let high = set_of(&rt, 200, &[7, 150]);
-    let mut low = set_of(&rt, 200, &[2, 7, 70, 150]);
-    low.subtract(&high);
+    let high = set_of(&rt, &[7, 150]);
+    let mut low = set_of(&rt, &[2, 7, 70, 150]);
+    low.difference_with(&high);
+    has(&rt, &low, &[2, 70]);
     check(&rt, low.is_disjoint(&high));
-    check(&rt, low.first() == Some(2));
-    check(&rt, low.last() == Some(70));
-    check(&rt, low.iter().next_back() == Some(70));
-    low.intersect(&high);
+    ok(&rt, low.symmetric_difference_with(&high));
+    has(&rt, &low, &[2, 7, 70, 150]);
+    low.intersect_with(&high);
+    has(&rt, &low, &[7, 150]);
+    low.clear();
     check(&rt, low.is_empty());
-    check(&rt, low.first().is_none());
-    check(&rt, low.last().is_none());
 }
 
 #[test]
 fn sets_of_bits(rt: HostRuntime) {
-    let high = set_of(&rt, 200, &[7, 150]);
-    let mut again = NumberSet::from_bits(high.into_bits());
-    check(&rt, again.contains(150));
-    check(&rt, again.count() == 2);
-    again.clear();
-    check(&rt, again.is_empty());
+    let high = set_of(&rt, &[7, 150]);
+    check(&rt, high.as_bits().len() == 151);
+    let again = NumberSet::from_bits(high.into_bits());
+    has(&rt, &again, &[7, 150]);
+}
+
+#[test]
+fn numbers_in_a_loop(rt: HostRuntime) {
+    let set = set_of(&rt, &[7, 150, 9]);
+    let mut sum = 0;
+    for number in &set {
+        sum = number.max(sum);
+    }
+    check(&rt, sum == 150);
+    check(&rt, set.iter().next_back() == Some(150));
 }
 
 #[test]
@@ -123,17 +142,18 @@ fn primes(rt: HostRuntime) {
     has(&rt, &primes, &[2, 3, 5, 7, 11, 13, 17, 19, 23, 29]);
     for (bound, count) in [(1000, 168), (0, 0), (1, 0), (2, 0)] {
         let primes = ok(&rt, NumberSet::primes(rt.alloc(), bound));
-        check(&rt, primes.count() == count);
+        check(&rt, primes.len() == count);
     }
 }
 
 #[test]
 fn a_bound_that_is_too_high(rt: HostRuntime) {
-    check(
-        &rt,
-        matches!(
-            NumberSet::new(rt.alloc(), usize::MAX),
-            Err(GrowError::TooLong)
-        ),
-    );
+    let most = usize::MAX;
+    let refused = NumberSet::with_bound(rt.alloc(), most);
+    check(&rt, matches!(refused, Err(GrowError::TooLong)));
+    let mut set = set_of(&rt, &[3]);
+    check(&rt, set.insert(most) == Err(GrowError::TooLong));
+    check(&rt, set.raise_bound(most) == Err(GrowError::TooLong));
+    check(&rt, set.insert_range(0..most) == Err(GrowError::TooLong));
+    has(&rt, &set, &[3]);
 }

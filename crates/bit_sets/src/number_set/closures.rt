@@ -35,7 +35,7 @@ impl NumberSet {
             × (ones_of self.new ≡ items_where_true results (ones_of self.old)) }
     {
         let mut from = 0;
-        while let Some(number) = self.next_from(from) {
+        while let Some(number) = self.next_at_least(from) {
             if !f(number) {
                 self.remove(number);
             }

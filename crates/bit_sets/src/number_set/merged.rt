@@ -52,7 +52,7 @@ impl NumberSet {
     ghost use Rattle.bit_sets.specs.Merged.{merged_left, merged_list};
 
     /// The numbers of either set, ascending, each once. Takes no memory.
-    pub fn iter_union<'a>(&'a self, other: &'a Self) -> Merged<'a>
+    pub fn union<'a>(&'a self, other: &'a Self) -> Merged<'a>
         ensures list { merged_left result ≡ ones_of (or_of (filled_up self.now (length other.now)) other.now) }
         ensures runs { YieldsInOrder (YieldsFirst merged_left) merged_left }
     {
@@ -60,7 +60,7 @@ impl NumberSet {
     }
 
     /// The numbers of both sets, ascending. Takes no memory.
-    pub fn iter_intersection<'a>(&'a self, other: &'a Self) -> Merged<'a>
+    pub fn intersection<'a>(&'a self, other: &'a Self) -> Merged<'a>
         ensures list { merged_left result ≡ ones_of (and_of (filled_up self.now (length other.now)) other.now) }
         ensures runs { YieldsInOrder (YieldsFirst merged_left) merged_left }
     {
@@ -68,7 +68,7 @@ impl NumberSet {
     }
 
     /// The numbers of this set that are not in the other, ascending. Takes no memory.
-    pub fn iter_difference<'a>(&'a self, other: &'a Self) -> Merged<'a>
+    pub fn difference<'a>(&'a self, other: &'a Self) -> Merged<'a>
         ensures list { merged_left result ≡ ones_of (and_not_of (filled_up self.now (length other.now)) other.now) }
         ensures runs { YieldsInOrder (YieldsFirst merged_left) merged_left }
     {
@@ -76,7 +76,7 @@ impl NumberSet {
     }
 
     /// The numbers of exactly one of the sets, ascending. Takes no memory.
-    pub fn iter_symmetric_difference<'a>(&'a self, other: &'a Self) -> Merged<'a>
+    pub fn symmetric_difference<'a>(&'a self, other: &'a Self) -> Merged<'a>
         ensures list { merged_left result ≡ ones_of (xor_of (filled_up self.now (length other.now)) other.now) }
         ensures runs { YieldsInOrder (YieldsFirst merged_left) merged_left }
     {
@@ -108,8 +108,8 @@ impl<'a> Merged<'a> {
             × ((k : ℕ) → from ≤ k → k < i → (IsIn self.now.left.now k ⊎ IsIn self.now.right.now k) → ⊥)) }
         ensures below { IfSome result (λ i. i < MAX_BITS) }
     {
-        let right = self.right.next_from(from);
-        let Some(least) = self.left.next_from(from) else {
+        let right = self.right.next_at_least(from);
+        let Some(least) = self.left.next_at_least(from) else {
             return right;
         };
         match right {

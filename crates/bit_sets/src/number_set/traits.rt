@@ -1,11 +1,16 @@
 //! The impls of std's traits for the set.
-ghost use Rattle.std.specs.Prelude.{◌≡◌, ◌↔◌, IsTrue, refl, Some};
+ghost use Rattle.std.specs.Prelude.{◌≡◌, ◌≤◌, ◌<◌, ◌↔◌, ℕ, All, IsTrue, length, refl, Some};
 ghost use Rattle.std.specs.Cmp.{partial_equiv_from_equiv};
-ghost use Rattle.bit_slice.specs.Operators.{bits_cmp};
-ghost use Rattle.bit_slice.specs.Comparisons.{bits_equal, bits_equiv, bits_total, bits_partial, bits_tie, bits_fed, bits_alike};
-ghost use Rattle.bit_sets.specs.NumberSet.{set_text};
+ghost use Rattle.std.specs.Iterator.{YieldsFirst, YieldsLast};
+ghost use Rattle.std.specs.Iterator.Runs.{YieldsInOrder, YieldsInReverse};
+ghost use Rattle.bit_slice.specs.Indices.{ones_left};
+ghost use Rattle.bit_slice.specs.Places.{ones_of};
+ghost use Rattle.bit_sets.specs.Compared.{numbers_alike, numbers_cmp, numbers_equiv, numbers_fed, numbers_partial, numbers_tie, numbers_total, same_numbers, IsLeastBound};
+ghost use Rattle.bit_sets.specs.NumberSet.{IsIn, set_text};
 
 use crate::number_set::NumberSet;
+use bit_addressing::{BitOrder, BitStore, Lsb0};
+use bit_containers::{BitList, IterOnes};
 use std::alloc::AllocError;
 use std::cmp::Ordering;
 use std::fmt;
@@ -26,28 +31,28 @@ impl Clone for NumberSet {
 }
 
 impl PartialEq for NumberSet {
-    ghost eq = { bits_equal };
+    ghost eq = { same_numbers };
 
-    ghost laws = { partial_equiv_from_equiv bits_equiv };
+    ghost laws = { partial_equiv_from_equiv numbers_equiv };
 
-    /// Whether both have the same bound and the same numbers. `has_same_numbers` leaves the bounds out.
-    #[tactic(auto, using(bit_slice::specs::Comparisons::equal_lists, std::proofs::lemmas::Bool::Decides::same_from_decides))]
+    /// Whether both have the same numbers, whatever their bounds.
     fn eq(&self, other: &Self) -> bool
-        ensures value { result ≡ bits_equal self.now other.now }
-        ensures sets { IsTrue result ↔ (self.now ≡ other.now) }
+        ensures value { result ≡ same_numbers self.now other.now }
+        ensures numbers { IsTrue result ↔ (ones_of self.now ≡ ones_of other.now) }
+        ensures members { IsTrue result ↔ ((k : ℕ) → IsIn self.now k ↔ IsIn other.now k) }
     {
-        self.bits == other.bits
+        self.has_same_numbers(other)
     }
 }
 
 impl Eq for NumberSet {
-    ghost laws = { bits_equiv };
+    ghost laws = { numbers_equiv };
 }
 
 impl PartialOrd for NumberSet {
-    ghost partial_cmp = { λ a b. Some (bits_cmp a b) };
+    ghost partial_cmp = { λ a b. Some (numbers_cmp a b) };
 
-    ghost laws = { bits_partial };
+    ghost laws = { numbers_partial };
 
     /// Like `cmp`.
     fn partial_cmp(&self, other: &Self) -> Option<Ordering> {
@@ -55,30 +60,76 @@ impl PartialOrd for NumberSet {
     }
 }
 
-impl Ord for NumberSet {
-    ghost cmp = { bits_cmp };
+impl NumberSet {
+    // Whether each number of either set is in both.
+    fn has_same_numbers(&self, other: &Self) -> bool
+        ensures { IsTrue result ↔ ((k : ℕ) → IsIn self.now k ↔ IsIn other.now k) }
+    {
+        self.is_subset(other) && self.is_superset(other)
+    }
 
-    ghost total = { bits_total };
+    // The least bound above each number of the set.
+    fn least_bound(&self) -> usize
+        ensures least { IsLeastBound self.now result }
+        ensures inside { result ≤ length self.now }
+    {
+        match self.last() {
+            None => 0,
+            Some(number) => number + 1,
+        }
+    }
+}
+
+impl Ord for NumberSet {
+    ghost cmp = { numbers_cmp };
+
+    ghost total = { numbers_total };
 
     ghost matches_partial_cmp = { λ a b. refl };
 
-    ghost matches_eq = { bits_tie };
+    ghost matches_eq = { numbers_tie };
 
-    /// The least number that is in exactly one of the sets decides, if it is below both bounds: the set that has
-    /// it is the greater. Where there is none, the set with the lower bound is the smaller.
+    /// How the ascending lists of the numbers are ordered, whatever the bounds: the first numbers that differ decide,
+    /// and where none do the shorter list is the smaller. It compares whole words.
     fn cmp(&self, other: &Self) -> Ordering {
-        self.bits.cmp(&other.bits)
+        let (end, other_end) = (self.least_bound(), other.least_bound());
+        let both = end.min(other_end);
+        // At the first bit that differs, the set that has the number has the smaller one there.
+        let part = other.bits.as_bitslice().get_range(..both);
+        match part.cmp_bits(self.bits.as_bitslice().get_range(..both)) {
+            Ordering::Equal => end.cmp(&other_end),
+            order => order,
+        }
     }
 }
 
 impl Hash for NumberSet {
-    ghost hash_input = { bits_fed };
+    ghost hash_input = { numbers_fed };
 
-    ghost respects_eq = { bits_alike.fed };
+    ghost respects_eq = { numbers_alike.fed };
 
-    /// Feeds the hash of the set's bits.
+    /// Feeds how many numbers there are, and then each, ascending.
     fn hash<H: Hasher>(&self, state: &mut H) {
-        self.bits.hash(state);
+        state.write_usize(self.len());
+        for number in self.iter() {
+            state.write_usize(number);
+        }
+    }
+}
+
+impl<'a> IntoIterator for &'a NumberSet {
+    type Item = usize;
+
+    type IntoIter = IterOnes<'a, usize, Lsb0>;
+
+    ghost into_iter_gives = { λ s r. (ones_left r ≡ ones_of s.now)
+        × All (λ number. number < length s.now) (ones_left r)
+        × YieldsInOrder (YieldsFirst (ones_left {W = ⟦<usize as BitStore>⟧} {P = ⟦<Lsb0 as BitOrder>⟧})) ones_left
+        × YieldsInReverse (YieldsLast (ones_left {W = ⟦<usize as BitStore>⟧} {P = ⟦<Lsb0 as BitOrder>⟧})) ones_left };
+
+    /// Like `iter`.
+    fn into_iter(self) -> IterOnes<'a, usize, Lsb0> {
+        self.iter()
     }
 }
 
@@ -100,5 +151,12 @@ impl fmt::Display for NumberSet {
             write!(f, ", {number}")?;
         }
         f.write_str("}")
+    }
+}
+
+/// The text of `Display`.
+impl fmt::Debug for NumberSet {
+    fn fmt<W: fmt::Write>(&self, f: &mut fmt::Formatter<W>) -> fmt::Result {
+        write!(f, "{self}")
     }
 }

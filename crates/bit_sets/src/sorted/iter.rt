@@ -1,17 +1,18 @@
 //! Sorted numbers one after another.
-ghost use Rattle.std.specs.Iterator.{YieldsFirst};
-ghost use Rattle.std.specs.Iterator.Runs.{YieldsInOrder};
-ghost use Rattle.std.specs.Prelude.{◌≡◌, length, IfSome, Some};
+ghost use Rattle.std.specs.Iterator.{YieldsFirst, YieldsLast};
+ghost use Rattle.std.specs.Iterator.Runs.{YieldsInOrder, YieldsInReverse};
+ghost use Rattle.std.specs.Prelude.{◌≡◌, ◌≤◌, drop, length, slice_get, IfSome, Some};
 ghost use Rattle.bit_slice.specs.BitSlice.{len_of, list_of};
-ghost use Rattle.bit_sets.specs.Sorted.{IsNextFrom};
+ghost use Rattle.bit_slice.specs.Places.{ones_of};
+ghost use Rattle.bit_sets.specs.Sorted.{IsNextFrom, IsUptoNumber, number_at};
 
 use crate::sorted::SortedNumbers;
 use bit_containers::{BitList, Lsb0};
 use bit_slice::BitSlice;
-use std::iter::{ExactSizeIterator, FusedIterator, Iterator};
+use std::iter::{DoubleEndedIterator, ExactSizeIterator, FusedIterator, Iterator};
 
-/// Sorted numbers, ascending, each once. Its length is known, and after the first None there is no more. It takes no
-/// memory.
+/// Sorted numbers, ascending, from both ends, each once. Its length is known, and after the first None there is no
+/// more. It takes no memory.
 #[derive(Drop)]
 pub struct Numbers<'a> {
     high: BitSlice<'a, u64, Lsb0>,
@@ -22,17 +23,24 @@ pub struct Numbers<'a> {
     at: usize,
     // An index in `high` from which on the first one is that of this number.
     place: usize,
+    // The index after the last number that is left.
+    end: usize,
+    // An index in `high` before which the last one is that of the number before `end`.
+    upto: usize,
     ghost left: { IsNextFrom len width (list_of high) (list_of low) at place },
+    ghost last: { IsUptoNumber (list_of high) end upto },
+    ghost ordered: { (at ≤ end) × (end ≤ len) },
     ghost whole: { (len_of high ≡ length (list_of high)) × (len_of low ≡ length (list_of low)) },
 }
 
 impl SortedNumbers {
     ghost use Rattle.bit_sets.specs.Numbers.{numbers_left};
 
-    /// The numbers, ascending. Each is searched from the one before on.
+    /// The numbers, ascending, from both ends. Each is searched from the one before on.
     pub fn iter(&self) -> Numbers<'_>
         ensures list { numbers_left result ≡ self.now }
         ensures runs { YieldsInOrder (YieldsFirst numbers_left) numbers_left }
+        ensures runs_back { YieldsInReverse (YieldsLast numbers_left) numbers_left }
     {
         Numbers {
             high: self.high.as_bitslice(),
@@ -41,7 +49,52 @@ impl SortedNumbers {
             len: self.len,
             at: 0,
             place: 0,
+            end: self.len,
+            upto: self.high.len(),
         }
+    }
+
+    /// The numbers from index `k` on, like `iter`; the first takes one `select1`.
+    ///
+    /// ```text
+    /// of 2, 3, 9, 9:  numbers.iter_from(1) gives 3, 9, 9
+    /// ```
+    pub fn iter_from(&self, k: usize) -> Numbers<'_>
+        ensures list { numbers_left result ≡ drop k self.now }
+        ensures runs { YieldsInOrder (YieldsFirst numbers_left) numbers_left }
+        ensures runs_back { YieldsInReverse (YieldsLast numbers_left) numbers_left }
+    {
+        let upto = self.high.len();
+        let (at, place) = match self.high.select1(k) {
+            None => (self.len, upto),
+            Some(place) => (k, place),
+        };
+        Numbers {
+            high: self.high.as_bitslice(),
+            low: self.low.as_bitslice(),
+            width: self.width,
+            len: self.len,
+            at,
+            place,
+            end: self.len,
+            upto,
+        }
+    }
+}
+
+impl<'a> Numbers<'a> {
+    // Number `k`, whose one is at `place`.
+    #[inline(always)]
+    fn number(&self, k: usize, place: usize) -> u64
+        requires { Some place ≡ slice_get (ones_of (list_of self.now.high)) k }
+        ensures { result ≡ number_at self.now.width (list_of self.now.high) (list_of self.now.low) k }
+    {
+        let from = k * self.width as usize;
+        let low = self
+            .low
+            .get_range(from..from + self.width as usize)
+            .load_be();
+        (((place - k) as u64) << self.width) + low
     }
 }
 
@@ -58,16 +111,14 @@ impl<'a> Iterator for Numbers<'a> {
 
     /// The first number that is left. None exactly where none is.
     fn next(&mut self) -> Option<u64> {
+        if self.at == self.end {
+            return None;
+        }
         let high = self.high;
         match high.next_one(self.place) {
             None => None,
             Some(place) => {
-                let from = self.at * self.width as usize;
-                let low = self
-                    .low
-                    .get_range(from..from + self.width as usize)
-                    .load_be();
-                let number = (((place - self.at) as u64) << self.width) + low;
+                let number = self.number(self.at, place);
                 self.at += 1;
                 self.place = place + 1;
                 Some(number)
@@ -81,15 +132,40 @@ impl<'a> Iterator for Numbers<'a> {
         ensures upper { IfSome result.1 (UpTo (at_most (length (numbers_left self.now)))) }
         ensures value { result ≡ (length (numbers_left self.now), Some (length (numbers_left self.now))) }
     {
-        let count = self.len - self.at;
+        let count = self.end - self.at;
         (count, Some(count))
+    }
+}
+
+impl<'a> DoubleEndedIterator for Numbers<'a> {
+    ghost use Rattle.std.specs.Iterator.{YieldsLast};
+    ghost use Rattle.bit_sets.specs.Numbers.{numbers_left};
+
+    ghost next_back_gives = { YieldsLast numbers_left };
+
+    /// The last number that is left. None exactly where none is.
+    fn next_back(&mut self) -> Option<u64> {
+        if self.at == self.end {
+            return None;
+        }
+        let high = self.high;
+        match high.prev_one(self.upto) {
+            None => None,
+            Some(place) => {
+                let last = self.end - 1;
+                let number = self.number(last, place);
+                self.end = last;
+                self.upto = place;
+                Some(number)
+            }
+        }
     }
 }
 
 impl<'a> ExactSizeIterator for Numbers<'a> {
     /// How many numbers are left.
     fn len(&self) -> usize {
-        self.len - self.at
+        self.end - self.at
     }
 }
 

@@ -1,5 +1,5 @@
 //! The first number that is large enough.
-ghost use Rattle.std.specs.Prelude.{◌≡◌, ℕ, ◌+◌, ◌*◌, ◌<◌, ◌≤◌, ◌↔◌, All, Contains, IfNone, IfSome, IsTrue, None, Some, length, slice_get, take};
+ghost use Rattle.std.specs.Prelude.{◌≡◌, ℕ, ◌+◌, ◌*◌, ◌<◌, ◌≤◌, ◌↔◌, All, Contains, IfNone, IfSome, IsTrue, None, Some, count_by, drop, length, nat_lt, slice_get, take};
 ghost use Rattle.std.specs.List.Sorted.{IsNonDecreasing};
 ghost use Rattle.bit_addressing.specs.declared.length.TheConstants.{MAX_BITS};
 ghost use Rattle.bit_slice.specs.Places.{ones_of};
@@ -40,6 +40,57 @@ impl SortedNumbers {
                 }
             }
         }
+    }
+
+    /// The index of the last number that is at most `x`, and that number. None exactly where all numbers are above
+    /// `x`. It is a search like that of `next_at_least`, and one `select1`.
+    ///
+    /// ```text
+    /// of 2, 3, 9, 9:  numbers.previous_at_most(4) == Some((1, 3))
+    /// ```
+    pub fn previous_at_most(&self, x: u64) -> Option<(usize, u64)>
+        ensures found { IfSome result (λ found. slice_get self.now found.0 ≡ Some found.1) }
+        ensures most { IfSome result (λ found. found.1 ≤ x) }
+        ensures after { IfSome result (λ found. All (λ number. x < number) (drop (found.0 + 1) self.now)) }
+        ensures none { (result ≡ None) ↔ All (λ number. x < number) self.now }
+    {
+        let upto = self.count_upto(x);
+        if upto == 0 {
+            return None;
+        }
+        match self.get(upto - 1) {
+            None => None,
+            Some(number) => Some((upto - 1, number)),
+        }
+    }
+
+    /// How many numbers are below `x`. It searches like `next_at_least`.
+    ///
+    /// ```text
+    /// of 2, 3, 9, 9:  numbers.rank(9) == 2
+    /// ```
+    pub fn rank(&self, x: u64) -> usize
+        ensures value { result ≡ count_by (λ number. nat_lt number x) self.now }
+        ensures below { All (λ number. number < x) (take result self.now) }
+        ensures from { All (λ number. x ≤ number) (drop result self.now) }
+        ensures few { result ≤ length self.now }
+    {
+        match self.next_at_least(x) {
+            None => self.len(),
+            Some((k, _)) => k,
+        }
+    }
+
+    // How many numbers are at most `x`.
+    fn count_upto(&self, x: u64) -> usize
+        ensures upto { All (λ number. number ≤ x) (take result self.now) }
+        ensures after { All (λ number. x < number) (drop result self.now) }
+        ensures few { result ≤ length self.now }
+    {
+        if x == u64::MAX {
+            return self.len;
+        }
+        self.rank(x + 1)
     }
 
     /// Whether `x` is one of the numbers. It searches like `next_at_least`.

@@ -15,7 +15,7 @@ pub fn inserted(set: &mut NumberSet, number: usize) -> bool
     requires { number < length set.old }
     ensures { IsTrue result }
 {
-    set.insert(number);
+    set.insert_within(number);
     set.contains(number)
 }
 
@@ -23,7 +23,7 @@ pub fn inserted(set: &mut NumberSet, number: usize) -> bool
 pub fn inserted_anywhere(set: &mut NumberSet, number: usize) -> Result<bool, GrowError>
     ensures { IfOk result (λ there. IsTrue there) }
 {
-    set.insert_growing(number)?;
+    set.insert(number)?;
     Ok(set.contains(number))
 }
 
@@ -32,15 +32,15 @@ pub fn twice(set: &mut NumberSet, number: usize) -> bool
     requires { number < length set.old }
     ensures { IsTrue result }
 {
-    set.insert(number);
-    !set.insert(number)
+    set.insert_within(number);
+    !set.insert_within(number)
 }
 
 /// A set has all numbers of another that was united with it.
 pub fn united(set: &mut NumberSet, other: &NumberSet) -> Result<bool, GrowError>
     ensures { IfOk result (λ all. IsTrue all) }
 {
-    set.unite(other)?;
+    set.union_with(other)?;
     Ok(other.is_subset(set))
 }
 
@@ -48,14 +48,13 @@ pub fn united(set: &mut NumberSet, other: &NumberSet) -> Result<bool, GrowError>
 pub fn parted(set: &mut NumberSet, other: &NumberSet) -> bool
     ensures { IsTrue result }
 {
-    set.subtract(other);
+    set.difference_with(other);
     set.is_disjoint(other)
 }
 
-/// Putting a number into a set changes nothing for another number.
+/// Taking a number out of a set changes nothing for another number.
 pub fn others_stay(set: &mut NumberSet, number: usize, other: usize) -> bool
-    requires below { number < length set.old }
-    requires apart { other ≢ number }
+    requires { other ≢ number }
     ensures { IsTrue result ↔ IsIn set.old other }
 {
     set.remove(number);
@@ -80,7 +79,7 @@ pub fn numbers_of_either(
     ensures { IfOk result (λ numbers. numbers.items
         ≡ ones_of (or_of (filled_up set.now (length other.now)) other.now)) }
 {
-    set.iter_union(other).collect(alloc)
+    set.union(other).collect(alloc)
 }
 
 /// Numbers that were put in as a range are in the set.
@@ -90,7 +89,7 @@ pub fn inserted_range(set: &mut NumberSet, start: usize, end: usize, number: usi
     requires below { end ≤ length set.old }
     ensures { IsTrue result }
 {
-    set.insert_range(start..end);
+    set.insert_range_within(start..end);
     set.contains(number)
 }
 
@@ -100,7 +99,7 @@ pub fn toggled(set: &mut NumberSet, other: &NumberSet, number: usize) -> Result<
     requires other { IsIn other.now number }
     ensures { IfOk result (λ there. there ≡ false) }
 {
-    set.toggle(other)?;
+    set.symmetric_difference_with(other)?;
     Ok(set.contains(number))
 }
 
@@ -135,6 +134,6 @@ pub fn counted_of_either(
 ) -> Result<(usize, Vec<usize>), AllocError>
     ensures { IfOk result (λ found. found.0 ≡ length found.1.items) }
 {
-    let numbers = set.iter_union(other).collect(alloc)?;
+    let numbers = set.union(other).collect(alloc)?;
     Ok((set.count_union(other), numbers))
 }

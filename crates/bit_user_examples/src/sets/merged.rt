@@ -1,4 +1,4 @@
-//! Sets of numbers on small examples.
+//! Two sets merged and counted, closures and iterators.
 use crate::sets::has;
 use crate::{check, ok};
 use bit_addressing::GrowError;
@@ -16,31 +16,28 @@ fn two_sets(alloc: Global) -> Result<(NumberSet, NumberSet), GrowError> {
 #[test]
 fn numbers_of_either_set(rt: HostRuntime) {
     let (small, large) = ok(&rt, two_sets(rt.alloc()));
-    let union: Vec<usize> = ok(&rt, small.iter_union(&large).collect(rt.alloc()));
+    let union: Vec<usize> = ok(&rt, small.union(&large).collect(rt.alloc()));
     check(&rt, union.as_slice() == [0, 3, 4, 5, 69, 199].as_slice());
 }
 
 #[test]
 fn numbers_of_both_sets(rt: HostRuntime) {
     let (small, large) = ok(&rt, two_sets(rt.alloc()));
-    let both: Vec<usize> = ok(&rt, small.iter_intersection(&large).collect(rt.alloc()));
+    let both: Vec<usize> = ok(&rt, small.intersection(&large).collect(rt.alloc()));
     check(&rt, both.as_slice() == [3, 69].as_slice());
 }
 
 #[test]
 fn numbers_of_the_first_set_alone(rt: HostRuntime) {
     let (small, large) = ok(&rt, two_sets(rt.alloc()));
-    let first: Vec<usize> = ok(&rt, large.iter_difference(&small).collect(rt.alloc()));
+    let first: Vec<usize> = ok(&rt, large.difference(&small).collect(rt.alloc()));
     check(&rt, first.as_slice() == [4, 199].as_slice());
 }
 
 #[test]
 fn numbers_of_one_set_alone(rt: HostRuntime) {
     let (small, large) = ok(&rt, two_sets(rt.alloc()));
-    let one: Vec<usize> = ok(
-        &rt,
-        small.iter_symmetric_difference(&large).collect(rt.alloc()),
-    );
+    let one: Vec<usize> = ok(&rt, small.symmetric_difference(&large).collect(rt.alloc()));
     check(&rt, one.as_slice() == [0, 4, 5, 199].as_slice());
 }
 
@@ -53,39 +50,6 @@ fn counts_of_two_sets(rt: HostRuntime) {
     check(&rt, small.count_difference(&large) == 2);
     check(&rt, large.count_difference(&small) == 2);
     check(&rt, large.count_symmetric_difference(&small) == 4);
-}
-
-// That this is the text of a set.
-fn reads(rt: &(impl Abort + AllocGlobal), set: &NumberSet, text: &str) {
-    let written = ok(rt, set.to_string(rt.alloc()));
-    check(rt, written.as_str() == text);
-}
-
-#[test]
-fn ranges_and_texts(rt: HostRuntime) {
-    let mut set = ok(&rt, NumberSet::new(rt.alloc(), 130));
-    assert!(rt; set.bound() == 130);
-    reads(&rt, &set, "{}");
-    set.insert_range(1..128);
-    set.remove_range(4..127);
-    reads(&rt, &set, "{1, 2, 3, 127}");
-}
-
-#[test]
-fn sets_compared(rt: HostRuntime) {
-    let (set, _) = ok(&rt, two_sets(rt.alloc()));
-    let mut copy = ok(&rt, set.clone());
-    check(&rt, copy == set);
-    check(&rt, copy.has_same_numbers(&set));
-    let _new = ok(&rt, copy.insert_growing(500));
-    assert!(rt; copy.bound() == 501);
-    copy.remove(500);
-    check(&rt, copy != set);
-    check(&rt, copy > set);
-    check(&rt, copy.has_same_numbers(&set));
-    copy.insert(1);
-    check(&rt, copy > set);
-    check(&rt, !copy.has_same_numbers(&set));
 }
 
 #[test]

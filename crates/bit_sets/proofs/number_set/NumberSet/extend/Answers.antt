@@ -11,7 +11,7 @@ pub loop-number-preserved : goal.loop-number-preserved
 loop-number-preserved g c = record {
   can = search rules;
   finite = search rules;
-  taken = taken_more c.args.self.now c.loop-number.self c.insert_growing.new.self c.loop-number.yielded c.in-Some.number c.loop-number.invariant.taken c.in_default.ensures.bound c.in_default.ensures.members;
+  taken = taken_more c.args.self.now c.loop-number.self c.insert.new.self c.loop-number.yielded c.in-Some.number c.loop-number.invariant.taken c.in_default.ensures.bound c.in_default.ensures.members;
 }
 
 pub returns-in-Err-clause-refused : goal.returns-in-Err-clause-refused
@@ -26,7 +26,7 @@ returns-in-Err-clause-refused g c =
       c.next.new.self,
       c.into_iter-number-iterator.ensures.into_iter_gives,
       yields_more g.I.IntoIter.Iterator.next_gives it at.yielded at.number-iterator number c.next.new.self at.yielded_by c.in-Some.ensures.steps,
-      refused_at c.args.self.now at.self c.insert_growing.new.self at.yielded number (c.in-Err.why ≡ TooLong) at.invariant.taken err.refused past ((λ e. (err.too_long.0 (ap Err e)).1), (λ long. cc (err.too_long.1 (past, long)))),
+      refused_at c.args.self.now at.self c.insert.new.self at.yielded number (c.in-Err.why ≡ TooLong) at.invariant.taken err.refused past ((λ e. (err.too_long.0 (ap Err e)).1), (λ long. cc (err.too_long.1 (past, long)))),
     )
   where
     past_of : {P : Type 0} (why : GrowError) → (why ≡ TooLong → P) → (why ≡ OutOfMemory → P) → P

@@ -1,7 +1,7 @@
 use Rattle.std.proofs.Common.{◌≡◌, ◌≢◌, ◌+◌, ℕ, List, Bool, false, get_or, length, refl, sym, ◌∙◌, ap, arith, of_calls}
 use Rattle.std.proofs.lemmas.List.{get_or-set_other, get_or-set_same, length-set}
-use Rattle.bit_sets.proofs.Members.{in_bit}
-use Rattle.bit_sets.proofs.Retaining.{inside_bound, out_bit, retained_all, retained_more}
+use Rattle.bit_sets.proofs.Members.{in_bit, inside_bound, out_bit}
+use Rattle.bit_sets.proofs.Retaining.{retained_all, retained_more}
 use Rattle.bit_sets.proofs.number_set.NumberSet.retain_by.Goals.{then-not-f, else-not-f}
 use Rattle.bit_sets.proofs.number_set.NumberSet.retain_by.Goals as goal
 

@@ -2,7 +2,7 @@ use Rattle.std.proofs.Common.{◌∙◌, arith, rules}
 use Rattle.std.proofs.lemmas.Result.{on_ok_weaker}
 use Rattle.bit_slice.specs.BitSlice.{len_of}
 use Rattle.bit_sets.proofs.Members.{toggled}
-use Rattle.bit_sets.proofs.number_set.NumberSet.toggle.Goals as goal
+use Rattle.bit_sets.proofs.number_set.NumberSet.symmetric_difference_with.Goals as goal
 
 pub returns-clause-members : goal.returns-clause-members
 returns-clause-members c =

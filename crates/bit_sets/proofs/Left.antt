@@ -1,5 +1,5 @@
 -- The numbers that are left to an iterator.
-use Rattle.std.proofs.Common.{◌≡◌, ℕ, suc, ◌+◌, ◌-◌, ◌*◌, ◌%◌, ◌^◌, ◌<◌, ◌≤◌, Bool, true, false, List, [], ◌∷◌, ◌++◌, get_or, length, length-take, min, drop, take, slice_get, slice_range, Some, refl, sym, ◌∙◌, ap, inl, inr, ◌⊎◌, arith}
+use Rattle.std.proofs.Common.{◌≡◌, ℕ, suc, ◌+◌, ◌-◌, ◌*◌, ◌%◌, ◌^◌, ◌<◌, ◌≤◌, Bool, true, false, List, [], ◌∷◌, ◌++◌, count_by, get_or, length, length-take, min, drop, take, slice_get, slice_range, Some, refl, sym, ◌∙◌, ap, inl, inr, ◌⊎◌, arith}
 use Rattle.std.proofs.Math.Seq.{drop-cons}
 use Rattle.std.proofs.Math.ListN.{drop_of_length-le}
 use Rattle.std.proofs.lemmas.Option.{get_or_from_slice_get, slice_get_within}
@@ -32,7 +32,7 @@ module _ (n w : ℕ) (high low : List Bool) (at place : ℕ) (left : IsNextFrom 
     inside : i < length high
     inside = slice_get_within high i true found
 
-    before_it : ones_before high i ≡ at
+    pub before_it : ones_before high i ≡ at
     before_it = none_between high place i begins (let h = inside in omega arith) clear ∙ left.before
 
     -- the one that is found is that of the first number that is left
@@ -116,7 +116,7 @@ module _ (high : List Bool) (end upto : ℕ) (last : IsUptoNumber high end upto)
       omega (arith, none_between high 0 upto (omega arith) reached (λ j a b. clear j b (omega arith)))
 
   module _ (i : ℕ) (ends : i < upto) (found : slice_get high i ≡ Some true) (clear : (j : ℕ) → i < j → j < upto → j < length high → slice_get high j ≡ Some false) where
-    one_less : ones_before high i + 1 ≡ end
+    pub one_less : ones_before high i + 1 ≡ end
     one_less =
         let reached = last.reached in
         let before = last.before in
@@ -129,19 +129,16 @@ module _ (high : List Bool) (end upto : ℕ) (last : IsUptoNumber high end upto)
     pub last_one : (k : ℕ) → end ≡ k + 1 → Some i ≡ slice_get (ones_of high) k
     last_one k is = index_numbered (λ b. b) high i k (slice_get_within high i true found) (get_or_from_slice_get high i true false found) (let less = one_less in omega arith)
 
--- the numbers that are left begin with the k-th, or there is none
-pub left_from : (n w : ℕ) (high low : List Bool) (k i : ℕ) → IsPacked n w high low → Some i ≡ slice_get (ones_of high) k → ones_before high i ≡ k → IsNextFrom n w high low k i
-left_from n w high low k i packed found before =
-    let here = one_at high k i found in
-    let ones = packed.ones in
-    let low_k = here.0 in
-    let low_i = here.1 in
-    record { packed = packed; inside = omega arith; reached = omega arith; before = before }
-
+-- all numbers stand before the end
 pub upto_all : (n w : ℕ) (high low : List Bool) (end upto : ℕ) → IsPacked n w high low → end ≡ n → upto ≡ length high → IsUptoNumber high end upto
 upto_all n w high low end upto packed all is =
     let ones = packed.ones in
     record { reached = omega arith; before = before_end (λ b. b) high upto is ∙ sym (as_many (λ b. b) high (length high) (omega arith) ∙ before_end (λ b. b) high (length high) refl) ∙ ones ∙ sym all }
 
-pub left_at_end : (n w : ℕ) (high low : List Bool) (at place : ℕ) → IsPacked n w high low → at ≡ n → place ≡ length high → IsNextFrom n w high low at place
-left_at_end n w high low at place packed all end = record { packed = packed; inside = omega arith; reached = omega arith; before = let h = (upto_all n w high low at place packed all end).before in h }
+pub place_none : (high : List Bool) (n k upto : ℕ) → length (ones_of high) ≡ n → upto ≡ length high → count_by (λ b. b) high ≤ k → ones_before high upto ≡ min k n
+place_none high n k upto ones is few =
+    let all = as_many (λ b. b) high (length high) (omega arith) ∙ before_end (λ b. b) high (length high) refl in
+    before_end (λ b. b) high upto is ∙ omega arith
+
+pub place_some : (high : List Bool) (n k i : ℕ) → length (ones_of high) ≡ n → Some i ≡ slice_get (ones_of high) k → ones_before high i ≡ k → ones_before high i ≡ min k n
+place_some high n k i ones found before = let low = slice_get_within (ones_of high) k i (sym found) in omega arith

@@ -1,13 +1,15 @@
 //! Sorted numbers one after another.
 ghost use Rattle.std.specs.Iterator.{YieldsFirst, YieldsLast};
 ghost use Rattle.std.specs.Iterator.Runs.{YieldsInOrder, YieldsInReverse};
-ghost use Rattle.std.specs.Prelude.{◌≡◌, ◌≤◌, drop, length, slice_get, IfSome, Some};
+ghost use Rattle.std.specs.Prelude.{◌≡◌, ◌≤◌, drop, length, min, slice_get, true, IfSome, Some};
 ghost use Rattle.bit_slice.specs.BitSlice.{len_of, list_of};
+ghost use Rattle.bit_slice.specs.Numbered.{ones_before};
 ghost use Rattle.bit_slice.specs.Places.{ones_of};
 ghost use Rattle.bit_sets.specs.Sorted.{IsNextFrom, IsUptoNumber, number_at};
 
 use crate::sorted::SortedNumbers;
 use bit_containers::{BitList, Lsb0};
+use bit_ranks::Ranks;
 use bit_slice::BitSlice;
 use std::iter::{DoubleEndedIterator, ExactSizeIterator, FusedIterator, Iterator};
 
@@ -64,21 +66,28 @@ impl SortedNumbers {
         ensures runs { YieldsInOrder (YieldsFirst numbers_left) numbers_left }
         ensures runs_back { YieldsInReverse (YieldsLast numbers_left) numbers_left }
     {
-        let upto = self.high.len();
-        let (at, place) = match self.high.select1(k) {
-            None => (self.len, upto),
-            Some(place) => (k, place),
-        };
         Numbers {
             high: self.high.as_bitslice(),
             low: self.low.as_bitslice(),
             width: self.width,
             len: self.len,
-            at,
-            place,
+            at: k.min(self.len),
+            place: place_of(&self.high, self.len, k),
             end: self.len,
-            upto,
+            upto: self.high.len(),
         }
+    }
+}
+
+// An index from which on the first one is the `k`-th, counted from 0, or the length where there is none.
+fn place_of(high: &Ranks<u64, Lsb0>, len: usize, k: usize) -> usize
+    requires { length (ones_of high.now.list) ≡ len }
+    ensures reached { result ≤ length high.now.list }
+    ensures before { ones_before high.now.list result ≡ min k len }
+{
+    match high.select1(k) {
+        None => high.len(),
+        Some(place) => place,
     }
 }
 
@@ -86,7 +95,8 @@ impl<'a> Numbers<'a> {
     // Number `k`, whose one is at `place`.
     #[inline(always)]
     fn number(&self, k: usize, place: usize) -> u64
-        requires { Some place ≡ slice_get (ones_of (list_of self.now.high)) k }
+        requires one { slice_get (list_of self.now.high) place ≡ Some true }
+        requires before { ones_before (list_of self.now.high) place ≡ k }
         ensures { result ≡ number_at self.now.width (list_of self.now.high) (list_of self.now.low) k }
     {
         let from = k * self.width as usize;

@@ -58,9 +58,10 @@ impl SortedNumbers {
         if upto == 0 {
             return None;
         }
-        match self.get(upto - 1) {
+        let k = upto - 1;
+        match self.get(k) {
             None => None,
-            Some(number) => Some((upto - 1, number)),
+            Some(number) => Some((k, number)),
         }
     }
 

@@ -36,7 +36,25 @@ impl PartialEq for SortedNumbers {
         ensures value { result ≡ pointwise nat_eq self.now other.now }
         ensures lists { IsTrue result ↔ (self.now ≡ other.now) }
     {
-        self.iter().eq(other.iter())
+        are_same(self.iter(), other.iter())
+    }
+}
+
+// Whether two iterators have the same numbers left.
+fn are_same(mut numbers: Numbers<'_>, mut others: Numbers<'_>) -> bool
+    ensures { IsTrue result ↔ (numbers_left numbers.entry ≡ numbers_left others.entry) }
+{
+    while let Some(number) = numbers.next() {
+        match others.next() {
+            None => return false,
+            Some(other) => if other != number {
+                return false;
+            },
+        }
+    }
+    match others.next() {
+        None => true,
+        Some(_) => false,
     }
 }
 

@@ -8,7 +8,7 @@ use Rattle.std.proofs.lemmas.Bool.{cases_lt, true≢false}
 use Rattle.std.proofs.lemmas.List.{get_or_past}
 use Rattle.std.proofs.lemmas.List.Elements.{filter-append}
 use Rattle.bit_addressing.proofs.lists.Shown.{length-between}
-use Rattle.bit_slice.specs.Places.{IsAbsent, ones_of, places_between}
+use Rattle.bit_slice.specs.Places.{ones_of}
 use Rattle.bit_slice.proofs.Found.{item_of_part}
 use Rattle.bit_slice.proofs.Places.{places_empty, places_none, ranges_joined}
 use Rattle.bit_sets.specs.Compared.{same_numbers}

@@ -1,7 +1,7 @@
 -- How many numbers are in both of two sets, in either, and in one alone.
 use Rattle.std.proofs.Common.{◌≡◌, ℕ, zero, suc, ◌+◌, ◌-◌, ◌*◌, ◌≤◌, Bool, true, false, not, ◌&&◌, cond, List, [], ◌∷◌, ◌++◌, count_by, drop, length, replicate, refl, sym, ◌∙◌, ap, arith}
 use Rattle.std.proofs.lemmas.List.{length-append, length-replicate}
-use Rattle.std.proofs.lemmas.List.Sums.{sum_by-cons}
+use Rattle.std.proofs.lemmas.List.Sums.{count_by-le-length, sum_by-cons}
 use Rattle.bit_slice.specs.Operators.{and_not_of, and_of, or_of, xor_of}
 use Rattle.bit_slice.specs.Places.{ones_of}
 use Rattle.bit_slice.proofs.Places.{places_count_all, places_whole}
@@ -83,3 +83,7 @@ left_alone xs ys all both is here =
 
 pub both_at_most : (xs ys : List Bool) (all both : ℕ) → all ≡ ones xs → both ≡ ones (and_of xs ys) → both ≤ all
 both_at_most xs ys all both is here = omega (arith, is, here, apart xs ys)
+
+-- no more numbers are left than a list has items
+pub few_ones : (l : List ℕ) (xs : List Bool) (limit : ℕ) → length l ≡ count_by (λ b. b) xs → length xs ≤ limit → length l ≤ limit
+few_ones l xs limit is few = let most = count_by-le-length (λ b. b) xs in omega arith

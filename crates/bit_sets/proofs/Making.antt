@@ -5,14 +5,13 @@ use Rattle.std.specs.Prelude.{Result, Ok, Err, IfOk}
 use Rattle.std.specs.List.{All}
 use Rattle.std.specs.List.Sorted.{IsNonDecreasing}
 use Rattle.std.proofs.lemmas.Bool.{cases_lt}
-use Rattle.std.proofs.lemmas.List.{ext_get_or, get_or_default, get_or-take, get_or-set_other, length-take-le, places, same_lists, take_at, take_more, length_push, get_or_push, get_or_append_left}
+use Rattle.std.proofs.lemmas.List.{get_or_default, get_or-take, get_or-set_other, length-take-le, places, same_lists, take_at, take_more, length_push, get_or_push, get_or_append_left}
 use Rattle.std.proofs.lemmas.List.Sorted.{IsNonDecreasingBy-push}
 use Rattle.std.proofs.lemmas.Nat.{mod_below, pow_pos}
 use Rattle.std.proofs.Math.Nat.{le-div_iff_mul-le, div-mul-le_self}
 use Rattle.bit_addressing.specs.Binary.{value}
 use Rattle.bit_addressing.specs.Row.{binary}
-use Rattle.bit_rows.proofs.Binary.{binary_low, get_or-binary, length-binary, value_of_binary}
-use Rattle.bit_addressing.proofs.Words.{has_low}
+use Rattle.bit_rows.proofs.Binary.{binary_low, value_of_binary}
 use Rattle.bit_addressing.specs.declared.length.TheConstants.{MAX_BITS}
 use Rattle.bit_slice.specs.Places.{ones_of}
 use Rattle.bit_slice.proofs.Places.{places_none, places_whole}

@@ -1,6 +1,6 @@
 -- How the ascending lists of two sets' numbers are ordered, by their bits.
 use Rattle.std.proofs.Common.{◌≡◌, ◌≢◌, ℕ, zero, suc, ◌+◌, ◌<◌, ◌≤◌, Bool, true, false, List, [], ◌∷◌, get_or, min, take, refl, sym, ◌∙◌, ap, arith}
-use Rattle.std.specs.Ordering.{bool_cmp, nat_cmp, ordering_then, MatchOrdering}
+use Rattle.std.specs.Ordering.{nat_cmp, ordering_then, MatchOrdering}
 use Rattle.std.specs.declared.cmp.Ordering.{Ordering}
 use Rattle.std.specs.declared.cmp.Ordering.TheVariants.{Less, Equal, Greater}
 use Rattle.std.specs.Cmp.{nat_cmp_is, ranked}

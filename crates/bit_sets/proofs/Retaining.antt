@@ -3,8 +3,7 @@ use Rattle.std.proofs.Common.{◌≡◌, ◌≢◌, ℕ, zero, suc, ◌+◌, ◌
 use Rattle.std.specs.Prelude.{◌⊎◌, ◌↔◌, Contains}
 use Rattle.std.specs.Iterator.{Yields}
 use Rattle.std.specs.List.{filter, items_where_true, range_with_len}
-use Rattle.std.proofs.lemmas.Bool.{cases_eq, cases_lt, true≢false}
-use Rattle.std.proofs.lemmas.List.{get_or_past}
+use Rattle.std.proofs.lemmas.Bool.{cases_eq}
 use Rattle.std.proofs.lemmas.List.Elements.{Contains-append_left, Contains-push, Contains-push_cases, filter-append}
 use Rattle.bit_addressing.specs.declared.length.TheConstants.{MAX_BITS}
 use Rattle.bit_slice.proofs.Places.{ranges_joined}
@@ -157,3 +156,11 @@ refused_at old now new numbers number too_long was same past why = record {
 pub yields_front : {S A : Type 0} (steps : S → Option A → S → Type 0) (s : S) (xs ys : List A) (t : S) → Yields steps s (xs ++ ys) t → (m : S) × Yields steps s xs m
 yields_front steps s [] ys t run = (s, refl)
 yields_front steps s (x ∷ xs) ys t run = let more = yields_front steps run.0 xs ys t run.2 in (more.0, (run.0, run.1, more.1))
+
+-- what a set that was empty has taken
+pub taken_new : (new : List Bool) (numbers : List ℕ) → HasTaken [] new numbers → (length new ≡ bound_of numbers) × ((k : ℕ) → IsIn new k ↔ Contains numbers k)
+taken_new new numbers taken =
+    let bound = taken.bound in (
+      omega arith,
+      (λ k. ((λ h. elim ((taken.members k).0 h) [ inl none ↦ cc | inr here ↦ here ]), (λ h. (taken.members k).1 (inr h)))),
+    )

@@ -7,7 +7,6 @@ use Rattle.std.proofs.lemmas.Nat.{div-add-mod', mod_below, pow_pos}
 use Rattle.std.proofs.Math.Nat.{div-mul-le_self, mod-eq-sub-div-mul, mod-eq_of_lt, mul-le-mul_right}
 use Rattle.std.proofs.Math.Nat.{pow-suc}
 use Rattle.bit_addressing.specs.Binary.{value_after}
-use Rattle.bit_addressing.specs.declared.length.TheConstants.{MAX_BITS}
 use Rattle.bit_addressing.proofs.lists.Shown.{length-run}
 use Rattle.bit_sets.specs.Sorted.{AreSameHigh, IsNextFrom, high_part, low_part, numbers_of, IsPacked}
 use Rattle.bit_sets.proofs.Places.{next_stands}

@@ -3,6 +3,7 @@ mod callers;
 mod loops;
 mod many;
 mod merged;
+mod ordered;
 mod sorted;
 
 use crate::{check, ok};

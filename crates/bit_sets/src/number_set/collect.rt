@@ -1,9 +1,10 @@
 //! The numbers that an iterator gives.
-ghost use Rattle.std.specs.Prelude.{◌≡◌, ℕ, Bool, List, [], IfErr, IfOk, OnErr, OnOk, ⊤};
+ghost use Rattle.std.specs.Prelude.{◌≡◌, ◌↔◌, ℕ, Bool, Contains, List, [], IfErr, IfOk, OnOk, length, ⊤};
 ghost use Rattle.std.specs.Iterator.{DrainsIf, ExtendsWithItems, HoldsAlong, IsFinite, IsFiniteIterable};
 ghost use Rattle.bit_addressing.specs.declared.errors.GrowError.TheVariants as errors;
 ghost use Rattle.bit_slice.specs.Pulls.{GivesAll, GivesFirst, RunsThrough};
-ghost use Rattle.bit_sets.specs.InTurn.{HasTaken, IsRefused};
+ghost use Rattle.bit_sets.specs.InTurn.{HasTaken, IsRefused, bound_of};
+ghost use Rattle.bit_sets.specs.NumberSet.{IsIn};
 
 use crate::number_set::NumberSet;
 use bit_addressing::GrowError;
@@ -83,7 +84,8 @@ impl Extend<usize> for NumberSet {
 impl FromIterator<usize> for NumberSet {
     type Alloc = Global;
 
-    ghost from_iter_gives = { λ numbers s. HasTaken [] s numbers };
+    ghost from_iter_gives = { λ numbers s. (length s ≡ bound_of numbers)
+        × ((k : ℕ) → IsIn s k ↔ Contains numbers k) };
 
     /// Like the set's own `from_iter`, but with one error for both refusals.
     ///
@@ -94,8 +96,10 @@ impl FromIterator<usize> for NumberSet {
         requires { (it : I.IntoIter) → I.into_iter_gives iter it → I.IntoIter.can_next it
             × IsFinite (I.IntoIter.remaining it) × HoldsAlong I.IntoIter.next_gives it (λ _. ⊤) }
         ensures ran { IfOk result (λ s. (it : I.IntoIter) × (numbers : List ℕ) × I.into_iter_gives iter it
-            × DrainsIf I.IntoIter.next_gives ⊤ it numbers × HasTaken [] s numbers) }
-        ensures runs { IfOk result (λ s. RunsThrough I.into_iter_gives I.IntoIter.next_gives iter (HasTaken [] s)) }
+            × DrainsIf I.IntoIter.next_gives ⊤ it numbers
+            × ((length s ≡ bound_of numbers) × ((k : ℕ) → IsIn s k ↔ Contains numbers k))) }
+        ensures runs { IfOk result (λ s. RunsThrough I.into_iter_gives I.IntoIter.next_gives iter (λ numbers.
+            (length s ≡ bound_of numbers) × ((k : ℕ) → IsIn s k ↔ Contains numbers k))) }
     {
         match NumberSet::from_iter(alloc, iter) {
             Ok(set) => Ok(set),

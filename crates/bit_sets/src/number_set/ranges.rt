@@ -136,6 +136,7 @@ impl NumberSet {
     /// ```
     pub fn range(&self, numbers: Range<usize>) -> SetRange<'_>
         ensures list { range_left result ≡ numbers_between self.now numbers.start numbers.end }
+        ensures few { length (range_left result) ≤ MAX_BITS }
         ensures runs { YieldsInOrder (YieldsFirst range_left) range_left }
         ensures runs_back { YieldsInReverse (YieldsLast range_left) range_left }
     {

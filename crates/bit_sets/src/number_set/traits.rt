@@ -3,6 +3,7 @@ ghost use Rattle.std.specs.Prelude.{◌≡◌, ◌≤◌, ◌<◌, ◌↔◌, �
 ghost use Rattle.std.specs.Cmp.{partial_equiv_from_equiv};
 ghost use Rattle.std.specs.Iterator.{YieldsFirst, YieldsLast};
 ghost use Rattle.std.specs.Iterator.Runs.{YieldsInOrder, YieldsInReverse};
+ghost use Rattle.bit_addressing.specs.declared.length.TheConstants.{MAX_BITS};
 ghost use Rattle.bit_slice.specs.Indices.{ones_left};
 ghost use Rattle.bit_slice.specs.Places.{ones_of};
 ghost use Rattle.bit_sets.specs.Compared.{numbers_alike, numbers_cmp, numbers_equiv, numbers_fed, numbers_partial, numbers_tie, numbers_total, same_numbers, IsLeastBound};
@@ -123,7 +124,7 @@ impl<'a> IntoIterator for &'a NumberSet {
     type IntoIter = IterOnes<'a, usize, Lsb0>;
 
     ghost into_iter_gives = { λ s r. (ones_left r ≡ ones_of s.now)
-        × All (λ number. number < length s.now) (ones_left r)
+        × All (λ number. number < length s.now) (ones_left r) × (length (ones_left r) ≤ MAX_BITS)
         × YieldsInOrder (YieldsFirst (ones_left {W = ⟦<usize as BitStore>⟧} {P = ⟦<Lsb0 as BitOrder>⟧})) ones_left
         × YieldsInReverse (YieldsLast (ones_left {W = ⟦<usize as BitStore>⟧} {P = ⟦<Lsb0 as BitOrder>⟧})) ones_left };
 

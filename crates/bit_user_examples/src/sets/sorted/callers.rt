@@ -1,8 +1,8 @@
 //! Callers of sorted numbers: what each proves stands in its clauses, and none has a file.
-ghost use Rattle.std.specs.Prelude.{◌≡◌, ◌≤◌, IfOk, IfSome, IsTrue, length, slice_get};
+ghost use Rattle.std.specs.Prelude.{◌≡◌, ◌≤◌, IfOk, IfSome, IsTrue, drop, length, slice_get};
 
 use bit_sets::{SortedError, SortedNumbers};
-use std::alloc::Global;
+use std::alloc::{AllocError, Global};
 
 pub fn read_back(alloc: Global, numbers: &[u64], k: usize) -> Result<Option<u64>, SortedError>
     ensures { IfOk result (λ read. read ≡ slice_get numbers.now k) }
@@ -46,4 +46,32 @@ pub fn all_counted(numbers: &SortedNumbers) -> usize
     ensures { result ≡ length numbers.now }
 {
     numbers.iter().count()
+}
+
+/// The number at the rank of one, if there is one, is at least as large.
+pub fn at_rank(numbers: &SortedNumbers, x: u64) -> Option<bool>
+    ensures { IfSome result (λ large. IsTrue large) }
+{
+    let number = numbers.get(numbers.rank(x))?;
+    Some(x <= number)
+}
+
+pub fn before_found(numbers: &SortedNumbers, x: u64) -> Option<u64>
+    ensures { IfSome result (λ number. number ≤ x) }
+{
+    let (_, number) = numbers.previous_at_most(x)?;
+    Some(number)
+}
+
+pub fn rest_counted(numbers: &SortedNumbers, k: usize) -> usize
+    ensures { result ≡ length (drop k numbers.now) }
+{
+    numbers.iter_from(k).count()
+}
+
+pub fn copied(numbers: &SortedNumbers) -> Result<bool, AllocError>
+    ensures { IfOk result (λ same. IsTrue same) }
+{
+    let copy = numbers.clone()?;
+    Ok(copy == *numbers)
 }

@@ -1,4 +1,4 @@
-use Rattle.std.proofs.Common.{◌≡◌, Bool, List, length, min, subst, sym, ◌∙◌, ap}
+use Rattle.std.proofs.Common.{Bool, List, length, min, subst, sym, ◌∙◌, ap}
 use Rattle.bit_sets.specs.NumberSet.{IsIn}
 use Rattle.bit_sets.proofs.Ranges.{some_in}
 use Rattle.bit_sets.proofs.number_set.NumberSet.any_in.Goals as goal

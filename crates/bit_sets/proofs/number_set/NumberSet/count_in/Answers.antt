@@ -1,4 +1,4 @@
-use Rattle.std.proofs.Common.{◌≡◌, Bool, List, length, min, sym, ◌∙◌, ap, arith}
+use Rattle.std.proofs.Common.{Bool, List, length, min, sym, ◌∙◌, ap, arith}
 use Rattle.bit_slice.proofs.Places.{places_count}
 use Rattle.bit_sets.specs.NumberSet.{numbers_between}
 use Rattle.bit_sets.proofs.Ascending.{clipped}

@@ -1,4 +1,4 @@
-use Rattle.std.proofs.Common.{Bool, List, take, subst, ◌∙◌}
+use Rattle.std.proofs.Common.{Bool, List, subst, ◌∙◌}
 use Rattle.std.specs.Prelude.{◌↔◌}
 use Rattle.std.specs.List.{All}
 use Rattle.std.proofs.lemmas.List.{take_all}

@@ -1,6 +1,8 @@
-use Rattle.std.proofs.Common.{◌≡◌, ◌+◌, ◌≤◌, Bool, List, length, map, min, slice_range, sym, ◌∙◌, ap, arith}
-use Rattle.bit_addressing.specs.declared.length.TheConstants.{MAX_BITS}
-use Rattle.bit_slice.specs.BitSlice.{len_of}
+use Rattle.std.proofs.Common.{◌≡◌, ℕ, ◌+◌, ◌-◌, Bool, List, count_by, length, map, min, slice_range, sym, ◌∙◌, ap, arith}
+use Rattle.std.proofs.lemmas.List.{length-map}
+use Rattle.std.proofs.lemmas.List.Sums.{count_by-le-length}
+use Rattle.bit_addressing.proofs.lists.Shown.{length-between}
+use Rattle.bit_slice.specs.BitSlice.{len_of, list_of}
 use Rattle.bit_slice.specs.Indices.{ones_left}
 use Rattle.bit_slice.specs.Places.{ones_of}
 use Rattle.bit_sets.specs.NumberSet.{numbers_between}
@@ -34,3 +36,20 @@ returns-clause-runs c = range_runs
 
 pub returns-clause-runs_back : goal.returns-clause-runs_back
 returns-clause-runs_back c = range_runs_back
+
+pub returns-clause-few : goal.returns-clause-few
+returns-clause-few c =
+    let xs : List Bool = c.self.inside.bits.list in
+    let part = c.below_bound-part in
+    let left : List ℕ = ones_left c.iter_ones.result in
+    let run : List Bool = slice_range xs part.result.start part.result.end in
+    let same : length xs ≡ length c.args.self.now = ap length c.self.view_is in
+    let lies = part.ensures.lies in
+    let mapped = length-map left (λ i. part.result.start + i) in
+    let shown : list_of c.get_range.result ≡ run = c.get_range.ensures.list ∙ ap (λ l. slice_range l part.result.start part.result.end) c.as_bitslice.ensures.list in
+    let counted : length left ≡ count_by (λ b. b) run = c.iter_ones.ensures.count ∙ ap (λ (l : List Bool). count_by (λ b. b) l) shown in
+    let most = count_by-le-length (λ b. b) run in
+    let size : length run ≡ part.result.end - part.result.start = length-between xs part.result.start part.result.end (omega arith) in
+    let few = c.as_bitslice.result.fits.few in
+    let len = c.as_bitslice.ensures.len in
+    omega arith

@@ -1,4 +1,4 @@
-use Rattle.std.proofs.Common.{◌≡◌, Bool, List, drop, length, min, slice_range, refl, subst, sym, ◌∙◌, ap, arith}
+use Rattle.std.proofs.Common.{length, slice_range, refl, subst, sym, ◌∙◌, ap, arith}
 use Rattle.bit_slice.specs.BitSlice.{list_of}
 use Rattle.bit_sets.specs.Sorted.{IsPacked, numbers_of}
 use Rattle.bit_sets.proofs.Left.{numbers_from, upto_all}

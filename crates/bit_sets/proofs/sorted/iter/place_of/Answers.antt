@@ -1,4 +1,4 @@
-use Rattle.std.proofs.Common.{sym, ◌∙◌, refl}
+use Rattle.std.proofs.Common.{refl}
 use Rattle.bit_sets.proofs.Left.{place_none, place_some}
 use Rattle.bit_sets.proofs.sorted.iter.place_of.Goals as goal
 

@@ -1,8 +1,7 @@
-use Rattle.std.proofs.Common.{◌≡◌, ◌+◌, ◌-◌, ◌*◌, ◌%◌, ◌^◌, slice_get, true, false, Some, ap, ◌∙◌, arith}
+use Rattle.std.proofs.Common.{◌≡◌, ◌+◌, ◌-◌, ◌*◌, ◌%◌, ◌^◌, true, false, ap, ◌∙◌, arith}
 use Rattle.std.proofs.lemmas.Option.{get_or_from_slice_get, slice_get_within}
 use Rattle.bit_addressing.specs.Binary.{value}
 use Rattle.bit_slice.specs.BitSlice.{list_of}
-use Rattle.bit_slice.specs.Places.{ones_of}
 use Rattle.bit_slice.proofs.Numbered.{at_most_index, index_numbered}
 use Rattle.bit_sets.specs.Sorted.{low_part}
 use Rattle.bit_sets.proofs.Packed.{low_inside, number_fits, shifted}

@@ -1,4 +1,4 @@
-use Rattle.std.proofs.Common.{◌≡◌, ◌+◌, ◌-◌, ◌<◌, ◌≤◌, ap, ◌∙◌, arith}
+use Rattle.std.proofs.Common.{◌-◌, arith}
 use Rattle.bit_slice.specs.BitSlice.{list_of}
 use Rattle.bit_sets.proofs.Left.{none_before, numbers_count, numbers_over, numbers_split_back, one_less, upto_before}
 use Rattle.bit_sets.proofs.sorted.iter.NumbersDoubleEndedIterator.next_back.Goals as goal

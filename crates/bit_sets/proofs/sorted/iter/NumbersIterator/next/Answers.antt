@@ -1,4 +1,4 @@
-use Rattle.std.proofs.Common.{◌≡◌, ◌+◌, ◌-◌, ◌<◌, ◌≤◌, ap, ◌∙◌, arith}
+use Rattle.std.proofs.Common.{◌+◌, arith}
 use Rattle.bit_slice.specs.BitSlice.{list_of}
 use Rattle.bit_sets.proofs.Left.{before_it, left_after, none_left_over, numbers_count, numbers_over, numbers_split}
 use Rattle.bit_sets.proofs.sorted.iter.NumbersIterator.next.Goals as goal

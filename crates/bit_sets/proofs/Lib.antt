@@ -1,5 +1,6 @@
 pub mod Ascending
 pub mod CountedSets
+pub mod Filters
 pub mod Left
 pub mod Making
 pub mod Many

@@ -1,4 +1,6 @@
+pub mod Bloom
 pub mod Compared
+pub mod Filter
 pub mod InTurn
 pub mod Merged
 pub mod NumberSet

@@ -1,4 +1,5 @@
 //! Sets of numbers, each call once, and beside plain loops; callers in `callers.rt`.
+mod bloom;
 mod callers;
 mod loops;
 mod many;

@@ -46,13 +46,13 @@ fn the_rate(rt: HostRuntime) {
     for number in 0..1000 {
         filter.insert(mixed(number));
     }
-    let mut wrong = 0;
+    let mut wrong = 0_usize;
     for number in 0..1000 {
         check(&rt, filter.contains(mixed(number)));
     }
     for number in 1000..21000 {
         if filter.contains(mixed(number)) {
-            wrong += 1;
+            wrong = wrong.saturating_add(1);
         }
     }
     // One in 128 of 20000 is 156.

@@ -39,9 +39,6 @@ module _ {X : Type 0} (P : X → Type 0) (xs : List X) (i : ℕ) (x : X) (inside
         ]),
       )
 
-pub any_none : {X : Type 0} (P : X → Type 0) → Any P [] → ⊥
-any_none P h = let low = h.2 in omega arith
-
 pub joined_more : {N L O F A M : Type 0} → (N ↔ (L ⊎ O)) → (L ↔ (F ⊎ A)) → (M ↔ (A ⊎ O)) → N ↔ (F ⊎ M)
 joined_more n l m = (
   (λ h. elim (n.0 h) [ inl left ↦ elim (l.0 left) [ inl f ↦ inl f | inr a ↦ inr (m.1 (inl a)) ] | inr o ↦ inr (m.1 (inr o)) ]),

@@ -1,10 +1,10 @@
 -- Ranges of numbers, their parts below a set's bound, and what an iterator over one has left.
-use Rattle.std.proofs.Common.{◌≡◌, ℕ, suc, ◌+◌, ◌-◌, ◌<◌, ◌≤◌, Bool, true, false, List, [], ◌∷◌, ◌++◌, length, length-append, min, replicate, slice_get, slice_range, None, Option, Some, refl, sym, ◌∙◌, ap, inl, inr, subst, arith}
+use Rattle.std.proofs.Common.{◌≡◌, ℕ, suc, ◌+◌, ◌-◌, ◌<◌, ◌≤◌, Bool, true, false, List, [], ◌∷◌, ◌++◌, length, length-append, min, replicate, slice_get, slice_range, None, Option, Some, sym, ◌∙◌, ap, inl, inr, subst, arith}
 use Rattle.std.specs.Prelude.{◌⊎◌, ◌↔◌, EachIndex, SomeIndex}
 use Rattle.std.specs.Iterator.{YieldsFirst, YieldsLast}
 use Rattle.std.specs.List.{All}
 use Rattle.std.proofs.lemmas.Bool.{cases_lt}
-use Rattle.std.proofs.lemmas.List.{get_or_append_left, get_or_at}
+use Rattle.std.proofs.lemmas.List.{get_or_append_left}
 use Rattle.std.proofs.lemmas.Option.{get_or_from_slice_get, slice_get-get_or}
 use Rattle.bit_addressing.specs.Row.{put}
 use Rattle.bit_addressing.specs.declared.length.TheConstants.{MAX_BITS}
@@ -65,19 +65,8 @@ not_all xs a b some past all = let low = inside_bound xs (b - 1) (all (b - 1) (o
 pub fit_from_all : (base n : ℕ) (l : List ℕ) → All (λ i. i < n) l → base + n ≤ MAX_BITS → FitFrom base l
 fit_from_all base n l all room = record { each = λ k h. let low = all k 0 h in omega arith }
 
-pub fit_first : (base x : ℕ) (l m : List ℕ) → FitFrom base l → l ≡ x ∷ m → base + x < MAX_BITS
-fit_first base x l m fit is = let all : FitFrom base (x ∷ m) = subst (FitFrom base) is fit in all.each 0 (omega arith)
-
 pub fit_rest : (base x : ℕ) (l m : List ℕ) → FitFrom base l → l ≡ x ∷ m → FitFrom base m
 fit_rest base x l m fit is = let all : FitFrom base (x ∷ m) = subst (FitFrom base) is fit in record { each = λ k h. all.each (suc k) (omega arith) }
-
-pub fit_last : (base x : ℕ) (l m : List ℕ) → FitFrom base l → l ≡ m ++ x ∷ [] → base + x < MAX_BITS
-fit_last base x l m fit is =
-    let all : FitFrom base (m ++ x ∷ []) = subst (FitFrom base) is fit in
-    let size = length-append m (x ∷ []) in
-    let here = all.each (length m) (omega arith) in
-    let at = get_or_at m x [] 0 (length m) refl in
-    omega arith
 
 pub fit_front : (base x : ℕ) (l m : List ℕ) → FitFrom base l → l ≡ m ++ x ∷ [] → FitFrom base m
 fit_front base x l m fit is =

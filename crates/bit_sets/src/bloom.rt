@@ -1,5 +1,5 @@
 //! A filter over a list of bits that tells of hashes whether they may have been put in.
-ghost use Rattle.std.specs.Prelude.{◌≡◌, ◌+◌, ◌*◌, ◌/◌, ◌%◌, ◌^◌, ◌<◌, ◌≤◌, ◌⊎◌, ◌↔◌, ℕ, Err, IfOk, IsOk, IsTrue, OnErr, OnOk, Some, false, length, replicate, slice_get, true};
+ghost use Rattle.std.specs.Prelude.{◌≡◌, ◌+◌, ◌*◌, ◌/◌, ◌%◌, ◌^◌, ◌<◌, ◌≤◌, ◌⊎◌, ◌↔◌, ℕ, Err, IfOk, IsOk, IsTrue, OnErr, OnOk, Some, count_by, false, length, replicate, slice_get, true};
 ghost use Rattle.bit_addressing.specs.declared.errors.GrowError.TheVariants as errors;
 ghost use Rattle.bit_addressing.specs.declared.length.TheConstants.{MAX_BITS};
 ghost use Rattle.bit_slice.specs.Operators.{or_of};
@@ -96,7 +96,7 @@ impl BloomFilter {
 
     /// How many bits are true.
     pub fn count_ones(&self) -> usize
-        ensures { result ≤ length self.now.bits }
+        ensures { result ≡ count_by (λ bit. bit) self.now.bits }
     {
         self.bits.count_ones()
     }

@@ -8,7 +8,7 @@ use Rattle.std.proofs.iter.runs.Sources.{from_front, as_is}
 use Rattle.std.proofs.lemmas.Bool.{cases_lt}
 use Rattle.std.proofs.lemmas.List.{get_or_past, length-append, length-replicate}
 use Rattle.std.proofs.lemmas.Option.{slice_get_within}
-use Rattle.bit_slice.specs.Places.{IsAbsent, IsNext}
+use Rattle.bit_slice.specs.Places.{IsAbsent, IsNext, ones_of}
 use Rattle.bit_slice.proofs.Combining.{length-combined}
 use Rattle.bit_containers.specs.Making.{filled_up}
 use Rattle.bit_containers.proofs.Making.{combined_all}
@@ -16,6 +16,7 @@ use Rattle.bit_sets.specs.Merged.{made_by, merged_left, merged_list}
 use Rattle.bit_sets.specs.NumberSet.{IsIn}
 use Rattle.bit_sets.specs.declared.number_set.merged.Merging.{Merging}
 use Rattle.bit_sets.specs.declared.number_set.merged.Merging.TheVariants.{Either, Both, LeftAlone, OneAlone}
+use Rattle.bit_sets.proofs.CountedSets.{few_ones, members_counted}
 use Rattle.bit_sets.proofs.Members.{in_bit, out_bit}
 
 pub length_merged : (merging : Merging) (xs ys : List Bool) → length (merged_list merging xs ys) ≡ max (length xs) (length ys)
@@ -23,6 +24,13 @@ length_merged merging xs ys =
     let long = length-append xs (replicate (length ys - length xs) false) in
     let more = length-replicate (length ys - length xs) false in
     length-combined (made_by merging) (filled_up xs (length ys)) ys ∙ omega arith
+
+-- no more numbers are given than the higher bound
+pub merged_few : (merging : Merging) (xs ys : List Bool) (limit : ℕ) → length xs ≤ limit → length ys ≤ limit → length (ones_of (merged_list merging xs ys)) ≤ limit
+merged_few merging xs ys limit left right =
+    let zs : List Bool = merged_list merging xs ys in
+    let size = length_merged merging xs ys in
+    few_ones (ones_of zs) zs limit (members_counted zs) (omega arith)
 
 -- a number is given by whether it is in each set
 merged_bit : (merging : Merging) (xs ys : List Bool) (k : ℕ) → k < max (length xs) (length ys) → get_or (merged_list merging xs ys) k false ≡ made_by merging (get_or xs k false) (get_or ys k false)

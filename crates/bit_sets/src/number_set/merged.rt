@@ -54,6 +54,7 @@ impl NumberSet {
     /// The numbers of either set, ascending, each once. Takes no memory.
     pub fn union<'a>(&'a self, other: &'a Self) -> Merged<'a>
         ensures list { merged_left result ≡ ones_of (or_of (filled_up self.now (length other.now)) other.now) }
+        ensures few { length (merged_left result) ≤ MAX_BITS }
         ensures runs { YieldsInOrder (YieldsFirst merged_left) merged_left }
     {
         self.merge(other, Merging::Either)
@@ -62,6 +63,7 @@ impl NumberSet {
     /// The numbers of both sets, ascending. Takes no memory.
     pub fn intersection<'a>(&'a self, other: &'a Self) -> Merged<'a>
         ensures list { merged_left result ≡ ones_of (and_of (filled_up self.now (length other.now)) other.now) }
+        ensures few { length (merged_left result) ≤ MAX_BITS }
         ensures runs { YieldsInOrder (YieldsFirst merged_left) merged_left }
     {
         self.merge(other, Merging::Both)
@@ -70,6 +72,7 @@ impl NumberSet {
     /// The numbers of this set that are not in the other, ascending. Takes no memory.
     pub fn difference<'a>(&'a self, other: &'a Self) -> Merged<'a>
         ensures list { merged_left result ≡ ones_of (and_not_of (filled_up self.now (length other.now)) other.now) }
+        ensures few { length (merged_left result) ≤ MAX_BITS }
         ensures runs { YieldsInOrder (YieldsFirst merged_left) merged_left }
     {
         self.merge(other, Merging::LeftAlone)
@@ -78,6 +81,7 @@ impl NumberSet {
     /// The numbers of exactly one of the sets, ascending. Takes no memory.
     pub fn symmetric_difference<'a>(&'a self, other: &'a Self) -> Merged<'a>
         ensures list { merged_left result ≡ ones_of (xor_of (filled_up self.now (length other.now)) other.now) }
+        ensures few { length (merged_left result) ≤ MAX_BITS }
         ensures runs { YieldsInOrder (YieldsFirst merged_left) merged_left }
     {
         self.merge(other, Merging::OneAlone)
@@ -85,7 +89,8 @@ impl NumberSet {
 
     // The numbers of two sets that are to be given.
     fn merge<'a>(&'a self, other: &'a Self, merging: Merging) -> Merged<'a>
-        ensures { merged_left result ≡ ones_of (merged_list merging self.now other.now) }
+        ensures list { merged_left result ≡ ones_of (merged_list merging self.now other.now) }
+        ensures few { length (merged_left result) ≤ MAX_BITS }
     {
         Merged {
             left: self,

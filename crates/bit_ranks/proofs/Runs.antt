@@ -5,11 +5,7 @@ use Rattle.std.specs.Iterator.Runs.{YieldsInOrder}
 use Rattle.std.proofs.iter.runs.Sources.{from_front, as_is}
 use Rattle.bit_addressing.specs.declared.store.BitStore as store
 use Rattle.bit_addressing.specs.declared.order.BitOrder as order
-use Rattle.bit_ranks.specs.Numbers.{numbers_left}
 use Rattle.bit_ranks.specs.Ones.{ones_from}
 
 pub ones_runs : {X Y : Type 0} (W : store.Ghosts X) (P : order.Ghosts Y) → YieldsInOrder (YieldsFirst (ones_from {X = X} {Y = Y} {W = W} {P = P})) ones_from
 ones_runs {X} {Y} W P p s = as_is p (ones_from p.from) (from_front (YieldsFirst (ones_from {X = X} {Y = Y} {W = W} {P = P})) (λ b. b) ones_from (λ s t h. ap length h.0) (λ s x t h. h) p s)
-
-pub numbers_runs : YieldsInOrder (YieldsFirst numbers_left) numbers_left
-numbers_runs p s = as_is p (numbers_left p.from) (from_front (YieldsFirst numbers_left) (λ n. n) numbers_left (λ s t h. ap length h.0) (λ s x t h. h) p s)

@@ -51,6 +51,19 @@ impl<T: BitStore, O: BitOrder> Model for Ranks<T, O> {
     ghost invariant = { λ r. IsIndex r.bits.list r.counts.items };
 }
 
+impl<T: BitStore, O: BitOrder> Clone for Ranks<T, O> {
+    ghost use Rattle.bit_slice.specs.Held.{IsCopy};
+
+    ghost is_clone = { IsCopy T.BITS };
+
+    /// A copy: that of the box, whose ones are counted. Takes memory where there is a bit.
+    fn clone(&self) -> Result<Self, AllocError> {
+        let bits = self.bits.clone()?;
+        let counts = counted(self.bits.allocator(), bits.as_bitslice())?;
+        Ok(Ranks { bits, counts })
+    }
+}
+
 impl<T: BitStore, O: BitOrder> Ranks<T, O> {
     /// Counts the ones of a box. Takes memory for the counts where there are at least 512 bits; where it is refused,
     /// the error is the box.

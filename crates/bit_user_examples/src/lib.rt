@@ -10,6 +10,8 @@ mod ranks;
 #[cfg(test)]
 mod records;
 #[cfg(test)]
+mod sets;
+#[cfg(test)]
 mod users;
 
 // That this holds. A test calls it in place of `assert!`, which costs the prover more: a failed

@@ -1,6 +1,5 @@
 //! Each call of ranks once.
 mod callers;
-mod sorted;
 
 use crate::{check, ok};
 use bit_containers::{BitVec, Msb0};

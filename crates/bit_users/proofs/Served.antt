@@ -4,12 +4,11 @@ use Rattle.std.specs.Prelude.{◌⊎◌}
 use Rattle.std.proofs.lemmas.List.{take_all, take_more, take_more_set}
 use Rattle.bit_addressing.specs.Row.{put}
 use Rattle.bit_users.specs.Serving.{At, HandsOut, HaveServed, IsNeverTwice, IsServed, TakesBack}
-use Rattle.bit_users.specs.Table.{IsIn}
 use Rattle.bit_users.specs.declared.free_map.serving.Request.{Request}
 use Rattle.bit_users.specs.declared.free_map.serving.Request.TheVariants.{Take, GiveBack}
 use Rattle.bit_users.specs.declared.free_map.serving.Reply.{Reply}
 use Rattle.bit_users.specs.declared.free_map.serving.Reply.TheVariants.{Taken, GivenBack, Refused}
-use Rattle.bit_users.proofs.Members.{filled_in, filled_out, in_range}
+use Rattle.bit_users.proofs.Filled.{IsIn, filled_in, filled_out, in_range}
 
 -- one request more
 pub served_more : (old mid new : List Bool) (qs : List Request) (rs : List Reply) (q : Request) (r : Reply) → HaveServed old qs rs mid → IsServed mid q r new → HaveServed old (qs ++ q ∷ []) (rs ++ r ∷ []) new

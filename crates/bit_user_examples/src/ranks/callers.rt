@@ -1,10 +1,10 @@
-//! Callers of ranks and of sorted numbers: what each proves stands in its clauses, and none has a file.
-ghost use Rattle.std.specs.Prelude.{◌≡◌, ◌<◌, ◌≤◌, false, true, IfOk, IfSome, IsTrue, Some, length, slice_get};
+//! Callers of ranks: what each proves stands in its clauses, and none has a file.
+ghost use Rattle.std.specs.Prelude.{◌≡◌, ◌<◌, ◌≤◌, false, true, IfOk, IfSome, Some, length, slice_get};
 ghost use Rattle.bit_slice.specs.Numbered.{ones_before};
 
 use bit_boxed::BitBox;
 use bit_containers::{BitOrder, BitStore};
-use bit_ranks::{Ranks, SortedError, SortedNumbers};
+use bit_ranks::Ranks;
 use std::alloc::Global;
 
 pub fn number_of_found<T: BitStore, O: BitOrder>(ranks: &Ranks<T, O>, k: usize) -> Option<usize>
@@ -52,48 +52,4 @@ pub fn ones_of_box<T: BitStore, O: BitOrder>(
 {
     let ranks = Ranks::new(alloc, bits)?;
     Ok(ranks.rank1(i))
-}
-
-pub fn read_back(alloc: Global, numbers: &[u64], k: usize) -> Result<Option<u64>, SortedError>
-    ensures { IfOk result (λ read. read ≡ slice_get numbers.now k) }
-{
-    let sorted = SortedNumbers::from_slice(alloc, numbers)?;
-    Ok(sorted.get(k))
-}
-
-pub fn collected(alloc: Global, numbers: Vec<u64>) -> Result<SortedNumbers, SortedError>
-    ensures { IfOk result (λ sorted. sorted ≡ numbers.items) }
-{
-    SortedNumbers::from_numbers(alloc, numbers)
-}
-
-pub fn first_is_there(numbers: &SortedNumbers, x: u64) -> bool
-    ensures { IsTrue result }
-{
-    match numbers.next_at_least(x) {
-        None => true,
-        Some((_, number)) => numbers.contains(number),
-    }
-}
-
-pub fn place_of_first(numbers: &SortedNumbers, x: u64) -> Option<u64>
-    ensures { IfSome result (λ number. x ≤ number) }
-{
-    let (k, _) = numbers.next_at_least(x)?;
-    numbers.get(k)
-}
-
-pub fn later_is_as_large(numbers: &SortedNumbers, k: usize, later: usize) -> Option<bool>
-    requires { k ≤ later }
-    ensures { IfSome result (λ larger. IsTrue larger) }
-{
-    let number = numbers.get(k)?;
-    let next = numbers.get(later)?;
-    Some(number <= next)
-}
-
-pub fn all_counted(numbers: &SortedNumbers) -> usize
-    ensures { result ≡ length numbers.now }
-{
-    numbers.iter().count()
 }

@@ -1,5 +1,0 @@
-use Rattle.bit_ranks.proofs.Runs.{numbers_runs}
-use Rattle.bit_ranks.proofs.sorted.SortedNumbers.iter.Goals as goal
-
-pub returns-clause-runs : goal.returns-clause-runs
-returns-clause-runs c = numbers_runs

@@ -1,9 +1,0 @@
--- What an iterator over sorted numbers has left.
-use Rattle.std.specs.Prelude.{ℕ, List, drop}
-use Rattle.bit_slice.specs.BitSlice.{list_of}
-use Rattle.bit_ranks.specs.Sorted.{numbers_of}
-use Rattle.bit_ranks.specs.declared.sorted.iter.Numbers.{Numbers}
-
--- the numbers that are left
-abbrev pub numbers_left : Numbers → List ℕ
-numbers_left s = drop s.at (numbers_of s.len s.width (list_of s.high) (list_of s.low))

@@ -1,0 +1,17 @@
+pub mod Ascending
+pub mod CountedSets
+pub mod Filters
+pub mod Left
+pub mod Making
+pub mod Many
+pub mod Members
+pub mod Merging
+pub mod Ordered
+pub mod Packed
+pub mod Places
+pub mod Ranges
+pub mod Ranked
+pub mod Retaining
+pub mod Runs
+pub mod Searched
+pub mod Sieve

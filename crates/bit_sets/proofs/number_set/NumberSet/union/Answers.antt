@@ -1,0 +1,5 @@
+use Rattle.bit_sets.proofs.Merging.{merged_runs}
+use Rattle.bit_sets.proofs.number_set.NumberSet.union.Goals as goal
+
+pub returns-clause-runs : goal.returns-clause-runs
+returns-clause-runs c = merged_runs

@@ -1,0 +1,10 @@
+pub mod Bloom
+pub mod Compared
+pub mod Filter
+pub mod InTurn
+pub mod Merged
+pub mod NumberSet
+pub mod Numbers
+pub mod RangeLeft
+pub mod Sorted
+pub mod SortedErrors

@@ -1,0 +1,204 @@
+//! Ranges of numbers: put into a set, taken out, tested, counted and iterated over.
+ghost use Rattle.std.specs.Iterator.{YieldsFirst, YieldsLast};
+ghost use Rattle.std.specs.Iterator.Runs.{YieldsInOrder, YieldsInReverse};
+ghost use Rattle.std.specs.Prelude.{◌≡◌, ◌+◌, ◌≤◌, ◌<◌, ◌⊎◌, ◌↔◌, ℕ, Err, IfSome, IsTrue, OnErr, OnOk, Some, length, max, min};
+ghost use Rattle.bit_addressing.specs.Range.{LiesIn};
+ghost use Rattle.bit_addressing.specs.declared.errors.GrowError.TheVariants as errors;
+ghost use Rattle.bit_addressing.specs.declared.length.TheConstants.{MAX_BITS};
+ghost use Rattle.bit_slice.specs.Indices.{ones_left};
+ghost use Rattle.bit_sets.specs.NumberSet.{FitFrom, IsIn, numbers_between};
+
+use crate::number_set::NumberSet;
+use bit_addressing::{GrowError, Lsb0};
+use bit_containers::{BitList, BitListMut, IterOnes};
+use std::iter::{DoubleEndedIterator, ExactSizeIterator, FusedIterator, Iterator};
+use std::ops::Range;
+
+impl NumberSet {
+    /// Puts all numbers of a range into the set, by whole words. The bound grows to reach them. Returns `TooLong`
+    /// exactly where the range is not empty and its end passes the bound and `MAX_BITS`. Takes memory only where the
+    /// bound grows; a refusal leaves the set as it was.
+    ///
+    /// ```text
+    /// seen.insert_range(10..20)?;      // 10, 11, .. 19
+    /// ```
+    pub fn insert_range(&mut self, numbers: Range<usize>) -> Result<(), GrowError>
+        ensures bound { OnOk result (numbers.start < numbers.end → length self.new ≡ max (length self.old) numbers.end) }
+        ensures empty { OnOk result (numbers.end ≤ numbers.start → self.new ≡ self.old) }
+        ensures members { OnOk result ((k : ℕ) → IsIn self.new k
+            ↔ (((numbers.start ≤ k) × (k < numbers.end)) ⊎ IsIn self.old k)) }
+        ensures too_long { (result ≡ Err errors.TooLong)
+            ↔ ((numbers.start < numbers.end) × (length self.old < numbers.end) × (MAX_BITS < numbers.end)) }
+        ensures memory { result ≡ Err errors.OutOfMemory
+            → (numbers.start < numbers.end) × (length self.old < numbers.end) }
+        ensures refused { OnErr result (self.new ≡ self.old) }
+    {
+        if numbers.start >= numbers.end {
+            return Ok(());
+        }
+        self.raise_bound(numbers.end)?;
+        self.insert_range_within(numbers);
+        Ok(())
+    }
+
+    /// Like `insert_range`, without a test of the bound: it takes no memory. Requires that the range ends at the bound
+    /// or before.
+    #[tactic(auto, using(crate::proofs::Members::filled_in))]
+    pub fn insert_range_within(&mut self, numbers: Range<usize>)
+        requires ordered { numbers.start ≤ numbers.end }
+        requires inside { numbers.end ≤ length self.old }
+        ensures bound { length self.new ≡ length self.old }
+        ensures members { (k : ℕ) → IsIn self.new k ↔ (((numbers.start ≤ k) × (k < numbers.end)) ⊎ IsIn self.old k) }
+    {
+        self.bits.fill_range(numbers, true);
+    }
+
+    /// Takes all numbers of a range out of the set, by whole words. The bound stays. Takes no memory.
+    #[tactic(auto, using(crate::proofs::Ranges::emptied))]
+    pub fn remove_range(&mut self, numbers: Range<usize>)
+        ensures bound { length self.new ≡ length self.old }
+        ensures members { (k : ℕ) → IsIn self.new k ↔ (((k < numbers.start) ⊎ (numbers.end ≤ k)) × IsIn self.old k) }
+    {
+        let part = self.below_bound(numbers);
+        self.bits.fill_range(part, false);
+    }
+
+    /// Whether all numbers of a range are in the set. Of an empty range it is true.
+    ///
+    /// ```text
+    /// of 2, 3, 4, 7: seen.contains_range(2..5) == true
+    /// ```
+    pub fn contains_range(&self, numbers: Range<usize>) -> bool
+        ensures { IsTrue result ↔ ((k : ℕ) → numbers.start ≤ k → k < numbers.end → IsIn self.now k) }
+    {
+        if numbers.start >= numbers.end {
+            return true;
+        }
+        if numbers.end > self.bits.len() {
+            return false;
+        }
+        self.bits.all_in(numbers)
+    }
+
+    /// Whether some number of a range is in the set. Of an empty range it is false.
+    ///
+    /// ```text
+    /// of 2, 3, 4, 7: seen.any_in(5..7) == false
+    /// ```
+    pub fn any_in(&self, numbers: Range<usize>) -> bool
+        ensures { IsTrue result ↔ ((k : ℕ) × (numbers.start ≤ k) × (k < numbers.end) × IsIn self.now k) }
+    {
+        let part = self.below_bound(numbers);
+        self.bits.any_in(part)
+    }
+
+    /// How many numbers of a range are in the set.
+    ///
+    /// ```text
+    /// of 2, 3, 4, 7: seen.count_in(3..8) == 3
+    /// ```
+    pub fn count_in(&self, numbers: Range<usize>) -> usize
+        ensures { result ≡ length (numbers_between self.now numbers.start numbers.end) }
+    {
+        let part = self.below_bound(numbers);
+        self.bits.count_ones_in(part)
+    }
+
+    // The part of a range that is below the bound.
+    fn below_bound(&self, numbers: Range<usize>) -> Range<usize>
+        ensures start { result.start ≡ min numbers.start (min numbers.end (length self.now)) }
+        ensures end { result.end ≡ min numbers.end (length self.now) }
+        ensures lies { LiesIn result.start result.end (length self.now) }
+    {
+        let end = numbers.end.min(self.bits.len());
+        numbers.start.min(end)..end
+    }
+}
+
+/// The numbers of a set that are in a range, ascending, from both ends, each once.
+///
+/// Its length is known, and after the first None there is no more. It takes no memory.
+#[derive(Drop)]
+pub struct SetRange<'a> {
+    ones: IterOnes<'a, usize, Lsb0>,
+    // What is added to each index.
+    base: usize,
+    ghost fits: { FitFrom base (ones_left ones) },
+}
+
+impl NumberSet {
+    ghost use Rattle.bit_sets.specs.RangeLeft.{range_left};
+
+    /// The numbers of the set that are in a range, ascending, from both ends.
+    ///
+    /// ```text
+    /// of 2, 3, 4, 7: seen.range(3..8) gives 3, 4, 7
+    /// ```
+    pub fn range(&self, numbers: Range<usize>) -> SetRange<'_>
+        ensures list { range_left result ≡ numbers_between self.now numbers.start numbers.end }
+        ensures few { length (range_left result) ≤ MAX_BITS }
+        ensures runs { YieldsInOrder (YieldsFirst range_left) range_left }
+        ensures runs_back { YieldsInReverse (YieldsLast range_left) range_left }
+    {
+        let part = self.below_bound(numbers);
+        let base = part.start;
+        SetRange {
+            ones: self.bits.as_bitslice().get_range(part).iter_ones(),
+            base,
+        }
+    }
+}
+
+impl<'a> Iterator for SetRange<'a> {
+    ghost use Rattle.std.specs.Iterator.{YieldsFirst, UpTo, at_most, item_count};
+    ghost use Rattle.std.specs.Iterator.SizeHint.{IsWithinCount};
+    ghost use Rattle.bit_sets.specs.RangeLeft.{range_left};
+
+    type Item = usize;
+
+    ghost next_gives = { YieldsFirst range_left };
+
+    ghost remaining = { item_count range_left };
+
+    /// The least number that is left. None exactly where none is.
+    fn next(&mut self) -> Option<usize> {
+        match self.ones.next() {
+            None => None,
+            Some(index) => Some(self.base + index),
+        }
+    }
+
+    /// How many numbers are left, twice: the bits that are left are counted.
+    fn size_hint(&self) -> (usize, Option<usize>)
+        ensures lower { IsWithinCount result.0 (at_most (length (range_left self.now))) }
+        ensures upper { IfSome result.1 (UpTo (at_most (length (range_left self.now)))) }
+        ensures value { result ≡ (length (range_left self.now), Some (length (range_left self.now))) }
+    {
+        let count = self.ones.len();
+        (count, Some(count))
+    }
+}
+
+impl<'a> DoubleEndedIterator for SetRange<'a> {
+    ghost use Rattle.std.specs.Iterator.{YieldsLast};
+    ghost use Rattle.bit_sets.specs.RangeLeft.{range_left};
+
+    ghost next_back_gives = { YieldsLast range_left };
+
+    /// The greatest number that is left. None exactly where none is.
+    fn next_back(&mut self) -> Option<usize> {
+        match self.ones.next_back() {
+            None => None,
+            Some(index) => Some(self.base + index),
+        }
+    }
+}
+
+impl<'a> ExactSizeIterator for SetRange<'a> {
+    /// How many numbers are left: the bits that are left are counted.
+    fn len(&self) -> usize {
+        self.ones.len()
+    }
+}
+
+impl<'a> FusedIterator for SetRange<'a> {}

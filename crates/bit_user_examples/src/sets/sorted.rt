@@ -1,0 +1,85 @@
+//! Each call of sorted numbers once.
+mod callers;
+
+use crate::{check, ok};
+use bit_sets::{SortedError, SortedNumbers};
+use std::process::Abort;
+
+#[test]
+fn refused_lists(rt: HostRuntime) {
+    let alloc = rt.alloc();
+    let refused = SortedNumbers::from_slice(alloc, [2, 9, 3, 1].as_slice()).err();
+    check(&rt, refused == Some(SortedError::Descends(2)));
+    let refused = SortedNumbers::from_slice(alloc, [1, 0].as_slice()).err();
+    check(&rt, refused == Some(SortedError::Descends(1)));
+    let list = Vec::from_array(alloc, [4, 4, 3, 9]).expect(&rt, "memory");
+    let refused = SortedNumbers::from_numbers(alloc, list).err();
+    check(&rt, refused == Some(SortedError::Descends(2)));
+}
+
+#[test]
+fn four_numbers(rt: HostRuntime) {
+    let list = Vec::from_array(rt.alloc(), [2, 3, 9, 9]).expect(&rt, "memory");
+    let numbers = SortedNumbers::from_numbers(rt.alloc(), list)
+        .ok()
+        .expect(&rt, "they ascend");
+    check(&rt, !numbers.is_empty());
+    assert!(rt; numbers.len() == 4);
+    check(&rt, numbers.get(1) == Some(3));
+    check(&rt, numbers.iter().len() == 4);
+    check(&rt, numbers.iter().next() == Some(2));
+    check(&rt, numbers.next_at_least(4) == Some((2, 9)));
+    check(&rt, numbers.next_at_least(10) == None);
+    check(&rt, numbers.contains(3));
+    check(&rt, !numbers.contains(4));
+    check(&rt, numbers.size_in_bits() == 12);
+}
+
+// The numbers 2, 3, 9 and 9.
+fn four(rt: &(impl Abort + AllocGlobal)) -> SortedNumbers {
+    ok(rt, SortedNumbers::from_slice(rt.alloc(), &[2, 3, 9, 9]))
+}
+
+#[test]
+fn four_numbers_searched(rt: HostRuntime) {
+    let numbers = four(&rt);
+    check(&rt, numbers.first() == Some(2));
+    check(&rt, numbers.last() == Some(9));
+    check(&rt, numbers.previous_at_most(4) == Some((1, 3)));
+    check(&rt, numbers.previous_at_most(9) == Some((3, 9)));
+    check(&rt, numbers.previous_at_most(u64::MAX) == Some((3, 9)));
+    check(&rt, numbers.previous_at_most(1).is_none());
+    check(&rt, numbers.rank(9) == 2);
+    check(&rt, numbers.rank(0) == 0);
+    check(&rt, numbers.rank(u64::MAX) == 4);
+}
+
+#[test]
+fn four_numbers_from_both_ends(rt: HostRuntime) {
+    let numbers = four(&rt);
+    let mut left = numbers.iter_from(1);
+    check(&rt, left.len() == 3);
+    check(&rt, left.next_back() == Some(9));
+    check(&rt, left.next() == Some(3));
+    check(&rt, left.next_back() == Some(9));
+    check(&rt, left.next().is_none());
+    check(&rt, left.next_back().is_none());
+    check(&rt, numbers.iter_from(9).next().is_none());
+    check(&rt, numbers.iter().next_back() == Some(9));
+}
+
+#[test]
+fn four_numbers_copied(rt: HostRuntime) {
+    let numbers = four(&rt);
+    let copy = ok(&rt, numbers.clone());
+    check(&rt, copy == numbers);
+    let others = ok(&rt, SortedNumbers::from_slice(rt.alloc(), &[2, 3, 9]));
+    check(&rt, others != numbers);
+    let text = ok(&rt, format!(in rt.alloc(); "{numbers:?}"));
+    check(&rt, text.as_str() == "[2, 3, 9, 9]");
+    let mut sum = 0;
+    for number in &numbers {
+        sum = number.max(sum);
+    }
+    check(&rt, sum == 9);
+}

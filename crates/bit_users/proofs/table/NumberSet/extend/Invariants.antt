@@ -1,9 +1,0 @@
-use Rattle.bit_users.specs.InTurn.{HasTaken}
-use Rattle.bit_users.proofs.table.NumberSet.extend.Given as goal
-
-abbrev pub invariant-loop-number : goal.invariant-loop-number
-invariant-loop-number g l = record {
-  can : (goal.iterator-loop-number g).can_next l.number-iterator;
-  finite : (goal.iterator-loop-number g).is_finite l.number-iterator;
-  taken : HasTaken l.fn.self l.self l.yielded;
-}

@@ -1,5 +1,0 @@
-use Rattle.bit_users.proofs.table.NumberSet.retain.Goals as goal
-
-pub returns-clause-numbers : goal.returns-clause-numbers
-returns-clause-numbers g c =
-    let h = c.retain_by.ensures.numbers in (h.0, c.retain_by.new.f, h.1, h.2)

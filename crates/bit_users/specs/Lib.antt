@@ -1,13 +1,5 @@
-pub mod Elimination
-pub mod FreeMap
 pub mod InTurn
-pub mod Matrix
-pub mod MatrixLeft
 pub mod Merged
-pub mod Rank
-pub mod Reduction
 pub mod Sequence
-pub mod Serving
-pub mod Squares
 pub mod Table
 pub mod Wire

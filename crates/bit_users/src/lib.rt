@@ -1,15 +1,10 @@
-//! Users of the containers: a wire format, a set of numbers, an allocator's map of frames, a list as
-//! bytes, and a matrix, whose set bits are also the edges of a graph.
+//! Users of the containers: a wire format, a set of numbers, and a list as bytes.
 #![tactic(auto)]
 
-mod free_map;
-mod matrix;
 mod sequence;
 mod table;
 mod wire;
 
-pub use free_map::{FreeMap, NotTaken, Reply, Request};
-pub use matrix::{Column, Matrix, Rows};
 pub use sequence::{Fault, are_of_one_list, from_bytes, to_bytes};
 pub use table::{Merged, NumberSet};
 pub use wire::{Header, HeaderFault};

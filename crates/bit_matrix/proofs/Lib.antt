@@ -1,0 +1,9 @@
+pub mod FullRank
+pub mod Grids
+pub mod Lowest
+pub mod MatrixRuns
+pub mod ModTwo
+pub mod Padding
+pub mod Paths
+pub mod Ranks
+pub mod Turning

@@ -6,12 +6,14 @@ use Rattle.std.proofs.lemmas.List.{ext_get_or, get_or-replicate, length-replicat
 use Rattle.std.proofs.lemmas.Option.{get_or_from_slice_get, slice_get-get_or, slice_get_within}
 use Rattle.bit_addressing.specs.Row.{put}
 use Rattle.bit_addressing.proofs.lists.Put.{length-put, put_before, put_after, put_inside, put_none}
-use Rattle.std.specs.Prelude.{◌⊎◌, ◌↔◌, EachIndex}
+use Rattle.std.specs.Prelude.{◌⊎◌, ◌↔◌, EachIndex, MatchOption}
 use Rattle.std.proofs.lemmas.Nat.{mod-mul-add}
 use Rattle.bit_addressing.proofs.lists.Sized.{one_more_word}
 use Rattle.bit_addressing.proofs.lists.Shown.{get_or-run, length-run}
 use Rattle.bit_slice.proofs.Ranges.{read_filled}
-use Rattle.bit_frames.specs.FreeMap.{AreFree, AreTaken}
+use Rattle.bit_slice.specs.Pieces.{part}
+use Rattle.bit_slice.proofs.BitRuns.{all_inside}
+use Rattle.bit_frames.specs.FreeMap.{AreFree, AreTaken, IsFirstRun, IsNextRun, IsTaken}
 
 pub other_bit : (o : Option Bool) → o ≡ Some true → o ≢ Some false
 other_bit o is e = some_apart (sym is ∙ e)
@@ -27,18 +29,50 @@ after_run map first n (Some k) size inside begins found =
     let within = slice_get_within map k true found in
     (other_bit (slice_get map k) found, begins, omega arith)
 
--- no run of that many begins at or before a frame of a shorter one
-pub no_run : (map : List Bool) (from first end count : ℕ) → 0 < count → ((j : ℕ) → from ≤ j → j < first → slice_get map j ≡ Some true) → ((i : ℕ) → i < from → AreFree map count i → ⊥) → slice_get map end ≢ Some false → end - first < count → (i : ℕ) → i < end → AreFree map count i → ⊥
-no_run map from first end count some before none taken short i below free = elim (cases_lt i from) [
+-- ---- searches
+
+-- a run of free frames lies in the map
+pub run_inside : (map : List Bool) (count first : ℕ) → 0 < count → AreFree map count first → first + count ≤ length map
+run_inside map count first some free = (let last = slice_get_within map (first + (count - 1)) false (free (count - 1) (omega arith)) in omega arith)
+
+-- it is a part of the map that is false
+part_free : (map : List Bool) (count first : ℕ) → 0 < count → AreFree map count first → part count map first ≡ replicate count false
+part_free map count first some free =
+    all_inside map count first false (run_inside map count first some free) (record {
+      each = λ k low high. (let at : first + (k - first) ≡ k = omega arith in get_or_from_slice_get map k false false (ap (slice_get map) (sym at) ∙ free (k - first) (omega arith)));
+    })
+
+-- what a search for a part that is false has found
+pub next_fit : (map : List Bool) (count from : ℕ) (r : Option ℕ) → 0 < count → IfSome r (λ i. from ≤ i) → IfSome r (λ i. i + count ≤ length map) → IfSome r (λ i. (j : ℕ) → i ≤ j → j < i + count → slice_get map j ≡ Some false)
+    → IfSome r (λ i. (j : ℕ) → from ≤ j → j < i → part count map j ≢ replicate count false) → IfNone r ((j : ℕ) → from ≤ j → j + count ≤ length map → part count map j ≢ replicate count false)
+    → MatchOption r ((k : ℕ) → from ≤ k → AreFree map count k → ⊥) (λ first. IsNextRun map count from first)
+next_fit map count from None some begins inside each before none = λ k later free. none k later (run_inside map count k some free) (part_free map count k some free)
+next_fit map count from (Some i) some begins inside each before none = record {
+  begins = begins;
+  inside = inside;
+  free = λ k h. each (i + k) (omega arith) (omega arith);
+  before = λ k low high free. before k low high (part_free map count k some free);
+}
+
+pub first_fit : (map : List Bool) (count : ℕ) (r : Option ℕ) → MatchOption r ((k : ℕ) → 0 ≤ k → AreFree map count k → ⊥) (λ first. IsNextRun map count 0 first) → MatchOption r ((k : ℕ) → AreFree map count k → ⊥) (λ first. IsFirstRun map count first)
+first_fit map count None none = λ k free. none k (omega arith) free
+first_fit map count (Some i) is = record { inside = is.inside; free = is.free; before = λ k low free. is.before k (omega arith) low free }
+
+-- no run of that many ends after the last free frame before `upto`
+pub none_after : (map : List Bool) (upto last count : ℕ) → 0 < count → ((j : ℕ) → last < j → j < upto → IsTaken map j) → ((i : ℕ) → upto < i + count → AreFree map count i → ⊥) → (i : ℕ) → last + 1 < i + count → AreFree map count i → ⊥
+none_after map upto last count some taken none i past free = elim (cases_lt upto (i + count)) [
   | inl l ↦ none i l free
-  | inr l ↦ elim (cases_lt i first) [
-    | inl m ↦
-        let here : i + 0 ≡ i = omega arith in
-        other_bit (slice_get map i) (before i l m) (ap (slice_get map) (sym here) ∙ free 0 some)
-    | inr m ↦
-        let at : i + (end - i) ≡ end = omega arith in
-        taken (ap (slice_get map) (sym at) ∙ free (end - i) (omega arith))
-  ]
+  | inr l ↦ other_bit (slice_get map (i + (count - 1))) (taken (i + (count - 1)) (omega arith) (omega arith)) (free (count - 1) (omega arith))
+]
+
+-- nor after the first of the free frames that end with it, where they are too few
+pub none_from : (map : List Bool) (upto last start count : ℕ) → 0 < count → ((j : ℕ) → last < j → j < upto → IsTaken map j) → ((i : ℕ) → upto < i + count → AreFree map count i → ⊥) → ((j : ℕ) → j + 1 ≡ start → IsTaken map j) → start ≤ last → last - start < count - 1
+    → (i : ℕ) → start < i + count → AreFree map count i → ⊥
+none_from map upto last start count some taken none edge order few i past free = elim (cases_lt (last + 1) (i + count)) [
+  | inl l ↦ none_after map upto last count some taken none i l free
+  | inr l ↦
+      let at : i + (start - 1 - i) ≡ start - 1 = omega arith in
+      other_bit (slice_get map (start - 1)) (edge (start - 1) (omega arith)) (ap (slice_get map) (sym at) ∙ free (start - 1 - i) (omega arith))
 ]
 
 -- frames that were free, marked as taken and then as free

@@ -29,6 +29,19 @@ pub record IsFirstRun (map : List Bool) (count first : ℕ) : Type 0 where
   pub free : AreFree map count first
   pub before : (i : ℕ) → i < first → AreFree map count i → ⊥
 
+-- such a run begins at this frame, which is `from` or a higher one, and none does at a lower one from there on
+pub record IsNextRun (map : List Bool) (count from first : ℕ) : Type 0 where
+  pub begins : from ≤ first
+  pub inside : first + count ≤ length map
+  pub free : AreFree map count first
+  pub before : (i : ℕ) → from ≤ i → i < first → AreFree map count i → ⊥
+
+-- such a run begins at this frame, and none at a higher one
+pub record IsLastRun (map : List Bool) (count first : ℕ) : Type 0 where
+  pub inside : first + count ≤ length map
+  pub free : AreFree map count first
+  pub after : (i : ℕ) → first < i → AreFree map count i → ⊥
+
 -- such a run begins at this frame, which is a multiple of `align`, and none does at a lower multiple
 pub record IsFirstAligned (map : List Bool) (count align first : ℕ) : Type 0 where
   pub inside : first + count ≤ length map

@@ -4,13 +4,20 @@ ghost use Rattle.std.specs.List.{count_by};
 ghost use Rattle.bit_addressing.specs.declared.errors.GrowError.TheVariants as errors;
 ghost use Rattle.bit_addressing.specs.declared.length.TheConstants.{MAX_BITS};
 ghost use Rattle.bit_addressing.specs.Row.{put};
+ghost use Rattle.bit_slice.specs.BitSlice.{len_of, list_of};
 ghost use Rattle.bit_frames.specs.FreeMap.{AreFree, AreTaken, IsFirstRun};
 
 mod fits;
+mod reserving;
+mod runs;
+mod searches;
 mod serving;
+mod traits;
 
 use bit_addressing::{GrowError, Lsb0};
-use bit_containers::{BitList, BitListMut, BitVec};
+use bit_containers::{BitList, BitListMut, BitSlice, BitVec};
+pub use reserving::NotFree;
+pub use runs::FreeRuns;
 pub use serving::{Reply, Request};
 use std::alloc::Global;
 use std::marker::Model;
@@ -80,6 +87,18 @@ impl FreeMap {
         self.taken[frame]
     }
 
+    /// The bits of the map, as a view: bit `k` says whether frame `k` is taken.
+    ///
+    /// ```text
+    /// frames.as_bitslice().count_ones()       // how many frames are taken
+    /// ```
+    pub fn as_bitslice(&self) -> BitSlice<'_, usize, Lsb0>
+        ensures list { list_of result ≡ self.now }
+        ensures len { len_of result ≡ length self.now }
+    {
+        self.taken.as_bitslice()
+    }
+
     /// How many frames are free. The map keeps the count.
     pub fn count_free(&self) -> usize
         ensures { result ≡ count_by not self.now }
@@ -115,7 +134,7 @@ impl FreeMap {
             (λ first. (self.new ≡ put self.old first (replicate count true)) × IsFirstRun self.old count first) }
         ensures frames { length self.new ≡ length self.old }
     {
-        match self.find_run(count) {
+        match self.find_first_fit(count) {
             None => None,
             Some(first) => {
                 self.mark_taken(first, count);
@@ -133,23 +152,6 @@ impl FreeMap {
     {
         self.taken.fill_range(first..first + count, true);
         self.free -= count;
-    }
-
-    // The lowest frame at which a run of `count` free frames begins.
-    fn find_run(&self, count: usize) -> Option<usize>
-        requires { 0 < count }
-        ensures { MatchOption result ((k : ℕ) → AreFree self.now count k → ⊥)
-            (λ first. IsFirstRun self.now count first) }
-    {
-        let mut from = 0;
-        while let Some(first) = self.taken.next_zero(from) {
-            let end = self.taken.next_one(first).unwrap_or(self.taken.len());
-            if end - first >= count {
-                return Some(first);
-            }
-            from = end;
-        }
-        None
     }
 
     /// Makes the map one of `frames` frames; those that are added are free. Returns `TooLong` exactly where `frames`

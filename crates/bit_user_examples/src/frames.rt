@@ -1,9 +1,12 @@
 //! Maps of frames, where runs fit and what lists of requests leave.
 mod callers;
+mod searches;
 
 use crate::{check, ok};
 use bit_addressing::GrowError;
-use bit_frames::{FreeMap, NotTaken, Reply, Request};
+use bit_containers::BitList;
+use bit_frames::{FreeMap, NotFree, NotTaken, Reply, Request};
+use std::ops::Range;
 use std::process::Abort;
 
 // A map of 100 frames, of which 22 are free: runs of 9, 4, 4 and 5 frames.
@@ -114,4 +117,69 @@ fn too_many_frames(rt: HostRuntime) {
             Err(GrowError::TooLong)
         ),
     );
+}
+
+#[test]
+fn frames_reserved(rt: HostRuntime) {
+    let mut map = map_with_gaps(&rt);
+    check(&rt, map.is_free(3));
+    check(&rt, !map.is_free(2));
+    check(&rt, !map.is_free(100));
+    check(&rt, map.is_run_free(20..24));
+    check(&rt, !map.is_run_free(20..25));
+    check(&rt, !map.is_run_free(99..101));
+    check(&rt, map.is_run_free(99..99));
+    check(&rt, map.reserve(21..23).is_ok());
+    check(&rt, map.reserve(20..22) == Err(NotFree));
+    check(&rt, map.reserve(64..101) == Err(NotFree));
+    check(&rt, map.reserve(5..5).is_ok());
+    check(&rt, map.is_free(20));
+    check(&rt, map.count_free() == 20);
+}
+
+// That the runs of free frames are these.
+fn has_runs(rt: &impl Abort, map: &FreeMap, expected: &[Range<usize>]) {
+    let mut runs = map.iter_free_runs();
+    for run in expected {
+        check(rt, runs.next().as_ref() == Some(run));
+    }
+    check(rt, runs.next().is_none());
+    check(rt, runs.next().is_none());
+}
+
+#[test]
+fn runs_of_free_frames(rt: HostRuntime) {
+    let mut map = map_with_gaps(&rt);
+    has_runs(&rt, &map, &[3..12, 20..24, 40..44, 60..65]);
+    check(&rt, map.reserve(3..12).is_ok());
+    check(&rt, map.give_back(0, 1).is_ok());
+    check(&rt, map.give_back(98, 2).is_ok());
+    has_runs(&rt, &map, &[0..1, 20..24, 40..44, 60..65, 98..100]);
+}
+
+#[test]
+fn texts_of_a_map(rt: HostRuntime) {
+    let mut map = map_with_gaps(&rt);
+    check(&rt, map.give_back(99, 1).is_ok());
+    let text = ok(&rt, map.to_string(rt.alloc()));
+    check(&rt, text.as_str() == "3-11,20-23,40-43,60-64,99");
+    let shown = ok(&rt, format!(in rt.alloc(); "{map:?}"));
+    check(
+        &rt,
+        shown.as_str() == "FreeMap { frames: 100, free: 3-11,20-23,40-43,60-64,99 }",
+    );
+    let none = ok(&rt, FreeMap::new(rt.alloc(), 0));
+    let empty = ok(&rt, none.to_string(rt.alloc()));
+    check(&rt, empty.as_str() == "");
+}
+
+#[test]
+fn copies_of_a_map(rt: HostRuntime) {
+    let mut map = map_with_gaps(&rt);
+    let copy = ok(&rt, map.clone());
+    check(&rt, copy == map);
+    check(&rt, map.take() == Some(3));
+    check(&rt, copy != map);
+    check(&rt, copy.is_free(3));
+    check(&rt, copy.as_bitslice().count_zeros() == 22);
 }

@@ -195,50 +195,61 @@ rank_few a m n chosen basis = elim (cases_lt n (count_chosen chosen m)) [
   | inr few ↦ few
 ]
 
--- two choices that make each row by independent ones have as many: the rows of the second, as sums of rows of the first, are dependent where they are more
-module _ (a : ℕ → ℕ → Bool) (m n : ℕ) (first second : ℕ → Bool) (spans : IsBasis a m n first) (basis : IsBasis a m n second) where
+-- rows that are sums of chosen rows of another matrix
+module _ (a b : ℕ → ℕ → Bool) (m n : ℕ) (first : ℕ → Bool) (spans : (i : ℕ) → i < m → (part : ℕ → Bool) × IsPart m part first × ((j : ℕ) → j < n → a i j ≡ row_sum b part m j)) where
   makes : ℕ → ℕ → Bool
-  makes i k = elim (cases_lt i m) [ inl low ↦ (spans.spans i low).0 k | inr high ↦ false ]
+  makes i k = elim (cases_lt i m) [ inl low ↦ (spans i low).0 k | inr high ↦ false ]
 
   made_within : (i k : ℕ) → i < m → k < m → makes i k ≡ true → first k ≡ true
   unfolding makes
   made_within i k low inner = go (cases_lt i m)
     where
-      go : (c : (i < m) ⊎ (m ≤ i)) → (elim c [ inl l ↦ (spans.spans i l).0 k | inr h ↦ false ]) ≡ true → first k ≡ true
-      go (inl l) is = (spans.spans i l).1 k inner is
+      go : (c : (i < m) ⊎ (m ≤ i)) → (elim c [ inl l ↦ (spans i l).0 k | inr h ↦ false ]) ≡ true → first k ≡ true
+      go (inl l) is = (spans i l).1 k inner is
       go (inr h) is = absurd (omega arith)
 
-  made : (i j : ℕ) → i < m → j < n → a i j ≡ row_sum a (makes i) m j
+  made : (i j : ℕ) → i < m → j < n → a i j ≡ row_sum b (makes i) m j
   unfolding makes
   made i j low inner = go (cases_lt i m)
     where
-      go : (c : (i < m) ⊎ (m ≤ i)) → a i j ≡ row_sum a (λ k. elim c [ inl l ↦ (spans.spans i l).0 k | inr h ↦ false ]) m j
-      go (inl l) = (spans.spans i l).2 j inner
+      go : (c : (i < m) ⊎ (m ≤ i)) → a i j ≡ row_sum b (λ k. elim c [ inl l ↦ (spans i l).0 k | inr h ↦ false ]) m j
+      go (inl l) = (spans i l).2 j inner
       go (inr h) = absurd (omega arith)
 
-  module _ (rest : AreDependent makes second first m m) where
-    -- the sum of those rows in each row of the first choice, and in each other one
-    combined_gone : (k : ℕ) → k < m → sum_below (λ i. rest.part i && makes i k) m ≡ false
-    combined_gone k inner = elim (true_or_false (first k)) [
-      | inl counts ↦ rest.gone k inner counts
-      | inr out ↦ sums_same (λ i. rest.part i && makes i k) (λ i. false) m (λ i low. ap (λ b. rest.part i && b) (is_false (makes i k) (λ is. true≢false (sym (made_within i k low inner is) ∙ out))) ∙ and_false (rest.part i)) ∙ sum_none m
-    ]
-      where
-        is_false : (b : Bool) → (b ≡ true → ⊥) → b ≡ false
-        is_false true h = absurd (h refl)
-        is_false false h = refl
+  -- a sum of such rows is one of the chosen rows
+  mixture : (ℕ → Bool) → ℕ → Bool
+  mixture part k = sum_below (λ i. part i && makes i k) m
 
-    sum_gone : (j : ℕ) → j < n → row_sum a rest.part m j ≡ false
-    sum_gone j inner =
-        sums_same (λ i. rest.part i && a i j) (λ i. rest.part i && row_sum a (makes i) m j) m (λ i low. ap (λ b. rest.part i && b) (made i j low inner))
-        ∙ sym (three rest.part makes (λ k. a k j) m)
-        ∙ sums_same (λ k. sum_below (λ i. rest.part i && makes i k) m && a k j) (λ k. false) m (λ k low. ap (λ b. b && a k j) (combined_gone k low)) ∙ sum_none m
+  out_of : (part : ℕ → Bool) (k : ℕ) → k < m → first k ≡ false → mixture part k ≡ false
+  unfolding mixture
+  out_of part k inner out = sums_same (λ i. part i && makes i k) (λ i. false) m (λ i low. ap (λ b. part i && b) (is_false (makes i k) (λ is. true≢false (sym (made_within i k low inner is) ∙ out))) ∙ and_false (part i)) ∙ sum_none m
+    where
+      is_false : (b : Bool) → (b ≡ true → ⊥) → b ≡ false
+      is_false true h = absurd (h refl)
+      is_false false h = refl
 
-  pub no_more : count_chosen second m ≤ count_chosen first m
-  no_more = elim (cases_lt (count_chosen first m) (count_chosen second m)) [
-    | inl more ↦ (let rest = dependent m m makes second first more in absurd (true≢false (sym rest.some_in ∙ basis.independent rest.part rest.within (sum_gone rest) rest.some rest.some_inside)))
+  mixed_rows : (part : ℕ → Bool) (j : ℕ) → j < n → row_sum a part m j ≡ row_sum b (mixture part) m j
+  unfolding mixture
+  mixed_rows part j inner = sums_same (λ i. part i && a i j) (λ i. part i && row_sum b (makes i) m j) m (λ i low. ap (λ b. part i && b) (made i j low inner)) ∙ sym (three part makes (λ k. b k j) m)
+
+  pub sums_of_sums : (part : ℕ → Bool) → (other : ℕ → Bool) × IsPart m other first × ((j : ℕ) → j < n → row_sum a part m j ≡ row_sum b other m j)
+  sums_of_sums part = (mixture part, (λ k inner in_. elim (true_or_false (first k)) [ inl chosen ↦ chosen | inr out ↦ absurd (true≢false (sym in_ ∙ out_of part k inner out)) ]), mixed_rows part)
+
+  -- independent ones among them are no more than the chosen rows: as sums of these they are dependent where they are more
+  pub no_more_of : (second : ℕ → Bool) → ((part : ℕ → Bool) → IsPart m part second → ((j : ℕ) → j < n → row_sum a part m j ≡ false) → (k : ℕ) → k < m → part k ≡ false) → count_chosen second m ≤ count_chosen first m
+  unfolding mixture
+  no_more_of second independent = elim (cases_lt (count_chosen first m) (count_chosen second m)) [
+    | inl more ↦
+        let rest = dependent m m makes second first more in
+        let gone : (k : ℕ) → k < m → mixture rest.part k ≡ false = λ k inner. elim (true_or_false (first k)) [ inl counts ↦ rest.gone k inner counts | inr out ↦ out_of rest.part k inner out ] in
+        let none : (j : ℕ) → j < n → row_sum a rest.part m j ≡ false = λ j inner. mixed_rows rest.part j inner ∙ sums_same (λ k. mixture rest.part k && b k j) (λ k. false) m (λ k low. ap (λ x. x && b k j) (gone k low)) ∙ sum_none m in
+        absurd (true≢false (sym rest.some_in ∙ independent rest.part rest.within none rest.some rest.some_inside))
     | inr few ↦ few
   ]
+
+-- two choices that make each row by independent ones have as many
+no_more : (a : ℕ → ℕ → Bool) (m n : ℕ) (first second : ℕ → Bool) → IsBasis a m n first → IsBasis a m n second → count_chosen second m ≤ count_chosen first m
+no_more a m n first second spans basis = no_more_of a a m n first spans.spans second basis.independent
 
 -- a matrix has one rank
 pub one_rank : (m : Grid) (r q : ℕ) → IsRank m r → IsRank m q → q ≡ r

@@ -1,3 +1,4 @@
+pub mod Echelons
 pub mod FullRank
 pub mod Grids
 pub mod Lowest
@@ -6,4 +7,5 @@ pub mod ModTwo
 pub mod Padding
 pub mod Paths
 pub mod Ranks
+pub mod Rowed
 pub mod Turning

@@ -254,6 +254,27 @@ module _ (f : Bool → Bool → Bool) (xs now ys : List Bool) (rows columns stri
   pub row_uncombined : (i j : ℕ) → i < rows → j < columns → i ≢ into → get_or (unpadded rows columns stride now) (i * columns + j) false ≡ get_or (unpadded rows columns stride xs) (i * columns + j) false
   row_uncombined i j low inside apart = part_unwritten xs now (combined f run ys) rows columns stride start into 0 n (into * stride) is kept row (omega arith) many (omega arith) put_run i j low inside (inl apart)
 
+-- all bits that were combined with those of another matrix, with the padding
+pub all_combined : (f : Bool → Bool → Bool) (xs ys now : List Bool) (rows columns stride others wider apart start from : ℕ) → IsGrid rows columns stride start (length xs) → IsGrid others wider apart from (length ys) → (others ≡ rows) × (wider ≡ columns) → now ≡ combined f xs ys
+    → (i j : ℕ) → i < rows → j < columns → get_or (unpadded rows columns stride now) (i * columns + j) false ≡ f (get_or (unpadded rows columns stride xs) (i * columns + j) false) (get_or (unpadded others wider apart ys) (i * wider + j) false)
+all_combined f xs ys now rows columns stride others wider apart start from is there same made i j tall short =
+    let tall_too = same.0 in
+    let short_too = same.1 in
+    let a = is.wide (omega arith) in
+    let b = there.wide (omega arith) in
+    let pads : padded wider ≡ padded columns = ap padded same.1 in
+    let strides : apart ≡ stride = omega arith in
+    let size = ap length made ∙ length-combined f xs ys in
+    let kept : length now ≡ rows * stride = size ∙ is.count in
+    let room = wide rows columns stride start (length xs) is in
+    let inside = place_padded rows columns stride start (length xs) i j is tall short in
+    item_unpadded now rows columns stride kept room i j tall short
+    ∙ ap (λ l. get_or l (i * stride + j) false) made
+    ∙ item_combined f xs ys (i * stride + j) inside
+    ∙ ap (λ b. f b (get_or ys (i * stride + j) false)) (sym (item_unpadded xs rows columns stride is.count room i j tall short))
+    ∙ ap (f (get_or (unpadded rows columns stride xs) (i * columns + j) false))
+    (ap (λ k. get_or ys (i * k + j) false) (sym strides) ∙ sym (item_unpadded ys others wider apart there.count (wide others wider apart from (length ys) there) i j (omega arith) (omega arith)))
+
 -- a row that was written over another, with its padding
 module _ (xs now : List Bool) (rows columns stride start from to n : ℕ) (is : IsGrid rows columns stride start (length xs)) (kept : length now ≡ length xs) (there : from < rows) (here : to < rows) (all : n ≡ stride) (made : now ≡ moved xs (from * stride) (to * stride) n) where
   pub row_copied : (j : ℕ) → j < columns → slice_range now (to * stride) (to * stride + n) ≡ slice_range xs (from * stride) (from * stride + n)

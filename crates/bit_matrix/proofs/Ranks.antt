@@ -63,7 +63,7 @@ part_either n p q chosen first second k h in_ = elim (plus_true (p k) (q k) in_)
 
 -- ---- the first bit of a row
 
-one_lead : (row : ℕ → Bool) (i j : ℕ) → IsLead row i → IsLead row j → i ≡ j
+pub one_lead : (row : ℕ → Bool) (i j : ℕ) → IsLead row i → IsLead row j → i ≡ j
 one_lead row i j first second = elim (cases_lt i j) [
   | inl low ↦ absurd (true≢false (sym first.here ∙ second.before i low))
   | inr high ↦ elim (cases_lt j i) [ inl low ↦ absurd (true≢false (sym second.here ∙ first.before j low)) | inr same ↦ omega arith ]

@@ -1,4 +1,6 @@
+pub mod Echelon
 pub mod Elimination
+pub mod Making
 pub mod Matrix
 pub mod MatrixLeft
 pub mod Rank

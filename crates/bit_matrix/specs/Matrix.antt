@@ -42,6 +42,10 @@ zeros rows columns = record { rows = rows; columns = columns; bits = replicate (
 abbrev pub item : Grid → ℕ → ℕ → Bool
 item m i j = slice_index_or m.bits (i * m.columns + j) false
 
+-- the bit at an index of a list, and false from its end on
+abbrev pub bit_of : List Bool → ℕ → Bool
+bit_of xs i = slice_index_or xs i false
+
 -- the bits of row i
 abbrev pub row_bits : Grid → ℕ → List Bool
 row_bits m i = slice_range m.bits (i * m.columns) (i * m.columns + m.columns)

@@ -3,4 +3,4 @@
 
 mod matrix;
 
-pub use matrix::{Column, Matrix, Rows};
+pub use matrix::{Column, Matrix, Rows, RowsFault};

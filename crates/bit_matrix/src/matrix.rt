@@ -5,18 +5,25 @@ ghost use Rattle.bit_addressing.specs.declared.length.TheConstants.{MAX_BITS};
 ghost use Rattle.bit_slice.specs.BitSlice.{head_of, len_of, list_of};
 ghost use Rattle.bit_matrix.specs.Matrix.{AreAlike, IsSet, item, padded, plus_mod_2, row_bits, zeros};
 
+mod columns;
+mod echelon;
 mod elimination;
+mod equations;
 mod graph;
 mod iter;
+mod making;
 mod products;
 mod rank;
+mod rows;
 mod squares;
 mod traits;
 mod transpose;
+mod vectors;
 
 use bit_addressing::{GrowError, Lsb0};
 use bit_containers::{BitListMut, BitSlice, BitVec};
 pub use iter::{Column, Rows};
+pub use making::RowsFault;
 use std::alloc::Global;
 use std::marker::Model;
 
@@ -168,11 +175,15 @@ impl Matrix {
         self.bits.get_range(start..start + self.stride)
     }
 
-    /// Sets each bit of a row whose column is set in another row, by whole words. Requires that the matrix has
-    /// both rows.
-    pub fn or_row(&mut self, into: usize, from: usize)
-        requires into { into < self.old.rows }
+    /// Sets each bit of row `into` whose column is set in row `from`, by whole words. Requires that the matrix has both
+    /// rows.
+    ///
+    /// ```text
+    /// of the rows 110 and 011: m.or_row(0, 1) leaves 110 and 111
+    /// ```
+    pub fn or_row(&mut self, from: usize, into: usize)
         requires from { from < self.old.rows }
+        requires into { into < self.old.rows }
         ensures alike { AreAlike self.new self.old }
         ensures row { (j : ℕ) → j < self.old.columns
             → item self.new into j ≡ (item self.old into j || item self.old from j) }
@@ -184,11 +195,15 @@ impl Matrix {
         self.bits.or_within(start..start + stride, into * stride);
     }
 
-    /// Flips each bit of a row whose column is set in another row, by whole words: the row becomes the sum mod 2
-    /// of both. Requires that the matrix has both rows.
-    pub fn xor_row(&mut self, into: usize, from: usize)
-        requires into { into < self.old.rows }
+    /// Flips each bit of row `into` whose column is set in row `from`, by whole words: the row becomes the sum mod 2 of
+    /// both. Requires that the matrix has both rows.
+    ///
+    /// ```text
+    /// of the rows 110 and 011: m.xor_row(0, 1) leaves 110 and 101
+    /// ```
+    pub fn xor_row(&mut self, from: usize, into: usize)
         requires from { from < self.old.rows }
+        requires into { into < self.old.rows }
         ensures alike { AreAlike self.new self.old }
         ensures row { (j : ℕ) → j < self.old.columns
             → item self.new into j ≡ plus_mod_2 (item self.old into j) (item self.old from j) }
@@ -202,9 +217,9 @@ impl Matrix {
 
     /// Like `or_row`, with a row of another matrix. Requires that both matrices have the same number of columns, and
     /// that each has its row.
-    pub fn or_row_of(&mut self, into: usize, other: &Self, from: usize)
-        requires into { into < self.old.rows }
+    pub fn or_row_of(&mut self, other: &Self, from: usize, into: usize)
         requires from { from < other.now.rows }
+        requires into { into < self.old.rows }
         requires columns { other.now.columns ≡ self.old.columns }
         ensures alike { AreAlike self.new self.old }
         ensures row { (j : ℕ) → j < self.old.columns
@@ -219,9 +234,9 @@ impl Matrix {
 
     /// Like `xor_row`, with a row of another matrix. Requires that both matrices have the same number of columns,
     /// and that each has its row.
-    pub fn xor_row_of(&mut self, into: usize, other: &Self, from: usize)
-        requires into { into < self.old.rows }
+    pub fn xor_row_of(&mut self, other: &Self, from: usize, into: usize)
         requires from { from < other.now.rows }
+        requires into { into < self.old.rows }
         requires columns { other.now.columns ≡ self.old.columns }
         ensures alike { AreAlike self.new self.old }
         ensures row { (j : ℕ) → j < self.old.columns
@@ -234,7 +249,7 @@ impl Matrix {
             .xor_range(start..start + self.stride, other.padded_row(from));
     }
 
-    /// Writes a row over another, by one move. Requires that the matrix has both rows.
+    /// Writes row `from` over row `to`, by one move. Requires that the matrix has both rows.
     #[tactic(auto, using(crate::proofs::Grids::row_inside))]
     pub fn copy_row(&mut self, from: usize, to: usize)
         requires from { from < self.old.rows }
@@ -260,9 +275,9 @@ impl Matrix {
             → item self.new i j ≡ item self.old i j }
     {
         if a != b {
-            self.xor_row(a, b);
             self.xor_row(b, a);
             self.xor_row(a, b);
+            self.xor_row(b, a);
         }
     }
 }

@@ -1,6 +1,8 @@
 //! Matrices beside plain loops.
 mod callers;
+mod equations;
 mod graphs;
+mod making;
 
 use crate::{check, ok};
 use bit_addressing::GrowError;
@@ -84,8 +86,8 @@ fn products(rt: HostRuntime) {
     let left = ok(&rt, scattered(rt.alloc(), 9, 70, 1));
     let right = ok(&rt, scattered(rt.alloc(), 70, 67, 2));
     assert!(rt; right.rows() == left.columns());
-    let any = ok(&rt, left.times(&right, rt.alloc()));
-    let sum = ok(&rt, left.times_mod_2(&right, rt.alloc()));
+    let any = ok(&rt, left.times(rt.alloc(), &right));
+    let sum = ok(&rt, left.times_mod_2(rt.alloc(), &right));
     assert!(rt; any.rows() == 9);
     assert!(rt; any.columns() == 67);
     assert!(rt; sum.rows() == 9);
@@ -154,7 +156,7 @@ fn copies_and_texts(rt: HostRuntime) {
     assert!(rt; matrix.columns() == 3);
     let copy = ok(&rt, matrix.clone());
     check(&rt, copy == matrix);
-    matrix.xor_row(0, 2);
+    matrix.xor_row(2, 0);
     check(&rt, copy != matrix);
     check(&rt, matrix.row(0).len() == 3);
     let (text, other) = (
@@ -163,6 +165,11 @@ fn copies_and_texts(rt: HostRuntime) {
     );
     check(&rt, text.as_str() == "101\n010\n001\n");
     check(&rt, other.as_str() == "100\n010\n001\n");
+    let shown = ok(&rt, format!(in rt.alloc(); "{matrix:?}"));
+    check(
+        &rt,
+        shown.as_str() == "Matrix { rows: 3, columns: 3, bits: [101, 010, 001] }",
+    );
 }
 
 #[test]
@@ -240,7 +247,7 @@ fn three_rows(rt: &(impl Abort + AllocGlobal)) -> Matrix {
     matrix.set(0, 69, true);
     matrix.set(2, 0, true);
     matrix.set(2, 69, true);
-    matrix.or_row(2, 0);
+    matrix.or_row(0, 2);
     matrix.copy_row(2, 1);
     matrix.set(2, 2, false);
     matrix
@@ -293,4 +300,38 @@ fn too_many_bits(rt: HostRuntime) {
             Err(GrowError::TooLong)
         ),
     );
+}
+
+#[test]
+fn sums(rt: HostRuntime) {
+    let mut sum = ok(&rt, scattered(rt.alloc(), 9, 70, 1));
+    let left = ok(&rt, sum.clone());
+    let right = ok(&rt, scattered(rt.alloc(), 9, 70, 2));
+    assert!(rt; right.rows() == sum.rows());
+    assert!(rt; right.columns() == sum.columns());
+    sum.add_mod_2(&right);
+    for row in 0..9 {
+        for column in 0..70 {
+            let both = bit(&left, row, column) != bit(&right, row, column);
+            check(&rt, bit(&sum, row, column) == both);
+        }
+    }
+}
+
+#[test]
+fn columns_swapped(rt: HostRuntime) {
+    let mut swapped = ok(&rt, scattered(rt.alloc(), 9, 70, 1));
+    let matrix = ok(&rt, swapped.clone());
+    assert!(rt; swapped.columns() == 70);
+    swapped.swap_columns(3, 66);
+    for row in 0..9 {
+        for column in 0..70 {
+            let from = match column {
+                3 => 66,
+                66 => 3,
+                _ => column,
+            };
+            check(&rt, bit(&swapped, row, column) == bit(&matrix, row, from));
+        }
+    }
 }

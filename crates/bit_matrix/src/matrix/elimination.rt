@@ -50,7 +50,7 @@ impl Matrix {
         ensures stuck { result ≡ false → (i : ℕ) → i < self.old.columns → column ≤ i → item self.old i column ≡ false }
         ensures stays { result ≡ false → (self.new ≡ self.old) × (made.new ≡ made.old) }
     {
-        let Some(pivot) = self.pivot_row(column) else {
+        let Some(pivot) = self.pivot_row(column, column) else {
             return false;
         };
         self.set_pivot(made, column, pivot);
@@ -80,13 +80,13 @@ impl Matrix {
         self.add_in_both(made, column, pivot);
     }
 
-    // The first row from the one of a column's index on that has a bit in the column.
-    fn pivot_row(&self, column: usize) -> Option<usize>
+    // The first row from row `from` on that has a bit in a column.
+    pub(super) fn pivot_row(&self, from: usize, column: usize) -> Option<usize>
         requires { column < self.now.columns }
-        ensures { MatchOption result ((i : ℕ) → i < self.now.rows → column ≤ i → item self.now i column ≡ false)
-            (λ pivot. (pivot < self.now.rows) × (column ≤ pivot) × (item self.now pivot column ≡ true)) }
+        ensures { MatchOption result ((i : ℕ) → i < self.now.rows → from ≤ i → item self.now i column ≡ false)
+            (λ pivot. (pivot < self.now.rows) × (from ≤ pivot) × (item self.now pivot column ≡ true)) }
     {
-        for row in column..self.rows() {
+        for row in from..self.rows() {
             if self.get(row, column) {
                 return Some(row);
             }
@@ -147,7 +147,7 @@ impl Matrix {
         ensures here { IsAdded (item self.old) (item self.new) self.old.columns into from }
         ensures there { IsAdded (item made.old) (item made.new) self.old.columns into from }
     {
-        self.xor_row(into, from);
-        made.xor_row(into, from);
+        self.xor_row(from, into);
+        made.xor_row(from, into);
     }
 }

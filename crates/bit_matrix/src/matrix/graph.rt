@@ -83,7 +83,7 @@ impl Matrix {
             ↔ (IsSet self.old i j ⊎ ((i ≡ row) × IsSet self.old row middle × IsSet self.old middle j)) }
     {
         if self.get(row, middle) {
-            self.or_row(row, middle);
+            self.or_row(middle, row);
         }
     }
 
@@ -133,7 +133,7 @@ impl Matrix {
             let place = chunk.trailing_zeros();
             let middle = start + place as usize;
             let covered = self.read_part(middle, start, count);
-            self.or_row(row, middle);
+            self.or_row(middle, row);
             chunk = left_of(chunk, place, covered);
         }
     }

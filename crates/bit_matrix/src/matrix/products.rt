@@ -1,4 +1,4 @@
-//! Products of matrices, by whole rows.
+//! Sums and products of matrices, by whole words.
 ghost use Rattle.std.specs.Prelude.{◌≡◌, ◌≢◌, ◌*◌, ◌<◌, ◌↔◌, ◌&&◌, ◌||◌, ℕ, Err, IfOk};
 ghost use Rattle.bit_addressing.specs.declared.errors.GrowError.TheVariants as errors;
 ghost use Rattle.bit_addressing.specs.declared.length.TheConstants.{MAX_BITS};
@@ -6,18 +6,34 @@ ghost use Rattle.bit_matrix.specs.Matrix.{AreAlike, any_below, item, padded, plu
 
 use crate::matrix::Matrix;
 use bit_addressing::GrowError;
+use bit_containers::BitListMut;
 use std::alloc::Global;
 
 impl Matrix {
+    /// Adds another matrix mod 2, by whole words: each bit that is set there is flipped here. Takes no memory. Requires
+    /// that both have as many rows, and as many columns.
+    ///
+    /// ```text
+    /// of the rows 11 and 01, and of 10 and 01: m.add_mod_2(&other) leaves 01 and 00
+    /// ```
+    pub fn add_mod_2(&mut self, other: &Self)
+        requires { AreAlike other.now self.old }
+        ensures alike { AreAlike self.new self.old }
+        ensures items { (i j : ℕ) → i < self.old.rows → j < self.old.columns
+            → item self.new i j ≡ plus_mod_2 (item self.old i j) (item other.now i j) }
+    {
+        self.bits.xor_bits(other.bits.as_bitslice());
+    }
+
     /// The product by `or` and `and`: bit `i, j` is set where for some `k` bit `i, k` is set here and bit `k, j` in
     /// the other matrix. Each bit that is set here costs one `or_row_of`. Returns `TooLong` exactly where the bits of
     /// the product, with the padding of each row, pass `MAX_BITS`. Takes no memory where the product has no bit.
     /// Requires that the other matrix has as many rows as this one has columns.
     ///
     /// ```text
-    /// let two_steps = graph.times(&graph, alloc)?;     // where paths of two edges lead
+    /// let two_steps = graph.times(alloc, &graph)?;     // where paths of two edges lead
     /// ```
-    pub fn times(&self, other: &Self, alloc: Global) -> Result<Self, GrowError>
+    pub fn times(&self, alloc: Global, other: &Self) -> Result<Self, GrowError>
         requires { other.now.rows ≡ self.now.columns }
         ensures rows { IfOk result (λ m. m.rows ≡ self.now.rows) }
         ensures columns { IfOk result (λ m. m.columns ≡ other.now.columns) }
@@ -37,7 +53,7 @@ impl Matrix {
     /// the other matrix. Each bit that is set here costs one `xor_row_of`. Returns `TooLong` exactly where the bits
     /// of the product, with the padding of each row, pass `MAX_BITS`. Takes no memory where the product has no bit.
     /// Requires that the other matrix has as many rows as this one has columns.
-    pub fn times_mod_2(&self, other: &Self, alloc: Global) -> Result<Self, GrowError>
+    pub fn times_mod_2(&self, alloc: Global, other: &Self) -> Result<Self, GrowError>
         requires { other.now.rows ≡ self.now.columns }
         ensures rows { IfOk result (λ m. m.rows ≡ self.now.rows) }
         ensures columns { IfOk result (λ m. m.columns ≡ other.now.columns) }
@@ -68,7 +84,7 @@ impl Matrix {
     {
         for middle in 0..left.columns() {
             if left.get(row, middle) {
-                self.or_row_of(row, right, middle);
+                self.or_row_of(right, middle, row);
             }
         }
     }
@@ -88,7 +104,7 @@ impl Matrix {
     {
         for middle in 0..left.columns() {
             if left.get(row, middle) {
-                self.xor_row_of(row, right, middle);
+                self.xor_row_of(right, middle, row);
             }
         }
     }

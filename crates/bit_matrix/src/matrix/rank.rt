@@ -60,13 +60,17 @@ impl Matrix {
     {
         if let Some(column) = self.first_in_row(before) {
             if self.get(row, column) {
-                self.xor_row(row, before);
+                self.xor_row(before, row);
             }
         }
     }
 
-    // The column of the first bit of a row.
-    fn first_in_row(&self, row: usize) -> Option<usize>
+    /// The column of the first bit of a row. None exactly where the row has none. Requires that the matrix has the row.
+    ///
+    /// ```text
+    /// of the rows 011 and 000: m.first_in_row(0) == Some(1), m.first_in_row(1) == None
+    /// ```
+    pub fn first_in_row(&self, row: usize) -> Option<usize>
         requires { row < self.now.rows }
         ensures { MatchOption result ((j : ℕ) → j < self.now.columns → item self.now row j ≡ false)
             (λ column. (column < self.now.columns) × IsLead (item self.now row) column) }

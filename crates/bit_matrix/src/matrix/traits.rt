@@ -1,9 +1,10 @@
 //! The impls of std's traits for the matrix.
-ghost use Rattle.std.specs.Prelude.{◌≡◌, ◌<◌, ◌↔◌, IsTrue, Some};
+ghost use Rattle.std.specs.Prelude.{◌≡◌, ◌<◌, ◌↔◌, IsTrue, Some, map};
 ghost use Rattle.std.specs.Cmp.{partial_equiv_from_equiv};
 ghost use Rattle.std.specs.Fmt.{WritesStyledOnOk};
+ghost use Rattle.bit_addressing.specs.Text.{digit_of};
 ghost use Rattle.bit_slice.specs.Comparisons.{bits_equal};
-ghost use Rattle.bit_matrix.specs.Matrix.{AreAlike, grid_equal, grid_equiv, grid_text, row_text};
+ghost use Rattle.bit_matrix.specs.Matrix.{AreAlike, grid_equal, grid_equiv, grid_text, row_bits, row_text};
 
 use crate::matrix::Matrix;
 use std::alloc::AllocError;
@@ -48,6 +49,21 @@ impl Eq for Matrix {
     ghost laws = { grid_equiv };
 }
 
+/// How many rows and columns there are, and the digits of each row.
+impl fmt::Debug for Matrix {
+    fn fmt<W: fmt::Write>(&self, f: &mut fmt::Formatter<W>) -> fmt::Result {
+        let (rows, columns) = (self.rows, self.columns);
+        write!(f, "Matrix {{ rows: {rows}, columns: {columns}, bits: [")?;
+        for row in 0..self.rows {
+            if row > 0 {
+                f.write_str(", ")?;
+            }
+            self.write_digits(row, f)?;
+        }
+        f.write_str("] }")
+    }
+}
+
 /// A line for each row: its digits, 0 or 1, and a line feed. Flags and widths have no effect.
 ///
 /// ```text
@@ -89,9 +105,18 @@ impl Matrix {
         requires { row < self.now.rows }
         ensures { WritesStyledOnOk W.write_str_gives f.old result (row_text self.now row) f.new }
     {
+        self.write_digits(row, f)?;
+        f.write_str("\n")
+    }
+
+    // Writes the digits of a row.
+    fn write_digits<W: fmt::Write>(&self, row: usize, f: &mut fmt::Formatter<W>) -> fmt::Result
+        requires { row < self.now.rows }
+        ensures { WritesStyledOnOk W.write_str_gives f.old result (map digit_of (row_bits self.now row)) f.new }
+    {
         for column in 0..self.columns {
             f.write_str(if self.get(row, column) { "1" } else { "0" })?;
         }
-        f.write_str("\n")
+        Ok(())
     }
 }

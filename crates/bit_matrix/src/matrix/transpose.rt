@@ -9,7 +9,7 @@ ghost use Rattle.bit_matrix.specs.Squares.{square_bit};
 use crate::matrix::Matrix;
 use crate::matrix::squares::turn;
 use bit_addressing::{GrowError, Lsb0};
-use bit_containers::{BitList, BitListMut, BitSlice};
+use bit_containers::{BitList, BitSlice};
 use std::alloc::Global;
 
 impl Matrix {
@@ -99,8 +99,7 @@ impl Matrix {
         self.bits.get_range(start..start + count).load_le()
     }
 
-    // Writes up to 64 bits of a row, from a column on: bit `j` of the number in column `column +
-    // j`.
+    // Writes up to 64 bits of a row, from a column on: bit `j` of the number in column `column + j`.
     fn write_part(&mut self, row: usize, column: usize, count: usize, number: u64)
         requires row { row < self.old.rows }
         requires few { count ≤ 64 }
@@ -110,10 +109,10 @@ impl Matrix {
         ensures others { (i j : ℕ) → i < self.old.rows → j < self.old.columns
             → (i ≢ row) ⊎ (j < column) ⊎ (column + count ≤ j) → item self.new i j ≡ item self.old i j }
     {
-        let start = row * self.stride + column;
         let words = [number];
-        self.bits.copy_into(
-            start..start + count,
+        self.write_bits(
+            row,
+            column,
             BitSlice::<u64, Lsb0>::from_slice(&words).get_range(0..count),
         );
     }

@@ -5,8 +5,8 @@ ghost use Rattle.bit_frames.specs.FreeRuns.{free_runs_of};
 ghost use Rattle.bit_frames.specs.Serving.{IsNeverTwice};
 
 use bit_frames::{FreeMap, NotFree, Reply, Request};
-use std::ops::Range;
 use std::alloc::{AllocError, Global};
+use std::ops::Range;
 
 /// Frames that are taken and given back at once leave the map as it was.
 pub fn given_back(frames: &mut FreeMap, count: usize) -> Option<usize>
@@ -110,7 +110,8 @@ pub fn ordered(frames: &FreeMap, count: usize) -> bool
     requires { 0 < count }
     ensures { IsTrue result }
 {
-    let (Some(first), Some(last)) = (frames.find_first_fit(count), frames.find_last_fit(count)) else {
+    let (Some(first), Some(last)) = (frames.find_first_fit(count), frames.find_last_fit(count))
+    else {
         return true;
     };
     first <= last

@@ -1,10 +1,12 @@
 //! Callers that need no proof of their own: each has one fact that a user of matrices relies on.
-ghost use Rattle.std.specs.Prelude.{◌≡◌, ◌==◌, ◌<◌, ◌≤◌, ◌⊎◌, ◌↔◌, ℕ, IfOk, IfSome, IsTrue, Some};
-ghost use Rattle.bit_matrix.specs.Matrix.{IsPath, IsSet, column_bits, item, product};
+ghost use Rattle.std.specs.Prelude.{◌≡◌, ◌==◌, ◌<◌, ◌≤◌, ◌⊎◌, ◌↔◌, ℕ, false, IfOk, IfSome, IsTrue, Some, length, map};
+ghost use Rattle.bit_slice.specs.BitSlice.{len_of, list_of};
+ghost use Rattle.bit_matrix.specs.Matrix.{AreAlike, IsPath, IsSet, bit_of, column_bits, item, product, rows_bits};
 ghost use Rattle.bit_matrix.specs.Rank.{IsRank};
 
-use bit_addressing::GrowError;
-use bit_matrix::Matrix;
+use bit_addressing::{BitOrder, BitStore, GrowError, Lsb0};
+use bit_containers::{BitList, BitSlice, BitVec};
+use bit_matrix::{Matrix, RowsFault};
 use std::alloc::{AllocError, Global};
 
 /// Whether a path leads from one node of a graph to another. The graph becomes its transitive closure.
@@ -34,7 +36,7 @@ pub fn joined(matrix: &mut Matrix, into: usize, from: usize, column: usize) -> b
     requires column { column < matrix.old.columns }
     ensures { IsTrue result ↔ (IsSet matrix.old into column ⊎ IsSet matrix.old from column) }
 {
-    matrix.or_row(into, from);
+    matrix.or_row(from, into);
     matrix.get(into, column)
 }
 
@@ -53,7 +55,7 @@ pub fn undone(
     let Ok(Some(inverse)) = matrix.inverse_mod_2(alloc) else {
         return Ok(None);
     };
-    let product = matrix.times_mod_2(&inverse, alloc)?;
+    let product = matrix.times_mod_2(alloc, &inverse)?;
     Ok(Some(product.get(row, column)))
 }
 
@@ -64,7 +66,7 @@ pub fn two_edges(graph: &Matrix, alloc: Global, from: usize, to: usize) -> Resul
     requires to { to < graph.now.columns }
     ensures { IfOk result (λ leads. leads ≡ product graph.now graph.now from to) }
 {
-    Ok(graph.times(graph, alloc)?.get(from, to))
+    Ok(graph.times(alloc, graph)?.get(from, to))
 }
 
 /// Rows that are swapped twice are where they were.
@@ -115,4 +117,94 @@ pub fn rows_counted(matrix: &Matrix) -> usize
     ensures { result ≡ matrix.now.rows }
 {
     matrix.iter_rows().count()
+}
+
+/// A row that was written has the bits of the view.
+pub fn row_written<T: BitStore, O: BitOrder>(
+    matrix: &mut Matrix,
+    row: usize,
+    bits: BitSlice<'_, T, O>,
+    column: usize,
+) -> bool
+    requires row { row < matrix.old.rows }
+    requires len { len_of bits ≡ matrix.old.columns }
+    requires column { column < matrix.old.columns }
+    ensures { result ≡ bit_of (list_of bits.entry) column }
+{
+    matrix.set_row(row, bits);
+    matrix.get(row, column)
+}
+
+/// A matrix of vectors has their lists for its rows.
+pub fn of_vectors(alloc: Global, rows: &[BitVec<u64, Lsb0>]) -> Result<Matrix, RowsFault>
+    ensures { IfOk result (λ m. rows_bits m ≡ map (λ row. row.list) rows.now) }
+{
+    Matrix::from_rows(alloc, rows)
+}
+
+/// A matrix that is added twice changes nothing.
+pub fn added_twice(matrix: &mut Matrix, other: &Matrix, row: usize, column: usize) -> bool
+    requires alike { AreAlike other.now matrix.old }
+    requires row { row < matrix.old.rows }
+    requires column { column < matrix.old.columns }
+    ensures { result ≡ item matrix.old row column }
+{
+    matrix.add_mod_2(other);
+    matrix.add_mod_2(other);
+    matrix.get(row, column)
+}
+
+/// Columns that are swapped twice are where they were.
+pub fn columns_swapped_twice(matrix: &mut Matrix, a: usize, b: usize, row: usize) -> bool
+    requires a { a < matrix.old.columns }
+    requires b { b < matrix.old.columns }
+    requires row { row < matrix.old.rows }
+    ensures { result ≡ item matrix.old row a }
+{
+    matrix.swap_columns(a, b);
+    matrix.swap_columns(a, b);
+    matrix.get(row, a)
+}
+
+/// The product with a solution is the right side.
+pub fn solved<T: BitStore, O: BitOrder>(
+    matrix: &Matrix,
+    alloc: Global,
+    right: BitSlice<'_, T, O>,
+) -> Result<Option<BitVec<usize, Lsb0>>, GrowError>
+    requires { len_of right ≡ matrix.now.rows }
+    ensures { IfOk result (λ found. IfSome found (λ product. (i : ℕ) → i < matrix.now.rows
+        → bit_of product.list i ≡ bit_of (list_of right.entry) i)) }
+{
+    let Some(solution) = matrix.solve_mod_2(alloc, right)? else {
+        return Ok(None);
+    };
+    let product = matrix.times_vector_mod_2(alloc, solution.as_bitslice())?;
+    Ok(Some(product))
+}
+
+/// The echelon form has as many rows with a bit as the rank says.
+pub fn reduced_to_the_rank(matrix: &mut Matrix, alloc: Global) -> Result<bool, AllocError>
+    ensures { IfOk result (λ same. IsTrue same) }
+{
+    let rank = matrix.rank_mod_2(alloc)?;
+    Ok(matrix.reduce_mod_2() == rank)
+}
+
+/// A row of the kernel has the product zero.
+pub fn in_the_kernel(
+    matrix: &Matrix,
+    alloc: Global,
+    vector: usize,
+    row: usize,
+) -> Result<Option<bool>, GrowError>
+    requires { row < matrix.now.rows }
+    ensures { IfOk result (λ found. IfSome found (λ bit. bit ≡ false)) }
+{
+    let kernel = matrix.kernel_mod_2(alloc)?;
+    if vector >= kernel.rows() {
+        return Ok(None);
+    }
+    let product = matrix.times_vector_mod_2(alloc, kernel.row(vector))?;
+    Ok(Some(product[row]))
 }

@@ -1,11 +1,11 @@
-use Rattle.std.proofs.Common.{◌≡◌, ◌+◌, ◌*◌, ◌<◌, [], ◌∷◌, ◌++◌, map, length, false, get_or, rules, refl, ap, slice_range, subst, arith}
+use Rattle.std.proofs.Common.{◌≡◌, ◌+◌, ◌*◌, ◌<◌, [], ◌∷◌, map, length, false, get_or, rules, refl, ap, slice_range, subst, arith}
 use Rattle.std.proofs.Output.{has_written_styled_append, has_written_styled_of_eq}
 use Rattle.bit_addressing.specs.Text.{digit_of}
 use Rattle.bit_matrix.specs.Matrix.{Grid}
 use Rattle.bit_matrix.proofs.Grids.{digit_more, place_inside}
 use Rattle.bit_matrix.proofs.Padding.{length_grid}
-use Rattle.bit_matrix.proofs.matrix.Matrix.write_row.Goals.{then-get, else-get}
-use Rattle.bit_matrix.proofs.matrix.Matrix.write_row.Goals as goal
+use Rattle.bit_matrix.proofs.matrix.Matrix.write_digits.Goals.{then-get, else-get}
+use Rattle.bit_matrix.proofs.matrix.Matrix.write_digits.Goals as goal
 
 pub loop-column-preserved : goal.loop-column-preserved
 loop-column-preserved g c flush =
@@ -23,7 +23,6 @@ returns g c flush ok =
     let m : Grid = c.args.self.now in
     let start = c.args.row * m.columns in
     let so_far = c.loop-column.invariant flush in
-    let end = c.write_str-2.ensures.styled so_far.flush ok in
     let past : c.loop-column.column ≡ c.self.inside.columns = omega arith in
     let all = subst (λ (g : Grid). c.loop-column.column ≡ g.columns) c.self.view_is past in
-    has_written_styled_of_eq _ _ _ _ _ (ap (λ k. map digit_of (slice_range m.bits start (start + k)) ++ 10 ∷ []) all) (has_written_styled_append _ _ _ _ _ _ so_far end)
+    has_written_styled_of_eq _ _ _ _ _ (ap (λ k. map digit_of (slice_range m.bits start (start + k))) all) so_far

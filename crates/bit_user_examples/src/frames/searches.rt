@@ -1,4 +1,6 @@
 //! Searches for runs of free frames beside plain loops.
+ghost use Rattle.std.specs.Prelude.{◌<◌};
+
 use crate::{check, ok};
 use bit_frames::FreeMap;
 use std::process::Abort;

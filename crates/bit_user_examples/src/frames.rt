@@ -152,6 +152,7 @@ fn runs_of_free_frames(rt: HostRuntime) {
     let mut map = map_with_gaps(&rt);
     has_runs(&rt, &map, &[3..12, 20..24, 40..44, 60..65]);
     check(&rt, map.reserve(3..12).is_ok());
+    assert!(rt; map.frames() == 100);
     check(&rt, map.give_back(0, 1).is_ok());
     check(&rt, map.give_back(98, 2).is_ok());
     has_runs(&rt, &map, &[0..1, 20..24, 40..44, 60..65, 98..100]);
@@ -160,6 +161,7 @@ fn runs_of_free_frames(rt: HostRuntime) {
 #[test]
 fn texts_of_a_map(rt: HostRuntime) {
     let mut map = map_with_gaps(&rt);
+    assert!(rt; map.frames() == 100);
     check(&rt, map.give_back(99, 1).is_ok());
     let text = ok(&rt, map.to_string(rt.alloc()));
     check(&rt, text.as_str() == "3-11,20-23,40-43,60-64,99");

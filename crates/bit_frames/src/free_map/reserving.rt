@@ -1,7 +1,7 @@
 //! Calls on given frames: whether they are free, and taking them.
-ghost use Rattle.std.specs.Prelude.{◌≡◌, ◌-◌, ◌<◌, ◌≤◌, ◌↔◌, true, IsTrue, OnErr, OnOk, length, replicate};
+ghost use Rattle.std.specs.Prelude.{◌≡◌, ◌-◌, ◌<◌, ◌≤◌, ◌↔◌, ℕ, true, IsTrue, OnErr, OnOk, length, replicate};
 ghost use Rattle.bit_addressing.specs.Row.{put};
-ghost use Rattle.bit_frames.specs.FreeMap.{AreFree, IsFree};
+ghost use Rattle.bit_frames.specs.FreeMap.{AreFree, IsFree, IsTaken};
 
 use crate::free_map::FreeMap;
 use bit_containers::BitList;
@@ -48,6 +48,7 @@ impl FreeMap {
         ensures list { OnOk result
             (self.new ≡ put self.old frames.start (replicate (frames.end - frames.start) true)) }
         ensures free { OnOk result (AreFree self.old (frames.end - frames.start) frames.start) }
+        ensures now { OnOk result ((j : ℕ) → frames.start ≤ j → j < frames.end → IsTaken self.new j) }
         ensures inside { OnOk result (frames.start < frames.end → frames.end ≤ length self.old) }
         ensures taken { OnErr result (AreFree self.old (frames.end - frames.start) frames.start → ⊥) }
         ensures refused { OnErr result (self.new ≡ self.old) }

@@ -1,6 +1,7 @@
 //! Callers that need no proof of their own: each has one fact that a user of matrices relies on.
 ghost use Rattle.std.specs.Prelude.{◌≡◌, ◌==◌, ◌<◌, ◌≤◌, ◌⊎◌, ◌↔◌, ℕ, false, IfOk, IfSome, IsTrue, Some, length, map};
 ghost use Rattle.bit_slice.specs.BitSlice.{len_of, list_of};
+ghost use Rattle.bit_matrix.specs.Echelon.{AreIndependent, IsSolution};
 ghost use Rattle.bit_matrix.specs.Matrix.{AreAlike, IsPath, IsSet, bit_of, column_bits, item, product, rows_bits};
 ghost use Rattle.bit_matrix.specs.Rank.{IsRank};
 
@@ -184,27 +185,20 @@ pub fn solved<T: BitStore, O: BitOrder>(
 }
 
 /// The echelon form has as many rows with a bit as the rank says.
-pub fn reduced_to_the_rank(matrix: &mut Matrix, alloc: Global) -> Result<bool, AllocError>
-    ensures { IfOk result (λ same. IsTrue same) }
+pub fn reduced_to_the_rank(matrix: &mut Matrix, alloc: Global) -> Result<(usize, usize), AllocError>
+    ensures { IfOk result (λ found. found.0 ≡ found.1) }
 {
     let rank = matrix.rank_mod_2(alloc)?;
-    Ok(matrix.reduce_mod_2() == rank)
+    let reduced = matrix.reduce_mod_2();
+    Ok((rank, reduced))
 }
 
-/// A row of the kernel has the product zero.
-pub fn in_the_kernel(
-    matrix: &Matrix,
-    alloc: Global,
-    vector: usize,
-    row: usize,
-) -> Result<Option<bool>, GrowError>
-    requires { row < matrix.now.rows }
-    ensures { IfOk result (λ found. IfSome found (λ bit. bit ≡ false)) }
+/// The rows of the kernel have the product zero, and none of them is a sum of others.
+pub fn kernel(matrix: &Matrix, alloc: Global) -> Result<Matrix, GrowError>
+    ensures inside { IfOk result (λ m. (i : ℕ) → i < m.rows
+        → IsSolution (item matrix.now) matrix.now.rows matrix.now.columns (λ k. false) (item m i)) }
+    ensures independent { IfOk result (λ m. AreIndependent (item m) m.rows m.columns) }
 {
     let kernel = matrix.kernel_mod_2(alloc)?;
-    if vector >= kernel.rows() {
-        return Ok(None);
-    }
-    let product = matrix.times_vector_mod_2(alloc, kernel.row(vector))?;
-    Ok(Some(product[row]))
+    Ok(kernel)
 }

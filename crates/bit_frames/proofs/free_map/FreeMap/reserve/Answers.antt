@@ -1,6 +1,7 @@
-use Rattle.std.proofs.Common.{◌≡◌, ◌+◌, ◌-◌, ◌≤◌, ap, length, replicate, sym, true, ◌∙◌, arith}
+use Rattle.std.proofs.Common.{◌≡◌, ◌+◌, ◌-◌, ◌≤◌, ap, length, replicate, sym, true, ◌∙◌, arith, slice_get}
 use Rattle.bit_addressing.specs.Row.{put}
 use Rattle.bit_addressing.proofs.lists.Put.{put_none}
+use Rattle.bit_slice.proofs.Ranges.{read_filled}
 use Rattle.bit_frames.proofs.Frames.{marked_length, run_inside}
 use Rattle.bit_frames.proofs.free_map.FreeMap.reserve.Goals as goal
 
@@ -20,3 +21,8 @@ returns-clause-inside c some = let h = inside c in omega arith
 
 pub returns-clause-frames : goal.returns-clause-frames
 returns-clause-frames c = ap length c.mark_taken.ensures ∙ marked_length c.args.self.now c.args.frames.start (c.args.frames.end - c.args.frames.start) true (inside c)
+
+pub returns-clause-now : goal.returns-clause-now
+returns-clause-now c j low high =
+    let count = c.args.frames.end - c.args.frames.start in
+    ap (λ l. slice_get l j) c.mark_taken.ensures ∙ read_filled c.args.self.now c.args.frames.start count true (inside c) j low (omega arith)

@@ -184,13 +184,11 @@ pub fn solved<T: BitStore, O: BitOrder>(
     Ok(Some(product))
 }
 
-/// The echelon form has as many rows with a bit as the rank says.
-pub fn reduced_to_the_rank(matrix: &mut Matrix, alloc: Global) -> Result<(usize, usize), AllocError>
-    ensures { IfOk result (λ found. found.0 ≡ found.1) }
+/// The echelon form has the rank that is returned.
+pub fn reduced(matrix: &mut Matrix) -> usize
+    ensures { IsRank matrix.new result }
 {
-    let rank = matrix.rank_mod_2(alloc)?;
-    let reduced = matrix.reduce_mod_2();
-    Ok((rank, reduced))
+    matrix.reduce_mod_2()
 }
 
 /// The rows of the kernel have the product zero, and none of them is a sum of others.

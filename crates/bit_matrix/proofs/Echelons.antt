@@ -136,16 +136,6 @@ module _ (w v : ℕ → ℕ → Bool) (m c rank : ℕ) (was : IsEchelon w m c ra
       new_row : IsLead (v rank) c
       new_row = record { here = set; before = λ q b. same rank q room b ∙ was.rest rank q (omega arith) room b }
 
--- no column is done
-pub echelon_none : (w : ℕ → ℕ → Bool) (m : ℕ) → IsEchelon w m 0 0
-echelon_none w m = record {
-  few = omega arith;
-  leads = λ i h. absurd (omega arith);
-  rest = λ i j past h inner. absurd (omega arith);
-  ascending = λ i k p q order h. absurd (omega arith);
-  alone = λ i k p h. absurd (omega arith);
-}
-
 -- ---- equations
 
 -- a choice of rows, the rows and a column: the products in either order
@@ -352,9 +342,6 @@ independent_more w v m n into from inside within apart added was part gone =
         ∙ sym (sum_either w part (λ k. part into && (from == k)) m j)
 
 -- ---- what is made by adding rows to others
-
-pub made_same : (w : ℕ → ℕ → Bool) (m n : ℕ) → IsMadeOf w w m n
-made_same w m n = record { sums = λ a s. s; back = λ a s. s; independent = λ s. s }
 
 pub made_then : (w v u : ℕ → ℕ → Bool) (m n : ℕ) → IsMadeOf w v m n → IsMadeOf v u m n → IsMadeOf w u m n
 made_then w v u m n first second = record { sums = λ a s. second.sums a (first.sums a s); back = λ a s. second.back a (first.back a s); independent = λ s. second.independent (first.independent s) }

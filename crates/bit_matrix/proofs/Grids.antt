@@ -9,10 +9,10 @@ use Rattle.std.proofs.lemmas.Option.{slice_get-get_or}
 use Rattle.bit_addressing.specs.Bits.{has_bit}
 use Rattle.bit_addressing.specs.Row.{moved, put, row_of, source_of}
 use Rattle.bit_addressing.specs.Text.{digit_of}
-use Rattle.bit_addressing.proofs.Rows.{get_or-row_one, length-row_of}
+use Rattle.bit_addressing.proofs.Rows.{get_or-row_one}
 use Rattle.bit_addressing.proofs.lists.Moved.{get_or-moved}
 use Rattle.bit_addressing.proofs.lists.Put.{put_before, put_after, put_inside}
-use Rattle.bit_addressing.proofs.lists.Shown.{get_or-run, length-between, length-run}
+use Rattle.bit_addressing.proofs.lists.Shown.{get_or-run, length-run}
 use Rattle.bit_containers.proofs.Removing.{run_back}
 use Rattle.bit_matrix.specs.Matrix.{Grid, AreAlike, IsPath, IsSet, item}
 use Rattle.bit_matrix.proofs.Paths.{ArePathsOver, all_paths}
@@ -140,11 +140,6 @@ module _ (xs ys : List Bool) (rows columns row column count start : ℕ) (size :
       ]
 
 -- the first bits of a word
-pub length-first_bits : (number count : ℕ) → count ≤ 64 → length (slice_range (row_of (λ w i. i) 64 (number ∷ [])) 0 count) ≡ count
-length-first_bits number count few =
-    let size = length-row_of (λ w i. i) 64 (number ∷ []) in
-    length-between (row_of (λ w i. i) 64 (number ∷ [])) 0 count (omega arith) ∙ omega arith
-
 pub get_or-first_bits : (number count j : ℕ) → j < count → count ≤ 64 → get_or (slice_range (row_of (λ w i. i) 64 (number ∷ [])) 0 count) j false ≡ has_bit number j
 get_or-first_bits number count j below few =
     let at : 0 + j ≡ j = omega arith in

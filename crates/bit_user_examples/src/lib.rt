@@ -6,6 +6,10 @@
 use std::process::Abort;
 
 #[cfg(test)]
+mod frames;
+#[cfg(test)]
+mod matrices;
+#[cfg(test)]
 mod ranks;
 #[cfg(test)]
 mod records;

@@ -1,16 +1,2 @@
-pub mod Blocks
-pub mod Counted
 pub mod Fields
-pub mod Filled
-pub mod Frames
-pub mod FullRank
-pub mod Grids
-pub mod Lowest
-pub mod MatrixRuns
-pub mod ModTwo
-pub mod Padding
-pub mod Paths
-pub mod Ranks
 pub mod Sequences
-pub mod Served
-pub mod Turning

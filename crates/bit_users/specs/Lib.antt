@@ -1,10 +1,2 @@
-pub mod Elimination
-pub mod FreeMap
-pub mod Matrix
-pub mod MatrixLeft
-pub mod Rank
-pub mod Reduction
 pub mod Sequence
-pub mod Serving
-pub mod Squares
 pub mod Wire

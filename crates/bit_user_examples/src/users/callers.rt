@@ -1,17 +1,11 @@
 //! Callers that need no proof of their own: each has one fact that a user of these types relies on.
-ghost use Rattle.std.specs.Prelude.{◌≡◌, ◌==◌, ◌%◌, ◌<◌, ◌≤◌, ◌⊎◌, ◌↔◌, ℕ, IfOk, IfSome, IsTrue, Some};
-ghost use Rattle.bit_users.specs.FreeMap.{AreFree};
-ghost use Rattle.bit_users.specs.Matrix.{IsPath, IsSet, column_bits, item, product};
-ghost use Rattle.bit_users.specs.Rank.{IsRank};
-ghost use Rattle.bit_users.specs.Serving.{IsNeverTwice};
+ghost use Rattle.std.specs.Prelude.{◌≡◌, ◌↔◌, IfOk, IsTrue, Some};
 ghost use Rattle.bit_users.specs.Wire.{Fits};
 
 use bit_addressing::{BitOrder, BitStore, GrowError, Msb0};
 use bit_containers::BitVec;
-use bit_users::{
-    Fault, FreeMap, Header, Matrix, Reply, Request, are_of_one_list, from_bytes, to_bytes,
-};
-use std::alloc::{AllocError, Global};
+use bit_users::{Fault, Header, are_of_one_list, from_bytes, to_bytes};
+use std::alloc::Global;
 
 /// What is written is read back.
 pub fn read_back(header: Header, alloc: Global) -> Result<Option<Header>, GrowError>
@@ -20,29 +14,6 @@ pub fn read_back(header: Header, alloc: Global) -> Result<Option<Header>, GrowEr
 {
     let bytes = header.to_bytes(alloc)?;
     Ok(Header::read(&bytes))
-}
-
-/// Frames that are taken and given back at once leave the map as it was.
-pub fn given_back(frames: &mut FreeMap, count: usize) -> Option<usize>
-    requires { 0 < count }
-    ensures { frames.new ≡ frames.old }
-{
-    let first = frames.take_run(count)?;
-    match frames.give_back(first, count) {
-        Ok(()) => Some(first),
-        Err(_) => None,
-    }
-}
-
-/// Frames that were taken are given back without a refusal.
-pub fn never_refused(frames: &mut FreeMap, count: usize) -> bool
-    requires { 0 < count }
-    ensures { IsTrue result }
-{
-    match frames.take_run(count) {
-        None => true,
-        Some(first) => frames.give_back(first, count).is_ok(),
-    }
 }
 
 /// A list that was written as bytes is read back.
@@ -69,146 +40,4 @@ pub fn have_equal_bytes<T: BitStore, O: BitOrder, U: BitStore, P: BitOrder>(
     let bytes = to_bytes(alloc, bits)?;
     let other_bytes = to_bytes(alloc, others)?;
     Ok(are_of_one_list(&bytes, &other_bytes))
-}
-
-/// Whether a path leads from one node of a graph to another. The graph becomes its transitive closure.
-pub fn path_leads(graph: &mut Matrix, from: usize, to: usize) -> bool
-    requires square { graph.old.rows ≡ graph.old.columns }
-    requires from { from < graph.old.rows }
-    requires to { to < graph.old.columns }
-    ensures { IsTrue result ↔ IsPath (IsSet graph.old) from to }
-{
-    graph.close();
-    graph.get(from, to)
-}
-
-/// A matrix that is transposed twice has its bits again.
-pub fn turned_twice(alloc: Global, matrix: &Matrix) -> Result<Matrix, GrowError>
-    ensures { IfOk result (λ again. (i j : ℕ) → i < matrix.now.rows → j < matrix.now.columns
-        → item again i j ≡ item matrix.now i j) }
-{
-    let turned = matrix.transpose(alloc)?;
-    turned.transpose(alloc)
-}
-
-/// A bit that is or-ed into a row is set in it, and a bit that was set there stays set.
-pub fn joined(matrix: &mut Matrix, into: usize, from: usize, column: usize) -> bool
-    requires into { into < matrix.old.rows }
-    requires from { from < matrix.old.rows }
-    requires column { column < matrix.old.columns }
-    ensures { IsTrue result ↔ (IsSet matrix.old into column ⊎ IsSet matrix.old from column) }
-{
-    matrix.or_row(into, from);
-    matrix.get(into, column)
-}
-
-/// A matrix times its inverse is the identity.
-pub fn undone(
-    matrix: &Matrix,
-    alloc: Global,
-    row: usize,
-    column: usize,
-) -> Result<Option<bool>, GrowError>
-    requires square { matrix.now.rows ≡ matrix.now.columns }
-    requires row { row < matrix.now.rows }
-    requires column { column < matrix.now.columns }
-    ensures { IfOk result (λ found. IfSome found (λ bit. bit ≡ (row == column))) }
-{
-    let Ok(Some(inverse)) = matrix.inverse_mod_2(alloc) else {
-        return Ok(None);
-    };
-    let product = matrix.times_mod_2(&inverse, alloc)?;
-    Ok(Some(product.get(row, column)))
-}
-
-/// Whether a path of two edges leads from one node to another.
-pub fn two_edges(graph: &Matrix, alloc: Global, from: usize, to: usize) -> Result<bool, GrowError>
-    requires square { graph.now.rows ≡ graph.now.columns }
-    requires from { from < graph.now.rows }
-    requires to { to < graph.now.columns }
-    ensures { IfOk result (λ leads. leads ≡ product graph.now graph.now from to) }
-{
-    Ok(graph.times(graph, alloc)?.get(from, to))
-}
-
-/// Rows that are swapped twice are where they were.
-pub fn swapped_twice(matrix: &mut Matrix, a: usize, b: usize, column: usize) -> bool
-    requires a { a < matrix.old.rows }
-    requires b { b < matrix.old.rows }
-    requires column { column < matrix.old.columns }
-    ensures { result ≡ item matrix.old a column }
-{
-    matrix.swap_rows(a, b);
-    matrix.swap_rows(a, b);
-    matrix.get(a, column)
-}
-
-/// A bit of a row's view is that of the matrix.
-pub fn in_a_row(matrix: &Matrix, row: usize, column: usize) -> Option<bool>
-    requires row { row < matrix.now.rows }
-    requires column { column < matrix.now.columns }
-    ensures { result ≡ Some (item matrix.now row column) }
-{
-    matrix.row(row).get(column)
-}
-
-/// An aligned run begins at a multiple, and was free.
-pub fn taken_at_a_multiple(frames: &mut FreeMap, count: usize, align: usize) -> Option<usize>
-    requires some { 0 < count }
-    requires align { 0 < align }
-    ensures { IfSome result (λ first. (first % align ≡ 0) × AreFree frames.old count first) }
-{
-    frames.take_aligned(count, align)
-}
-
-/// Frames that were taken where they fit best are given back.
-pub fn fitted_and_given_back(frames: &mut FreeMap, count: usize) -> Option<usize>
-    requires { 0 < count }
-    ensures { frames.new ≡ frames.old }
-{
-    let first = frames.take_best_fit(count)?;
-    match frames.give_back(first, count) {
-        Ok(()) => Some(first),
-        Err(_) => None,
-    }
-}
-
-/// No frame is taken twice, whatever the requests are.
-pub fn served(
-    frames: &mut FreeMap,
-    alloc: Global,
-    requests: &[Request],
-) -> Result<Vec<Reply>, AllocError>
-    ensures { IfOk result (λ replies. IsNeverTwice requests.now replies.items) }
-{
-    frames.serve(alloc, requests)
-}
-
-/// A matrix has no rank above the smaller of its two sizes.
-pub fn rank_within_sizes(matrix: &Matrix, alloc: Global) -> Result<usize, AllocError>
-    ensures rows { IfOk result (λ rank. rank ≤ matrix.now.rows) }
-    ensures columns { IfOk result (λ rank. rank ≤ matrix.now.columns) }
-    ensures rank { IfOk result (λ rank. IsRank matrix.now rank) }
-{
-    let rank = matrix.rank_mod_2(alloc)?;
-    Ok(rank)
-}
-
-/// The bits of a column, collected.
-pub fn column_collected(
-    alloc: Global,
-    matrix: &Matrix,
-    column: usize,
-) -> Result<Vec<bool>, AllocError>
-    requires { column < matrix.now.columns }
-    ensures { IfOk result (λ bits. bits.items ≡ column_bits matrix.now column) }
-{
-    matrix.column(column).collect(alloc)
-}
-
-/// The iterator over rows gives each row.
-pub fn rows_counted(matrix: &Matrix) -> usize
-    ensures { result ≡ matrix.now.rows }
-{
-    matrix.iter_rows().count()
 }

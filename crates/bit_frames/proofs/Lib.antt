@@ -1,0 +1,5 @@
+pub mod Blocks
+pub mod Counted
+pub mod Frames
+pub mod RunsOfFree
+pub mod Served

@@ -1,0 +1,3 @@
+pub mod FreeMap
+pub mod FreeRuns
+pub mod Serving

@@ -1,0 +1,116 @@
+//! Searches for runs of free frames.
+ghost use Rattle.std.specs.Prelude.{◌≡◌, ◌+◌, ◌<◌, ◌≤◌, ℕ, true, MatchOption, length, replicate};
+ghost use Rattle.bit_addressing.specs.Row.{put};
+ghost use Rattle.bit_frames.specs.FreeMap.{AreFree, IsFirstRun, IsFree, IsLastRun, IsNextRun, IsTaken};
+
+use crate::free_map::FreeMap;
+use bit_containers::BitList;
+
+impl FreeMap {
+    /// The lowest frame at which `count` free frames in a row begin. None exactly where there is no such run. Requires
+    /// that `count` is at least 1. `take_run` takes them too.
+    ///
+    /// ```text
+    /// frames.find_first_fit(4)        // Some(1), where frame 0 alone is taken
+    /// ```
+    pub fn find_first_fit(&self, count: usize) -> Option<usize>
+        requires { 0 < count }
+        ensures { MatchOption result ((k : ℕ) → AreFree self.now count k → ⊥)
+            (λ first. IsFirstRun self.now count first) }
+    {
+        self.taken.next_run(count, false, 0)
+    }
+
+    /// Like `find_first_fit`, but the lowest such frame from `from` on. None exactly where there is no such run from
+    /// there on.
+    ///
+    /// ```text
+    /// frames.find_next_fit(64, 4)     // Some(64), where frame 0 alone is taken
+    /// ```
+    pub fn find_next_fit(&self, from: usize, count: usize) -> Option<usize>
+        requires { 0 < count }
+        ensures { MatchOption result ((k : ℕ) → from ≤ k → AreFree self.now count k → ⊥)
+            (λ first. IsNextRun self.now count from first) }
+    {
+        self.taken.next_run(count, false, from)
+    }
+
+    /// Like `find_first_fit`, but the highest such frame, which is searched from the end on.
+    ///
+    /// ```text
+    /// frames.find_last_fit(4)         // Some(1020), where frame 0 of 1024 is taken
+    /// ```
+    pub fn find_last_fit(&self, count: usize) -> Option<usize>
+        requires { 0 < count }
+        ensures { MatchOption result ((k : ℕ) → AreFree self.now count k → ⊥)
+            (λ first. IsLastRun self.now count first) }
+    {
+        let mut upto = self.frames();
+        while let Some(last) = self.taken.prev_zero(upto) {
+            let start = self.begin_of(last);
+            if last - start >= count - 1 {
+                return Some(last - (count - 1));
+            }
+            upto = start;
+        }
+        None
+    }
+
+    // The first of the free frames in a row that end with this one. Requires that it is free.
+    fn begin_of(&self, last: usize) -> usize
+        requires { IsFree self.now last }
+        ensures order { result ≤ last }
+        ensures free { (j : ℕ) → result ≤ j → j ≤ last → IsFree self.now j }
+        ensures before { (j : ℕ) → j + 1 ≡ result → IsTaken self.now j }
+    {
+        match self.taken.prev_one(last) {
+            None => 0,
+            Some(taken) => taken + 1,
+        }
+    }
+
+    /// Takes `count` free frames in a row like `take_run`, but the lowest ones from `from` on. None exactly where there
+    /// is no such run from there on, and then nothing changes. Requires that `count` is at least 1.
+    ///
+    /// ```text
+    /// frames.take_next_fit(64, 4)     // Some(64), and the second time Some(68)
+    /// ```
+    #[tactic(auto, using(crate::proofs::Frames::marked_length))]
+    pub fn take_next_fit(&mut self, from: usize, count: usize) -> Option<usize>
+        requires { 0 < count }
+        ensures run { MatchOption result
+            ((self.new ≡ self.old) × ((k : ℕ) → from ≤ k → AreFree self.old count k → ⊥))
+            (λ first. (self.new ≡ put self.old first (replicate count true)) × IsNextRun self.old count from first) }
+        ensures frames { length self.new ≡ length self.old }
+    {
+        match self.find_next_fit(from, count) {
+            None => None,
+            Some(first) => {
+                self.mark_taken(first, count);
+                Some(first)
+            }
+        }
+    }
+
+    /// Takes `count` free frames in a row like `take_run`, but the highest ones. None exactly where there is no such
+    /// run, and then nothing changes. Requires that `count` is at least 1.
+    ///
+    /// ```text
+    /// frames.take_last_fit(4)         // Some(1020) of 1024 frames, and the second time Some(1016)
+    /// ```
+    #[tactic(auto, using(crate::proofs::Frames::marked_length))]
+    pub fn take_last_fit(&mut self, count: usize) -> Option<usize>
+        requires { 0 < count }
+        ensures run { MatchOption result ((self.new ≡ self.old) × ((k : ℕ) → AreFree self.old count k → ⊥))
+            (λ first. (self.new ≡ put self.old first (replicate count true)) × IsLastRun self.old count first) }
+        ensures frames { length self.new ≡ length self.old }
+    {
+        match self.find_last_fit(count) {
+            None => None,
+            Some(first) => {
+                self.mark_taken(first, count);
+                Some(first)
+            }
+        }
+    }
+}

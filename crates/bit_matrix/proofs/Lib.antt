@@ -1,0 +1,11 @@
+pub mod Echelons
+pub mod FullRank
+pub mod Grids
+pub mod Lowest
+pub mod MatrixRuns
+pub mod ModTwo
+pub mod Padding
+pub mod Paths
+pub mod Ranks
+pub mod Rowed
+pub mod Turning

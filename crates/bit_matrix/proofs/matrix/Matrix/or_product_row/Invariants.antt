@@ -1,0 +1,10 @@
+use Rattle.std.proofs.Common.{◌≡◌, ◌≢◌, ◌<◌, ◌&&◌, ◌||◌, ℕ}
+use Rattle.bit_matrix.specs.Matrix.{AreAlike, any_below, item}
+use Rattle.bit_matrix.proofs.matrix.Matrix.or_product_row.Given as goal
+
+abbrev pub invariant-loop-middle : goal.invariant-loop-middle
+invariant-loop-middle l = record {
+  alike : AreAlike l.self l.fn.self;
+  row : (j : ℕ) → j < l.fn.self.columns → item l.self l.row j ≡ (item l.fn.self l.row j || any_below (λ k. item l.left l.row k && item l.right k j) l.middle);
+  others : (i j : ℕ) → i < l.fn.self.rows → j < l.fn.self.columns → i ≢ l.row → item l.self i j ≡ item l.fn.self i j;
+}

@@ -1,6 +1,0 @@
-use Rattle.std.proofs.Common.{◌≡◌, ◌<◌, ◌≤◌, ℕ, false}
-use Rattle.bit_users.specs.Matrix.{item}
-use Rattle.bit_users.proofs.matrix.Matrix.pivot_row.Given as goal
-
-abbrev pub invariant-loop-row : goal.invariant-loop-row
-invariant-loop-row l = (i : ℕ) → i < l.row → l.column ≤ i → item l.self i l.column ≡ false

@@ -1,9 +1,0 @@
-use Rattle.std.proofs.Common.{◌-◌, sym}
-use Rattle.std.proofs.lemmas.List.FromFn.{length-map-range_with_len}
-use Rattle.bit_users.specs.Matrix.{item}
-use Rattle.bit_users.proofs.matrix.iter.Column.count_left.Goals as goal
-
-pub returns : goal.returns
-returns c =
-    let s = c.args.self.now in
-    sym (length-map-range_with_len (λ i. item s.matrix.now i s.column) s.from (s.upto - s.from))

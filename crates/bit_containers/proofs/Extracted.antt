@@ -1,14 +1,20 @@
 -- Bits that are appended where a mask has ones, again and again, and by runs.
-use Rattle.std.proofs.Common.{◌≡◌, ℕ, zero, suc, ◌+◌, ◌-◌, ◌*◌, ◌<◌, ◌≤◌, Bool, true, false, cond, List, [], ◌∷◌, ◌++◌, length, take, drop, min, slice_range, refl, sym, ◌∙◌, ap, arith, append_assoc, append-nil, length-append}
+use Rattle.std.proofs.Common.{◌≡◌, ℕ, zero, suc, ◌+◌, ◌-◌, ◌*◌, ◌/◌, ◌%◌, ◌<◌, ◌≤◌, Bool, true, false, cond, List, [], ◌∷◌, ◌++◌, length, take, drop, get_or, min, replicate, slice_range, refl, sym, ◌∙◌, ap, arith, append_assoc, append-nil, length-append}
 use Rattle.std.specs.Prelude.{count_by}
 use Rattle.std.specs.List.{flat_map, items_where_true}
 use Rattle.std.proofs.Math.Seq.{take-add}
-use Rattle.std.proofs.lemmas.List.{length-drop, length-take-le, places, same_lists, take-append-drop}
+use Rattle.std.proofs.lemmas.List.{length-drop, length-replicate, take_more, length-take-le, places, same_lists, take-append-drop}
+use Rattle.std.proofs.lemmas.Grind.{flat_map-append}
+use Rattle.std.proofs.lemmas.List.Concat.{flat_map-cons}
 use Rattle.std.proofs.lemmas.List.Sums.{sum_by-cons}
+use Rattle.bit_addressing.proofs.Runs.{mul_mono}
+use Rattle.bit_addressing.proofs.lists.Sized.{one_more_word}
 use Rattle.bit_addressing.specs.Bits.{has_bit}
 use Rattle.bit_addressing.specs.Row.{number_bits}
 use Rattle.bit_rows.proofs.Binary.{length-number_bits}
 use Rattle.bit_slice.proofs.Writing.{number_bits_more}
+use Rattle.bit_slice.specs.BitRuns.{bits_of_run}
+use Rattle.bit_slice.specs.declared.slice.runs.BitRun.{BitRun}
 use Rattle.bit_containers.specs.Repeated.{repeated}
 
 -- ---- the items that a mask has
@@ -129,11 +135,88 @@ length-repeated (suc n) xs =
     let next : suc n * length xs ≡ length xs + n * length xs = grind arith in
     length-append xs (repeated n xs) ∙ ap (λ k. length xs + k) (length-repeated n xs) ∙ sym next
 
+-- a part of a list in three parts
+part_after : (a b c : List Bool) (n : ℕ) → n ≡ length b → slice_range (a ++ (b ++ c)) (length a) (length a + n) ≡ b
+part_after a b c n is = same_lists _ _ (grind (arith, places)) (λ i e below. grind (arith, places))
+
 -- a part of what was appended is a list again and again
 pub repeated_part : (old xs : List Bool) (m n : ℕ) → m ≤ n → slice_range (old ++ repeated n xs) (length old) (length old + m * length xs) ≡ repeated m xs
 repeated_part old xs m n h =
     let parts : m + (n - m) ≡ n = omega arith in
-    let long = length-repeated m xs in
     ap (λ k. slice_range (old ++ repeated k xs) (length old) (length old + m * length xs)) (sym parts)
     ∙ ap (λ l. slice_range (old ++ l) (length old) (length old + m * length xs)) (repeated_sum m (n - m) xs)
-    ∙ same_lists _ _ (grind (arith, places)) (λ i b below. grind (arith, places))
+    ∙ part_after old (repeated m xs) (repeated (n - m) xs) (m * length xs) (sym (length-repeated m xs))
+
+-- where there is nothing to repeat
+no_item : (xs : List Bool) → length xs ≡ 0 → xs ≡ []
+no_item [] none = refl
+no_item (x ∷ xs) none = absurd (omega arith)
+
+pub repeated_none : (n : ℕ) (xs : List Bool) → n * length xs ≡ 0 → repeated n xs ≡ []
+repeated_none n xs none = no_item (repeated n xs) (length-repeated n xs ∙ none)
+
+-- more copies than have room
+pub past_room : (room len n : ℕ) → 0 < len → room / len < n → room < n * len
+past_room room len n some past =
+    let parts : room ≡ room / len * len + room % len = omega arith in
+    let below : room % len < len = omega arith in
+    let next : (room / len + 1) * len ≡ room / len * len + len = one_more_word (room / len) len in
+    let most = mul_mono (room / len + 1) n len (omega arith) in
+    omega arith
+
+-- one copy more
+module _ (now xs cur : List Bool) (done more start len : ℕ) (few : more ≤ done) (starts : start ≡ length now) (long : len ≡ length xs) (is : cur ≡ now ++ repeated done xs) where
+  pub copy_is : slice_range cur start (start + more * len) ≡ repeated more xs
+  copy_is =
+      ap (λ l. slice_range l start (start + more * len)) is
+      ∙ ap (λ k. slice_range (now ++ repeated done xs) k (k + more * len)) starts
+      ∙ ap (λ k. slice_range (now ++ repeated done xs) (length now) (length now + more * k)) long
+      ∙ repeated_part now xs more done few
+
+  pub copied_more : (next : List Bool) → next ≡ cur ++ slice_range cur start (start + more * len) → next ≡ now ++ repeated (done + more) xs
+  copied_more next wrote =
+      wrote ∙ ap (λ l. cur ++ l) copy_is ∙ ap (λ l. l ++ repeated more xs) is
+      ∙ append_assoc now (repeated done xs) (repeated more xs) ∙ ap (λ l. now ++ l) (sym (repeated_sum done more xs))
+
+  pub reached : length cur ≡ length now + done * len
+  reached = ap length is ∙ length-append now (repeated done xs) ∙ ap (λ k. length now + k) (length-repeated done xs ∙ ap (λ k. done * k) (sym long))
+
+-- products that the copies take
+pub two_products : (done more len : ℕ) → (done + more) * len ≡ done * len + more * len
+two_products done more len = grind arith
+
+-- ---- runs
+
+-- a run of no bits, which no list has
+abbrev pub blank : BitRun
+blank = record { start = 0; end = 0; bit = false }
+
+-- the bits of a run
+pub length-run_bits : (r : BitRun) → length (bits_of_run r) ≡ r.end - r.start
+length-run_bits r = length-replicate (r.end - r.start) r.bit
+
+-- the bits of one run more
+pub runs_more : (runs : List BitRun) (i : ℕ) (d : BitRun) → i < length runs → flat_map bits_of_run (take (i + 1) runs) ≡ flat_map bits_of_run (take i runs) ++ bits_of_run (get_or runs i d)
+runs_more runs i d inside =
+    ap (flat_map bits_of_run) (take_more runs i d inside)
+    ∙ flat_map-append bits_of_run (take i runs) (get_or runs i d ∷ [])
+    ∙ ap (λ l. flat_map bits_of_run (take i runs) ++ l) (flat_map-cons bits_of_run (get_or runs i d) [] ∙ append-nil (bits_of_run (get_or runs i d)))
+
+-- no more bits than those of all runs
+pub runs_few : (runs : List BitRun) (i : ℕ) → length (flat_map bits_of_run (take i runs)) ≤ length (flat_map bits_of_run runs)
+runs_few runs i =
+    let whole = ap length (ap (flat_map bits_of_run) (sym (take-append-drop i runs)) ∙ flat_map-append bits_of_run (take i runs) (drop i runs))
+    ∙ length-append (flat_map bits_of_run (take i runs)) (flat_map bits_of_run (drop i runs)) in
+    omega arith
+
+pub runs_next : (runs : List BitRun) (i : ℕ) (d : BitRun) → i < length runs → length (flat_map bits_of_run (take (i + 1) runs)) ≡ length (flat_map bits_of_run (take i runs)) + ((get_or runs i d).end - (get_or runs i d).start)
+runs_next runs i d inside =
+    ap length (runs_more runs i d inside) ∙ length-append (flat_map bits_of_run (take i runs)) (bits_of_run (get_or runs i d))
+    ∙ ap (λ k. length (flat_map bits_of_run (take i runs)) + k) (length-run_bits (get_or runs i d))
+
+-- a run of no bits adds none
+pub empty_run : (runs : List BitRun) (i : ℕ) (d : BitRun) → i < length runs → (get_or runs i d).end - (get_or runs i d).start ≡ 0 → flat_map bits_of_run (take (i + 1) runs) ≡ flat_map bits_of_run (take i runs)
+empty_run runs i d inside none =
+    runs_more runs i d inside
+    ∙ ap (λ k. flat_map bits_of_run (take i runs) ++ replicate k (get_or runs i d).bit) none
+    ∙ append-nil (flat_map bits_of_run (take i runs))

@@ -176,7 +176,10 @@ impl<T: BitStore, O: BitOrder> BitVec<T, O> {
         self.prove_in_words();
         let mut more: usize = 0;
         for run in runs {
-            more = more.saturating_add(run.len());
+            if run.len() > MAX_BITS - more {
+                return Err(GrowError::TooLong);
+            }
+            more += run.len();
         }
         self.reserve(more)?;
         for run in runs {

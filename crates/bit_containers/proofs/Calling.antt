@@ -1,8 +1,8 @@
 -- One more call of a function that keeps a state.
-use Rattle.std.proofs.Common.{◌≡◌, ℕ, zero, suc, ◌+◌, ◌-◌, ◌*◌, ◌<◌, ◌≤◌, refl, sym, ap, ◌∙◌, Bool, true, false, cond, List, [], ◌∷◌, ◌++◌, length, get_or, take, drop, ◌%◌, append-nil, map, arith}
+use Rattle.std.proofs.Common.{◌≡◌, ℕ, zero, suc, ◌+◌, ◌-◌, ◌*◌, ◌<◌, ◌≤◌, refl, sym, ap, ◌∙◌, Bool, true, false, cond, List, [], ◌∷◌, ◌++◌, length, get_or, take, drop, ◌%◌, append-nil, arith}
 use Rattle.std.proofs.lemmas.List.{take_more, drop_more, drop-drop, take_all, length-take-le}
 use Rattle.std.specs.Borrow.{Bor}
-use Rattle.std.specs.List.{filter, range_with_len}
+use Rattle.std.specs.List.{filter}
 use Rattle.bit_addressing.specs.Row.{words_for, number_bits}
 use Rattle.bit_containers.specs.BitVec.{Held, Grew, IsKept}
 use Rattle.bit_slice.specs.Closures.{ResultsAtEach, kept, keep_where}

@@ -181,10 +181,6 @@ module _ (now xs cur : List Bool) (done more start len : ℕ) (few : more ≤ do
   pub reached : length cur ≡ length now + done * len
   reached = ap length is ∙ length-append now (repeated done xs) ∙ ap (λ k. length now + k) (length-repeated done xs ∙ ap (λ k. done * k) (sym long))
 
--- products that the copies take
-pub two_products : (done more len : ℕ) → (done + more) * len ≡ done * len + more * len
-two_products done more len = grind arith
-
 -- ---- runs
 
 -- a run of no bits, which no list has

@@ -10,6 +10,7 @@ use Rattle.std.specs.Prelude.{◌⊎◌, ◌↔◌, EachIndex, MatchOption}
 use Rattle.std.proofs.lemmas.Nat.{mod-mul-add}
 use Rattle.bit_addressing.proofs.lists.Sized.{one_more_word}
 use Rattle.bit_addressing.proofs.lists.Shown.{get_or-run, length-run}
+use Rattle.bit_slice.proofs.Multiples.{gap_least, gap_reaches}
 use Rattle.bit_slice.proofs.Ranges.{read_filled}
 use Rattle.bit_slice.specs.Pieces.{part}
 use Rattle.bit_slice.proofs.BitRuns.{all_inside}
@@ -129,45 +130,6 @@ pub marked_taken : (map now : List Bool) (first count : ℕ) → AreFree map cou
 marked_taken map now first count free marked i h =
     let last = slice_get_within map (first + (count - 1)) false (free (count - 1) (omega arith)) in
     ap (λ l. slice_get l (first + i)) marked ∙ read_filled map first count true (omega arith) (first + i) (omega arith) (omega arith)
-
--- ---- runs at multiples
-
--- the distance to the next multiple
-gap_is : (align first : ℕ) → 0 < align → ((first % align ≡ 0) × ((align - first % align) % align ≡ 0)) ⊎ ((0 < first % align) × ((align - first % align) % align ≡ align - first % align))
-gap_is align first some = elim (cases_lt 0 (first % align)) [
-  | inl up ↦
-      let whole : align - first % align ≡ 0 * align + (align - first % align) = omega arith in
-      inr (up, ap (λ x. x % align) whole ∙ mod-mul-add 0 align (align - first % align) (omega arith))
-  | inr none ↦
-      let zero_is : first % align ≡ 0 = omega arith in
-      let whole : align - first % align ≡ 1 * align + 0 = omega arith in
-      inl (zero_is, ap (λ x. x % align) whole ∙ mod-mul-add 1 align 0 some)
-]
-
-pub gap_reaches : (align first : ℕ) → 0 < align → (first + (align - first % align) % align) % align ≡ 0
-gap_reaches align first some = elim (gap_is align first some) [
-  | inl l ↦ (let e : first + (align - first % align) % align ≡ first = (let z = l.1 in omega arith) in ap (λ x. x % align) e ∙ l.0)
-  | inr r ↦
-      let parts : first ≡ first / align * align + first % align = omega arith in
-      let below : first % align < align = omega arith in
-      let next : (first / align + 1) * align ≡ first / align * align + align = one_more_word (first / align) align in
-      let e : first + (align - first % align) % align ≡ (first / align + 1) * align + 0 = (let z = r.1 in omega arith) in
-      ap (λ x. x % align) e ∙ mod-mul-add (first / align + 1) align 0 some
-]
-
-pub gap_least : (align first i : ℕ) → 0 < align → first ≤ i → i % align ≡ 0 → first + (align - first % align) % align ≤ i
-gap_least align first i some from multiple = elim (gap_is align first some) [
-  | inl l ↦ (let z = l.1 in omega arith)
-  | inr r ↦ elim (cases_lt i (first + (align - first % align))) [
-    | inl short ↦
-        let parts : first ≡ first / align * align + first % align = omega arith in
-        let rest : first % align + (i - first) < align = omega arith in
-        let e : i ≡ first / align * align + (first % align + (i - first)) = omega arith in
-        let is = ap (λ x. x % align) e ∙ mod-mul-add (first / align) align (first % align + (i - first)) rest in
-        absurd (let up = r.0 in omega arith)
-    | inr up ↦ (let z = r.1 in omega arith)
-  ]
-]
 
 -- the frames from a free one up to the next taken one are free
 pub free_up_to : (map : List Bool) (first n : ℕ) (r : Option ℕ) → n ≡ length map → IfSome r (λ i. (j : ℕ) → first ≤ j → j < i → slice_get map j ≡ Some false) → IfNone r ((j : ℕ) → first ≤ j → j < length map → slice_get map j ≡ Some false)

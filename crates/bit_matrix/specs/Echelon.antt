@@ -18,7 +18,7 @@ pub record IsMadeOf (w v : ℕ → ℕ → Bool) (m n : ℕ) : Type 0 where
   pub back : (a : ℕ → ℕ → Bool) → AreSumsOf a w m n → AreSumsOf a v m n
   pub independent : AreIndependent w m n → AreIndependent v m n
 
--- m rows of n columns are in reduced echelon form, and so many of them have a bit
+-- m rows of n columns are in reduced echelon form, and that many of them have a bit
 pub record IsEchelon (w : ℕ → ℕ → Bool) (m n rank : ℕ) : Type 0 where
   pub few : rank ≤ m
   -- the first rows have a bit, and the others none

@@ -65,10 +65,6 @@ drop_none : (n : ℕ) → drop {A = Bool} n [] ≡ []
 drop_none zero = refl
 drop_none (suc n) = refl
 
-pub deposited_none : (xs ys : List Bool) → deposited xs [] ys ≡ xs
-deposited_none [] ys = refl
-deposited_none (x ∷ xs) ys = refl
-
 pub length-deposited : (xs mask ys : List Bool) → length (deposited xs mask ys) ≡ length xs
 length-deposited [] mask ys = refl
 length-deposited (x ∷ xs) [] ys = refl

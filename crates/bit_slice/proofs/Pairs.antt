@@ -7,22 +7,13 @@ use Rattle.bit_slice.specs.Operators.{combined}
 use Rattle.bit_slice.specs.Places.{IsAbsent, IsChunk, IsNext}
 use Rattle.bit_slice.proofs.Combining.{length-combined}
 use Rattle.bit_slice.proofs.Found.{next_before_from, next_found, next_none_from}
-use Rattle.bit_slice.proofs.Chunked.{chunk_left, first_inside, first_set, none_before}
-
--- no item from one index up to a second, nor from there up to a third
-pub absent_on : (bit : Bool) (xs : List Bool) (lo mid hi : ℕ) → IsAbsent bit xs lo mid → IsAbsent bit xs mid hi → IsAbsent bit xs lo hi
-absent_on bit xs lo mid hi front back = record {
-  each = λ j a b. elim (cases_lt j mid) [
-    | inl l ↦ front.each j a l
-    | inr l ↦ back.each j l b
-  ];
-}
+use Rattle.bit_slice.proofs.Chunked.{absent_joined, chunk_left, first_inside, first_set, none_before}
 
 -- the first item is after an index before which there is none
 pub next_on : (bit : Bool) (xs : List Bool) (lo mid hi i : ℕ) → lo ≤ mid → IsAbsent bit xs lo mid → IsNext bit xs mid hi i → IsNext bit xs lo hi i
 next_on bit xs lo mid hi i ordered front next =
     let begins = next.begins in
-    record { begins = omega arith; within = next.within; here = next.here; before = absent_on bit xs lo mid i front next.before }
+    record { begins = omega arith; within = next.within; here = next.here; before = absent_joined bit xs lo mid i front next.before }
 
 -- the lowest bit of a number is that of the first item
 pub next_in_chunk : (xs : List Bool) (lo hi end chunk : ℕ) → IsChunk xs lo hi chunk → (chunk ≢ 0) → chunk < 2 ^ 64 → hi ≤ end → IsNext true xs lo end (lo + trailing_zeros w64 chunk)
@@ -64,7 +55,7 @@ module _ (f : Bool → Bool → Bool) (xs ys : List Bool) (at n : ℕ) (size : l
 
   -- the same from an earlier index on
   pub found_from : (lo : ℕ) → lo ≤ at → IsAbsent true (combined f xs ys) lo at → (r : Option ℕ) → MatchOption r (IsAbsent true (combined f xs ys) at n) (λ i. IsNext true (combined f xs ys) at n i) → MatchOption r (IsAbsent true (combined f xs ys) lo n) (λ i. IsNext true (combined f xs ys) lo n i)
-  found_from lo ordered front None none = absent_on true (combined f xs ys) lo at n front none
+  found_from lo ordered front None none = absent_joined true (combined f xs ys) lo at n front none
   found_from lo ordered front (Some i) next = next_on true (combined f xs ys) lo at n i ordered front next
 
 -- what a search of two lists found, said with the indices that a caller has

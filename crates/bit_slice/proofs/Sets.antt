@@ -349,10 +349,6 @@ apart_index xs ys r is = (
 )
 
 -- beside false, or keeps an item
-pub and_not_keeps : (x : Bool) → (x && not false) ≡ x
-and_not_keeps true = refl
-and_not_keeps false = refl
-
 pub or_keeps : (x : Bool) → (x || false) ≡ x
 or_keeps true = refl
 or_keeps false = refl

@@ -14,7 +14,7 @@ use bit_addressing::{BitOrder, BitStore, GrowError, MAX_BITS};
 use std::alloc::Global;
 
 // The number shifted down by one place, with a bit put in at its highest place: where its highest bits are what was
-// gathered, it has one gathered bit more. Takes less time than a shift by as many places as there are bits (docs/SPEED.md, collect).
+// gathered, it gains one. Takes less time than a shift by as many places as there are bits (docs/SPEED.md, collect).
 #[inline(always)]
 fn with_last(number: u64, bit: bool) -> u64
     ensures { (n : ℕ) → n < 64 → highest_bits result (n + 1) ≡ highest_bits number n ++ bit ∷ [] }

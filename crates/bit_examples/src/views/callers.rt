@@ -596,7 +596,10 @@ pub fn first_common<T: BitStore, O: BitOrder, U: BitStore, P: BitOrder>(
 }
 
 /// A run at a multiple has all its bits.
-pub fn free_at_multiple<T: BitStore, O: BitOrder>(view: BitSlice<'_, T, O>, n: usize) -> Option<bool>
+pub fn free_at_multiple<T: BitStore, O: BitOrder>(
+    view: BitSlice<'_, T, O>,
+    n: usize,
+) -> Option<bool>
     requires { 0 < n }
     ensures { IfSome result (λ b. b ≡ false) }
 {

@@ -7,7 +7,7 @@ ghost use Rattle.bit_matrix.specs.Rank.{IsRank};
 use crate::matrix::Matrix;
 
 impl Matrix {
-    /// Makes the matrix its reduced echelon form mod 2, by adding rows to others, and returns its rank: so many rows
+    /// Makes the matrix its reduced echelon form mod 2, by adding rows to others, and returns its rank: that many rows
     /// have a bit then, and they stand first. The first bit of each is to the left of those of the rows after it, and no
     /// other row has a bit in its column; `first_in_row` returns that column. The rows have the sums that they had.
     /// Takes no memory.

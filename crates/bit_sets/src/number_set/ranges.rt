@@ -168,7 +168,7 @@ impl<'a> Iterator for SetRange<'a> {
         }
     }
 
-    /// How many numbers are left, twice: the bits that are left are counted.
+    /// Both bounds are how many numbers are left: the bits that are left are counted.
     fn size_hint(&self) -> (usize, Option<usize>)
         ensures lower { IsWithinCount result.0 (at_most (length (range_left self.now))) }
         ensures upper { IfSome result.1 (UpTo (at_most (length (range_left self.now)))) }

@@ -65,7 +65,7 @@ impl<'a, T: BitStore, O: BitOrder> BitSlice<'a, T, O> {
 impl<'a, T: BitStore, O: BitOrder> IterOnes<'a, T, O> {
     ghost use Rattle.bit_slice.specs.Indices.{next_of, ones_left};
 
-    // The index from which on no bit was taken from the front: that of the lowest bit of the chunk, or its end.
+    // The first index that was not returned from the front: that of the lowest bit of the chunk, or its end.
     #[inline(always)]
     fn next_at(&self) -> usize
         ensures { result ≡ next_of self.now }
@@ -163,7 +163,7 @@ impl<'a, T: BitStore, O: BitOrder> Iterator for IterOnes<'a, T, O> {
         Some(self.take_first())
     }
 
-    /// How many indices are left, twice: the bits that are left are counted.
+    /// Both bounds are how many indices are left: the bits that are left are counted.
     fn size_hint(&self) -> (usize, Option<usize>)
         ensures lower { IsWithinCount result.0 (at_most (length (ones_left self.now))) }
         ensures upper { IfSome result.1 (UpTo (at_most (length (ones_left self.now)))) }
@@ -278,7 +278,7 @@ impl<'a, T: BitStore, O: BitOrder> Iterator for IterZeros<'a, T, O> {
         }
     }
 
-    /// How many indices are left, twice: the bits that are left are counted.
+    /// Both bounds are how many indices are left: the bits that are left are counted.
     fn size_hint(&self) -> (usize, Option<usize>)
         ensures lower { IsWithinCount result.0 (at_most (length (zeros_left self.now))) }
         ensures upper { IfSome result.1 (UpTo (at_most (length (zeros_left self.now)))) }

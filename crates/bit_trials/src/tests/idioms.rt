@@ -100,10 +100,7 @@ fn taken_and_put_back_by_a_mask(rt: HostRuntime) {
     let v = of::<u8, Msb0>(&rt, b"01101001");
     let mask = of::<u16, Lsb0>(&rt, b"11110000");
     let mut taken = of::<u8, Lsb0>(&rt, b"01");
-    ok(
-        &rt,
-        taken.extend_where(v.as_bitslice(), mask.as_bitslice()),
-    );
+    ok(&rt, taken.extend_where(v.as_bitslice(), mask.as_bitslice()));
     holds(&rt, &taken, b"010110");
     let mut w = of::<u8, Msb0>(&rt, b"00000000");
     w.deposit(mask.as_bitslice(), taken.get_range(2..6));

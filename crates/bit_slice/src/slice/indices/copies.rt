@@ -26,7 +26,7 @@ impl<'a, T: BitStore, O: BitOrder> Clone for IterOnes<'a, T, O> {
     }
 }
 
-/// `IterOnes { from: `, the index from which on no bit was taken, `, upto: `, the index up to which none was, ` } `, and the
+/// `IterOnes { from: `, the first index that was not returned, `, upto: `, the index after the last one that was not, ` } `, and the
 /// text of `Display` of the view.
 impl<'a, T: BitStore, O: BitOrder> fmt::Debug for IterOnes<'a, T, O> {
     fn fmt<W: fmt::Write>(&self, f: &mut fmt::Formatter<W>) -> fmt::Result {

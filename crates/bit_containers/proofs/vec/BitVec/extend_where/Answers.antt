@@ -1,10 +1,9 @@
-use Rattle.std.proofs.Common.{◌≡◌, ◌+◌, ◌-◌, ◌++◌, ◌≤◌, [], length, length-append, min, slice_range, refl, sym, ◌∙◌, ap, subst, arith, rules, append-nil, append_assoc}
+use Rattle.std.proofs.Common.{◌≡◌, ◌+◌, ◌++◌, ◌≤◌, length, length-append, min, slice_range, sym, ◌∙◌, ap, subst, arith, rules, append-nil, append_assoc}
 use Rattle.std.specs.List.{items_where_true}
 use Rattle.bit_addressing.proofs.Rows.{width_positive}
 use Rattle.bit_addressing.specs.Row.{number_bits, sized}
 use Rattle.bit_rows.proofs.Binary.{length-number_bits}
 use Rattle.bit_slice.specs.BitSlice.{list_of}
-use Rattle.bit_slice.proofs.Parts.{view_length}
 use Rattle.bit_containers.specs.BitVec.{Grew}
 use Rattle.bit_containers.proofs.Calling.{grew_kept}
 use Rattle.bit_containers.proofs.Extracted.{extracted_all, extracted_count, extracted_few, extracted_more, extracted_to}

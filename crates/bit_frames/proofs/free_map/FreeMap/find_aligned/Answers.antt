@@ -2,7 +2,8 @@ use Rattle.std.proofs.Common.{◌≡◌, ◌∙◌, ◌+◌, ◌-◌, ◌%◌, �
 use Rattle.std.specs.Option.{IfSome, unwrap_or}
 use Rattle.std.proofs.lemmas.Bool.{cases_lt}
 use Rattle.std.proofs.lemmas.Option.{slice_get_within}
-use Rattle.bit_frames.proofs.Frames.{after_run, free_up_to, gap_least, gap_reaches, no_aligned, no_early}
+use Rattle.bit_frames.proofs.Frames.{after_run, free_up_to, no_aligned, no_early}
+use Rattle.bit_slice.proofs.Multiples.{gap_least, gap_reaches}
 use Rattle.bit_frames.proofs.free_map.FreeMap.find_aligned.Goals.{else-gap-end-via-then-gap-end+else-count-end, else-gap-end-via-else-gap-end}
 use Rattle.bit_frames.proofs.free_map.FreeMap.find_aligned.Goals as goal
 

@@ -1,7 +1,8 @@
 use Rattle.std.proofs.Common.{◌&&◌, not, arith}
 use Rattle.bit_slice.specs.BitSlice.{list_of}
 use Rattle.bit_slice.proofs.Parts.{view_length}
-use Rattle.bit_slice.proofs.Sets.{and_not_keeps, counted_left}
+use Rattle.bit_slice.proofs.Ranges.{and_not_keeps}
+use Rattle.bit_slice.proofs.Sets.{counted_left}
 use Rattle.bit_slice.proofs.lists.BitList.count_and_not.Goals as goal
 
 pub returns-clause-value : goal.returns-clause-value

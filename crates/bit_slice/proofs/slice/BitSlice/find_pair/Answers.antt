@@ -2,8 +2,8 @@ use Rattle.std.proofs.Common.{◌+◌, ◌≤◌, length, min, true, arith}
 use Rattle.bit_slice.specs.BitSlice.{list_of}
 use Rattle.bit_slice.specs.Operators.{combined}
 use Rattle.bit_slice.specs.Places.{IsChunk}
-use Rattle.bit_slice.proofs.Chunked.{chunk_absent}
-use Rattle.bit_slice.proofs.Pairs.{absent_on, found_from, found_past, next_in_chunk, next_on, none_past}
+use Rattle.bit_slice.proofs.Chunked.{absent_joined, chunk_absent}
+use Rattle.bit_slice.proofs.Pairs.{found_from, found_past, next_in_chunk, next_on, none_past}
 use Rattle.bit_slice.proofs.Parts.{view_length}
 use Rattle.bit_slice.proofs.slice.BitSlice.find_pair.Goals as goal
 
@@ -35,7 +35,7 @@ loop-at-preserved g c =
     record {
       begins = omega (arith, c.loop-at.invariant.begins);
       ends = omega (arith, c.min-n.ensures, c.min-both.ensures, c.loop-at-test.true);
-      none = absent_on true cs c.args.from at (at + n) c.loop-at.invariant.none (chunk_absent cs at (at + n) chunk is c.if-chunk-ne0.false);
+      none = absent_joined true cs c.args.from at (at + n) c.loop-at.invariant.none (chunk_absent cs at (at + n) chunk is c.if-chunk-ne0.false);
     }
 
 pub find_next-requires-clause-ordered : goal.find_next-requires-clause-ordered
@@ -47,7 +47,7 @@ returns-then-clears g c =
     let u = c.args.other in
     let f = g.F.BitOperator.made in
     let past : min v.len (length (list_of u)) ≤ c.loop-at.at = omega (arith, c.loop-at-test.false, c.min-both.ensures, view_length u) in
-    absent_on true (combined f (list_of v) (list_of u)) c.args.from c.loop-at.at v.len c.loop-at.invariant.none
+    absent_joined true (combined f (list_of v) (list_of u)) c.args.from c.loop-at.at v.len c.loop-at.invariant.none
     (none_past f (list_of v) (list_of u) c.loop-at.at v.len (view_length v) past c.if-clears.ensures)
 
 pub returns : goal.returns

@@ -8,7 +8,7 @@ use bit_addressing::{BitOrder, BitStore};
 use bit_containers::{BitListMut, BitSlice};
 
 impl Matrix {
-    /// Writes the bits of a view, of any word type and order, over a row. Takes no memory. Requires that the matrix has
+    /// Writes the bits of a view over a row, whatever its words and order. Takes no memory. Requires that the matrix has
     /// the row, and that the view has as many bits as there are columns.
     ///
     /// ```text

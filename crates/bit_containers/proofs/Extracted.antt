@@ -173,8 +173,8 @@ module _ (now xs cur : List Bool) (done more start len : ℕ) (few : more ≤ do
       ∙ ap (λ k. slice_range (now ++ repeated done xs) (length now) (length now + more * k)) long
       ∙ repeated_part now xs more done few
 
-  pub copied_more : (next : List Bool) → next ≡ cur ++ slice_range cur start (start + more * len) → next ≡ now ++ repeated (done + more) xs
-  copied_more next wrote =
+  pub copied_more : (later : List Bool) → later ≡ cur ++ slice_range cur start (start + more * len) → later ≡ now ++ repeated (done + more) xs
+  copied_more later wrote =
       wrote ∙ ap (λ l. cur ++ l) copy_is ∙ ap (λ l. l ++ repeated more xs) is
       ∙ append_assoc now (repeated done xs) (repeated more xs) ∙ ap (λ l. now ++ l) (sym (repeated_sum done more xs))
 

@@ -1,13 +1,14 @@
 use Rattle.std.proofs.Common.{◌≡◌, ◌+◌, ◌-◌, ◌*◌, ◌++◌, ◌<◌, ◌≤◌, [], length, sym, ◌∙◌, ap, subst, inl, inr, arith, rules, append-nil}
 use Rattle.bit_addressing.proofs.Rows.{width_positive}
 use Rattle.bit_addressing.proofs.Runs.{mul_mono}
+use Rattle.bit_addressing.proofs.lists.Sized.{right_sum}
 use Rattle.bit_addressing.specs.Row.{sized}
 use Rattle.bit_addressing.specs.declared.length.TheConstants.{MAX_BITS}
 use Rattle.bit_slice.specs.BitSlice.{len_of, list_of}
 use Rattle.bit_containers.specs.BitVec.{Grew}
 use Rattle.bit_containers.specs.Repeated.{repeated}
 use Rattle.bit_containers.proofs.Calling.{grew_kept}
-use Rattle.bit_containers.proofs.Extracted.{copied_more, copy_is, past_room, reached, repeated_none, repeated_sum, two_products}
+use Rattle.bit_containers.proofs.Extracted.{copied_more, copy_is, past_room, reached, repeated_none, repeated_sum}
 use Rattle.bit_containers.proofs.Growing.{grew_none, grew_twice}
 use Rattle.bit_containers.proofs.vec.BitVec.extend_repeated.Goals as goal
 
@@ -78,7 +79,7 @@ copy_reserved-requires-clause-room g c =
     let few : more ≤ at.done = omega (arith, c.min-more.ensures) in
     let size = reached c.args.self.now.list (list_of c.args.view) at.self.list at.done more c.len-start.result len few c.len-start.ensures.value c.len-len.ensures.list at.invariant.list in
     let most = mul_mono (at.done + more) c.args.times len (omega (arith, c.min-more.ensures, at.invariant.ends)) in
-    let sum = two_products at.done more len in
+    let sum = right_sum at.done more len in
     let same : c.args.times * len ≡ c.args.times * len_of c.args.view = ap (λ k. c.args.times * k) c.len-len.ensures.value in
     omega (arith, size, most, sum, same, at.invariant.room)
 
@@ -90,7 +91,7 @@ copy_reserved-requires-clause-fits g c =
     let few : more ≤ at.done = omega (arith, c.min-more.ensures) in
     let size = reached c.args.self.now.list (list_of c.args.view) at.self.list at.done more c.len-start.result len few c.len-start.ensures.value c.len-len.ensures.list at.invariant.list in
     let most = mul_mono (at.done + more) c.args.times len (omega (arith, c.min-more.ensures, at.invariant.ends)) in
-    let sum = two_products at.done more len in
+    let sum = right_sum at.done more len in
     let same : c.args.times * len ≡ c.args.times * len_of c.args.view = ap (λ k. c.args.times * k) c.len-len.ensures.value in
     omega (arith, size, most, sum, same, at.invariant.few)
 

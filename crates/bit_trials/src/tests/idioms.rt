@@ -102,6 +102,7 @@ fn taken_and_put_back_by_a_mask(rt: HostRuntime) {
     let mut taken = of::<u8, Lsb0>(&rt, b"01");
     ok(&rt, taken.extend_where(v.as_bitslice(), mask.as_bitslice()));
     holds(&rt, &taken, b"010110");
+    assert!(rt; taken.len() == 6);
     let mut w = of::<u8, Msb0>(&rt, b"00000000");
     w.deposit(mask.as_bitslice(), taken.get_range(2..6));
     holds(&rt, &w, b"01100000");

@@ -79,7 +79,8 @@ pub fn numbers_of_either(
     ensures { IfOk result (λ numbers. numbers.items
         ≡ ones_of (or_of (filled_up set.now (length other.now)) other.now)) }
 {
-    set.union(other).collect(alloc)
+    let numbers = set.union(other).collect(alloc)?;
+    Ok(numbers)
 }
 
 /// Numbers that were put in as a range are in the set.

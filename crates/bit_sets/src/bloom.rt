@@ -168,7 +168,7 @@ fn first_place(hash: u64, len: usize) -> usize
     (hash % (1 << 32)) as usize % len
 }
 
-// How far the place of a function is behind that of the one before.
+// How far the place of each function is after the place of the one before it.
 fn step_of(hash: u64, len: usize) -> usize
     requires { 0 < len }
     ensures { result ≡ (hash / 2 ^ 32 + 1) % len }

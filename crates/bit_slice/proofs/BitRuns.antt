@@ -1,15 +1,16 @@
 -- The runs of equal items of a list, and where they begin.
-use Rattle.std.proofs.Common.{◌≡◌, ℕ, zero, suc, ◌+◌, ◌-◌, ◌<◌, ◌≤◌, Bool, true, false, not, if◌then◌else◌, List, [], ◌∷◌, length, drop, map, get_or, slice_range, refl, sym, ◌∙◌, ap, subst, inl, inr, arith, replicate, slice_get, Some, ◌≢◌, ◌^◌, bit_and, w64, None, Option}
+use Rattle.std.proofs.Common.{◌≡◌, ℕ, zero, suc, ◌+◌, ◌-◌, ◌<◌, ◌≤◌, Bool, true, false, not, cond, if◌then◌else◌, List, [], ◌∷◌, length, drop, map, get_or, slice_range, refl, sym, ◌∙◌, ap, subst, inl, inr, arith, replicate, slice_get, Some, ◌≢◌, ◌^◌, bit_and, w64, None, Option}
 use Rattle.std.specs.Prelude.{IfSome}
 use Rattle.std.specs.Int.{trailing_zeros}
-use Rattle.std.specs.List.{prefix_len}
+use Rattle.std.specs.List.{filter, prefix_len}
 use Rattle.std.proofs.lemmas.Bool.{cases_lt, true≢false}
 use Rattle.std.proofs.lemmas.List.Sums.{prefix_len_is}
 use Rattle.std.proofs.lemmas.List.{ext_get_or, get_or-drop, get_or-replicate, get_or-take, length-drop, length-replicate, length-take-le}
 use Rattle.bit_addressing.specs.Bits.{has_bit}
 use Rattle.bit_addressing.specs.Row.{number_of}
 use Rattle.bit_addressing.proofs.lists.Shown.{get_or-run}
-use Rattle.bit_slice.specs.BitRuns.{run_at}
+use Rattle.bit_slice.specs.BitRuns.{range_of, ranges_with, run_at}
+use Rattle.bit_slice.specs.declared.slice.runs.BitRun.{BitRun}
 use Rattle.bit_slice.specs.Edges.{edges_of, first_in, IsRunUpto}
 use Rattle.bit_slice.specs.Numbered.{is_bit}
 use Rattle.bit_slice.specs.Operators.{xor_of}
@@ -310,3 +311,22 @@ module _ (xs : List Bool) (at upto : ℕ) (bit : Bool) (later : 0 < at) (inside 
         | inl l ↦ let z : at - 1 ≡ j = omega arith in ap (λ n. get_or xs n false) (sym z) ∙ before
         | inr l ↦ none.each j l b ∙ not_not bit
       ]))
+
+-- ---- the ranges with a bit
+
+-- a run with the other bit is passed, and one with this bit is given
+pub range_passed : (bit : Bool) (run : BitRun) (rest all : List BitRun) → all ≡ run ∷ rest → (run.bit ≡ bit → ⊥) → ranges_with bit all ≡ ranges_with bit rest
+range_passed bit run rest all is other = ap (ranges_with bit) is ∙ ap (λ b. map range_of (cond b (run ∷ filter (λ r. is_bit bit r.bit) rest) (filter (λ r. is_bit bit r.bit) rest))) (is_not_bit bit run.bit other)
+  where
+    is_not_bit : (bit b : Bool) → (b ≡ bit → ⊥) → is_bit bit b ≡ false
+    is_not_bit true true h = absurd (h refl)
+    is_not_bit true false h = refl
+    is_not_bit false true h = refl
+    is_not_bit false false h = absurd (h refl)
+
+pub range_given : (bit : Bool) (run : BitRun) (rest all : List BitRun) → all ≡ run ∷ rest → run.bit ≡ bit → ranges_with bit all ≡ range_of run ∷ ranges_with bit rest
+range_given bit run rest all is same = ap (ranges_with bit) is ∙ ap (λ b. map range_of (cond b (run ∷ filter (λ r. is_bit bit r.bit) rest) (filter (λ r. is_bit bit r.bit) rest))) (this_bit bit run.bit same)
+  where
+    this_bit : (bit b : Bool) → b ≡ bit → is_bit bit b ≡ true
+    this_bit true b h = h
+    this_bit false b h = ap not h

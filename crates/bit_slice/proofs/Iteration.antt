@@ -6,9 +6,10 @@ use Rattle.std.proofs.iter.runs.Sources.{from_front, from_back, as_is, as_is_bac
 use Rattle.bit_addressing.specs.declared.store.BitStore as store
 use Rattle.bit_addressing.specs.declared.order.BitOrder as order
 use Rattle.bit_slice.specs.Iter.{rest_of}
-use Rattle.bit_slice.specs.BitRuns.{runs_left}
+use Rattle.bit_slice.specs.BitRuns.{ranges_left, runs_left}
 use Rattle.bit_slice.specs.BitSlice.{list_of}
 use Rattle.bit_slice.specs.Indices.{ones_left, zeros_left}
+use Rattle.bit_slice.specs.Patterns.{places_left}
 use Rattle.bit_slice.specs.PiecesLeft.{chunks_left, exact_chunks_left, back_chunks_left, windows_left, exact_first, exact_last}
 
 module _ {X Y : Type 0} (W : store.Ghosts X) (P : order.Ghosts Y) where
@@ -35,6 +36,9 @@ module _ {X Y : Type 0} (W : store.Ghosts X) (P : order.Ghosts Y) where
   pub bit_runs_in_order : YieldsInOrder (YieldsFirst (runs_left {X = X} {Y = Y} {W = W} {P = P})) runs_left
   bit_runs_in_order p s = as_is p (runs_left p.from) (from_front (YieldsFirst (runs_left {X = X} {Y = Y} {W = W} {P = P})) (λ r. r) runs_left (λ s t h. ap length h.0) (λ s x t h. h) p s)
 
+  pub ranges_in_order : YieldsInOrder (YieldsFirst (ranges_left {X = X} {Y = Y} {W = W} {P = P})) ranges_left
+  ranges_in_order p s = as_is p (ranges_left p.from) (from_front (YieldsFirst (ranges_left {X = X} {Y = Y} {W = W} {P = P})) (λ r. r) ranges_left (λ s t h. ap length h.0) (λ s x t h. h) p s)
+
 module _ {X Y : Type 0} (W : store.Ghosts X) (P : order.Ghosts Y) where
   pub chunks_runs : EveryRun (YieldsFirstBy (list_of {X = X} {Y = Y} {W = W} {P = P}) (chunks_left {X = X} {Y = Y} {W = W} {P = P})) (λ p. ItemsMapTo p list_of (chunks_left p.from))
   chunks_runs p s = from_front (YieldsFirstBy (list_of {X = X} {Y = Y} {W = W} {P = P}) (chunks_left {X = X} {Y = Y} {W = W} {P = P})) list_of chunks_left (λ s t h. ap length h.0) (λ s x t h. h) p s
@@ -59,3 +63,7 @@ module _ {X Y : Type 0} (W : store.Ghosts X) (P : order.Ghosts Y) where
 
   pub windows_runs_back : EveryRun (YieldsLastBy (list_of {X = X} {Y = Y} {W = W} {P = P}) (windows_left {X = X} {Y = Y} {W = W} {P = P})) (λ p. ItemsMapToReversed p list_of (windows_left p.from))
   windows_runs_back p s = from_back (YieldsLastBy (list_of {X = X} {Y = Y} {W = W} {P = P}) (windows_left {X = X} {Y = Y} {W = W} {P = P})) list_of windows_left (λ s t h. ap length h.0) (λ s x t h. h) p s
+
+module _ {X Y Z V : Type 0} (W : store.Ghosts X) (P : order.Ghosts Y) (U : store.Ghosts Z) (Q : order.Ghosts V) where
+  pub places_in_order : YieldsInOrder (YieldsFirst (places_left {X = X} {Y = Y} {Z = Z} {V = V} {W = W} {P = P} {U = U} {Q = Q})) places_left
+  places_in_order p s = as_is p (places_left p.from) (from_front (YieldsFirst (places_left {X = X} {Y = Y} {Z = Z} {V = V} {W = W} {P = P} {U = U} {Q = Q})) (λ i. i) places_left (λ s t h. ap length h.0) (λ s x t h. h) p s)

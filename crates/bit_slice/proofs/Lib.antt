@@ -39,3 +39,4 @@ pub mod Swapped
 pub mod Masking
 pub mod Pairs
 pub mod Multiples
+pub mod Mapped

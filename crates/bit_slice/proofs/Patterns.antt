@@ -1,15 +1,17 @@
 -- Where the first bits of a pattern may begin in a list.
-use Rattle.std.proofs.Common.{◌≡◌, ◌≢◌, ℕ, ◌+◌, ◌-◌, ◌<◌, ◌≤◌, Bool, false, true, not, if◌then◌else◌, ◌||◌, List, length, get_or, take, drop, slice_range, refl, sym, ◌∙◌, ap, inl, inr, arith}
+use Rattle.std.specs.Prelude.{Option, Some, None, IfSome, IfNone}
+use Rattle.std.proofs.Common.{◌≡◌, ◌≢◌, ℕ, ◌+◌, ◌-◌, ◌<◌, ◌≤◌, zero, suc, Bool, false, true, not, if◌then◌else◌, ◌||◌, List, [], ◌∷◌, length, get_or, take, drop, slice_range, rules, refl, sym, ◌∙◌, ap, inl, inr, arith}
 use Rattle.std.proofs.Math.Bool.{or-false}
-use Rattle.std.proofs.lemmas.Bool.{cases_lt, lt-ltb, le-ltb}
-use Rattle.std.proofs.lemmas.List.{drop-drop, get_or-take, get_or-drop, length-drop, take-take, take_all}
+use Rattle.std.proofs.lemmas.Bool.{cases_Bool, cases_lt, lt-ltb, le-ltb}
+use Rattle.std.proofs.lemmas.List.{drop-drop, get_or-take, get_or-drop, length-drop, length-take, places, same_lists, take-take, take_all}
 use Rattle.bit_addressing.specs.Bits.{has_bit}
 use Rattle.bit_addressing.specs.Row.{number_bits, number_of}
 use Rattle.bit_addressing.proofs.Chunks.{has_number}
 use Rattle.bit_addressing.proofs.lists.Shown.{get_or-run, length-run}
 use Rattle.bit_rows.proofs.Binary.{get_or-number_bits}
+use Rattle.bit_slice.specs.Patterns.{begins_at_each, begins_with}
 use Rattle.bit_slice.specs.Pieces.{part}
-use Rattle.bit_slice.specs.Places.{bit_of_two, HasAt}
+use Rattle.bit_slice.specs.Places.{bit_of_two, HasAt, IsAbsent}
 use Rattle.bit_slice.proofs.Writing.{bits_of_number}
 
 -- ---- two numbers
@@ -96,3 +98,83 @@ pub none_there : (xs ys : List Bool) (n from len : ℕ) → length xs ≡ len �
 none_there xs ys n from len size none j a b same =
     let e : from + (j - from) ≡ j = omega arith in
     none (j - from) (omega arith) (part_later xs n from len (j - from) size ∙ ap (part n xs) e ∙ same)
+
+-- ---- inside a part
+
+-- where a pattern begins in a part in which it has room
+pub part_within : (xs : List Bool) (n from upto i : ℕ) → upto ≤ length xs → from + i + n ≤ upto → part n (slice_range xs from upto) i ≡ part n xs (from + i)
+part_within xs n from upto i room inside = same_lists _ _ (search (rules, places)) (λ j d below. grind (arith, places))
+
+pub none_within : (xs ys : List Bool) (n from upto stop : ℕ) → upto ≤ length xs → stop + n ≤ upto + 1 → ((i : ℕ) → i + n ≤ upto - from → i < stop - from → part n (slice_range xs from upto) i ≢ ys) → (j : ℕ) → from ≤ j → j < stop → part n xs j ≢ ys
+none_within xs ys n from upto stop room last none j a b same =
+    let e : from + (j - from) ≡ j = omega arith in
+    none (j - from) (omega arith) (omega arith) (part_within xs n from upto (j - from) room (omega arith) ∙ ap (part n xs) e ∙ same)
+
+-- ---- the last index
+
+module _ (xs ys : List Bool) (n at upto : ℕ) (none : (j : ℕ) → at ≤ j → j < upto → part n xs j ≢ ys) where
+  -- none from an index on, so what was the last before it is the last
+  pub still_last : (last : Option ℕ) → IfSome last (λ i. (j : ℕ) → i < j → j < at → part n xs j ≢ ys) → IfSome last (λ i. (j : ℕ) → i < j → j < upto → part n xs j ≢ ys)
+  still_last None h = tt
+  still_last (Some i) h = λ j a b. elim (cases_lt j at) [
+    | inl l ↦ h j a l
+    | inr l ↦ none j l b
+  ]
+
+  pub still_none : (from : ℕ) (last : Option ℕ) → IfNone last ((j : ℕ) → from ≤ j → j < at → part n xs j ≢ ys) → IfNone last ((j : ℕ) → from ≤ j → j < upto → part n xs j ≢ ys)
+  still_none from None h = λ j a b. elim (cases_lt j at) [
+    | inl l ↦ h j a l
+    | inr l ↦ none j l b
+  ]
+  still_none from (Some i) h = tt
+
+-- ---- each index
+
+-- a list begins with a pattern, or not
+pub begins_here : (ys xs : List Bool) → take (length ys) xs ≡ ys → begins_with ys xs ≡ true
+begins_here [] xs same = refl
+begins_here (y ∷ ys) [] same = absurd (let e = ap length same in omega arith)
+begins_here (true ∷ ys) (x ∷ xs) same = rw (ap (λ l. get_or l 0 false) same) (begins_here ys xs (ap (drop 1) same))
+begins_here (false ∷ ys) (x ∷ xs) same = rw (ap (λ l. get_or l 0 false) same) (begins_here ys xs (ap (drop 1) same))
+
+told_here : (ys xs : List Bool) → begins_with ys xs ≡ true → take (length ys) xs ≡ ys
+told_here [] xs is = refl
+told_here (y ∷ ys) [] is = cc
+told_here (true ∷ ys) (true ∷ xs) is = ap (λ l. true ∷ l) (told_here ys xs is)
+told_here (true ∷ ys) (false ∷ xs) is = cc
+told_here (false ∷ ys) (true ∷ xs) is = cc
+told_here (false ∷ ys) (false ∷ xs) is = ap (λ l. false ∷ l) (told_here ys xs is)
+
+pub begins_not : (ys xs : List Bool) → take (length ys) xs ≢ ys → begins_with ys xs ≡ false
+begins_not ys xs not_same = elim (cases_Bool (begins_with ys xs)) [
+  | inl same ↦ absurd (not_same (told_here ys xs same))
+  | inr not_told ↦ not_told
+]
+
+pub length-begins : (ys xs : List Bool) → length (begins_at_each ys xs) ≡ length xs + 1
+length-begins ys [] = refl
+length-begins ys (x ∷ xs) = let e = length-begins ys xs in omega arith
+
+item_begins : (ys xs : List Bool) (i : ℕ) → i ≤ length xs → get_or (begins_at_each ys xs) i false ≡ begins_with ys (drop i xs)
+item_begins ys [] zero h = refl
+item_begins ys [] (suc i) h = absurd (omega arith)
+item_begins ys (x ∷ xs) zero h = refl
+item_begins ys (x ∷ xs) (suc i) h = item_begins ys xs i (omega arith)
+
+module _ (ys xs : List Bool) (n : ℕ) (size : length ys ≡ n) where
+  -- a pattern begins at an index
+  pub begins_at : (i : ℕ) → i ≤ length xs → part n xs i ≡ ys → get_or (begins_at_each ys xs) i false ≡ true
+  begins_at i h same = item_begins ys xs i h ∙ begins_here ys (drop i xs) (ap (λ k. take k (drop i xs)) size ∙ same)
+
+  -- and at none of these
+  pub begins_nowhere : (from upto : ℕ) → upto ≤ length xs + 1 → ((j : ℕ) → from ≤ j → j < upto → j + n ≤ length xs → part n xs j ≢ ys) → IsAbsent true (begins_at_each ys xs) from upto
+  begins_nowhere from upto inside none = record {
+    each = λ j a b. item_begins ys xs j (omega arith) ∙ begins_not ys (drop j xs) (λ same. elim (cases_lt (length xs) (j + n)) [
+      | inl short ↦
+          let e = ap length same in
+          let most = length-take (length ys) (drop j xs) in
+          let rest = length-drop j xs in
+          absurd (omega (arith, short, e, most, rest, size, b, inside))
+      | inr room ↦ none j a b room (ap (λ k. take k (drop j xs)) (sym size) ∙ same)
+    ]);
+  }

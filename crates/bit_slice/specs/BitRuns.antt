@@ -1,6 +1,8 @@
 -- The runs of equal items of a list.
-use Rattle.std.specs.Prelude.{◌≡◌, ℕ, ◌+◌, ◌-◌, Bool, true, false, List, [], ◌∷◌, drop, map, refl, replicate, slice_index_or}
-use Rattle.std.specs.List.{flat_map, prefix_len}
+use Rattle.std.specs.Prelude.{◌≡◌, ◌==◌, ℕ, ◌+◌, ◌-◌, Bool, true, false, if◌then◌else◌, List, [], ◌∷◌, ◌++◌, codes, drop, map, refl, replicate, slice_index_or}
+use Rattle.std.specs.Fmt.{decimal, digits}
+use Rattle.std.specs.List.{filter, flat_map, prefix_len}
+use Rattle.std.specs.declared.ops.Range.{Range}
 use Rattle.bit_addressing.specs.declared.store.BitStore as store
 use Rattle.bit_addressing.specs.declared.order.BitOrder as order
 use Rattle.bit_slice.specs.BitSlice.{len_of, list_of}
@@ -9,6 +11,7 @@ use Rattle.bit_slice.specs.Numbered.{is_bit}
 use Rattle.bit_slice.specs.Places.{ones_of, places_between}
 use Rattle.bit_slice.specs.declared.slice.runs.BitRun.{BitRun}
 use Rattle.bit_slice.specs.declared.slice.runs.IterRuns.{IterRuns}
+use Rattle.bit_slice.specs.declared.slice.ranges.IterRanges.{IterRanges}
 
 -- the run that begins at an index: the item there, and as many as are equal to it
 abbrev pub run_at : List Bool → ℕ → BitRun
@@ -26,6 +29,35 @@ bits_of_run r = replicate (r.end - r.start) r.bit
 abbrev pub runs_left : {X Y : Type 0} {W : store.Ghosts X} {P : order.Ghosts Y} → IterRuns X Y W P → List BitRun
 runs_left s = map (run_at (list_of s.view)) (places_between (λ b. b) (edges_of (list_of s.view)) s.start (len_of s.view))
 
+-- the indices of a run, as a range
+abbrev pub range_of : BitRun → Range ℕ
+range_of run = record { start = run.start; end = run.end }
+
+-- of these runs those with this bit, as ranges
+abbrev pub ranges_with : Bool → List BitRun → List (Range ℕ)
+ranges_with bit runs = map range_of (filter (λ run. is_bit bit run.bit) runs)
+
+-- the ranges of the indices with this bit, ascending, each as long as it is
+abbrev pub ranges_of : Bool → List Bool → List (Range ℕ)
+ranges_of bit xs = ranges_with bit (runs_of xs)
+
+-- the ranges that an iterator has left
+abbrev pub ranges_left : {X Y : Type 0} {W : store.Ghosts X} {P : order.Ghosts Y} → IterRanges X Y W P → List (Range ℕ)
+ranges_left s = ranges_with s.bit (runs_left s.runs)
+
+-- the first index of a range, and the last where it is another
+abbrev pub range_text : Range ℕ → List ℕ
+range_text range = decimal range.start ++ (if range.start == range.end - 1 then [] else 45 ∷ decimal (range.end - 1))
+
+-- ranges, each after the first with a comma before it
+abbrev pub with_commas : List (Range ℕ) → List ℕ
+with_commas [] = []
+with_commas (range ∷ ranges) = range_text range ++ flat_map (λ next. 44 ∷ range_text next) ranges
+
+-- the ranges of the indices with this bit, written
+abbrev pub ranges_text : Bool → List Bool → List ℕ
+ranges_text bit xs = with_commas (ranges_of bit xs)
+
 abbrev five : List Bool
 five = true ∷ true ∷ false ∷ true ∷ true ∷ []
 
@@ -40,3 +72,14 @@ runs_of_none = refl
 
 bits_of_runs : flat_map bits_of_run (runs_of five) ≡ five
 bits_of_runs = refl
+
+text_of_ones : ranges_text true five ≡ codes "0-1,3-4"
+unfolding digits
+text_of_ones = refl
+
+text_of_zeros : ranges_text false five ≡ codes "2"
+unfolding digits
+text_of_zeros = refl
+
+text_of_none : ranges_text false (true ∷ []) ≡ codes ""
+text_of_none = refl

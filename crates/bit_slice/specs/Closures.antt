@@ -3,16 +3,16 @@ use Rattle.std.specs.Prelude.{◌≡◌, ℕ, ◌+◌, ◌<◌, Bool, cond, List
 use Rattle.std.specs.Borrow.{Bor}
 use Rattle.std.specs.List.{items_where_true}
 
-module _ {F : Type 0} (step : F → ℕ → Bool → F → Type 0) where
+module _ {F B : Type 0} (step : F → ℕ → B → F → Type 0) where
   -- called at `index` and at the indices after it, one after another, the function gave these results, and each call began in the state that the one before left; `last` is the state after all of them
-  abbrev pub ResultsFrom : F → ℕ → List Bool → F → Type 0
+  abbrev pub ResultsFrom : F → ℕ → List B → F → Type 0
   ResultsFrom f index [] last = f ≡ last
   ResultsFrom f index (given ∷ results) last = (next : F) × step f index given next × ResultsFrom next (index + 1) results last
 
-module _ {F : Type 0} (pre : F → ℕ → Type 0) (step : F → ℕ → Bool → F → Type 0) where
+module _ {F B : Type 0} (pre : F → ℕ → Type 0) (step : F → ℕ → B → F → Type 0) where
   -- the function may be called at `index` and at the indices after it that are below `upto`, one after another, and no call beyond those is asked for
   pub record CallableFrom (f : F) (index upto : ℕ) : Type 0 where
-    pub at : (results : List Bool) (state : F) (i : ℕ) → i ≡ index + length results → i < upto → ResultsFrom step f index results state → pre state i
+    pub at : (results : List B) (state : F) (i : ℕ) → i ≡ index + length results → i < upto → ResultsFrom step f index results state → pre state i
 
 module _ {F : Type 0} (step : F → ℕ → Bor Bool → Bool → F → Type 0) where
   -- called at each of these bits and its index, the first of which is `index`, the function gave these results, and each call began in the state that the one before left

@@ -26,3 +26,5 @@ pub mod Edges
 pub mod BitRuns
 pub mod Written
 pub mod Masked
+pub mod Patterns
+pub mod Mapped

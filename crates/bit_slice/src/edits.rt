@@ -7,6 +7,7 @@ ghost use Rattle.bit_addressing.specs.Typed.{row};
 ghost use Rattle.bit_slice.specs.Operators.{combined};
 
 mod filled;
+mod mapped;
 mod masked;
 mod reverse;
 mod rotate;
@@ -14,6 +15,7 @@ mod rotate;
 use bit_addressing::{BitOrder, BitStore, move_bits};
 use bit_rows::{BitOperator, combine_bits, copy_bits, fill_bits, read_chunk, write_chunk};
 pub(crate) use filled::fill_by;
+pub(crate) use mapped::map_numbers;
 pub(crate) use masked::{copy_masked, deposit_masked};
 pub(crate) use reverse::reverse_bits;
 pub(crate) use rotate::rotate_bits;

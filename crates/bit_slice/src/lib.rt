@@ -28,6 +28,8 @@ pub use run::{run_mut, split_run_mut};
 pub use slice::BitSlice;
 pub use slice::chunks::{Chunks, ChunksExact, RChunks, Windows};
 pub use slice::indices::{IterOnes, IterZeros};
+pub use slice::places::FindAll;
+pub use slice::ranges::{IterRanges, RangesText};
 pub use slice::runs::{BitRun, IterRuns};
 pub use slice_mut::BitSliceMut;
 pub use view_bits::{ViewBits, ViewBitsMut};

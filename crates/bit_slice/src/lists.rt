@@ -2,19 +2,22 @@
 ghost use Rattle.std.specs.Iterator.{YieldsFirst, YieldsFirstBy, YieldsLast, YieldsLastBy};
 ghost use Rattle.std.specs.Iterator.Runs.{EveryRun, ItemsMapTo, ItemsMapToReversed, YieldsInOrder, YieldsInReverse};
 ghost use Rattle.std.specs.List.{list_any, list_all, position, prefix_len, suffix_len, All};
-ghost use Rattle.std.specs.Prelude.{◌≡◌, ◌≢◌, ℕ, ◌+◌, ◌-◌, ◌*◌, ◌/◌, ◌%◌, ◌^◌, ◌<◌, ◌≤◌, ◌&&◌, ◌↔◌, ◌++◌, ◌∷◌, [], Bool, List, IsNone, IsTrue, IfNone, IfSome, EachIndex, SomeIndex, Some, count_by, drop, false, length, not, replicate, slice_get, slice_range, take, true};
+ghost use Rattle.std.specs.String.{string_bytes};
+ghost use Rattle.std.specs.Prelude.{◌≡◌, ◌≢◌, ℕ, ◌+◌, ◌-◌, ◌*◌, ◌/◌, ◌%◌, ◌^◌, ◌<◌, ◌≤◌, ◌&&◌, ◌↔◌, ◌++◌, ◌∷◌, [], Bool, List, IsNone, IsTrue, IfNone, IfOk, IfSome, OnErr, EachIndex, SomeIndex, Some, count_by, drop, false, length, map, not, replicate, slice_get, slice_range, take, true};
 ghost use Rattle.bit_addressing.specs.declared.length.TheConstants.{MAX_BITS};
 ghost use Rattle.bit_addressing.specs.Binary.{value};
 ghost use Rattle.bit_addressing.specs.Range.{LiesIn};
 ghost use Rattle.bit_addressing.specs.Row.{binary, number_bits, number_of, words_for};
+ghost use Rattle.bit_addressing.specs.Text.{digit_of};
 ghost use Rattle.bit_addressing.specs.Typed.{row as row_in};
-ghost use Rattle.bit_slice.specs.BitRuns.{runs_left, runs_of};
+ghost use Rattle.bit_slice.specs.BitRuns.{ranges_left, ranges_of, runs_left, runs_of};
 ghost use Rattle.bit_slice.specs.BitSlice.{words_of, head_of, len_of, row_of, list_of, IsPlaced};
 ghost use Rattle.bit_slice.specs.Indices.{ones_left, zeros_left};
 ghost use Rattle.bit_slice.specs.Numbered.{ones_before, zeros_before};
 ghost use Rattle.bit_slice.specs.Operators.{bits_cmp, and_of, or_of, xor_of, and_not_of};
 ghost use Rattle.bit_slice.specs.Pieces.{part, chunk_count, chunks_of, exact_chunks_of, back_chunks_of, windows_of};
 ghost use Rattle.bit_slice.specs.PiecesLeft.{chunks_left, chunks_walk, exact_chunks_left, exact_chunks_walk, exact_first, exact_last, remainder_of, back_chunks_left, back_chunks_walk, windows_left, windows_walk, BeginsIn};
+ghost use Rattle.bit_slice.specs.Patterns.{places_left, places_of_pattern};
 ghost use Rattle.bit_slice.specs.Places.{ones_of, zeros_of};
 ghost use Rattle.bit_slice.specs.Signed.{IsSigned, signed_binary, signed_bits, signed_of};
 
@@ -25,11 +28,15 @@ use crate::slice::BitSlice;
 use crate::slice::chunks::{Chunks, ChunksExact, RChunks, Windows};
 use crate::slice::indices::{IterOnes, IterZeros};
 use crate::slice::nth::nth_from;
+use crate::slice::places::FindAll;
+use crate::slice::ranges::{IterRanges, RangesText};
 use crate::slice::runs::IterRuns;
 use crate::slice::sets::{any_pair, count_pairs};
 use crate::slice_mut::BitSliceMut;
+use crate::texts::digits_of;
 use bit_addressing::{BitOrder, BitStore, RangeExt};
 use bit_rows::{And, Or, Xor, find_bit, read_binary, read_chunk};
+use std::alloc::{AllocError, Global};
 use std::cmp::Ordering;
 
 /// What shows a list of bits.
@@ -862,6 +869,32 @@ pub trait BitList {
         self.as_bitslice().iter_runs()
     }
 
+    /// The ranges of the indices whose bits are `bit`, ascending, each as long as it is. 64 bits are read at a time.
+    ///
+    /// ```text
+    /// of 01101001: bits.iter_ranges(true) gives 1..3, 4..5, 7..8
+    /// ```
+    final fn iter_ranges(&self, bit: bool) -> IterRanges<'_, Self::Store, Self::Order>
+        ensures list { ranges_left result ≡ ranges_of bit (list self.now) }
+        ensures runs { YieldsInOrder
+            (YieldsFirst (ranges_left {X = Self.Store} {Y = Self.Order} {W = Self.Store.BitStore} {P = Self.Order.BitOrder})) ranges_left }
+    {
+        self.as_bitslice().iter_ranges(bit)
+    }
+
+    /// What is written as the ranges of the indices whose bits are `bit`, ascending, with `,` between two: the first
+    /// index, and after `-` the last, where it is another.
+    ///
+    /// ```text
+    /// of 01101001: println!(rt; "{}", bits.ranges_text(true))? writes 1-2,4,7
+    /// ```
+    final fn ranges_text(&self, bit: bool) -> RangesText<'_, Self::Store, Self::Order>
+        ensures list { list_of result.view ≡ list self.now }
+        ensures bit { result.bit ≡ bit }
+    {
+        self.as_bitslice().ranges_text(bit)
+    }
+
     /// The first index from `from` on at which `n` bits side by side are `bit`. None exactly where they are so
     /// nowhere.
     ///
@@ -954,6 +987,39 @@ pub trait BitList {
             None => None,
             Some(i) => Some(from + i),
         }
+    }
+
+    /// Like `find`, but the last index. The search begins at the end.
+    ///
+    /// ```text
+    /// of 01101001 and 01: bits.rfind(other) == Some(6)
+    /// ```
+    final fn rfind<U: BitStore, P: BitOrder>(&self, other: BitSlice<'_, U, P>) -> Option<usize>
+        ensures inside { IfSome result (λ i. i + len_of other.entry ≤ len self.now) }
+        ensures few { IfSome result (λ i. i + len_of other.entry ≤ MAX_BITS) }
+        ensures found { IfSome result (λ i. part (len_of other.entry) (list self.now) i ≡ list_of other.entry) }
+        ensures after { IfSome result (λ i. (j : ℕ) → i < j → j + len_of other.entry ≤ len self.now
+            → part (len_of other.entry) (list self.now) j ≢ list_of other.entry) }
+        ensures none { IfNone result ((j : ℕ) → j + len_of other.entry ≤ len self.now
+            → part (len_of other.entry) (list self.now) j ≢ list_of other.entry) }
+    {
+        self.as_bitslice().find_last_part(other)
+    }
+
+    /// The indices at which the bits of `other` begin, ascending. They may lie closer than the length of `other`.
+    ///
+    /// ```text
+    /// of 01110100 and 11: bits.find_all(other) gives 1, 2
+    /// ```
+    final fn find_all<'b, U: BitStore, P: BitOrder>(
+        &'b self,
+        other: BitSlice<'b, U, P>,
+    ) -> FindAll<'b, Self::Store, Self::Order, U, P>
+        ensures list { places_left result ≡ places_of_pattern (list_of other.entry) (list self.now) }
+        ensures runs { YieldsInOrder
+            (YieldsFirst (places_left {X = Self.Store} {Y = Self.Order} {Z = U} {V = P} {W = Self.Store.BitStore} {P = Self.Order.BitOrder} {U = U.BitStore} {Q = P.BitOrder})) places_left }
+    {
+        self.as_bitslice().find_all(other)
     }
 
     /// Whether the bits of `other` begin somewhere in the list.
@@ -1298,6 +1364,18 @@ pub trait BitList {
         ensures fits { IsSigned n result }
     {
         extended(n, self.load_be_at(at, n))
+    }
+
+    /// The bits as digits in a text of their own, as `0110`. Takes memory where there is a bit.
+    ///
+    /// ```text
+    /// of 01101001: bits.to_text(alloc)? == "01101001"
+    /// ```
+    final fn to_text(&self, alloc: Global) -> Result<String, AllocError>
+        ensures digits { IfOk result (λ text. string_bytes text ≡ map digit_of (list self.now)) }
+        ensures memory { OnErr result (0 < len self.now) }
+    {
+        digits_of(alloc, self.as_bitslice())
     }
 }
 

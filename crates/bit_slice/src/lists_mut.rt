@@ -10,13 +10,15 @@ ghost use Rattle.bit_addressing.specs.Typed.{row as row_of};
 ghost use Rattle.bit_slice.specs.BitSlice.{len_of, list_of};
 ghost use Rattle.bit_slice.specs.Clean.{StaysClean};
 ghost use Rattle.bit_slice.specs.Closures.{CallableFrom, ResultsFrom};
+ghost use Rattle.bit_slice.specs.Mapped.{chunk_number, from_chunk_numbers};
+ghost use Rattle.bit_slice.specs.Pieces.{chunk_count};
 ghost use Rattle.bit_slice.specs.Lists.{lends_to, BecomesWhole, Stays};
 ghost use Rattle.bit_slice.specs.Masked.{deposited, masked};
 ghost use Rattle.bit_slice.specs.Operators.{and_not_of, and_of, combined, or_of, part_onto, xor_of, AndsEach, OrsEach, XorsEach, CombinesEach, FlipsEach};
 ghost use Rattle.bit_slice.specs.Overwritten.{list_in, StaysBefore, StaysFrom};
 ghost use Rattle.bit_slice.specs.Signed.{IsSigned, signed_binary, signed_bits, signed_of};
 
-use crate::edits::{AndNot, copy_masked, deposit_masked, fill_by};
+use crate::edits::{AndNot, copy_masked, deposit_masked, fill_by, map_numbers};
 use crate::lists::BitList;
 use crate::over::{
     combine_over, combine_range_over, combine_within_over, copy_into_over, copy_over, fill_over,
@@ -225,6 +227,39 @@ pub trait BitListMut: BitList {
     {
         let (head, len) = (self.head(), self.len());
         fill_by::<Self::Store, Self::Order, F>(self.as_raw_mut_slice(), head, len, f);
+    }
+
+    /// Writes over each chunk of `size` bits, the last perhaps shorter, what `f` returns of it. Both are numbers whose
+    /// least significant bit is the chunk's first, as `load_le` reads them; of a number that `f` returns, the lowest bits
+    /// count, as many as the chunk has. It is called once for each chunk, in order. No dead bit changes. Takes no memory.
+    /// Requires that `size` is from 1 to 64, and that `f` can be called with each number.
+    ///
+    /// ```text
+    /// of 01101001: bits.map_chunks(4, |n| n + 1) leaves 11100101
+    /// ```
+    final fn map_chunks<F: FnMut(u64) -> u64>(&mut self, size: usize, mut f: F)
+        requires some { 0 < size }
+        requires few { size ≤ 64 }
+        requires callable { CallableFrom
+            (λ state k. F.pre state (chunk_number size (Self.list self.old) k))
+            (λ state k. F.step state (chunk_number size (Self.list self.old) k))
+            f 0 (chunk_count (Self.len self.old) size) }
+        ensures list { (numbers : List ℕ) × (last : F) × (length numbers ≡ chunk_count (Self.len self.old) size)
+            × ResultsFrom (λ state k. F.step state (chunk_number size (Self.list self.old) k)) f 0 numbers last
+            × (Self.list self.new ≡ from_chunk_numbers size (Self.len self.old) numbers) }
+        ensures row { Self.bits self.new ≡ put (Self.bits self.old) (Self.head self.old) (Self.list self.new) }
+        ensures whole { BecomesWhole Self.Store.BITS Self.head Self.len count Self.bits self.old self.new (Self.list self.new) }
+        ensures clean { StaysClean Self.Store.BITS Self.head Self.bits Self.list self.old self.new }
+        ensures stays { Stays Self.head Self.len count capacity loan self.old self.new }
+    {
+        let (head, len) = (self.head(), self.len());
+        map_numbers::<Self::Store, Self::Order, F>(
+            self.as_raw_mut_slice(),
+            head,
+            len,
+            size,
+            &mut f,
+        );
     }
 
     /// Flips the bit at each index of a range, and no other bit. Takes no memory. Requires that the range lies in

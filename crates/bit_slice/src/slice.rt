@@ -15,6 +15,8 @@ pub(crate) mod indices;
 pub(crate) mod nth;
 pub(crate) mod pairs;
 mod parts;
+pub(crate) mod places;
+pub(crate) mod ranges;
 pub(crate) mod runs;
 mod search;
 pub(crate) mod sets;

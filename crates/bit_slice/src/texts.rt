@@ -1,8 +1,9 @@
 //! The texts of a list of bits, written many digits at a time, and its hash.
-ghost use Rattle.std.specs.Prelude.{◌≡◌, ℕ, ◌+◌, ◌*◌, ◌<◌, ◌≤◌, [], ◌∷◌, ◌++◌, length, take, slice_range};
+ghost use Rattle.std.specs.Prelude.{◌≡◌, ℕ, ◌+◌, ◌*◌, ◌<◌, ◌≤◌, [], ◌∷◌, ◌++◌, length, map, take, slice_range, IfOk, OnErr, OnOk};
 ghost use Rattle.std.specs.Fmt.{WritesStyledOnOk, digit_glyph};
 ghost use Rattle.std.specs.List.{fold};
 ghost use Rattle.std.specs.Str.{IsAscii};
+ghost use Rattle.std.specs.String.{string_bytes};
 ghost use Rattle.bit_addressing.specs.Row.{binary, number_bits, words_for};
 ghost use Rattle.bit_addressing.specs.Text.{list_text, digit_of};
 ghost use Rattle.bit_addressing.specs.Bits.{has_bit};
@@ -14,6 +15,7 @@ ghost use Rattle.bit_slice.specs.Texts.{IsDigitSize, digits_from, digits_text, s
 use crate::slice::BitSlice;
 use bit_addressing::{BitOrder, BitStore};
 use bit_rows::{read_binary, read_chunk};
+use std::alloc::{AllocError, Global};
 use std::fmt;
 use std::hash::{Hash, Hasher};
 
@@ -90,6 +92,44 @@ pub fn write_list<T: BitStore, O: BitOrder, W: fmt::Write>(
     }
     write_more(view, 1 + more / 64 * 64, (more % 64) as u8, f)?;
     f.write_str("]")
+}
+
+// Appends the digits of `n` bits from index `from` on.
+fn push_digits<T: BitStore, O: BitOrder>(
+    text: &mut String,
+    view: BitSlice<'_, T, O>,
+    from: usize,
+    n: u8,
+) -> Result<(), AllocError>
+    requires few { n ≤ 64 }
+    requires within { from + n ≤ len_of view }
+    ensures { OnOk result (string_bytes text.new
+        ≡ string_bytes text.old ++ map digit_of (slice_range (list_of view.entry) from (from + n))) }
+{
+    let chunk = view.chunk_at(from, n as usize);
+    let mut piece = [0; PIECE];
+    for k in 0..n {
+        put(&mut piece, k as usize, digit_at(chunk, k));
+    }
+    text.push_str(text_of(&piece, n as usize))
+}
+
+/// The digits of a view, as `0110`. Takes memory where there is a bit.
+pub(crate) fn digits_of<T: BitStore, O: BitOrder>(
+    alloc: Global,
+    view: BitSlice<'_, T, O>,
+) -> Result<String, AllocError>
+    ensures digits { IfOk result (λ text. string_bytes text ≡ map digit_of (list_of view.entry)) }
+    ensures memory { OnErr result (0 < len_of view.entry) }
+{
+    let mut text = String::with_capacity(alloc, view.len())?;
+    let mut at = 0;
+    while at < view.len() {
+        let n = (view.len() - at).min(64);
+        push_digits(&mut text, view, at, n as u8)?;
+        at += n;
+    }
+    Ok(text)
 }
 
 // Of the `n` lowest bits of a number, written in binary with the most significant first, the digits

@@ -7,7 +7,10 @@ ghost use Rattle.bit_slice.specs.Pieces.{part};
 ghost use Rattle.bit_slice.specs.Places.{IsAbsent, IsChunk, IsChunkLeft};
 
 use crate::slice::BitSlice;
+use crate::texts::write_list;
 use bit_addressing::{BitOrder, BitStore};
+use std::alloc::AllocError;
+use std::fmt;
 use std::iter::{FusedIterator, Iterator};
 use std::ops::Range;
 
@@ -385,3 +388,33 @@ impl<'a, T: BitStore, O: BitOrder> Iterator for IterRuns<'a, T, O> {
 }
 
 impl<'a, T: BitStore, O: BitOrder> FusedIterator for IterRuns<'a, T, O> {}
+
+impl<'a, T: BitStore, O: BitOrder> Clone for IterRuns<'a, T, O> {
+    ghost use Rattle.std.specs.Prelude.{⊤};
+    ghost use Rattle.bit_slice.specs.BitRuns.{runs_left};
+
+    ghost is_clone = { λ a b. runs_left b ≡ runs_left a };
+
+    ghost is_infallible = { λ _. ⊤ };
+
+    /// The same iterator, with the same left. Takes no memory.
+    fn clone(&self) -> Result<Self, AllocError> {
+        Ok(IterRuns {
+            view: self.view,
+            start: self.start,
+            bit: self.bit,
+            chunk: self.chunk,
+            base: self.base,
+            end: self.end,
+        })
+    }
+}
+
+/// `IterRuns { start: `, where the next run begins, ` } `, and the text of `Display` of the view.
+impl<'a, T: BitStore, O: BitOrder> fmt::Debug for IterRuns<'a, T, O> {
+    fn fmt<W: fmt::Write>(&self, f: &mut fmt::Formatter<W>) -> fmt::Result {
+        let start = self.start;
+        write!(f, "IterRuns {{ start: {start} }} ")?;
+        write_list(self.view, f)
+    }
+}

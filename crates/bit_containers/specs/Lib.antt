@@ -10,6 +10,7 @@ pub mod Making
 pub mod Repeated
 pub mod Splice
 pub mod Text
+pub mod DigitTexts
 pub use Rattle.bit_addressing.specs.Binary
 pub use Rattle.bit_addressing.specs.Bits
 pub use Rattle.bit_addressing.specs.Order
@@ -33,12 +34,14 @@ pub use Rattle.bit_slice.specs.Indices
 pub use Rattle.bit_slice.specs.Iter
 pub use Rattle.bit_slice.specs.Lends as ViewLends
 pub use Rattle.bit_slice.specs.Lists
+pub use Rattle.bit_slice.specs.Mapped
 pub use Rattle.bit_slice.specs.Masked
 pub use Rattle.bit_slice.specs.Mirrored
 pub use Rattle.bit_slice.specs.Numbered
 pub use Rattle.bit_slice.specs.Operators
 pub use Rattle.bit_slice.specs.Overwritten
 pub use Rattle.bit_slice.specs.Owned
+pub use Rattle.bit_slice.specs.Patterns
 pub use Rattle.bit_slice.specs.Pieces
 pub use Rattle.bit_slice.specs.PiecesLeft
 pub use Rattle.bit_slice.specs.Places

@@ -15,8 +15,8 @@ pub use bit_boxed as boxed;
 pub use bit_rows::{And, BitOperator, Or, Xor, equal_words, find_bit};
 pub use bit_slice::{
     AndNot, BitList, BitListMut, BitRun, BitSlice, BitSliceMut, Chunks, ChunksExact, Counted,
-    CountedMut, Iter, IterOnes, IterRuns, IterZeros, RChunks, ViewBits, ViewBitsMut, Windows,
-    run_mut, split_run_mut,
+    CountedMut, FindAll, Iter, IterOnes, IterRanges, IterRuns, IterZeros, RChunks, RangesText,
+    ViewBits, ViewBitsMut, Windows, run_mut, split_run_mut,
 };
 pub use machine::{Command, Reply, Stop, run};
 pub use vec::{

@@ -24,6 +24,18 @@ macro_rules! bits {
     };
 }
 
+/// A vector of the bits that a text says, as `BitVec::from_text` reads it and is refused.
+///
+/// ```text
+/// text_bits![alloc; u8, Msb0; "0110"]? holds 0110
+/// ```
+#[macro_export]
+macro_rules! text_bits {
+    ($alloc:expr; $store:ty, $order:ty; $text:expr) => {
+        $crate::BitVec::<$store, $order>::from_text($alloc, $text)
+    };
+}
+
 /// Like `bits!`, a box.
 ///
 /// ```text

@@ -22,6 +22,8 @@ mod capacity;
 mod closures;
 mod collect;
 mod convert;
+mod dedup;
+mod digits;
 mod drain;
 mod elements;
 mod extend;

@@ -158,8 +158,8 @@ impl<T: BitStore, O: BitOrder> BitVec<T, O> {
         Ok(())
     }
 
-    /// Appends the bits of runs, one after another: what `iter_runs` gives of a list makes that list again. It is
-    /// refused like `extend_from_bitslice`.
+    /// Appends the bits of runs, one after another: what `iter_runs` gives of a list makes that list again. Only how
+    /// long a run is counts, and one that ends before it begins has no bits. It is refused like `extend_from_bitslice`.
     ///
     /// ```text
     /// of 01: bits.extend_from_runs(&[BitRun { start: 0, end: 3, bit: true }])? leaves 01111

@@ -1,8 +1,7 @@
 -- What is found in two lists that are combined.
-use Rattle.std.proofs.Common.{◌≡◌, ◌≢◌, ℕ, zero, suc, ◌+◌, ◌^◌, ◌<◌, ◌≤◌, Bool, true, false, List, [], ◌∷◌, length, get_or, min, Some, None, Option, refl, ◌∙◌, inl, inr, w64, arith}
+use Rattle.std.proofs.Common.{◌≡◌, ◌≢◌, ℕ, zero, suc, ◌+◌, ◌^◌, ◌<◌, ◌≤◌, Bool, true, false, List, [], ◌∷◌, length, get_or, min, Some, None, Option, refl, ◌∙◌, w64, arith}
 use Rattle.std.specs.Prelude.{IfNone, IfSome, MatchOption, slice_get}
 use Rattle.std.specs.Int.{trailing_zeros}
-use Rattle.std.proofs.lemmas.Bool.{cases_lt}
 use Rattle.bit_slice.specs.Operators.{combined}
 use Rattle.bit_slice.specs.Places.{IsAbsent, IsChunk, IsNext}
 use Rattle.bit_slice.proofs.Combining.{length-combined}

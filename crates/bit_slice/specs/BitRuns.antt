@@ -12,6 +12,7 @@ use Rattle.bit_slice.specs.Places.{ones_of, places_between}
 use Rattle.bit_slice.specs.declared.slice.runs.BitRun.{BitRun}
 use Rattle.bit_slice.specs.declared.slice.runs.IterRuns.{IterRuns}
 use Rattle.bit_slice.specs.declared.slice.ranges.IterRanges.{IterRanges}
+use Rattle.bit_slice.specs.declared.slice.ranges.RangesText.{RangesText}
 
 -- the run that begins at an index: the item there, and as many as are equal to it
 abbrev pub run_at : List Bool → ℕ → BitRun
@@ -57,6 +58,10 @@ with_commas (range ∷ ranges) = range_text range ++ flat_map (λ next. 44 ∷ r
 -- the ranges of the indices with this bit, written
 abbrev pub ranges_text : Bool → List Bool → List ℕ
 ranges_text bit xs = with_commas (ranges_of bit xs)
+
+-- what is written of a text of ranges
+abbrev pub shown_ranges : {X Y : Type 0} {W : store.Ghosts X} {P : order.Ghosts Y} → RangesText X Y W P → List ℕ
+shown_ranges text = ranges_text text.bit (list_of text.view)
 
 abbrev five : List Bool
 five = true ∷ true ∷ false ∷ true ∷ true ∷ []

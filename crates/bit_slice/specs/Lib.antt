@@ -28,3 +28,4 @@ pub mod Written
 pub mod Masked
 pub mod Patterns
 pub mod Mapped
+pub mod Split

@@ -31,6 +31,7 @@ pub use slice::indices::{IterOnes, IterZeros};
 pub use slice::places::FindAll;
 pub use slice::ranges::{IterRanges, RangesText};
 pub use slice::runs::{BitRun, IterRuns};
+pub use slice::split::Split;
 pub use slice_mut::BitSliceMut;
 pub use view_bits::{ViewBits, ViewBitsMut};
 

@@ -10,7 +10,7 @@ ghost use Rattle.bit_addressing.specs.Range.{LiesIn};
 ghost use Rattle.bit_addressing.specs.Row.{binary, number_bits, number_of, words_for};
 ghost use Rattle.bit_addressing.specs.Text.{digit_of};
 ghost use Rattle.bit_addressing.specs.Typed.{row as row_in};
-ghost use Rattle.bit_slice.specs.BitRuns.{ranges_left, ranges_of, runs_left, runs_of};
+ghost use Rattle.bit_slice.specs.BitRuns.{ranges_left, ranges_of, ranges_text, runs_left, runs_of, shown_ranges};
 ghost use Rattle.bit_slice.specs.BitSlice.{words_of, head_of, len_of, row_of, list_of, IsPlaced};
 ghost use Rattle.bit_slice.specs.Indices.{ones_left, zeros_left};
 ghost use Rattle.bit_slice.specs.Numbered.{ones_before, zeros_before};
@@ -19,6 +19,7 @@ ghost use Rattle.bit_slice.specs.Pieces.{part, chunk_count, chunks_of, exact_chu
 ghost use Rattle.bit_slice.specs.PiecesLeft.{chunks_left, chunks_walk, exact_chunks_left, exact_chunks_walk, exact_first, exact_last, remainder_of, back_chunks_left, back_chunks_walk, windows_left, windows_walk, BeginsIn};
 ghost use Rattle.bit_slice.specs.Patterns.{places_left, places_of_pattern};
 ghost use Rattle.bit_slice.specs.Places.{ones_of, zeros_of};
+ghost use Rattle.bit_slice.specs.Split.{split_done, split_from, split_list, split_test};
 ghost use Rattle.bit_slice.specs.Signed.{IsSigned, signed_binary, signed_bits, signed_of};
 
 use crate::edits::AndNot;
@@ -32,6 +33,7 @@ use crate::slice::places::FindAll;
 use crate::slice::ranges::{IterRanges, RangesText};
 use crate::slice::runs::IterRuns;
 use crate::slice::sets::{any_pair, count_pairs};
+use crate::slice::split::Split;
 use crate::slice_mut::BitSliceMut;
 use crate::texts::digits_of;
 use bit_addressing::{BitOrder, BitStore, RangeExt};
@@ -889,8 +891,7 @@ pub trait BitList {
     /// of 01101001: println!(rt; "{}", bits.ranges_text(true))? writes 1-2,4,7
     /// ```
     final fn ranges_text(&self, bit: bool) -> RangesText<'_, Self::Store, Self::Order>
-        ensures list { list_of result.view ≡ list self.now }
-        ensures bit { result.bit ≡ bit }
+        ensures { shown_ranges result ≡ ranges_text bit (list self.now) }
     {
         self.as_bitslice().ranges_text(bit)
     }
@@ -1263,6 +1264,24 @@ pub trait BitList {
             (λ p. ItemsMapToReversed p list_of (windows_left p.from)) }
     {
         self.as_bitslice().windows(size)
+    }
+
+    /// The parts between the bits at which `test` returns true, which are in no part. It is called with each index and
+    /// the bit there, in order, and no more than once. Requires, at each part that is asked for, that it can be.
+    ///
+    /// ```text
+    /// of 01101001: bits.split(|_i, bit| bit) gives 5 parts: 0, none, 0, 00, none
+    /// ```
+    final fn split<F: FnMut(usize, bool) -> bool>(
+        &self,
+        test: F,
+    ) -> Split<'_, Self::Store, Self::Order, F>
+        ensures list { split_list result ≡ list self.now }
+        ensures from { split_from result ≡ 0 }
+        ensures done { split_done result ≡ false }
+        ensures test { split_test result ≡ test }
+    {
+        self.as_bitslice().split(test)
     }
 
     /// The list as a number, the first bit the least significant, whatever the order of bits in a word.

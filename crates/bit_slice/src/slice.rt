@@ -20,6 +20,7 @@ pub(crate) mod ranges;
 pub(crate) mod runs;
 mod search;
 pub(crate) mod sets;
+pub(crate) mod split;
 mod traits;
 
 use crate::counted::Counted;

@@ -3,7 +3,7 @@ ghost use Rattle.std.specs.Iterator.{YieldsFirst};
 ghost use Rattle.std.specs.Iterator.Runs.{YieldsInOrder};
 ghost use Rattle.std.specs.Prelude.{◌≡◌, Some};
 ghost use Rattle.std.specs.Fmt.{WritesOnOk};
-ghost use Rattle.bit_slice.specs.BitRuns.{range_text, ranges_left, ranges_of, ranges_text};
+ghost use Rattle.bit_slice.specs.BitRuns.{range_text, ranges_left, ranges_of, ranges_text, shown_ranges};
 ghost use Rattle.bit_slice.specs.BitSlice.{list_of};
 
 use crate::slice::BitSlice;
@@ -55,8 +55,7 @@ impl<'a, T: BitStore, O: BitOrder> BitSlice<'a, T, O> {
     /// of 01101001: println!(rt; "{}", bits.ranges_text(true))? writes 1-2,4,7
     /// ```
     pub fn ranges_text(self, bit: bool) -> RangesText<'a, T, O>
-        ensures view { result.view ≡ self.entry }
-        ensures bit { result.bit ≡ bit }
+        ensures { shown_ranges result ≡ ranges_text bit (list_of self.entry) }
     {
         RangesText { view: self, bit }
     }
@@ -121,7 +120,7 @@ fn write_range<W: fmt::Write>(range: Range<usize>, f: &mut fmt::Formatter<W>) ->
 }
 
 impl<'a, T: BitStore, O: BitOrder> fmt::Display for RangesText<'a, T, O> {
-    ghost output = { λ text. Some (ranges_text text.bit (list_of text.view)) };
+    ghost output = { λ text. Some (shown_ranges text) };
 
     fn fmt<W: fmt::Write>(&self, f: &mut fmt::Formatter<W>) -> fmt::Result {
         let mut ranges = self.view.iter_ranges(self.bit);

@@ -1,4 +1,4 @@
-use Rattle.std.proofs.Common.{◌≡◌, ◌≢◌, ℕ, ◌+◌, ◌-◌, ◌<◌, ◌≤◌}
+use Rattle.std.proofs.Common.{◌≢◌, ℕ, ◌<◌, ◌≤◌}
 use Rattle.bit_slice.specs.BitSlice.{len_of, list_of}
 use Rattle.bit_slice.specs.Pieces.{part}
 use Rattle.bit_slice.proofs.slice.BitSlice.find_last_part.Given as goal

@@ -1,4 +1,4 @@
-use Rattle.std.proofs.Common.{◌≡◌, suc, ◌+◌, ◌-◌, ◌<◌, true, refl, length, ap, arith}
+use Rattle.std.proofs.Common.{◌≡◌, suc, ◌+◌, true, refl, length, ap, arith}
 use Rattle.bit_slice.specs.BitSlice.{list_of}
 use Rattle.bit_slice.specs.Patterns.{begins_at_each}
 use Rattle.bit_slice.specs.Places.{places_between, IsAbsent, IsNext}

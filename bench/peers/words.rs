@@ -156,6 +156,74 @@ impl Bits {
         }
     }
 
+    /// Appends the `n` lowest bits of a number, whose others are 0.
+    fn push_number(&mut self, number: u64, n: usize) {
+        let at = self.len % 64;
+        if at == 0 {
+            self.words.push(number);
+        } else {
+            *self.words.last_mut().unwrap() |= number << at;
+            if at + n > 64 {
+                self.words.push(number >> (64 - at));
+            }
+        }
+        self.len += n;
+    }
+
+    /// The bits at which a mask has ones.
+    fn extracted(&self, mask: &Bits) -> Bits {
+        let mut taken = Bits::default();
+        taken.words.reserve(mask.count_ones() / 64 + 1);
+        for (word, mask) in self.words.iter().zip(&mask.words) {
+            let (mut left, mut gathered, mut got) = (*mask, 0, 0);
+            while left != 0 {
+                gathered |= (word >> left.trailing_zeros() & 1) << got;
+                got += 1;
+                left &= left - 1;
+            }
+            if got != 0 {
+                taken.push_number(gathered, got);
+            }
+        }
+        taken
+    }
+
+    /// Writes the bits of another one after another where a mask has ones.
+    fn deposit(&mut self, mask: &Bits, other: &Bits) {
+        let mut at = 0;
+        for (word, mask) in self.words.iter_mut().zip(&mask.words) {
+            let mut left = *mask;
+            while left != 0 {
+                let place = left.trailing_zeros();
+                let bit = other.words[at / 64] >> (at % 64) & 1;
+                *word = *word & !(1 << place) | bit << place;
+                at += 1;
+                left &= left - 1;
+            }
+        }
+    }
+
+    /// Keeps the first bit of each run.
+    fn dedup(&mut self) {
+        if self.len == 0 {
+            return;
+        }
+        let (first, mut before, mut changes) = (self.words[0] & 1, self.words[0] & 1, 0);
+        for (k, word) in self.words.iter().enumerate() {
+            let mut steps = word ^ (word << 1 | before);
+            if (k + 1) * 64 > self.len {
+                steps &= (1 << self.len % 64) - 1;
+            }
+            changes += steps.count_ones() as usize;
+            before = word >> 63;
+        }
+        let turns = if first == 1 { 0x5555_5555_5555_5555 } else { 0xAAAA_AAAA_AAAA_AAAA };
+        self.len = changes + 1;
+        self.words.truncate(self.len.div_ceil(64));
+        self.words.fill(turns);
+        self.clear_rest();
+    }
+
     fn reverse(&mut self) {
         self.words.reverse();
         for word in &mut self.words {
@@ -493,11 +561,52 @@ fn streams(n: usize, r: usize) {
     records::streams::<Writer>(n, r, ones, pack, |words, made| unpack(words, made), |words, table, count| decode(words, table, count));
 }
 
+fn masks(n: usize, r: usize) {
+    let (row, mask, other) = (Bits::made(n, 0), Bits::made(n, 12345), Bits::made(n, 777));
+    timed("copy_where", r, || row.clone(), |copy| {
+        for ((word, mask), other) in copy.words.iter_mut().zip(&mask.words).zip(&other.words) {
+            *word = *word & !mask | other & mask;
+        }
+    }, |copy, _| copy.count_ones());
+    timed("deposit", r, || row.clone(), |copy| copy.deposit(&mask, &other), |copy, _| copy.count_ones());
+    timed("extend_where", r, || (), |_| other.extracted(&mask), |_, taken| taken.count_ones());
+    timed("next_and", r, || (), |_| {
+        let mut total = 0;
+        for (k, (word, other)) in row.words.iter().zip(&other.words).enumerate() {
+            let mut both = word & other;
+            while both != 0 {
+                total += k * 64 + both.trailing_zeros() as usize;
+                both &= both - 1;
+            }
+        }
+        total
+    }, |_, total| total);
+    timed("and_not_count", r, || (), |_| {
+        row.words.iter().zip(&other.words).map(|(word, other)| (word & !other).count_ones() as usize).sum::<usize>()
+    }, |_, total| total);
+    timed("dedup", r, || row.clone(), |copy| copy.dedup(), |copy, _| copy.len);
+    timed("map_chunks", r, || row.clone(), |copy| {
+        for word in &mut copy.words {
+            *word = u64::from_le_bytes(word.to_le_bytes().map(|byte| byte.wrapping_mul(5)));
+        }
+    }, |copy, _| copy.count_ones());
+    let pattern = Bits::made(13, 0);
+    timed("repeated", r, || (), |_| {
+        let mut many = Bits::default();
+        many.words.reserve(n / 64 + 1);
+        for _ in 0..n / 13 {
+            many.push_number(pattern.words[0], 13);
+        }
+        many
+    }, |_, many| many.count_ones());
+}
+
 fn main() {
     let words: Vec<usize> = std::env::args().skip(1).map(|w| w.parse().unwrap()).collect();
     let (n, r) = (words[0], words[1]);
     large(n, r);
     views(n, r);
+    masks(n, r);
     ranks(n, r);
     small(8, r);
     small(50, r);

@@ -47,6 +47,7 @@ pub use Rattle.bit_slice.specs.PiecesLeft
 pub use Rattle.bit_slice.specs.Places
 pub use Rattle.bit_slice.specs.Pulls
 pub use Rattle.bit_slice.specs.Signed
+pub use Rattle.bit_slice.specs.Split
 pub use Rattle.bit_slice.specs.Texts
 pub use Rattle.bit_slice.specs.Written
 pub use Rattle.bit_array.specs.Errors as ArrayErrors

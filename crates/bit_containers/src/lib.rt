@@ -16,7 +16,7 @@ pub use bit_rows::{And, BitOperator, Or, Xor, equal_words, find_bit};
 pub use bit_slice::{
     AndNot, BitList, BitListMut, BitRun, BitSlice, BitSliceMut, Chunks, ChunksExact, Counted,
     CountedMut, FindAll, Iter, IterOnes, IterRanges, IterRuns, IterZeros, RChunks, RangesText,
-    ViewBits, ViewBitsMut, Windows, run_mut, split_run_mut,
+    Split, ViewBits, ViewBitsMut, Windows, run_mut, split_run_mut,
 };
 pub use machine::{Command, Reply, Stop, run};
 pub use vec::{

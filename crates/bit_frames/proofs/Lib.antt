@@ -1,5 +1,4 @@
 pub mod Blocks
 pub mod Counted
 pub mod Frames
-pub mod RunsOfFree
 pub mod Served

@@ -17,7 +17,6 @@ mod traits;
 use bit_addressing::{GrowError, Lsb0};
 use bit_containers::{BitList, BitListMut, BitSlice, BitVec};
 pub use reserving::NotFree;
-pub use runs::FreeRuns;
 pub use serving::{Reply, Request};
 use std::alloc::Global;
 use std::marker::Model;

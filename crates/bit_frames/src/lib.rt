@@ -4,4 +4,4 @@
 
 mod free_map;
 
-pub use free_map::{FreeMap, FreeRuns, NotFree, NotTaken, Reply, Request};
+pub use free_map::{FreeMap, NotFree, NotTaken, Reply, Request};

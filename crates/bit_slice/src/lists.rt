@@ -888,7 +888,7 @@ pub trait BitList {
     /// index, and after `-` the last, where it is another.
     ///
     /// ```text
-    /// of 01101001: println!(rt; "{}", bits.ranges_text(true))? writes 1-2,4,7
+    /// of 01101001: format!(in alloc; "{}", bits.ranges_text(true))?.as_str() == "1-2,4,7"
     /// ```
     final fn ranges_text(&self, bit: bool) -> RangesText<'_, Self::Store, Self::Order>
         ensures { shown_ranges result ≡ ranges_text bit (list self.now) }
@@ -1270,7 +1270,7 @@ pub trait BitList {
     /// the bit there, in order, and no more than once. Requires, at each part that is asked for, that it can be.
     ///
     /// ```text
-    /// of 01101001: bits.split(|_i, bit| bit) gives 5 parts: 0, none, 0, 00, none
+    /// of 01101001: bits.split(|_i, bit| bit).count() == 5
     /// ```
     final fn split<F: FnMut(usize, bool) -> bool>(
         &self,
@@ -1388,7 +1388,7 @@ pub trait BitList {
     /// The bits as digits in a text of their own, as `0110`. Takes memory where there is a bit.
     ///
     /// ```text
-    /// of 01101001: bits.to_text(alloc)? == "01101001"
+    /// of 01101001: bits.to_text(alloc)?.as_str() == "01101001"
     /// ```
     final fn to_text(&self, alloc: Global) -> Result<String, AllocError>
         ensures digits { IfOk result (λ text. string_bytes text ≡ map digit_of (list self.now)) }

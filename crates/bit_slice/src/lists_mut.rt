@@ -235,7 +235,7 @@ pub trait BitListMut: BitList {
     /// Requires that `size` is from 1 to 64, and that `f` can be called with each number.
     ///
     /// ```text
-    /// of 01101001: bits.map_chunks(4, |n| n + 1) leaves 11100101
+    /// of 01101001: bits.map_chunks(4, |n| n ^ 15) leaves 10010110
     /// ```
     final fn map_chunks<F: FnMut(u64) -> u64>(&mut self, size: usize, mut f: F)
         requires some { 0 < size }

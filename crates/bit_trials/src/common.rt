@@ -1,7 +1,7 @@
 //! Vectors of given bits and words, and what all tests use.
 ghost use Rattle.std.specs.Prelude.{Ok, ◌≡◌, length};
 
-use bit_containers::{BitOrder, BitStore, BitVec};
+use bit_containers::{BitOrder, BitStore, BitVec, Command, Reply, run};
 use std::process::Abort;
 
 // That this holds. A test calls it in place of `assert!`, which costs the prover more: a failed
@@ -61,4 +61,16 @@ pub(crate) fn shows<T: BitStore, O: BitOrder>(rt: &impl Abort, v: &BitVec<T, O>,
     for (word, want) in kept.iter().zip(words) {
         check(rt, word.to_u64() == want.to_u64());
     }
+}
+
+// That a run of these commands goes to its end, and gives these replies.
+pub(crate) fn results<T: BitStore, O: BitOrder>(
+    rt: &(impl Abort + AllocGlobal),
+    v: &mut BitVec<T, O>,
+    commands: &[Command],
+    want: &[Reply],
+) {
+    let mut replies = Vec::new(rt.alloc());
+    check(rt, run(v, commands, &mut replies).is_ok());
+    check(rt, replies.as_slice() == want);
 }

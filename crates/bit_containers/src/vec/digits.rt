@@ -54,8 +54,7 @@ impl<T: BitStore, O: BitOrder> BitVec<T, O> {
     /// memory where there is a digit. Requires that `size` is from 1 to 4.
     ///
     /// ```text
-    /// BitVec::<u8, Msb0>::from_digits(alloc, "[d0]", 4, 5)?    // 11010
-    /// BitVec::<u8, Msb0>::from_digits(alloc, "d2", 4, 5)       // Err(Wrong(1))
+    /// BitVec::<u8, Msb0>::from_digits(alloc, "[d0]", 4, 5)? holds 11010
     /// ```
     pub fn from_digits(
         alloc: Global,
@@ -100,8 +99,7 @@ impl<T: BitStore, O: BitOrder> BitVec<T, O> {
     /// quarter of `MAX_BITS` bytes.
     ///
     /// ```text
-    /// BitVec::<u8, Msb0>::from_hex(alloc, "d0")?               // 11010000
-    /// BitVec::<u8, Msb0>::from_hex(alloc, "dg")                // Err(Wrong(1))
+    /// BitVec::<u8, Msb0>::from_hex(alloc, "d0")? holds 11010000
     /// ```
     pub fn from_hex(alloc: Global, text: &str) -> Result<Self, ParseBitsError>
         ensures head { IfOk result (λ v. v.head ≡ 0) }

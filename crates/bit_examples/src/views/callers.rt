@@ -2,18 +2,23 @@
 ghost use Rattle.std.specs.Prelude.{◌≡◌, ℕ, ◌+◌, ◌-◌, ◌*◌, ◌/◌, ◌%◌, ◌<◌, ◌≤◌, ◌↔◌, ◌++◌, eqb, EachIndex, slice_range, IfOk, IfSome, IsTrue, Some, count_by, drop, false, length, map, not, replicate, reverse, slice_get, sum, take, true};
 ghost use Rattle.std.specs.List.{range_with_len};
 ghost use Rattle.std.specs.Option.{option_map};
+ghost use Rattle.std.specs.String.{string_bytes};
 ghost use Rattle.bit_addressing.specs.Binary.{value};
 ghost use Rattle.bit_addressing.specs.Row.{binary, put};
+ghost use Rattle.bit_addressing.specs.Text.{digit_of};
 ghost use Rattle.bit_slice.specs.Operators.{and_of, or_of};
-ghost use Rattle.bit_slice.specs.BitRuns.{runs_of};
+ghost use Rattle.bit_slice.specs.BitRuns.{ranges_of, runs_of};
 ghost use Rattle.bit_slice.specs.BitSlice.{head_of, len_of, list_of, words_of, IsPlaced};
 ghost use Rattle.bit_slice.specs.BitSliceMut.{len_of as len_there, list_of as list_there};
+ghost use Rattle.bit_slice.specs.Mapped.{chunk_number, from_chunk_numbers};
+ghost use Rattle.bit_slice.specs.Patterns.{places_of_pattern};
 ghost use Rattle.bit_slice.specs.Places.{ones_of, zeros_of};
 ghost use Rattle.bit_slice.specs.Pieces.{chunk_count, chunks_of, part};
 
 use bit_addressing::{BitOrder, BitStore};
 use bit_slice::{BitList, BitListMut, BitRun, BitSlice, BitSliceMut};
 use std::alloc::{AllocError, Global};
+use std::ops::Range;
 
 pub fn bit_at_first<T: BitStore, O: BitOrder>(view: BitSlice<'_, T, O>) -> Option<bool>
     ensures { IfSome result (λ b. b ≡ true) }
@@ -617,4 +622,57 @@ pub fn masked_in_place<T: BitStore, O: BitOrder>(
     ensures len { len_there view.new ≡ len_there view.old }
 {
     *view &= mask;
+}
+
+/// Where a pattern begins last, it stands.
+pub fn last_part<T: BitStore, O: BitOrder, U: BitStore, P: BitOrder>(
+    view: BitSlice<'_, T, O>,
+    pattern: BitSlice<'_, U, P>,
+) -> Option<usize>
+    ensures there { IfSome result (λ i. part (len_of pattern.entry) (list_of view.entry) i ≡ list_of pattern.entry) }
+    ensures last { IfSome result (λ i. part (len_of pattern.entry) (list_of view.entry) (i + 1) ≡ list_of pattern.entry
+        → len_of view.entry < i + 1 + len_of pattern.entry) }
+{
+    view.rfind(pattern)
+}
+
+pub fn places_collected<B: BitList, U: BitStore, P: BitOrder>(
+    bits: &B,
+    pattern: BitSlice<'_, U, P>,
+    alloc: Global,
+) -> Result<Vec<usize>, AllocError>
+    ensures { IfOk result (λ places. places.items ≡ places_of_pattern (list_of pattern.entry) (B.list bits.now)) }
+{
+    bits.find_all(pattern).collect(alloc)
+}
+
+/// Each nibble becomes half of what it was.
+#[tactic(auto, using(bit_slice::proofs::Called::filled_with))]
+pub fn halved<T: BitStore, O: BitOrder>(view: &mut BitSliceMut<'_, T, O>)
+    ensures { list_there view.new ≡ from_chunk_numbers 4 (len_there view.old)
+        (map (λ k. chunk_number 4 (list_there view.old) k / 2) (range_with_len 0 (chunk_count (len_there view.old) 4))) }
+{
+    view.map_chunks(4, |n| n / 2);
+}
+
+pub fn digits_written<B: BitList>(bits: &B, alloc: Global) -> Result<String, AllocError>
+    ensures { IfOk result (λ text. string_bytes text ≡ map digit_of (B.list bits.now)) }
+{
+    bits.to_text(alloc)
+}
+
+pub fn ranges_collected<B: BitList>(
+    bits: &B,
+    alloc: Global,
+) -> Result<Vec<Range<usize>>, AllocError>
+    ensures { IfOk result (λ ranges. ranges.items ≡ ranges_of true (B.list bits.now)) }
+{
+    bits.iter_ranges(true).collect(alloc)
+}
+
+/// The first part begins at the front, and the next one after the bit that was taken out.
+pub fn first_part<T: BitStore, O: BitOrder>(view: BitSlice<'_, T, O>) -> Option<BitSlice<'_, T, O>>
+    ensures { IfSome result (λ part. list_of part ≡ slice_range (list_of view.entry) 0 (0 + len_of part)) }
+{
+    view.split(|_, bit| bit).next()
 }

@@ -361,3 +361,88 @@ fn combined_by_operators(rt: HostRuntime) {
     view >>= 2;
     check(&rt, words == [0x18]);
 }
+
+#[test]
+fn last_places(rt: HostRuntime) {
+    let view = BitSlice::<u8, Msb0>::from_slice(&[0x69]);
+    let pattern = BitSlice::<u16, Msb0>::from_slice(&[0x4000]).get_range(0..2);
+    check(&rt, view.rfind(pattern) == Some(6));
+    check(&rt, view.get_range(1..6).rfind(pattern) == Some(2));
+    check(&rt, view.get_range(0..1).rfind(pattern).is_none());
+}
+
+#[test]
+fn last_place_far_from_the_end(rt: HostRuntime) {
+    let mut words = [0_u8; 40];
+    words[0] = 0x05;
+    let view = BitSlice::<u8, Msb0>::from_slice(&words);
+    let pattern = BitSlice::<u8, Msb0>::from_slice(&[0xa0]).get_range(0..3);
+    check(&rt, view.rfind(pattern) == Some(5));
+}
+
+#[test]
+fn all_places(rt: HostRuntime) {
+    let view = BitSlice::<u8, Msb0>::from_slice(&[0x74]);
+    let pattern = BitSlice::<u8, Msb0>::from_slice(&[0xc0]).get_range(0..2);
+    let mut places = view.find_all(pattern);
+    check(&rt, places.next() == Some(1));
+    check(&rt, places.next() == Some(2));
+    check(&rt, places.next().is_none());
+}
+
+#[test]
+fn chunks_rewritten(rt: HostRuntime) {
+    let mut words = [0x69_u8, 0xff];
+    let mut view = BitSliceMut::<u8, Msb0>::from_slice_mut(&mut words);
+    let mut part = view.part_mut(0, 11);
+    part.map_chunks(4, |n| n.wrapping_add(1));
+    check(&rt, words == [0xe5, 0x1f]);
+}
+
+#[test]
+fn as_digits(rt: HostRuntime) {
+    let view = BitSlice::<u8, Msb0>::from_slice(&[0x69; 9]).get_range(1..71);
+    let text = ok(&rt, view.to_text(rt.alloc()));
+    check(
+        &rt,
+        text.as_str() == "1101001011010010110100101101001011010010110100101101001011010010110100",
+    );
+}
+
+#[test]
+fn ranges_of_a_bit(rt: HostRuntime) {
+    let view = BitSlice::<u8, Msb0>::from_slice(&[0x69]);
+    let mut ranges = view.iter_ranges(true);
+    check(&rt, ranges.next() == Some(1..3));
+    check(&rt, ranges.next() == Some(4..5));
+    check(&rt, ranges.next() == Some(7..8));
+    check(&rt, ranges.next().is_none());
+}
+
+#[test]
+fn ranges_as_text(rt: HostRuntime) {
+    let view = BitSlice::<u8, Msb0>::from_slice(&[0x69]);
+    let (ones, zeros) = (view.ranges_text(true), view.ranges_text(false));
+    let text = ok(&rt, format!(in rt.alloc(); "{ones} {zeros}"));
+    check(&rt, text.as_str() == "1-2,4,7 0,3,5-6");
+}
+
+// How many bits a part has.
+fn length_of<T: BitStore, O: BitOrder>(part: Option<BitSlice<'_, T, O>>) -> Option<usize> {
+    match part {
+        Some(part) => Some(part.len()),
+        None => None,
+    }
+}
+
+#[test]
+fn split_at_ones(rt: HostRuntime) {
+    let view = BitSlice::<u8, Msb0>::from_slice(&[0x69]);
+    let mut parts = view.split(|_, bit| bit);
+    check(&rt, length_of(parts.next()) == Some(1));
+    check(&rt, length_of(parts.next()) == Some(0));
+    check(&rt, length_of(parts.next()) == Some(1));
+    check(&rt, length_of(parts.next()) == Some(2));
+    check(&rt, length_of(parts.next()) == Some(0));
+    check(&rt, parts.next().is_none());
+}

@@ -1,14 +1,13 @@
 //! The impls of std's traits for the map.
 ghost use Rattle.std.specs.Prelude.{◌≡◌, ◌↔◌, IsTrue, Some};
 ghost use Rattle.std.specs.Cmp.{partial_equiv_from_equiv};
-ghost use Rattle.std.specs.Fmt.{WritesOnOk};
 ghost use Rattle.bit_slice.specs.Comparisons.{bits_equal, bits_equiv};
-ghost use Rattle.bit_frames.specs.FreeRuns.{map_text, run_text};
+ghost use Rattle.bit_frames.specs.FreeRuns.{map_text};
 
 use crate::free_map::FreeMap;
+use bit_containers::BitList;
 use std::alloc::AllocError;
 use std::fmt;
-use std::ops::Range;
 
 impl Clone for FreeMap {
     ghost use Rattle.std.specs.Prelude.{◌≡◌, []};
@@ -64,26 +63,6 @@ impl fmt::Display for FreeMap {
     ghost output = { λ m. Some (map_text m) };
 
     fn fmt<W: fmt::Write>(&self, f: &mut fmt::Formatter<W>) -> fmt::Result {
-        let mut runs = self.iter_free_runs();
-        let Some(first) = runs.next() else {
-            return f.write_str("");
-        };
-        write_run(first, f)?;
-        for run in runs {
-            f.write_str(",")?;
-            write_run(run, f)?;
-        }
-        Ok(())
+        self.taken.ranges_text(false).fmt(f)
     }
-}
-
-// Writes the first frame of a run, and the last where it is another.
-fn write_run<W: fmt::Write>(frames: Range<usize>, f: &mut fmt::Formatter<W>) -> fmt::Result
-    ensures { WritesOnOk W.write_str_gives f.old result (run_text frames) f.new }
-{
-    let (first, last) = (frames.start, frames.end.saturating_sub(1));
-    if first == last {
-        return write!(f, "{first}");
-    }
-    write!(f, "{first}-{last}")
 }

@@ -52,7 +52,7 @@ impl<'a, T: BitStore, O: BitOrder> BitSlice<'a, T, O> {
     /// index, and after `-` the last, where it is another.
     ///
     /// ```text
-    /// of 01101001: println!(rt; "{}", bits.ranges_text(true))? writes 1-2,4,7
+    /// of 01101001: format!(in alloc; "{}", bits.ranges_text(true))?.as_str() == "1-2,4,7"
     /// ```
     pub fn ranges_text(self, bit: bool) -> RangesText<'a, T, O>
         ensures { shown_ranges result ≡ ranges_text bit (list_of self.entry) }

@@ -51,7 +51,7 @@ impl<'a, T: BitStore, O: BitOrder> BitSlice<'a, T, O> {
     /// be.
     ///
     /// ```text
-    /// of 01101001: bits.split(|_i, bit| bit) gives 5 parts: 0, none, 0, 00, none
+    /// of 01101001: bits.split(|_i, bit| bit).count() == 5
     /// ```
     pub fn split<F: FnMut(usize, bool) -> bool>(self, test: F) -> Split<'a, T, O, F>
         ensures list { split_list result ≡ list_of self.entry }

@@ -2,11 +2,12 @@
 ghost use Rattle.std.specs.Prelude.{◌≡◌, ℕ, ◌<◌, ◌↔◌, All, Contains, IfOk, OnOk, OnErr, IsOk, Some, true, false, [], ◌∷◌, length, slice_get};
 ghost use Rattle.bit_addressing.specs.Text.{list_text};
 ghost use Rattle.bit_slice.specs.BitSlice.{list_of};
+ghost use Rattle.bit_slice.specs.Texts.{digits_text};
 
 use bit_containers::boxed::BitBox;
 use bit_containers::{
     BitOrder, BitSlice, BitStore, BitVec, FromBits, GrowError, Lsb0, Msb0, ParseBitsError, ToBits,
-    ToBytes,
+    ToBytes, text_bits,
 };
 use std::alloc::{AllocError, Global};
 
@@ -147,4 +148,28 @@ pub fn byte_of_a_view<T: BitStore, O: BitOrder>(
     ensures { IfOk result (λ bytes. bytes.items ≡ 32 ∷ []) }
 {
     view.to_bytes::<Msb0>(alloc)
+}
+
+/// What is written in hexadecimal is read back.
+pub fn hexadecimal_read_back(
+    alloc: Global,
+    text: &str,
+    bits: &BitVec<u8, Msb0>,
+) -> Result<BitVec<u64, Lsb0>, ParseBitsError>
+    requires written { text.now ≡ digits_text 4 false bits.now.list }
+    ensures { IfOk result (λ v. v.list ≡ bits.now.list) }
+{
+    BitVec::from_digits(alloc, text, 4, bits.len())
+}
+
+pub fn from_two_digits(alloc: Global) -> Result<BitVec<u8, Msb0>, ParseBitsError>
+    ensures { IfOk result (λ v. v.list ≡ true ∷ true ∷ false ∷ true ∷ false ∷ false ∷ false ∷ false ∷ []) }
+{
+    BitVec::from_hex(alloc, "d0")
+}
+
+pub fn text_as_written(alloc: Global) -> Result<BitVec<u8, Msb0>, ParseBitsError>
+    ensures { IfOk result (λ v. v.list ≡ false ∷ true ∷ true ∷ []) }
+{
+    text_bits![alloc; u8, Msb0; "011"]
 }

@@ -3,10 +3,11 @@ ghost use Rattle.std.specs.Prelude.{◌≡◌, [], ◌∷◌, ◌≢◌, ℕ, �
 ghost use Rattle.bit_addressing.specs.Binary.{value};
 ghost use Rattle.bit_addressing.specs.Typed.{row};
 ghost use Rattle.bit_slice.specs.BitSlice.{len_of, list_of};
+ghost use Rattle.bit_slice.specs.Patterns.{places_of_pattern};
 ghost use Rattle.bit_slice.specs.Places.{ones_of, zeros_of};
 ghost use Rattle.bit_slice.specs.Pieces.{chunk_count, chunks_of};
 
-use bit_addressing::{BitOrder, BitStore, Msb0};
+use bit_addressing::{BitOrder, BitStore, Lsb0, Msb0};
 use bit_array::BitArray;
 use bit_boxed::BitBox;
 use bit_containers::{BitList, BitListMut, BitVec};
@@ -196,4 +197,38 @@ pub fn same_numbers(a: &BitArray<[u8; 4], Msb0>) -> bool
     ensures { IsTrue result }
 {
     a.load_be() == a.as_bitslice().load_be() && a.get_range(8..16).load_be() < 256
+}
+
+/// All places of a pattern in a vector.
+pub fn places_in_a_vector(
+    v: &BitVec<u64, Lsb0>,
+    pattern: &BitVec<u8, Msb0>,
+    alloc: Global,
+) -> Result<Vec<usize>, AllocError>
+    ensures { IfOk result (λ places. places.items ≡ places_of_pattern pattern.now.list v.now.list) }
+{
+    v.find_all(pattern.as_bitslice()).collect(alloc)
+}
+
+/// The last one before an index is a one, and before it.
+pub fn one_before<T: BitStore, O: BitOrder>(v: &BitVec<T, O>, i: usize) -> Option<bool>
+    ensures { IfSome result (λ bit. bit ≡ true) }
+{
+    match v.prev_one(i) {
+        Some(j) => v.get(j),
+        None => None,
+    }
+}
+
+/// Where both have a one, the vector has one.
+pub fn one_of_both<T: BitStore, O: BitOrder>(
+    v: &BitVec<T, O>,
+    other: &BitVec<u8, Msb0>,
+) -> Option<bool>
+    ensures { IfSome result (λ bit. bit ≡ true) }
+{
+    match v.next_and(other.as_bitslice(), 0) {
+        Some(i) => v.get(i),
+        None => None,
+    }
 }

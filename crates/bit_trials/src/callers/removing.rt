@@ -1,6 +1,7 @@
 //! Callers that take bits out of a vector, and put others in their place.
 ghost use Rattle.std.specs.Prelude.{◌≡◌, ◌+◌, ◌≤◌, ◌++◌, true, false, [], ◌∷◌, take, drop, length, slice_get, slice_range, count_by, IfOk, OnOk, OnErr};
-ghost use Rattle.std.specs.List.{filter, splice};
+ghost use Rattle.std.specs.List.{dedup, filter, splice};
+ghost use Rattle.std.proofs.Math.Bool.{beq};
 ghost use Rattle.bit_slice.specs.BitSlice.{list_of};
 ghost use Rattle.bit_containers.specs.Closures.{keep_where};
 
@@ -105,4 +106,10 @@ pub fn emptied(v: &mut BitVec<u32, Msb0>)
     ensures { v.new.list ≡ [] }
 {
     v.clear();
+}
+
+pub fn without_equal_neighbours<T: BitStore, O: BitOrder>(v: &mut BitVec<T, O>)
+    ensures { v.new.list ≡ dedup beq v.old.list }
+{
+    v.dedup();
 }

@@ -118,6 +118,12 @@ fn iterators_copied_and_shown(rt: HostRuntime) {
         &rt,
         shown.as_str() == "Iter { bits: 7 } [1, 1, 0, 1, 0, 0, 1]",
     );
+}
+
+#[test]
+fn indices_copied_and_shown(rt: HostRuntime) {
+    let words = [0x96_u8];
+    let view = BitSlice::<u8, Lsb0>::from_slice(&words);
     let mut ones = view.iter_ones();
     check(&rt, ones.next() == Some(1));
     let mut others = ok(&rt, ones.clone());
@@ -129,6 +135,30 @@ fn iterators_copied_and_shown(rt: HostRuntime) {
     );
     let mut zeros = ok(&rt, view.iter_zeros().clone());
     check(&rt, zeros.next() == Some(0));
+}
+
+#[test]
+fn runs_copied_and_shown(rt: HostRuntime) {
+    let words = [0x96_u8];
+    let view = BitSlice::<u8, Lsb0>::from_slice(&words);
+    let mut runs = view.iter_runs();
+    check(&rt, runs.next().is_some());
+    check(&rt, ok(&rt, runs.clone()).count() == 5);
+    let mut places = view.find_all(view.get_range(0..2));
+    check(&rt, places.next() == Some(0));
+    check(&rt, ok(&rt, places.clone()).count() == 2);
+    let ranges = ok(&rt, view.iter_ranges(true).clone());
+    let shown = ok(&rt, format!(in rt.alloc(); "{ranges:?}"));
+    check(
+        &rt,
+        shown.as_str() == "IterRanges { bit: true } IterRuns { start: 0 } [0, 1, 1, 0, 1, 0, 0, 1]",
+    );
+}
+
+#[test]
+fn chunks_copied_and_shown(rt: HostRuntime) {
+    let words = [0x96_u8];
+    let view = BitSlice::<u8, Lsb0>::from_slice(&words);
     check(&rt, ok(&rt, view.chunks(3).clone()).count() == 3);
     check(&rt, ok(&rt, view.chunks_exact(3).clone()).count() == 2);
     check(&rt, ok(&rt, view.rchunks(3).clone()).count() == 3);

@@ -1,19 +1,6 @@
 //! Runs of commands.
-use crate::common::check;
-use bit_containers::{BitOrder, BitStore, BitVec, Command, Msb0, Reply, run};
-use std::process::Abort;
-
-// That a run of these commands goes to its end, and gives these replies.
-fn results<T: BitStore, O: BitOrder>(
-    rt: &(impl Abort + AllocGlobal),
-    v: &mut BitVec<T, O>,
-    commands: &[Command],
-    want: &[Reply],
-) {
-    let mut replies = Vec::new(rt.alloc());
-    check(rt, run(v, commands, &mut replies).is_ok());
-    check(rt, replies.as_slice() == want);
-}
+use crate::common::{check, results};
+use bit_containers::{BitVec, Command, Msb0, Reply};
 
 #[test]
 fn runs_of_commands(rt: HostRuntime) {

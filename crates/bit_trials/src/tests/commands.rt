@@ -1,19 +1,7 @@
 //! Runs of commands: those that grow, that write the words, and that take bits out.
-use crate::common::{check, shows};
+use crate::common::{check, results, shows};
 use bit_containers::{BitOrder, BitStore, BitVec, Command, GrowError, Msb0, Reply, Stop, run};
 use std::process::Abort;
-
-// That a run of these commands goes to its end, and gives these replies.
-fn results<T: BitStore, O: BitOrder>(
-    rt: &(impl Abort + AllocGlobal),
-    v: &mut BitVec<T, O>,
-    commands: &[Command],
-    want: &[Reply],
-) {
-    let mut replies = Vec::new(rt.alloc());
-    check(rt, run(v, commands, &mut replies).is_ok());
-    check(rt, replies.as_slice() == want);
-}
 
 // That a run of these commands stops at the second, by which the vector would be too long, and replies `Done` to the first.
 pub(super) fn stops<T: BitStore, O: BitOrder>(
@@ -50,13 +38,19 @@ fn growing_commands(rt: HostRuntime) {
         Reply::Number(4),
     ];
     results(&rt, &mut v, &commands, &want);
+    check(&rt, v.len() == 4);
+}
+
+#[test]
+fn stopped_at_a_reserve(rt: HostRuntime) {
+    let mut v = BitVec::<u8, Msb0>::new(rt.alloc());
     let commands = [
         Command::Push(true),
         Command::Reserve(usize::MAX),
         Command::Pop,
     ];
     stops(&rt, &mut v, &commands);
-    check(&rt, v.len() == 5);
+    check(&rt, v.len() == 1);
 }
 
 #[test]
@@ -106,6 +100,12 @@ fn removing_commands(rt: HostRuntime) {
         Reply::Number(0),
     ];
     results(&rt, &mut v, &commands, &want);
+    check(&rt, v.is_empty());
+}
+
+#[test]
+fn stopped_at_a_splice(rt: HostRuntime) {
+    let mut v = BitVec::<u16, Msb0>::new(rt.alloc());
     let commands = [
         Command::Push(true),
         Command::Splice(0, 1, false, usize::MAX),

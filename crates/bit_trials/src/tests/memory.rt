@@ -37,10 +37,9 @@ fn grown<T: BitStore, O: BitOrder>(
 }
 
 #[test]
-fn makers_refused(rt: HostRuntime) {
+fn makers_from_views_refused(rt: HostRuntime) {
     let words = [0xa8_u8, 0x07];
     let view = BitSlice::<u8, Lsb0>::from_slice(&words).get_range(3..11);
-    let all = b"0001010111100000";
     made(&rt, BitVec::from_bitslice(rt.alloc(), view), b"10101111");
     made(
         &rt,
@@ -50,8 +49,14 @@ fn makers_refused(rt: HostRuntime) {
     made(
         &rt,
         BitVec::from_bitarray(rt.alloc(), BitArray::<[u8; 2], Lsb0>::new(words)),
-        all,
+        b"0001010111100000",
     );
+}
+
+#[test]
+fn makers_from_words_refused(rt: HostRuntime) {
+    let words = [0xa8_u8, 0x07];
+    let all = b"0001010111100000";
     made(
         &rt,
         BitVec::<u8, Msb0>::from_element(rt.alloc(), 0x05),
@@ -64,6 +69,10 @@ fn makers_refused(rt: HostRuntime) {
         all,
     );
     grown(&rt, BitVec::<u8, Lsb0>::from_words(rt.alloc(), words), all);
+}
+
+#[test]
+fn makers_from_bits_refused(rt: HostRuntime) {
     let bits = [true, false, true];
     grown(&rt, BitVec::<u8, Lsb0>::from_bits(rt.alloc(), bits), b"101");
     grown(
@@ -92,6 +101,10 @@ fn makers_that_take_none(rt: HostRuntime) {
         &rt,
         BitVec::<u8, Lsb0>::with_capacity(rt.alloc(), 0).is_ok(),
     );
+}
+
+#[test]
+fn calls_that_take_none(rt: HostRuntime) {
     let mut v = BitVec::<u8, Lsb0>::new(rt.alloc());
     check(&rt, v.clone().is_ok());
     check(&rt, v.split_off(0).is_ok());
@@ -219,9 +232,8 @@ fn combined_with_as_long(rt: HostRuntime) {
     holds(&rt, &v, b"01010000");
 }
 
-// Vectors of bytes, of indices and of text, copies of views, and bytes.
 #[test]
-fn other_makers_refused(rt: HostRuntime) {
+fn copies_of_views_refused(rt: HostRuntime) {
     let words = [0xa8_u8, 0x07];
     let view = BitSlice::<u8, Lsb0>::from_slice(&words).get_range(3..11);
     made(&rt, view.to_bitvec(rt.alloc()), b"10101111");
@@ -229,6 +241,11 @@ fn other_makers_refused(rt: HostRuntime) {
         check(&rt, b.len() == 8);
         check(&rt, b.count_ones() == 6);
     }
+}
+
+#[test]
+fn makers_from_bytes_and_text_refused(rt: HostRuntime) {
+    let words = [0xa8_u8, 0x07];
     grown(
         &rt,
         BitVec::<u32, Lsb0>::from_bytes::<Lsb0>(rt.alloc(), &words),
@@ -243,6 +260,11 @@ fn other_makers_refused(rt: HostRuntime) {
         Ok(v) => holds(&rt, &v, b"10"),
         Err(why) => check(&rt, why == ParseBitsError::OutOfMemory),
     }
+}
+
+#[test]
+fn bytes_refused(rt: HostRuntime) {
+    let words = [0xa8_u8, 0x07];
     let Ok(v) = BitVec::<u32, Lsb0>::from_bytes::<Lsb0>(rt.alloc(), &words) else {
         return;
     };

@@ -1,11 +1,13 @@
 -- Bits in turn, and lists without equal neighbours.
-use Rattle.std.proofs.Common.{◌≡◌, ℕ, zero, suc, ◌+◌, ◌-◌, ◌%◌, ◌<◌, ◌≤◌, Bool, true, false, not, cond, if◌then◌else◌, List, [], ◌∷◌, ◌++◌, length, take, drop, get_or, slice_range, rules, refl, sym, ◌∙◌, ap, arith}
+use Rattle.std.proofs.Common.{◌≡◌, ℕ, zero, suc, ◌+◌, ◌-◌, ◌%◌, ◌<◌, ◌≤◌, min, Bool, true, false, not, cond, if◌then◌else◌, List, [], ◌∷◌, ◌++◌, length, take, drop, get_or, slice_range, rules, refl, sym, ◌∙◌, ap, arith}
 use Rattle.std.specs.Prelude.{count_by}
 use Rattle.std.specs.List.{dedup, dedup_from}
 use Rattle.std.proofs.Math.Bool.{beq}
-use Rattle.std.proofs.lemmas.List.{drop_all, ext_get_or, get_or-take, length-drop, length-take, take_all, places, same_lists}
+use Rattle.std.proofs.lemmas.List.{take-take, drop_all, ext_get_or, get_or-take, length-drop, length-take, take_all, places, same_lists}
 use Rattle.std.proofs.lemmas.List.Sums.{count_by-le-length, sum_by-cons}
-use Rattle.bit_addressing.specs.Row.{number_bits, put}
+use Rattle.bit_addressing.specs.Row.{moved, number_bits, put}
+use Rattle.bit_addressing.proofs.Shifts.{put_moved}
+use Rattle.bit_addressing.proofs.lists.Shown.{length-run}
 use Rattle.bit_rows.proofs.Binary.{get_or-number_bits, length-number_bits}
 use Rattle.bit_slice.specs.Operators.{xor_of}
 use Rattle.bit_slice.proofs.Combining.{length-combined}
@@ -51,17 +53,29 @@ number_bits_first x n m few =
     ext_get_or false _ _ (length-number_bits x n ∙ sym (length-take n (number_bits x m) ∙ omega (arith, all, few)))
     (λ i below. let inside : i < n = omega (arith, below, length-number_bits x n) in get_or-number_bits x n i inside ∙ sym (get_or-take n (number_bits x m) i false inside ∙ get_or-number_bits x m i (omega (arith, inside, few))))
 
+-- the first items where others were written after some
+take_put : (xs ys : List Bool) (at n : ℕ) → length ys ≡ n → at + n ≤ length xs → take (at + n) (put xs at ys) ≡ take at xs ++ ys
+unfolding put
+take_put xs ys at n size room = same_lists _ _ (search (rules, places)) (λ i d below. grind (arith, places))
+
 -- written after an even number of bits in turn, more of them go on
 pub turns_written : (xs : List Bool) (at n number : ℕ) (b : Bool) → at + n ≤ length xs → n ≤ 64 → at % 2 ≡ 0 → number_bits number 64 ≡ alternating 64 b → take at xs ≡ alternating at b → take (at + n) (put xs at (number_bits number n)) ≡ alternating (at + n) b
-unfolding put
 turns_written xs at n number b room few even turns so_far =
     let ys = number_bits number n in
-    let size = length-number_bits number n in
     let more : ys ≡ alternating n b = number_bits_first number n 64 few ∙ ap (take n) turns ∙ take_alternating n 64 b few in
-    take_put xs ys at n size room ∙ ap (λ l. l ++ ys) so_far ∙ ap (λ l. alternating at b ++ l) more ∙ alternating_on at n b even
-  where
-    take_put : (xs ys : List Bool) (at n : ℕ) → length ys ≡ n → at + n ≤ length xs → take (at + n) (put xs at ys) ≡ take at xs ++ ys
-    take_put xs ys at n size room = same_lists _ _ (search (rules, places)) (λ i d below. grind (arith, places))
+    take_put xs ys at n (length-number_bits number n) room ∙ ap (λ l. l ++ ys) so_far ∙ ap (λ l. alternating at b ++ l) more ∙ alternating_on at n b even
+
+-- copied after an even number of bits in turn, they go on
+pub turns_copied : (xs : List Bool) (at n : ℕ) (b : Bool) → at + n ≤ length xs → n ≤ at → at % 2 ≡ 0 → take at xs ≡ alternating at b → take (at + n) (moved xs 0 at n) ≡ alternating (at + n) b
+turns_copied xs at n b room few even so_far =
+    let ys = slice_range xs 0 (0 + n) in
+    let e : 0 + n - 0 ≡ min n at = omega arith in
+    let front : ys ≡ take n (take at xs) = ap (λ k. take k xs) e ∙ sym (take-take n at xs few ∙ ap (λ k. take k xs) (omega arith)) in
+    ap (take (at + n)) (sym (put_moved xs 0 at n (omega arith) room))
+    ∙ take_put xs ys at n (length-run xs 0 n (omega arith)) room
+    ∙ ap (λ l. l ++ ys) so_far
+    ∙ ap (λ l. alternating at b ++ l) (front ∙ ap (take n) so_far ∙ take_alternating n at b few)
+    ∙ alternating_on at n b even
 
 -- ---- without equal neighbours
 

@@ -27,12 +27,14 @@ impl<T: BitStore, O: BitOrder> BitVec<T, O> {
         ensures head { self.new.head ≡ self.old.head }
         ensures capacity { self.new.capacity ≡ self.old.capacity }
     {
-        let number = in_turn(first);
-        let mut at = 0;
-        while at < self.len() {
-            let n = (self.len() - at).min(64);
-            self.store_le_at(at, n as u8, number);
-            at += n;
+        let len = self.len();
+        let mut at = len.min(64);
+        self.store_le_at(0, at as u8, in_turn(first));
+        while at < len {
+            // What stands is copied, twice as much at each step.
+            let more = at.min(len - at);
+            self.copy_within(0..more, at);
+            at += more;
         }
     }
 

@@ -531,8 +531,8 @@ pub trait BitList {
         view.find_next(from.min(view.len), view.len, false)
     }
 
-    /// The index of the first bit from index `from` on that is true here and in `other`. None exactly where none is, as where `from` is the
-    /// length or more. 64 bits are combined at a time.
+    /// The index of the first bit from index `from` on that is true here and in `other`. None exactly where none is, as
+    /// where `from` is the length or more. 64 bits are combined at a time.
     ///
     /// ```text
     /// of 01101001 and 01010101: bits.next_and(other, 2) == Some(7)
@@ -555,8 +555,8 @@ pub trait BitList {
         view.find_pair::<And, U, P>(other, from.min(view.len))
     }
 
-    /// The index of the first bit from index `from` on that is true here, and false in `other` or past its end. None exactly where none is, as where `from` is the
-    /// length or more. 64 bits are combined at a time.
+    /// The index of the first bit from index `from` on that is true here, and false in `other` or past its end. None
+    /// exactly where none is, as where `from` is the length or more. 64 bits are combined at a time.
     ///
     /// ```text
     /// of 01101001 and 01010101: bits.next_and_not(other, 3) == Some(4)
@@ -579,8 +579,8 @@ pub trait BitList {
         view.find_pair::<AndNot, U, P>(other, from.min(view.len))
     }
 
-    /// The index of the first bit of this list from index `from` on that is true here or in `other`. None exactly where none is, as where `from` is the
-    /// length or more. 64 bits are combined at a time.
+    /// The index of the first bit of this list from index `from` on that is true here or in `other`. None exactly where
+    /// none is, as where `from` is the length or more. 64 bits are combined at a time.
     ///
     /// ```text
     /// of 01101001 and 01010101: bits.next_or(other, 5) == Some(5)
@@ -603,9 +603,8 @@ pub trait BitList {
         view.find_pair::<Or, U, P>(other, from.min(view.len))
     }
 
-    /// The index of the first bit of this list from index `from` on that differs from that of `other`, or from false past its
-    /// end. None exactly where none is, as where `from` is the
-    /// length or more. 64 bits are combined at a time.
+    /// The index of the first bit of this list from index `from` on that differs from that of `other`, or from false
+    /// past its end. None exactly where none is, as where `from` is the length or more. 64 bits are combined at a time.
     ///
     /// ```text
     /// of 01101001 and 01010101: bits.next_xor(other, 5) == Some(5)

@@ -230,9 +230,9 @@ pub trait BitListMut: BitList {
     }
 
     /// Writes over each chunk of `size` bits, the last perhaps shorter, what `f` returns of it. Both are numbers whose
-    /// least significant bit is the chunk's first, as `load_le` reads them; of a number that `f` returns, the lowest bits
-    /// count, as many as the chunk has. It is called once for each chunk, in order. No dead bit changes. Takes no memory.
-    /// Requires that `size` is from 1 to 64, and that `f` can be called with each number.
+    /// least significant bit is the chunk's first, as `load_le` reads them; of a number that `f` returns, the lowest
+    /// bits count, as many as the chunk has. It is called once for each chunk, in order. No dead bit changes. Takes no
+    /// memory. Requires that `size` is from 1 to 64, and that `f` can be called with each number.
     ///
     /// ```text
     /// of 01101001: bits.map_chunks(4, |n| n ^ 15) leaves 10010110

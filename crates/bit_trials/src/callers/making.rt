@@ -162,12 +162,6 @@ pub fn hexadecimal_read_back(
     BitVec::from_digits(alloc, text, 4, bits.len())
 }
 
-pub fn from_two_digits(alloc: Global) -> Result<BitVec<u8, Msb0>, ParseBitsError>
-    ensures { IfOk result (λ v. v.list ≡ true ∷ true ∷ false ∷ true ∷ false ∷ false ∷ false ∷ false ∷ []) }
-{
-    BitVec::from_hex(alloc, "d0")
-}
-
 pub fn text_as_written(alloc: Global) -> Result<BitVec<u8, Msb0>, ParseBitsError>
     ensures { IfOk result (λ v. v.list ≡ false ∷ true ∷ true ∷ []) }
 {

@@ -3,6 +3,7 @@ ghost use Rattle.std.specs.Prelude.{◌≡◌, [], ◌∷◌, ◌≢◌, ℕ, �
 ghost use Rattle.bit_addressing.specs.Binary.{value};
 ghost use Rattle.bit_addressing.specs.Typed.{row};
 ghost use Rattle.bit_slice.specs.BitSlice.{len_of, list_of};
+ghost use Rattle.bit_slice.specs.Operators.{and_of};
 ghost use Rattle.bit_slice.specs.Patterns.{places_of_pattern};
 ghost use Rattle.bit_slice.specs.Places.{ones_of, zeros_of};
 ghost use Rattle.bit_slice.specs.Pieces.{chunk_count, chunks_of};
@@ -220,15 +221,12 @@ pub fn one_before<T: BitStore, O: BitOrder>(v: &BitVec<T, O>, i: usize) -> Optio
     }
 }
 
-/// Where both have a one, the vector has one.
-pub fn one_of_both<T: BitStore, O: BitOrder>(
+/// The first one that a vector shares with another.
+pub fn first_of_both<T: BitStore, O: BitOrder>(
     v: &BitVec<T, O>,
     other: &BitVec<u8, Msb0>,
-) -> Option<bool>
-    ensures { IfSome result (λ bit. bit ≡ true) }
+) -> Option<usize>
+    ensures { IfSome result (λ i. slice_get (and_of v.now.list other.now.list) i ≡ Some true) }
 {
-    match v.next_and(other.as_bitslice(), 0) {
-        Some(i) => v.get(i),
-        None => None,
-    }
+    v.next_and(other.as_bitslice(), 0)
 }

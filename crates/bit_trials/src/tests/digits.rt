@@ -1,4 +1,6 @@
 //! Vectors read from digits, and without equal neighbours.
+ghost use Rattle.std.specs.Prelude.{◌<◌, ◌≤◌};
+
 use crate::common::{check, holds, of, ok};
 use bit_containers::{BitList, BitListMut, BitVec, Lsb0, Msb0, ParseBitsError, text_bits};
 use std::alloc::Global;

@@ -1,2 +1,4 @@
 pub mod Numbered
+pub mod Parts
 pub mod Runs
+pub mod Sums

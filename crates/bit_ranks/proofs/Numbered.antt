@@ -1,5 +1,5 @@
 -- The indices from a number on, and the counts that find them.
-use Rattle.std.proofs.Common.{◌≡◌, ◌↔◌, ℕ, suc, ◌+◌, ◌-◌, ◌*◌, ◌/◌, ◌%◌, ◌^◌, ◌<◌, ◌≤◌, Bool, true, false, not, cond, List, [], ◌∷◌, ◌++◌, map, length, take, drop, get_or, count_by, slice_get, slice_range, Some, None, Option, IfSome, IfNone, refl, sym, ◌∙◌, ap, inl, inr, arith}
+use Rattle.std.proofs.Common.{◌≡◌, ◌↔◌, ℕ, suc, ◌+◌, ◌-◌, ◌*◌, ◌/◌, ◌%◌, ◌^◌, ◌<◌, ◌≤◌, Bool, true, false, not, cond, List, [], ◌∷◌, ◌++◌, map, length, take, drop, get_or, count_by, slice_get, slice_range, subst, Some, None, Option, IfSome, IfNone, refl, sym, ◌∙◌, ap, inl, inr, arith}
 use Rattle.std.specs.Prelude.{count_ones, bit_and}
 use Rattle.std.specs.List.{filter, range_with_len}
 use Rattle.std.proofs.lemmas.Bool.{cases_lt}
@@ -60,3 +60,12 @@ counts_more xs counts b total size is each j h = elim (cases_lt j (length counts
       let same : b ≡ j = omega arith in
       ap (λ n. get_or (counts ++ total ∷ []) n 0) at ∙ get_or-append-add counts (total ∷ []) 0 0 ∙ is ∙ ap (λ n. ones_before xs ((n + 1) * 512)) same
 ]
+
+-- ---- what a search from a block on gave, counted from the front on
+pub some_of : (bit : Bool) (xs ys : List Bool) (from left k : ℕ) → xs ≡ ys → count_before bit ys from + left ≡ k → (r : Option ℕ) → IfSome r (λ i. IsNumbered bit xs (count_before bit xs from + left) i) → IfSome r (λ i. IsNumbered bit ys k i)
+some_of bit xs ys from left k same all r some =
+    subst (λ n. IfSome r (λ i. IsNumbered bit ys n i)) all (subst (λ (l : List Bool). IfSome r (λ i. IsNumbered bit l (count_before bit l from + left) i)) same some)
+
+pub none_of : (bit : Bool) (xs ys : List Bool) (from left k : ℕ) → xs ≡ ys → count_before bit ys from + left ≡ k → (r : Option ℕ) → IfNone r (count_by (is_bit bit) xs ≤ count_before bit xs from + left) → IfNone r (count_by (is_bit bit) ys ≤ k)
+none_of bit xs ys from left k same all r none =
+    subst (λ n. IfNone r (count_by (is_bit bit) ys ≤ n)) all (subst (λ (l : List Bool). IfNone r (count_by (is_bit bit) l ≤ count_before bit l from + left)) same none)

@@ -3,7 +3,9 @@
 #![tactic(auto)]
 
 mod ones;
+mod ranked;
 mod ranks;
 
 pub use ones::OnesFrom;
+pub use ranked::RankedBits;
 pub use ranks::Ranks;

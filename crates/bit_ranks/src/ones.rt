@@ -1,35 +1,53 @@
 //! The indices of the ones of a list, from a given number on.
-ghost use Rattle.std.specs.Iterator.{YieldsFirst};
-ghost use Rattle.std.specs.Iterator.Runs.{YieldsInOrder};
-ghost use Rattle.std.specs.Prelude.{◌≡◌, ◌≤◌, drop, length};
-ghost use Rattle.bit_slice.specs.BitSlice.{len_of};
+ghost use Rattle.std.specs.Iterator.{YieldsFirst, YieldsLast};
+ghost use Rattle.std.specs.Iterator.Runs.{YieldsInOrder, YieldsInReverse};
+ghost use Rattle.std.specs.Prelude.{◌≡◌, ◌-◌, ◌≤◌, IfSome, Some, count_by, drop, length};
+ghost use Rattle.bit_slice.specs.Indices.{ones_left};
 ghost use Rattle.bit_slice.specs.Places.{ones_of, places_between};
+ghost use Rattle.bit_ranks.specs.Fits.{FitFrom};
+
+mod copies;
 
 use crate::ranks::Ranks;
-use bit_containers::{BitList, BitOrder, BitStore};
-use bit_slice::BitSlice;
-use std::iter::{FusedIterator, Iterator};
+use bit_containers::{BitOrder, BitStore, IterOnes};
+use std::iter::{DoubleEndedIterator, ExactSizeIterator, FusedIterator, Iterator};
 
-/// The indices of the ones of a list, ascending, without the first `k` of them. It takes no memory.
+/// The indices of the ones of a list, ascending, from both ends, without the first `k` of them.
+///
+/// Its length is known, in constant time, and after the first None there is no more. It takes no memory.
 #[derive(Drop)]
 pub struct OnesFrom<'a, T: BitStore, O: BitOrder> {
-    view: BitSlice<'a, T, O>,
-    from: usize,
-    ghost fits: { from ≤ len_of view },
+    ones: IterOnes<'a, T, O>,
+    // What is added to each index.
+    base: usize,
+    // How many indices are left.
+    left: usize,
+    ghost fits: { FitFrom base (ones_left ones) },
+    ghost count: { left ≡ length (ones_left ones) },
 }
 
 impl<T: BitStore, O: BitOrder> Ranks<T, O> {
     ghost use Rattle.bit_ranks.specs.Ones.{ones_from};
 
-    /// The indices of the ones, ascending, without the first `k` of them.
+    /// The indices of the ones, ascending, from both ends, without the first `k` of them. The first is found as
+    /// `select1` finds it.
+    ///
+    /// ```text
+    /// of 0110100: ranks.iter_ones_from(1) gives 2, 4
+    /// ```
     pub fn iter_ones_from(&self, k: usize) -> OnesFrom<'_, T, O>
         ensures list { ones_from result ≡ drop k (ones_of self.now.list) }
+        ensures count { length (ones_from result) ≡ count_by (λ b. b) self.now.list - k }
         ensures runs { YieldsInOrder
             (YieldsFirst (ones_from {X = T} {Y = O} {W = T.BitStore} {P = O.BitOrder})) ones_from }
+        ensures runs_back { YieldsInReverse
+            (YieldsLast (ones_from {X = T} {Y = O} {W = T.BitStore} {P = O.BitOrder})) ones_from }
     {
+        let base = self.index_from(k);
         OnesFrom {
-            view: self.as_bitslice(),
-            from: self.index_from(k),
+            ones: self.as_bitslice().get_range(base..).iter_ones(),
+            base,
+            left: self.count_ones().saturating_sub(k),
         }
     }
 
@@ -47,7 +65,8 @@ impl<T: BitStore, O: BitOrder> Ranks<T, O> {
 }
 
 impl<'a, T: BitStore, O: BitOrder> Iterator for OnesFrom<'a, T, O> {
-    ghost use Rattle.std.specs.Iterator.{YieldsFirst, item_count};
+    ghost use Rattle.std.specs.Iterator.{YieldsFirst, UpTo, at_most, item_count};
+    ghost use Rattle.std.specs.Iterator.SizeHint.{IsWithinCount};
     ghost use Rattle.bit_ranks.specs.Ones.{ones_from};
 
     type Item = usize;
@@ -57,17 +76,49 @@ impl<'a, T: BitStore, O: BitOrder> Iterator for OnesFrom<'a, T, O> {
     ghost remaining = { item_count ones_from };
 
     /// The first index that is left. None exactly where none is.
+    #[inline(always)]
     fn next(&mut self) -> Option<usize> {
-        match self.view.next_one(self.from) {
-            None => {
-                self.from = self.view.len();
-                None
-            }
-            Some(i) => {
-                self.from = i + 1;
-                Some(i)
+        match self.ones.next() {
+            None => None,
+            Some(index) => {
+                self.left -= 1;
+                Some(self.base + index)
             }
         }
+    }
+
+    /// Both bounds are how many indices are left, in constant time.
+    fn size_hint(&self) -> (usize, Option<usize>)
+        ensures lower { IsWithinCount result.0 (at_most (length (ones_from self.now))) }
+        ensures upper { IfSome result.1 (UpTo (at_most (length (ones_from self.now)))) }
+        ensures value { result ≡ (length (ones_from self.now), Some (length (ones_from self.now))) }
+    {
+        (self.left, Some(self.left))
+    }
+}
+
+impl<'a, T: BitStore, O: BitOrder> DoubleEndedIterator for OnesFrom<'a, T, O> {
+    ghost use Rattle.std.specs.Iterator.{YieldsLast};
+    ghost use Rattle.bit_ranks.specs.Ones.{ones_from};
+
+    ghost next_back_gives = { YieldsLast ones_from };
+
+    /// The last index that is left. None exactly where none is.
+    fn next_back(&mut self) -> Option<usize> {
+        match self.ones.next_back() {
+            None => None,
+            Some(index) => {
+                self.left -= 1;
+                Some(self.base + index)
+            }
+        }
+    }
+}
+
+impl<'a, T: BitStore, O: BitOrder> ExactSizeIterator for OnesFrom<'a, T, O> {
+    /// How many indices are left, in constant time.
+    fn len(&self) -> usize {
+        self.left
     }
 }
 

@@ -7,15 +7,17 @@ ghost use Rattle.bit_slice.specs.Places.{ones_of, zeros_of};
 ghost use Rattle.bit_slice.specs.Numbered.{IsNumbered, count_before, is_bit, ones_before, zeros_before};
 ghost use Rattle.bit_ranks.specs.Ranks.{IsIndex};
 
+mod traits;
+
 use bit_boxed::BitBox;
-use bit_containers::{BitOrder, BitStore, Lsb0};
+use bit_containers::{BitOrder, BitStore, BitVec, Lsb0};
 use bit_slice::BitSlice;
 use bit_slice::inner::nth_from;
 use std::alloc::{AllocError, Global};
 use std::marker::Model;
 
 // How many bits one count is for.
-const BLOCK: usize = 512;
+pub(crate) const BLOCK: usize = 512;
 
 /// A boxed list of bits with counts of its ones: it tells how many ones or zeros are before an index, and at which
 /// index the `k`-th one or zero is.
@@ -74,6 +76,29 @@ impl<T: BitStore, O: BitOrder> Ranks<T, O> {
     {
         match counted(alloc, bits.as_bitslice()) {
             Ok(counts) => Ok(Ranks { bits, counts }),
+            Err(_) => Err(bits),
+        }
+    }
+
+    /// Like `new`, of a vector, which becomes a box as by `into_boxed_bitslice`; where memory is refused, the error is
+    /// the vector, as it was.
+    ///
+    /// ```text
+    /// let ranks = Ranks::from_vec(alloc, v)?;    // of the vector 0110100 the same as above
+    /// ```
+    pub fn from_vec(alloc: Global, bits: BitVec<T, O>) -> Result<Self, BitVec<T, O>>
+        ensures words { IfOk result (λ r. r.words ≡ bits.words) }
+        ensures row { IfOk result (λ r. r.row ≡ bits.row) }
+        ensures head { IfOk result (λ r. r.head ≡ bits.head) }
+        ensures list { IfOk result (λ r. r.list ≡ bits.list) }
+        ensures back { IfErr result (λ back. back ≡ bits) }
+        ensures memory { OnErr result (512 ≤ length bits.list) }
+    {
+        match counted(alloc, bits.as_bitslice()) {
+            Ok(counts) => {
+                let bits = bits.into_boxed_bitslice().unwrap();
+                Ok(Ranks { bits, counts })
+            }
             Err(_) => Err(bits),
         }
     }

@@ -1,4 +1,4 @@
-//! The ones of bytes, whose first bit is the highest one, and records and codes in them, by loops written by hand. Prints
+//! The ones of bytes, whose first bit is the highest one, and records, codes and values in them, by loops by hand. Prints
 //! what the program prints.
 mod records;
 
@@ -178,9 +178,32 @@ fn decode(bytes: &[u8], table: &[Found], count: usize) -> usize {
     total
 }
 
+#[inline(never)]
+fn read_values(bytes: &[u8], count: usize) -> usize {
+    let (mut at, mut total) = (0, 0usize);
+    for _ in 0..count {
+        let len = (bytes[at + 1] as usize) << 8 | bytes[at + 2] as usize;
+        let mut number = 0;
+        for byte in &bytes[at + 3..at + 3 + len] {
+            number = number << 8 | *byte as usize;
+        }
+        total = total.wrapping_mul(3).wrapping_add(bytes[at] as usize).wrapping_add(number);
+        at += 3 + len;
+    }
+    total
+}
+
 fn streams(n: usize, r: usize) {
     let ones = |bytes: &Vec<u8>| bytes.iter().map(|b| b.count_ones() as usize).sum();
-    records::streams::<Writer>(n, r, ones, pack, |bytes, made| unpack(bytes, made), |bytes, table, count| decode(bytes, table, count));
+    records::streams::<Writer>(
+        n,
+        r,
+        ones,
+        pack,
+        |bytes, made| unpack(bytes, made),
+        |bytes, table, count| decode(bytes, table, count),
+        |bytes, count| read_values(bytes, count),
+    );
 }
 
 fn main() {

@@ -1,4 +1,4 @@
-//! The records and codes that the peers pack and read: what bench/program/streams.rt.txt makes.
+//! The records, codes and tagged values that the peers pack and read: what bench/program/streams.rt.txt makes.
 use std::hint::black_box;
 use std::time::Instant;
 
@@ -96,6 +96,21 @@ pub fn long_symbol(window: u64) -> (usize, u32) {
     if x >> 8 == 127 { (127 + (x & 0xff), 15) } else { (63 + (x >> 2 & 63), 13) }
 }
 
+/// A value of 1 to 7 bytes with a tag.
+pub struct Value {
+    tag: u8,
+    len: u32,
+    number: u64,
+}
+
+fn values(count: usize) -> Vec<Value> {
+    let value = |x: u64| {
+        let len = (x >> 61) as u32 % 7 + 1;
+        Value { tag: (x >> 40 & 127) as u8 + 1, len, number: x >> (64 - 8 * len) }
+    };
+    (0..count).map(mixed).map(value).collect()
+}
+
 /// What takes the digits of numbers, the most significant first.
 pub trait Digits: Default {
     type Made;
@@ -116,6 +131,17 @@ fn encode<W: Digits>(codes: &[Code], symbols: &[u16]) -> W::Made {
     writer.finish()
 }
 
+#[inline(never)]
+fn write_values<W: Digits>(values: &[Value]) -> W::Made {
+    let mut writer = W::default();
+    for it in values {
+        writer.write(8, it.tag as u64);
+        writer.write(16, it.len as u64);
+        writer.write(8 * it.len, it.number);
+    }
+    writer.finish()
+}
+
 /// Runs the work a number of times, each on a value made anew, and prints the shortest time.
 pub fn timed<V, A>(name: &str, repetitions: usize, make: impl Fn() -> V, work: impl Fn(&mut V) -> A, check: impl Fn(&V, A) -> usize) {
     let (mut best, mut sum) = (u128::MAX, 0);
@@ -129,7 +155,7 @@ pub fn timed<V, A>(name: &str, repetitions: usize, make: impl Fn() -> V, work: i
     println!("{name} {best} {sum}");
 }
 
-/// The rows of records and codes. By hand it is the same work at indices and one after another.
+/// The rows of records, codes and values. By hand it is the same work at indices and one after another.
 pub fn streams<W: Digits>(
     n: usize,
     r: usize,
@@ -137,6 +163,7 @@ pub fn streams<W: Digits>(
     pack: impl Fn(&[Record]) -> W::Made,
     unpack: impl Fn(&W::Made, &mut [Record]) -> usize,
     decode: impl Fn(&W::Made, &[Found], usize) -> usize,
+    read_values: impl Fn(&W::Made, usize) -> usize,
 ) {
     let all = records(n);
     let packed = pack(&all);
@@ -148,4 +175,8 @@ pub fn streams<W: Digits>(
     timed("codes_append", r, || (), |_| encode::<W>(&codes, &all), |_, made| ones(&made));
     let made = encode::<W>(&codes, &all);
     timed("codes_decode", r, || (), |_| decode(&made, &table, n), |_, total| total);
+    let all = values(n);
+    timed("values_write", r, || (), |_| write_values::<W>(&all), |_, made| ones(&made));
+    let made = write_values::<W>(&all);
+    timed("values_read", r, || (), |_| read_values(&made, n), |_, total| total);
 }

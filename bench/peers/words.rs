@@ -556,9 +556,67 @@ fn decode(words: &[u64], table: &[Found], count: usize) -> usize {
     total
 }
 
+/// The `n` bits from `at` on as a number, the first the most significant digit.
+#[inline(always)]
+fn number_at(words: &[u64], at: usize, n: usize) -> u64 {
+    let (k, skip) = (at / 64, at % 64);
+    let window = if skip + n <= 64 { words[k] << skip } else { words[k] << skip | words[k + 1] >> (64 - skip) };
+    window >> (64 - n)
+}
+
+#[inline(never)]
+fn read_values(words: &[u64], count: usize) -> usize {
+    let (mut at, mut total) = (0, 0usize);
+    for _ in 0..count {
+        let (tag, bytes) = (number_at(words, at, 8) as usize, number_at(words, at + 8, 16) as usize);
+        let number = number_at(words, at + 24, 8 * bytes) as usize;
+        total = total.wrapping_mul(3).wrapping_add(tag).wrapping_add(number);
+        at += 24 + 8 * bytes;
+    }
+    total
+}
+
+/// A record in each word, the least digit of each field first.
+#[inline(never)]
+fn pack_le(records: &[Record]) -> Vec<u64> {
+    let mut words = Vec::with_capacity(records.len());
+    for it in records {
+        let head = it.kind as u64 | (it.port as u64) << 3 | (it.up as u64) << 16;
+        words.push(head | (it.size as u64) << 17 | (it.sum as u64) << 37);
+    }
+    words
+}
+
+#[inline(never)]
+fn unpack_le(words: &[u64], records: &mut [Record]) -> usize {
+    for (word, record) in words.iter().zip(records) {
+        let (kind, port, up) = ((word & 7) as u32, (word >> 3 & 0x1fff) as u32, word >> 16 & 1 == 1);
+        *record = Record { kind, port, up, size: (word >> 17 & 0xfffff) as u32, sum: (word >> 37) as u32 };
+    }
+    words.len()
+}
+
 fn streams(n: usize, r: usize) {
-    let ones = |words: &Vec<u64>| words.iter().map(|w| w.count_ones() as usize).sum();
-    records::streams::<Writer>(n, r, ones, pack, |words, made| unpack(words, made), |words, table, count| decode(words, table, count));
+    let ones = |words: &Vec<u64>| words.iter().map(|w| w.count_ones() as usize).sum::<usize>();
+    let all = records::records(n);
+    let packed = pack_le(&all);
+    records::timed("pack_records_le", r, || (), |_| pack_le(&all), |_, made| ones(&made));
+    records::timed(
+        "unpack_records_le",
+        r,
+        || records::empty_records(n),
+        |made| unpack_le(&packed, made),
+        |made, found| records::sum_of_records(made) + found,
+    );
+    records::streams::<Writer>(
+        n,
+        r,
+        ones,
+        pack,
+        |words, made| unpack(words, made),
+        |words, table, count| decode(words, table, count),
+        |words, count| read_values(words, count),
+    );
 }
 
 fn masks(n: usize, r: usize) {

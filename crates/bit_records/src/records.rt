@@ -1,13 +1,17 @@
 //! Numbers of one width, one after another in the bits of a vector.
-ghost use Rattle.std.specs.Prelude.{◌≡◌, ◌+◌, ◌-◌, ◌*◌, ◌^◌, ◌<◌, ◌≤◌, ◌↔◌, ◌++◌, ◌||◌, [], ◌∷◌, All, Err, IfOk, IfSome, IsTrue, MatchOption, OnErr, OnOk, eqb, length, ltb, set, slice_get, take};
+ghost use Rattle.std.specs.Prelude.{◌≡◌, ◌+◌, ◌-◌, ◌*◌, ◌^◌, ◌<◌, ◌≤◌, ◌↔◌, ◌++◌, ◌||◌, [], ◌∷◌, All, Err, IfOk, IfSome, IsOk, IsTrue, MatchOption, OnErr, OnOk, eqb, length, ltb, set, slice_get, take};
+ghost use Rattle.std.specs.Iterator.{ExtendsWithItems, HoldsAlong, IsFinite};
+ghost use Rattle.std.specs.Iterator.Runs.{EachRunFrom};
 ghost use Rattle.bit_addressing.specs.declared.errors.GrowError.{GrowError};
 ghost use Rattle.bit_addressing.specs.declared.length.TheConstants.{MAX_BITS};
 ghost use Rattle.bit_containers.specs.BitVec.{IsClean};
+ghost use Rattle.bit_containers.specs.Pulls.{GivesAll, GivesFirst, RunsThrough};
 ghost use Rattle.bit_records.specs.Records.{AreKept, joined};
 
 use bit_containers::{BitList, BitListMut, BitOrder, BitStore, BitVec, GrowError, Lsb0, MAX_BITS};
 use std::alloc::{AllocError, Global};
 use std::fmt;
+use std::iter::{Extend, IntoIterator};
 use std::marker::Model;
 
 /// Numbers of one width, from 1 to 64 binary digits, packed without a gap: the most significant digit of
@@ -165,6 +169,54 @@ impl<T: BitStore, O: BitOrder> Records<T, O> {
         Ok(())
     }
 
+    /// Appends the numbers that an iterator gives before its first None. Returns `TooLong` where the bits with one of them
+    /// would pass `MAX_BITS`, and `OutOfMemory` only where they would pass the capacity; then it pulls no more. A refusal
+    /// changes nothing but perhaps the capacity. Requires that the iterator ends, and that each number has at most as many
+    /// digits as the width.
+    ///
+    /// ```text
+    /// of 41: ages.extend(others.iter())? leaves 41, 8, 7 where others are 8, 7
+    /// ```
+    pub fn extend<I: IntoIterator<Item = u64>>(&mut self, iter: I) -> Result<(), GrowError>
+        requires { (it : I.IntoIter) → I.into_iter_gives iter it → I.IntoIter.can_next it
+            × IsFinite (I.IntoIter.remaining it)
+            × HoldsAlong I.IntoIter.next_gives it (All (λ number. number < 2 ^ self.old.width)) }
+        ensures joined { OnOk result (GivesAll I.into_iter_gives I.IntoIter.next_gives iter
+            (λ numbers. self.new.list ≡ self.old.list ++ numbers)) }
+        ensures runs { OnOk result (RunsThrough I.into_iter_gives I.IntoIter.next_gives iter
+            (λ numbers. self.new.list ≡ self.old.list ++ numbers)) }
+        ensures width { self.new.width ≡ self.old.width }
+        ensures too_long { result ≡ Err GrowError.TooLong
+            → GivesFirst I.into_iter_gives I.IntoIter.next_gives iter
+            (λ numbers. MAX_BITS < (length self.old.list + length numbers) * self.old.width) }
+        ensures memory { result ≡ Err GrowError.OutOfMemory
+            → GivesFirst I.into_iter_gives I.IntoIter.next_gives iter
+            (λ numbers. self.old.bits.capacity < (length self.old.list + length numbers) * self.old.width) }
+        ensures fits { ((it : I.IntoIter) → I.into_iter_gives iter it
+            → EachRunFrom I.IntoIter.next_gives it (λ run.
+            ((length self.old.list + length run.items) * self.old.width ≤ self.old.bits.capacity)
+            × ((length self.old.list + length run.items) * self.old.width ≤ MAX_BITS))) → IsOk result }
+        ensures unchanged { OnErr result (AreKept self.old self.new) }
+        ensures clean { IsClean T.BITS self.new.bits }
+        ensures capacity { self.old.bits.capacity ≤ self.new.bits.capacity }
+        ensures no_memory { ((it : I.IntoIter) → I.into_iter_gives iter it
+            → EachRunFrom I.IntoIter.next_gives it (λ run.
+            (length self.old.list + length run.items) * self.old.width ≤ self.old.bits.capacity))
+            → self.new.bits.capacity ≡ self.old.bits.capacity }
+    {
+        let before = self.len;
+        for number in iter {
+            match self.push(number) {
+                Ok(()) => {}
+                Err(why) => {
+                    self.truncate(before);
+                    return Err(why);
+                }
+            }
+        }
+        Ok(())
+    }
+
     /// Makes room for `more` further numbers, so that appending them takes no memory. Returns `TooLong` exactly where the
     /// bits with them would pass `MAX_BITS`, and `OutOfMemory` only where they would pass the capacity. No number
     /// changes.
@@ -251,6 +303,32 @@ impl<T: BitStore, O: BitOrder> Records<T, O> {
         ensures clean { IsClean T.BITS result }
     {
         self.bits
+    }
+}
+
+impl<T: BitStore, O: BitOrder> Extend<u64> for Records<T, O> {
+    ghost use Rattle.std.specs.Prelude.{◌≡◌, ◌^◌, ◌<◌, ◌++◌, All};
+
+    ghost can_extend = { λ old. All (λ number. number < 2 ^ old.width) };
+
+    ghost extend_gives = { λ old numbers new. (new.list ≡ old.list ++ numbers) × (new.width ≡ old.width) };
+
+    /// Like the records' own `extend`, but with one error for both refusals.
+    fn extend<I: IntoIterator<Item = u64>>(&mut self, iter: I) -> Result<(), AllocError>
+        requires { (it : I.IntoIter) → I.into_iter_gives iter it → I.IntoIter.can_next it
+            × IsFinite (I.IntoIter.remaining it)
+            × HoldsAlong I.IntoIter.next_gives it (All (λ number. number < 2 ^ self.old.width)) }
+        ensures ran { ExtendsWithItems I.into_iter_gives I.IntoIter.next_gives
+            (λ old numbers new. (new.list ≡ old.list ++ numbers) × (new.width ≡ old.width))
+            iter self.old self.new result }
+        ensures runs { OnOk result (RunsThrough I.into_iter_gives I.IntoIter.next_gives iter
+            (λ numbers. self.new.list ≡ self.old.list ++ numbers)) }
+        ensures unchanged { OnErr result (AreKept self.old self.new) }
+    {
+        match Records::extend(self, iter) {
+            Ok(()) => Ok(()),
+            Err(_) => Err(AllocError),
+        }
     }
 }
 

@@ -13,6 +13,8 @@ mod codes;
 #[cfg(test)]
 mod fields;
 #[cfg(test)]
+mod formats;
+#[cfg(test)]
 mod streams;
 
 // That this holds. A test calls it in place of `assert!`, which costs the prover more: a failed

@@ -9,3 +9,4 @@ pub mod Rests
 pub mod ItemsRead
 pub mod Parted
 pub mod Held
+pub mod Headers

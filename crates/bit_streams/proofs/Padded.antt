@@ -1,5 +1,5 @@
 -- A reader over a row with zeros after it, whose register is filled by 64 bits everywhere.
-use Rattle.std.proofs.Common.{◌≡◌, ℕ, zero, suc, ◌+◌, ◌-◌, ◌*◌, ◌/◌, ◌%◌, ◌^◌, ◌<◌, ◌≤◌, Bool, false, List, ◌++◌, ◌⊎◌, inl, inr, length, replicate, slice_range, sym, ◌∙◌, ap, subst, arith, rules}
+use Rattle.std.proofs.Common.{◌≡◌, ℕ, zero, suc, ◌+◌, ◌-◌, ◌*◌, ◌/◌, ◌%◌, ◌^◌, ◌<◌, ◌≤◌, Bool, false, List, ◌++◌, ◌⊎◌, inl, inr, length, drop, replicate, slice_range, take, sym, ◌∙◌, ap, subst, arith, rules}
 use Rattle.std.proofs.lemmas.List.{length-append, nil_from_length, same_lists, places}
 use Rattle.std.proofs.lemmas.Nat.{pow-add, shl_whole}
 use Rattle.std.proofs.Math.Nat.{div-div-eq-div-mul, div-lt_iff_lt-mul, mod-eq_of_lt}
@@ -7,10 +7,10 @@ use Rattle.std.proofs.Math.Pow.{pow_pos}
 use Rattle.bit_addressing.specs.Row.{binary}
 use Rattle.bit_rows.proofs.Binary.{length-binary}
 use Rattle.bit_addressing.proofs.lists.Shown.{length-run}
-use Rattle.bit_streams.specs.Streams.{IsHeld, IsReading, padded}
-use Rattle.bit_streams.proofs.Lists.{joined_digits}
+use Rattle.bit_streams.specs.Streams.{IsHeld, IsReading, Passed, Reading, padded}
+use Rattle.bit_streams.proofs.Lists.{joined_digits, take_front}
 use Rattle.bit_addressing.proofs.Runs.{mul_mono, slices_joined}
-use Rattle.bit_streams.proofs.Windows.{nothing_held, rest_parted, slice_empty, taken, taken_next}
+use Rattle.bit_streams.proofs.Windows.{dropped, held_by_half, nothing_held, rest_parted, slice_empty, taken, taken_next}
 use Rattle.bit_streams.proofs.Zeros.{zeros_of}
 
 pub length-padded : (row : List Bool) → length (padded row) ≡ length row + 64
@@ -53,7 +53,7 @@ digits_padded n x few below =
     ∙ joined_digits n (64 - n) x 0 ∙ ap (λ l. binary n x ++ l) (zeros_of (64 - n) (omega arith))
 
 -- a register has no digit past 64
-held_below : (row : List Bool) (from have window : ℕ) → IsHeld row from have window → window < 2 ^ 64
+pub held_below : (row : List Bool) (from have window : ℕ) → IsHeld row from have window → window < 2 ^ 64
 held_below row from have window held =
     let few = held.few in
     let small = held.small in
@@ -109,6 +109,9 @@ across row at skip first second some few before room a b is next =
     ap (λ k. k + second / 2 ^ (64 - (64 - (64 - skip)))) none ∙ ap (λ k. first * 2 ^ (skip - 1) % 2 ^ 64 * 2 ^ 1 % 2 ^ 64 + second / 2 ^ k) by in
     (subst (λ x. binary 64 x ≡ slice_range row at (at + 64)) sum t.0, subst (λ x. x < 2 ^ 64) sum t.1)
 
+half_fits : (half have : ℕ) → half < 2 ^ 32 → have < 32 → half * 2 ^ (32 - have) % 2 ^ 64 ≡ half * 2 ^ (32 - have)
+half_fits half have below few = shl_whole half 32 (32 - have) 64 below (omega arith)
+
 module _ (row : List Bool) (w n start left end have window : ℕ) (r : IsReading row w n start left end have window) (size : length row ≡ w * n) where
   pub length_rest : length (slice_range row (end - left) end) ≡ left
   length_rest =
@@ -140,3 +143,43 @@ module _ (row : List Bool) (w n start left end have window : ℕ) (r : IsReading
       let to : end - left + k ≡ end - (left - k) = omega arith in
       subst (λ f. slice_range row (end - left) end ≡ ds ++ slice_range row f end) to
       (rest_parted row ds (end - left) k end (is ∙ padded_part row (end - left) (end - left + k) (omega arith)) (omega arith) (omega arith))
+
+  -- 32 bits more are held
+  pub held_more : (half : ℕ) → have < 32 → have + 64 ≤ left → half < 2 ^ 32 → binary 32 half ≡ slice_range row (end - left + have) (end - left + have + 32) → IsReading row w n start left end (have + 32) (window + half * 2 ^ (32 - have) % 2 ^ 64)
+  held_more half few enough below next =
+      let begins = r.begins in
+      let within = r.within in
+      let long = length-padded row in
+      let fits : half * 2 ^ (32 - have) % 2 ^ 64 ≡ half * 2 ^ (32 - have) = half_fits half have below few in
+      let is = next ∙ sym (padded_part row (end - left + have) (end - left + have + 32) (omega arith)) in
+      record {
+        held = subst (λ k. IsHeld (padded row) (end - left) (have + 32) (window + k)) (sym fits) (held_by_half (padded row) (end - left) have window half r.held few (omega arith) below is);
+        ahead = omega arith;
+        begins = begins;
+        within = within;
+        few = r.few;
+        in_word = r.in_word;
+        exact = r.exact;
+      }
+
+  -- k bits are passed
+  pub passed_off : (k : ℕ) (old : Reading) → record { rest = slice_range row (end - left) end; position = end - left - start } ≡ old → k ≤ left → Passed k old (record { rest = slice_range row (end - (left - k)) end; position = end - (left - k) - start })
+  passed_off k old is few =
+      let begins = r.begins in
+      let within = r.within in
+      let to : end - left + k ≡ end - (left - k) = omega arith in
+      let d = dropped row (end - left) k end (omega arith) (omega arith) in
+      let after = ap (λ f. slice_range row f end) to in
+      record {
+        rest = sym after ∙ sym d.0 ∙ ap (λ v. drop k v.rest) is;
+        position = (let e : end - (left - k) - start ≡ end - left - start + k = omega arith in e) ∙ ap (λ v. v.position + k) is;
+        left = ap (λ l. length l + k) (sym after) ∙ d.1 ∙ ap (λ v. length v.rest) is;
+      }
+
+  -- the first k bits that are left
+  pub seen_first : (k : ℕ) → k ≤ left → slice_range row (end - left) (end - left + k) ≡ take k (slice_range row (end - left) end)
+  seen_first k few =
+      let begins = r.begins in
+      let within = r.within in
+      let first : length (slice_range row (end - left) (end - left + k)) ≡ k = length-run row (end - left) k (omega arith) in
+      sym (take_front k (slice_range row (end - left) (end - left + k)) (slice_range row (end - left + k) end) first) ∙ ap (take k) (slices_joined row (end - left) (end - left + k) end (omega arith) (omega arith) (omega arith))

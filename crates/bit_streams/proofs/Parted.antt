@@ -1,7 +1,11 @@
 -- Formats of several parts: what is read is one of them, and what is written is read.
-use Rattle.std.proofs.Common.{◌≡◌, ℕ, ◌+◌, ◌-◌, ◌*◌, ◌/◌, ◌%◌, ◌≤◌, Bool, false, List, ◌++◌, append_assoc, length, take, drop, replicate, sym, ◌∙◌, ap, arith}
-use Rattle.std.proofs.lemmas.List.{drop_at, length-append, length-take-le}
+use Rattle.std.proofs.Common.{◌≡◌, ℕ, ◌+◌, ◌-◌, ◌*◌, ◌/◌, ◌%◌, ◌^◌, ◌≤◌, ◌↔◌, Bool, false, List, [], ◌++◌, append-nil, append_assoc, length, take, drop, replicate, refl, sym, ◌∙◌, ap, arith}
+use Rattle.std.proofs.lemmas.List.{drop_at, length-append, length-replicate, length-take-le}
+use Rattle.std.proofs.lemmas.Nat.{mod_below}
+use Rattle.std.proofs.Math.Pow.{pow_pos}
+use Rattle.bit_addressing.specs.Binary.{value}
 use Rattle.bit_addressing.specs.Row.{binary}
+use Rattle.bit_rows.proofs.Binary.{binary_low, length-binary, value_of_binary}
 use Rattle.bit_streams.specs.Formats.{listed_bits, tagged_bits}
 use Rattle.bit_streams.proofs.Lists.{take_front}
 use Rattle.bit_streams.proofs.Zeros.{zeros_of}
@@ -54,3 +58,31 @@ listed_written old first second new bits len a b c size =
     ∙ append_assoc old (binary 64 len ++ bits) (binary ((8 - len % 8) % 8) 0)
     ∙ ap (λ l. old ++ ((binary 64 len ++ bits) ++ l)) (zeros_of ((8 - len % 8) % 8) few)
     ∙ ap (λ k. old ++ ((binary 64 k ++ bits) ++ replicate ((8 - k % 8) % 8) false)) size
+
+-- what is written of a list is that of no other
+pub listed_once : (a b : List Bool) → (listed_bits a ≡ listed_bits b) ↔ (a ≡ b)
+listed_once a b = (
+  λ same.
+      let digits : binary 64 (length a) ≡ binary 64 (length b) = sym (front a) ∙ ap (take 64) same ∙ front b in
+      let counts : length a % 2 ^ 64 ≡ length b % 2 ^ 64 = sym (count (length a)) ∙ ap value digits ∙ count (length b) in
+      let long : 64 + length a + (8 - length a % 8) % 8 ≡ 64 + length b + (8 - length b % 8) % 8 = sym (size a) ∙ ap length same ∙ size b in
+      let len : length b ≡ length a = omega arith in
+      sym (rest (length a) a refl) ∙ ap (λ l. take (length a) (drop 64 l)) same ∙ rest (length a) b len,
+  λ same. ap listed_bits same,
+)
+  where
+    opened : (bits : List Bool) → listed_bits bits ≡ binary 64 (length bits) ++ (bits ++ (replicate ((8 - length bits % 8) % 8) false ++ []))
+    opened bits = three_opened (listed_bits bits) [] (binary 64 (length bits)) bits (replicate ((8 - length bits % 8) % 8) false) (sym (append-nil (listed_bits bits)))
+
+    front : (bits : List Bool) → take 64 (listed_bits bits) ≡ binary 64 (length bits)
+    front bits = ap (take 64) (opened bits) ∙ take_front 64 (binary 64 (length bits)) (bits ++ (replicate ((8 - length bits % 8) % 8) false ++ [])) (length-binary 64 (length bits))
+
+    rest : (n : ℕ) (bits : List Bool) → length bits ≡ n → take n (drop 64 (listed_bits bits)) ≡ bits
+    rest n bits len = ap (λ l. take n (drop 64 l)) (opened bits) ∙ ap (take n) (drop_at (binary 64 (length bits)) (bits ++ (replicate ((8 - length bits % 8) % 8) false ++ [])) 64 (length-binary 64 (length bits)))
+        ∙ take_front n bits (replicate ((8 - length bits % 8) % 8) false ++ []) len
+
+    count : (n : ℕ) → value (binary 64 n) ≡ n % 2 ^ 64
+    count n = ap value (sym (binary_low 64 n)) ∙ value_of_binary 64 (n % 2 ^ 64) (mod_below n (2 ^ 64) (pow_pos 64))
+
+    size : (bits : List Bool) → length (listed_bits bits) ≡ 64 + length bits + (8 - length bits % 8) % 8
+    size bits = simp (length-append, length-binary, length-replicate) refl

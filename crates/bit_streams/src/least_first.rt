@@ -46,9 +46,9 @@ impl<'a, T: BitStore, O: BitOrder> BitReader<'a, T, O> {
         ensures whole { (x : ℕ) → self.old.rest ≡ number_bits x n → x < 2 ^ n
             → (result ≡ Some x) × (self.new.rest ≡ []) }
     {
-        match self.read(n) {
+        match self.next_le(n) {
             None => None,
-            Some(x) => Some(reversed(n, x)),
+            Some(x) => Some(x),
         }
     }
 
@@ -60,9 +60,6 @@ impl<'a, T: BitStore, O: BitOrder> BitReader<'a, T, O> {
         ensures digits { IfSome result (λ x. number_bits x n ≡ take n self.now.rest) }
         ensures below { IfSome result (λ x. x < 2 ^ n) }
     {
-        match self.peek(n) {
-            None => None,
-            Some(x) => Some(reversed(n, x)),
-        }
+        self.look_le(n)
     }
 }

@@ -1,15 +1,16 @@
 //! The reader: bits, numbers and parts of a view, one after another.
 ghost use Rattle.std.specs.Prelude.{◌≡◌, ℕ, ◌+◌, ◌-◌, ◌*◌, ◌/◌, ◌%◌, ◌^◌, ◌<◌, ◌≤◌, ◌++◌, ◌↔◌, [], ◌∷◌, Bool, List, None, Some, IfSome, drop, length, slice_range, take};
 ghost use Rattle.bit_addressing.specs.Binary.{value};
-ghost use Rattle.bit_addressing.specs.Row.{binary};
+ghost use Rattle.bit_addressing.specs.Row.{binary, number_bits};
 ghost use Rattle.bit_addressing.specs.Typed.{row};
 ghost use Rattle.bit_addressing.specs.declared.length.TheConstants.{MAX_BITS};
 ghost use Rattle.bit_slice.specs.BitSlice.{len_of, list_of};
 ghost use Rattle.bit_streams.specs.Streams.{Passed, padded};
 
-use bit_addressing::{BitOrder, BitStore};
-use bit_rows::{read_binary, read_block};
+use bit_addressing::{BitIdx, BitOrder, BitStore};
+use bit_rows::{read_binary, read_block, read_chunk};
 use bit_slice::BitSlice;
+use bit_slice::inner::reversed;
 use std::marker::{Model, PhantomData};
 
 /// Reads the bits of a view from the first to the last.
@@ -33,8 +34,8 @@ pub struct BitReader<'a, T: BitStore, O: BitOrder> {
     // How many bits of the view are left.
     left: usize,
     // The next `have` bits, fewer than 64: the first is the highest, and the bits below them are 0. They may lie past the
-    // view's end, where the words' bits or zeros are held: so a register is filled by 64 bits everywhere, and a compiler
-    // that sees the widths of a record's fields knows how many are held at each.
+    // view's end, where the words' bits or zeros are held: so a read fills the register by 64 bits everywhere, and a
+    // compiler that sees the widths of a record's fields knows how many are held at each.
     window: u64,
     have: usize,
     order: PhantomData<O>,
@@ -58,6 +59,13 @@ impl<'a, T: BitStore, O: BitOrder> Model for BitReader<'a, T, O> {
         T.BITS (length r.words.now) r.start r.left r.end r.have r.window };
 }
 
+// Whether index 0 of a word is its lowest place, where the order goes by shifts: then a number whose least significant digit
+// comes first lies in the words as it is. It is a hint for speed alone.
+#[inline(always)]
+fn lowest_first<O: BitOrder>() -> bool {
+    O::goes_by_shifts() && O::at(BitIdx::<u64>::new_unchecked(0)).into_inner() == 0
+}
+
 // The number that the 64 bits from `at` on write, the first the most significant. Requires that a word begins at `at`.
 #[inline(always)]
 fn block_at<T: BitStore, O: BitOrder>(words: &[T], at: usize) -> u64
@@ -68,23 +76,21 @@ fn block_at<T: BitStore, O: BitOrder>(words: &[T], at: usize) -> u64
     read_block::<T, O>(words, at).reverse()
 }
 
-// The number that the 64 bits from `at` on write, where those past the words are 0. Requires that `at` lies in the words.
+// The number that the 64 bits from `at` on write, where those past the words are 0. Requires that `at` lies in the words,
+// and `known` bits from it on. Where 128 are known, they are one block or two, without a further test.
 #[inline(always)]
-fn bits_at<T: BitStore, O: BitOrder>(words: &[T], at: usize) -> u64
+fn bits_at<T: BitStore, O: BitOrder>(words: &[T], at: usize, known: usize) -> u64
     requires inside { at < T.BITS * length words.now }
+    requires known { at + known ≤ T.BITS * length words.now }
     requires fits { T.BITS * length words.now < 2 ^ 64 }
     ensures { binary 64 result ≡ slice_range (padded (row T.BitStore O.BitOrder words.now)) at (at + 64) }
 {
-    let room = words.len() * T::BITS as usize - at;
-    let skip = at % T::BITS as usize;
-    if room < 64 {
+    if known < 128 {
         return last_bits::<T, O>(words, at);
     }
+    let skip = at % T::BITS as usize;
     if skip == 0 {
         return block_at::<T, O>(words, at);
-    }
-    if room < 128 {
-        return last_bits::<T, O>(words, at);
     }
     joined_blocks::<T, O>(words, at, skip)
 }
@@ -103,7 +109,19 @@ fn joined_blocks<T: BitStore, O: BitOrder>(words: &[T], at: usize, skip: usize) 
     ((first << (skip - 1)) << 1) + (second >> (64 - skip))
 }
 
-// Like `bits_at`, where no whole block is there.
+// The number that the 32 bits from `at` on write. Requires that `skip` bits of a word, at most 32, lie before `at`.
+#[inline(always)]
+fn half_at<T: BitStore, O: BitOrder>(words: &[T], at: usize, skip: usize) -> u64
+    requires within { at + 64 ≤ T.BITS * length words.now }
+    requires before { skip ≡ at % T.BITS }
+    requires few { skip ≤ 32 }
+    ensures digits { binary 32 result ≡ slice_range (row T.BitStore O.BitOrder words.now) at (at + 32) }
+    ensures below { result < 2 ^ 32 }
+{
+    (block_at::<T, O>(words, at - skip) << skip) >> 32
+}
+
+// Like `bits_at`, where fewer than 128 bits may be there.
 #[cold]
 #[inline(never)]
 fn last_bits<T: BitStore, O: BitOrder>(words: &[T], at: usize) -> u64
@@ -231,7 +249,7 @@ impl<'a, T: BitStore, O: BitOrder> BitReader<'a, T, O> {
         }
     }
 
-    // Passes bits as `read` does: the register stays filled.
+    // Passes bits as `read` does, and then fills the register, so that a look finds its bits there.
     #[inline(always)]
     fn skip_few(&mut self, n: u8) -> Option<()>
         requires { n ≤ 64 }
@@ -241,23 +259,114 @@ impl<'a, T: BitStore, O: BitOrder> BitReader<'a, T, O> {
     {
         match self.next(n) {
             None => None,
-            Some(_x) => Some(()),
+            Some(_x) => {
+                self.fill();
+                Some(())
+            }
         }
     }
 
-    // Passes bits by the index alone: the register is emptied.
+    // Where fewer than 32 bits are held, holds 32 more, but not at the view's end.
+    #[inline(always)]
+    fn fill(&mut self)
+        ensures { self.new ≡ self.old }
+    {
+        if self.have >= 32 || self.left < self.have + 64 {
+            return;
+        }
+        let at = self.end - self.left + self.have;
+        let skip = at % T::BITS as usize;
+        if skip > 32 {
+            return;
+        }
+        let half = half_at::<T, O>(self.words, at, skip);
+        self.window += half << (32 - self.have);
+        self.have += 32;
+    }
+
+    // Passes more bits than the register holds.
     fn skip_far(&mut self, n: usize) -> Option<()>
         ensures none { (result ≡ None) ↔ (length self.old.rest < n) }
         ensures passed { IfSome result (λ _. Passed n self.old self.new) }
         ensures kept { result ≡ None → self.new ≡ self.old }
     {
-        if n > self.left {
+        if self.remaining() < n {
             return None;
         }
+        self.pass(n);
+        Some(())
+    }
+
+    // Passes bits by the index: the register keeps what it holds past them. Requires that they are left.
+    #[inline(always)]
+    fn pass(&mut self, n: usize)
+        requires { n ≤ length self.old.rest }
+        ensures { Passed n self.old self.new }
+    {
         self.left -= n;
+        if n <= self.have {
+            self.window = self.window << n;
+            self.have -= n;
+            return;
+        }
         self.window = 0;
         self.have = 0;
-        Some(())
+    }
+
+    // The number that the next `n` bits stand for, the least significant digit first, out of the words. Requires that they
+    // are left.
+    #[inline(always)]
+    fn seen_le(&self, n: u8) -> u64
+        requires few { n ≤ 64 }
+        requires left { n ≤ length self.now.rest }
+        ensures digits { number_bits result n ≡ take n self.now.rest }
+        ensures below { result < 2 ^ n }
+    {
+        read_chunk::<T, O>(self.words, self.end - self.left, n)
+    }
+
+    // What `peek_le` returns: out of the register, or out of words in which no digit has to be turned round.
+    #[inline(always)]
+    pub(crate) fn look_le(&self, n: u8) -> Option<u64>
+        requires { n ≤ 64 }
+        ensures none { (result ≡ None) ↔ (length self.now.rest < n) }
+        ensures digits { IfSome result (λ x. number_bits x n ≡ take n self.now.rest) }
+        ensures below { IfSome result (λ x. x < 2 ^ n) }
+    {
+        if lowest_first::<O>() {
+            if self.remaining() < n as usize {
+                return None;
+            }
+            return Some(self.seen_le(n));
+        }
+        match self.peek(n) {
+            None => None,
+            Some(x) => Some(reversed(n, x)),
+        }
+    }
+
+    // What `read_le` returns, like `look_le`.
+    #[inline(always)]
+    pub(crate) fn next_le(&mut self, n: u8) -> Option<u64>
+        requires { n ≤ 64 }
+        ensures none { (result ≡ None) ↔ (length self.old.rest < n) }
+        ensures digits { IfSome result (λ x. self.old.rest ≡ number_bits x n ++ self.new.rest) }
+        ensures below { IfSome result (λ x. x < 2 ^ n) }
+        ensures passed { IfSome result (λ _. Passed n self.old self.new) }
+        ensures kept { result ≡ None → self.new ≡ self.old }
+    {
+        if lowest_first::<O>() {
+            if self.remaining() < n as usize {
+                return None;
+            }
+            let x = self.seen_le(n);
+            self.pass(n as usize);
+            return Some(x);
+        }
+        match self.read(n) {
+            None => None,
+            Some(x) => Some(reversed(n, x)),
+        }
     }
 
     // What `read` returns, with the clauses that the others follow from.
@@ -283,7 +392,11 @@ impl<'a, T: BitStore, O: BitOrder> BitReader<'a, T, O> {
             return Some(x);
         }
         let need = n - self.have;
-        let block = bits_at::<T, O>(self.words, self.end - self.left + self.have);
+        let block = bits_at::<T, O>(
+            self.words,
+            self.end - self.left + self.have,
+            self.left - self.have,
+        );
         let x = (self.window >> (64 - n)) + (block >> (64 - need));
         self.window = (block << (need - 1)) << 1;
         self.have = 64 - need;

@@ -164,17 +164,17 @@ impl<T: BitStore, O: BitOrder> BitWriter<T, O> {
         ensures refusal { Refuses result (length self.old.list + n) self.old self.new }
         ensures capacity { self.old.capacity ≤ self.new.capacity }
     {
-        let room = 64 - self.count;
-        if n < room {
+        let count = self.count + n;
+        if count < 64 {
             self.pending = joined(self.pending, self.count, n, x);
-            self.count += n;
+            self.count = count;
             return Ok(());
         }
         // Up to here no test is needed: a register that isn't full stays within MAX_BITS, since the words are whole blocks.
         if self.words.len() * T::BITS as usize > MAX_BITS - 64 {
             return Err(GrowError::TooLong);
         }
-        let rest = n - room;
+        let rest = count - 64;
         let block = filled(self.pending, self.count, x >> rest);
         match push_block::<T, O>(&mut self.words, block) {
             Ok(()) => {

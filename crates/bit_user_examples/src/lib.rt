@@ -1,4 +1,4 @@
-//! Examples of ranks, records and users of bits, and callers that are proved from the contracts alone. All of it is
+//! Examples of ranks, records, sets, matrices and maps of frames, and callers that are proved from the contracts alone. All of it is
 //! tests.
 #![tactic(auto)]
 
@@ -15,8 +15,6 @@ mod ranks;
 mod records;
 #[cfg(test)]
 mod sets;
-#[cfg(test)]
-mod users;
 
 // That this holds. A test calls it in place of `assert!`, which costs the prover more: a failed
 // test is told by its name.

@@ -167,3 +167,34 @@ fn reserved(rt: HostRuntime) {
     ok(&rt, records.reserve(2));
     check(&rt, records.is_empty());
 }
+
+#[test]
+fn from_an_iterator(rt: HostRuntime) {
+    let mut records = Records::<u8, Lsb0>::new(rt.alloc(), 5).unwrap();
+    assert!(rt; records.width() == 5);
+    ok(&rt, records.extend([1, 31, 0]));
+    let before = records.len();
+    ok(&rt, records.extend(None::<u64>));
+    check(&rt, records.len() == before);
+    check(&rt, records.get(1) == Some(31));
+    let mut others = Records::<u8, Lsb0>::new(rt.alloc(), 5).unwrap();
+    ok(&rt, others.extend_from_slice(&[1, 31, 0]));
+    check(&rt, records == others);
+}
+
+// A refusal after some numbers leaves those from before the call.
+#[test]
+fn refused_after_some(rt: HostRuntime) {
+    let mut records = Records::<u8, Msb0>::new(rt.alloc(), 64).unwrap();
+    assert!(rt; records.width() == 64);
+    ok(&rt, records.push(7));
+    let before = records.len();
+    match records.extend([1, 2, 3, 4]) {
+        Ok(()) => check(&rt, records.get(4) == Some(4)),
+        Err(why) => {
+            check(&rt, why == GrowError::OutOfMemory);
+            check(&rt, records.len() == before);
+        }
+    }
+    check(&rt, records.get(0) == Some(7));
+}

@@ -1,5 +1,5 @@
 //! The header of an IPv4 packet that has no options, by fields.
-ghost use Rattle.std.specs.Prelude.{◌≡◌, ◌≢◌, ◌^◌, ◌<◌, ◌≤◌, ◌++◌, ◌↔◌, Bool, List, Err, IfOk, IfSome, None, OnErr, Ok, Some};
+ghost use Rattle.std.specs.Prelude.{◌≡◌, ◌≢◌, ◌^◌, ◌<◌, ◌≤◌, ◌++◌, ◌↔◌, Bool, List, Err, IfOk, IfSome, None, OnErr, Ok, Some, length};
 ghost use Rattle.bit_streams.specs.Header.{HasFields, IsPlain, header_bits, header_from, header_parts};
 ghost use Rattle.bit_streams.specs.declared.formats.header.Header.{Header as HeaderRecord};
 ghost use Rattle.bit_streams.specs.declared.formats.header.HeaderFault.TheVariants as faults;
@@ -145,8 +145,10 @@ fn header_of(parts: Parts) -> Header
 // What a header has that no packet without options has.
 fn fault_of(h: &Header) -> Option<HeaderFault>
     ensures version { (result ≡ Some faults.Version) ↔ (h.now.version ≢ 4) }
-    ensures options { result ≡ Some faults.Options → h.now.header_words ≢ 5 }
-    ensures reserved { result ≡ Some faults.ReservedFlag → 4 ≤ h.now.flags }
+    ensures options { result ≡ Some faults.Options → (h.now.version ≡ 4) × (h.now.header_words ≢ 5) }
+    ensures reserved { result ≡ Some faults.ReservedFlag
+        → (h.now.version ≡ 4) × ((h.now.header_words ≡ 5) × (4 ≤ h.now.flags)) }
+    ensures other { result ≢ Some faults.Ended }
     ensures none { result ≡ None → (h.now.version ≡ 4) × ((h.now.header_words ≡ 5) × (h.now.flags < 4)) }
     ensures plain { h.now.version ≡ 4 → h.now.header_words ≡ 5 → h.now.flags < 4 → result ≡ None }
 {
@@ -164,6 +166,7 @@ fn fault_of(h: &Header) -> Option<HeaderFault>
 
 // Reads the fields of a header, whatever they are.
 fn read_fields<T: BitStore, O: BitOrder>(reader: &mut BitReader<'_, T, O>) -> Option<Header>
+    ensures none { (result ≡ None) ↔ (length reader.old.rest < 160) }
     ensures found { IfSome result (λ h. reader.old.rest ≡ header_bits h ++ reader.new.rest) }
     ensures fitting { IfSome result HasFields }
     ensures kept { result ≡ None → reader.new ≡ reader.old }
@@ -192,12 +195,14 @@ impl Header {
         ensures kept { OnErr result (reader.new ≡ reader.old) }
         ensures back { (h : HeaderRecord) → (more : List Bool) → IsPlain h → reader.old.rest ≡ header_bits h ++ more
             → (result ≡ Ok h) × (reader.new.rest ≡ more) }
+        ensures ended { (result ≡ Err faults.Ended) ↔ (length reader.old.rest < 160) }
         ensures version { result ≡ Err faults.Version → (h : HeaderRecord) × (more : List Bool)
-            × (reader.old.rest ≡ header_bits h ++ more) × (h.version ≢ 4) }
+            × (reader.old.rest ≡ header_bits h ++ more) × HasFields h × (h.version ≢ 4) }
         ensures options { result ≡ Err faults.Options → (h : HeaderRecord) × (more : List Bool)
-            × (reader.old.rest ≡ header_bits h ++ more) × (h.header_words ≢ 5) }
+            × (reader.old.rest ≡ header_bits h ++ more) × HasFields h × (h.version ≡ 4) × (h.header_words ≢ 5) }
         ensures reserved { result ≡ Err faults.ReservedFlag → (h : HeaderRecord) × (more : List Bool)
-            × (reader.old.rest ≡ header_bits h ++ more) × (4 ≤ h.flags) }
+            × (reader.old.rest ≡ header_bits h ++ more) × HasFields h × (h.version ≡ 4) × (h.header_words ≡ 5)
+            × (4 ≤ h.flags) }
     {
         let before = reader.copied();
         match read_fields(reader) {

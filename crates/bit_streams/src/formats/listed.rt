@@ -1,5 +1,5 @@
 //! Lists of bits with their length.
-ghost use Rattle.std.specs.Prelude.{◌≡◌, ℕ, ◌-◌, ◌≤◌, ◌%◌, ◌++◌, Bool, List, Err, IfOk, IsOk, OnErr, OnOk, length};
+ghost use Rattle.std.specs.Prelude.{◌≡◌, ℕ, ◌-◌, ◌≤◌, ◌%◌, ◌++◌, [], Bool, List, Err, IfOk, IsOk, OnErr, OnOk, length};
 ghost use Rattle.bit_addressing.specs.declared.length.TheConstants.{MAX_BITS};
 ghost use Rattle.bit_slice.specs.BitSlice.{list_of};
 ghost use Rattle.bit_streams.specs.Formats.{listed_bits};
@@ -58,6 +58,8 @@ impl<'a, T: BitStore, O: BitOrder> BitReader<'a, T, O> {
         ensures kept { OnErr result (self.new ≡ self.old) }
         ensures back { (bits more : List Bool) → length bits ≤ MAX_BITS → self.old.rest ≡ listed_bits bits ++ more
             → IsOk result × IfOk result (λ read. list_of read ≡ bits) × (self.new.rest ≡ more) }
+        ensures whole { (bits : List Bool) → length bits ≤ MAX_BITS → self.old.rest ≡ listed_bits bits
+            → IsOk result × IfOk result (λ read. list_of read ≡ bits) × (self.new.rest ≡ []) }
     {
         let before = self.copied();
         match self.list_parts() {

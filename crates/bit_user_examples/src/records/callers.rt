@@ -1,5 +1,5 @@
 //! Callers of records: what each proves stands in its clauses, and only the loop has a file, its invariant.
-ghost use Rattle.std.specs.Prelude.{◌≡◌, ℕ, ◌+◌, ◌-◌, ◌^◌, ◌<◌, ◌++◌, [], ◌∷◌, IfOk, IsTrue, OnOk, Some, length, slice_get, slice_index_or, take};
+ghost use Rattle.std.specs.Prelude.{◌≡◌, ℕ, ◌+◌, ◌-◌, ◌^◌, ◌<◌, ◌++◌, [], ◌∷◌, IfOk, IfSome, IsTrue, OnErr, OnOk, Some, length, slice_get, slice_index_or, take};
 
 use bit_containers::{BitOrder, BitStore, GrowError};
 use bit_records::Records;
@@ -77,4 +77,15 @@ pub fn ends<T: BitStore, O: BitOrder>(records: &Records<T, O>) -> (Option<u64>, 
     let mut numbers = records.iter();
     let first = numbers.next();
     (first, numbers.next_back())
+}
+
+pub fn one_if_any<T: BitStore, O: BitOrder>(
+    records: &mut Records<T, O>,
+    number: Option<u64>,
+) -> Result<(), GrowError>
+    requires { IfSome number (λ x. x < 2 ^ records.old.width) }
+    ensures some { OnOk result (IfSome number (λ x. records.new.list ≡ records.old.list ++ x ∷ [])) }
+    ensures none { OnErr result (records.new.list ≡ records.old.list) }
+{
+    records.extend(number)
 }

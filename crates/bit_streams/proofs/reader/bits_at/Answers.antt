@@ -8,18 +8,12 @@ pub returns-then-skip-eq0 : goal.returns-then-skip-eq0
 returns-then-skip-eq0 g c =
     let rows = row g.T.BitStore g.O.BitOrder c.args.words.now in
     let long : length rows ≡ g.T.BitStore.BITS * length c.args.words.now = length_row g.T.BitStore.value g.O.BitOrder.place g.T.BitStore.BITS c.args.words.now in
-    let size : length c.args.words.now * c.BITS.result ≡ g.T.BitStore.BITS * length c.args.words.now = grind arith in
+    let known = c.requires.known in
     c.block_at.ensures ∙ sym (padded_part rows c.args.at (c.args.at + 64) (omega arith))
 
 pub returns : goal.returns
 returns g c =
     let rows = row g.T.BitStore g.O.BitOrder c.args.words.now in
     let long : length rows ≡ g.T.BitStore.BITS * length c.args.words.now = length_row g.T.BitStore.value g.O.BitOrder.place g.T.BitStore.BITS c.args.words.now in
-    let size : length c.args.words.now * c.BITS.result ≡ g.T.BitStore.BITS * length c.args.words.now = grind arith in
+    let known = c.requires.known in
     c.joined_blocks.ensures ∙ sym (padded_part rows c.args.at (c.args.at + 64) (omega arith))
-
-pub overflow_mul-room : goal.overflow_mul-room
-overflow_mul-room g c =
-    let size : length c.args.words.now * c.BITS.result ≡ g.T.BitStore.BITS * length c.args.words.now = grind arith in
-    let fits = c.requires.fits in
-    omega (arith, size, fits)

@@ -1,4 +1,4 @@
-use Rattle.std.proofs.Common.{◌++◌, [], append-nil, Some, refl, sym, ◌∙◌, ap, arith}
+use Rattle.std.proofs.Common.{[], append-nil, Some, refl, sym, ◌∙◌, ap, arith}
 use Rattle.bit_addressing.specs.Row.{number_bits}
 use Rattle.bit_streams.proofs.Turned.{bits_unique, has_bits}
 use Rattle.bit_streams.proofs.reader.BitReader.read_le.Goals as goal
@@ -10,8 +10,7 @@ returns-in-None-clause-back g c x more e below =
 
 pub returns-in-Some-clause-back : goal.returns-in-Some-clause-back
 returns-in-Some-clause-back g c x more e below =
-    let is = ap (λ l. l ++ c.read.new.self.rest) c.reversed.ensures.read ∙ sym c.in-Some.ensures.digits ∙ e in
-    let same = bits_unique c.args.n c.reversed.result x c.read.new.self.rest more c.requires c.reversed.ensures.below below is in
+    let same = bits_unique c.args.n c.in-Some.x x c.next_le.new.self.rest more c.requires c.in-Some.ensures.below below (sym c.in-Some.ensures.digits ∙ e) in
     (ap Some same.0, same.1)
 
 pub returns-in-None-clause-whole : goal.returns-in-None-clause-whole

@@ -1,2 +1,0 @@
-pub mod Sequence
-pub mod Wire

@@ -1,6 +1,6 @@
 -- Texts of digits, read digit by digit.
-use Rattle.std.proofs.Common.{◌≡◌, ◌⊎◌, ℕ, zero, suc, ◌+◌, ◌-◌, ◌*◌, ◌/◌, ◌%◌, ◌^◌, ◌<◌, ◌≤◌, ◌≢◌, ◌&&◌, Bool, true, false, if◌then◌else◌, min, List, [], ◌∷◌, ◌++◌, length, take, drop, get_or, slice_range, refl, sym, ◌∙◌, ap, inl, inr, arith, append_assoc, append-nil, length-append}
-use Rattle.std.specs.Prelude.{Option, Some, None, Result, Ok, Err, nat_lt, eqb, slice_index}
+use Rattle.std.proofs.Common.{◌≡◌, ℕ, zero, suc, ◌+◌, ◌-◌, ◌*◌, ◌/◌, ◌%◌, ◌^◌, ◌<◌, ◌≤◌, ◌≢◌, ◌&&◌, Bool, true, false, if◌then◌else◌, min, List, [], ◌∷◌, ◌++◌, length, take, drop, get_or, slice_range, refl, sym, ◌∙◌, ap, inl, inr, arith, append_assoc, append-nil, length-append}
+use Rattle.std.specs.Prelude.{Some, None, Result, Ok, Err, nat_lt, eqb, slice_index}
 use Rattle.std.specs.Fmt.{digit_glyph}
 use Rattle.std.proofs.Math.Dec.{eqb-suc-zero}
 use Rattle.std.proofs.Math.Nat.{mul-suc, pow-suc}
@@ -15,8 +15,8 @@ use Rattle.bit_addressing.specs.Binary.{value, value_after}
 use Rattle.bit_addressing.specs.Row.{binary, words_for}
 use Rattle.bit_addressing.proofs.lists.Sized.{room}
 use Rattle.bit_rows.proofs.Binary.{binary_parted, length-binary}
-use Rattle.bit_slice.specs.Texts.{digits_from, digits_text}
-use Rattle.bit_containers.specs.DigitTexts.{IsDigitsOf, bits_of_value, digits_of_text, digits_said, first_digit, is_bracketed, said_before, value_of_digit}
+use Rattle.bit_slice.specs.Texts.{digits_from}
+use Rattle.bit_containers.specs.DigitTexts.{IsDigitsOf, bits_of_value, digits_of_text, digits_said, is_bracketed, said_before, value_of_digit}
 
 -- ---- what one digit says
 

@@ -1,9 +1,8 @@
-use Rattle.std.proofs.Common.{◌≡◌, ℕ, ◌+◌, ◌-◌, ◌<◌, ◌≤◌, min, Bool, List, [], ◌++◌, length, drop, get_or, slice_range, rules, refl, sym, subst, ◌∙◌, ap, arith}
-use Rattle.std.specs.Prelude.{IfNone, None, Some, Err, Ok}
+use Rattle.std.proofs.Common.{◌≡◌, ℕ, ◌+◌, ◌-◌, min, Bool, List, [], ◌++◌, length, drop, get_or, rules, sym, subst, ◌∙◌, ap, arith}
+use Rattle.std.specs.Prelude.{IfNone, None, Some, Err}
 use Rattle.bit_addressing.specs.Row.{binary}
 use Rattle.bit_containers.specs.DigitTexts.{bits_of_value, digits_of_text, digits_said, first_digit, value_of_digit}
 use Rattle.bit_containers.proofs.DigitTexts.{all_said, char_at, digit_past, digits_missing, length-digits, nothing_read, read_back, read_on, said_more, said_once, wrong_digit}
-use Rattle.bit_containers.proofs.vec.BitVec.from_digits.Given as given
 use Rattle.bit_containers.proofs.vec.BitVec.from_digits.Goals as goal
 
 pub loop-at-init : goal.loop-at-init

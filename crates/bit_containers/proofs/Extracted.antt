@@ -2,7 +2,7 @@
 use Rattle.std.proofs.Common.{◌≡◌, ℕ, zero, suc, ◌+◌, ◌-◌, ◌*◌, ◌/◌, ◌%◌, ◌<◌, ◌≤◌, Bool, true, false, cond, List, [], ◌∷◌, ◌++◌, length, take, drop, get_or, min, replicate, slice_range, refl, sym, ◌∙◌, ap, arith, append_assoc, append-nil, length-append}
 use Rattle.std.specs.Prelude.{count_by}
 use Rattle.std.specs.List.{flat_map, items_where_true}
-use Rattle.std.proofs.Math.Seq.{take-add, take-append_seam}
+use Rattle.std.proofs.Math.Seq.{take-add}
 use Rattle.std.proofs.lemmas.List.{length-drop, length-replicate, take_more, length-take-le, places, same_lists, take-append-drop}
 use Rattle.std.proofs.lemmas.Grind.{flat_map-append}
 use Rattle.std.proofs.lemmas.List.Concat.{flat_map-cons}
@@ -64,17 +64,6 @@ module _ (mask number i gathered got : ℕ) where
   bit_not_taken none before =
       before
       ∙ sym (next ∙ ap (λ b. items_where_true (number_bits mask i) (number_bits number i) ++ cond b (has_bit number i ∷ []) []) none ∙ append-nil (items_where_true (number_bits mask i) (number_bits number i)))
-
-  -- the bit is written in any case, and the places before it stay
-  pub bit_passed : (later : ℕ) → has_bit mask i ≡ false → number_bits gathered got ≡ items_where_true (number_bits mask i) (number_bits number i) → number_bits later (got + 1) ≡ number_bits gathered got ++ has_bit number i ∷ [] → number_bits later got ≡ items_where_true (number_bits mask (i + 1)) (number_bits number (i + 1))
-  bit_passed later none before wrote =
-      sym (first got (number_bits later got) (has_bit later got) (length-number_bits later got))
-      ∙ ap (take got) (sym (number_bits_more later got) ∙ wrote)
-      ∙ first got (number_bits gathered got) (has_bit number i) (length-number_bits gathered got)
-      ∙ bit_not_taken none before
-    where
-      first : (n : ℕ) (xs : List Bool) (b : Bool) → length xs ≡ n → take n (xs ++ b ∷ []) ≡ xs
-      first n xs b size = ap (λ k. take k (xs ++ b ∷ [])) (sym size) ∙ take-append_seam xs (b ∷ [])
 
 -- where the mask or the list ends
 extracted_none : (ms xs : List Bool) → min (length ms) (length xs) ≡ 0 → items_where_true ms xs ≡ []

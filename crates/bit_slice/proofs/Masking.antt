@@ -3,8 +3,6 @@ use Rattle.std.proofs.Common.{◌≡◌, ℕ, zero, suc, ◌+◌, ◌-◌, ◌/�
 use Rattle.std.specs.Prelude.{count_ones, if◌then◌else◌}
 use Rattle.std.specs.Prelude.{slice_get, Some, ◌≢◌}
 use Rattle.std.specs.List.{items_where_true}
-use mir.Val.{bool_byte}
-use Rattle.std.proofs.Math.Nat.{div-one}
 use Rattle.std.proofs.Math.Seq.{take-add}
 use Rattle.std.proofs.lemmas.Bool.{cases_lt}
 use Rattle.std.proofs.lemmas.List.{get_or-drop, get_or_past, length-drop, length-take-le, map-id, take-append-drop}
@@ -292,10 +290,6 @@ module _ (old mask source number left i : ℕ) (below : i < 64)
       let sum : ones (number_bits mask (i + 1)) ≡ ones (number_bits mask i) + 0 = ones_one mask i ∙ ap (λ b. ones (number_bits mask i) + ones (b ∷ [])) none in
       let there : ones (number_bits mask i) + k ≡ ones (number_bits mask (i + 1)) + k = omega arith in
       left_is k ∙ ap (has_bit source) there
-
-  pub left_after : (taken : Bool) → has_bit mask i ≡ taken → (k : ℕ) → has_bit (left / 2 ^ bool_byte taken) k ≡ has_bit source (ones (number_bits mask (i + 1)) + k)
-  left_after true one k = left_after_one one k
-  left_after false none k = ap (λ x. has_bit x k) (div-one left) ∙ left_after_zero none k
 
 -- ---- three combinations
 

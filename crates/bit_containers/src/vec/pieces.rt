@@ -24,9 +24,8 @@ fn gather_bits(number: u64, mask: u64, n: u8) -> (u64, u8)
     let mut gathered = 0;
     let mut got = 0;
     for i in 0..n {
-        // The bit is written in any case, and counts where the mask has a one: no branch depends on the mask.
-        gathered = with_next(gathered, got, number.bit(i));
         if mask.bit(i) {
+            gathered = with_next(gathered, got, number.bit(i));
             got += 1;
         }
     }

@@ -42,11 +42,12 @@ fn deposit_number(old: u64, mask: u64, source: u64, n: u8) -> u64
     let mut number = 0;
     let mut left = source;
     for i in 0..n {
-        // Two choices between values, so that no branch depends on the mask.
-        let taken = mask.bit(i);
-        let bit = if taken { left.bit(0) } else { old.bit(i) };
-        number = with_next(number, i, bit);
-        left >>= taken as u8;
+        if mask.bit(i) {
+            number = with_next(number, i, left.bit(0));
+            left >>= 1;
+        } else {
+            number = with_next(number, i, old.bit(i));
+        }
     }
     number
 }

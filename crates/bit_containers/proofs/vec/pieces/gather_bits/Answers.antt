@@ -3,7 +3,7 @@ use Rattle.std.specs.List.{items_where_true}
 use Rattle.bit_addressing.specs.Bits.{has_bit}
 use Rattle.bit_addressing.specs.Row.{number_bits}
 use Rattle.bit_rows.proofs.Binary.{number_bits_none}
-use Rattle.bit_containers.proofs.Extracted.{bit_passed, bit_taken}
+use Rattle.bit_containers.proofs.Extracted.{bit_not_taken, bit_taken}
 use Rattle.bit_containers.proofs.vec.pieces.gather_bits.Goals.{then-bit, else-bit}
 use Rattle.bit_containers.proofs.vec.pieces.gather_bits.Goals as goal
 
@@ -24,19 +24,18 @@ loop-i-preserved c =
     let mask = c.args.mask in
     let number = c.args.number in
     let at = c.loop-i in
-    let later = c.with_next-gathered.result in
-    let wrote = c.with_next-gathered.ensures ∙ ap (λ b. number_bits at.gathered at.got ++ b ∷ []) c.bit.ensures in
     elim c.if-bit.branch [
       | then-bit w ↦
-          let one : has_bit mask at.i ≡ true = sym c.bit-in-loop-i.ensures ∙ w.if-bit.true in
+          let one : has_bit mask at.i ≡ true = sym c.bit.ensures ∙ w.if-bit.true in
+          let wrote = w.with_next-gathered.ensures ∙ ap (λ b. number_bits at.gathered at.got ++ b ∷ []) w.bit-then-bit.ensures in
           record {
-            done = ap (number_bits later) w.got-is ∙ bit_taken mask number at.i at.gathered at.got later one at.invariant.done wrote;
+            done = rw (w.gathered-is, w.got-is) (bit_taken mask number at.i at.gathered at.got w.with_next-gathered.result one at.invariant.done wrote);
             few = omega (arith, w.got-is, at.invariant.few);
           }
       | else-bit w ↦
-          let none : has_bit mask at.i ≡ false = sym c.bit-in-loop-i.ensures ∙ w.if-bit.false in
+          let none : has_bit mask at.i ≡ false = sym c.bit.ensures ∙ w.if-bit.false in
           record {
-            done = ap (number_bits later) w.got-is ∙ bit_passed mask number at.i at.gathered at.got later none at.invariant.done wrote;
+            done = rw (w.gathered-is, w.got-is) (bit_not_taken mask number at.i at.gathered at.got none at.invariant.done);
             few = omega (arith, w.got-is, at.invariant.few);
           }
     ]

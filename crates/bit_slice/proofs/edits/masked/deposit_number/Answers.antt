@@ -1,11 +1,11 @@
-use Rattle.std.proofs.Common.{◌≡◌, ◌+◌, ◌<◌, ◌++◌, [], ◌∷◌, sym, ◌∙◌, ap, subst, arith}
+use Rattle.std.proofs.Common.{◌≡◌, ◌+◌, ◌<◌, ◌++◌, [], ◌∷◌, true, false, sym, ◌∙◌, ap, subst, arith}
 use Rattle.std.specs.Prelude.{if◌then◌else◌}
 use Rattle.bit_addressing.specs.Bits.{has_bit}
 use Rattle.bit_addressing.specs.Row.{number_bits}
 use Rattle.bit_rows.proofs.Binary.{number_bits_none}
 use Rattle.bit_slice.specs.Masked.{deposited}
-use Rattle.bit_slice.proofs.Masking.{ones, bit_deposited, left_after}
-use Rattle.bit_slice.proofs.edits.masked.deposit_number.Goals.{then-taken, else-taken}
+use Rattle.bit_slice.proofs.Masking.{ones, bit_deposited, left_after_one, left_after_zero}
+use Rattle.bit_slice.proofs.edits.masked.deposit_number.Goals.{then-bit, else-bit}
 use Rattle.bit_slice.proofs.edits.masked.deposit_number.Goals as goal
 
 pub loop-i-init : goal.loop-i-init
@@ -26,16 +26,22 @@ loop-i-preserved c =
     let i = at.i in
     let left = at.invariant.left in
     let below : i < 64 = omega (arith, c.loop-i-test.true, c.requires) in
-    let is : c.bit-taken.result ≡ has_bit mask i = c.bit-taken.ensures in
-    let bit : c.if-taken.bit ≡ (if has_bit mask i then has_bit at.left 0 else has_bit old i) =
-    elim c.if-taken.branch [
-      | then-taken w ↦ w.bit-is ∙ w.bit-bit.ensures ∙ sym (ap (λ m. if m then has_bit at.left 0 else has_bit old i) (sym is ∙ w.if-taken.true))
-      | else-taken w ↦ w.bit-is ∙ w.bit-bit-else-taken.ensures ∙ sym (ap (λ m. if m then has_bit at.left 0 else has_bit old i) (sym is ∙ w.if-taken.false))
-    ] in
-    record {
-      done = bit_deposited old mask source at.number at.left i below left c.with_next-number.result at.invariant.done (c.with_next-number.ensures ∙ ap (λ b. number_bits at.number i ++ b ∷ []) bit);
-      left = left_after old mask source at.number at.left i below left c.bit-taken.result (sym is);
-    }
+    elim c.if-bit.branch [
+      | then-bit w ↦
+          let one : has_bit mask i ≡ true = sym c.bit.ensures ∙ w.if-bit.true in
+          let wrote = w.with_next-number.ensures ∙ ap (λ b. number_bits at.number i ++ b ∷ []) (w.bit-then-bit.ensures ∙ sym (ap (λ m. if m then has_bit at.left 0 else has_bit old i) one)) in
+          record {
+            done = ap (λ x. number_bits x (i + 1)) w.number-is ∙ bit_deposited old mask source at.number at.left i below left w.with_next-number.result at.invariant.done wrote;
+            left = λ k. ap (λ x. has_bit x k) w.left-is ∙ left_after_one old mask source at.number at.left i below left one k;
+          }
+      | else-bit w ↦
+          let none : has_bit mask i ≡ false = sym c.bit.ensures ∙ w.if-bit.false in
+          let wrote = w.with_next-number-else-bit.ensures ∙ ap (λ b. number_bits at.number i ++ b ∷ []) (w.bit-else-bit.ensures ∙ sym (ap (λ m. if m then has_bit at.left 0 else has_bit old i) none)) in
+          record {
+            done = ap (λ x. number_bits x (i + 1)) w.number-is ∙ bit_deposited old mask source at.number at.left i below left w.with_next-number-else-bit.result at.invariant.done wrote;
+            left = λ k. ap (λ x. has_bit x k) w.left-is ∙ left_after_zero old mask source at.number at.left i below left none k;
+          }
+    ]
 
 pub returns : goal.returns
 returns c =

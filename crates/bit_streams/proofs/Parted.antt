@@ -1,5 +1,5 @@
 -- Formats of several parts: what is read is one of them, and what is written is read.
-use Rattle.std.proofs.Common.{◌≡◌, ℕ, ◌+◌, ◌-◌, ◌*◌, ◌/◌, ◌%◌, ◌^◌, ◌≤◌, ◌↔◌, Bool, false, List, [], ◌++◌, append-nil, append_assoc, length, take, drop, replicate, refl, sym, ◌∙◌, ap, arith}
+use Rattle.std.proofs.Common.{◌≡◌, ◌≢◌, ℕ, ◌+◌, ◌-◌, ◌*◌, ◌/◌, ◌%◌, ◌^◌, ◌<◌, ◌≤◌, ◌↔◌, inr, Bool, false, List, [], ◌++◌, append-nil, append_assoc, length, take, drop, replicate, refl, sym, ◌∙◌, ap, arith}
 use Rattle.std.proofs.lemmas.List.{drop_at, length-append, length-replicate, length-take-le}
 use Rattle.std.proofs.lemmas.Nat.{mod_below}
 use Rattle.std.proofs.Math.Pow.{pow_pos}
@@ -7,6 +7,7 @@ use Rattle.bit_addressing.specs.Binary.{value}
 use Rattle.bit_addressing.specs.Row.{binary}
 use Rattle.bit_rows.proofs.Binary.{binary_low, length-binary, value_of_binary}
 use Rattle.bit_streams.specs.Formats.{listed_bits, tagged_bits}
+use Rattle.bit_streams.specs.Refusals.{ListEnds, ListFilled}
 use Rattle.bit_streams.proofs.Lists.{take_front}
 use Rattle.bit_streams.proofs.Zeros.{zeros_of}
 
@@ -86,3 +87,23 @@ listed_once a b = (
 
     size : (bits : List Bool) → length (listed_bits bits) ≡ 64 + length bits + (8 - length bits % 8) % 8
     size bits = simp (length-append, length-binary, length-replicate) refl
+
+-- a list of which bits are missing
+pub list_cut : (old first second part : List Bool) (len : ℕ) → old ≡ binary 64 len ++ first → first ≡ part ++ second → length part ≡ len → length second < (8 - len % 8) % 8 → ListEnds old
+list_cut old first second part len a b size short =
+    let sum = ap length b ∙ length-append part second in
+    inr (len, first, a, omega arith)
+
+-- a list whose last byte is not filled up with zeros
+pub list_filled : (old first second new bits : List Bool) (len ones : ℕ) → old ≡ binary 64 len ++ first → first ≡ bits ++ second → second ≡ binary ((8 - len % 8) % 8) ones ++ new → length bits ≡ len → ones < 2 ^ ((8 - len % 8) % 8) → ones ≢ 0 → ListFilled old
+list_filled old first second new bits len ones a b c size below some =
+    let pad = (8 - len % 8) % 8 in
+    let few : pad ≤ 64 = omega arith in
+    let wide = length-binary pad ones in (
+      bits,
+      binary pad ones,
+      new,
+      a ∙ ap (λ l. binary 64 len ++ l) (b ∙ ap (λ l. bits ++ l) c) ∙ sym (append_assoc (binary 64 len) bits (binary pad ones ++ new)) ∙ ap (λ k. (binary 64 k ++ bits) ++ (binary pad ones ++ new)) (sym size),
+      wide ∙ ap (λ k. (8 - k % 8) % 8) (sym size),
+      λ e. some (sym (value_of_binary pad ones below) ∙ ap value (e ∙ ap (λ k. replicate k false) wide ∙ sym (zeros_of pad few)) ∙ value_of_binary pad 0 (pow_pos pad)),
+    )

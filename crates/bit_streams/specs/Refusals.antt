@@ -1,5 +1,5 @@
 -- Bits that no code of a number begins, and why: the bits end inside one, or its number is too long.
-use Rattle.std.specs.Prelude.{◌≡◌, ◌≢◌, ℕ, ◌+◌, ◌*◌, ◌^◌, ◌<◌, ◌≤◌, ◌++◌, ◌⊎◌, All, Bool, List, false, length, replicate}
+use Rattle.std.specs.Prelude.{◌≡◌, ◌≢◌, ℕ, ◌+◌, ◌-◌, ◌*◌, ◌%◌, ◌^◌, ◌<◌, ◌≤◌, ◌++◌, ◌⊎◌, All, Bool, List, false, length, replicate}
 use Rattle.bit_addressing.specs.Row.{binary}
 use Rattle.bit_streams.specs.Codes.{gamma, golomb, leb_bytes, rest_code, unary}
 use Rattle.bit_streams.specs.Fields.{items_bits}
@@ -50,3 +50,16 @@ LebPadded n xs = (front : List ℕ) × (more : List Bool) × (xs ≡ items_bits 
 -- the bytes are those of a number past 64 digits
 abbrev pub LebPasses : ℕ → List Bool → Type 0
 LebPasses n xs = (x : ℕ) × (2 ^ 64 ≤ x) × (more : List Bool) × (xs ≡ leb_bytes n x ++ more)
+
+-- fewer than the 64 digits of a list's length are left, or fewer bits after them than the list takes in whole bytes
+abbrev pub ListEnds : List Bool → Type 0
+ListEnds xs = (length xs < 64) ⊎ ((len : ℕ) × (more : List Bool) × (xs ≡ binary 64 len ++ more) × (length more < len + (8 - len % 8) % 8))
+
+-- the bits that fill up the last byte of a list are not all zeros
+abbrev pub ListFilled : List Bool → Type 0
+ListFilled xs = (bits : List Bool) × (fill : List Bool) × (more : List Bool) × (xs ≡ (binary 64 (length bits) ++ bits) ++ (fill ++ more))
+    × (length fill ≡ (8 - length bits % 8) % 8) × (fill ≢ replicate (length fill) false)
+
+-- fewer than the 24 digits of a tag and of how many bytes there are, or fewer bits after them than these bytes have
+abbrev pub TagEnds : List Bool → Type 0
+TagEnds xs = (length xs < 24) ⊎ ((tag : ℕ) × (bytes : ℕ) × (more : List Bool) × (xs ≡ (binary 8 tag ++ binary 16 bytes) ++ more) × (length more < 8 * bytes))

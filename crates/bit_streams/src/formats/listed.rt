@@ -3,6 +3,8 @@ ghost use Rattle.std.specs.Prelude.{◌≡◌, ℕ, ◌-◌, ◌≤◌, ◌%◌,
 ghost use Rattle.bit_addressing.specs.declared.length.TheConstants.{MAX_BITS};
 ghost use Rattle.bit_slice.specs.BitSlice.{list_of};
 ghost use Rattle.bit_streams.specs.Formats.{listed_bits};
+ghost use Rattle.bit_streams.specs.Refusals.{ListEnds, ListFilled};
+ghost use Rattle.bit_streams.specs.declared.formats.listed.ListFault.TheVariants as faults;
 
 use crate::reader::BitReader;
 use crate::writer::BitWriter;
@@ -55,6 +57,8 @@ impl<'a, T: BitStore, O: BitOrder> BitReader<'a, T, O> {
     /// Reads a list with its length, without a copy of it: a wrong length asks for no memory.
     pub fn read_list(&mut self) -> Result<BitSlice<'a, T, O>, ListFault>
         ensures found { IfOk result (λ bits. self.old.rest ≡ listed_bits (list_of bits) ++ self.new.rest) }
+        ensures ended { result ≡ Err faults.Ended → ListEnds self.old.rest }
+        ensures filled { result ≡ Err faults.FilledWithOnes → ListFilled self.old.rest }
         ensures kept { OnErr result (self.new ≡ self.old) }
         ensures back { (bits more : List Bool) → length bits ≤ MAX_BITS → self.old.rest ≡ listed_bits bits ++ more
             → IsOk result × IfOk result (λ read. list_of read ≡ bits) × (self.new.rest ≡ more) }
@@ -74,6 +78,8 @@ impl<'a, T: BitStore, O: BitOrder> BitReader<'a, T, O> {
     // What `read_list` returns; after an error the reader may be anywhere.
     fn list_parts(&mut self) -> Result<BitSlice<'a, T, O>, ListFault>
         ensures found { IfOk result (λ bits. self.old.rest ≡ listed_bits (list_of bits) ++ self.new.rest) }
+        ensures ended { result ≡ Err faults.Ended → ListEnds self.old.rest }
+        ensures filled { result ≡ Err faults.FilledWithOnes → ListFilled self.old.rest }
         ensures back { (bits more : List Bool) → length bits ≤ MAX_BITS → self.old.rest ≡ listed_bits bits ++ more
             → IsOk result × IfOk result (λ read. list_of read ≡ bits) × (self.new.rest ≡ more) }
     {

@@ -3,6 +3,7 @@ ghost use Rattle.std.specs.Prelude.{◌≡◌, ℕ, ◌+◌, ◌*◌, ◌%◌, �
 ghost use Rattle.bit_addressing.specs.Row.{binary};
 ghost use Rattle.bit_slice.specs.BitSlice.{len_of, list_of};
 ghost use Rattle.bit_streams.specs.Formats.{tagged_bits};
+ghost use Rattle.bit_streams.specs.Refusals.{TagEnds};
 ghost use Rattle.bit_streams.specs.declared.formats.tagged.TaggedFault.TheVariants as faults;
 
 use crate::reader::BitReader;
@@ -76,6 +77,7 @@ impl<'a, T: BitStore, O: BitOrder> BitReader<'a, T, O> {
         ensures found { IfOk result (λ it. self.old.rest ≡ tagged_bits it.tag (list_of it.value) ++ self.new.rest) }
         ensures tag { IfOk result (λ it. 0 < it.tag) }
         ensures reserved { result ≡ Err faults.ReservedTag → (more : List Bool) × (self.old.rest ≡ binary 8 0 ++ more) }
+        ensures ended { result ≡ Err faults.Ended → TagEnds self.old.rest }
         ensures kept { OnErr result (self.new ≡ self.old) }
         ensures back { (tag : ℕ) → (value more : List Bool) → 0 < tag → tag < 2 ^ 8 → length value % 8 ≡ 0
             → length value < 8 * 2 ^ 16 → self.old.rest ≡ tagged_bits tag value ++ more
@@ -96,6 +98,7 @@ impl<'a, T: BitStore, O: BitOrder> BitReader<'a, T, O> {
         ensures found { IfOk result (λ it. self.old.rest ≡ tagged_bits it.tag (list_of it.value) ++ self.new.rest) }
         ensures tag { IfOk result (λ it. 0 < it.tag) }
         ensures reserved { result ≡ Err faults.ReservedTag → (more : List Bool) × (self.old.rest ≡ binary 8 0 ++ more) }
+        ensures ended { result ≡ Err faults.Ended → TagEnds self.old.rest }
         ensures back { (tag : ℕ) → (value more : List Bool) → 0 < tag → tag < 2 ^ 8 → length value % 8 ≡ 0
             → length value < 8 * 2 ^ 16 → self.old.rest ≡ tagged_bits tag value ++ more
             → IsOk result × IfOk result (λ it. (it.tag ≡ tag) × (list_of it.value ≡ value)) × (self.new.rest ≡ more) }

@@ -1,8 +1,8 @@
-use Rattle.std.proofs.Common.{◌≡◌, ◌-◌, ◌%◌, ◌++◌, length, rules, refl, sym, ◌∙◌, ap, arith}
+use Rattle.std.proofs.Common.{◌≡◌, ◌-◌, ◌%◌, ◌++◌, inl, inr, length, rules, refl, sym, ◌∙◌, ap, arith}
 use Rattle.std.proofs.Math.Pow.{pow_pos}
 use Rattle.bit_addressing.specs.Row.{binary}
 use Rattle.bit_slice.specs.BitSlice.{list_of}
-use Rattle.bit_streams.proofs.Parted.{listed_found, listed_opened, part_is, part_size, part_there}
+use Rattle.bit_streams.proofs.Parted.{list_cut, list_filled, listed_found, listed_opened, part_is, part_size, part_there}
 use Rattle.bit_streams.proofs.reader.BitReader.list_parts.Goals as goal
 
 pub returns-else-fill-ne0-clause-found : goal.returns-else-fill-ne0-clause-found
@@ -64,3 +64,23 @@ returns-else-fill-ne0-clause-back g c bits more few e =
     let pad = (8 - c.in-Some.len % 8) % 8 in
     let r = c.in-Some-read.ensures.back 0 more last (pow_pos pad) in
     (search rules, p.0, r.1)
+
+pub returns-in-None-clause-ended : goal.returns-in-None-clause-ended
+returns-in-None-clause-ended g c e = inl (c.in-None.ensures.none.0 refl)
+
+pub returns-in-None-read_part-clause-ended : goal.returns-in-None-read_part-clause-ended
+returns-in-None-read_part-clause-ended g c e =
+    let short = c.in-None-read_part.ensures.none.0 refl in
+    inr (c.in-Some.len, c.read.new.self.rest, c.in-Some.ensures.digits, omega arith)
+
+pub returns-in-None-read-clause-ended : goal.returns-in-None-read-clause-ended
+returns-in-None-read-clause-ended g c e =
+    let v = list_of c.in-Some-read_part.bits in
+    list_cut c.args.self.now.rest c.read.new.self.rest c.read_part.new.self.rest v c.in-Some.len c.in-Some.ensures.digits c.in-Some-read_part.ensures.digits
+    (part_size c.in-Some.len c.read.new.self.rest c.read_part.new.self.rest v c.in-Some-read_part.ensures.part c.in-Some-read_part.ensures.passed.left) (c.in-None-read.ensures.none.0 refl)
+
+pub returns-then-fill-ne0-clause-filled : goal.returns-then-fill-ne0-clause-filled
+returns-then-fill-ne0-clause-filled g c e =
+    let v = list_of c.in-Some-read_part.bits in
+    list_filled c.args.self.now.rest c.read.new.self.rest c.read_part.new.self.rest c.read-in-Some-read_part.new.self.rest v c.in-Some.len c.in-Some-read.fill c.in-Some.ensures.digits c.in-Some-read_part.ensures.digits c.in-Some-read.ensures.digits
+    (part_size c.in-Some.len c.read.new.self.rest c.read_part.new.self.rest v c.in-Some-read_part.ensures.part c.in-Some-read_part.ensures.passed.left) c.in-Some-read.ensures.below c.if-fill-ne0.true

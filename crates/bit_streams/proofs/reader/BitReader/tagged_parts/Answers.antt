@@ -1,6 +1,8 @@
-use Rattle.std.proofs.Common.{◌≡◌, ◌*◌, ◌/◌, ◌++◌, length, rules, refl, arith}
+use Rattle.std.proofs.Common.{◌≡◌, ◌*◌, ◌/◌, ◌++◌, append_assoc, inl, inr, length, rules, refl, sym, ◌∙◌, ap, arith}
+use Rattle.std.proofs.lemmas.List.{length-append}
 use Rattle.bit_addressing.specs.Row.{binary}
 use Rattle.bit_slice.specs.BitSlice.{list_of}
+use Rattle.bit_rows.proofs.Binary.{length-binary}
 use Rattle.bit_streams.proofs.Parted.{part_is, part_size, part_there, tagged_found, three_opened}
 use Rattle.bit_streams.proofs.reader.BitReader.tagged_parts.Goals as goal
 
@@ -51,3 +53,27 @@ returns-in-Some-read_part-clause-back g c tag value more some below whole few e 
     let bytes : c.in-Some-read.bytes ≡ length value / 8 = cc in
     let p = part_is (8 * c.in-Some-read.bytes) c.read-in-Some.new.self.rest c.read_part.new.self.rest (list_of c.in-Some-read_part.value) value more c.in-Some-read_part.ensures.part c.in-Some-read_part.ensures.passed.rest b.1 (omega arith) in
     (search rules, (is, p.0), p.1)
+
+pub returns-in-None-clause-ended : goal.returns-in-None-clause-ended
+returns-in-None-clause-ended g c e =
+    let short = c.in-None.ensures.none.0 refl in
+    inl (omega arith)
+
+pub returns-in-None-read-clause-ended : goal.returns-in-None-read-clause-ended
+returns-in-None-read-clause-ended g c e =
+    let short = c.in-None-read.ensures.none.0 refl in
+    let sum = ap length c.in-Some.ensures.digits ∙ length-append (binary 8 c.in-Some.tag) c.read.new.self.rest in
+    let front = length-binary 8 c.in-Some.tag in
+    inl (omega arith)
+
+pub returns-in-None-read_part-clause-ended : goal.returns-in-None-read_part-clause-ended
+returns-in-None-read_part-clause-ended g c e =
+    let short = c.in-None-read_part.ensures.none.0 refl in
+    let bytes = c.in-Some-read.bytes in
+    inr (
+      c.in-Some.tag,
+      bytes,
+      c.read-in-Some.new.self.rest,
+      c.in-Some.ensures.digits ∙ ap (λ l. binary 8 c.in-Some.tag ++ l) c.in-Some-read.ensures.digits ∙ sym (append_assoc (binary 8 c.in-Some.tag) (binary 16 bytes) c.read-in-Some.new.self.rest),
+      omega arith,
+    )

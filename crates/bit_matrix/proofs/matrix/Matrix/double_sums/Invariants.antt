@@ -1,4 +1,4 @@
-use Rattle.std.proofs.Common.{◌≡◌, ℕ, ◌+◌, ◌^◌, ◌<◌, ◌||◌}
+use Rattle.std.proofs.Common.{◌≡◌, ℕ, ◌+◌, ◌<◌, ◌||◌}
 use Rattle.bit_matrix.specs.Matrix.{AreAlike, item}
 use Rattle.bit_matrix.proofs.matrix.Matrix.double_sums.Given as goal
 

@@ -1,6 +1,6 @@
 use Rattle.std.proofs.Common.{◌≡◌, ℕ, ◌+◌, ◌^◌, ◌<◌, false, ◌&&◌}
 use Rattle.bit_addressing.specs.Bits.{has_bit}
-use Rattle.bit_matrix.specs.Matrix.{AreAlike, item, plus_mod_2, sum_mod_2}
+use Rattle.bit_matrix.specs.Matrix.{AreAlike, item, sum_mod_2}
 use Rattle.bit_matrix.proofs.matrix.Matrix.fill_sums_mod_2.Given as goal
 
 abbrev pub invariant-loop-place : goal.invariant-loop-place

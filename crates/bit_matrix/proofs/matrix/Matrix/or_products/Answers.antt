@@ -1,4 +1,4 @@
-use Rattle.std.proofs.Common.{◌≡◌, ◌+◌, ◌<◌, ◌≤◌, ◌||◌, ◌∙◌, ap, arith}
+use Rattle.std.proofs.Common.{◌||◌, ◌∙◌, ap, arith}
 use Rattle.bit_matrix.specs.Matrix.{Grid, item}
 use Rattle.bit_matrix.proofs.Tabled.{part_summed}
 use Rattle.bit_matrix.proofs.matrix.Matrix.or_products.Goals as goal

@@ -1,5 +1,5 @@
-use Rattle.std.proofs.Common.{◌≡◌, ◌<◌, ◌∙◌, sym, ap, inl, arith, length, ◌+◌}
-use Rattle.bit_slice.specs.BitSlice.{len_of, list_of}
+use Rattle.std.proofs.Common.{◌≡◌, ◌∙◌, sym, ap, inl, arith, length, ◌+◌}
+use Rattle.bit_slice.specs.BitSlice.{list_of}
 use Rattle.bit_slice.proofs.Parts.{view_length}
 use Rattle.bit_matrix.specs.Matrix.{Grid, item}
 use Rattle.bit_matrix.proofs.Filled.{row_kept, row_written}

@@ -1,4 +1,4 @@
-use Rattle.std.proofs.Common.{◌≡◌, ◌+◌, ◌<◌, ◌≤◌, ◌∙◌, ap, arith}
+use Rattle.std.proofs.Common.{◌∙◌, ap, arith}
 use Rattle.bit_matrix.specs.Matrix.{Grid, item, plus_mod_2}
 use Rattle.bit_matrix.proofs.Tabled.{part_added}
 use Rattle.bit_matrix.proofs.matrix.Matrix.xor_products.Goals as goal

@@ -1,4 +1,5 @@
 pub mod Echelons
+pub mod Filled
 pub mod FullRank
 pub mod Grids
 pub mod Lowest
@@ -8,4 +9,5 @@ pub mod Padding
 pub mod Paths
 pub mod Ranks
 pub mod Rowed
+pub mod Tabled
 pub mod Turning

@@ -16,6 +16,7 @@ mod products;
 mod rank;
 mod rows;
 mod squares;
+mod tables;
 mod traits;
 mod transpose;
 mod vectors;

@@ -1,33 +1,15 @@
 -- The indices from a number on, and the counts that find them.
-use Rattle.std.proofs.Common.{◌≡◌, ◌↔◌, ℕ, suc, ◌+◌, ◌-◌, ◌*◌, ◌/◌, ◌%◌, ◌^◌, ◌<◌, ◌≤◌, Bool, true, false, not, cond, List, [], ◌∷◌, ◌++◌, map, length, take, drop, get_or, count_by, slice_get, slice_range, subst, Some, None, Option, IfSome, IfNone, refl, sym, ◌∙◌, ap, inl, inr, arith}
-use Rattle.std.specs.Prelude.{count_ones, bit_and}
+use Rattle.std.proofs.Common.{◌≡◌, ℕ, suc, ◌+◌, ◌-◌, ◌*◌, ◌<◌, ◌≤◌, Bool, true, false, cond, List, [], ◌∷◌, ◌++◌, length, take, drop, get_or, count_by, subst, Option, IfSome, IfNone, refl, sym, ◌∙◌, ap, inl, inr, arith}
 use Rattle.std.specs.List.{filter, range_with_len}
 use Rattle.std.proofs.lemmas.Bool.{cases_lt}
-use Rattle.std.proofs.lemmas.List.{length-take, length-append, length-map, take_all, take-map, get_or-append-add, get_or-map, get_or-take, get_or_past, get_or_append_left}
-use Rattle.std.proofs.lemmas.List.Elements.{filter-append}
-use Rattle.std.proofs.lemmas.List.Sums.{sum_by-append, count_by-le-length, count_by_more_yes}
-use Rattle.std.proofs.lemmas.Simd.{ones-mask_l}
-use Rattle.std.proofs.Common.{w64}
-use Rattle.std.specs.Int.{bit_not}
-use Rattle.std.proofs.lemmas.Nat.Bits.{ones_shr}
-use Rattle.std.proofs.Math.Nat.{mod-le}
-use Rattle.std.proofs.Math.Pow.{pow_mono}
+use Rattle.std.proofs.lemmas.List.{length-take, length-append, get_or-append-add, get_or_append_left}
 use Rattle.std.proofs.Math.Seq.{drop-append_seam}
 use Rattle.std.proofs.Math.ListN.{drop_of_length-le}
-use Rattle.std.proofs.lemmas.Nat.{mod_below, pow_pos, and_mask}
-use Rattle.std.proofs.lemmas.Option.{slice_get-get_or, slice_get_past, slice_get_within, get_or_from_slice_get}
-use Rattle.bit_addressing.specs.Bits.{has_bit}
-use Rattle.bit_addressing.specs.Row.{number_of}
-use Rattle.bit_addressing.proofs.Words.{has_low, has_above, has_not}
-use Rattle.bit_addressing.proofs.Chunks.{has_number, number_from_bits, number-lt}
-use Rattle.bit_addressing.proofs.Runs.{slices_joined}
 use Rattle.bit_slice.specs.Places.{places_between, ones_of}
-use Rattle.bit_slice.proofs.Places.{places_count, places_empty, ranges_joined}
-use Rattle.bit_slice.proofs.Found.{item_is, item_of_part}
-use Rattle.bit_addressing.proofs.lists.Shown.{length-between, shows_fewer}
+use Rattle.bit_slice.proofs.Places.{places_empty}
 use Rattle.bit_slice.proofs.Rules.{zeros_and_ones}
 use Rattle.bit_slice.specs.Numbered.{is_bit, count_before, ones_before, zeros_before, IsNumbered}
-use Rattle.bit_slice.proofs.Numbered.{around, as_many, before_end, one_more}
+use Rattle.bit_slice.proofs.Numbered.{around, as_many, before_end}
 
 -- the zeros before an index are what is left of it without the ones
 pub zeros_left : (xs : List Bool) (i ones : ℕ) → i ≤ length xs → ones ≡ ones_before xs i → i - ones ≡ zeros_before xs i

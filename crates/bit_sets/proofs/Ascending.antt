@@ -11,26 +11,10 @@ use Rattle.bit_addressing.proofs.lists.Shown.{length-between}
 use Rattle.bit_slice.specs.Places.{ones_of}
 use Rattle.bit_slice.proofs.Found.{item_of_part}
 use Rattle.bit_slice.proofs.Places.{places_empty, places_none, ranges_joined}
+use Rattle.bit_ranks.proofs.Parts.{from_index, ones_are}
 use Rattle.bit_sets.specs.Compared.{same_numbers}
 use Rattle.bit_sets.specs.NumberSet.{IsIn, numbers_between}
 use Rattle.bit_sets.proofs.Members.{in_bit, out_bit}
-
--- the numbers of a list whose first item stands at index i
-abbrev pub from_index : ℕ → List Bool → List ℕ
-from_index i [] = []
-from_index i (x ∷ xs) = cond x (i ∷ from_index (i + 1) xs) (from_index (i + 1) xs)
-
--- from index i on, a list has the items of another
-places_are : (all xs : List Bool) (i : ℕ) → ((k : ℕ) → k < length xs → get_or all (i + k) false ≡ get_or xs k false) → filter (λ j. get_or all j false) (range_with_len i (length xs)) ≡ from_index i xs
-places_are all [] i same = refl
-places_are all (x ∷ xs) i same =
-    let z : i + 0 ≡ i = omega arith in
-    let here : get_or all i false ≡ x = ap (λ j. get_or all j false) (sym z) ∙ same 0 (omega arith) in
-    ap (λ b. cond b (i ∷ filter (λ j. get_or all j false) (range_with_len (i + 1) (length xs))) (filter (λ j. get_or all j false) (range_with_len (i + 1) (length xs)))) here
-    ∙ ap (λ l. cond x (i ∷ l) l) (places_are all xs (i + 1) (λ k h. let e : i + 1 + k ≡ i + suc k = omega arith in ap (λ j. get_or all j false) e ∙ same (suc k) (omega arith)))
-
-pub ones_are : (xs : List Bool) → ones_of xs ≡ from_index 0 xs
-ones_are xs = places_are xs xs 0 (λ k h. let z : 0 + k ≡ k = omega arith in ap (λ j. get_or xs j false) z)
 
 pub none_from : (i : ℕ) (xs : List Bool) → ((k : ℕ) → get_or xs k false ≡ false) → from_index i xs ≡ []
 none_from i [] none = refl
@@ -126,19 +110,6 @@ last_out xs n here after =
     ones_are xs ∙ last_from 0 n xs ((in_bit xs n).0 here) (λ k h. out_bit xs k (after k h)) ∙ ap (λ j. from_index 0 (set xs n false) ++ j ∷ []) z ∙ ap (λ l. l ++ n ∷ []) (sym (ones_are (set xs n false)))
 
 -- ---- the numbers of a part
-
-shifted : (a i : ℕ) (xs : List Bool) → map (λ k. a + k) (from_index i xs) ≡ from_index (a + i) xs
-shifted a i [] = refl
-shifted a i (true ∷ xs) = let z : a + (i + 1) ≡ a + i + 1 = omega arith in ap (λ l. (a + i) ∷ l) (shifted a (i + 1) xs ∙ ap (λ j. from_index j xs) z)
-shifted a i (false ∷ xs) = let z : a + (i + 1) ≡ a + i + 1 = omega arith in shifted a (i + 1) xs ∙ ap (λ j. from_index j xs) z
-
-pub part_numbers : (xs : List Bool) (a b : ℕ) → a ≤ b → b ≤ length xs → map (λ i. a + i) (ones_of (slice_range xs a b)) ≡ numbers_between xs a b
-part_numbers xs a b ordered inside =
-    let run : List Bool = slice_range xs a b in
-    let size : length run ≡ b - a = length-between xs a b inside in
-    let z : a + 0 ≡ a = omega arith in
-    ap (map (λ i. a + i)) (ones_are run) ∙ shifted a 0 run ∙ ap (λ j. from_index j run) z
-    ∙ sym (ap (λ n. filter (λ j. get_or xs j false) (range_with_len a n)) (sym size) ∙ places_are xs run a (λ k h. sym (item_of_part xs a b k (omega arith))))
 
 -- from an index on there is no number
 cut : (xs : List Bool) (a m b : ℕ) → a ≤ m → m ≤ b → length xs ≤ m → numbers_between xs a b ≡ numbers_between xs a m

@@ -9,7 +9,8 @@ use Rattle.std.proofs.lemmas.Bool.{true≢false}
 use Rattle.bit_slice.specs.Operators.{bits_cmp}
 use Rattle.bit_slice.specs.Places.{ones_of}
 use Rattle.bit_sets.specs.Compared.{IsLeastBound, numbers_cmp}
-use Rattle.bit_sets.proofs.Ascending.{from_index, none_from, ones_are}
+use Rattle.bit_ranks.proofs.Parts.{from_index, ones_are}
+use Rattle.bit_sets.proofs.Ascending.{none_from}
 use Rattle.bit_sets.proofs.Members.{in_bit, out_bit}
 
 -- the items from n on are false, and the one before them is true

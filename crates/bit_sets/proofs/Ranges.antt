@@ -10,7 +10,7 @@ use Rattle.bit_addressing.specs.Row.{put}
 use Rattle.bit_addressing.specs.declared.length.TheConstants.{MAX_BITS}
 use Rattle.bit_addressing.proofs.lists.Shown.{length-between}
 use Rattle.bit_slice.proofs.Found.{item_of_part}
-use Rattle.bit_sets.specs.NumberSet.{FitFrom, IsIn}
+use Rattle.bit_sets.specs.NumberSet.{IsIn}
 use Rattle.bit_sets.proofs.Members.{filled_out, in_bit, inside_bound}
 
 pub emptied : (xs : List Bool) (a b c d : ℕ) → d ≡ min b (length xs) → c ≡ min a d → (k : ℕ) → IsIn (put xs c (replicate (d - c) false)) k ↔ (((k < a) ⊎ (b ≤ k)) × IsIn xs k)
@@ -59,26 +59,3 @@ each_in xs a b inside =
 -- a range that is not empty and ends past the bound is not all in the set
 pub not_all : (xs : List Bool) (a b : ℕ) → a < b → length xs < b → ((k : ℕ) → a ≤ k → k < b → IsIn xs k) → ⊥
 not_all xs a b some past all = let low = inside_bound xs (b - 1) (all (b - 1) (omega arith) (omega arith)) in omega arith
-
--- ---- numbers that are left
-
-pub fit_from_all : (base n : ℕ) (l : List ℕ) → All (λ i. i < n) l → base + n ≤ MAX_BITS → FitFrom base l
-fit_from_all base n l all room = record { each = λ k h. let low = all k 0 h in omega arith }
-
-pub fit_rest : (base x : ℕ) (l m : List ℕ) → FitFrom base l → l ≡ x ∷ m → FitFrom base m
-fit_rest base x l m fit is = let all : FitFrom base (x ∷ m) = subst (FitFrom base) is fit in record { each = λ k h. all.each (suc k) (omega arith) }
-
-pub fit_front : (base x : ℕ) (l m : List ℕ) → FitFrom base l → l ≡ m ++ x ∷ [] → FitFrom base m
-fit_front base x l m fit is =
-    let all : FitFrom base (m ++ x ∷ []) = subst (FitFrom base) is fit in
-    let size = length-append m (x ∷ []) in
-    record { each = λ k h. let here = all.each k (omega arith) in let same = get_or_append_left m (x ∷ []) 0 k h in omega arith }
-
--- after a step from the front or from the end the numbers that are left still fit
-pub fit_stepped : {S : Type 0} (rest : S → List ℕ) (s t : S) (r : Option ℕ) (base : ℕ) → YieldsFirst rest s r t → FitFrom base (rest s) → FitFrom base (rest t)
-fit_stepped rest s t None base step fit = subst (FitFrom base) (step.0 ∙ sym step.1) fit
-fit_stepped rest s t (Some x) base step fit = fit_rest base x (rest s) (rest t) fit step
-
-pub fit_stepped_back : {S : Type 0} (rest : S → List ℕ) (s t : S) (r : Option ℕ) (base : ℕ) → YieldsLast rest s r t → FitFrom base (rest s) → FitFrom base (rest t)
-fit_stepped_back rest s t None base step fit = subst (FitFrom base) (step.0 ∙ sym step.1) fit
-fit_stepped_back rest s t (Some x) base step fit = fit_front base x (rest s) (rest t) fit step

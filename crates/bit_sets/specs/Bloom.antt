@@ -1,10 +1,15 @@
 -- The places of a hash in a Bloom filter, and when it is found.
 use Rattle.std.specs.Prelude.{◌≡◌, ℕ, ◌+◌, ◌*◌, ◌/◌, ◌%◌, ◌^◌, ◌<◌, ◌⊎◌, ◌↔◌, Bool, true, List, length, slice_get, Some, refl}
+use Rattle.std.specs.List.{fold}
 use Rattle.bit_sets.specs.Filter.{Filter}
 
 -- the place that function i gives of a hash in n bits: the low half, and i times one more than the high half
 abbrev pub place : ℕ → ℕ → ℕ → ℕ
 place n hash i = (hash % 2 ^ 32 + i * (hash / 2 ^ 32 + 1)) % n
+
+-- the hash that a hasher gives which is fed these bytes, one write after another
+abbrev pub hash_of : {H : Type 0} → (H → ℕ) → (H → List ℕ → H) → H → List (List ℕ) → ℕ
+hash_of finish write hasher fed = finish (fold write hasher fed)
 
 -- the bit at the place of each function is true
 abbrev pub IsFound : Filter → ℕ → Type 0

@@ -2,7 +2,6 @@
 use Rattle.std.specs.Prelude.{◌≡◌, ◌≢◌, ℕ, ◌+◌, ◌%◌, ◌<◌, ◌≤◌, Bool, false, true, List, [], ◌∷◌, ◌++◌, Some, codes, length, slice_get, slice_index_or, refl}
 use Rattle.std.specs.Fmt.{decimal, digits}
 use Rattle.std.specs.List.{flat_map}
-use Rattle.bit_addressing.specs.declared.length.TheConstants.{MAX_BITS}
 use Rattle.bit_slice.specs.Places.{ones_of, places_between}
 
 -- k is in the set
@@ -12,10 +11,6 @@ IsIn set k = slice_get set k ≡ Some true
 -- the numbers of a set from a up to b, ascending
 abbrev pub numbers_between : List Bool → ℕ → ℕ → List ℕ
 numbers_between set a b = places_between (λ bit. bit) set a b
-
--- each of these numbers, added to a first one, is below the greatest bound
-pub record FitFrom (base : ℕ) (numbers : List ℕ) : Type 0 where
-  pub each : (k : ℕ) → k < length numbers → base + slice_index_or numbers k 0 < MAX_BITS
 
 -- p is at least 2, and no number between 1 and p divides it
 abbrev pub IsPrime : ℕ → Type 0

@@ -3,19 +3,20 @@ ghost use Rattle.std.specs.Prelude.{◌≡◌, ◌+◌, ◌*◌, ◌/◌, ◌%�
 ghost use Rattle.bit_addressing.specs.declared.errors.GrowError.TheVariants as errors;
 ghost use Rattle.bit_addressing.specs.declared.length.TheConstants.{MAX_BITS};
 ghost use Rattle.bit_slice.specs.Operators.{or_of};
-ghost use Rattle.bit_sets.specs.Bloom.{IsFound, IsMarked, place};
+ghost use Rattle.bit_sets.specs.Bloom.{IsFound, IsMarked, hash_of, place};
 
 use bit_addressing::{GrowError, Lsb0, MAX_BITS};
 use bit_containers::{BitList, BitListMut, BitVec};
 use std::alloc::Global;
+use std::hash::{BuildHasher, Hash};
 use std::marker::Model;
 
 /// A Bloom filter: it tells of hashes whether they may have been put in. What was put in is always found; what was not
 /// may be found too, the less often the more bits there are for each hash.
 ///
 /// A hash is put in by `k` functions: each gives a place in the list of bits, which becomes true. Function `i` gives
-/// the low half of the hash, and `i` times one more than its high half, modulo the number of bits. Of an item, take
-/// the hash that `hash_one` of a `BuildHasher` returns.
+/// the low half of the hash, and `i` times one more than its high half, modulo the number of bits. Of an item,
+/// `insert_hashed` takes the hash that `hash_one` of a `BuildHasher` returns.
 ///
 /// In contracts a filter `f` is its bits `f.bits` and how many functions it has, `f.functions`.
 ///
@@ -131,6 +132,35 @@ impl BloomFilter {
             place = (place + step) % len;
         }
         true
+    }
+
+    /// Puts an item in, by the hash that `hash_one` of a builder of hashers returns of it. Items that are equal have one
+    /// hash. Otherwise like `insert`.
+    ///
+    /// ```text
+    /// let hashes = BuildHasherDefault::<FoldHasher>::new();
+    /// seen.insert_hashed(&hashes, name);
+    /// seen.contains_hashed(&hashes, name)                          // true
+    /// ```
+    pub fn insert_hashed<S: BuildHasher, T: Hash + Drop>(&mut self, hashes: &S, item: T)
+        ensures found { IsFound self.new
+            (hash_of S.Hasher.finish S.Hasher.write (S.build_hasher hashes.now) (T.hash_input item)) }
+        ensures stays { (other : ℕ) → IsFound self.old other → IsFound self.new other }
+        ensures exact { IsMarked self.old.bits self.new.bits
+            (hash_of S.Hasher.finish S.Hasher.write (S.build_hasher hashes.now) (T.hash_input item))
+            self.old.functions }
+        ensures functions { self.new.functions ≡ self.old.functions }
+    {
+        self.insert(hashes.hash_one(item));
+    }
+
+    /// Whether an item may have been put in by `insert_hashed` with the same builder of hashers.
+    pub fn contains_hashed<S: BuildHasher, T: Hash + Drop>(&self, hashes: &S, item: T) -> bool
+        ensures { IsTrue result
+            ↔ IsFound self.now
+            (hash_of S.Hasher.finish S.Hasher.write (S.build_hasher hashes.now) (T.hash_input item)) }
+    {
+        self.contains(hashes.hash_one(item))
     }
 
     /// Takes all out: every bit becomes false.

@@ -1,5 +1,5 @@
 //! Rows into columns, by squares of 64 x 64 bits.
-ghost use Rattle.std.specs.Prelude.{◌≡◌, ◌≢◌, ◌+◌, ◌*◌, ◌<◌, ◌≤◌, ◌⊎◌, ◌↔◌, ℕ, Err, IfOk, false};
+ghost use Rattle.std.specs.Prelude.{◌≡◌, ◌≢◌, ◌+◌, ◌*◌, ◌<◌, ◌≤◌, ◌⊎◌, ◌↔◌, ℕ, Err, IfOk, false, length};
 ghost use Rattle.bit_addressing.specs.Bits.{has_bit};
 ghost use Rattle.bit_addressing.specs.declared.errors.GrowError.TheVariants as errors;
 ghost use Rattle.bit_addressing.specs.declared.length.TheConstants.{MAX_BITS};
@@ -100,11 +100,12 @@ impl Matrix {
     }
 
     // Writes up to 64 bits of a row, from a column on: bit `j` of the number in column `column + j`.
-    fn write_part(&mut self, row: usize, column: usize, count: usize, number: u64)
+    pub(super) fn write_part(&mut self, row: usize, column: usize, count: usize, number: u64)
         requires row { row < self.old.rows }
         requires few { count ≤ 64 }
         requires within { column + count ≤ self.old.columns }
         ensures alike { AreAlike self.new self.old }
+        ensures size { length self.new.bits ≡ self.new.rows * self.new.columns }
         ensures part { (j : ℕ) → j < count → item self.new row (column + j) ≡ has_bit number j }
         ensures others { (i j : ℕ) → i < self.old.rows → j < self.old.columns
             → (i ≢ row) ⊎ (j < column) ⊎ (column + count ≤ j) → item self.new i j ≡ item self.old i j }

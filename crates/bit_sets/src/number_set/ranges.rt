@@ -2,17 +2,19 @@
 ghost use Rattle.std.specs.Iterator.{YieldsFirst, YieldsLast};
 ghost use Rattle.std.specs.Iterator.Runs.{YieldsInOrder, YieldsInReverse};
 ghost use Rattle.std.specs.Prelude.{◌≡◌, ◌+◌, ◌≤◌, ◌<◌, ◌⊎◌, ◌↔◌, ℕ, Err, IfSome, IsTrue, OnErr, OnOk, Some, length, max, min};
+ghost use Rattle.std.specs.Range.Bound.{end_index, start_index};
 ghost use Rattle.bit_addressing.specs.Range.{LiesIn};
 ghost use Rattle.bit_addressing.specs.declared.errors.GrowError.TheVariants as errors;
 ghost use Rattle.bit_addressing.specs.declared.length.TheConstants.{MAX_BITS};
 ghost use Rattle.bit_slice.specs.Indices.{ones_left};
-ghost use Rattle.bit_sets.specs.NumberSet.{FitFrom, IsIn, numbers_between};
+ghost use Rattle.bit_ranks.specs.Fits.{FitFrom};
+ghost use Rattle.bit_sets.specs.NumberSet.{IsIn, numbers_between};
 
 use crate::number_set::NumberSet;
 use bit_addressing::{GrowError, Lsb0};
 use bit_containers::{BitList, BitListMut, IterOnes};
 use std::iter::{DoubleEndedIterator, ExactSizeIterator, FusedIterator, Iterator};
-use std::ops::Range;
+use std::ops::{Bound, Range, RangeBounds};
 
 impl NumberSet {
     /// Puts all numbers of a range into the set, by whole words. The bound grows to reach them. Returns `TooLong`
@@ -53,13 +55,20 @@ impl NumberSet {
         self.bits.fill_range(numbers, true);
     }
 
-    /// Takes all numbers of a range out of the set, by whole words. The bound stays. Takes no memory.
+    /// Takes all numbers of a range of any kind out of the set, by whole words. The bound stays. Takes no memory.
+    /// Requires that the range was not iterated to its end.
+    ///
+    /// ```text
+    /// of 2, 3, 4, 7: seen.remove_range(3..=4) leaves 2, 7
+    /// ```
     #[tactic(auto, using(crate::proofs::Ranges::emptied))]
-    pub fn remove_range(&mut self, numbers: Range<usize>)
+    pub fn remove_range<R: RangeBounds<usize>>(&mut self, numbers: R)
+        requires { R.has_bounds numbers }
         ensures bound { length self.new ≡ length self.old }
-        ensures members { (k : ℕ) → IsIn self.new k ↔ (((k < numbers.start) ⊎ (numbers.end ≤ k)) × IsIn self.old k) }
+        ensures members { let end = end_index (R.end_bound numbers) (length self.old) in (k : ℕ)
+            → IsIn self.new k ↔ (((k < start_index (R.start_bound numbers)) ⊎ (end ≤ k)) × IsIn self.old k) }
     {
-        let part = self.below_bound(numbers);
+        let part = self.below_bound(&numbers);
         self.bits.fill_range(part, false);
     }
 
@@ -80,38 +89,57 @@ impl NumberSet {
         self.bits.all_in(numbers)
     }
 
-    /// Whether some number of a range is in the set. Of an empty range it is false.
+    /// Whether some number of a range of any kind is in the set. Of an empty range it is false. Requires that the range
+    /// was not iterated to its end.
     ///
     /// ```text
     /// of 2, 3, 4, 7: seen.any_in(5..7) == false
+    /// of 2, 3, 4, 7: seen.any_in(5..) == true
     /// ```
-    pub fn any_in(&self, numbers: Range<usize>) -> bool
-        ensures { IsTrue result ↔ ((k : ℕ) × (numbers.start ≤ k) × (k < numbers.end) × IsIn self.now k) }
+    pub fn any_in<R: RangeBounds<usize>>(&self, numbers: R) -> bool
+        requires { R.has_bounds numbers }
+        ensures { let end = end_index (R.end_bound numbers) (length self.now) in IsTrue result
+            ↔ ((k : ℕ) × (start_index (R.start_bound numbers) ≤ k) × (k < end) × IsIn self.now k) }
     {
-        let part = self.below_bound(numbers);
+        let part = self.below_bound(&numbers);
         self.bits.any_in(part)
     }
 
-    /// How many numbers of a range are in the set.
+    /// How many numbers of a range of any kind are in the set. Requires that the range was not iterated to its end.
     ///
     /// ```text
     /// of 2, 3, 4, 7: seen.count_in(3..8) == 3
+    /// of 2, 3, 4, 7: seen.count_in(..=3) == 2
     /// ```
-    pub fn count_in(&self, numbers: Range<usize>) -> usize
-        ensures { result ≡ length (numbers_between self.now numbers.start numbers.end) }
+    pub fn count_in<R: RangeBounds<usize>>(&self, numbers: R) -> usize
+        requires { R.has_bounds numbers }
+        ensures { result ≡ length (numbers_between self.now (start_index (R.start_bound numbers))
+            (end_index (R.end_bound numbers) (length self.now))) }
     {
-        let part = self.below_bound(numbers);
+        let part = self.below_bound(&numbers);
         self.bits.count_ones_in(part)
     }
 
-    // The part of a range that is below the bound.
-    fn below_bound(&self, numbers: Range<usize>) -> Range<usize>
-        ensures start { result.start ≡ min numbers.start (min numbers.end (length self.now)) }
-        ensures end { result.end ≡ min numbers.end (length self.now) }
+    // The part of a range that is below the bound. A range without an end ends there.
+    fn below_bound<R: RangeBounds<usize>>(&self, numbers: &R) -> Range<usize>
+        requires { R.has_bounds numbers.now }
+        ensures start { result.start ≡ min (start_index (R.start_bound numbers.now))
+            (min (end_index (R.end_bound numbers.now) (length self.now)) (length self.now)) }
+        ensures end { result.end ≡ min (end_index (R.end_bound numbers.now) (length self.now)) (length self.now) }
         ensures lies { LiesIn result.start result.end (length self.now) }
     {
-        let end = numbers.end.min(self.bits.len());
-        numbers.start.min(end)..end
+        let len = self.bits.len();
+        let end = match numbers.end_bound() {
+            Bound::Included(last) => last.saturating_add(1).min(len),
+            Bound::Excluded(end) => (*end).min(len),
+            Bound::Unbounded => len,
+        };
+        let start = match numbers.start_bound() {
+            Bound::Included(start) => *start,
+            Bound::Excluded(before) => before.saturating_add(1),
+            Bound::Unbounded => 0,
+        };
+        start.min(end)..end
     }
 }
 
@@ -129,18 +157,22 @@ pub struct SetRange<'a> {
 impl NumberSet {
     ghost use Rattle.bit_sets.specs.RangeLeft.{range_left};
 
-    /// The numbers of the set that are in a range, ascending, from both ends.
+    /// The numbers of the set that are in a range of any kind, ascending, from both ends. Requires that the range was not
+    /// iterated to its end.
     ///
     /// ```text
     /// of 2, 3, 4, 7: seen.range(3..8) gives 3, 4, 7
+    /// of 2, 3, 4, 7: seen.range(..=3) gives 2, 3
     /// ```
-    pub fn range(&self, numbers: Range<usize>) -> SetRange<'_>
-        ensures list { range_left result ≡ numbers_between self.now numbers.start numbers.end }
+    pub fn range<R: RangeBounds<usize>>(&self, numbers: R) -> SetRange<'_>
+        requires { R.has_bounds numbers }
+        ensures list { range_left result ≡ numbers_between self.now (start_index (R.start_bound numbers))
+            (end_index (R.end_bound numbers) (length self.now)) }
         ensures few { length (range_left result) ≤ MAX_BITS }
         ensures runs { YieldsInOrder (YieldsFirst range_left) range_left }
         ensures runs_back { YieldsInReverse (YieldsLast range_left) range_left }
     {
-        let part = self.below_bound(numbers);
+        let part = self.below_bound(&numbers);
         let base = part.start;
         SetRange {
             ones: self.bits.as_bitslice().get_range(part).iter_ones(),

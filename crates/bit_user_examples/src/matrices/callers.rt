@@ -1,8 +1,10 @@
 //! Callers that need no proof of their own: each has one fact that a user of matrices relies on.
-ghost use Rattle.std.specs.Prelude.{◌≡◌, ◌==◌, ◌<◌, ◌≤◌, ◌⊎◌, ◌↔◌, ℕ, false, IfOk, IfSome, IsTrue, Some, length, map};
+ghost use Rattle.std.specs.Prelude.{◌≡◌, ◌==◌, ◌*◌, ◌<◌, ◌≤◌, ◌⊎◌, ◌↔◌, ℕ, false, All, IfOk, IfSome, IsTrue, OnErr, Some, length, map};
+ghost use Rattle.bit_addressing.specs.declared.length.TheConstants.{MAX_BITS};
 ghost use Rattle.bit_slice.specs.BitSlice.{len_of, list_of};
 ghost use Rattle.bit_matrix.specs.Echelon.{AreIndependent, IsSolution};
-ghost use Rattle.bit_matrix.specs.Matrix.{AreAlike, IsPath, IsSet, bit_of, column_bits, item, product, rows_bits};
+ghost use Rattle.bit_matrix.specs.Making.{CallableAtRows, RowsFrom, first_length};
+ghost use Rattle.bit_matrix.specs.Matrix.{AreAlike, IsPath, IsSet, bit_of, column_bits, item, padded, product, rows_bits};
 ghost use Rattle.bit_matrix.specs.Rank.{IsRank};
 
 use bit_addressing::{BitOrder, BitStore, GrowError, Lsb0};
@@ -199,4 +201,28 @@ pub fn kernel(matrix: &Matrix, alloc: Global) -> Result<Matrix, GrowError>
 {
     let kernel = matrix.kernel_mod_2(alloc)?;
     Ok(kernel)
+}
+
+/// What a function returned of each row and column is the matrix, row after row.
+pub fn made_by<F: FnMut(usize, usize) -> bool>(
+    alloc: Global,
+    rows: usize,
+    columns: usize,
+    f: &mut F,
+) -> Result<Matrix, GrowError>
+    requires { CallableAtRows F.pre F.step f.old rows columns }
+    ensures given { IfOk result (λ m. RowsFrom F.step f.old 0 (rows_bits m) f.new) }
+    ensures size { IfOk result (λ m. (m.rows ≡ rows) × (m.columns ≡ columns)) }
+    ensures refused { OnErr result (f.new ≡ f.old) }
+{
+    Matrix::from_fn(alloc, rows, columns, f)
+}
+
+/// Rows of one length that are too many are told so, whatever memory there is.
+pub fn told_too_long<B: BitList>(alloc: Global, rows: &[B]) -> bool
+    requires same { All (λ row. length (B.list row) ≡ first_length (map B.list rows.now)) rows.now }
+    requires many { MAX_BITS < length rows.now * padded (first_length (map B.list rows.now)) }
+    ensures { IsTrue result }
+{
+    matches!(Matrix::from_rows(alloc, rows), Err(RowsFault::TooLong))
 }

@@ -2,7 +2,7 @@
 use crate::ranks::seven_in_vec;
 use crate::{check, ok};
 use bit_boxed::BitBox;
-use bit_containers::{BitList, BitVec, Lsb0, Msb0};
+use bit_containers::{BitList, BitListMut, BitVec, Lsb0, Msb0};
 use bit_ranks::RankedBits;
 use std::process::Abort;
 
@@ -56,9 +56,7 @@ fn shown(rt: HostRuntime) {
 // Three thousand bits, of which each seventh is true.
 fn sevenths(rt: &(impl Abort + AllocGlobal)) -> RankedBits<u64, Lsb0> {
     let mut bits = ok(rt, BitVec::repeat(rt.alloc(), false, 3000));
-    for i in 0..bits.len() {
-        bits.set(i, i % 7 == 0);
-    }
+    bits.fill_with(|i| i % 7 == 0);
     ok(rt, RankedBits::from_vec(rt.alloc(), bits))
 }
 
@@ -93,12 +91,11 @@ fn many_bits_as_counted(rt: HostRuntime) {
 #[test]
 fn many_bits_written(rt: HostRuntime) {
     let mut ranked = sevenths(&rt);
-    let mut i = 11;
-    for _ in 0..500 {
+    for k in 0..500 {
+        let i = k * 5 + k % 3;
         if i < ranked.len() {
             ranked.flip(i);
         }
-        i = (i * 7 + 5) % 3000;
     }
     check(&rt, as_counted(&ranked));
 }

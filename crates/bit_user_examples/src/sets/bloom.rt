@@ -4,6 +4,7 @@ ghost use Rattle.bit_sets.specs.Bloom.{IsFound};
 
 use crate::{check, ok};
 use bit_sets::{BloomFilter, OtherShape};
+use std::hash::{BuildHasher, BuildHasherDefault, FoldHasher, Hash};
 use std::process::Abort;
 
 // The next of numbers that look random.
@@ -60,6 +61,18 @@ fn the_rate(rt: HostRuntime) {
     check(&rt, wrong < 220);
 }
 
+#[test]
+fn items_by_their_hashes(rt: HostRuntime) {
+    let hashes = BuildHasherDefault::<FoldHasher>::new();
+    let mut filter = ok(&rt, BloomFilter::new(rt.alloc(), 1000, 3));
+    filter.insert_hashed(&hashes, "seven");
+    filter.insert_hashed(&hashes, 7_u64);
+    check(&rt, filter.contains_hashed(&hashes, "seven"));
+    check(&rt, filter.contains_hashed(&hashes, 7_u64));
+    check(&rt, !filter.contains_hashed(&hashes, "eight"));
+    check(&rt, filter.contains(hashes.hash_one(7_u64)));
+}
+
 /// What was inserted is found, whatever was inserted later.
 pub fn found_later(filter: &mut BloomFilter, hash: u64, later: u64) -> bool
     ensures { IsTrue result }
@@ -80,4 +93,18 @@ pub fn found_in_union(
 {
     filter.union_with(other)?;
     Ok(filter.contains(hash))
+}
+
+/// An item that was inserted is found by its hash, whatever was inserted later.
+pub fn item_found_later<S: BuildHasher, T: Hash + Copy + Drop>(
+    filter: &mut BloomFilter,
+    hashes: &S,
+    item: T,
+    later: T,
+) -> bool
+    ensures { IsTrue result }
+{
+    filter.insert_hashed(hashes, item);
+    filter.insert_hashed(hashes, later);
+    filter.contains_hashed(hashes, item)
 }

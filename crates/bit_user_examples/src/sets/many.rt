@@ -99,6 +99,18 @@ fn ranges_tested_and_counted(rt: HostRuntime) {
 }
 
 #[test]
+fn ranges_of_any_kind(rt: HostRuntime) {
+    let mut set = set_of(&rt, &[2, 3, 4, 7, 64]);
+    check(&rt, set.count_in(..) == 5);
+    check(&rt, set.count_in(..=3) == 2);
+    check(&rt, set.any_in(5..));
+    check(&rt, !set.any_in(65..));
+    check(&rt, set.range(..=usize::MAX).next_back() == Some(64));
+    set.remove_range(3..=7);
+    check(&rt, set.count_in(..) == 2);
+}
+
+#[test]
 fn numbers_of_a_range(rt: HostRuntime) {
     let set = set_of(&rt, &[2, 3, 4, 7, 64]);
     let mut numbers = set.range(3..64);

@@ -1,4 +1,4 @@
-use Rattle.std.proofs.Common.{◌≡◌, ◌+◌, ◌-◌, ◌*◌, ◌/◌, ◌^◌, ◌<◌, ◌≤◌, length, get_or, sym, ◌∙◌, ap, arith, subst}
+use Rattle.std.proofs.Common.{◌≡◌, ◌+◌, ◌-◌, ◌*◌, ◌/◌, ◌^◌, ◌<◌, length, get_or, sym, ◌∙◌, ap, arith, subst}
 use Rattle.bit_slice.specs.Numbered.{count_before}
 use Rattle.bit_ranks.specs.Sums.{before_block}
 use Rattle.bit_ranks.proofs.Sums.{few_there, halves, of_kind}

@@ -1,4 +1,4 @@
-use Rattle.std.proofs.Common.{◌<◌, Bool, List, false, not, get_or, length, set, subst, sym, ap, ◌∙◌, arith}
+use Rattle.std.proofs.Common.{◌<◌, Bool, List, false, not, get_or, length, subst, sym, ap, ◌∙◌, arith}
 use Rattle.bit_slice.specs.BitSlice.{list_of}
 use Rattle.bit_ranks.specs.Sums.{IsTree}
 use Rattle.bit_ranks.proofs.Sums.{flipped_back, not_not}

@@ -1,4 +1,4 @@
-use Rattle.std.proofs.Common.{◌≡◌, ◌+◌, ◌*◌, ◌^◌, ◌<◌, ◌≤◌, length}
+use Rattle.std.proofs.Common.{◌≡◌, ◌+◌, ◌^◌, ◌<◌, ◌≤◌, length}
 use Rattle.bit_ranks.specs.Sums.{IsSummed, before_block}
 use Rattle.bit_ranks.proofs.ranked.RankedBits.ones_to.Given as goal
 

@@ -1,10 +1,10 @@
-use Rattle.std.proofs.Common.{◌≡◌, ◌≢◌, ℕ, ◌+◌, ◌-◌, ◌*◌, ◌^◌, ◌<◌, ◌≤◌, Bool, true, false, not, cond, List, length, get_or, set, sym, ◌∙◌, ap, arith, subst, refl, ◌/◌}
+use Rattle.std.proofs.Common.{◌≡◌, ℕ, ◌+◌, ◌-◌, ◌^◌, ◌<◌, Bool, true, false, not, cond, List, length, get_or, set, sym, ◌∙◌, ap, arith, refl, ◌/◌}
 use Rattle.std.proofs.lemmas.List.{get_or_default, length-set}
 use Rattle.std.proofs.lemmas.Option.{get_or_from_slice_get}
 use Rattle.bit_slice.specs.BitSlice.{list_of}
 use Rattle.bit_slice.proofs.Parts.{view_length}
 use Rattle.bit_ranks.specs.Sums.{before_block}
-use Rattle.bit_ranks.proofs.Sums.{AreHalves, before_few, counted, flipped_after, flipped_before, halves, lower, lower_left, opens, upper, written_here, written_others}
+use Rattle.bit_ranks.proofs.Sums.{before_few, counted, flipped_after, flipped_before, halves, lower, lower_left, opens, upper, written_here, written_others}
 use Rattle.bit_ranks.proofs.ranked.sums.recount.Goals as goal
 
 pub halves-init : goal.halves-init

@@ -1,4 +1,4 @@
-use Rattle.std.proofs.Common.{◌≡◌, ◌+◌, ◌*◌, ◌^◌, ◌<◌, ◌≤◌, false, not, get_or, set, length}
+use Rattle.std.proofs.Common.{◌≡◌, ◌+◌, ◌^◌, ◌<◌, ◌≤◌, false, not, get_or, set, length}
 use Rattle.bit_slice.specs.BitSlice.{list_of}
 use Rattle.bit_ranks.specs.Sums.{IsSummed, before_block}
 use Rattle.bit_ranks.proofs.Sums.{IsOpen}

@@ -1,5 +1,5 @@
 use Rattle.bit_slice.specs.Indices.{ones_left}
-use Rattle.bit_sets.proofs.Ranges.{fit_stepped_back}
+use Rattle.bit_ranks.proofs.Parts.{fit_stepped_back}
 use Rattle.bit_sets.proofs.number_set.ranges.SetRangeDoubleEndedIterator.next_back.Goals as goal
 
 pub invariant_of-self : goal.invariant_of-self

@@ -15,6 +15,8 @@ mod ranks;
 mod records;
 #[cfg(test)]
 mod sets;
+#[cfg(test)]
+mod small;
 
 // That this holds. A test calls it in place of `assert!`, which costs the prover more: a failed
 // test is told by its name.

@@ -146,7 +146,8 @@ fn runs_copied_and_shown(rt: HostRuntime) {
     check(&rt, ok(&rt, runs.clone()).count() == 5);
     let mut places = view.find_all(view.get_range(0..2));
     check(&rt, places.next() == Some(0));
-    check(&rt, ok(&rt, places.clone()).count() == 2);
+    let mut again = ok(&rt, places.clone());
+    check(&rt, again.next() == Some(3));
     let ranges = ok(&rt, view.iter_ranges(true).clone());
     let shown = ok(&rt, format!(in rt.alloc(); "{ranges:?}"));
     check(

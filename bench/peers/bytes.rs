@@ -66,7 +66,7 @@ struct Writer {
 }
 
 impl records::Digits for Writer {
-    type Made = Vec<u8>;
+    type Word = u8;
 
     #[inline(always)]
     fn write(&mut self, n: u32, x: u64) {
@@ -194,16 +194,8 @@ fn read_values(bytes: &[u8], count: usize) -> usize {
 }
 
 fn streams(n: usize, r: usize) {
-    let ones = |bytes: &Vec<u8>| bytes.iter().map(|b| b.count_ones() as usize).sum();
-    records::streams::<Writer>(
-        n,
-        r,
-        ones,
-        pack,
-        |bytes, made| unpack(bytes, made),
-        |bytes, table, count| decode(bytes, table, count),
-        |bytes, count| read_values(bytes, count),
-    );
+    let ones = |bytes: &[u8]| bytes.iter().map(|b| b.count_ones() as usize).sum();
+    records::streams::<Writer>(n, r, ones, pack, unpack, decode, read_values);
 }
 
 fn main() {

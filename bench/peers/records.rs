@@ -113,15 +113,15 @@ fn values(count: usize) -> Vec<Value> {
 
 /// What takes the digits of numbers, the most significant first.
 pub trait Digits: Default {
-    type Made;
+    type Word;
 
     fn write(&mut self, n: u32, x: u64);
 
-    fn finish(self) -> Self::Made;
+    fn finish(self) -> Vec<Self::Word>;
 }
 
 #[inline(never)]
-fn encode<W: Digits>(codes: &[Code], symbols: &[u16]) -> W::Made {
+fn encode<W: Digits>(codes: &[Code], symbols: &[u16]) -> Vec<W::Word> {
     let mut writer = W::default();
     for symbol in symbols {
         let code = codes[*symbol as usize];
@@ -132,7 +132,7 @@ fn encode<W: Digits>(codes: &[Code], symbols: &[u16]) -> W::Made {
 }
 
 #[inline(never)]
-fn write_values<W: Digits>(values: &[Value]) -> W::Made {
+fn write_values<W: Digits>(values: &[Value]) -> Vec<W::Word> {
     let mut writer = W::default();
     for it in values {
         writer.write(8, it.tag as u64);
@@ -159,11 +159,11 @@ pub fn timed<V, A>(name: &str, repetitions: usize, make: impl Fn() -> V, work: i
 pub fn streams<W: Digits>(
     n: usize,
     r: usize,
-    ones: impl Fn(&W::Made) -> usize,
-    pack: impl Fn(&[Record]) -> W::Made,
-    unpack: impl Fn(&W::Made, &mut [Record]) -> usize,
-    decode: impl Fn(&W::Made, &[Found], usize) -> usize,
-    read_values: impl Fn(&W::Made, usize) -> usize,
+    ones: impl Fn(&[W::Word]) -> usize,
+    pack: impl Fn(&[Record]) -> Vec<W::Word>,
+    unpack: impl Fn(&[W::Word], &mut [Record]) -> usize,
+    decode: impl Fn(&[W::Word], &[Found], usize) -> usize,
+    read_values: impl Fn(&[W::Word], usize) -> usize,
 ) {
     let all = records(n);
     let packed = pack(&all);

@@ -495,7 +495,7 @@ struct Writer {
 }
 
 impl records::Digits for Writer {
-    type Made = Vec<u64>;
+    type Word = u64;
 
     fn write(&mut self, n: u32, x: u64) {
         let room = 64 - self.count;
@@ -597,7 +597,7 @@ fn unpack_le(words: &[u64], records: &mut [Record]) -> usize {
 }
 
 fn streams(n: usize, r: usize) {
-    let ones = |words: &Vec<u64>| words.iter().map(|w| w.count_ones() as usize).sum::<usize>();
+    let ones = |words: &[u64]| words.iter().map(|w| w.count_ones() as usize).sum::<usize>();
     let all = records::records(n);
     let packed = pack_le(&all);
     records::timed("pack_records_le", r, || (), |_| pack_le(&all), |_, made| ones(&made));
@@ -608,15 +608,7 @@ fn streams(n: usize, r: usize) {
         |made| unpack_le(&packed, made),
         |made, found| records::sum_of_records(made) + found,
     );
-    records::streams::<Writer>(
-        n,
-        r,
-        ones,
-        pack,
-        |words, made| unpack(words, made),
-        |words, table, count| decode(words, table, count),
-        |words, count| read_values(words, count),
-    );
+    records::streams::<Writer>(n, r, ones, pack, unpack, decode, read_values);
 }
 
 fn masks(n: usize, r: usize) {

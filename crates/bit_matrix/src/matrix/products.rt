@@ -81,8 +81,8 @@ impl Matrix {
         Ok(made)
     }
 
-    // Whether so many bits are set that sums of eight rows at a time take fewer steps than a row for each bit: 512 to make
-    // the sums of eight rows, and one for each row of the product.
+    // Whether sums of eight rows at a time take fewer steps than a row for each true bit. For each eight columns they take
+    // 512 steps, and one for each row of the product.
     fn is_dense(&self) -> bool {
         let parts = self.columns().div_ceil(8);
         self.bits.count_ones() > self.rows().saturating_add(512).saturating_mul(parts)

@@ -9,7 +9,7 @@ use bit_containers::{BitOrder, BitStore};
 use bit_slice::BitSlice;
 use std::alloc::{AllocError, Global};
 
-// How many levels the tree of so many blocks has.
+// The levels of the tree over `blocks` blocks.
 pub(crate) fn levels_for(blocks: usize) -> u32
     requires { blocks * 512 ≤ MAX_BITS }
     ensures small { result < 64 }
@@ -27,7 +27,7 @@ pub(crate) fn width(level: u32) -> usize
     1 << level
 }
 
-// Of blocks with so many ones, how many bits are `bit`.
+// The bits of `blocks` blocks that equal `bit`, where `ones` of them are ones.
 #[inline(always)]
 pub(crate) fn of_kind(bit: bool, ones: usize, blocks: usize) -> usize
     requires few { ones ≤ blocks * 512 }

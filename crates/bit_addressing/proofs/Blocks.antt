@@ -79,6 +79,7 @@ blocks_inside each first last ordered =
     let split : (last - first) / each * each + (last - first) % each ≡ last - first = div-add-mod' (last - first) each in
     omega arith
 
+-- block t of 64 bits lies within the words from first up to last
 pub block_inside : (w each first last t : ℕ) → each * w ≡ 64 → first ≤ last → t < (last - first) / each → first * w + t * 64 + 64 ≤ last * w
 block_inside w each first last t fills ordered turn =
     let most = mul_mono (t + 1) ((last - first) / each) each (omega arith) in

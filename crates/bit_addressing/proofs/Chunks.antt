@@ -27,6 +27,7 @@ pub has_number : (ms : List Bool) (i : ℕ) → has_bit (number_of ms) i ≡ get
 unfolding number_of
 has_number ms i = ap (λ m. eqb m 1) (bit_mask_l ms i) ∙ one_if (get_or ms i false)
 
+-- at most 64 bits are a number below 2^64
 pub number-lt : (ms : List Bool) → length ms ≤ 64 → number_of ms < 2 ^ 64
 unfolding number_of
 number-lt ms h = omega (arith, mask_l-lt ms, pow_mono {i = length ms} {j = 64} h)
@@ -96,6 +97,7 @@ module _ {X : Type 0} (value : X → ℕ) (place : ℕ → ℕ → ℕ) (w : ℕ
       let size : length one ≡ w * 1 = length-row_of place w (value word ∷ []) in
       ap (λ n. has_bit n i) is ∙ has_number one i ∙ get_or_past one i false (omega arith)
 
+  -- a first word moved down by `skip` has read the bits from `at` up to the word's end
   pub read_first : (at k skip y : ℕ) (word : X) → at < w * length ws → k ≡ at / w → skip ≡ at % w → word ≡ get_or ws k word → y ≡ number_of (row_of place w (value word ∷ [])) → IsRead (row_of place w (map value ws)) at (w - skip) (y / 2 ^ skip)
   read_first at k skip y word below ek es read is =
       let here : k < length ws = subst (λ n. n < length ws) (sym ek) (word_below w at (length ws) positive below) in
@@ -107,6 +109,7 @@ module _ {X : Type 0} (value : X → ℕ) (place : ℕ → ℕ → ℕ) (w : ℕ
         clear = λ i h. has_shr_low y skip i ∙ word_clear (i + skip) y word (omega arith) is;
       }
 
+  -- the next word, put in above the bits already read, has read a word's bits more
   pub read_next : (at k got x y : ℕ) (word : X) → IsRead (row_of place w (map value ws)) at got x → at + got ≡ k * w → got < 64 → k < length ws → word ≡ get_or ws k word → y ≡ number_of (row_of place w (value word ∷ [])) → IsRead (row_of place w (map value ws)) at (got + w) (bit_or x (y * 2 ^ got % 2 ^ 64))
   read_next at k got x y word so_far split low here read is = record {
     shown = λ i h q. has_or x (y * 2 ^ got % 2 ^ 64) i ∙ elim (cases_lt i got) [
@@ -121,10 +124,12 @@ module _ {X : Type 0} (value : X → ℕ) (place : ℕ → ℕ → ℕ) (w : ℕ
     ]);
   }
 
+-- no bits are the number 0
 pub no_bits : (ms : List Bool) (at n : ℕ) → n ≡ 0 → 0 ≡ number_of (slice_range ms at (at + n))
 unfolding number_of
 no_bits ms at n none = let e : at + n - at ≡ 0 = omega arith in rw e refl
 
+-- the first word read from ends where word k does
 pub reach_first : (w at k skip back : ℕ) → 0 < w → k ≡ at / w → skip ≡ at % w → back ≡ w → at + (back - skip) ≡ (k + 1) * w
 reach_first w at k skip back positive ek es is =
     let split : k * w + skip ≡ at = rw (ek, es) (div-add-mod' at w) in
@@ -132,11 +137,13 @@ reach_first w at k skip back positive ek es is =
     let more = one_more_word k w in
     omega arith
 
+-- the next word read from ends where word k + 1 does
 pub reach_next : (w at got k more : ℕ) → at + got ≡ (k + 1) * w → more ≡ w → at + (got + more) ≡ (k + 1 + 1) * w
 reach_next w at got k more so_far is = let next = one_more_word (k + 1) w in omega arith
 
 -- ---- a run put into a word
 
+-- a word whose bits are a number's, moved up by `low`, has at `low` the bits that the number was read from
 pub run_placed : (place : ℕ → ℕ → ℕ) (w v made x low from n : ℕ) (zs : List Bool) → 0 < w → w ≤ 64 → low + n ≤ w → from + n ≤ length zs → x ≡ number_of (slice_range zs from (from + n))
     → ((p : ℕ) → p < w → has_bit made p ≡ has_bit (x * 2 ^ low % 2 ^ 64) p) → ((i : ℕ) → i < w → has_bit v (place w i) ≡ has_bit made i)
     → slice_range (row_of place w (v ∷ [])) low (low + n) ≡ slice_range zs from (from + n)
@@ -156,6 +163,7 @@ run_placed place w v made x low from n zs positive small within fits is narrowed
 pub part_is : (one zs : List Bool) (low high n a from upto : ℕ) → high ≡ low + n → from ≡ a → upto ≡ a + n → slice_range one low (low + n) ≡ slice_range zs a (a + n) → slice_range one low high ≡ slice_range zs from upto
 part_is one zs low high n a from upto eh ea eu is = rw (eh, ea, eu) is
 
+-- a whole word written from w bits of a list has them as its row
 pub whole_is : (place : ℕ → ℕ → ℕ) (w v : ℕ) (zs : List Bool) (n a from upto : ℕ) → n ≡ w → from ≡ a → upto ≡ a + w → slice_range (row_of place w (v ∷ [])) 0 (0 + n) ≡ slice_range zs a (a + n) → row_of place w (v ∷ []) ≡ slice_range zs from upto
 whole_is place w v zs n a from upto en ea eu is =
     let one : List Bool = row_of place w (v ∷ []) in

@@ -35,6 +35,7 @@ low_ok v fits =
     SwzOk-from_below w8 16 1 16 0 (low_places v) refl (omega (arith, length-zip2 bit_and v (replicate 16 15) fits.0))
     (Each1-zip2 bit_and (λ j. j < 16) v (replicate 16 15) (Each2-splat (λ a b. bit_and a b < 16) v 16 15 (Each1-all (λ a. bit_and a 15 < 16) (λ a. omega (arith, and_le_r a 15)) v)))
 
+-- the lookup of the upper half bytes asks for no index past the table
 pub high_ok : (v : List ℕ) → AreBytes v → SwzOk w8 16 16 0 (high_places v)
 high_ok v fits =
     SwzOk-from_below w8 16 1 16 0 (high_places v) refl (omega (arith, length-zip2 down v (replicate 16 4) fits.0))
@@ -181,6 +182,7 @@ module _ (r : List ℕ) (first second : ℕ) (fits : Each1 (λ b. b < 256) r) (s
       let at : p ≡ 64 * (1 - 1) + p = omega arith in
       has_low (number_l 256 r) 64 p h ∙ ap (has_bit (number_l 256 r)) at ∙ bit_of_word 1 p (omega arith) h
 
+  -- the second word holds the first 64 bits in reverse
   pub second_turned : (p : ℕ) → p < 64 → has_bit (number_l 256 r / 2 ^ 64 % 2 ^ 64) p ≡ has_bit first (63 - p)
   second_turned p h =
       let at : p + 64 ≡ 64 * (1 - 0) + p = omega arith in

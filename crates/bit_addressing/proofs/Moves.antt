@@ -9,6 +9,7 @@ use Rattle.bit_addressing.specs.Order.{IsPermutation}
 use Rattle.bit_addressing.specs.Row.{IsSpan, source_of, touched}
 use Rattle.bit_addressing.proofs.Runs.{div_mono, mul_mono}
 
+-- the source of each index of a move lies inside the list
 pub source_below : (s d n j l : ℕ) → s + n ≤ l → j < l → source_of s d n j < l
 source_below s d n j l h k = grind (arith, nat_tests)
 
@@ -42,6 +43,7 @@ run_step place w from i before after p b f o lawful above low is change new old 
       ]
 ]
 
+-- before the first step of a move no bit is changed
 pub none_yet : (from i j : ℕ) (a b : Bool) → i ≡ from → b ≡ (if leb from j && ltb j i then a else b)
 none_yet from i j a b is = elim (cases_lt j from) [
   | inl l ↦ rw (lt-leb from j l) refl
@@ -56,6 +58,7 @@ run_blended place w old new mask v from upto f lawful change masked window i h =
     ∙ ap (λ t. if t then has_bit new (place i) else has_bit old (place i)) (masked i h)
     ∙ ap (λ b. if leb from i && ltb i upto then b else has_bit old (place i)) (window i h)
 
+-- a move of no bits leaves each index its own source
 pub source_none : (s d n j : ℕ) → n ≡ 0 → source_of s d n j ≡ j
 source_none s d n j h = grind (arith, nat_tests)
 

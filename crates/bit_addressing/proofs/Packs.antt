@@ -27,6 +27,7 @@ pack_fills w width = elim width [
   ]
 ]
 
+-- a narrow word packed into 64 bits lies within them
 pub pack_inside : (w i : ℕ) → i < 64 / w → i * w + w ≤ 64
 pack_inside w i h =
     let split : 64 / w * w + 64 % w ≡ 64 = div-add-mod' 64 w in
@@ -86,6 +87,7 @@ high_of_low w k i ws positive =
 abbrev pub unpacked_place : (ℕ → ℕ → ℕ) → ℕ → ℕ → ℕ
 unpacked_place place w i = i / w * w + place w (i % w)
 
+-- an order of narrow words, packed into 64 bits, is an order of 64 bits
 pub unpacked_lawful : (place : ℕ → ℕ → ℕ) (w : ℕ) → IsWidth w → IsPermutation w (place w) → IsPermutation 64 (unpacked_place place w)
 unpacked_lawful place w width lawful =
     let positive = width_positive w width in

@@ -121,15 +121,19 @@ steps_32 = record { apart = 1; lower = 0x55555555 } ∷ record { apart = 2; lowe
 abbrev pub steps_64 : List Swap
 steps_64 = record { apart = 1; lower = 0x5555555555555555 } ∷ record { apart = 2; lower = 0x3333333333333333 } ∷ record { apart = 4; lower = 0x0f0f0f0f0f0f0f0f } ∷ record { apart = 8; lower = 0x00ff00ff00ff00ff } ∷ record { apart = 16; lower = 0x0000ffff0000ffff } ∷ record { apart = 32; lower = 0x00000000ffffffff } ∷ []
 
+-- the swaps of steps_8 reverse the bits of a byte
 pub reverses_8 : (x p : ℕ) → p < 8 → has_bit (swapped_by 8 steps_8 x) p ≡ has_bit x (8 - 1 - p)
 reverses_8 x = reversed_by 8 steps_8 x refl
 
+-- the swaps of steps_16 reverse 16 bits
 pub reverses_16 : (x p : ℕ) → p < 16 → has_bit (swapped_by 16 steps_16 x) p ≡ has_bit x (16 - 1 - p)
 reverses_16 x = reversed_by 16 steps_16 x refl
 
+-- the swaps of steps_32 reverse 32 bits
 pub reverses_32 : (x p : ℕ) → p < 32 → has_bit (swapped_by 32 steps_32 x) p ≡ has_bit x (32 - 1 - p)
 reverses_32 x = reversed_by 32 steps_32 x refl
 
+-- the swaps of steps_64 reverse 64 bits
 pub reverses_64 : (x p : ℕ) → p < 64 → has_bit (swapped_by 64 steps_64 x) p ≡ has_bit x (64 - 1 - p)
 reverses_64 x = reversed_by 64 steps_64 x refl
 
@@ -139,9 +143,11 @@ reverses_64 x = reversed_by 64 steps_64 x refl
 abbrev pub from_high : ℕ → ℕ → ℕ
 from_high w i = i / w * w + (w - 1 - i % w)
 
+-- swaps that bring each place of words of n bits to its mirror turn words whose first bit is the highest into a number
 pub turned_down : (w n : ℕ) (steps : List Swap) (x : ℕ) → w ≡ n → brings 64 steps (λ i. 63 - i) (from_high n) ≡ true → (i : ℕ) → i < 64 → has_bit (swapped_by 64 steps x) (63 - i) ≡ has_bit x (from_high w i)
 turned_down w n steps x is tested = rw is (brought_by 64 steps (λ i. 63 - i) (from_high n) x tested)
 
+-- the same swaps turn a number into words whose first bit is the highest
 pub turned_up : (w n : ℕ) (steps : List Swap) (x : ℕ) → w ≡ n → brings 64 steps (from_high n) (λ i. 63 - i) ≡ true → (i : ℕ) → i < 64 → has_bit (swapped_by 64 steps x) (from_high w i) ≡ has_bit x (63 - i)
 turned_up w n steps x is tested = rw is (brought_by 64 steps (from_high n) (λ i. 63 - i) x tested)
 

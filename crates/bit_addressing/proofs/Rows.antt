@@ -18,9 +18,11 @@ use Rattle.bit_addressing.proofs.lists.Sized.{words_for_le, length-sized, sized_
 use Rattle.bit_addressing.proofs.lists.Put.{length-put, put_before, put_inside, put_after}
 use Rattle.bit_addressing.specs.Row.{row_bit, row_of, words_for, put, sized}
 
+-- each width is above 0
 pub width_positive : (w : ℕ) → IsWidth w → 0 < w
 width_positive w h = grind arith
 
+-- each width is at most 64
 pub width_small : (w : ℕ) → IsWidth w → w ≤ 64
 width_small w h = grind arith
 
@@ -28,6 +30,7 @@ width_small w h = grind arith
 pub word_below : (w j n : ℕ) → 0 < w → j < w * n → j / w < n
 word_below w j n positive h = (div-lt_iff_lt-mul positive).1 (let e : w * n ≡ n * w = mul_comm w n in omega arith)
 
+-- a sum times a width is the sum of the products
 pub mul_add : (w a b : ℕ) → w * a + w * b ≡ w * (a + b)
 mul_add w a b = grind arith
 
@@ -57,6 +60,7 @@ pub same_lists_none : (xs : List Bool) → length xs ≡ 0 → xs ≡ []
 same_lists_none [] h = refl
 same_lists_none (x ∷ xs) h = cc
 
+-- a row of no bits has no words
 pub sized_none : (w : ℕ) → 0 < w → sized w [] 0 ≡ []
 sized_none w positive =
     let few = words_for_le w 0 0 positive (omega arith) in
@@ -64,13 +68,16 @@ sized_none w positive =
     same_lists_none (sized w [] 0) (length-sized w [] 0 ∙ ap (λ n. w * n) zero_words ∙ none_times w)
 
 module _ (place : ℕ → ℕ → ℕ) (w : ℕ) where
+  -- the length of a row is the width times the number of words
   pub length-row_of : (words : List ℕ) → length (row_of place w words) ≡ w * length words
   unfolding row_of
   length-row_of words = length-map-range_with_len (row_bit place w words) 0 (w * length words)
 
+  -- the row of no words is empty
   pub row_of_none : row_of place w [] ≡ []
   row_of_none = same_lists_none (row_of place w []) (length-row_of [] ∙ none_times w)
 
+  -- a bit of a row is that of its word at its place
   pub get_or-row_of : (words : List ℕ) (j : ℕ) → j < w * length words → get_or (row_of place w words) j false ≡ row_bit place w words j
   unfolding row_of
   get_or-row_of words j h = get_or-map-range_with_len (row_bit place w words) 0 (w * length words) j j false h (omega arith)
@@ -107,6 +114,7 @@ module _ (place : ℕ → ℕ → ℕ) (w : ℕ) where
         ])
       ])
 
+  -- the row of two lists of words is the rows one after the other
   pub row_append : (xs ys : List ℕ) → 0 < w → row_of place w (xs ++ ys) ≡ row_of place w xs ++ row_of place w ys
   row_append xs ys positive = same_rows (xs ++ ys) (row_of place w xs ++ row_of place w ys)
       (simp (length-append, length-row_of) (mul_add w (length xs) (length ys)))
@@ -123,6 +131,7 @@ module _ (place : ℕ → ℕ → ℕ) (w : ℕ) where
             ∙ sym (get_or-append_right (row_of place w xs) (row_of place w ys) (w * length xs) j false (length-row_of xs) e ∙ get_or-row_of ys i low)
       ])
 
+  -- the row of the first n words is the first n * w bits of the row
   pub row_take : (n : ℕ) (words : List ℕ) → 0 < w → n ≤ length words → row_of place w (take n words) ≡ take (w * n) (row_of place w words)
   row_take n words positive h =
       sym (take_at (row_of place w (take n words)) (row_of place w (drop n words)) (w * n) (length-row_of (take n words) ∙ ap (λ l. w * l) (length-take-le n words h)))
@@ -137,6 +146,7 @@ module _ (place : ℕ → ℕ → ℕ) (w : ℕ) where
       ap (λ x. has_bit x (place w (j % w))) (get_or-replicate n (j / w) v 0 k) ∙ all (j % w) (mod-lt j positive)
       ∙ sym (get_or-replicate (w * n) j b false (subst (λ l. j < w * l) (length-replicate n v) h)))
 
+  -- the row of words that are 0 is false bits
   pub row_zeros : (n : ℕ) → 0 < w → row_of place w (replicate n 0) ≡ replicate (w * n) false
   row_zeros n positive = row_copies n 0 false positive (λ i _. has_none (place w i))
 
@@ -144,10 +154,12 @@ module _ (place : ℕ → ℕ → ℕ) (w : ℕ) where
   pub row_cut : (words : List ℕ) (b : ℕ) → 0 < w → words_for w b ≤ length words → row_of place w (take (words_for w b) words) ≡ sized w (row_of place w words) b
   row_cut words b positive h = row_take (words_for w b) words positive h ∙ sized_cut w (row_of place w words) b (rw (length-row_of words) (mul_le w (words_for w b) (length words) h))
 
+  -- words that are 0, appended up to the words of b bits, give the row sized for b bits
   pub row_grown : (words : List ℕ) (n b : ℕ) → 0 < w → length words + n ≡ words_for w b → row_of place w (words ++ replicate n 0) ≡ sized w (row_of place w words) b
   row_grown words n b positive h = row_append words (replicate n 0) positive ∙ ap (λ l. row_of place w words ++ l) (row_zeros n positive)
       ∙ sized_more w (row_of place w words) b (w * n) (rw (length-row_of words, mul_add w (length words) n, h) refl)
 
+  -- words whose bits are all flipped have the row with each bit flipped
   pub row_flipped : (old new : List ℕ) → 0 < w → IsPermutation w (place w) → length new ≡ length old → ((k p : ℕ) → k < length old → p < w → has_bit (get_or new k 0) p ≡ not (has_bit (get_or old k 0) p)) → row_of place w new ≡ map not (row_of place w old)
   row_flipped old new positive lawful size flips = same_rows new (map not (row_of place w old))
       (simp (length-map, length-row_of) (ap (λ n. w * n) (sym size)))
@@ -156,6 +168,7 @@ module _ (place : ℕ → ℕ → ℕ) (w : ℕ) where
       ∙ ap not (sym (get_or-row_of old j below))
       ∙ sym (get_or-map not (row_of place w old) j false false (rw (length-row_of old) below)))
 
+  -- words cut or filled with 0 to those of b bits have the row sized for b bits
   pub resized : (words : List ℕ) (b n : ℕ) → 0 < w → n ≡ words_for w b → row_of place w (take n words ++ replicate (n - length words) 0) ≡ sized w (row_of place w words) b
   resized words b n positive is = elim (cases_lt (length words) n) [
     | inr e ↦

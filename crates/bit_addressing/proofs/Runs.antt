@@ -9,9 +9,11 @@ use Rattle.bit_addressing.specs.Row.{IsSpan, put, words_for}
 use Rattle.bit_addressing.proofs.lists.Put.{put_joined}
 use Rattle.bit_addressing.proofs.lists.Sized.{words_for_mono, one_more_word, right_sum}
 
+-- a quotient does not fall as its dividend grows
 pub div_mono : (a b w : ℕ) → 0 < w → a ≤ b → a / w ≤ b / w
 div_mono a b w positive h = le-div (a / w) b w positive (let e = div-mul-le_self a w in omega arith)
 
+-- a product does not fall as its factor grows
 pub mul_mono : (a b w : ℕ) → a ≤ b → a * w ≤ b * w
 mul_mono a b w h = let m : w * a ≤ w * b = mul-le-mul_left w h in let x : w * a ≡ a * w = mul_comm w a in let y : w * b ≡ b * w = mul_comm w b in omega arith
 
@@ -22,6 +24,7 @@ inside_words w k n at is h = elim (cases_lt k n) [
   | inr above ↦ let m = mul_mono n k w above in let x : w * n ≡ n * w = mul_comm w n in absurd (omega arith)
 ]
 
+-- the words and places of the first and last bit of a run are its span
 pub span_of : (w width from upto : ℕ) → 0 < w → width ≡ w → from < upto → IsSpan w from upto (from / width) (from % width) ((upto - 1) / width) ((upto - 1) % width + 1)
 span_of w width from upto positive is h =
     let p : 0 < width = omega arith in
@@ -45,6 +48,7 @@ pub record HasInner (w from upto first low last end : ℕ) : Type 0 where
   pub whole : last * w ≡ (first + 1) * w + (last - (first + 1)) * w
   pub total : from + (w - low + (last - (first + 1)) * w + end) ≡ upto
 
+-- a run over two words or more has whole words, or none, between its edge words
 pub inner : {w from upto first low last end : ℕ} → IsSpan w from upto first low last end → first ≢ last → HasInner w from upto first low last end
 inner {w} {from} {upto} {first} {low} {last} {end} run apart =
     let r = run in
@@ -64,16 +68,19 @@ filled_next xs cur one b from p q i at h k fits so_far is =
     rw (at, so_far, is) (put_joined xs (replicate (p - from) b) (replicate (q - p) b) from p (omega arith) (omega arith)
     ∙ ap (put xs from) (replicate-append-replicate (p - from) (q - p) b ∙ ap (λ n. replicate n b) (omega arith)))
 
+-- a part of equal bits is equal bits
 pub slice_repeated : (one : List Bool) (w low high n : ℕ) (b : Bool) → one ≡ replicate w b → high ≤ w → high - low ≡ n → slice_range one low high ≡ replicate n b
 slice_repeated one w low high n b is h size = rw (is, ← size) (same_lists _ _ (search (rules, places)) (λ i d below. grind (arith, places)))
 
 -- ---- a run of another row
 
+-- two parts, the second from the first's end on, are one part
 pub slices_joined : (zs : List Bool) (a b c : ℕ) → a ≤ b → b ≤ c → c ≤ length zs → slice_range zs a b ++ slice_range zs b c ≡ slice_range zs a c
 slices_joined zs a b c h k l = same_lists _ _ (simp (length-append, length-take, length-drop) (omega arith)) (λ i d below. grind (arith, places))
 
 -- ---- one bit more
 
+-- the words of one bit more are those up to the word that holds bit b
 pub words_for_next : (w b : ℕ) → 0 < w → words_for w (b + 1) ≡ b / w + 1
 unfolding words_for
 words_for_next w b positive =

@@ -64,12 +64,15 @@ moved_twice xs s d n t e m u f o fits same =
     ∙ ap (λ k. get_or xs k false) (same j)
     ∙ sym (get_or-moved xs u f o j below))
 
+-- a move downward by a bits and then by b more is the move of a + b
 pub moved_on : (xs : List Bool) (s d a b : ℕ) → d ≤ s → s + (a + b) ≤ length xs → moved (moved xs s d a) (s + a) (d + a) b ≡ moved xs s d (a + b)
 moved_on xs s d a b h fits = moved_twice xs s d a (s + a) (d + a) b s d (a + b) (omega arith) (λ j. source_on s d a b j h)
 
+-- a move upward of the last b bits and then of the first a is the move of a + b
 pub moved_back : (xs : List Bool) (s d a b : ℕ) → s ≤ d → s + (a + b) ≤ length xs → moved (moved xs (s + a) (d + a) b) s d a ≡ moved xs s d (a + b)
 moved_back xs s d a b h fits = moved_twice xs (s + a) (d + a) b s d a s d (a + b) (omega arith) (λ j. source_back s d a b j h)
 
+-- a move of no bits changes nothing
 pub moved_none : (xs : List Bool) (s d n : ℕ) → n ≡ 0 → moved xs s d n ≡ xs
 moved_none xs s d n none = ext_get_or false (moved xs s d n) xs (length-moved xs s d n)
     (λ j h. get_or-moved xs s d n j (subst (λ l. j < l) (length-moved xs s d n) h) ∙ ap (λ k. get_or xs k false) (source_none s d n j none))
@@ -222,6 +225,7 @@ inner_words {w} {dst} {first} {low} {last} {high} n run apart =
     let same : (last - (first + 1)) * w ≡ (last - first - 1) * w = ap (λ k. k * w) (omega arith) in
     (m.head, omega arith, omega arith)
 
+-- a move downward by its first edge, whole words and last edge in turn is the whole move
 pub run_moved_on : {w dst first low last high : ℕ} (xs ys zs us : List Bool) (src n a : ℕ) → IsSpan w dst (dst + n) first low last high → first ≢ last → a ≡ w - low → dst ≤ src → src + n ≤ length xs
     → ys ≡ moved xs src (first * w + low) a → zs ≡ moved ys (src + a) ((first + 1) * w) ((last - first - 1) * w) → us ≡ moved zs (src + (n - high)) (last * w + 0) (high - 0)
     → us ≡ moved xs src dst n
@@ -239,6 +243,7 @@ run_moved_on {w} {dst} {first} {low} {last} {high} xs ys zs us src n a run apart
     three ∙ ap (λ l. moved l (src + (n - high)) (last * w + 0) (high - 0)) next_part ∙ ap (λ s. moved both s (last * w + 0) (high - 0)) from ∙ ap (λ d. moved both (src + (a + b)) d (high - 0)) beyond ∙ ap (moved both (src + (a + b)) (dst + (a + b))) most
     ∙ moved_thrice_on xs src dst a b high h (omega arith) ∙ ap (moved xs src dst) sum
 
+-- a move upward by its last edge, whole words and first edge in turn is the whole move
 pub run_moved_back : {w dst first low last high : ℕ} (xs ys zs us : List Bool) (src n a : ℕ) → IsSpan w dst (dst + n) first low last high → first ≢ last → a ≡ w - low → src ≤ dst → src + n ≤ length xs
     → ys ≡ moved xs (src + (n - high)) (last * w + 0) (high - 0) → zs ≡ moved ys (src + a) ((first + 1) * w) ((last - first - 1) * w) → us ≡ moved zs src (first * w + low) a
     → us ≡ moved xs src dst n

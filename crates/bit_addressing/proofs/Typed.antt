@@ -11,6 +11,7 @@ use Rattle.bit_addressing.proofs.lists.Put.{put_one}
 use Rattle.bit_addressing.proofs.Rows.{resized, row_append, row_copies, word_below, row_set, row_cut, row_flipped, row_blended, row_stored, row_within, get_or-row_of, length-row_of}
 
 module _ {X : Type 0} (value : X → ℕ) (place : ℕ → ℕ → ℕ) (w : ℕ) where
+  -- the length of a row of typed words is the width times their number
   pub length_row : (ws : List X) → length (row_of place w (map value ws)) ≡ w * length ws
   length_row ws = length-row_of place w (map value ws) ∙ ap (λ n. w * n) (length-map ws value)
 
@@ -18,12 +19,14 @@ module _ {X : Type 0} (value : X → ℕ) (place : ℕ → ℕ → ℕ) (w : ℕ
   pub index_in_row : (ws : List X) (n : ℕ) → n ≤ w * length ws → n ≤ length (row_of place w (map value ws))
   index_in_row ws n h = let size = length_row ws in omega (arith, h, size)
 
+  -- the bit at a word's place is that of the row
   pub row_read : (ws : List X) (at k p : ℕ) (word : X) (b : Bool) → 0 < w → at < w * length ws → k ≡ at / w → p ≡ place w (at % w) → word ≡ get_or ws k word → b ≡ has_bit (value word) p → b ≡ get_or (row_of place w (map value ws)) at false
   row_read ws at k p word b positive below ek ep read is =
       let here : k < length ws = subst (λ n. n < length ws) (sym ek) (word_below w at (length ws) positive below) in
       is ∙ ap (λ x. has_bit (value x) p) read ∙ ap (λ x. has_bit x p) (sym (get_or-map value ws k word 0 here)) ∙ ap (λ n. has_bit (get_or (map value ws) n 0) p) ek ∙ ap (has_bit (get_or (map value ws) (at / w) 0)) ep
       ∙ sym (get_or-row_of place w (map value ws) at (rw length-map below))
 
+  -- a word that differs at one place alone sets one bit of the row
   pub row_write : (ws : List X) (at k p : ℕ) (old new : X) (b : Bool) → 0 < w → IsPermutation w (place w) → at < w * length ws → k ≡ at / w → p ≡ place w (at % w) → old ≡ get_or ws k old
       → ((q : ℕ) → q < w → has_bit (value new) q ≡ (if eqb q p then b else has_bit (value old) q))
       → row_of place w (map value (set ws k new)) ≡ set (row_of place w (map value ws)) at b
@@ -45,6 +48,7 @@ pub record IsFlippedUpTo (w : ℕ) (old new : List ℕ) (n : ℕ) : Type 0 where
   pub done : (k p : ℕ) → k < n → p < w → has_bit (get_or new k 0) p ≡ not (has_bit (get_or old k 0) p)
   pub rest : (k : ℕ) → n ≤ k → get_or new k 0 ≡ get_or old k 0
 
+-- with the next word flipped, one word more is flipped
 pub flip_step : (w : ℕ) (old new : List ℕ) (n v : ℕ) → n < length new → IsFlippedUpTo w old new n → ((p : ℕ) → p < w → has_bit v p ≡ not (has_bit (get_or new n 0) p)) → IsFlippedUpTo w old (set new n v) (n + 1)
 flip_step w old new n v below so_far flips = record {
   size = length-set new n v ∙ so_far.size;
@@ -56,14 +60,17 @@ flip_step w old new n v below so_far flips = record {
 }
 
 module _ {X : Type 0} (value : X → ℕ) (place : ℕ → ℕ → ℕ) (w : ℕ) where
+  -- the same of typed words
   pub flip_word : (old new : List X) (n : ℕ) (d after : X) → n < length new → IsFlippedUpTo w (map value old) (map value new) n → ((p : ℕ) → p < w → has_bit (value after) p ≡ not (has_bit (value (get_or new n d)) p)) → IsFlippedUpTo w (map value old) (map value (set new n after)) (n + 1)
   flip_word old new n d after below so_far flips =
       rw map-set (flip_step w (map value old) (map value new) n (value after) (rw length-map below) so_far (λ p h. flips p h ∙ ap (λ x. not (has_bit x p)) (sym (get_or-map value new n d 0 below))))
 
+  -- once all words are flipped, the row has each bit flipped
   pub flip_all : (old new : List X) (n : ℕ) → length old ≤ n → 0 < w → IsPermutation w (place w) → IsFlippedUpTo w (map value old) (map value new) n → row_of place w (map value new) ≡ map not (row_of place w (map value old))
   flip_all old new n most positive lawful all = row_flipped place w (map value old) (map value new) positive lawful all.size (λ k p h q. all.done k p (let l : length (map value old) ≡ length old = length-map old value in omega arith) q)
 
 module _ {X : Type 0} (value : X → ℕ) (place : ℕ → ℕ → ℕ) (w : ℕ) where
+  -- the first words that b bits take have the row sized for b bits
   pub row_kept : (ws : List X) (b n : ℕ) → 0 < w → n ≡ words_for w b → n ≤ length ws → row_of place w (map value (take n ws)) ≡ sized w (row_of place w (map value ws)) b
   row_kept ws b n positive is h = ap (row_of place w) (sym (take-map value n ws) ∙ ap (λ k. take k (map value ws)) is) ∙ row_cut place w (map value ws) b positive (subst (λ k. k ≤ length (map value ws)) is (rw length-map h))
 

@@ -12,24 +12,29 @@ use mir.Val.{bits, bool_byte}
 use Rattle.bit_addressing.specs.Bits.{has_bit}
 use Rattle.bit_addressing.specs.Row.{AreWords}
 
+-- a bit of `and` is set exactly where both numbers have it
 pub has_and : (a b p : ℕ) → has_bit (bit_and a b) p ≡ (has_bit a p && has_bit b p)
 has_and a b p =
     let e = bit_at_and a b p in let f = bit_at-lt a p in let g = bit_at-lt b p in
     grind (arith, nat_tests, e, f, g)
 
+-- a bit of `or` is set exactly where either number has it
 pub has_or : (a b p : ℕ) → has_bit (bit_or a b) p ≡ (has_bit a p || has_bit b p)
 has_or a b p =
     let e = bit_at_or a b p in let f = bit_at-lt a p in let g = bit_at-lt b p in
     grind (arith, nat_tests, e, f, g)
 
+-- a bit of the complement is set exactly where the number lacks it
 pub has_not : (w : Width) → (a p : ℕ) → a < 2 ^ bits w → p < bits w → has_bit (bit_not w a) p ≡ not (has_bit a p)
 has_not w a p h k =
     let e = bit_at_not w a p h k in let f = bit_at-lt a p in
     grind (arith, nat_tests, e, f)
 
+-- 0 has no bit
 pub has_none : (p : ℕ) → has_bit 0 p ≡ false
 has_none p = ap (λ m. eqb m 1) (bit_at-zero p)
 
+-- a bit of `xor` is that of the first number, flipped where the second has it
 pub has_xor : (a b p : ℕ) → has_bit (bit_xor a b) p ≡ (if has_bit a p then not (has_bit b p) else has_bit b p)
 has_xor a b p =
     let e = bit_at_xor a b p in let f = bit_at-lt a p in let g = bit_at-lt b p in
@@ -46,9 +51,11 @@ has_xor a b p =
 
 -- ---- shifts
 
+-- a number moved down by k has at p the bit that was at p + k
 pub has_shr_low : (a k p : ℕ) → has_bit (a / 2 ^ k) p ≡ has_bit a (p + k)
 has_shr_low a k p = ap (λ n. eqb (n % 2) 1) (div-div-eq-div-mul a (2 ^ k) (2 ^ p) ∙ ap (λ n. a / n) (sym (pow-add 2 k p)) ∙ ap (λ n. a / 2 ^ n) (add_comm k p))
 
+-- a number moved down has no bit at the places that were vacated
 pub has_shr_high : (w a k p : ℕ) → a < 2 ^ w → w ≤ p + k → has_bit (a / 2 ^ k) p ≡ false
 has_shr_high w a k p h q = rw (has_shr_low a k p) (let f = bit_at_above a w (p + k) h q in grind (arith, nat_tests, f))
 
@@ -61,11 +68,13 @@ bit_at_shl_low a k p h = ap (λ m. bit_at m p) (sym (add-zero (a * 2 ^ k))) ∙ 
 bit_at_shl_high : (a k p : ℕ) → k ≤ p → bit_at (a * 2 ^ k) p ≡ bit_at a (p - k)
 bit_at_shl_high a k p h = ap (λ m. bit_at m p) (sym (add-zero (a * 2 ^ k))) ∙ bit_at_cat_high a k 0 p (pow_pos k) h
 
+-- a number moved up by k has no bit below k
 pub has_shl_low : (w a k p : ℕ) → p < k → k < w → has_bit (a * 2 ^ k % 2 ^ w) p ≡ false
 has_shl_low w a k p h q =
     let e : bit_at (a * 2 ^ k % 2 ^ w) p ≡ 0 = bit_at_mod (a * 2 ^ k) w p (omega arith) ∙ bit_at_shl_low a k p h in
     grind (arith, nat_tests, e)
 
+-- a number moved up by k has at p the bit that was at p - k
 pub has_shl_high : (w a k p : ℕ) → k ≤ p → p < w → has_bit (a * 2 ^ k % 2 ^ w) p ≡ has_bit a (p - k)
 has_shl_high w a k p h q = ap (λ m. eqb m 1) (bit_at_mod (a * 2 ^ k) w p q ∙ bit_at_shl_high a k p h)
 
@@ -143,6 +152,7 @@ same_in_64 w a b r s few fits_a fits_b fits_r fits_s low_r high_r low_s high_s =
 
 -- ---- masks made by two shifts of the word whose bits are all set
 
+-- the complement of 0 has each bit
 pub ones_bit : (w blank ones p : ℕ) → blank ≡ 0 → p < w → ((q : ℕ) → q < w → has_bit ones q ≡ not (has_bit blank q)) → has_bit ones p ≡ true
 ones_bit w blank ones p none h flips = flips p h ∙ ap (λ n. not (has_bit n p)) none ∙ ap not (has_none p)
 
@@ -174,8 +184,10 @@ mask_down w low high back ones up out i ordered fits is h all below above inside
 
 -- ---- in words of other widths
 
+-- the remainder by 2^n has the bits below n
 pub has_low : (x n p : ℕ) → p < n → has_bit (x % 2 ^ n) p ≡ has_bit x p
 has_low x n p h = ap (λ m. eqb m 1) (bit_at_mod x n p h)
 
+-- a number below 2^n has no bit from n on
 pub has_above : (x n p : ℕ) → x < 2 ^ n → n ≤ p → has_bit x p ≡ false
 has_above x n p h k = ap (λ m. eqb m 1) (bit_at_above x n p h k)

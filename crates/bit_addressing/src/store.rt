@@ -26,7 +26,7 @@ pub trait BitStore: Copy + Drop {
 
     ghost ZERO: { Self };
 
-    /// How many bits a word has.
+    /// The number of bits of a word.
     const BITS: u8;
 
     /// The word with no bit set.
@@ -96,7 +96,7 @@ pub trait BitStore: Copy + Drop {
     fn from_u64(n: u64) -> Self
         ensures { (p : ℕ) → p < BITS → has_bit (value result) p ≡ has_bit n p };
 
-    /// How many bits are set.
+    /// The number of set bits.
     fn count_ones(self) -> u32
         ensures { result ≡ count_ones (value self) };
 

@@ -32,7 +32,7 @@ impl<'a, T: BitStore> WordRow<'a, T> {
         }
     }
 
-    /// How many bits the words have.
+    /// The number of bits of the words.
     pub fn row_len(&self) -> usize
         ensures { result ≡ T.BITS * length self.now.words.now }
     {

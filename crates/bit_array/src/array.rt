@@ -27,10 +27,20 @@ pub use iter::IntoIter;
 /// In contracts an array is the `A` that it was made of: its words are `A.words a`, and its list of bits is
 /// their row, `row A.Store.BitStore O.BitOrder (A.words a)`.
 ///
+/// ```rust
+/// use bit_addressing::Msb0;
+/// use bit_array::BitArray;
+/// use bit_slice::{BitList, BitListMut};
+///
+/// let mut flags = BitArray::<[u8; 2], Msb0>::new([0x80, 0x01]);
+/// flags.set(1, true);
+/// println!(&rt; "{} bits, {} of them set, the first two {}", flags.len(), flags.count_ones(), flags.get_range(..2))?;
+/// println!(&rt; "in words {:?}", flags.into_inner())?;
+/// ```
+///
 /// ```text
-/// let mut a = BitArray::<[u8; 2], Msb0>::new([0x80, 0x01]);
-/// a.set(1, true);
-/// a.into_inner()          // [0xc0, 0x01]
+/// 16 bits, 3 of them set, the first two [1, 1]
+/// in words [192, 1]
 /// ```
 pub struct BitArray<A: BitWords = [usize; 1], O: BitOrder = Lsb0> {
     inner: A,

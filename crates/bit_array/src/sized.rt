@@ -19,10 +19,10 @@ pub trait BitWords: Copy {
     // The words, the first first.
     ghost words: { Self → List Self.Store };
 
-    // How many there are.
+    // Their number.
     ghost count: { ℕ };
 
-    /// How many words there are.
+    /// The number of words.
     fn count() -> usize
         ensures { result ≡ count };
 

@@ -64,6 +64,7 @@ module _ {U S A : Type 0} (becomes : U → S → Type 0) (steps : S → Option (
 
 -- where a call is refused after its first items, there are some
 module _ {U S A V : Type 0} (becomes : U → S → Type 0) (steps : S → Option A → S → Type 0) (iter : U) where
+  -- an iterator that a box refused gave an item first, whatever the reason
   pub refused_first : (why : GrowError) (result : Result V GrowError) → result ≡ Err why → (result ≡ Err TooLong → GivesFirst becomes steps iter (λ items. MAX_BITS < length items))
       → (result ≡ Err OutOfMemory → GivesFirst becomes steps iter (λ items. (0 < length items) × (length items ≤ MAX_BITS))) → GivesFirst becomes steps iter (λ items. 0 < length items)
   refused_first TooLong result is long memory = let h = long is in (h.0, h.1, h.2, h.3, h.4, omega (arith, h.5))

@@ -9,6 +9,7 @@ use Rattle.bit_addressing.proofs.lists.Refilled.{refilled}
 use Rattle.bit_slice.proofs.Parts.{in_row, shown_length, run_in_run}
 
 module _ {X Y : Type 0} (W : store.Ghosts X) (P : order.Ghosts Y) where
+  -- a part that is left and written back lands in the words that it came from
   pub left_lands : (xs ws : List X) (old : List Bool) (head from upto : ℕ) → head + length old ≤ W.BITS * length xs → from ≤ upto → upto ≤ length old
       → let now : List X = refill (length xs) xs ws in let left : List Bool = slice_range old from upto in
       slice_range (refill (length old) old (slice_range (row W P now) head (head + length old))) from upto ≡ refill (length left) left (slice_range (row W P now) (head + from) (head + from + length left))

@@ -40,10 +40,21 @@ pub use iter::IntoIter;
 /// In contracts a box `b` is all its words `b.words`, their bits in a row `b.row`, the head `b.head` and the
 /// list `b.list`.
 ///
+/// ```rust
+/// use bit_addressing::Lsb0;
+/// use bit_boxed::BitBox;
+/// use bit_slice::{BitList, BitListMut, BitSlice};
+///
+/// let mut flags = BitBox::<u8, Lsb0>::from_bitslice(rt.alloc(), BitSlice::from_slice(&[5, 1]))?;
+/// flags.set(1, true);
+/// println!(&rt; "{} of {} are set, the last at {:?}", flags.count_ones(), flags.len(), flags.last_one())?;
+/// flags.rotate_left(8);
+/// println!(&rt; "in words {:?}", flags.into_boxed_slice().as_slice())?;
+/// ```
+///
 /// ```text
-/// let mut b = BitBox::from_bitslice(alloc, view)?;
-/// b.set(0, true);
-/// b.into_boxed_slice()
+/// 4 of 16 are set, the last at Some(8)
+/// in words [1, 7]
 /// ```
 #[derive(Drop)]
 pub struct BitBox<T: BitStore = usize, O: BitOrder = Lsb0> {

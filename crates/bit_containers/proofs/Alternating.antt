@@ -15,10 +15,12 @@ use Rattle.bit_containers.specs.Repeated.{alternating}
 
 -- ---- bits in turn
 
+-- n alternating bits have length n
 pub length-alternating : (n : ℕ) (b : Bool) → length (alternating n b) ≡ n
 length-alternating zero b = refl
 length-alternating (suc n) b = ap suc (length-alternating n (not b))
 
+-- the first n of alternating bits are n alternating bits
 pub take_alternating : (n m : ℕ) (b : Bool) → n ≤ m → take n (alternating m b) ≡ alternating n b
 take_alternating zero m b h = refl
 take_alternating (suc n) zero b h = absurd (omega arith)
@@ -42,6 +44,7 @@ pub from_true : number_bits 0x5555555555555555 64 ≡ alternating 64 true
 unfolding number_bits
 from_true = refl
 
+-- the number 0xAAAA.. is 64 alternating bits from false on
 pub from_false : number_bits 0xAAAAAAAAAAAAAAAA 64 ≡ alternating 64 false
 unfolding number_bits
 from_false = refl

@@ -27,6 +27,7 @@ kept_by_bit test i [] = refl
 kept_by_bit test i (x ∷ bits) = ap (λ l. cond (test x) (x ∷ l) l) (kept_by_bit test (i + 1) bits)
 
 module _ {F : Type 0} (step : F → ℕ → Bor Bool → Bool → F → Type 0) where
+  -- one call more adds its result for the next bit
   pub results_at_each_more : (f : F) (i : ℕ) (bits results : List Bool) (g : F) (j : ℕ) (bit : Bool) (shown : Bor Bool) (b : Bool) (h : F) → ResultsAtEach step f i bits results g → step g j shown b h → shown.now ≡ bit → j ≡ i + length bits → ResultsAtEach step f i (bits ++ bit ∷ []) (results ++ b ∷ []) h
   results_at_each_more f i [] results g j bit shown b h run called shows at =
       let same : j ≡ i = omega arith in
@@ -69,9 +70,11 @@ abbrev pub TakesIf : Bool → Bool → ℕ → List Bool → ℕ → ℕ → Lis
 TakesIf b bit index now count number later more next =
     (length later ≡ length now) × (drop (index + 1) later ≡ drop (index + 1) now) × (more ≤ index + 1) × (staying later more next ≡ staying now count number ++ cond b (bit ∷ []) [])
 
+-- a bit that the test refuses leaves what was kept
 pub takes_not : (bit : Bool) (index : ℕ) (now : List Bool) (count number : ℕ) → count ≤ index → TakesIf false bit index now count number now count number
 takes_not bit index now count number h = (refl, refl, omega arith, sym (append-nil (staying now count number)))
 
+-- a bit that the test passes is kept after those kept before
 pub takes_one : (bit : Bool) (index : ℕ) (now : List Bool) (count number : ℕ) (later : List Bool) (next : ℕ) → count ≤ index → length later ≡ length now → drop (count + 1) later ≡ drop (count + 1) now → staying later (count + 1) next ≡ staying now count number ++ bit ∷ [] → TakesIf true bit index now count number later (count + 1) next
 takes_one bit index now count number later next h size rest front =
     let on : count + 1 + (index - count) ≡ index + 1 = omega arith in
@@ -87,6 +90,7 @@ module _ {F : Type 0} (step : F → ℕ → Bor Bool → Bool → F → Type 0) 
     pub gave : ResultsAtEach step first 0 (take index old) results f
     pub front : staying now count number ≡ kept (take index old) results
 
+  -- before the first call nothing is kept and nothing is passed over
   pub retains_nothing : (first : F) (old : List Bool) → RetainsUpTo first old first old 0 0 0
   retains_nothing first old = record { beyond = omega arith; size = refl; rest = refl; results = []; gave = (refl, refl); front = number_bits_none 0 }
 

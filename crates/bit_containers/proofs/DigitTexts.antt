@@ -140,6 +140,7 @@ abbrev pub read_on : List Bool → ℕ → Result (List Bool) ℕ → Result (Li
 read_on bits k (Ok more) = Ok (bits ++ more)
 read_on bits k (Err at) = Err (k + at)
 
+-- before the first digit, what is still to be said is all
 pub nothing_read : (said : Result (List Bool) ℕ) → said ≡ read_on [] 0 said
 nothing_read (Ok more) = refl
 nothing_read (Err at) = ap Err (omega arith)
@@ -275,9 +276,11 @@ said_once said xs ys a b = ap found (sym a ∙ b)
 
 -- ---- the digits of a text
 
+-- the length of the digits is the distance of their ends
 pub length-digits : (text : List ℕ) (first end : ℕ) → end ≤ length text → length (slice_range text first end) ≡ end - first
 length-digits text first end inside = length-take (end - first) (drop first text) ∙ (let rest = length-drop first text in omega (arith, rest, inside))
 
+-- a character of the text is that of the digits, counted from where they begin
 pub char_at : (text : List ℕ) (first end at : ℕ) → first ≤ at → at < end → get_or text at 0 ≡ get_or (slice_range text first end) (at - first) 0
 char_at text first end at begins below =
     let e : first + (at - first) ≡ at = omega arith in

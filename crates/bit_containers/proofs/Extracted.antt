@@ -55,11 +55,13 @@ module _ (mask number i gathered got : ℕ) where
       ∙ extracted_append (number_bits mask i) (has_bit mask i ∷ []) (number_bits number i) (has_bit number i ∷ []) (length-number_bits mask i ∙ sym (length-number_bits number i))
       ∙ ap (λ l. items_where_true (number_bits mask i) (number_bits number i) ++ l) (extracted_one (has_bit mask i) (has_bit number i))
 
+  -- where the mask has the bit, the gathered bits get one more
   pub bit_taken : (later : ℕ) → has_bit mask i ≡ true → number_bits gathered got ≡ items_where_true (number_bits mask i) (number_bits number i) → number_bits later (got + 1) ≡ number_bits gathered got ++ has_bit number i ∷ [] → number_bits later (got + 1) ≡ items_where_true (number_bits mask (i + 1)) (number_bits number (i + 1))
   bit_taken later one before wrote =
       wrote ∙ ap (λ l. l ++ has_bit number i ∷ []) before
       ∙ sym (next ∙ ap (λ b. items_where_true (number_bits mask i) (number_bits number i) ++ cond b (has_bit number i ∷ []) []) one)
 
+  -- where the mask lacks the bit, the gathered bits stay
   pub bit_not_taken : has_bit mask i ≡ false → number_bits gathered got ≡ items_where_true (number_bits mask i) (number_bits number i) → number_bits gathered got ≡ items_where_true (number_bits mask (i + 1)) (number_bits number (i + 1))
   bit_not_taken none before =
       before
@@ -123,12 +125,14 @@ module _ (ms xs : List Bool) where
 
 -- ---- a list again and again
 
+-- m + n repetitions are m repetitions and then n
 pub repeated_sum : (m n : ℕ) (xs : List Bool) → repeated (m + n) xs ≡ repeated m xs ++ repeated n xs
 repeated_sum zero n xs = let none : 0 + n ≡ n = omega arith in ap (λ k. repeated k xs) none
 repeated_sum (suc m) n xs =
     let next : suc m + n ≡ suc (m + n) = omega arith in
     ap (λ k. repeated k xs) next ∙ ap (λ l. xs ++ l) (repeated_sum m n xs) ∙ sym (append_assoc xs (repeated m xs) (repeated n xs))
 
+-- n repetitions have n times the length
 pub length-repeated : (n : ℕ) (xs : List Bool) → length (repeated n xs) ≡ n * length xs
 length-repeated zero xs = omega arith
 length-repeated (suc n) xs =
@@ -152,6 +156,7 @@ no_item : (xs : List Bool) → length xs ≡ 0 → xs ≡ []
 no_item [] none = refl
 no_item (x ∷ xs) none = absurd (omega arith)
 
+-- repetitions of no bits, or none of them, are empty
 pub repeated_none : (n : ℕ) (xs : List Bool) → n * length xs ≡ 0 → repeated n xs ≡ []
 repeated_none n xs none = no_item (repeated n xs) (length-repeated n xs ∙ none)
 
@@ -166,6 +171,7 @@ past_room room len n some past =
 
 -- one copy more
 module _ (now xs cur : List Bool) (done more start len : ℕ) (few : more ≤ done) (starts : start ≡ length now) (long : len ≡ length xs) (is : cur ≡ now ++ repeated done xs) where
+  -- the first bits of repetitions are repetitions
   pub copy_is : slice_range cur start (start + more * len) ≡ repeated more xs
   copy_is =
       ap (λ l. slice_range l start (start + more * len)) is
@@ -173,11 +179,13 @@ module _ (now xs cur : List Bool) (done more start len : ℕ) (few : more ≤ do
       ∙ ap (λ k. slice_range (now ++ repeated done xs) (length now) (length now + more * k)) long
       ∙ repeated_part now xs more done few
 
+  -- a copy of what was repeated appends that many repetitions
   pub copied_more : (later : List Bool) → later ≡ cur ++ slice_range cur start (start + more * len) → later ≡ now ++ repeated (done + more) xs
   copied_more later wrote =
       wrote ∙ ap (λ l. cur ++ l) copy_is ∙ ap (λ l. l ++ repeated more xs) is
       ∙ append_assoc now (repeated done xs) (repeated more xs) ∙ ap (λ l. now ++ l) (sym (repeated_sum done more xs))
 
+  -- the length reached is that of the repetitions made so far
   pub reached : length cur ≡ length now + done * len
   reached = ap length is ∙ length-append now (repeated done xs) ∙ ap (λ k. length now + k) (length-repeated done xs ∙ ap (λ k. done * k) (sym long))
 
@@ -205,6 +213,7 @@ runs_few runs i =
     ∙ length-append (flat_map bits_of_run (take i runs)) (flat_map bits_of_run (drop i runs)) in
     omega arith
 
+-- the bits of one run more are longer by that run
 pub runs_next : (runs : List BitRun) (i : ℕ) (d : BitRun) → i < length runs → length (flat_map bits_of_run (take (i + 1) runs)) ≡ length (flat_map bits_of_run (take i runs)) + ((get_or runs i d).end - (get_or runs i d).start)
 runs_next runs i d inside =
     ap length (runs_more runs i d inside) ∙ length-append (flat_map bits_of_run (take i runs)) (bits_of_run (get_or runs i d))

@@ -32,6 +32,7 @@ part_moved w xs head len s n positive h k =
     ∙ sym (put_moved all (head + s) (head + len) n (omega arith) (omega arith))
     ∙ ap (put all (head + len)) (shows_sized w xs (head + len + n) (head + s) (head + s + n) positive (omega arith) (omega arith) (omega arith) ∙ shown_part xs head len s n h k)
 
+-- a part of the list moved to its end is appended to it
 pub part_joined : (w : ℕ) (xs : List Bool) (head len s n : ℕ) → 0 < w → s + n ≤ len → head + len ≤ length xs
     → slice_range (moved (sized w xs (head + (len + n))) (head + s) (head + len) n) head (head + (len + n)) ≡ slice_range xs head (head + len) ++ slice_range (slice_range xs head (head + len)) s (s + n)
 part_joined w xs head len s n positive h k =
@@ -115,10 +116,12 @@ sized_false w n positive =
 
 -- ---- bits gathered in a number
 
+-- the n highest bits have length n
 pub length-highest_bits : (x n : ℕ) → length (highest_bits x n) ≡ n
 unfolding highest_bits
 length-highest_bits x n = length-number_bits (x / 2 ^ (64 - n)) n
 
+-- no highest bits are the empty list
 pub highest_bits_none : (x : ℕ) → highest_bits x 0 ≡ []
 unfolding highest_bits
 highest_bits_none x = number_bits_none (x / 2 ^ 64)

@@ -40,6 +40,7 @@ filled_over w row zs head len n m positive is size =
 filled_at : (xs : List Bool) (n i : ℕ) → get_or (filled_up xs n) i false ≡ get_or xs i false
 filled_at xs n i = grind (arith, places)
 
+-- a list combined with another, filled up to its length, is combined bit by bit
 pub combined_all : (f : Bool → Bool → Bool) (xs ys zs : List Bool) (n : ℕ) → zs ≡ combined f (filled_up xs n) ys → CombinesAll f xs ys zs
 combined_all f xs ys zs n is i h =
     let size : length zs ≡ length (filled_up xs n) = ap length is ∙ length-combined f (filled_up xs n) ys in

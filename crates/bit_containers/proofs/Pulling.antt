@@ -50,23 +50,25 @@ gathers_length w old now number got pulled was =
     let s = length-highest_bits number got in
     omega arith
 
--- an iterator of which no run has more items than fit is not refused
-module _ {U S : Type 0} (becomes : U → S → Type 0) (steps : S → Option Bool → S → Type 0) (iter : U) (len capacity : ℕ) where
-  pub never_refused : (result : Result (Unit {0}) GrowError) → (result ≡ Err TooLong → GivesFirst becomes steps iter (λ bits. MAX_BITS < len + length bits))
-      → (result ≡ Err OutOfMemory → GivesFirst becomes steps iter (λ bits. (capacity < len + length bits) × (len + length bits ≤ MAX_BITS)))
-      → ((it : S) → becomes iter it → EachRunFrom steps it (λ run. (len + length run.items ≤ capacity) × (len + length run.items ≤ MAX_BITS))) → IsOk result
-  never_refused (Ok done) long wants fits = refl
-  never_refused (Err TooLong) long wants fits =
-      let gave = long refl in
-      let bound = along_from_runs steps gave.0 (λ items. (len + length items ≤ capacity) × (len + length items ≤ MAX_BITS)) (fits gave.0 gave.3) gave.1 gave.2 gave.4 in
+-- an iterator of which no run takes more bits than fit is not refused
+module _ {U S A : Type 0} (becomes : U → S → Type 0) (steps : S → Option A → S → Type 0) (iter : U) (size : List A → ℕ) (capacity : ℕ) where
+  -- an iterator of which no run takes more bits than fit is not refused
+  pub never_refused : (result : Result (Unit {0}) GrowError) → (result ≡ Err TooLong → GivesFirst becomes steps iter (λ items. MAX_BITS < size items))
+      → (result ≡ Err OutOfMemory → GivesFirst becomes steps iter (λ items. capacity < size items))
+      → ((it : S) → becomes iter it → EachRunFrom steps it (λ run. (size run.items ≤ capacity) × (size run.items ≤ MAX_BITS))) → IsOk result
+  never_refused (Ok done) too_long no_memory fits = refl
+  never_refused (Err TooLong) too_long no_memory fits =
+      let gave = too_long refl in
+      let bound = along_from_runs steps gave.0 (λ items. (size items ≤ capacity) × (size items ≤ MAX_BITS)) (fits gave.0 gave.3) gave.1 gave.2 gave.4 in
       absurd (omega (arith, gave.5, bound.1))
-  never_refused (Err OutOfMemory) long wants fits =
-      let gave = wants refl in
-      let bound = along_from_runs steps gave.0 (λ items. (len + length items ≤ capacity) × (len + length items ≤ MAX_BITS)) (fits gave.0 gave.3) gave.1 gave.2 gave.4 in
-      absurd (omega (arith, gave.5.0, bound.0))
+  never_refused (Err OutOfMemory) too_long no_memory fits =
+      let gave = no_memory refl in
+      let bound = along_from_runs steps gave.0 (λ items. (size items ≤ capacity) × (size items ≤ MAX_BITS)) (fits gave.0 gave.3) gave.1 gave.2 gave.4 in
+      absurd (omega (arith, gave.5, bound.0))
 
 -- where no run has more items than the capacity has room for, the capacity stays
 module _ {U S A : Type 0} (becomes : U → S → Type 0) (steps : S → Option A → S → Type 0) (iter : U) (size : List A → ℕ) where
+  -- where no run has more items than there is room for, the capacity stays
   pub never_grown : (before after : ℕ) → before ≤ after → (before < after → GivesFirst becomes steps iter (λ items. before < size items)) → ((it : S) → becomes iter it → EachRunFrom steps it (λ run. size run.items ≤ before)) → after ≡ before
   never_grown before after more gave fits = elim (cases_lt before after) [
     | inl past ↦
@@ -77,6 +79,7 @@ module _ {U S A : Type 0} (becomes : U → S → Type 0) (steps : S → Option A
   ]
 
 module _ {S A : Type 0} (steps : S → Option A → S → Type 0) (it : S) (size : List A → ℕ) where
+  -- the same for an iterator that is already there
   pub never_past : (before after : ℕ) → before ≤ after → (before < after → (items : List A) × (rest : S) × Yields steps it items rest × (before < size items)) → EachRunFrom steps it (λ run. size run.items ≤ before) → after ≡ before
   never_past before after more gave fits = elim (cases_lt before after) [
     | inl past ↦
@@ -134,6 +137,7 @@ pulled_length xs number got pulled all =
     let s = length-highest_bits number got in
     omega arith
 
+-- one bit more in the gathered number is one bit more pulled
 pub pulled_more : (xs more zs : List Bool) (number got next n : ℕ) (pulled : List Bool) (bit : Bool) → xs ++ highest_bits number got ≡ pulled → zs ≡ xs ++ more → more ++ highest_bits next n ≡ highest_bits number got ++ bit ∷ [] → zs ++ highest_bits next n ≡ pulled ++ bit ∷ []
 pulled_more xs more zs number got next n pulled bit all list same =
     ap (λ l. l ++ highest_bits next n) list

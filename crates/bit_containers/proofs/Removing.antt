@@ -43,9 +43,11 @@ removed_range_shows w xs head len s e positive h k fits =
 
 -- ---- what a `Drain` gives
 
+-- a part is its first bit and the rest
 pub run_front : (xs : List Bool) (i j : ℕ) → i < j → j ≤ length xs → slice_range xs i j ≡ get_or xs i false ∷ slice_range xs (i + 1) j
 run_front xs i j h k = run_first xs i j (get_or xs i false) h k refl
 
+-- a part is all but its last bit, and that bit
 pub run_back : (xs : List Bool) (i j : ℕ) → i < j → j ≤ length xs → slice_range xs i j ≡ slice_range xs i (j - 1) ++ get_or xs (j - 1) false ∷ []
 run_back xs i j h k = run_last xs i j (get_or xs (j - 1) false) h k refl
 
@@ -54,12 +56,15 @@ pub run_after : (xs : List Bool) (i j n : ℕ) → i + n < j → j ≤ length xs
 run_after xs i j n h k = same_lists _ _ (search (rules, places)) (λ a d below. grind (arith, places))
 
 module _ {X Y : Type 0} {W : store.Ghosts X} {P : order.Ghosts Y} where
+  -- a drain gives what it has left, in order
   pub drain_runs : YieldsInOrder (DrainSteps {X = X} {Y = Y} {W = W} {P = P}) drain_rest
   drain_runs p s = as_is p (drain_rest p.from) (from_front DrainSteps (λ x. x) drain_rest (λ s t h. ap length h.0.0) (λ s x t h. h.0) p s)
 
+  -- a drain gives what it has left from the back, in reverse
   pub drain_runs_back : YieldsInReverse (DrainStepsBack {X = X} {Y = Y} {W = W} {P = P}) drain_rest
   drain_runs_back p s = as_is_back p (drain_rest p.from) (from_back DrainStepsBack (λ x. x) drain_rest (λ s t h. ap length h.0.0) (λ s x t h. h.0) p s)
 
+  -- a drain keeps what it will leave, whatever was taken from it
   pub drain_keeps_along : (first : Drain X Y W P) → DrainKeepsAlong first
   drain_keeps_along first [] later run = subst (DrainKeeps first) run (refl, refl, refl, refl)
   drain_keeps_along first (item ∷ items) later run =
@@ -67,9 +72,11 @@ module _ {X Y : Type 0} {W : store.Ghosts X} {P : order.Ghosts Y} where
       let rest = drain_keeps_along run.0 items later run.2 in
       (rest.0 ∙ step.0, rest.1 ∙ step.1, rest.2 ∙ step.2, rest.3 ∙ step.3)
 
+  -- an owning iterator gives its bits in order
   pub items_runs : YieldsInOrder (YieldsFirst (items_rest {X = X} {Y = Y} {W = W} {P = P})) items_rest
   items_runs p s = as_is p (items_rest p.from) (from_front (YieldsFirst items_rest) (λ b. b) items_rest (λ s t h. ap length h.0) (λ s x t h. h) p s)
 
+  -- an owning iterator gives its bits from the back in reverse
   pub items_runs_back : YieldsInReverse (YieldsLast (items_rest {X = X} {Y = Y} {W = W} {P = P})) items_rest
   items_runs_back p s = as_is_back p (items_rest p.from) (from_back (YieldsLast items_rest) (λ b. b) items_rest (λ s t h. ap length h.0) (λ s x t h. h) p s)
 

@@ -63,6 +63,7 @@ text_said text bits (inr list) = ap bits_said list ∙ ap (λ p. said_at p (digi
 one_said : (bits more : List Bool) → Some bits ≡ Some more → bits ≡ more
 one_said bits more e = cc
 
+-- a text says one list of bits at most
 pub only_said : (text : List ℕ) (bits more : List Bool) → bits_said text ≡ Some bits → IsTextOf text more → bits ≡ more
 only_said text bits more said is = one_said bits more (sym said ∙ text_said text more is)
 

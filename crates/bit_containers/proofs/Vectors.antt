@@ -28,6 +28,7 @@ mul_one_more w n = grind arith
 pub prove_in_words : (w n head len size : ℕ) → IsWidth w → IsVector w n head len size → head + len ≤ w * n
 prove_in_words w n head len size width v = v.fits
 
+-- words that are a vector's hold its list
 pub shown : {X Y : Type 0} {size : ℕ} (W : store.Ghosts X) (P : order.Ghosts Y) (ws : List X) (head len : ℕ) → IsWidth W.BITS → IsVector W.BITS (length ws) head len size → head + len ≤ length (row W P ws)
 shown W P ws head len width v = in_row W P ws (head + len) v.fits
 

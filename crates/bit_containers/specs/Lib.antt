@@ -11,6 +11,8 @@ pub mod Repeated
 pub mod Splice
 pub mod Text
 pub mod DigitTexts
+pub mod TextParts
+pub mod RangesRead
 pub use Rattle.bit_addressing.specs.Binary
 pub use Rattle.bit_addressing.specs.Bits
 pub use Rattle.bit_addressing.specs.Order

@@ -4,6 +4,7 @@
 
 mod literals;
 mod machine;
+mod parted;
 pub mod vec;
 
 pub use bit_addressing::{
@@ -22,3 +23,8 @@ pub use machine::{Command, Reply, Stop, run};
 pub use vec::{
     BitVec, Drain, FromBits, IntoBitVec, Items, ParseBitsError, Splice, ToBits, ToBytes,
 };
+
+/// What the crates above read of texts. Users of bits need none of it.
+pub mod inner {
+    pub use crate::parted::{cut_part, part_number};
+}

@@ -67,10 +67,10 @@ pub enum Reply {
     OutOfRange,
 }
 
-/// How many commands an execution did, and why it stopped.
+/// The number of commands that an execution did, and why it stopped.
 #[derive(Clone, Copy, PartialEq, Eq, Debug)]
 pub struct Stop {
-    /// How many commands were done.
+    /// The number of commands that were done.
     pub done: usize,
     /// Why the next command was refused.
     pub why: GrowError,

@@ -35,6 +35,7 @@ mod making;
 mod numbers;
 mod ops;
 mod pieces;
+mod ranges;
 mod slice;
 mod splice;
 mod text;
@@ -60,11 +61,19 @@ pub use to_bits::ToBits;
 /// In contracts a vector `v` is its visible words `v.words`, their bits in a row `v.row`, the head
 /// `v.head`, the list `v.list` and the capacity in bits `v.capacity`.
 ///
+/// ```rust
+/// use bit_containers::{BitList, BitVec, Msb0};
+///
+/// let mut bits = BitVec::<u8, Msb0>::repeat(rt.alloc(), false, 10)?;
+/// bits.set(1, true);
+/// bits.push(true)?;
+/// println!(&rt; "{bits}: {} ones, the last at {:?}", bits.count_ones(), bits.last_one())?;
+/// println!(&rt; "in words {:?}", bits.into_vec().as_slice())?;
+/// ```
+///
 /// ```text
-/// let mut v = BitVec::<u8, Msb0>::new(alloc);
-/// v.push(false)?;
-/// v.push(true)?;
-/// v.into_vec()            // the one word 0x40
+/// [0, 1, 0, 0, 0, 0, 0, 0, 0, 0, 1]: 2 ones, the last at Some(10)
+/// in words [64, 32]
 /// ```
 #[derive(Drop)]
 pub struct BitVec<T: BitStore = usize, O: BitOrder = Lsb0> {

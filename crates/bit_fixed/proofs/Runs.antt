@@ -15,8 +15,10 @@ replies_of-append list (x ∷ xs) ys = ap (λ rs. reply_to list x ∷ rs) (repli
 
 -- one command more
 module _ (list : List Bool) (cs : List FixedCommand) (i : ℕ) (d : FixedCommand) (h : i < length cs) where
+  -- the list after one command more is that after the command
   pub list_after-next : list_after list (take (i + 1) cs) ≡ list_after_one (list_after list (take i cs)) (get_or cs i d)
   list_after-next = ap (λ xs. list_after list xs) (take_more cs i d h) ∙ list_after-append list (take i cs) (get_or cs i d ∷ [])
 
+  -- one command more adds its reply
   pub replies_of-next : replies_of list (take (i + 1) cs) ≡ replies_of list (take i cs) ++ reply_to (list_after list (take i cs)) (get_or cs i d) ∷ []
   replies_of-next = ap (λ xs. replies_of list xs) (take_more cs i d h) ∙ replies_of-append list (take i cs) (get_or cs i d ∷ [])

@@ -12,11 +12,11 @@ pub trait Bits {
     // The bits, the first first.
     ghost list: { Self → List Bool };
 
-    // How many bits the container has room for without new memory. For one that never grows, that
+    // The number of bits of the container room for without new memory. For one that never grows, that
     // is its length.
     ghost capacity: { Self → ℕ };
 
-    /// How many bits there are.
+    /// The number of bits.
     fn len(&self) -> usize
         ensures { result ≡ length (list self.now) };
 

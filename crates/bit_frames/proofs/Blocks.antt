@@ -149,6 +149,7 @@ none_free map count some none k free =
     let few = none b.0 (e.0 - b.0) within block in
     omega arith
 
+-- the best block of the whole map is the best fit
 pub best_fits : (map : List Bool) (count : ℕ) (b : ℕ × ℕ) → 0 < count → IsBestBelow map count (length map) (Some b) → IsBestFit map count b.0
 best_fits map count b some is =
     let block = is.1 in

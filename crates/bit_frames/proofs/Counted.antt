@@ -37,18 +37,21 @@ put_count map first count bit =
     sum_by-append f (take first map) (replicate count bit ++ drop (first + length (replicate count bit)) map)
     ∙ ap (λ n. sum_by f (take first map) + n) (sum_by-append f (replicate count bit) (drop (first + length (replicate count bit)) map) ∙ ap (λ n. n + sum_by f (drop (first + length (replicate count bit)) map)) (sum_by-replicate f count bit) ∙ ap (λ n. count * cond (not bit) 1 0 + sum_by f (drop (first + n) map)) many)
 
+-- taking a free run lowers the number of free frames by its length
 pub taken_count : (map : List Bool) (first count : ℕ) → first + count ≤ length map → AreFree map count first → count_by not (put map first (replicate count true)) + count ≡ count_by not map
 taken_count map first count inside free =
     let was = ap (count_by not) (sym (same_put map first count false inside free)) ∙ put_count map first count false in
     let now = put_count map first count true in
     omega arith
 
+-- freeing a taken run raises the number of free frames by its length
 pub freed_count : (map : List Bool) (first count : ℕ) → first + count ≤ length map → AreTaken map count first → count_by not (put map first (replicate count false)) ≡ count_by not map + count
 freed_count map first count inside taken =
     let was = ap (count_by not) (sym (same_put map first count true inside taken)) ∙ put_count map first count true in
     let now = put_count map first count false in
     omega arith
 
+-- taking a free frame lowers the number of free frames by one
 pub one_taken : (map : List Bool) (frame : ℕ) → frame < length map → slice_get map frame ≡ Some false → count_by not (set map frame true) + 1 ≡ count_by not map
 one_taken map frame inside free =
     ap (λ l. count_by not l + 1) (put_one map frame true inside)

@@ -16,6 +16,7 @@ use Rattle.bit_slice.specs.Pieces.{part}
 use Rattle.bit_slice.proofs.BitRuns.{all_inside}
 use Rattle.bit_frames.specs.FreeMap.{AreFree, AreTaken, IsFirstRun, IsNextRun, IsTaken}
 
+-- a bit that is true is not false
 pub other_bit : (o : Option Bool) → o ≡ Some true → o ≢ Some false
 other_bit o is e = some_apart (sym is ∙ e)
   where
@@ -55,6 +56,7 @@ next_fit map count from (Some i) some begins inside each before none = record {
   before = λ k low high free. before k low high (part_free map count k some free);
 }
 
+-- the next free run from frame 0 on is the first free run
 pub first_fit : (map : List Bool) (count : ℕ) (r : Option ℕ) → MatchOption r ((k : ℕ) → 0 ≤ k → AreFree map count k → ⊥) (λ first. IsNextRun map count 0 first) → MatchOption r ((k : ℕ) → AreFree map count k → ⊥) (λ first. IsFirstRun map count first)
 first_fit map count None none = λ k free. none k (omega arith) free
 first_fit map count (Some i) is = record { inside = is.inside; free = is.free; before = λ k low free. is.before k (omega arith) low free }

@@ -86,6 +86,7 @@ not_again (q ∷ qs) (r ∷ rs) map last frame served here (suc j) at stays =
     not_again qs rs served.0 last frame served.2 (kept map served.0 q r frame served.1 here (λ h. stays 0 (omega arith) (q, (r, (refl, refl, h))))) j at
     (λ k l h. stays (suc k) (omega arith) h)
 
+-- no frame is handed out twice before it is freed
 pub never_twice : (qs : List Request) (rs : List Reply) (map last : List Bool) → HaveServed map qs rs last → IsNeverTwice qs rs
 unfolding HaveServed
 never_twice [] rs map last served i j frame order one two stays = let e = one.1.1.0 in cc
@@ -107,6 +108,7 @@ served_next old mid new qs rs i d r size inside was step =
 pub served_all : (old new : List Bool) (qs : List Request) (rs : List Reply) (i : ℕ) → length rs ≡ length qs → length qs ≤ i → HaveServed old (take i qs) (take i rs) new → HaveServed old qs rs new
 served_all old new qs rs i size past was = subst (λ l. HaveServed old l rs new) (take_all i qs past) (subst (λ l. HaveServed old (take i qs) l new) (take_all i rs (omega arith)) was)
 
+-- no requests leave the map as it was
 pub served_none : (map : List Bool) → HaveServed map [] [] map
 unfolding HaveServed
 served_none map = refl

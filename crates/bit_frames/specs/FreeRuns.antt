@@ -4,7 +4,7 @@ use Rattle.std.specs.Fmt.{digits}
 use Rattle.std.specs.declared.ops.Range.{Range}
 use Rattle.bit_slice.specs.BitRuns.{ranges_of, ranges_text}
 
--- the runs of free frames of a map, ascending, each as long as it is
+-- the runs of free frames of a map, ascending, each a whole run
 abbrev pub free_runs_of : List Bool → List (Range ℕ)
 free_runs_of taken = ranges_of false taken
 

@@ -29,12 +29,19 @@ pub struct NotTaken;
 ///
 /// In contracts a map is a list of truth values: item `k` says whether frame `k` is taken.
 ///
+/// ```rust
+/// use bit_frames::FreeMap;
+///
+/// let mut frames = FreeMap::new(rt.alloc(), 64)?;
+/// println!(&rt; "{:?}, {:?}", frames.take(), frames.take_run(16))?;
+/// println!(&rt; "{}, again {}", frames.give_back(0, 1).is_ok(), frames.give_back(0, 1).is_ok())?;
+/// println!(&rt; "{} free: {frames}", frames.count_free())?;
+/// ```
+///
 /// ```text
-/// let mut frames = FreeMap::new(alloc, 1024)?;
-/// frames.take()               // Some(0)
-/// frames.take_run(16)         // Some(1)
-/// frames.give_back(0, 1)      // Ok(()), and the second time Err(NotTaken)
-/// frames.count_free()         // 1008
+/// Some(0), Some(1)
+/// true, again false
+/// 48 free: 0,17-63
 /// ```
 #[derive(Drop)]
 pub struct FreeMap {
@@ -71,7 +78,7 @@ impl FreeMap {
         })
     }
 
-    /// How many frames there are.
+    /// The number of frames.
     pub fn frames(&self) -> usize
         ensures { result ≡ length self.now }
     {
@@ -98,7 +105,7 @@ impl FreeMap {
         self.taken.as_bitslice()
     }
 
-    /// How many frames are free. The map keeps the count.
+    /// The number of free frames. The map keeps the count.
     pub fn count_free(&self) -> usize
         ensures { result ≡ count_by not self.now }
     {

@@ -45,6 +45,7 @@ full_stops old new b part other full e = (
 -- ---- a line feed
 
 module _ (old new : Progress) (part : IsPart old.line) where
+  -- a line that says no command stops the session with its number
   pub bad_stops : None ≡ line_of old.line → new.out ≡ old.out → Stops old (10 ∷ []) (BadCommand old.number) new
   bad_stops none e = (
     [],
@@ -65,6 +66,7 @@ module _ (old new : Progress) (part : IsPart old.line) where
     ),
   )
 
+  -- a line whose command is refused stops the session
   pub refused_stops : (l : Line) (ending : Ending) → Some l ≡ line_of old.line → CanRefuse old.list l ending → new.out ≡ old.out → Stops old (10 ∷ []) ending new
   refused_stops l NoMemory some h e = memory_stops old new (10 ∷ []) e
   refused_stops l TooLong some h e = long_stops l some h e
@@ -93,6 +95,7 @@ two_queues : (a b c : List ℕ) (g h : List (List ℕ)) → b ≡ a ++ flat_map 
 two_queues a b c g h e1 e2 =
     e2 ∙ ap (λ o. o ++ flat_map with_line_feed h) e1 ∙ append_assoc a (flat_map with_line_feed g) (flat_map with_line_feed h) ∙ ap (λ o. a ++ o) (sym (flat_map-append with_line_feed g h))
 
+-- the end of later lines is that of all, after the earlier texts
 pub end_later : (e last last2 : Ending) (given all g all2 : List (List ℕ)) → all2 ≡ g ++ all → last2 ≡ last → IsEnd e given all last → IsEnd e (g ++ given) all2 last2
 end_later NoMemory last last2 given all g all2 p q h = (h.0, p ∙ ap (λ rs. g ++ rs) h.1 ∙ sym (append_assoc g given h.0))
 end_later Finished last last2 given all g all2 p q h = (p ∙ ap (λ rs. g ++ rs) h.0, q ∙ h.1)
@@ -100,6 +103,7 @@ end_later (BadCommand n) last last2 given all g all2 p q h = (p ∙ ap (λ rs. g
 end_later TooLong last last2 given all g all2 p q h = (p ∙ ap (λ rs. g ++ rs) h.0, q ∙ h.1)
 end_later ReadFailed last last2 given all g all2 p q h = absurd h
 
+-- no bytes leave the session as it was
 pub goes_nowhere : (s : Progress) → Goes s [] [] s
 goes_nowhere s = record { replies = λ rest words. refl; ending = λ rest. refl }
 
@@ -111,6 +115,7 @@ goes_same a b c bytes g e h = record {
 }
 
 module _ (a b c : Progress) (xs ys : List ℕ) (g h : List (List ℕ)) (first : Goes a xs g b) where
+  -- bytes taken in two pieces are taken as one
   pub goes_more : Goes b ys h c → Goes a (xs ++ ys) (g ++ h) c
   goes_more next = record {
     replies = λ rest words. rw (append_assoc xs ys rest, append_assoc g h words, append_assoc g h (replies_left c rest words))
@@ -118,20 +123,24 @@ module _ (a b c : Progress) (xs ys : List ℕ) (g h : List (List ℕ)) (first : 
     ending = λ rest. rw (append_assoc xs ys rest) (first.ending (ys ++ rest) ∙ next.ending rest);
   }
 
+  -- a session that ends in the second piece ends in both together
   pub ends_more : (e : Ending) → Ends b ys h e → Ends a (xs ++ ys) (g ++ h) e
   ends_more e next = λ rest. rw (append_assoc xs ys rest)
       (end_later e (ending_left b (ys ++ rest)) (ending_left a (xs ++ (ys ++ rest))) h (replies_left b (ys ++ rest) h) g (replies_left a (xs ++ (ys ++ rest)) (g ++ h))
       (first.replies (ys ++ rest) h) (first.ending (ys ++ rest)) (next rest))
 
+-- a session that has ended ignores what follows
 pub ends_early : (a : Progress) (xs zs : List ℕ) (g : List (List ℕ)) (e : Ending) → Ends a xs g e → Ends a (xs ++ zs) g e
 ends_early a xs zs g e h = λ rest. rw (append_assoc xs zs rest) (h (zs ++ rest))
 
 -- the next byte of a piece
 module _ (a b c : Progress) (piece : List ℕ) (i : ℕ) (within : i < length piece) (g : Advances a (take i piece) b) where
+  -- one byte more of a piece is taken after the others
   pub byte_more : Advances b (get_or piece i 0 ∷ []) c → Advances a (take (i + 1) piece) c
   byte_more h = rw (take_more piece i 0 within)
       ((g.0 ++ h.0, two_queues a.out b.out c.out g.0 h.0 g.1 h.1, goes_more a b c (take i piece) (get_or piece i 0 ∷ []) g.0 h.0 g.2 h.2))
 
+  -- a session that stops at a byte stops in the piece
   pub byte_stops : (e : Ending) → Stops b (get_or piece i 0 ∷ []) e c → Stops a piece e c
   byte_stops e h =
       let part : Ends a (take (i + 1) piece) (g.0 ++ h.0) e = rw (take_more piece i 0 within) (ends_more a b c (take i piece) (get_or piece i 0 ∷ []) g.0 h.0 g.2 e h.2) in (
@@ -147,9 +156,11 @@ same_end [] clean h = absurd (omega arith)
 same_end (b ∷ line) clean h = ap lines_of (append-nil (b ∷ line)) ∙ last_line b line clean ∙ sym (line_feed (b ∷ line) [] clean)
 
 module _ (s new : Progress) (part : IsPart s.line) (some : 0 < length s.line) where
+  -- a session stopped by the line end added at the end of input stops there
   pub last_stops : (e : Ending) → Stops s (10 ∷ []) e new → StopsHere s e new
   last_stops e h = (h.0, h.1, let same = same_end s.line part.1 some in rw same (h.2 []))
 
+  -- a session that goes on past the last line finishes
   pub last_advances : Advances s (10 ∷ []) new → new.line ≡ [] → StopsHere s Finished new
   last_advances h e = (
     h.0,

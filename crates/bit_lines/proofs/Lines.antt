@@ -47,22 +47,28 @@ ending_long n all lines = rw (lt-ltb 0 (suc lines) (omega arith)) refl
 -- ---- the first line: it is none, it asks for too many bits, or it is done
 
 module _ (n : ℕ) (list : List Bool) (bytes : List ℕ) (lines : List (List ℕ)) where
+  -- a line that says no command has no reply
   pub bad_replies : None ≡ line_of bytes → (words : List (List ℕ)) → replies_from list (bytes ∷ lines) words ≡ []
   bad_replies e words = rw (← e) refl
 
+  -- a line that says no command ends the session with its number
   pub bad_ending : None ≡ line_of bytes → ending_from n list (bytes ∷ lines) ≡ BadCommand n
   bad_ending e = rw (← e) (ending_bad n (length lines))
 
+  -- a command that would make the list too long has no reply
   pub long_replies : (l : Line) → Some l ≡ line_of bytes → MAX_BITS < length_wanted list l → (words : List (List ℕ)) → replies_from list (bytes ∷ lines) words ≡ []
   long_replies l e h words = rw (← e, lt-leb (length_wanted list l) MAX_BITS h) refl
 
+  -- a command that would make the list too long ends the session
   pub long_ending : (l : Line) → Some l ≡ line_of bytes → MAX_BITS < length_wanted list l → ending_from n list (bytes ∷ lines) ≡ TooLong
   long_ending l e h = rw (← e, lt-leb (length_wanted list l) MAX_BITS h) (ending_long n (suc (length lines)) (length (leading_lines lines)))
 
+  -- the replies from a good line on are its text and those of the later lines
   pub next_replies : (l : Line) → Some l ≡ line_of bytes → length_wanted list l ≤ MAX_BITS → (words : List (List ℕ))
       → replies_from list (bytes ∷ lines) words ≡ line_text list l (first_text words) ∷ replies_from (list_after_line list l) lines (later_texts words)
   next_replies l e h words = rw (← e, le-leb (length_wanted list l) MAX_BITS h) refl
 
+  -- after a good line the ending is that of the later lines
   pub next_ending : (l : Line) → Some l ≡ line_of bytes → length_wanted list l ≤ MAX_BITS → ending_from n list (bytes ∷ lines) ≡ ending_from (n + 1) (list_after_line list l) lines
   next_ending l e h = rw (← e, le-leb (length_wanted list l) MAX_BITS h) (ending_next n (length lines) (length (leading_lines lines)) (length (fitting (list_after_line list l) (leading_lines lines))))
 
@@ -102,9 +108,11 @@ module _ (n : ℕ) (list : List Bool) (line rest : List ℕ) (b : ℕ) (clean : 
   too_long : MAX_LINE < length (line ++ b ∷ split_first.0)
   too_long = omega (arith, length-append line (b ∷ split_first.0))
 
+  -- a line that is too long has no reply
   pub full_replies : (words : List (List ℕ)) → replies_from list (lines_of (line ++ b ∷ rest)) words ≡ []
   full_replies words = ap (λ ls. replies_from list ls words) split_first.2 ∙ bad_replies n list (line ++ b ∷ split_first.0) split_first.1 (not_line (line ++ b ∷ split_first.0) too_long) words
 
+  -- a line that is too long ends the session with its number
   pub full_ending : ending_from n list (lines_of (line ++ b ∷ rest)) ≡ BadCommand n
   full_ending = ap (ending_from n list) split_first.2 ∙ bad_ending n list (line ++ b ∷ split_first.0) split_first.1 (not_line (line ++ b ∷ split_first.0) too_long)
 

@@ -13,10 +13,12 @@ use Rattle.bit_lines.proofs.Going.{goes_nowhere, goes_same, goes_more, ends_more
 
 -- ---- known bytes
 
+-- nothing written appends nothing
 pub appends_none : (a : Option (List ℕ)) → Appends a a []
 appends_none None = tt
 appends_none (Some a) = sym (append-nil a)
 
+-- two texts written one after the other are appended as one
 pub appends_more : (a b c : Option (List ℕ)) (xs ys : List ℕ) → Appends a b xs → Appends b c ys → Appends a c (xs ++ ys)
 appends_more None b c xs ys p q = tt
 appends_more (Some a) None c xs ys p q = absurd p
@@ -30,6 +32,7 @@ queued : (out before : List ℕ) (given : List (List ℕ)) → before ≡ [] →
 queued out before given e h = h ∙ ap (λ o. o ++ flat_map with_line_feed given) e
 
 module _ (a b c : Progress) (xs ys : List ℕ) (wrote mid writes : Option (List ℕ)) (first : Sends a xs b wrote mid) (blank : b.out ≡ []) where
+  -- bytes taken further send what is still to be written
   pub sends_more : (d : Progress) → Advances b ys c → Appends mid writes c.out → d ≡ record c { out = [] } → Sends a (xs ++ ys) d wrote writes
   sends_more d h after e = (
     first.0 ++ h.0,
@@ -46,6 +49,7 @@ module _ (a b c : Progress) (xs ys : List ℕ) (wrote mid writes : Option (List 
       ∙ ap (λ o. flat_map with_line_feed first.0 ++ (o ++ last)) (sym (queued c.out b.out h blank e)) in
       rw text (appends_more wrote mid writes (flat_map with_line_feed first.0) (c.out ++ last) first.1 after)
 
+  -- a session that ends within a piece writes what is waiting and its ending
   pub concludes_within : (ending : Ending) → Stops b ys ending c → Appends mid writes (c.out ++ ending_text ending) → Concludes a (xs ++ ys) ending wrote writes
   concludes_within ending h after = (
     first.0 ++ h.0,
@@ -55,10 +59,12 @@ module _ (a b c : Progress) (xs ys : List ℕ) (wrote mid writes : Option (List 
 
 -- ---- a whole run
 
+-- before the first byte a session goes on from its start
 pub going_start : (o : Option (List ℕ)) (s : Progress) → s.list ≡ [] → s.line ≡ [] → s.number ≡ 1 → IsGoing o o [] s
 going_start None s l i n = tt
 going_start (Some text) s l i n = (λ words. rw (l, i) refl, rw (l, i, n) refl)
 
+-- a piece taken more goes on from what was given before
 pub going_more : (from now next : Option (List ℕ)) (given more : List (List ℕ)) (a b : Progress) (piece : List ℕ)
     → IsGoing from now given a → Consumes now next piece → Goes a piece more b → IsGoing from next (given ++ more) b
 going_more None now next given more a b piece h k g = tt
@@ -81,6 +87,7 @@ outcome ReadFailed given all last h = absurd h
 pub end_apart : (e : Ending) (given all : List (List ℕ)) (last : Ending) → IsEnd e given all last → e ≡ ReadFailed → ⊥
 end_apart e given all last h is = subst (λ x. IsEnd x given all last) is h
 
+-- a result whose ending is not a failed read is not that failure
 pub end_of_result : {F : Type 0} (r : Result Ending F) (e : Ending) → IfOk r (λ x. x ≡ e) → (e ≡ ReadFailed → ⊥) → r ≡ Ok ReadFailed → ⊥
 end_of_result {F} r e same other is = let P : Result Ending F → Type 0 = λ x. IfOk x (λ y. y ≡ e) in other (sym (subst P is same))
 
@@ -114,6 +121,7 @@ cut_here (Some text) (Some rest) given a h = (replies_left a rest [], ap (script
 
 -- at this point of a run these replies were written, and none waits
 module _ (from now wrote mid : Option (List ℕ)) (given : List (List ℕ)) (a : Progress) (before : Appends wrote mid (flat_map with_line_feed given)) (going : IsGoing from now given a) where
+  -- a session that ends within a piece is served
   pub served_within : (next writes : Option (List ℕ)) (piece : List ℕ) (e : Ending) → Consumes now next piece → Concludes a piece e mid writes → IsServed from wrote writes e
   served_within next writes piece e k h =
       let text : flat_map with_line_feed (given ++ h.0) ++ ending_text e ≡ flat_map with_line_feed given ++ (flat_map with_line_feed h.0 ++ ending_text e) =
@@ -123,6 +131,7 @@ module _ (from now wrote mid : Option (List ℕ)) (given : List (List ℕ)) (a :
         ended_within from now next given h.0 a piece e going k h.2,
       )
 
+  -- a session that ends at the end of input is served
   pub served_here : (next writes : Option (List ℕ)) (b : Progress) (e : Ending) → a.out ≡ [] → Consumes now next [] → IsAtEnd next → StopsHere a e b → Appends mid writes (b.out ++ ending_text e) → IsServed from wrote writes e
   served_here next writes b e blank k z h after =
       let out : b.out ≡ flat_map with_line_feed h.0 = queued b.out a.out h.0 blank h.1 in
@@ -134,6 +143,7 @@ module _ (from now wrote mid : Option (List ℕ)) (given : List (List ℕ)) (a :
         ended_here from now next given h.0 a e going k z h.2,
       )
 
+  -- a session whose reader fails is served up to there
   pub served_cut : (writes : Option (List ℕ)) → a.out ≡ [] → Appends mid writes (a.out ++ ending_text ReadFailed) → IsServed from wrote writes ReadFailed
   served_cut writes blank after =
       let none : a.out ++ ending_text ReadFailed ≡ ending_text ReadFailed = ap (λ o. o ++ ending_text ReadFailed) blank in (
@@ -152,14 +162,17 @@ transcribed : (from wrote writes : Option (List ℕ)) (e : Ending) → IsServed 
 transcribed None wrote writes e h = tt
 transcribed (Some text) wrote writes e h = λ none. (h.0, h.1, subst (λ all. IsOutcome e h.0 all (script_ending text)) (replies_alike [] (lines_of text) h.0 [] none) h.2)
 
+-- what is served is transcribed
 pub results_transcribed : {F : Type 0} (from wrote writes : Option (List ℕ)) (r : Result Ending F) → IfOk r (λ e. IsServed from wrote writes e) → IfOk r (λ e. IsTranscribed from wrote writes e)
 results_transcribed from wrote writes (Ok e) h = transcribed from wrote writes e h
 results_transcribed from wrote writes (Err e) h = tt
 
+-- before the first piece nothing is read
 pub read_start : (o : Option (List ℕ)) → IsShort o → IsRead o o 0
 read_start None h = absurd h
 read_start (Some text) h = omega arith
 
+-- a piece read more adds its bytes
 pub read_more : (from now next : Option (List ℕ)) (n count : ℕ) (bs : List ℕ) → IsRead from now n → Consumes now next bs → count ≡ length bs → IsRead from next (n + count)
 read_more None now next n count bs h k e = absurd h
 read_more (Some text) None next n count bs h k e = absurd h

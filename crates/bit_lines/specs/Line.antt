@@ -1,17 +1,12 @@
 -- What a line of a script asks for.
-use Rattle.std.specs.Prelude.{ℕ, ◌^◌, ◌==◌, ◌&&◌, Option, List, Bool, true, false, [], ◌∷◌, length, nat_lt, nat_le, if◌then◌else◌, Some, None, codes}
-use Rattle.std.specs.List.{slice_split}
-use Rattle.std.specs.Str.{bytes_eq, all_ascii_digits}
-use Rattle.std.specs.Str.Parse.{digits_value}
+use Rattle.std.specs.Prelude.{ℕ, Option, List, Bool, true, false, [], ◌∷◌, length, nat_le, if◌then◌else◌, Some, None, codes}
+use Rattle.std.specs.Str.{bytes_eq}
+use Rattle.bit_containers.specs.TextParts.{number_of, parts_of}
 use Rattle.bit_containers.specs.declared.machine.Command.{Command}
 use Rattle.bit_containers.specs.declared.machine.Command.TheVariants.{Push, Pop, Get, Set, Insert, Remove, SwapRemove, Truncate, Clear, Drain, Splice, SplitOff, Resize, Reserve, ExtendWithin, CopyWithin, Not, Align, Clean, Len}
 use Rattle.bit_lines.specs.declared.parsing.TheConstants.{MAX_LINE}
 use Rattle.bit_lines.specs.declared.parsing.Line.{Line}
 use Rattle.bit_lines.specs.declared.parsing.Line.TheVariants.{Run, ShowList, ShowWords}
-
--- the number that one to twenty digits write, if it is below 2 ^ 64
-abbrev pub number_of : List ℕ → Option ℕ
-number_of field = if all_ascii_digits field && (nat_lt 0 (length field) && (nat_le (length field) 20 && nat_lt (digits_value 10 field) (2 ^ 64))) then Some (digits_value 10 field) else None
 
 -- the bit that `0` or `1` writes
 abbrev pub bit_of : List ℕ → Option Bool
@@ -88,7 +83,7 @@ of_fields (word ∷ a ∷ b ∷ c ∷ d ∷ e ∷ more) = None
 
 -- the fields of a line, cut at each space
 abbrev pub fields_of : List ℕ → List (List ℕ)
-fields_of bytes = slice_split (λ b. b == 32) bytes
+fields_of line = parts_of 32 line
 
 -- the line that these bytes write, if they do; a line has at most `MAX_LINE` bytes
 abbrev pub line_of : List ℕ → Option Line

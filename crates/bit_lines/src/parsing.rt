@@ -1,15 +1,12 @@
 //! The lines of a script.
-ghost use Rattle.std.specs.Prelude.{◌≡◌, ℕ, ◌<◌, ◌≤◌, ◌==◌, List, [], ◌∷◌, ◌++◌, length, MatchOption, position, slice_index};
-ghost use Rattle.std.specs.List.{slice_split};
-ghost use Rattle.bit_lines.specs.Line.{number_of, bit_of, of_fields, fields_of, line_of};
+ghost use Rattle.std.specs.Prelude.{◌≡◌, [], ◌∷◌};
+ghost use Rattle.bit_lines.specs.Line.{bit_of, of_fields, fields_of, line_of};
 
 use bit_containers::Command;
+use bit_containers::inner::{cut_part, part_number};
 
-/// How many bytes a line has at most, without its line feed.
+/// The most bytes of a line, without its line feed.
 pub const MAX_LINE: usize = 100;
-
-/// How many digits a number has at most.
-const MAX_DIGITS: usize = 20;
 
 /// What a line asks for.
 #[derive(Clone, Copy, PartialEq, Eq, Debug)]
@@ -22,29 +19,6 @@ pub enum Line {
     ShowWords,
 }
 
-// Whether a field begins with a plus sign.
-fn has_plus(field: &[u8]) -> bool
-    ensures { result ≡ (slice_index field.now 0 == 43) }
-{
-    match field {
-        [first, ..] => *first == b'+',
-        [] => false,
-    }
-}
-
-// The number that a field writes. None where it writes none.
-fn number(field: &[u8]) -> Option<usize>
-    ensures { result ≡ number_of field.now }
-{
-    if field.len() > MAX_DIGITS || has_plus(field) {
-        return None;
-    }
-    match str::from_utf8(field) {
-        Ok(text) => text.parse().ok(),
-        Err(_) => None,
-    }
-}
-
 // The bit that a field writes.
 fn bit(field: &[u8]) -> Option<bool>
     ensures { result ≡ bit_of field.now }
@@ -55,25 +29,6 @@ fn bit(field: &[u8]) -> Option<bool>
         Some(true)
     } else {
         None
-    }
-}
-
-// The index of the first space.
-fn first_space(line: &[u8]) -> Option<usize>
-    ensures { result ≡ position (λ b. b == 32) line.now }
-{
-    line.iter().position(|b| *b == b' ')
-}
-
-// The first field, and what follows its space.
-fn cut(line: &[u8]) -> (&[u8], Option<&[u8]>)
-    ensures { MatchOption result.1
-        (fields_of line.now ≡ result.0.now ∷ [])
-        (λ rest. fields_of line.now ≡ result.0.now ∷ fields_of rest.now) }
-{
-    match first_space(line) {
-        Some(at) => (&line[..at], Some(&line[at + 1..])),
-        None => (line, None),
     }
 }
 
@@ -109,17 +64,17 @@ fn with_one(word: &[u8], a: &[u8]) -> Option<Line>
     if word == b"push".as_slice() {
         Some(Line::Run(Command::Push(bit(a)?)))
     } else if word == b"get".as_slice() {
-        Some(Line::Run(Command::Get(number(a)?)))
+        Some(Line::Run(Command::Get(part_number(a)?)))
     } else if word == b"truncate".as_slice() {
-        Some(Line::Run(Command::Truncate(number(a)?)))
+        Some(Line::Run(Command::Truncate(part_number(a)?)))
     } else if word == b"splitoff".as_slice() {
-        Some(Line::Run(Command::SplitOff(number(a)?)))
+        Some(Line::Run(Command::SplitOff(part_number(a)?)))
     } else if word == b"reserve".as_slice() {
-        Some(Line::Run(Command::Reserve(number(a)?)))
+        Some(Line::Run(Command::Reserve(part_number(a)?)))
     } else if word == b"remove".as_slice() {
-        Some(Line::Run(Command::Remove(number(a)?)))
+        Some(Line::Run(Command::Remove(part_number(a)?)))
     } else if word == b"swapremove".as_slice() {
-        Some(Line::Run(Command::SwapRemove(number(a)?)))
+        Some(Line::Run(Command::SwapRemove(part_number(a)?)))
     } else {
         None
     }
@@ -130,15 +85,15 @@ fn with_two(word: &[u8], a: &[u8], b: &[u8]) -> Option<Line>
     ensures { result ≡ of_fields (word.now ∷ a.now ∷ b.now ∷ []) }
 {
     if word == b"set".as_slice() {
-        Some(Line::Run(Command::Set(number(a)?, bit(b)?)))
+        Some(Line::Run(Command::Set(part_number(a)?, bit(b)?)))
     } else if word == b"insert".as_slice() {
-        Some(Line::Run(Command::Insert(number(a)?, bit(b)?)))
+        Some(Line::Run(Command::Insert(part_number(a)?, bit(b)?)))
     } else if word == b"resize".as_slice() {
-        Some(Line::Run(Command::Resize(number(a)?, bit(b)?)))
+        Some(Line::Run(Command::Resize(part_number(a)?, bit(b)?)))
     } else if word == b"drain".as_slice() {
-        Some(Line::Run(Command::Drain(number(a)?, number(b)?)))
+        Some(Line::Run(Command::Drain(part_number(a)?, part_number(b)?)))
     } else if word == b"within".as_slice() {
-        Some(Line::Run(Command::ExtendWithin(number(a)?, number(b)?)))
+        Some(Line::Run(Command::ExtendWithin(part_number(a)?, part_number(b)?)))
     } else {
         None
     }
@@ -149,7 +104,7 @@ fn with_three(word: &[u8], a: &[u8], b: &[u8], c: &[u8]) -> Option<Line>
     ensures { result ≡ of_fields (word.now ∷ a.now ∷ b.now ∷ c.now ∷ []) }
 {
     if word == b"copy".as_slice() {
-        let command = Command::CopyWithin(number(a)?, number(b)?, number(c)?);
+        let command = Command::CopyWithin(part_number(a)?, part_number(b)?, part_number(c)?);
         Some(Line::Run(command))
     } else {
         None
@@ -161,7 +116,7 @@ fn with_four(word: &[u8], a: &[u8], b: &[u8], c: &[u8], d: &[u8]) -> Option<Line
     ensures { result ≡ of_fields (word.now ∷ a.now ∷ b.now ∷ c.now ∷ d.now ∷ []) }
 {
     if word == b"splice".as_slice() {
-        let command = Command::Splice(number(a)?, number(b)?, bit(c)?, number(d)?);
+        let command = Command::Splice(part_number(a)?, part_number(b)?, bit(c)?, part_number(d)?);
         Some(Line::Run(command))
     } else {
         None
@@ -172,7 +127,7 @@ fn with_four(word: &[u8], a: &[u8], b: &[u8], c: &[u8], d: &[u8]) -> Option<Line
 fn with_rest(word: &[u8], a: &[u8], b: &[u8], c: &[u8], rest: &[u8]) -> Option<Line>
     ensures { result ≡ of_fields (word.now ∷ a.now ∷ b.now ∷ c.now ∷ fields_of rest.now) }
 {
-    let (d, rest) = cut(rest);
+    let (d, rest) = cut_part(rest, b' ');
     match rest {
         None => with_four(word, a, b, c, d),
         Some(_) => None,
@@ -183,7 +138,7 @@ fn with_rest(word: &[u8], a: &[u8], b: &[u8], c: &[u8], rest: &[u8]) -> Option<L
 fn with_more(word: &[u8], a: &[u8], b: &[u8], rest: &[u8]) -> Option<Line>
     ensures { result ≡ of_fields (word.now ∷ a.now ∷ b.now ∷ fields_of rest.now) }
 {
-    let (c, rest) = cut(rest);
+    let (c, rest) = cut_part(rest, b' ');
     match rest {
         None => with_three(word, a, b, c),
         Some(rest) => with_rest(word, a, b, c, rest),
@@ -194,11 +149,11 @@ fn with_more(word: &[u8], a: &[u8], b: &[u8], rest: &[u8]) -> Option<Line>
 fn with_arguments(word: &[u8], rest: &[u8]) -> Option<Line>
     ensures { result ≡ of_fields (word.now ∷ fields_of rest.now) }
 {
-    let (a, rest) = cut(rest);
+    let (a, rest) = cut_part(rest, b' ');
     let Some(rest) = rest else {
         return with_one(word, a);
     };
-    let (b, rest) = cut(rest);
+    let (b, rest) = cut_part(rest, b' ');
     match rest {
         None => with_two(word, a, b),
         Some(rest) => with_more(word, a, b, rest),
@@ -212,7 +167,7 @@ pub fn parse_line(line: &[u8]) -> Option<Line>
     if line.len() > MAX_LINE {
         return None;
     }
-    let (word, rest) = cut(line);
+    let (word, rest) = cut_part(line, b' ');
     match rest {
         None => of_word(word),
         Some(rest) => with_arguments(word, rest),

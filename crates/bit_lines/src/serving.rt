@@ -12,7 +12,7 @@ use std::alloc::Global;
 use std::io;
 use std::io::{Read, Write};
 
-/// How many bytes are read at once.
+/// The number of bytes read at once.
 const CHUNK: usize = 8192;
 
 // Writes the bytes that wait.

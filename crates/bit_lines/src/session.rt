@@ -13,7 +13,7 @@ use bit_containers::{BitOrder, BitStore, BitVec, Command, GrowError, Reply, run}
 use std::alloc::{AllocError, Global};
 use std::marker::Model;
 
-/// How many bytes may wait before they are written.
+/// The number of bytes that may wait before they are written.
 pub const FULL: usize = 65536;
 
 /// A script that is being run: its vector, the line that has begun, and the bytes that wait to be

@@ -23,6 +23,7 @@ pub record IsRowAdded (w v : ℕ → ℕ → Bool) (m n into from : ℕ) : Type 
   pub here : (j : ℕ) → j < n → v into j ≡ plus (w into j) (w from j)
   pub others : (i j : ℕ) → i < m → j < n → i ≢ into → v i j ≡ w i j
 
+-- before the first step each row is the sum of itself alone
 pub sums_first : (a w : ℕ → ℕ → Bool) (m n : ℕ) → ((i j : ℕ) → i < m → j < n → w i j ≡ a i j) → AreSumsOf w a m n
 sums_first a w m n same i h = ((λ k. i == k), λ j inner. same i j h inner ∙ sym (sum_one (λ k. a k j) i m h))
 
@@ -226,6 +227,7 @@ pub solution_of : (a t w : ℕ → ℕ → Bool) (right x : ℕ → Bool) (m n :
 solution_of a t w right x m n items last sums solved i h =
     sums_same (λ j. a i j && x j) (λ j. t i j && x j) n (λ j inner. ap (λ b. b && x j) (sym (items i j h inner))) ∙ solved_of_sums t w x m n sums solved i h ∙ last i h
 
+-- a system whose summed rows have no solution has none
 pub no_solution_of : (a t w : ℕ → ℕ → Bool) (right x : ℕ → Bool) (m n : ℕ) → ((i j : ℕ) → i < m → j < n → t i j ≡ a i j) → ((i : ℕ) → i < m → t i n ≡ right i) → AreSumsOf w t m (n + 1) → (IsSolution w m n (λ i. w i n) x → ⊥) → IsSolution a m n right x → ⊥
 no_solution_of a t w right x m n items last sums none solved =
     none (solved_of_sums w t x m n sums (λ i h. sums_same (λ j. t i j && x j) (λ j. a i j && x j) n (λ j inner. ap (λ b. b && x j) (items i j h inner)) ∙ solved i h ∙ sym (last i h)))
@@ -265,6 +267,7 @@ echelon_basis w m n rank is = record {
       | inr other ↦ absurd (true≢false (sym in_ ∙ ne_eqb i k other))
     ]
 
+-- of the rows below a rank there are as many as the rank
 pub count_first : (rank m : ℕ) → rank ≤ m → count_chosen (λ k. ltb k rank) m ≡ rank
 count_first rank zero few = omega arith
 count_first rank (suc m) few = elim (cases_lt m rank) [
@@ -343,9 +346,11 @@ independent_more w v m n into from inside within apart added was part gone =
 
 -- ---- what is made by adding rows to others
 
+-- rows made of rows that were made of others are made of those
 pub made_then : (w v u : ℕ → ℕ → Bool) (m n : ℕ) → IsMadeOf w v m n → IsMadeOf v u m n → IsMadeOf w u m n
 made_then w v u m n first second = record { sums = λ a s. second.sums a (first.sums a s); back = λ a s. second.back a (first.back a s); independent = λ s. second.independent (first.independent s) }
 
+-- a row added to another gives rows made of those before
 pub made_added : (w v : ℕ → ℕ → Bool) (m n into from : ℕ) → into < m → from < m → into ≢ from → ((j : ℕ) → j < n → v into j ≡ plus (w into j) (w from j)) → ((i j : ℕ) → i < m → j < n → i ≢ into → v i j ≡ w i j) → IsMadeOf w v m n
 made_added w v m n into from inside within apart here others =
     let added : IsRowAdded w v m n into from = record { here = here; others = others } in
@@ -363,6 +368,7 @@ made_sized w v m n rows columns tall wide made = subst (λ (c : ℕ). IsMadeOf w
 pub made_sums : (w v : ℕ → ℕ → Bool) (m n : ℕ) → IsMadeOf w v m n → AreSumsOf v w m n
 made_sums w v m n made = made.sums w (sums_first w w m n (λ i j h l. refl))
 
+-- rows made of others are sums of them
 pub made_back : (w v : ℕ → ℕ → Bool) (m n : ℕ) → IsMadeOf w v m n → AreSumsOf w v m n
 made_back w v m n made = made.back w (sums_first w w m n (λ i j h l. refl))
 
@@ -399,9 +405,11 @@ module _ (a t w : ℕ → ℕ → Bool) (m n rank rest : ℕ) (left : (i j : ℕ
       turned false true = refl
       turned false false = refl
 
+  -- each row of the found kernel is sent to zero
   pub kernel_inside : (k : ℕ) → k < rest → IsSolution a m n (λ i. false) (λ j. w (rank + k) (m + j))
   kernel_inside k h i inner = sym (made_of (rank + k) i (omega arith) inner) ∙ is.rest (rank + k) i (omega arith) (omega arith) inner
 
+  -- the rows of the found kernel are independent
   pub kernel_independent : AreIndependent w n (m + n) → AreIndependent (λ k j. w (rank + k) (m + j)) rest n
   kernel_independent independent part gone k h =
       let shifted : (i : ℕ) → ltb (rank + i) rank ≡ false = λ i. le-ltb (rank + i) rank (omega arith) in
@@ -423,6 +431,7 @@ module _ (a t w : ℕ → ℕ → Bool) (m n rank rest : ℕ) (left : (i j : ℕ
           row_sum_to : ℕ → ℕ → Bool
           row_sum_to j n = row_sum w later n j
 
+  -- each vector sent to zero is a sum of rows of the found kernel
   pub kernel_spans : (x : ℕ → Bool) → IsSolution a m n (λ i. false) x → (part : ℕ → Bool) × ((j : ℕ) → j < n → x j ≡ row_sum (λ k j. w (rank + k) (m + j)) part rest j)
   kernel_spans x solves =
       let y = sums_of_sums t w n (m + n) (λ k. true) (λ i h. (let s = back i h in (s.0, (λ k q in_. refl), s.1))) x in
@@ -465,6 +474,7 @@ pub record IsKernel (a v : ℕ → ℕ → Bool) (m n rest : ℕ) : Type 0 where
   pub independent : AreIndependent v rest n
   pub spans : (x : ℕ → Bool) → IsSolution a m n (λ k. false) x → (part : ℕ → Bool) × ((j : ℕ) → j < n → x j ≡ row_sum v part rest j)
 
+-- the echelon form of the turned matrix beside the identity gives the kernel
 pub kernel_found : (a t w v : ℕ → ℕ → Bool) (m n rank rest : ℕ) → ((i j : ℕ) → i < n → j < m → t i j ≡ a j i) → ((i j : ℕ) → i < n → j < n → t i (m + j) ≡ (i == j)) → IsMadeOf t w n (m + n) → IsEchelon w n m rank → rank + rest ≡ n → ((i j : ℕ) → rank + i < n → j < n → v i j ≡ w (rank + i) (m + j)) → IsKernel a v m n rest
 kernel_found a t w v m n rank rest left right made is all same =
     let sums = made_sums t w n (m + n) made in

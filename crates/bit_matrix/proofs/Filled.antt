@@ -43,9 +43,11 @@ rows_more m n =
     ap (map (row_bits m)) (ranges_joined 0 n 1) ∙ map-append (row_bits m) (range_with_len 0 n) (range_with_len (0 + n) 1)
     ∙ ap (λ k. map (row_bits m) (range_with_len 0 n) ++ row_bits m k ∷ []) z
 
+-- n rows of a grid are n
 pub rows_count : (m : Grid) (n : ℕ) → length (map (row_bits m) (range_with_len 0 n)) ≡ n
 rows_count m n = length-map (range_with_len 0 n) (row_bits m) ∙ length-range_with_len 0 n
 
+-- each row of a grid has as many bits as it has columns
 pub rows_long : (m : Grid) (n : ℕ) → n ≤ m.rows → length m.bits ≡ m.rows * m.columns → All (λ bits. length bits ≡ m.columns) (map (row_bits m) (range_with_len 0 n))
 rows_long m n tall size k d h =
     let low : k < n = omega (arith, rows_count m n) in
@@ -54,6 +56,7 @@ rows_long m n tall size k d h =
 
 -- a row more that the function gave
 module _ {F : Type 0} (step : F → ℕ → ℕ → Bool → F → Type 0) where
+  -- a row made after the others is made from the next calls
   pub rows_then : (f : F) (i : ℕ) (done : List (List Bool)) (s : F) (j : ℕ) (bits : List Bool) (t : F) → RowsFrom step f i done s → ResultsFrom (λ p k given q. step p j k given q) s 0 bits t → j ≡ i + length done → RowsFrom step f i (done ++ bits ∷ []) t
   rows_then f i [] s j bits t run more at =
       let same : j ≡ i = omega arith in

@@ -38,6 +38,7 @@ count_without chosen p (suc n) inside is = elim (cases_eq p n) [
       omega arith
 ]
 
+-- all of n are n
 pub count_all : (n : ℕ) → count_chosen (λ k. true) n ≡ n
 count_all zero = refl
 count_all (suc n) = let e = count_all n in omega arith
@@ -128,6 +129,7 @@ module _ (a : ℕ → ℕ → Bool) (chosen live : ℕ → Bool) (m n p : ℕ) (
       ];
     }
 
+-- none of n are 0
 pub count_none : (n : ℕ) → count_chosen (λ k. false) n ≡ 0
 count_none zero = refl
 count_none (suc n) = let e = count_none n in omega arith
@@ -138,6 +140,7 @@ first_chosen chosen m some = elim (any_or_none chosen m) [
   | inr none ↦ (let e = count_same chosen (λ k. false) m none.1 in let z = count_none m in absurd (omega arith))
 ]
 
+-- more chosen rows than live columns are dependent
 pub dependent : (n m : ℕ) (a : ℕ → ℕ → Bool) (chosen live : ℕ → Bool) → count_chosen live n < count_chosen chosen m → AreDependent a chosen live m n
 dependent zero m a chosen live more =
     let first = first_chosen chosen m more in
@@ -232,6 +235,7 @@ module _ (a b : ℕ → ℕ → Bool) (m n : ℕ) (first : ℕ → Bool) (spans 
   unfolding mixture
   mixed_rows part j inner = sums_same (λ i. part i && a i j) (λ i. part i && row_sum b (makes i) m j) m (λ i low. ap (λ b. part i && b) (made i j low inner)) ∙ sym (three part makes (λ k. b k j) m)
 
+  -- a sum of rows that are sums is a sum of the first rows
   pub sums_of_sums : (part : ℕ → Bool) → (other : ℕ → Bool) × IsPart m other first × ((j : ℕ) → j < n → row_sum a part m j ≡ row_sum b other m j)
   sums_of_sums part = (mixture part, (λ k inner in_. elim (true_or_false (first k)) [ inl chosen ↦ chosen | inr out ↦ absurd (true≢false (sym in_ ∙ out_of part k inner out)) ]), mixed_rows part)
 
@@ -340,6 +344,7 @@ module _ (a : ℕ → ℕ → Bool) (n : ℕ) where
             | inr over ↦ ap (λ b. mixed l && (b && w l j)) (le-ltb l c over) ∙ and_false (mixed l)
           ]
 
+    -- a basis of all rows shows full rank
     pub not_full : (chosen : ℕ → Bool) → IsBasis a n n chosen → count_chosen chosen n ≡ n → ⊥
     not_full chosen basis full =
         let rest = dependent (n - 1) n fewer (λ k. true) (λ k. true) (let e = count_all n in let f = count_all (n - 1) in omega arith) in

@@ -29,6 +29,7 @@ place_inside rows columns i j row column =
     let up = row_ends i rows columns row in
     omega arith
 
+-- a row lies inside the grid
 pub row_inside : (rows columns i : ℕ) → i < rows → i * columns + columns ≤ rows * columns
 row_inside rows columns i row = row_ends i rows columns row
 
@@ -104,6 +105,7 @@ row_leads old new row k inside node leads alike ored others i j =
     let sets = row_sets old new row k inside node alike ored others i j in
     (λ s. elim (sets.0 s) [ inl o ↦ inl o | inr t ↦ inr (t.0, leads, t.1) ], λ w. sets.1 (elim w [ inl o ↦ inl o | inr t ↦ inr (t.0, t.2) ]))
 
+-- a row without the bit leads nowhere by it
 pub row_leads_not : (old : Grid) (row k : ℕ) → item old row k ≡ false → (i j : ℕ) → IsSet old i j ↔ (IsSet old i j ⊎ ((i ≡ row) × IsSet old row k × IsSet old k j))
 row_leads_not old row k none i j = (λ s. inl s, λ w. elim w [ inl o ↦ o | inr t ↦ absurd (true≢false (sym t.1.2 ∙ none)) ])
 
@@ -114,6 +116,7 @@ closed old now n past are = all_paths (IsSet old) (IsSet now) n (λ x y e. (let 
 -- ---- a part of a row in whose place other bits were put
 
 module _ (xs ys : List Bool) (rows columns row column count start : ℕ) (size : length xs ≡ rows * columns) (inside : row < rows) (within : column + count ≤ columns) (many : length ys ≡ count) (at : start ≡ row * columns + column) where
+  -- inside the written part of a row the bits are those written
   pub part_put : (j : ℕ) → j < count → get_or (put xs start ys) (row * columns + (column + j)) false ≡ get_or ys j false
   part_put j below =
       let up = row_ends row rows columns inside in
@@ -131,6 +134,7 @@ module _ (xs ys : List Bool) (rows columns row column count start : ℕ) (size :
     | inr other ↦ elim (place_apart i j row columns below other) [ inl low ↦ inl (omega arith) | inr high ↦ inr (omega arith) ]
   ]
 
+  -- outside the written part of a row the bits stay
   pub part_kept : (i j : ℕ) → j < columns → (i ≢ row) ⊎ ((j < column) ⊎ (column + count ≤ j)) → get_or (put xs start ys) (i * columns + j) false ≡ get_or xs (i * columns + j) false
   part_kept i j below apart =
       let up = row_ends row rows columns inside in
@@ -153,6 +157,7 @@ get_or-first_bits number count j below few =
 pub row_item : (xs : List Bool) (start columns end j : ℕ) → end ≡ start + columns → j < columns → get_or (slice_range xs start end) j false ≡ get_or xs (start + j) false
 row_item xs start columns end j ends inside = ap (λ e. get_or (slice_range xs start e) j false) ends ∙ get_or-run xs start columns j inside
 
+-- a bit of a row's view is that of the grid
 pub row_some : (xs : List Bool) (start columns end j : ℕ) → end ≡ start + columns → start + columns ≤ length xs → j < columns → slice_get (slice_range xs start end) j ≡ Some (get_or xs (start + j) false)
 row_some xs start columns end j ends room inside =
     let long : length (slice_range xs start end) ≡ columns = ap (λ e. length (slice_range xs start e)) ends ∙ length-run xs start columns room in

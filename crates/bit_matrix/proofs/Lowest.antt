@@ -8,9 +8,11 @@ use Rattle.std.specs.Int.{bit_not, trailing_zeros}
 use Rattle.bit_addressing.specs.Bits.{has_bit}
 use Rattle.bit_addressing.proofs.Words.{has_above, has_and, has_none, has_not, has_or, has_shl_high, has_shl_low}
 
+-- the lowest bit of a number above 0 is below place 64
 pub lowest_inside : (n : ℕ) → n < 2 ^ 64 → 0 < n → trailing_zeros w64 n < 64
 lowest_inside n fits some = (bit_at-trailing_zeros w64 n some fits).0
 
+-- the lowest bit of a number above 0 is set
 pub lowest_set : (n : ℕ) → n < 2 ^ 64 → 0 < n → has_bit n (trailing_zeros w64 n) ≡ true
 lowest_set n fits some = ap (λ m. eqb m 1) (bit_at-trailing_zeros w64 n some fits).1
 
@@ -45,6 +47,7 @@ module _ (chunk k covered : ℕ) (fits : chunk < 2 ^ 64) (within : covered < 2 ^
   unfolding gone
   has_gone p below = has_or (one_at k) covered p ∙ ap (λ b. b || has_bit covered p) (has_one k p inside below)
 
+  -- what is left of a chunk is what is neither the bit just taken nor covered
   pub has_left : (p : ℕ) → has_bit (bit_and chunk (bit_not w64 (bit_or (1 * 2 ^ k % 2 ^ 64) covered))) p ≡ (has_bit chunk p && not (eqb p k || has_bit covered p))
   unfolding gone
   has_left p = has_and chunk (bit_not w64 gone) p ∙ elim (cases_lt p 64) [
@@ -54,6 +57,7 @@ module _ (chunk k covered : ℕ) (fits : chunk < 2 ^ 64) (within : covered < 2 ^
         rw none refl
   ]
 
+  -- each turn leaves a smaller chunk
   pub fewer_left : has_bit chunk k ≡ true → bit_and chunk (bit_not w64 (bit_or (1 * 2 ^ k % 2 ^ 64) covered)) < chunk
   unfolding gone
   fewer_left set =
@@ -86,6 +90,7 @@ left_set false b c is = absurd (true≢false (sym is))
 pub left_was : (chunk k covered rest : ℕ) → ((p : ℕ) → has_bit rest p ≡ (has_bit chunk p && not (eqb p k || has_bit covered p))) → (p : ℕ) → has_bit rest p ≡ true → has_bit chunk p ≡ true
 left_was chunk k covered rest is p set = both_set (has_bit chunk p) (not (eqb p k || has_bit covered p)) (sym (is p) ∙ set)
 
+-- each bit of a chunk is left, was just taken, or is covered
 pub left_or_gone : (chunk k covered rest : ℕ) → ((p : ℕ) → has_bit rest p ≡ (has_bit chunk p && not (eqb p k || has_bit covered p))) → (p : ℕ) → has_bit chunk p ≡ true → (has_bit rest p ≡ true) ⊎ ((p ≡ k) ⊎ (has_bit covered p ≡ true))
 left_or_gone chunk k covered rest is p set = elim (left_set (has_bit chunk p) (eqb p k) (has_bit covered p) set) [
   | inl more ↦ inl (is p ∙ more)
@@ -94,6 +99,7 @@ left_or_gone chunk k covered rest is p set = elim (left_set (has_bit chunk p) (e
 
 -- ---- a word whose bits are set one by one
 
+-- the bit that was or-ed in is set
 pub one_set : (word k : ℕ) → k < 64 → has_bit (bit_or word (1 * 2 ^ k % 2 ^ 64)) k ≡ true
 one_set word k inside = has_or word (one_at k) k ∙ ap (λ b. has_bit word k || b) (has_one k k inside inside ∙ itself) ∙ either (has_bit word k)
   where
@@ -104,14 +110,18 @@ one_set word k inside = has_or word (one_at k) k ∙ ap (λ b. has_bit word k ||
     either true = refl
     either false = refl
 
+-- or-ing a bit in keeps those already set
 pub still_set : (word k p : ℕ) → has_bit word p ≡ true → has_bit (bit_or word (1 * 2 ^ k % 2 ^ 64)) p ≡ true
 still_set word k p set = has_or word (one_at k) p ∙ ap (λ b. b || has_bit (one_at k) p) set
 
+-- a bit of `and` is set in the first number
 pub both_bits : (a b p : ℕ) → has_bit (bit_and a b) p ≡ true → has_bit a p ≡ true
 both_bits a b p set = both_set (has_bit a p) (has_bit b p) (sym (has_and a b p) ∙ set)
 
+-- a bit set in both numbers is set in their `and`
 pub set_in_both : (a b p : ℕ) → has_bit a p ≡ true → has_bit b p ≡ true → has_bit (bit_and a b) p ≡ true
 set_in_both a b p first second = has_and a b p ∙ ap (λ x. x && has_bit b p) first ∙ second
 
+-- a bit is set or not
 pub set_or_not : (a p : ℕ) → (has_bit a p ≡ true) ⊎ (has_bit a p ≡ false)
 set_or_not a p = elim (eqb_tells (a / 2 ^ p % 2) 1) [ inl e ↦ inl e.0 | inr e ↦ inr e.0 ]

@@ -6,20 +6,24 @@ use Rattle.bit_slice.proofs.Sets.{and_false}
 use Rattle.bit_matrix.specs.Elimination.{AreLinked, AreUnits, IsAdded}
 use Rattle.bit_matrix.specs.Matrix.{plus_mod_2 as plus, sum_mod_2 as sum_below}
 
+-- false added changes nothing
 pub plus_false : (x : Bool) → plus x false ≡ x
 plus_false true = refl
 plus_false false = refl
 
+-- a value added to itself is false
 pub plus_same : (x : Bool) → plus x x ≡ false
 plus_same true = refl
 plus_same false = refl
 
+-- addition does not depend on the order
 pub plus_comm : (x y : Bool) → plus x y ≡ plus y x
 plus_comm true true = refl
 plus_comm true false = refl
 plus_comm false true = refl
 plus_comm false false = refl
 
+-- addition does not depend on the grouping
 pub plus_assoc : (x y z : Bool) → plus (plus x y) z ≡ plus x (plus y z)
 plus_assoc true true true = refl
 plus_assoc true true false = refl
@@ -29,20 +33,24 @@ plus_assoc false y z = refl
 plus_middle : (a b c d : Bool) → plus (plus a b) (plus c d) ≡ plus (plus a c) (plus b d)
 plus_middle a b c d = plus_assoc a b (plus c d) ∙ ap (plus a) (sym (plus_assoc b c d) ∙ ap (λ x. plus x d) (plus_comm b c) ∙ plus_assoc c b d) ∙ sym (plus_assoc a c (plus b d))
 
+-- a product with a sum is the sum of the products, the sum on the right
 pub and_plus : (c x y : Bool) → (c && plus x y) ≡ plus (c && x) (c && y)
 and_plus true x y = refl
 and_plus false x y = refl
 
+-- a product with a sum is the sum of the products, the sum on the left
 pub plus_and : (x y c : Bool) → (plus x y && c) ≡ plus (x && c) (y && c)
 plus_and true true true = refl
 plus_and true true false = refl
 plus_and true false c = sym (plus_false (true && c))
 plus_and false y c = refl
 
+-- a product with true changes nothing
 pub and_one : (x : Bool) → (x && true) ≡ x
 and_one true = refl
 and_one false = refl
 
+-- products do not depend on the grouping
 pub and_assoc : (a b c : Bool) → ((a && b) && c) ≡ (a && (b && c))
 and_assoc true b c = refl
 and_assoc false b c = refl
@@ -52,6 +60,7 @@ pub sums_same : (f g : ℕ → Bool) (n : ℕ) → ((k : ℕ) → k < n → f k 
 sums_same f g zero same = refl
 sums_same f g (suc n) same = ap (λ x. plus x (f n)) (sums_same f g n (λ k h. same k (omega arith))) ∙ ap (plus (sum_below g n)) (same n (omega arith))
 
+-- a sum of falses is false
 pub sum_none : (n : ℕ) → sum_below (λ k. false) n ≡ false
 sum_none zero = refl
 sum_none (suc n) = plus_false (sum_below (λ k. false) n) ∙ sum_none n
@@ -66,6 +75,7 @@ pub sum_times : (c : Bool) (f : ℕ → Bool) (n : ℕ) → sum_below (λ k. c &
 sum_times c f zero = sym (and_false c)
 sum_times c f (suc n) = ap (λ x. plus x (c && f n)) (sum_times c f n) ∙ sym (and_plus c (sum_below f n) (f n))
 
+-- a factor of each summand is a factor of the sum
 pub times_sum : (c : Bool) (f : ℕ → Bool) (n : ℕ) → sum_below (λ k. f k && c) n ≡ (sum_below f n && c)
 times_sum c f zero = refl
 times_sum c f (suc n) = ap (λ x. plus x (f n && c)) (times_sum c f n) ∙ sym (plus_and (sum_below f n) (f n) c)
@@ -113,6 +123,7 @@ one_sum f p n inside = sums_same (λ k. f k && (k == p)) (λ k. (p == k) && f k)
 
 -- ---- elimination
 
+-- the identity links a matrix with itself
 pub linked_first : (a w r : ℕ → ℕ → Bool) (n : ℕ) → ((i j : ℕ) → i < n → j < n → w i j ≡ a i j) → ((i j : ℕ) → i < n → j < n → r i j ≡ (i == j)) → AreLinked a w r n
 linked_first a w r n same one = record {
   made = λ i j h l. same i j h l ∙ sym (sums_same (λ k. r i k && a k j) (λ k. (i == k) && a k j) n (λ k m. ap (λ b. b && a k j) (one i k h m)) ∙ sum_one (λ k. a k j) i n h);
@@ -223,6 +234,7 @@ module _ (a w r : ℕ → ℕ → Bool) (n : ℕ) (linked : AreLinked a w r n) w
   pub inverse_left : ((i j : ℕ) → i < n → j < n → w i j ≡ (i == j)) → (i j : ℕ) → i < n → j < n → sum_below (λ k. r i k && a k j) n ≡ (i == j)
   inverse_left one i j h l = sym (linked.made i j h l) ∙ one i j h l
 
+  -- once the working matrix is the identity, its link is the inverse on the right
   pub inverse_right : ((i j : ℕ) → i < n → j < n → w i j ≡ (i == j)) → (i j : ℕ) → i < n → j < n → sum_below (λ k. a i k && r k j) n ≡ (i == j)
   inverse_right one i j h l =
       sums_same (λ k. a i k && r k j) (λ k. linked.undone.0 i k && r k j) n

@@ -60,6 +60,7 @@ module _ (xs : List Bool) (rows columns stride : ℕ) (size : length xs ≡ rows
       ∙ ap (λ k. n * columns + k) (length-run xs (n * stride) columns (omega arith))
       ∙ omega arith
 
+  -- without padding the bits are rows times columns
   pub length_unpadded : length (unpadded rows columns stride xs) ≡ rows * columns
   length_unpadded = length_first rows (omega arith)
 
@@ -102,6 +103,7 @@ module _ (xs : List Bool) (rows columns stride : ℕ) (size : length xs ≡ rows
       ∙ sym (get_or-run xs (i * stride) columns k inside)
       ∙ get_or_default (slice_range xs (i * stride) (i * stride + columns)) k false d (omega arith))
 
+-- the same for the bits that a grid holds
 pub length_grid : (xs : List Bool) (rows columns stride start : ℕ) → IsGrid rows columns stride start (length xs) → length (unpadded rows columns stride xs) ≡ rows * columns
 length_grid xs rows columns stride start is = length_unpadded xs rows columns stride is.count (wide rows columns stride start (length xs) is)
 
@@ -176,15 +178,18 @@ set_unpadded xs rows columns stride start i j bit is row column =
 
 -- the bits of a matrix in which one was written
 module _ (xs now : List Bool) (rows columns stride start i j : ℕ) (bit : Bool) (is : IsGrid rows columns stride start (length xs)) (row : i < rows) (column : j < columns) (made : now ≡ set xs (i * stride + j) bit) where
+  -- setting a bit of the padded row sets it in the grid
   pub bits_set : unpadded rows columns stride now ≡ set (unpadded rows columns stride xs) (i * columns + j) bit
   bits_set = ap (unpadded rows columns stride) made ∙ set_unpadded xs rows columns stride start i j bit is row column
 
+  -- the item that was set is the new bit
   pub item_set : get_or (unpadded rows columns stride now) (i * columns + j) false ≡ bit
   item_set =
       let long = length_unpadded xs rows columns stride is.count (wide rows columns stride start (length xs) is) in
       let here = place_inside rows columns i j row column in
       ap (λ l. get_or l (i * columns + j) false) bits_set ∙ get_or-set_same (unpadded rows columns stride xs) (i * columns + j) bit false (omega arith)
 
+  -- another item stays
   pub item_not_set : (a b : ℕ) → b < columns → (a ≢ i) ⊎ (b ≢ j) → get_or (unpadded rows columns stride now) (a * columns + b) false ≡ get_or (unpadded rows columns stride xs) (a * columns + b) false
   item_not_set a b inside apart =
       ap (λ l. get_or l (a * columns + b) false) bits_set
@@ -204,12 +209,14 @@ zeros_unpadded rows columns stride start is =
 -- a part of a row in whose place other bits were put
 module _ (xs now ys : List Bool) (rows columns stride start row column count at : ℕ) (is : IsGrid rows columns stride start (length xs)) (kept : length now ≡ length xs) (inside : row < rows) (within : column + count ≤ stride) (many : length ys ≡ count) (begins : at ≡ row * stride + column)
     (made : now ≡ put xs at ys) where
+  -- inside the written part of a padded row the bits are those written
   pub part_written : (j : ℕ) → j < count → column + j < columns → get_or (unpadded rows columns stride now) (row * columns + (column + j)) false ≡ get_or ys j false
   part_written j below short =
       item_unpadded now rows columns stride (kept ∙ is.count) (wide rows columns stride start (length xs) is) row (column + j) inside short
       ∙ ap (λ l. get_or l (row * stride + (column + j)) false) made
       ∙ part_put xs ys rows stride row column count at is.count inside within many begins j below
 
+  -- outside the written part of a padded row the bits stay
   pub part_unwritten : (i j : ℕ) → i < rows → j < columns → (i ≢ row) ⊎ ((j < column) ⊎ (column + count ≤ j)) → get_or (unpadded rows columns stride now) (i * columns + j) false ≡ get_or (unpadded rows columns stride xs) (i * columns + j) false
   part_unwritten i j tall short apart =
       let room = wide rows columns stride start (length xs) is in
@@ -240,6 +247,7 @@ module _ (f : Bool → Bool → Bool) (xs now ys : List Bool) (rows columns stri
   unfolding run
   put_run = made
 
+  -- each bit of the combined row is the function of both
   pub row_combined : (j : ℕ) → j < columns → get_or (unpadded rows columns stride now) (into * columns + j) false ≡ f (get_or (unpadded rows columns stride xs) (into * columns + j) false) (get_or ys j false)
   row_combined j inside =
       let room = wide rows columns stride start (length xs) is in
@@ -251,6 +259,7 @@ module _ (f : Bool → Bool → Bool) (xs now ys : List Bool) (rows columns stri
       ∙ item_combined f run ys j (omega arith)
       ∙ ap (λ b. f b (get_or ys j false)) (run_item j (omega arith) ∙ sym (item_unpadded xs rows columns stride is.count room into j row inside))
 
+  -- the other rows stay as a row is combined
   pub row_uncombined : (i j : ℕ) → i < rows → j < columns → i ≢ into → get_or (unpadded rows columns stride now) (i * columns + j) false ≡ get_or (unpadded rows columns stride xs) (i * columns + j) false
   row_uncombined i j low inside apart = part_unwritten xs now (combined f run ys) rows columns stride start into 0 n (into * stride) is kept row (omega arith) many (omega arith) put_run i j low inside (inl apart)
 
@@ -277,6 +286,7 @@ all_combined f xs ys now rows columns stride others wider apart start from is th
 
 -- a row that was written over another, with its padding
 module _ (xs now : List Bool) (rows columns stride start from to n : ℕ) (is : IsGrid rows columns stride start (length xs)) (kept : length now ≡ length xs) (there : from < rows) (here : to < rows) (all : n ≡ stride) (made : now ≡ moved xs (from * stride) (to * stride) n) where
+  -- each bit of the copied row is that of its source
   pub row_copied : (j : ℕ) → j < columns → slice_range now (to * stride) (to * stride + n) ≡ slice_range xs (from * stride) (from * stride + n)
       → get_or (unpadded rows columns stride now) (to * columns + j) false ≡ get_or (unpadded rows columns stride xs) (from * columns + j) false
   row_copied j inside landed =
@@ -286,6 +296,7 @@ module _ (xs now : List Bool) (rows columns stride start from to n : ℕ) (is : 
       ∙ sym (get_or-run now (to * stride) n j (omega arith)) ∙ ap (λ l. get_or l j false) landed ∙ get_or-run xs (from * stride) n j (omega arith)
       ∙ sym (item_unpadded xs rows columns stride is.count room from j there inside)
 
+  -- the other rows stay as a row is copied
   pub row_uncopied : (i j : ℕ) → i < rows → j < columns → i ≢ to → get_or (unpadded rows columns stride now) (i * columns + j) false ≡ get_or (unpadded rows columns stride xs) (i * columns + j) false
   row_uncopied i j low inside apart =
       let room = wide rows columns stride start (length xs) is in
@@ -361,6 +372,7 @@ none_padded rows columns stride start size is none =
           omega arith
     ]
 
+-- a grid without items has no bits
 pub nothing_padded : (xs : List Bool) (rows columns stride start : ℕ) → IsGrid rows columns stride start (length xs) → rows * columns ≡ 0 → xs ≡ []
 nothing_padded xs rows columns stride start is none = nil_from_length xs (none_padded rows columns stride start (length xs) is none)
 
@@ -373,6 +385,7 @@ row_differs xs ys left right a b here there differ =
     not_true true never = absurd (never refl)
     not_true false never = refl
 
+-- rows that the comparison finds equal are equal parts
 pub row_agrees : (xs ys left right : List Bool) (a b : ℕ) → left ≡ slice_range xs a b → right ≡ slice_range ys a b → false ≡ not (bits_equal left right) → slice_range xs a b ≡ slice_range ys a b
 row_agrees xs ys left right a b here there same = sym here ∙ (equal_lists left right).0 (is_true (bits_equal left right) same) ∙ there
   where

@@ -53,6 +53,7 @@ walk_alone : (edge : ℕ → ℕ → Type 0) (low i : ℕ) (between : List ℕ) 
 walk_alone edge low i [] j are walk = walk
 walk_alone edge low i (x ∷ xs) j are walk = absurd (let h = are.0 in let k = are.1 in omega arith)
 
+-- paths over no nodes are the edges
 pub edge_alone : (edge : ℕ → ℕ → Type 0) → ArePathsOver edge edge 0 0
 edge_alone edge = record { paths = λ i j. (λ e. ([], (tt, e)), λ path. walk_alone edge 0 i path.0 j path.1.0 path.1.1) }
 
@@ -102,6 +103,7 @@ pub record IsClosing (edge now : ℕ → ℕ → Type 0) (low high k : ℕ) : Ty
   pub inside : (i j : ℕ) → low ≤ i → i < high → now i j ↔ IsPathOver edge low k i j
   pub outside : (i j : ℕ) → (i < low) ⊎ (high ≤ i) → now i j ↔ edge i j
 
+-- before the first node of a block nothing is closed
 pub none_closed : (edge : ℕ → ℕ → Type 0) (low high : ℕ) → IsClosing edge edge low high low
 none_closed edge low high = record {
   inside = λ i j _ _. (λ e. ([], (tt, e)), λ path. walk_alone edge low i path.0 j path.1.0 path.1.1);
@@ -132,6 +134,7 @@ one_node_more edge old new low high k least below was is = record {
   );
 }
 
+-- after its last node a block is closed
 pub block_closed : (edge now : ℕ → ℕ → Type 0) (low high : ℕ) → IsClosing edge now low high high → IsClosed now low high
 block_closed edge now low high is = record {
   leads = λ a b j a_from a_upto b_from b_upto to from. (is.inside a j a_from a_upto).1 (paths_joined edge low high a b j b_from b_upto ((is.inside a b a_from a_upto).0 to) ((is.inside b j b_from b_upto).0 from));
@@ -146,6 +149,7 @@ pub record IsLeading (old now : ℕ → ℕ → Type 0) (row low high chunk : �
   pub left : (p : ℕ) → has_bit chunk p ≡ true → (low + p < high) × old row (low + p)
   pub done : (m : ℕ) → low ≤ m → m < high → old row m → (has_bit chunk (m - low) ≡ true) ⊎ ((j : ℕ) → old m j → now row j)
 
+-- the bits read of a row are the nodes of the block that it leads to, but for those that lead nowhere
 pub row_read : (old : ℕ → ℕ → Type 0) (row low high chunk : ℕ) → ((p : ℕ) → has_bit chunk p ≡ true → (low + p < high) × old row (low + p))
     → ((p : ℕ) → low + p < high → old row (low + p) → (has_bit chunk p ≡ true) ⊎ ((j : ℕ) → old (low + p) j → ⊥)) → IsLeading old old row low high chunk
 row_read old row low high chunk left done = record {
@@ -240,6 +244,7 @@ pub record AreLedOver (old now : ℕ → ℕ → Type 0) (low high r : ℕ) : Ty
   pub led : (i j : ℕ) → now i j ↔ (old i j ⊎ ((i < r) × LeadsOver old low high i j))
 
 module _ (old now : ℕ → ℕ → Type 0) (low high r : ℕ) (closed : IsClosed old low high) (was : AreLedOver old now low high r) where
+  -- edges that are new inside a block were there once it was closed
   pub inner : (b j : ℕ) → low ≤ b → b < high → now b j → old b j
   inner b j from upto leads = elim ((was.led b j).0 leads) [ inl o ↦ o | inr t ↦ closed.leads b t.1.0 j from upto t.1.1.0 t.1.1.1 t.1.1.2 t.1.1.3 ]
 
@@ -249,6 +254,7 @@ module _ (old now : ℕ → ℕ → Type 0) (low high r : ℕ) (closed : IsClose
     leads = λ a b j a_from a_upto b_from b_upto to from. (was.led a j).1 (inl (closed.leads a b j a_from a_upto b_from b_upto (inner a b a_from a_upto to) (inner b j b_from b_upto from)));
   }
 
+  -- one row more leads over the block
   pub row_over : (new : ℕ → ℕ → Type 0) → ((i j : ℕ) → new i j ↔ (now i j ⊎ ((i ≡ r) × LeadsOver now low high r j))) → AreLedOver old new low high (r + 1)
   row_over new is =
       let first : (x : ℕ) → now r x → old r x = λ x e. elim ((was.led r x).0 e) [ inl o ↦ o | inr t ↦ absurd (let h = t.0 in omega arith) ] in
@@ -323,6 +329,7 @@ module _ (edge old : ℕ → ℕ → Type 0) (low high : ℕ) (less : low ≤ hi
         | inr from ↦ (k ∷ rest.0, ((from, are.1, rest.1.0), ((was.paths i k).1 ([], (tt, walk.0)), rest.1.1)))
       ]
 
+  -- paths over one block more are those led over it
   pub one_block_more : (new : ℕ → ℕ → Type 0) → ArePathsOver old new low high → ArePathsOver edge new 0 high
   one_block_more new is = record {
     paths = λ i j. (λ e. (let p = (is.paths i j).0 e in flat i p.0 j p.1.0 p.1.1), λ path. (is.paths i j).1 (grouped i path.0 j path.1.0 path.1.1));

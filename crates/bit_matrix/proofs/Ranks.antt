@@ -19,6 +19,7 @@ below n part k = ltb k n && part k
 abbrev either : (ℕ → Bool) → (ℕ → Bool) → ℕ → Bool
 either p q k = plus (p k) (q k)
 
+-- a conjunction is true where both sides are
 pub and_true : (x y : Bool) → (x && y) ≡ true → (x ≡ true) × (y ≡ true)
 and_true true true h = (refl, refl)
 and_true true false h = cc
@@ -28,6 +29,7 @@ plus_true : (x y : Bool) → plus x y ≡ true → (x ≡ true) ⊎ (y ≡ true)
 plus_true true y h = inl refl
 plus_true false y h = inr h
 
+-- a bit is true or false
 pub true_or_false : (b : Bool) → (b ≡ true) ⊎ (b ≡ false)
 true_or_false true = inl refl
 true_or_false false = inr refl
@@ -46,6 +48,7 @@ module _ (a : ℕ → ℕ → Bool) where
   sum_widened : (part : ℕ → Bool) (n j : ℕ) → row_sum a (below n part) (suc n) j ≡ row_sum a part n j
   sum_widened part n j = sum_left_out (below n part) n j (ap (λ b. b && part n) (le-ltb n n (omega arith))) ∙ sum_below_same part n n j (omega arith)
 
+  -- the sum over rows of either choice is the sum of both sums
   pub sum_either : (p q : ℕ → Bool) (n j : ℕ) → row_sum a (either p q) n j ≡ plus (row_sum a p n j) (row_sum a q n j)
   sum_either p q n j = sums_same (λ k. either p q k && a k j) (λ k. plus (p k && a k j) (q k && a k j)) n (λ k h. plus_and (p k) (q k) (a k j)) ∙ sums_added (λ k. p k && a k j) (λ k. q k && a k j) n
 
@@ -63,6 +66,7 @@ part_either n p q chosen first second k h in_ = elim (plus_true (p k) (q k) in_)
 
 -- ---- the first bit of a row
 
+-- a row has one lead at most
 pub one_lead : (row : ℕ → Bool) (i j : ℕ) → IsLead row i → IsLead row j → i ≡ j
 one_lead row i j first second = elim (cases_lt i j) [
   | inl low ↦ absurd (true≢false (sym first.here ∙ second.before i low))
@@ -82,6 +86,7 @@ any_or_none row (suc n) = elim (any_or_none row n) [
 
 -- ---- rows that were reduced, each by those before it
 
+-- before the first column nothing is reduced
 pub reduced_none : (a w : ℕ → ℕ → Bool) (m n : ℕ) → ((k j : ℕ) → k < m → j < n → w k j ≡ a k j) → AreReduced a w m n 0
 reduced_none a w m n same = record {
   rest = λ k j h. same k j;
@@ -92,6 +97,7 @@ reduced_none a w m n same = record {
   made = λ l h. absurd (omega arith);
 }
 
+-- before the first row of a column nothing is reduced by it
 pub reducing_none : (a w : ℕ → ℕ → Bool) (m n i : ℕ) → i < m → AreReduced a w m n i → IsReducing a w w m n i 0
 reducing_none a w m n i inside was = record {
   others = λ l j h k apart. refl;
@@ -163,6 +169,7 @@ module _ (a w v : ℕ → ℕ → Bool) (m n i : ℕ) (inside : i < m) (was : Ar
   any_same f g zero same = refl
   any_same f g (suc c) same = ap (λ x. x || f c) (any_same f g c (λ j h. same j (omega arith))) ∙ ap (λ x. any_below g c || x) (same c (omega arith))
 
+  -- rows above the present one are left as they were
   pub left_same : (k : ℕ) → k < i → is_left v n k ≡ is_left w n k
   left_same k h = any_same (v k) (w k) n (λ j inner. same_row k j h inner)
 
@@ -274,6 +281,7 @@ module _ (a w v : ℕ → ℕ → Bool) (m n i : ℕ) (inside : i < m) (was : Ar
     ];
   }
 
+  -- after all rows one column more is reduced
   pub reduced_more : AreReduced a v m n (i + 1)
   reduced_more = let next : suc i ≡ i + 1 = omega arith in subst (AreReduced a v m n) next reduced_next
 
@@ -296,6 +304,7 @@ left_told row n (Some column) lead = elim (any_or_none row n) [
   | inr clear ↦ absurd (true≢false (sym lead.1.here ∙ clear.1 column lead.0))
 ]
 
+-- equal choices have equal counts
 pub count_same : (f g : ℕ → Bool) (n : ℕ) → ((k : ℕ) → k < n → f k ≡ g k) → count_chosen f n ≡ count_chosen g n
 count_same f g zero same = refl
 count_same f g (suc n) same = ap (λ c. c + cond (f n) 1 0) (count_same f g n (λ k h. same k (omega arith))) ∙ ap (λ b. count_chosen g n + cond b 1 0) (same n (omega arith))
@@ -311,13 +320,16 @@ module _ (a w v : ℕ → ℕ → Bool) (m n i : ℕ) (inside : i < m) (was : Ar
   pub counted_left : is_left v n i ≡ true → count + 1 ≡ count_chosen (is_left v n) (i + 1)
   counted_left is = sym (counted_more ∙ ap (λ b. count + cond b 1 0) is)
 
+  -- a row that is not left adds nothing to the count
   pub counted_out : is_left v n i ≡ false → count ≡ count_chosen (is_left v n) (i + 1)
   counted_out is = sym (counted_more ∙ ap (λ b. count + cond b 1 0) is ∙ add-zero count)
 
+-- one row adds at most one
 pub one_at_most : (b : Bool) → cond {A = ℕ} b 1 0 ≤ 1
 one_at_most true = omega arith
 one_at_most false = omega arith
 
+-- no more than n of n are chosen
 pub count_most : (chosen : ℕ → Bool) (n : ℕ) → count_chosen chosen n ≤ n
 count_most chosen zero = omega arith
 count_most chosen (suc n) = let e = count_most chosen n in let h = one_at_most (chosen n) in omega arith

@@ -60,6 +60,7 @@ module _ (step lower low high : ℕ) (mask : IsLower step lower) where
       ] in
       has_xor low (differing step lower low high * 2 ^ step % 2 ^ 64) j ∙ rw none (xor_false (has_bit low j))
 
+  -- the first word gets at the upper places the bits of the second
   pub first_one : (j : ℕ) → j < 64 → j / step % 2 ≡ 1 → has_bit (bit_xor low (differing step lower low high * 2 ^ step % 2 ^ 64)) j ≡ has_bit high (j - step)
   first_one j inside is =
       let past = step_fits j is in
@@ -72,6 +73,7 @@ module _ (step lower low high : ℕ) (mask : IsLower step lower) where
   pub next_zero : (j : ℕ) → j < 64 → j / step % 2 ≡ 0 → has_bit (bit_xor high (differing step lower low high)) j ≡ has_bit low (j + step)
   next_zero j inside is = has_xor high (differing step lower low high) j ∙ ap (xor (has_bit high j)) (differs j inside is) ∙ xor_around (has_bit high j) (has_bit low (j + step))
 
+  -- the second word keeps its bits at the upper places
   pub next_one : (j : ℕ) → j < 64 → j / step % 2 ≡ 1 → has_bit (bit_xor high (differing step lower low high)) j ≡ has_bit high j
   next_one j inside is = has_xor high (differing step lower low high) j ∙ ap (xor (has_bit high j)) (agrees j inside is) ∙ xor_false (has_bit high j)
 
@@ -155,26 +157,32 @@ lower_by_test step mask some few tested = record {
   places = λ p inside. same_bits_tell (has_bit mask p) (eqb (p / step % 2) 0) (below_tells (λ q. same_bits (has_bit mask q) (eqb (q / step % 2) 0)) 64 tested p inside);
 }
 
+-- the mask of the lower half of 64 bits
 pub lower_32 : IsLower 32 0x00000000FFFFFFFF
 unfolding same_bits
 lower_32 = lower_by_test 32 0x00000000FFFFFFFF (lit< tt) (lit< tt) refl
 
+-- the mask of the lower halves of 32 bits
 pub lower_16 : IsLower 16 0x0000FFFF0000FFFF
 unfolding same_bits
 lower_16 = lower_by_test 16 0x0000FFFF0000FFFF (lit< tt) (lit< tt) refl
 
+-- the mask of the lower halves of 16 bits
 pub lower_8 : IsLower 8 0x00FF00FF00FF00FF
 unfolding same_bits
 lower_8 = lower_by_test 8 0x00FF00FF00FF00FF (lit< tt) (lit< tt) refl
 
+-- the mask of the lower halves of bytes
 pub lower_4 : IsLower 4 0x0F0F0F0F0F0F0F0F
 unfolding same_bits
 lower_4 = lower_by_test 4 0x0F0F0F0F0F0F0F0F (lit< tt) (lit< tt) refl
 
+-- the mask of the lower halves of half bytes
 pub lower_2 : IsLower 2 0x3333333333333333
 unfolding same_bits
 lower_2 = lower_by_test 2 0x3333333333333333 (lit< tt) (lit< tt) refl
 
+-- the mask of the lower bits of pairs
 pub lower_1 : IsLower 1 0x5555555555555555
 unfolding same_bits
 lower_1 = lower_by_test 1 0x5555555555555555 (lit< tt) (lit< tt) refl
@@ -211,6 +219,7 @@ column_within step tested i j inside =
 abbrev pub IsWoven : ℕ → List ℕ → List ℕ → Type 0
 IsWoven step from to = (i j : ℕ) → i < 64 → j < 64 → square_bit to i j ≡ square_bit from (source_row step i j) (source_column step i j)
 
+-- six exchanges turn a square of 64 by 64 bits over its diagonal
 pub turned : (s0 s1 s2 s3 s4 s5 s6 : List ℕ) → IsWoven 32 s0 s1 → IsWoven 16 s1 s2 → IsWoven 8 s2 s3 → IsWoven 4 s3 s4 → IsWoven 2 s4 s5 → IsWoven 1 s5 s6 → (i j : ℕ) → i < 64 → j < 64 → square_bit s6 i j ≡ square_bit s0 j i
 turned s0 s1 s2 s3 s4 s5 s6 w32 w16 w8 w4 w2 w1 i j row column =
     let p1 = back 1 (i, j) in let p2 = back 2 p1 in let p4 = back 4 p2 in let p8 = back 8 p4 in let p16 = back 16 p8 in

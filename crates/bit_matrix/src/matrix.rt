@@ -36,13 +36,20 @@ use std::marker::Model;
 ///
 /// Each row begins with a word, so that its bits and their padding take `padded m.columns` bits, a multiple of 64.
 ///
-/// ```text
-/// let mut leads = Matrix::new(alloc, 3, 3)?;
+/// ```rust
+/// use bit_matrix::Matrix;
+///
+/// let mut leads = Matrix::new(rt.alloc(), 3, 3)?;
 /// leads.set(0, 1, true);
 /// leads.set(1, 2, true);
 /// leads.close();
-/// leads.get(0, 2)              // true
-/// leads.get(2, 0)              // false
+/// println!(&rt; "{} {}, from 0 to {}", leads.get(0, 2), leads.get(2, 0), leads.row(0))?;
+/// println!(&rt; "rank {}", leads.rank_mod_2(rt.alloc())?)?;
+/// ```
+///
+/// ```text
+/// true false, from 0 to [0, 1, 1]
+/// rank 2
 /// ```
 #[derive(Drop)]
 pub struct Matrix {
@@ -111,7 +118,7 @@ impl Matrix {
         Ok(made)
     }
 
-    /// How many rows there are.
+    /// The number of rows.
     #[tactic(auto, using(crate::proofs::Padding::length_grid))]
     pub fn rows(&self) -> usize
         ensures value { result ≡ self.now.rows }
@@ -120,7 +127,7 @@ impl Matrix {
         self.rows
     }
 
-    /// How many columns there are.
+    /// The number of columns.
     #[tactic(auto, using(crate::proofs::Padding::length_grid))]
     pub fn columns(&self) -> usize
         ensures value { result ≡ self.now.columns }

@@ -26,6 +26,7 @@ rest_numbered xs i k h is before =
     ∙ ap (λ b. cond b (i ∷ right) right) is
     ∙ sym (ap (drop k) (around (λ b. b) xs i h is) ∙ ap (λ n. drop n (left ++ i ∷ right)) (sym size) ∙ drop-append_seam left (i ∷ right))
 
+-- from the list's end on no ones are left
 pub none_left : (xs : List Bool) (n k : ℕ) → n ≡ length xs → count_by (λ b. b) xs ≤ k → places_between (λ b. b) xs n (length xs) ≡ drop k (ones_of xs)
 none_left xs n k is few =
     let size = as_many (λ b. b) xs (length xs) (omega arith) ∙ before_end (λ b. b) xs (length xs) refl in
@@ -44,10 +45,12 @@ counts_more xs counts b total size is each j h = elim (cases_lt j (length counts
 ]
 
 -- ---- what a search from a block on gave, counted from the front on
+-- a bit found with some left to count is the one with that number
 pub some_of : (bit : Bool) (xs ys : List Bool) (from left k : ℕ) → xs ≡ ys → count_before bit ys from + left ≡ k → (r : Option ℕ) → IfSome r (λ i. IsNumbered bit xs (count_before bit xs from + left) i) → IfSome r (λ i. IsNumbered bit ys k i)
 some_of bit xs ys from left k same all r some =
     subst (λ n. IfSome r (λ i. IsNumbered bit ys n i)) all (subst (λ (l : List Bool). IfSome r (λ i. IsNumbered bit l (count_before bit l from + left) i)) same some)
 
+-- no bit found means that there are not that many
 pub none_of : (bit : Bool) (xs ys : List Bool) (from left k : ℕ) → xs ≡ ys → count_before bit ys from + left ≡ k → (r : Option ℕ) → IfNone r (count_by (is_bit bit) xs ≤ count_before bit xs from + left) → IfNone r (count_by (is_bit bit) ys ≤ k)
 none_of bit xs ys from left k same all r none =
     subst (λ n. IfNone r (count_by (is_bit bit) ys ≤ n)) all (subst (λ (l : List Bool). IfNone r (count_by (is_bit bit) l ≤ count_before bit l from + left)) same none)

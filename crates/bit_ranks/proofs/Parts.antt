@@ -25,6 +25,7 @@ places_are all (x ∷ xs) i same =
     ap (λ b. cond b (i ∷ filter (λ j. get_or all j false) (range_with_len (i + 1) (length xs))) (filter (λ j. get_or all j false) (range_with_len (i + 1) (length xs)))) here
     ∙ ap (λ l. cond x (i ∷ l) l) (places_are all xs (i + 1) (λ k h. let e : i + 1 + k ≡ i + suc k = omega arith in ap (λ j. get_or all j false) e ∙ same (suc k) (omega arith)))
 
+-- the indices of the ones are those counted from index 0
 pub ones_are : (xs : List Bool) → ones_of xs ≡ from_index 0 xs
 ones_are xs = places_are xs xs 0 (λ k h. let z : 0 + k ≡ k = omega arith in ap (λ j. get_or xs j false) z)
 
@@ -33,6 +34,7 @@ shifted a i [] = refl
 shifted a i (true ∷ xs) = let z : a + (i + 1) ≡ a + i + 1 = omega arith in ap (λ l. (a + i) ∷ l) (shifted a (i + 1) xs ∙ ap (λ j. from_index j xs) z)
 shifted a i (false ∷ xs) = let z : a + (i + 1) ≡ a + i + 1 = omega arith in shifted a (i + 1) xs ∙ ap (λ j. from_index j xs) z
 
+-- the indices of the ones of a part, counted from the list's start
 pub part_ones : (xs : List Bool) (a b : ℕ) → a ≤ b → b ≤ length xs → map (λ i. a + i) (ones_of (slice_range xs a b)) ≡ places_between (λ b. b) xs a b
 part_ones xs a b ordered inside =
     let run : List Bool = slice_range xs a b in
@@ -43,12 +45,15 @@ part_ones xs a b ordered inside =
 
 -- ---- indices that are left
 
+-- indices below the part's length fit from its base on
 pub fit_from_all : (base n : ℕ) (l : List ℕ) → All (λ i. i < n) l → base + n ≤ MAX_BITS → FitFrom base l
 fit_from_all base n l all room = record { each = λ k h. let low = all k 0 h in omega arith }
 
+-- after the first index is taken the others still fit
 pub fit_rest : (base x : ℕ) (l m : List ℕ) → FitFrom base l → l ≡ x ∷ m → FitFrom base m
 fit_rest base x l m fit is = let all : FitFrom base (x ∷ m) = subst (FitFrom base) is fit in record { each = λ k h. all.each (suc k) (omega arith) }
 
+-- after the last index is taken the others still fit
 pub fit_front : (base x : ℕ) (l m : List ℕ) → FitFrom base l → l ≡ m ++ x ∷ [] → FitFrom base m
 fit_front base x l m fit is =
     let all : FitFrom base (m ++ x ∷ []) = subst (FitFrom base) is fit in
@@ -60,6 +65,7 @@ pub fit_stepped : {S : Type 0} (rest : S → List ℕ) (s t : S) (r : Option ℕ
 fit_stepped rest s t None base step fit = subst (FitFrom base) (step.0 ∙ sym step.1) fit
 fit_stepped rest s t (Some x) base step fit = fit_rest base x (rest s) (rest t) fit step
 
+-- a step from the back leaves indices that fit
 pub fit_stepped_back : {S : Type 0} (rest : S → List ℕ) (s t : S) (r : Option ℕ) (base : ℕ) → YieldsLast rest s r t → FitFrom base (rest s) → FitFrom base (rest t)
 fit_stepped_back rest s t None base step fit = subst (FitFrom base) (step.0 ∙ sym step.1) fit
 fit_stepped_back rest s t (Some x) base step fit = fit_front base x (rest s) (rest t) fit step

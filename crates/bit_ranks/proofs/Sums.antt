@@ -24,6 +24,7 @@ levels_tall n few =
     let same : d.0 ≡ 64 - count_leading_zeros 64 n = (let e = d.1 in omega arith) in
     subst (λ m. n < 2 ^ m) same d.2
 
+-- the number of levels of a list's blocks is below 64
 pub levels_small : (n : ℕ) → n * 512 ≤ MAX_BITS → 64 - count_leading_zeros 64 n < 64
 levels_small n few =
     let d = leading_length 64 n (omega arith) in
@@ -48,6 +49,7 @@ pub record AreHalves (f : ℕ → ℕ) (n : ℕ) (sums : List ℕ) (level first 
   pub left : IsSummed f n sums (level - 1) first
   pub right : IsSummed f n sums (level - 1) (first + m)
 
+-- the sum of a node is those of its two halves
 pub halves : (f : ℕ → ℕ) (n : ℕ) (sums : List ℕ) (level first m : ℕ) → 0 < level → m ≡ 2 ^ (level - 1) → IsSummed f n sums level first → AreHalves f n sums level first m
 halves f n sums level first m above width s =
     let l = level - 1 in
@@ -79,9 +81,11 @@ module _ (xs : List Bool) (first m s : ℕ) (inside : first + m ≤ length xs / 
   two_parts : (p : Bool → Bool) → count_by p (take ((first + m) * 512) xs) ≡ count_by p (take (first * 512) xs) + count_by p part
   two_parts p = parted p xs (first * 512) ((first + m) * 512) (omega arith) (omega arith)
 
+  -- a sum is at most the bits of its blocks
   pub few_there : s ≤ m * 512
   few_there = omega (arith, two_parts (λ b. b), count_by-le-length (λ b. b) part, size)
 
+  -- the count of either bit over some blocks, from the count of ones
   pub of_kind : (bit : Bool) → count_before bit xs ((first + m) * 512) ≡ count_before bit xs (first * 512) + cond bit s (m * 512 - s)
   of_kind true = sum
   of_kind false = omega (arith, two_parts not, two_parts (λ b. b), zeros_and_ones part, size)
@@ -172,9 +176,11 @@ module _ (xs : List Bool) (i : ℕ) (inside : i < length xs) where
   abbrev flipped : List Bool
   flipped = set xs i (not (get_or xs i false))
 
+  -- a flip changes no sum of blocks before it
   pub flipped_before : (j : ℕ) → j ≤ i / 512 → before_block xs j ≡ before_block flipped j
   flipped_before j h = ap (count_by (λ b. b)) (sym (take-set-le (j * 512) xs i (not (get_or xs i false)) (omega arith)))
 
+  -- a flip changes the sums of the blocks after it by one
   pub flipped_after : (j : ℕ) → i / 512 < j → before_block xs j + cond (not (get_or xs i false)) 1 0 ≡ before_block flipped j + cond (get_or xs i false) 1 0
   flipped_after j h =
       let low : i < j * 512 = omega arith in
@@ -196,6 +202,7 @@ module _ (xs : List Bool) (i : ℕ) (inside : i < length xs) where
 pub written_here : (sums : List ℕ) (at x : ℕ) → 0 < at → at ≤ length sums → get_or (set sums (at - 1) x) (at - 1) 0 ≡ x
 written_here sums at x some inside = get_or-set_same sums (at - 1) x 0 (omega arith)
 
+-- writing one sum leaves the others
 pub written_others : (sums : List ℕ) (at x : ℕ) → 0 < at → (k : ℕ) → k + 1 ≢ at → get_or (set sums (at - 1) x) k 0 ≡ get_or sums k 0
 written_others sums at x some k apart = get_or-set_other sums (at - 1) k x 0 (λ e. apart (omega arith))
 
@@ -224,18 +231,21 @@ flipped_back xs ys i bit inside is was =
       | inr apart ↦ get_or-set_other ys i j (not (get_or ys i false)) false apart ∙ ap (λ l. get_or l j false) is ∙ get_or-set_other xs i j bit false apart
     ])
 
+-- a bit that differs is the complement
 pub other_bit : (x bit : Bool) → not (beq x bit) ≡ true → not bit ≡ x
 other_bit true true apart = cc
 other_bit true false apart = refl
 other_bit false true apart = refl
 other_bit false false apart = cc
 
+-- a bit that does not differ is equal
 pub same_bit : (x bit : Bool) → not (beq x bit) ≡ false → x ≡ bit
 same_bit true true same = refl
 same_bit true false same = cc
 same_bit false true same = cc
 same_bit false false same = refl
 
+-- the complement of the complement is the bit
 pub not_not : (b : Bool) → not (not b) ≡ b
 not_not true = refl
 not_not false = refl

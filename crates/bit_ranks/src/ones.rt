@@ -20,7 +20,7 @@ pub struct OnesFrom<'a, T: BitStore, O: BitOrder> {
     ones: IterOnes<'a, T, O>,
     // What is added to each index.
     base: usize,
-    // How many indices are left.
+    // The number of indices left.
     left: usize,
     ghost fits: { FitFrom base (ones_left ones) },
     ghost count: { left ≡ length (ones_left ones) },
@@ -116,7 +116,7 @@ impl<'a, T: BitStore, O: BitOrder> DoubleEndedIterator for OnesFrom<'a, T, O> {
 }
 
 impl<'a, T: BitStore, O: BitOrder> ExactSizeIterator for OnesFrom<'a, T, O> {
-    /// How many indices are left, in constant time.
+    /// The number of indices left, in constant time.
     fn len(&self) -> usize {
         self.left
     }

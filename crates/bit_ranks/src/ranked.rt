@@ -29,11 +29,22 @@ use std::marker::Model;
 /// In contracts ranked bits `r` are the box: all its words `r.words`, their row `r.row`, the head `r.head` and the
 /// list `r.list`.
 ///
+/// ```rust
+/// use bit_containers::{BitVec, Lsb0};
+/// use bit_ranks::RankedBits;
+///
+/// let bits = BitVec::<u64, Lsb0>::from_text(rt.alloc(), "0110100")?;
+/// let mut ranked = RankedBits::from_vec(rt.alloc(), bits)?;
+/// println!(&rt; "{} ones before index 4", ranked.rank1(4))?;
+/// if ranked.len() > 0 {
+///     ranked.set(0, true);
+/// }
+/// println!(&rt; "{} now, one 3 at {:?}", ranked.rank1(4), ranked.select1(3))?;
+/// ```
+///
 /// ```text
-/// let mut ranked = RankedBits::new(alloc, bits)?;   // of the bits 0110100
-/// ranked.set(0, true);                              // leaves 1110100
-/// ranked.rank1(4)                                   // 3: of the ones before index 4
-/// ranked.select1(3)                                 // Some(4)
+/// 2 ones before index 4
+/// 3 now, one 3 at Some(4)
 /// ```
 #[derive(Drop)]
 pub struct RankedBits<T: BitStore = usize, O: BitOrder = Lsb0> {
@@ -108,7 +119,7 @@ impl<T: BitStore, O: BitOrder> RankedBits<T, O> {
         self.bits.as_bitslice()
     }
 
-    /// How many bits there are.
+    /// The number of bits.
     pub fn len(&self) -> usize
         ensures value { result ≡ length self.now.list }
         ensures bound { result ≤ MAX_BITS }
@@ -185,7 +196,7 @@ impl<T: BitStore, O: BitOrder> RankedBits<T, O> {
         recount(&mut self.sums, self.levels, self.bits.as_bitslice(), i);
     }
 
-    /// How many ones there are.
+    /// The number of ones.
     pub fn count_ones(&self) -> usize
         ensures value { result ≡ count_by (λ bit. bit) self.now.list }
         ensures few { result ≤ length self.now.list }
@@ -193,7 +204,7 @@ impl<T: BitStore, O: BitOrder> RankedBits<T, O> {
         self.rank1(self.len())
     }
 
-    /// How many zeros there are.
+    /// The number of zeros.
     pub fn count_zeros(&self) -> usize
         ensures value { result ≡ count_by not self.now.list }
         ensures few { result ≤ length self.now.list }
@@ -201,7 +212,7 @@ impl<T: BitStore, O: BitOrder> RankedBits<T, O> {
         self.rank0(self.len())
     }
 
-    /// How many ones are before index `i`: one sum of each level is added at most, and fewer than 512 bits are counted.
+    /// The number of ones before index `i`: one sum of each level is added at most, and fewer than 512 bits are counted.
     /// Requires that `i` is at most the length.
     pub fn rank1(&self, i: usize) -> usize
         requires { i ≤ length self.now.list }
@@ -212,7 +223,7 @@ impl<T: BitStore, O: BitOrder> RankedBits<T, O> {
         self.ones_to(block) + self.bits.get_range(block * BLOCK..i).count_ones()
     }
 
-    /// How many zeros are before index `i`. Otherwise like `rank1`.
+    /// The number of zeros before index `i`. Otherwise like `rank1`.
     pub fn rank0(&self, i: usize) -> usize
         requires { i ≤ length self.now.list }
         ensures value { result ≡ zeros_before self.now.list i }
@@ -291,7 +302,7 @@ impl<T: BitStore, O: BitOrder> RankedBits<T, O> {
         (block, left)
     }
 
-    // How many ones are before a block.
+    // The number of ones before a block.
     fn ones_to(&self, block: usize) -> usize
         requires { block * 512 ≤ length self.now.list }
         ensures value { result ≡ ones_before self.now.list (block * 512) }

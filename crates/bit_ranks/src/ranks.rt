@@ -28,11 +28,19 @@ pub(crate) const BLOCK: usize = 512;
 /// In contracts ranks `r` are the box: all its words `r.words`, their row `r.row`, the head `r.head` and the
 /// list `r.list`.
 ///
+/// ```rust
+/// use bit_containers::{BitVec, Lsb0};
+/// use bit_ranks::Ranks;
+///
+/// let bits = BitVec::<u64, Lsb0>::from_text(rt.alloc(), "0110100")?;
+/// let ranks = Ranks::from_vec(rt.alloc(), bits)?;
+/// println!(&rt; "{} ones before index 4", ranks.rank1(4))?;
+/// println!(&rt; "one 2 at {:?}, zero 1 at {:?}", ranks.select1(2), ranks.select0(1))?;
+/// ```
+///
 /// ```text
-/// let ranks = Ranks::new(alloc, bits)?;   // of the bits 0110100
-/// ranks.rank1(4)                          // 2: of the ones before index 4
-/// ranks.select1(2)                        // Some(4): of the ones at 1, 2 and 4, counted from 0
-/// ranks.select0(1)                        // Some(3)
+/// 2 ones before index 4
+/// one 2 at Some(4), zero 1 at Some(3)
 /// ```
 #[derive(Drop)]
 pub struct Ranks<T: BitStore = usize, O: BitOrder = Lsb0> {
@@ -121,7 +129,7 @@ impl<T: BitStore, O: BitOrder> Ranks<T, O> {
         self.bits.as_bitslice()
     }
 
-    /// How many bits there are.
+    /// The number of bits.
     pub fn len(&self) -> usize
         ensures value { result ≡ length self.now.list }
         ensures bound { result ≤ MAX_BITS }
@@ -152,7 +160,7 @@ impl<T: BitStore, O: BitOrder> Ranks<T, O> {
         self.bits.get(i)
     }
 
-    /// How many ones there are, in constant time.
+    /// The number of ones, in constant time.
     pub fn count_ones(&self) -> usize
         ensures value { result ≡ count_by (λ bit. bit) self.now.list }
         ensures few { result ≤ length self.now.list }
@@ -160,7 +168,7 @@ impl<T: BitStore, O: BitOrder> Ranks<T, O> {
         self.rank1(self.len())
     }
 
-    /// How many zeros there are, in constant time.
+    /// The number of zeros, in constant time.
     pub fn count_zeros(&self) -> usize
         ensures value { result ≡ count_by not self.now.list }
         ensures few { result ≤ length self.now.list }
@@ -168,7 +176,7 @@ impl<T: BitStore, O: BitOrder> Ranks<T, O> {
         self.rank0(self.len())
     }
 
-    /// How many ones are before index `i`: one count is read, and fewer than 512 bits are counted. Requires that `i`
+    /// The number of ones before index `i`: one count is read, and fewer than 512 bits are counted. Requires that `i`
     /// is at most the length.
     pub fn rank1(&self, i: usize) -> usize
         requires { i ≤ length self.now.list }
@@ -179,7 +187,7 @@ impl<T: BitStore, O: BitOrder> Ranks<T, O> {
         self.ones_to(block) + self.bits.get_range(block * BLOCK..i).count_ones()
     }
 
-    /// How many zeros are before index `i`. Otherwise like `rank1`.
+    /// The number of zeros before index `i`. Otherwise like `rank1`.
     pub fn rank0(&self, i: usize) -> usize
         requires { i ≤ length self.now.list }
         ensures value { result ≡ zeros_before self.now.list i }
@@ -262,7 +270,7 @@ impl<T: BitStore, O: BitOrder> Ranks<T, O> {
         if bit { ones } else { block * BLOCK - ones }
     }
 
-    // How many ones are before a block.
+    // The number of ones before a block.
     #[inline(always)]
     fn ones_to(&self, block: usize) -> usize
         requires { block * 512 ≤ length self.now.list }
@@ -277,7 +285,7 @@ impl<T: BitStore, O: BitOrder> Ranks<T, O> {
     }
 }
 
-// How many ones are before the end of each whole block, counted in one pass.
+// The number of ones before the end of each whole block, counted in one pass.
 fn counted<T: BitStore, O: BitOrder>(
     alloc: Global,
     view: BitSlice<'_, T, O>,

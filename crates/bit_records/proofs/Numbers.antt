@@ -29,9 +29,11 @@ number_below : (n : ℕ) (ms : List Bool) → length ms ≡ n → number_of ms <
 unfolding number_of
 number_below n ms e = subst (λ k. mask_l ms < 2 ^ k) e (mask_l-lt ms)
 
+-- the number that n digits write is below 2^n
 pub written_below : (n : ℕ) (ds : List Bool) → length ds ≡ n → written ds < 2 ^ n
 written_below n ds e = number_below n (reverse ds) (length-reverse ds ∙ e)
 
+-- the digits of the number that digits write are these digits
 pub binary_written : (n : ℕ) (ds : List Bool) → length ds ≡ n → binary n (written ds) ≡ ds
 binary_written n ds size = ext_get_or false (binary n (written ds)) ds (length-binary n (written ds) ∙ sym size)
     (λ i h.
@@ -40,6 +42,7 @@ binary_written n ds size = ext_get_or false (binary n (written ds)) ds (length-b
     let back : length ds - 1 - (n - 1 - i) ≡ i = omega arith in
     get_or-binary n (written ds) i below ∙ has_written ds (n - 1 - i) (omega arith) ∙ ap (λ k. get_or ds k false) back)
 
+-- the number that the digits of a number write is this number
 pub written_binary : (n x : ℕ) → n ≤ 64 → x < 2 ^ n → written (binary n x) ≡ x
 written_binary n x few below =
     let long = length-binary n x in
@@ -49,6 +52,7 @@ written_binary n x few below =
     let back : n - 1 - (length (binary n x) - 1 - i) ≡ i = omega arith in
     has_written (binary n x) i (omega arith) ∙ get_or-binary n x (length (binary n x) - 1 - i) (omega arith) ∙ ap (has_bit x) back)
 
+-- a list holds its length over the width numbers
 pub length-numbers : (w : ℕ) (xs : List Bool) → length (numbers_in w xs) ≡ length xs / w
 unfolding numbers_in
 length-numbers w xs = length-map-range_with_len (λ i. written (slice_range xs (i * w) (i * w + w))) 0 (length xs / w)
@@ -57,6 +61,7 @@ length-numbers w xs = length-map-range_with_len (λ i. written (slice_range xs (
 pub count_of : (w n : ℕ) (xs : List Bool) → 0 < w → length xs ≡ n * w → length (numbers_in w xs) ≡ n
 count_of w n xs positive size = length-numbers w xs ∙ ap (λ k. k / w) (size ∙ omega arith) ∙ div-mul-add n w 0 positive
 
+-- number i is written by its digits in the list
 pub number_at : (w : ℕ) (xs : List Bool) (i : ℕ) → i < length xs / w → get_or (numbers_in w xs) i 0 ≡ written (slice_range xs (i * w) (i * w + w))
 unfolding numbers_in
 number_at w xs i h = get_or-map-range_with_len (λ i. written (slice_range xs (i * w) (i * w + w))) 0 (length xs / w) i i 0 h (omega arith)
@@ -194,6 +199,7 @@ place_inside w n i h =
     let most = mul_mono (i + 1) n w (omega arith) in
     omega arith
 
+-- the empty list holds no numbers
 pub no_numbers : (w : ℕ) → 0 < w → numbers_in w [] ≡ []
 no_numbers w positive =
     let none : length (numbers_in w []) ≡ 0 = count_of w 0 [] positive (omega arith) in

@@ -112,7 +112,7 @@ impl<'a, T: BitStore, O: BitOrder> DoubleEndedIterator for Iter<'a, T, O> {
 }
 
 impl<'a, T: BitStore, O: BitOrder> ExactSizeIterator for Iter<'a, T, O> {
-    /// How many numbers are left.
+    /// The count of numbers left.
     fn len(&self) -> usize {
         self.upto - self.from
     }

@@ -20,11 +20,24 @@ use std::marker::Model;
 /// In contracts records `r` are their width `r.width`, the numbers `r.list`, and the vector of their
 /// bits `r.bits`.
 ///
-/// ```text
-/// let mut ages = Records::<u64>::new(alloc, 7)?;
+/// ```rust
+/// use bit_records::Records;
+///
+/// let Some(mut ages) = Records::<u64>::new(rt.alloc(), 7) else {
+///     return Ok(());
+/// };
 /// ages.push(41)?;
 /// ages.push(8)?;
-/// ages.get(1)             // Some(8)
+/// println!(&rt; "{:?} of {} numbers, {} bits each", ages.get(1), ages.len(), ages.width())?;
+/// for age in ages.iter() {
+///     println!(&rt; "{age}")?;
+/// }
+/// ```
+///
+/// ```text
+/// Some(8) of 2 numbers, 7 bits each
+/// 41
+/// 8
 /// ```
 #[derive(Drop)]
 pub struct Records<T: BitStore = usize, O: BitOrder = Lsb0> {
@@ -63,7 +76,7 @@ impl<T: BitStore, O: BitOrder> Records<T, O> {
         })
     }
 
-    /// How many numbers there are; their digits together are at most `MAX_BITS`.
+    /// The count of numbers; their digits together are at most `MAX_BITS`.
     pub fn len(&self) -> usize
         ensures value { result ≡ length self.now.list }
         ensures digits { result * self.now.width ≤ MAX_BITS }
@@ -79,7 +92,7 @@ impl<T: BitStore, O: BitOrder> Records<T, O> {
         self.len() == 0
     }
 
-    /// How many digits each number has: 1 to 64.
+    /// The number of digits of each number: 1 to 64.
     pub fn width(&self) -> u8
         ensures value { result ≡ self.now.width }
         ensures some { 0 < result }

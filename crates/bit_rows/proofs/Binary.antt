@@ -14,22 +14,27 @@ use Rattle.bit_addressing.proofs.Words.{has_low, has_shr_low}
 use Rattle.bit_addressing.proofs.lists.Put.{put_none}
 use Rattle.bit_addressing.proofs.lists.Shown.{get_or-run, length-run}
 
+-- n bits of a number have length n
 pub length-number_bits : (x n : ℕ) → length (number_bits x n) ≡ n
 unfolding number_bits
 length-number_bits x n = length-map-range_with_len (has_bit x) 0 n
 
+-- no bits of a number are the empty list
 pub number_bits_none : (x : ℕ) → number_bits x 0 ≡ []
 unfolding number_bits
 number_bits_none x = refl
 
+-- n digits of a number have length n
 pub length-binary : (n x : ℕ) → length (binary n x) ≡ n
 unfolding binary
 length-binary n x = length-map-range_with_len (λ i. has_bit x (n - 1 - i)) 0 n
 
+-- digit i of n is the number's bit n - 1 - i
 pub get_or-binary : (n x i : ℕ) → i < n → get_or (binary n x) i false ≡ has_bit x (n - 1 - i)
 unfolding binary
 get_or-binary n x i h = get_or-map-range_with_len (λ i. has_bit x (n - 1 - i)) 0 n i i false h (omega arith)
 
+-- bit i of the list is the number's bit i
 pub get_or-number_bits : (x n i : ℕ) → i < n → get_or (number_bits x n) i false ≡ has_bit x i
 unfolding number_bits
 get_or-number_bits x n i h = get_or-map-range_with_len (has_bit x) 0 n i i false h (omega arith)
@@ -42,6 +47,7 @@ binary_low b x = ext_get_or false (binary b (x % 2 ^ b)) (binary b x) (length-bi
     let below : i < b = omega arith in
     get_or-binary b (x % 2 ^ b) i below ∙ has_low x b (b - 1 - i) (omega arith) ∙ sym (get_or-binary b x i below))
 
+-- the first n bits of a number are those of its remainder by 2^n
 pub bits_low : (n x : ℕ) → number_bits (x % 2 ^ n) n ≡ number_bits x n
 bits_low n x = ext_get_or false (number_bits (x % 2 ^ n) n) (number_bits x n) (length-number_bits (x % 2 ^ n) n ∙ sym (length-number_bits x n))
     (λ i h.
@@ -94,10 +100,12 @@ module _ (n x turned : ℕ) (some : 0 < n) (few : n ≤ 64) (round : (p : ℕ) �
       let back : i ≡ n - 1 - (n - 1 - i) = omega arith in
       get_or-map-range_with_len (has_bit (turned / 2 ^ (64 - n))) 0 n i i false below (omega arith) ∙ digit i (n - 1 - i) (omega arith) back ∙ sym (get_or-binary n x i below))
 
+-- the digits of no bits are no bits
 pub no_digits_of : (ms : List Bool) (at n : ℕ) → n ≡ 0 → binary n 0 ≡ slice_range ms at (at + n)
 unfolding binary
 no_digits_of ms at n none = let e : at + n - at ≡ 0 = omega arith in rw (e, none) refl
 
+-- putting no digits changes nothing
 pub no_digits : (xs : List Bool) (at n x : ℕ) → n ≡ 0 → xs ≡ put xs at (binary n x)
 unfolding binary
 no_digits xs at n x none = rw none (sym (put_none xs at))
@@ -125,6 +133,7 @@ binary_parted n m x =
 
 -- ---- the number that digits write
 
+-- one digit more doubles the value and adds the digit
 pub value_one_more : (n : ℕ) (xs : List Bool) (b : Bool) → value_after n (xs ++ b ∷ []) ≡ value_after n xs * 2 + cond b 1 0
 value_one_more n [] b = refl
 value_one_more n (x ∷ xs) b = value_one_more (n * 2 + cond x 1 0) xs b

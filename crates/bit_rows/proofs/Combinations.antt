@@ -14,6 +14,7 @@ use Rattle.bit_rows.proofs.Wholes.{split_sum}
 use Rattle.bit_addressing.proofs.Rows.{length-row_of, get_or-row_one}
 use Rattle.bit_addressing.proofs.lists.Shown.{length-between}
 
+-- combining two lists in two pieces is combining them whole
 pub zip2-append : (f : Bool → Bool → Bool) (xs us ys vs : List Bool) → length xs ≡ length ys → zip2 f (xs ++ us) (ys ++ vs) ≡ zip2 f xs ys ++ zip2 f us vs
 zip2-append f [] us [] vs h = refl
 zip2-append f [] us (y ∷ ys) vs h = cc
@@ -44,6 +45,7 @@ run_combined f place w old new v low high positive lawful fits made =
     ∙ ap (λ b. f b (has_bit new (place w (low + i)))) (sym (read old i inside)) ∙ ap (f (get_or (slice_range (row_of place w (old ∷ [])) low high) i false)) (sym (read new i inside))
     ∙ sym (get_or-zip2 f (slice_range (row_of place w (old ∷ [])) low high) (slice_range (row_of place w (new ∷ [])) low high) i false false false (omega arith) (omega arith)))
 
+-- combining no bits changes nothing
 pub combined_none : (f : Bool → Bool → Bool) (xs zs : List Bool) (at from n : ℕ) → n ≡ 0 → xs ≡ put xs at (zip2 f (slice_range xs at (at + n)) (slice_range zs from (from + n)))
 combined_none f xs zs at from n none =
     let a : at + n - at ≡ 0 = omega arith in
@@ -55,6 +57,7 @@ word_combined f place w old new v positive lawful made =
     let all : (x : ℕ) → slice_range (row_of place w (x ∷ [])) 0 w ≡ row_of place w (x ∷ []) = λ x. (let size : length (row_of place w (x ∷ [])) ≡ w * 1 = length-row_of place w (x ∷ []) in take_all (w - 0) (row_of place w (x ∷ [])) (omega arith)) in
     sym (all v) ∙ run_combined f place w old new v 0 w positive lawful (omega arith) made ∙ ap (λ l. zip2 f l (slice_range (row_of place w (new ∷ [])) 0 w)) (all old) ∙ ap (zip2 f (row_of place w (old ∷ []))) (all new)
 
+-- combining no whole words changes nothing
 pub combined_whole_none : (f : Bool → Bool → Bool) (xs zs : List Bool) (w from first : ℕ) → xs ≡ put xs (first * w) (zip2 f (slice_range xs (first * w) (first * w)) (slice_range zs from (from + (first - first) * w)))
 combined_whole_none f xs zs w from first =
     let none : first * w - first * w ≡ 0 = omega arith in
@@ -88,6 +91,7 @@ pub combined_part : (f : Bool → Bool → Bool) (xs cur zs part : List Bool) (a
 combined_part f xs cur zs part at p q from a upto i j ei ej ordered further inside ea eu long is so_far =
     rw (ei, ej, is) (combined_next f xs cur zs (zip2 f (slice_range cur p q) (slice_range zs a upto)) at p q from a upto ordered further inside ea eu long so_far refl)
 
+-- before the first word nothing is combined
 pub combined_begin : (f : Bool → Bool → Bool) (xs zs : List Bool) (at from : ℕ) → xs ≡ put xs at (zip2 f (slice_range xs at at) (slice_range zs from from))
 combined_begin f xs zs at from =
     let none : at - at ≡ 0 = omega arith in

@@ -15,18 +15,21 @@ use Rattle.bit_addressing.proofs.Runs.{mul_mono, slices_joined}
 use Rattle.bit_addressing.proofs.lists.Sized.{one_more_word}
 use Rattle.bit_addressing.proofs.Shifts.{word_bit, word_copied}
 
+-- the ones of a part's number are the true bits of the part
 pub counted : (zs : List Bool) (a b from upto x : ℕ) → from ≡ a → upto ≡ b → x ≡ number_of (slice_range zs a b) → count_ones x ≡ count_by (λ bit. bit) (slice_range zs from upto)
 unfolding number_of
 counted zs a b from upto x ea eb is =
     let ms : List Bool = slice_range zs a b in
     rw (ea, eb) (ap count_ones is ∙ ap (λ l. count_ones (mask_l l)) (sym (map-id ms)) ∙ ones-mask_l (λ bit. bit) ms)
 
+-- the counts of two adjoining parts add up to that of both
 pub counted_next : (zs : List Bool) (from mid upto n m : ℕ) → from ≤ mid → mid ≤ upto → upto ≤ length zs → n ≡ count_by (λ bit. bit) (slice_range zs from mid) → m ≡ count_by (λ bit. bit) (slice_range zs mid upto) → n + m ≡ count_by (λ bit. bit) (slice_range zs from upto)
 counted_next zs from mid upto n m h k l en em =
     ap (λ x. x + m) en ∙ ap (λ y. count_by (λ bit. bit) (slice_range zs from mid) + y) em
     ∙ sym (sum_by-append (λ bit. cond bit 1 0) (slice_range zs from mid) (slice_range zs mid upto))
     ∙ ap (count_by (λ bit. bit)) (slices_joined zs from mid upto h k l)
 
+-- a part has at most as many ones as bits
 pub counted-le : (zs : List Bool) (from upto n : ℕ) → from ≤ upto → upto ≤ length zs → n ≡ count_by (λ bit. bit) (slice_range zs from upto) → n ≤ upto
 counted-le zs from upto n h k is =
     let size : length (slice_range zs from upto) ≡ upto - from = simp (length-take, length-drop) (omega arith) in
@@ -122,6 +125,7 @@ module _ (place : ℕ → ℕ → ℕ) (w : ℕ) (positive : 0 < w) (lawful : Is
       let turned : w * length words ≡ length words * w = mul_comm w (length words) in
       word_copied q w words (get_or words k 0) (k * w) positive (omega arith) (λ i l. sym (word_bit q w words k i l))
 
+  -- the ones of whole words do not depend on the order of bits
   pub words_alike : (a d b : ℕ) → a + d ≡ b → b ≤ length words → count_by (λ bit. bit) (slice_range (row_of place w words) (a * w) (b * w)) ≡ count_by (λ bit. bit) (slice_range (row_of (λ v i. i) w words) (a * w) (b * w))
   words_alike a zero b is h =
       let none : b * w - a * w ≡ 0 = ap (λ n. n * w - a * w) (sym is) ∙ omega arith in

@@ -15,6 +15,7 @@ use Rattle.bit_addressing.specs.Order.{IsPermutation}
 use Rattle.bit_addressing.proofs.Chunks.{has_number}
 use Rattle.bit_rows.proofs.Onto.{onto}
 
+-- two bits whose `xor` is false are equal
 pub same_if : (a b : Bool) → (if a then not b else b) ≡ false → a ≡ b
 same_if true true h = refl
 same_if true false h = h
@@ -35,6 +36,7 @@ abbrev pub AreAlike : List Bool → List Bool → ℕ → ℕ → ℕ → Type 0
 AreAlike xs ys i j k = (q : ℕ) → q < k → get_or xs (i + q) false ≡ get_or ys (j + q) false
 
 module _ (xs ys : List Bool) (i j : ℕ) where
+  -- parts alike in all their bits are equal
   pub alike_all : (n k : ℕ) → n ≤ k → i + n ≤ length xs → j + n ≤ length ys → AreAlike xs ys i j k → slice_range xs i (i + n) ≡ slice_range ys j (j + n)
   alike_all n k le h l same =
       let a = length-run xs i n h in

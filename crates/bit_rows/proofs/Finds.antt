@@ -74,11 +74,13 @@ equal_bits b x p is h = ap (λ n. has_bit n p) (all_bits b 64 x (omega arith) is
 
 -- the first s bits of a run are the other bit alone
 module _ (xs : List Bool) (from s upto : ℕ) (bit : Bool) (later : from + s ≤ upto) (inside : upto ≤ length xs) (passed : slice_range xs from (from + s) ≡ replicate s (not bit)) where
+  -- a part that begins with other bits and goes on with other bits has no such bit
   pub none_after : slice_range xs (from + s) upto ≡ replicate (upto - (from + s)) (not bit) → slice_range xs from upto ≡ replicate (upto - from) (not bit)
   none_after rest =
       sym (slices_joined xs from (from + s) upto (omega arith) later inside) ∙ ap (λ l. l ++ slice_range xs (from + s) upto) passed ∙ ap (λ l. replicate s (not bit) ++ l) rest
       ∙ replicate-append-replicate s (upto - (from + s)) (not bit) ∙ ap (λ n. replicate n (not bit)) (omega arith)
 
+  -- the first bit after s others is the first of the part, s places later
   pub first_after : (k : ℕ) → IsFirst bit (slice_range xs (from + s) upto) k → IsFirst bit (slice_range xs from upto) (s + k)
   first_after k found =
       let size : length (slice_range xs (from + s) upto) ≡ upto - (from + s) = length-between xs (from + s) upto inside in
@@ -116,6 +118,7 @@ module _ (xs : List Bool) (from upto : ℕ) (bit : Bool) (ordered : from ≤ upt
       let size : length others ≡ upto - from = length-replicate (upto - from) (not bit) in
       ap (slice_range xs from) (sym end) ∙ alike_all xs others from 0 (upto - from) k all (omega arith) (omega arith) alike ∙ run_of_one (upto - from) 0 (upto - from) (not bit) (omega arith)
 
+  -- a part alike to the other bits up to k begins with k of them
   pub others_up_to : (k : ℕ) → k ≤ upto - from → AreAlike xs (replicate (upto - from) (not bit)) from 0 k → slice_range xs from (from + k) ≡ replicate k (not bit)
   others_up_to k few alike =
       let size : length others ≡ upto - from = length-replicate (upto - from) (not bit) in

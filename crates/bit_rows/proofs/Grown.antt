@@ -24,6 +24,7 @@ pub put_appended : (xs ys : List Bool) (w d : ℕ) → d ≡ length xs → lengt
 unfolding put
 put_appended xs ys w d is h = same_lists _ _ (search (rules, places)) (λ i b below. grind (arith, places))
 
+-- bits put over the end of a list and into a new word are the list with all of them appended
 pub put_over : (xs ys zs : List Bool) (d w : ℕ) → d + length ys ≡ length xs → length zs ≤ w → put (xs ++ zs ++ replicate (w - length zs) false) d ys ≡ put (xs ++ replicate w false) d (ys ++ zs)
 unfolding put
 put_over xs ys zs d w is h = same_lists _ _ (search (rules, places)) (λ i b below. grind (arith, places))
@@ -43,6 +44,7 @@ words_for_is w b c positive more fits =
       | inr l ↦ omega arith
     ]
 
+-- one word more holds w bits more
 pub one_word_more : (w size n count : ℕ) → size ≡ w * n → count ≡ n + 1 → size + w ≡ w * count
 one_word_more w size n count is more = rw (is, more) (ap (λ m. m + w) (mul_comm w n) ∙ sym (one_more_word n w) ∙ mul_comm (n + 1) w)
 
@@ -53,6 +55,7 @@ full_words w end count positive is even =
     let e = words_even w end positive even in
     ap (λ m. w * m) (is ∙ sym e) ∙ mul_comm w (end / w) ∙ omega arith
 
+-- where bits do not fill their words, their last word and what is free in it
 pub odd_words : (w end count : ℕ) → 0 < w → count ≡ words_for w end → end % w ≢ 0 → (end / w < count) × (w * count ≡ end + (w - end % w)) × (end / w * w + end % w ≡ end) × (end / w + 1 ≡ count)
 odd_words w end count positive is odd =
     let d = div-add-mod' end w in

@@ -36,17 +36,20 @@ module _ (w : Width) (n : ℕ) (fits : n < 2 ^ bits w) where
     | inr none ↦ let z : n ≡ 0 = omega arith in ap (λ m. has_bit m p) z ∙ has_none p
   ]
 
+  -- a number that is not 0 has its lowest bit
   pub has_lowest : n ≢ 0 → has_bit n (trailing_zeros w n) ≡ true
   has_lowest some = ap (λ m. eqb m 1) (bit_at-trailing_zeros w n (omega arith) fits).1
 
   -- `n & (n - 1)` has all bits but the lowest
   module _ (some : n ≢ 0) where
+    -- `n & (n - 1)` lacks the lowest bit
     pub cleared_lowest : has_bit (bit_and n (n - 1)) (trailing_zeros w n) ≡ false
     cleared_lowest =
         let z : ℕ = trailing_zeros w n in
         let t = bit_at-trailing_zeros w n (omega arith) fits in
         has_and n (n - 1) z ∙ ap (λ m. has_bit n z && eqb m 1) (bit_before_here n z t.1 t.2) ∙ and-false (has_bit n z)
 
+    -- `n & (n - 1)` keeps the other bits
     pub cleared_other : (p : ℕ) → p ≢ trailing_zeros w n → has_bit (bit_and n (n - 1)) p ≡ has_bit n p
     cleared_other p apart =
         let z : ℕ = trailing_zeros w n in

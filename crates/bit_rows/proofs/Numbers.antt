@@ -98,6 +98,7 @@ digits_up turned x low n i within round h =
     has_shl_high 64 (turned / 2 ^ (64 - n)) low (low + i) (omega arith) (omega arith) ∙ ap (has_bit (turned / 2 ^ (64 - n))) back ∙ has_shr_low turned (64 - n) i
     ∙ round (i + (64 - n)) (omega arith) ∙ ap (has_bit x) there
 
+-- a block whose bits are a number's digits, moved up by `low`, holds the digits there
 pub digits_moved : (place : ℕ → ℕ → ℕ) (block made x low n : ℕ) → low + n ≤ 64 → ((i : ℕ) → i < n → has_bit made (low + i) ≡ has_bit x (n - 1 - i)) → ((i : ℕ) → i < 64 → has_bit block (place 64 i) ≡ has_bit made i) → slice_range (row_of place 64 (block ∷ [])) low (low + n) ≡ binary n x
 digits_moved place block made x low n within shown ordered = run_of_block place block made low n (binary n x) within (length-binary n x) ordered (λ i h. shown i h ∙ sym (get_or-binary n x i h))
 

@@ -54,6 +54,7 @@ made_le f xs ys i j n count h o is =
 abbrev pub in_block : (w : ℕ) → (ℕ → ℕ) → ℕ → ℕ
 in_block w place q = q / w * w + place (q % w)
 
+-- an order of words is an order of a block of 64 bits
 pub block_lawful : (w : ℕ) (place : ℕ → ℕ) → IsWidth w → 0 < w → IsPermutation w place → IsPermutation 64 (in_block w place)
 block_lawful w place width positive lawful = record {
   in_range = λ q h.

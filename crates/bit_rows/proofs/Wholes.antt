@@ -10,6 +10,7 @@ use Rattle.bit_addressing.proofs.Chunks.{run_placed, whole_is}
 use Rattle.bit_addressing.proofs.Typed.{row_read}
 
 module _ {X : Type 0} (value : X → ℕ) (place : ℕ → ℕ → ℕ) (w : ℕ) (positive : 0 < w) (ws : List X) where
+  -- a bit of a typed word is that of the row
   pub bit_is : (k i : ℕ) (word : X) → k < length ws → i < w → word ≡ get_or ws k word → has_bit (value word) (place w i) ≡ get_or (row_of place w (map value ws)) (k * w + i) false
   bit_is k i word here low read = row_read value place w ws (k * w + i) k (place w i) word (has_bit (value word) (place w i)) positive (mul-add-lt k w i (length ws) here low) (sym (div-mul-add k w i low)) (ap (place w) (sym (mod-mul-add k w i low))) read refl
 
@@ -20,6 +21,7 @@ word_placed place w v made x a zs positive small inside fits is narrowed ordered
     whole_is place w v zs w a a (a + w) refl refl refl
     (run_placed place w v made x 0 a w zs positive small (omega arith) inside is (λ p h. narrowed p h ∙ ap (λ m. has_bit m p) (sym plain)) ordered)
 
+-- a product with a difference split in two
 pub split_sum : (w a b : ℕ) → a ≤ b → b * w ≡ a * w + (b - a) * w
 split_sum w a b h = let e : b ≡ a + (b - a) = omega arith in ap (λ n. n * w) e ∙ right_sum a (b - a) w
 
@@ -36,6 +38,7 @@ pub record HasWords (first whole left at n len : ℕ) : Type 0 where
   pub few : first + whole ≤ at + n
   pub rest : left ≢ 0 → first + whole < len
 
+-- a run that begins with a word has its whole words and its last bits
 pub words_there : {d w at n len : ℕ} → d ≡ w → 0 < w → at % d ≡ 0 → at + n ≤ w * len → HasWords (at / d) (n / d) (n % d) at n len
 words_there {d} {w} {at} {n} {len} e positive none within =
     let split = div-add-mod' n d in

@@ -79,7 +79,7 @@ pub fn false_blocks<F: BitOperator, T: BitStore, O: BitOrder, U: BitStore, P: Bi
     (far + near) / (64 / width)
 }
 
-// How many bits are true of those that `F` makes of `blocks` blocks of 64 bits from words `k` and `l` on. As
+// The number of true bits of those that `F` makes of `blocks` blocks of 64 bits from words `k` and `l` on. As
 // many are in each order, so both sides are taken by their places, which takes no turning round. Requires that
 // both kinds of words have one width and order, and that the words are there.
 #[inline(always)]

@@ -9,7 +9,7 @@ use crate::chunks::{are_alike, block_after, followed_blocks, read_chunk, word_al
 use bit_addressing::inner::{Span, in_row, in_word};
 use bit_addressing::{BitEnd, BitIdx, BitOrder, BitStore, Lsb0};
 
-// How many bits are set in the words `first..last`, by blocks of 64 bits as far as they go
+// The number of set bits in the words `first..last`, by blocks of 64 bits as far as they go
 // (docs/TUNING.md, "Rows of words", count). Requires that the words are there.
 fn count_words<T: BitStore, O: BitOrder>(words: &[T], first: usize, last: usize) -> usize
     requires ordered { first ≤ last }

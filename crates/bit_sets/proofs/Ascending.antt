@@ -16,6 +16,7 @@ use Rattle.bit_sets.specs.Compared.{same_numbers}
 use Rattle.bit_sets.specs.NumberSet.{IsIn, numbers_between}
 use Rattle.bit_sets.proofs.Members.{in_bit, out_bit}
 
+-- a list without ones has no members
 pub none_from : (i : ℕ) (xs : List Bool) → ((k : ℕ) → get_or xs k false ≡ false) → from_index i xs ≡ []
 none_from i [] none = refl
 none_from i (x ∷ xs) none = ap (λ b. cond b (i ∷ from_index (i + 1) xs) (from_index (i + 1) xs)) (none 0) ∙ none_from (i + 1) xs (λ k. none (suc k))
@@ -47,12 +48,14 @@ bits_from i (false ∷ xs) (true ∷ ys) is k = absurd (not_below (i + 1) i xs (
 bits_from i (false ∷ xs) (false ∷ ys) is zero = refl
 bits_from i (false ∷ xs) (false ∷ ys) is (suc k) = bits_from (i + 1) xs ys is k
 
+-- lists with the same members have the same numbers, ascending
 pub same_ones : (xs ys : List Bool) → ((k : ℕ) → IsIn xs k ↔ IsIn ys k) → ones_of xs ≡ ones_of ys
 same_ones xs ys same =
     ones_are xs
     ∙ same_from 0 xs ys (λ k. both_ways (get_or xs k false) (get_or ys k false) (λ h. (in_bit ys k).0 ((same k).0 ((in_bit xs k).1 h))) (λ h. (in_bit xs k).0 ((same k).1 ((in_bit ys k).1 h))))
     ∙ sym (ones_are ys)
 
+-- lists with the same numbers have the same members
 pub same_members : (xs ys : List Bool) → ones_of xs ≡ ones_of ys → (k : ℕ) → IsIn xs k ↔ IsIn ys k
 same_members xs ys is k =
     let bit = bits_from 0 xs ys (sym (ones_are xs) ∙ is ∙ ones_are ys) k in (
@@ -60,6 +63,7 @@ same_members xs ys is k =
       (λ h. (in_bit xs k).1 (bit ∙ (in_bit ys k).0 h)),
     )
 
+-- a comparison that is true exactly for equal members compares the numbers
 pub told_same : (b : Bool) (xs ys : List Bool) → (IsTrue b ↔ ((k : ℕ) → IsIn xs k ↔ IsIn ys k)) → b ≡ same_numbers xs ys
 told_same b xs ys told =
     let decides = pointwise_decides unsigned_Decides (ones_of xs) (ones_of ys) in
@@ -99,11 +103,13 @@ last_from i (suc n) (x ∷ xs) here after =
     joined true l t = refl
     joined false l t = refl
 
+-- the first member taken out leaves the numbers after it
 pub first_out : (xs : List Bool) (n : ℕ) → IsIn xs n → ((k : ℕ) → k < n → IsIn xs k → ⊥) → ones_of xs ≡ n ∷ ones_of (set xs n false)
 first_out xs n here before =
     let z : 0 + n ≡ n = omega arith in
     ones_are xs ∙ first_from 0 n xs ((in_bit xs n).0 here) (λ k h. out_bit xs k (before k h)) ∙ ap (λ j. j ∷ from_index 0 (set xs n false)) z ∙ ap (λ l. n ∷ l) (sym (ones_are (set xs n false)))
 
+-- the last member taken out leaves the numbers before it
 pub last_out : (xs : List Bool) (n : ℕ) → IsIn xs n → ((k : ℕ) → n < k → IsIn xs k → ⊥) → ones_of xs ≡ ones_of (set xs n false) ++ n ∷ []
 last_out xs n here after =
     let z : 0 + n ≡ n = omega arith in

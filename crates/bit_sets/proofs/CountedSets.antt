@@ -50,16 +50,19 @@ module _ (xs ys : List Bool) where
   none_past : ones (drop (length (filled_up xs (length ys))) ys) ≡ 0
   none_past = ap ones (drop_all ys (length (filled_up xs (length ys))) long_enough)
 
+  -- the size of a union, from the sizes and the common members
   pub in_either : (n : ℕ) → n + ones (and_of xs ys) ≡ ones xs + ones ys → n ≡ length (ones_of (or_of (filled_up xs (length ys)) ys))
   in_either n sum =
       let zs = filled_up xs (length ys) in
       omega (arith, sum, or_and zs ys, none_past, filled_ones xs (length ys - length xs), filled_both xs ys (length ys - length xs), members_counted (or_of zs ys))
 
+  -- the size of a symmetric difference, from the sizes and the common members
   pub in_one_alone : (n : ℕ) → n + 2 * ones (and_of xs ys) ≡ ones xs + ones ys → n ≡ length (ones_of (xor_of (filled_up xs (length ys)) ys))
   in_one_alone n sum =
       let zs = filled_up xs (length ys) in
       omega (arith, sum, xor_and zs ys, none_past, filled_ones xs (length ys - length xs), filled_both xs ys (length ys - length xs), members_counted (xor_of zs ys))
 
+  -- the size of an intersection is the count of common bits
   pub in_both : (n : ℕ) → n ≡ ones (and_of xs ys) → n ≡ length (ones_of (and_of (filled_up xs (length ys)) ys))
   in_both n is = is ∙ sym (filled_both xs ys (length ys - length xs)) ∙ sym (members_counted (and_of (filled_up xs (length ys)) ys))
 
@@ -75,12 +78,14 @@ apart [] ys = refl
 apart (x ∷ xs) [] = omega (arith, one_more (x && true) (and_not_of xs []), one_more (x && false) (and_of xs []), one_more x xs, step x false, apart xs [])
 apart (x ∷ xs) (y ∷ ys) = omega (arith, one_more (x && not y) (and_not_of xs ys), one_more (x && y) (and_of xs ys), one_more x xs, step x y, apart xs ys)
 
+-- the size of a difference, from the size and the common members
 pub left_alone : (xs ys : List Bool) (all both : ℕ) → all ≡ ones xs → both ≡ ones (and_of xs ys) → all - both ≡ length (ones_of (and_not_of (filled_up xs (length ys)) ys))
 left_alone xs ys all both is here =
     let zs = filled_up xs (length ys) in
     let more = length ys - length xs in
     omega (arith, is, here, apart zs ys, filled_ones xs more, filled_both xs ys more, members_counted (and_not_of zs ys))
 
+-- there are at most as many common members as members
 pub both_at_most : (xs ys : List Bool) (all both : ℕ) → all ≡ ones xs → both ≡ ones (and_of xs ys) → both ≤ all
 both_at_most xs ys all both is here = omega (arith, is, here, apart xs ys)
 

@@ -10,6 +10,7 @@ use Rattle.bit_sets.specs.Filter.{Filter}
 use Rattle.bit_sets.specs.NumberSet.{IsIn}
 use Rattle.bit_sets.proofs.Members.{in_bit, in_union}
 
+-- before the first function nothing is marked
 pub none_marked : (bits : List Bool) (hash : ℕ) → IsMarked bits bits hash 0
 none_marked bits hash = record { size = refl; bits = λ j. ((λ h. inl h), (λ w. elim w [ inl h ↦ h | inr p ↦ (let low = p.1 in absurd (omega arith)) ])) }
 
@@ -40,11 +41,13 @@ found_marked old new hash same marked i low =
     let size = marked.size in
     (marked.bits (place (length new.bits) hash i)).1 (inr (i, omega arith, ap (λ n. place n hash i) (sym size)))
 
+-- what is found stays found as another item is inserted
 pub found_still : (old new : Filter) (hash other : ℕ) → new.functions ≡ old.functions → IsMarked old.bits new.bits hash old.functions → IsFound old other → IsFound new other
 found_still old new hash other same marked was i low =
     let place_is : place (length new.bits) other i ≡ place (length old.bits) other i = ap (λ n. place n other i) marked.size in
     (marked.bits (place (length new.bits) other i)).1 (inl (subst (λ j. slice_get old.bits j ≡ Some true) (sym place_is) (was i (omega arith))))
 
+-- one place more that is set goes on with the search
 pub found_more : (bits : List Bool) (n hash k at : ℕ) → at ≡ place n hash k → ((i : ℕ) → i < k → slice_get bits (place n hash i) ≡ Some true) → slice_get bits at ≡ Some true → (i : ℕ) → i < k + 1 → slice_get bits (place n hash i) ≡ Some true
 found_more bits n hash k at is before here i low = elim (cases_lt i k) [
   | inl earlier ↦ before i earlier
@@ -56,6 +59,7 @@ pub told_here : (bits : List Bool) (at : ℕ) (r : Option Bool) → r ≡ slice_
 told_here bits at None is told = cc
 told_here bits at (Some b) is told = sym is ∙ ap Some told
 
+-- a place that is not set shows that the item was not inserted
 pub told_absent : (bits : List Bool) (at : ℕ) (r : Option Bool) → r ≡ slice_get bits at → unwrap_or r false ≡ false → slice_get bits at ≢ Some true
 told_absent bits at None is told here = let e = is ∙ here in cc
 told_absent bits at (Some b) is told here = let e = is ∙ here in cc
@@ -78,6 +82,7 @@ sum_mod x s n =
     let whole : x % n + s % n + n * (x / n) + n * (s / n) ≡ x + s = omega (arith, mod-add-div x n, mod-add-div s n) in
     sym (add-mul-mod_self_left (x % n + s % n) n (x / n)) ∙ sym (add-mul-mod_self_left (x % n + s % n + n * (x / n)) n (s / n)) ∙ ap (λ m. m % n) whole
 
+-- the next place is the present one plus the step, modulo the size
 pub next_place : (n hash i : ℕ) → (place n hash i + (hash / 2 ^ 32 + 1) % n) % n ≡ place n hash (i + 1)
 next_place n hash i =
     let step : ℕ = hash / 2 ^ 32 + 1 in

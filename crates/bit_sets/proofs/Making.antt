@@ -21,6 +21,7 @@ use Rattle.bit_sets.proofs.Places.{one_set}
 
 -- ---- whether they ascend
 
+-- a number not below the one before it keeps the list ascending
 pub ascends_more : (xs : List ℕ) (i : ℕ) → i < length xs → IsNonDecreasing (take i xs) → (0 < i → get_or xs (i - 1) 0 ≤ get_or xs i 0) → IsNonDecreasing (take (i + 1) xs)
 ascends_more xs i h up next =
     let size : length (take i xs) ≡ i = length-take-le i xs (omega arith) in
@@ -68,6 +69,7 @@ item_clear zero j = refl
 item_clear (suc n) zero = refl
 item_clear (suc n) (suc j) = item_clear n j
 
+-- before the first number no bit is marked
 pub none_marked : (w : ℕ) (xs : List ℕ) (n : ℕ) → AreMarked w xs 0 (replicate n false)
 none_marked w xs n =
     record {
@@ -75,9 +77,11 @@ none_marked w xs n =
       clear = λ j h. item_clear n j;
     }
 
+-- the place of each number's bit lies inside the list
 pub place_inside : (w : ℕ) (xs : List ℕ) (k len : ℕ) → IsNonDecreasing xs → len ≡ length xs + last_of xs / 2 ^ w → k < length xs → get_or xs k 0 / 2 ^ w + k < len
 place_inside w xs k len up size h = omega (arith, div_up (get_or xs k 0) (last_of xs) (2 ^ w) (pow_pos w) (up k (length xs - 1) 0 (omega arith) (omega arith)))
 
+-- one number more marks its bit
 pub marked_more : (w : ℕ) (xs : List ℕ) (k : ℕ) (list : List Bool) → IsNonDecreasing xs → k < length xs → get_or xs k 0 / 2 ^ w + k < length list → AreMarked w xs k list → AreMarked w xs (k + 1) (set list (get_or xs k 0 / 2 ^ w + k) true)
 marked_more w xs k list up h inside marked =
     let p = get_or xs k 0 / 2 ^ w + k in
@@ -99,6 +103,7 @@ part_before xs at a b h = same_lists _ _ (search (rules, places)) (λ i d below.
 low_value : (w x : ℕ) → value (binary w x) ≡ x % 2 ^ w
 low_value w x = ap (λ l. value l) (sym (binary_low w x)) ∙ value_of_binary w (x % 2 ^ w) (mod_below x (2 ^ w) (pow_pos w))
 
+-- one number more stores its low part
 pub lows_more : (w x k : ℕ) (xs : List ℕ) (old new : List Bool) → x ≡ get_or xs k 0 → ((j : ℕ) → j < k → low_part w old j ≡ get_or xs j 0 % 2 ^ w) → slice_range new (k * w) (k * w + w) ≡ binary w x → take (k * w) new ≡ take (k * w) old → (j : ℕ) → j < k + 1 → low_part w new j ≡ get_or xs j 0 % 2 ^ w
 lows_more w x k xs old new is each written before j h = elim (cases_lt j k) [
   | inl l ↦
@@ -112,9 +117,11 @@ lows_more w x k xs old new is each written before j h = elim (cases_lt j k) [
 -- ---- both
 
 module _ (w : ℕ) (high low : List Bool) (xs : List ℕ) (ones : ones_of high ≡ high_places w xs (length xs)) (lows : (k : ℕ) → k < length xs → low_part w low k ≡ get_or xs k 0 % 2 ^ w) where
+  -- the numbers read back from the packed form are those that were packed
   pub made_view : numbers_of (length xs) w high low ≡ xs
   made_view = packed_is (length xs) w high low xs refl ones lows
 
+  -- what was marked and stored is a packed form
   pub made_packed : IsNonDecreasing xs → last_of xs < 2 ^ 64 → w ≡ low_width xs → w < 64 → length high ≡ length xs + last_of xs / 2 ^ w → length low ≡ length xs * w → length xs * w ≤ MAX_BITS → length high ≤ MAX_BITS → IsPacked (length xs) w high low
   made_packed up fits width narrow size lens few held =
       record {

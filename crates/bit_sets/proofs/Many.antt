@@ -25,6 +25,7 @@ module _ {X : Type 0} (P : X → Type 0) (xs : List X) (i : ℕ) (x : X) (inside
         ]),
       )
 
+  -- a property of all items so far and of the next
   pub all_more : All P (take (i + 1) xs) ↔ (All P (take i xs) × P x)
   all_more =
       let size = length-take (i + 1) xs in
@@ -39,12 +40,14 @@ module _ {X : Type 0} (P : X → Type 0) (xs : List X) (i : ℕ) (x : X) (inside
         ]),
       )
 
+-- one set more in a union
 pub joined_more : {N L O F A M : Type 0} → (N ↔ (L ⊎ O)) → (L ↔ (F ⊎ A)) → (M ↔ (A ⊎ O)) → N ↔ (F ⊎ M)
 joined_more n l m = (
   (λ h. elim (n.0 h) [ inl left ↦ elim (l.0 left) [ inl f ↦ inl f | inr a ↦ inr (m.1 (inl a)) ] | inr o ↦ inr (m.1 (inr o)) ]),
   (λ w. n.1 (elim w [ inl f ↦ inl (l.1 (inl f)) | inr h ↦ elim (m.0 h) [ inl a ↦ inl (l.1 (inr a)) | inr o ↦ inr o ] ])),
 )
 
+-- one set more in an intersection
 pub kept_more : {N L O F A M : Type 0} → (N ↔ (L × O)) → (L ↔ (F × A)) → (M ↔ (A × O)) → N ↔ (F × M)
 kept_more n l m = (
   (λ h. let w = n.0 h in let v = l.0 w.0 in (v.0, m.1 (v.1, w.1))),
@@ -56,6 +59,7 @@ kept_more n l m = (
 abbrev pub highest : ℕ → List (List Bool) → ℕ
 highest n sets = fold (λ bound s. max bound (length s)) n sets
 
+-- the highest bound is at least the first one
 pub highest_least : (n : ℕ) (sets : List (List Bool)) → n ≤ highest n sets
 highest_least n [] = omega arith
 highest_least n (s ∷ sets) = let more = highest_least (max n (length s)) sets in omega arith

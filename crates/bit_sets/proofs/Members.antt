@@ -52,6 +52,7 @@ in_union (x ∷ xs) [] e (suc k) = in_union xs [] (omega arith) k
 in_union (x ∷ xs) (y ∷ ys) e zero = union_is x y
 in_union (x ∷ xs) (y ∷ ys) e (suc k) = in_union xs ys (omega arith) k
 
+-- the members of an intersection are in both sets
 pub in_both : (xs ys : List Bool) (k : ℕ) → IsIn (and_of xs ys) k ↔ (IsIn xs k × IsIn ys k)
 in_both [] ys k = (λ h. absurd (no_item true k h), λ h. h.0)
 in_both (x ∷ xs) [] zero = (λ h. absurd (none_and x h), λ h. absurd (no_item true 0 h.1))
@@ -59,6 +60,7 @@ in_both (x ∷ xs) [] (suc k) = in_both xs [] k
 in_both (x ∷ xs) (y ∷ ys) zero = both_is x y
 in_both (x ∷ xs) (y ∷ ys) (suc k) = in_both xs ys k
 
+-- the members of a difference are in the first set alone
 pub in_difference : (xs ys : List Bool) (k : ℕ) → IsIn (and_not_of xs ys) k ↔ (IsIn xs k × (IsIn ys k → ⊥))
 in_difference [] ys k = (λ h. absurd (no_item true k h), λ h. h.0)
 in_difference (x ∷ xs) [] zero = left_is x
@@ -99,6 +101,7 @@ out_bit xs k out = is_false (get_or xs k false) (λ is. out ((in_bit xs k).1 is)
     is_false true h = absurd (h refl)
     is_false false h = refl
 
+-- a member is below the bound
 pub inside_bound : (xs : List Bool) (k : ℕ) → IsIn xs k → k < length xs
 inside_bound xs k here = elim (cases_lt k (length xs)) [ inl low ↦ low | inr past ↦ absurd (true≢false (sym ((in_bit xs k).0 here) ∙ get_or_past xs k false past)) ]
 
@@ -116,9 +119,11 @@ outside_bit xs a b bit k ordered inside out =
       | inr high ↦ put_after xs (replicate (b - a) bit) a k false (omega arith) (omega arith)
     ]
 
+-- a number is in a range or outside it
 pub in_range : (k a b : ℕ) → ((a ≤ k) × (k < b)) ⊎ ((k < a) ⊎ (b ≤ k))
 in_range k a b = elim (cases_lt k a) [ inl low ↦ inr (inl low) | inr l ↦ elim (cases_lt k b) [ inl m ↦ inl (l, m) | inr m ↦ inr (inr m) ] ]
 
+-- inserting a range adds its numbers
 pub filled_in : (xs : List Bool) (a b : ℕ) → a ≤ b → b ≤ length xs → (k : ℕ) → IsIn (put xs a (replicate (b - a) true)) k ↔ (((a ≤ k) × (k < b)) ⊎ IsIn xs k)
 filled_in xs a b ordered inside k =
     let now = in_bit (put xs a (replicate (b - a) true)) k in
@@ -130,6 +135,7 @@ filled_in xs a b ordered inside k =
       ])),
     )
 
+-- removing a range takes its numbers out
 pub filled_out : (xs : List Bool) (a b : ℕ) → a ≤ b → b ≤ length xs → (k : ℕ) → IsIn (put xs a (replicate (b - a) false)) k ↔ (((k < a) ⊎ (b ≤ k)) × IsIn xs k)
 filled_out xs a b ordered inside k =
     let now = in_bit (put xs a (replicate (b - a) false)) k in
@@ -162,6 +168,7 @@ toggled_each xs ys zs size each k =
       (λ w. z.1 (bit ∙ one.1 (elim w [ inl l ↦ inl (x.0 l.0, λ h. l.1 (y.1 h)) | inr r ↦ inr (y.0 r.0, λ h. r.1 (x.1 h)) ]))),
     )
 
+-- toggling the members of another set leaves those of one set alone
 pub toggled : (xs ys zs : List Bool) (n : ℕ) → n ≡ length ys → zs ≡ xor_of (filled_up xs n) ys → (k : ℕ) → IsIn zs k ↔ ((IsIn xs k × (IsIn ys k → ⊥)) ⊎ (IsIn ys k × (IsIn xs k → ⊥)))
 toggled xs ys zs n all is =
     let long = length-append xs (replicate (n - length xs) false) in
@@ -188,6 +195,7 @@ pub none_upto : (xs : List Bool) (limit upto before : ℕ) (r : Option ℕ) → 
 none_upto xs limit upto before (Some i) few is h = h
 none_upto xs limit upto before None few is h = λ k most here. let low = inside_bound xs k here in let absent = h k (omega arith) low in cc
 
+-- a search backward from a bound has no member after what it found
 pub none_between : (xs : List Bool) (limit upto before : ℕ) (r : Option ℕ) → length xs ≤ limit → before ≡ min upto limit + 1 → IfSome r (λ i. (j : ℕ) → i < j → j < before → j < length xs → slice_get xs j ≡ Some false) → IfSome r (λ i. (k : ℕ) → i < k → k ≤ upto → IsIn xs k → ⊥)
 none_between xs limit upto before None few is h = h
 none_between xs limit upto before (Some i) few is h = λ k above most here. let low = inside_bound xs k here in let absent = h k above (omega arith) low in cc

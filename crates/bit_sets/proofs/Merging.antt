@@ -19,6 +19,7 @@ use Rattle.bit_sets.specs.declared.number_set.merged.Merging.TheVariants.{Either
 use Rattle.bit_sets.proofs.CountedSets.{few_ones, members_counted}
 use Rattle.bit_sets.proofs.Members.{in_bit, out_bit}
 
+-- a merged list is as long as the longer one
 pub length_merged : (merging : Merging) (xs ys : List Bool) → length (merged_list merging xs ys) ≡ max (length xs) (length ys)
 length_merged merging xs ys =
     let long = length-append xs (replicate (length ys - length xs) false) in
@@ -76,6 +77,7 @@ passed merging xs ys from at number absent out here not_meant =
       ];
     }
 
+-- the next set bit of a merged list is the next number of the operation
 pub meant : (merging : Merging) (xs ys : List Bool) (from at number upto : ℕ) → from ≤ at → at ≤ number → upto ≡ max (length xs) (length ys) → IsAbsent true (merged_list merging xs ys) from at → ((k : ℕ) → at ≤ k → k < number → (IsIn xs k ⊎ IsIn ys k) → ⊥)
     → (IsIn xs number ⊎ IsIn ys number) → made_by merging (get_or xs number false) (get_or ys number false) ≡ true → IsNext true (merged_list merging xs ys) from upto number
 meant merging xs ys from at number upto begins later all absent out here is =

@@ -77,6 +77,7 @@ ordered i (suc (suc n)) (suc m) (suc k) (false ∷ xs) (true ∷ ys) is e f =
     let low = r.2 in
     ap (λ l. slice_cmp nat_cmp l (i ∷ from_index (i + 1) ys)) r.3 ∙ ap (λ o. ordering_then o (slice_cmp nat_cmp r.1 (from_index (i + 1) ys))) (greater_than r.0 i (omega arith))
 
+-- the order of two sets is that of their bits up to the smaller bound, then that of the bounds
 pub cmp_parts : (xs ys : List Bool) (n m : ℕ) → IsLeastBound xs n → IsLeastBound ys m → numbers_cmp xs ys ≡ ordering_then (bits_cmp (take (min n m) ys) (take (min n m) xs)) (nat_cmp n m)
 cmp_parts xs ys n m first second =
     ap (λ l. slice_cmp nat_cmp l (ones_of ys)) (ones_are xs) ∙ ap (slice_cmp nat_cmp (from_index 0 xs)) (ones_are ys) ∙ ordered 0 n m (min n m) xs ys refl (end xs n first) (end ys m second)
@@ -87,6 +88,7 @@ cmp_parts xs ys n m first second =
       last = λ j h. (in_bit zs j).0 (b.last j (omega arith));
     }
 
+-- an order that is not equal decides
 pub first_decides : (o p : Ordering) → o ≢ Equal → o ≡ ordering_then o p
 first_decides Less p h = refl
 first_decides Equal p h = absurd (h refl)

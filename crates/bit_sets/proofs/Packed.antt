@@ -14,35 +14,43 @@ use Rattle.bit_sets.specs.Sorted.{number_at, high_part, low_part, numbers_of, hi
 
 -- ---- the numbers
 
+-- a packed form of n numbers holds n
 pub length_numbers : (n w : ℕ) (high low : List Bool) → length (numbers_of n w high low) ≡ n
 unfolding numbers_of
 length_numbers n w high low = length-map-range_with_len (number_at w high low) 0 n
 
+-- number k is the one that its high and low part make
 pub number_is : (n w : ℕ) (high low : List Bool) (k d : ℕ) → k < n → get_or (numbers_of n w high low) k d ≡ number_at w high low k
 unfolding numbers_of
 number_is n w high low k d h = get_or-map-range_with_len (number_at w high low) 0 n k k d h (omega arith)
 
+-- an index below n has its number
 pub number_there : (n w : ℕ) (high low : List Bool) (k : ℕ) → k < n → slice_get (numbers_of n w high low) k ≡ Some (number_at w high low k)
 number_there n w high low k h =
     slice_get-get_or (numbers_of n w high low) k 0 (omega (arith, length_numbers n w high low)) ∙ ap Some (number_is n w high low k 0 h)
 
+-- an index from n on has none
 pub number_absent : (n w : ℕ) (high low : List Bool) (k : ℕ) → n ≤ k → slice_get (numbers_of n w high low) k ≡ None
 number_absent n w high low k h = slice_get_past (numbers_of n w high low) k (omega (arith, length_numbers n w high low))
 
 -- ---- the two lists of a list
 
+-- n numbers have n places
 pub length_places : (w : ℕ) (xs : List ℕ) (n : ℕ) → length (high_places w xs n) ≡ n
 unfolding high_places
 length_places w xs n = length-map-range_with_len (λ k. get_or xs k 0 / 2 ^ w + k) 0 n
 
+-- the place of number k is its high part plus k
 pub place_is : (w : ℕ) (xs : List ℕ) (n k d : ℕ) → k < n → get_or (high_places w xs n) k d ≡ get_or xs k 0 / 2 ^ w + k
 unfolding high_places
 place_is w xs n k d h = get_or-map-range_with_len (λ j. get_or xs j 0 / 2 ^ w + j) 0 n k k d h (omega arith)
 
+-- one number more has one place more
 pub places_more : (w : ℕ) (xs : List ℕ) (n : ℕ) → high_places w xs (n + 1) ≡ high_places w xs n ++ (get_or xs n 0 / 2 ^ w + n) ∷ []
 unfolding high_places
 places_more w xs n = map-range_with_len_more (λ k. get_or xs k 0 / 2 ^ w + k) 0 n n (omega arith)
 
+-- no numbers have no places
 pub no_places : (w : ℕ) (xs : List ℕ) → high_places w xs 0 ≡ []
 unfolding high_places
 no_places w xs = refl
@@ -70,6 +78,7 @@ first_pass p lo (suc n) (suc m) h passes fails =
     let here : ◌≡◌ {A = ℕ} (cond (p lo) 1 0) 1 = ap (λ b. cond b 1 0) (passes lo (omega arith) (omega arith)) in
     omega (arith, sum_by-cons (λ j. cond (p j) 1 0) lo (range_with_len (lo + 1) n), here, first_pass p (lo + 1) n m (omega arith) (λ j a b. passes j (omega arith) (omega arith)) (λ j a b. fails j (omega arith) (omega arith)))
 
+-- a number from 2^w up to twice that has the logarithm w
 pub log2_is : (n w : ℕ) → w < 64 → 2 ^ w ≤ n → n < 2 * 2 ^ w → log2_of n ≡ w
 unfolding log2_of
 log2_is n w few low high =
@@ -84,15 +93,18 @@ log2_is n w few low high =
         one : 2 ^ 1 ≡ 2
         one = refl
 
+-- the logarithm of 0 and 1 is 0
 pub log2_small : (n : ℕ) → n < 2 → log2_of n ≡ 0
 unfolding log2_of
 log2_small n h = first_pass (λ j. leb (2 ^ (j + 1)) n) 0 63 0 (omega arith) (λ j a b. absurd (omega arith)) (λ j a b. lt-leb (2 ^ (j + 1)) n (let m = pow_mono {i = 1} {j = j + 1} (omega arith) in let e : 2 ^ 1 ≡ 2 = refl in omega arith))
 
 -- ---- what is packed
 
+-- the low part of number k lies inside the low bits
 pub low_inside : (k n w : ℕ) → k < n → k * w + w ≤ n * w
 low_inside k n w h = let m : (k + 1) * w ≤ n * w = mul-le-mul_right w (omega arith) in let e : (k + 1) * w ≡ k * w + w = omega arith in omega arith
 
+-- a number made of its parts is below 2^64
 pub number_fits : (n w : ℕ) (high low : List Bool) (k : ℕ) → IsPacked n w high low → k < n → number_at w high low k < 2 ^ 64
 number_fits n w high low k packed h = omega (arith, number_is n w high low k 0 h, packed.fits k 0 (omega (arith, length_numbers n w high low)))
 
@@ -108,6 +120,7 @@ shifted n w high low k place packed is =
     let below : k < n = let l = at.0 in omega arith in
     (below, ap (λ p. p * 2 ^ w % 2 ^ 64) at.1 ∙ mod-eq_of_lt (omega (arith, number_fits n w high low k packed below)))
 
+-- an index without an item is at or past the end
 pub ends_there : (xs : List ℕ) (k : ℕ) → None ≡ slice_get xs k → length xs ≤ k
 ends_there xs k none = elim (cases_lt k (length xs)) [
   | inl l ↦ absurd (let e = slice_get-get_or xs k 0 l in let f : None ≡ Some (get_or xs k 0) = none ∙ e in (cc))
@@ -193,6 +206,7 @@ last_within [] P none all = none
 last_within (x ∷ xs) P none all = all (length (x ∷ xs) - 1) 0 (omega arith)
 
 module _ (n w : ℕ) (high low : List Bool) (packed : IsPacked n w high low) (xs : List ℕ) (view : numbers_of n w high low ≡ xs) where
+  -- the bits that a packed form takes, from the count and the largest number
   pub size_is : length high + length low ≡ length xs * (low_width xs + 1) + last_of xs / 2 ^ low_width xs
   size_is =
       let count : n ≡ length xs = sym (length_numbers n w high low) ∙ ap length view in
@@ -202,6 +216,7 @@ module _ (n w : ℕ) (high low : List Bool) (packed : IsPacked n w high low) (xs
       let more : length xs * (low_width xs + 1) ≡ length xs * low_width xs + length xs = omega arith in
       omega arith
 
+  -- numbers up to count * 2^v take at most v + 2 bits each
   pub size_within : (v : ℕ) → All (λ number. number ≤ length xs * 2 ^ v) xs → length high + length low ≤ (v + 2) * length xs
   size_within v all =
       let fits : last_of xs < 2 ^ 64 = last_within xs (λ x. x < 2 ^ 64) (omega arith) (subst (All (λ x. x < 2 ^ 64)) view packed.fits) in

@@ -26,6 +26,7 @@ pub record IsOne (xs : List Bool) (k i : ℕ) : Type 0 where
   pub here : get_or xs i false ≡ true
   pub before : ones_before xs i ≡ k
 
+-- the one with number k is at its place among the ones
 pub one_numbered : (xs : List Bool) (k : ℕ) → k < length (ones_of xs) → IsOne xs k (get_or (ones_of xs) k 0)
 one_numbered xs k h =
     let test : ℕ → Bool = λ j. get_or xs j false in
@@ -62,6 +63,7 @@ high_is_zeros xs k h =
     let before = one.before in
     omega (arith, parts_before xs (get_or (ones_of xs) k 0) (omega arith))
 
+-- the one with number k is at index k or later
 pub number_of_one : (xs : List Bool) (k : ℕ) → k < length (ones_of xs) → k ≤ get_or (ones_of xs) k 0
 number_of_one xs k h = let one = one_numbered xs k h in let before = one.before in omega (arith, at_most_index (λ b. b) xs (get_or (ones_of xs) k 0))
 
@@ -71,6 +73,7 @@ module _ (xs : List Bool) (high place : ℕ) (inside : place < length xs) (here 
   ones : ones_before xs place ≡ place - high
   ones = omega (arith, parts_before xs place (omega arith))
 
+  -- there are as many ones before the place as its distance from the high part says
   pub few_ones : place - high ≤ length (ones_of xs)
   few_ones =
       let all = as_many (λ b. b) xs (length xs) (omega arith) ∙ before_end (λ b. b) xs (length xs) refl in
@@ -80,6 +83,7 @@ module _ (xs : List Bool) (high place : ℕ) (inside : place < length xs) (here 
   apart : (i : ℕ) → get_or xs i false ≡ true → i ≡ place → ⊥
   apart i one same = let e : true ≡ false = sym one ∙ ap (λ j. get_or xs j false) same ∙ here in absurd (cc)
 
+  -- ones before the place have a high part up to this one
   pub ones_sooner : (k : ℕ) → k < place - high → high_part xs k ≤ high
   ones_sooner k h =
       let all = few_ones in
@@ -94,6 +98,7 @@ module _ (xs : List Bool) (high place : ℕ) (inside : place < length xs) (here 
         | inr l ↦ absurd (omega (arith, ones, more_before (λ b. b) xs place i l (omega arith)))
       ]
 
+  -- ones from the place on have a larger high part
   pub ones_later : (k : ℕ) → place - high ≤ k → k < length (ones_of xs) → high < high_part xs k
   ones_later k h below =
       let one = one_numbered xs k below in
@@ -127,9 +132,11 @@ zeros_kept xs from upto h l set =
     omega (arith, parted not xs from upto h l, places_count not xs from upto h l, ap length none)
 
 module _ (xs : List Bool) (from high : ℕ) (inside : from ≤ length xs) (zeros : zeros_before xs from ≡ high) where
+  -- ones between two zeros change no count of zeros
   pub next_zeros : (place : ℕ) → from ≤ place → slice_get xs place ≡ Some false → ((j : ℕ) → from ≤ j → j < place → slice_get xs j ≡ Some true) → zeros_before xs place ≡ high
   next_zeros place h found set = zeros_kept xs from place h (let l = slice_get_within xs place false found in omega arith) set ∙ zeros
 
+  -- ones up to the end leave the count of zeros
   pub last_zeros : ((j : ℕ) → from ≤ j → j < length xs → slice_get xs j ≡ Some true) → count_by not xs ≡ high
   last_zeros set = sym (before_end not xs (length xs) refl) ∙ zeros_kept xs from (length xs) inside (omega arith) set ∙ zeros
 
@@ -140,6 +147,7 @@ whole_count xs =
     let zeros = before_end not xs (length xs) refl in
     omega (arith, parts_before xs (length xs) (omega arith))
 
+-- the ones before the end are all ones
 pub ones_at_end : (xs : List Bool) (n : ℕ) → n ≡ length xs → ones_before xs n ≡ length (ones_of xs)
 ones_at_end xs n is = ap (ones_before xs) is ∙ sym (as_many (λ b. b) xs (length xs) (omega arith))
 
@@ -153,6 +161,7 @@ ones_of_same xs k high h part =
 
 -- ---- the numbers with as many high bits
 
+-- the zero of a high part ends the numbers up to it
 pub upto_place : (xs : List Bool) (h place : ℕ) → slice_get xs place ≡ Some false → zeros_before xs place ≡ h → IsUptoHigh xs h (place - h)
 upto_place xs h place found zeros =
     let inside = slice_get_within xs place false found in
@@ -167,6 +176,7 @@ upto_place xs h place found zeros =
       reached = omega arith;
     }
 
+-- where no zero is left, all numbers are up to this high part
 pub upto_end : (xs : List Bool) (h : ℕ) → count_by not xs ≡ h → IsUptoHigh xs h (length (ones_of xs))
 upto_end xs h zeros =
     let whole = whole_count xs in
@@ -191,6 +201,7 @@ same_from xs h place end some found zeros upto begins =
       upto = upto;
     }
 
+-- a zero passed raises the count of zeros by one
 pub zeros_after : (xs : List Bool) (place h : ℕ) → slice_get xs place ≡ Some false → zeros_before xs place ≡ h → zeros_before xs (place + 1) ≡ h + 1
 zeros_after xs place h found zeros = one_more not xs place (slice_get_within xs place false found) (ap not (get_or_from_slice_get xs place false false found)) ∙ ap (λ n. n + 1) zeros
 

@@ -13,6 +13,7 @@ use Rattle.bit_slice.proofs.Found.{item_of_part}
 use Rattle.bit_sets.specs.NumberSet.{IsIn}
 use Rattle.bit_sets.proofs.Members.{filled_out, in_bit, inside_bound}
 
+-- a range cut to the bound and cleared has no members left
 pub emptied : (xs : List Bool) (a b c d : ℕ) → d ≡ min b (length xs) → c ≡ min a d → (k : ℕ) → IsIn (put xs c (replicate (d - c) false)) k ↔ (((k < a) ⊎ (b ≤ k)) × IsIn xs k)
 emptied xs a b c d end start k =
     let out = filled_out xs c d (omega arith) (omega arith) k in (
@@ -36,6 +37,7 @@ part_bit xs c d i inside low =
       (λ h. slice_get-get_or (slice_range xs c d) i false (omega arith) ∙ ap Some (bit ∙ (in_bit xs (c + i)).0 h)),
     )
 
+-- a range cut to the bound has a set bit exactly where it has a member
 pub some_in : (xs : List Bool) (a b c d : ℕ) → d ≡ min b (length xs) → c ≡ min a d → SomeIndex (slice_range xs c d) (λ i. slice_get (slice_range xs c d) i ≡ Some true) ↔ ((k : ℕ) × (a ≤ k) × (k < b) × IsIn xs k)
 some_in xs a b c d end start =
     let size = length-between xs c d (omega arith) in (
@@ -49,6 +51,7 @@ some_in xs a b c d end start =
           ),
     )
 
+-- a range inside the bound is all ones exactly where each number is a member
 pub each_in : (xs : List Bool) (a b : ℕ) → b ≤ length xs → EachIndex (slice_range xs a b) (λ i. slice_get (slice_range xs a b) i ≡ Some true) ↔ ((k : ℕ) → a ≤ k → k < b → IsIn xs k)
 each_in xs a b inside =
     let size = length-between xs a b inside in (

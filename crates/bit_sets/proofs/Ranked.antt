@@ -36,6 +36,7 @@ from_found xs x k y ascends found enough j d h =
     let item = get_or-drop k xs j d in
     omega arith
 
+-- an index with an item is at most the length
 pub found_within : (xs : List ℕ) (k y : ℕ) → slice_get xs k ≡ Some y → k ≤ length xs
 found_within xs k y found = let low = slice_get_within xs k y found in omega arith
 
@@ -49,6 +50,7 @@ last_most xs x n k y next upto found =
     let most = upto k 0 (omega arith) in
     omega arith
 
+-- a number at most x refutes that all are above x
 pub not_all_above : (xs : List ℕ) (x k y : ℕ) → slice_get xs k ≡ Some y → y ≤ x → All (λ number. x < number) xs → ⊥
 not_all_above xs x k y found most above =
     let low = slice_get_within xs k y found in

@@ -19,6 +19,7 @@ module _ {F : Type 0} (step : F → ℕ → Bool → F → Type 0) where
   in_turn_more f [] results g number given h run called = (given, [], h, rw run.0 refl, rw run.1 called, (refl, refl))
   in_turn_more f (n ∷ numbers) results g number given h run called = (run.0, run.1 ++ given ∷ [], run.2, rw run.3 refl, run.4, in_turn_more run.2 numbers run.1 g number given h run.5 called)
 
+  -- there is one result for each number
   pub length-in_turn : (f : F) (numbers : List ℕ) (results : List Bool) (g : F) → ResultsInTurn step f numbers results g → length results ≡ length numbers
   length-in_turn f [] results g run = rw run.0 refl
   length-in_turn f (n ∷ numbers) results g run = rw run.3 (ap suc (length-in_turn run.2 numbers run.1 g run.5))
@@ -116,6 +117,7 @@ module _ {F : Type 0} (step : F → ℕ → Bool → F → Type 0) where
             ∙ sym (ap (items_where_true (was.results ++ given ∷ [])) asked ∙ kept_more (ones_below old from) was.results number given (length-in_turn step f (ones_below old from) was.results now was.calls));
       }
 
+      -- one number more is kept as its result says
       pub retained_more : (then : List Bool) (index : ℕ) → index ≡ number + 1 → length then ≡ length new → ((k : ℕ) → k ≢ number → get_or then k false ≡ get_or new k false) → get_or then number false ≡ given → HasRetained f old next then index
       retained_more then index at size others bit = let same : suc number ≡ index = omega arith in subst (HasRetained f old next then) same (retained_next then size others bit)
 
@@ -126,6 +128,7 @@ bound_more : (numbers : List ℕ) (number : ℕ) → bound_of (numbers ++ number
 bound_more [] number = omega arith
 bound_more (n ∷ numbers) number = let e = bound_more numbers number in omega arith
 
+-- one number more is taken into the set
 pub taken_more : (old now new : List Bool) (numbers : List ℕ) (number : ℕ) → HasTaken old now numbers → length new ≡ max (length now) (number + 1) → ((k : ℕ) → IsIn new k ↔ ((k ≡ number) ⊎ IsIn now k)) → HasTaken old new (numbers ++ number ∷ [])
 taken_more old now new numbers number was size members = record {
   bound = let a = was.bound in let b = bound_more numbers number in omega arith;

@@ -95,6 +95,7 @@ module _ (n w : ℕ) (high low : List Bool) (packed : IsPacked n w high low) (x 
             ];
       }
 
+  -- an index between lower and higher low parts is the bound of x
   pub bound_found : (xs : List ℕ) (rest k : ℕ) → numbers_of n w high low ≡ xs → rest ≡ x % 2 ^ w → start ≤ k → k ≤ end → ((j : ℕ) → start ≤ j → j < k → low_part w low j < rest) → ((j : ℕ) → k ≤ j → j < end → rest ≤ low_part w low j) → IsBound xs x k
   bound_found xs rest k view is a b less more = subst (λ l. IsBound l x k) view (found_at k a b (λ j c d. omega (arith, is, less j c d)) (λ j c d. omega (arith, is, more j c d)))
 
@@ -124,6 +125,7 @@ all_lower n w high low xs x packed view lower = subst (All (λ number. number < 
 
 -- ---- what a search gave
 
+-- the numbers before a bound are below x
 pub all_below : (xs : List ℕ) (x k : ℕ) → IsBound xs x k → All (λ number. number < x) (take k xs)
 all_below xs x k bound = λ j d h.
     let size = length-take k xs in
@@ -131,8 +133,10 @@ all_below xs x k bound = λ j d h.
     let inside : j < length xs = omega arith in
     omega (arith, get_or-take k xs j d below, get_or_default xs j d 0 inside, bound.below j below inside)
 
+-- a bound at the end shows that all numbers are below x
 pub none_reaches : (xs : List ℕ) (x k : ℕ) → IsBound xs x k → length xs ≤ k → All (λ number. number < x) xs
 none_reaches xs x k bound past = λ j d h. omega (arith, get_or_default xs j d 0 h, bound.below j (omega arith) h)
 
+-- a bound before the end shows a number that is not below x
 pub one_reaches : (xs : List ℕ) (x k : ℕ) → IsBound xs x k → k < length xs → All (λ number. number < x) xs → ⊥
 one_reaches xs x k bound inside all = omega (arith, all k 0 inside, bound.above inside)

@@ -20,10 +20,17 @@ use std::marker::Model;
 ///
 /// In contracts a filter `f` is its bits `f.bits` and how many functions it has, `f.functions`.
 ///
+/// ```rust
+/// use bit_sets::BloomFilter;
+///
+/// // Of items that were not put in, one in 128 is found.
+/// let mut seen = BloomFilter::with_rate(rt.alloc(), 1000, 7)?;
+/// seen.insert(0x9e3779b97f4a7c15);
+/// println!(&rt; "{} by {} functions", seen.contains(0x9e3779b97f4a7c15), seen.functions())?;
+/// ```
+///
 /// ```text
-/// let mut seen = BloomFilter::with_rate(alloc, 1000, 7)?;      // one in 128 is found wrongly
-/// seen.insert(hash);
-/// seen.contains(hash)                                          // true
+/// true by 7 functions
 /// ```
 #[derive(Drop)]
 pub struct BloomFilter {
@@ -80,7 +87,7 @@ impl BloomFilter {
         Self::new(alloc, bits as usize, functions as usize)
     }
 
-    /// How many bits the filter has.
+    /// The number of bits of the filter.
     pub fn bits(&self) -> usize
         ensures value { result ≡ length self.now.bits }
         ensures some { 0 < result }
@@ -95,7 +102,7 @@ impl BloomFilter {
         self.functions
     }
 
-    /// How many bits are true.
+    /// The number of true bits.
     pub fn count_ones(&self) -> usize
         ensures { result ≡ count_by (λ bit. bit) self.now.bits }
     {

@@ -24,11 +24,17 @@ use std::marker::Model;
 ///
 /// In contracts sorted numbers are the list of the numbers.
 ///
+/// ```rust
+/// use bit_sets::SortedNumbers;
+///
+/// let numbers = SortedNumbers::from_slice(rt.alloc(), &[2, 3, 9, 9])?;
+/// println!(&rt; "{:?}, {:?}, {} below 9", numbers.get(1), numbers.next_at_least(4), numbers.rank(9))?;
+/// println!(&rt; "{}", numbers.contains(4))?;
+/// ```
+///
 /// ```text
-/// let numbers = SortedNumbers::from_slice(alloc, &[2, 3, 9, 9])?;
-/// numbers.get(1)              // Some(3)
-/// numbers.next_at_least(4)    // Some((2, 9))
-/// numbers.contains(4)         // false
+/// Some(3), Some((2, 9)), 2 below 9
+/// false
 /// ```
 #[derive(Drop)]
 pub struct SortedNumbers {
@@ -53,7 +59,7 @@ impl Model for SortedNumbers {
 }
 
 impl SortedNumbers {
-    /// How many numbers there are.
+    /// The count of numbers.
     pub fn len(&self) -> usize
         ensures { result ≡ length self.now }
     {

@@ -31,6 +31,7 @@ length-xor [] ys = refl
 length-xor (x ∷ xs) [] = ap suc (length-xor xs [])
 length-xor (x ∷ xs) (y ∷ ys) = ap suc (length-xor xs ys)
 
+-- there is one edge bit for each item
 pub length-edges : (xs : List Bool) → length (edges_of xs) ≡ length xs
 length-edges [] = refl
 length-edges (x ∷ xs) = ap suc (length-xor xs (x ∷ xs))
@@ -47,6 +48,7 @@ pub first_edge : (xs : List Bool) → 0 < length xs → get_or (edges_of xs) 0 f
 first_edge [] h = absurd (omega arith)
 first_edge (x ∷ xs) h = refl
 
+-- an edge is where an item differs from the one before it
 pub item_of_edges : (xs : List Bool) (i : ℕ) → suc i < length xs → get_or (edges_of xs) (suc i) false ≡ differ (get_or xs (suc i) false) (get_or xs i false)
 item_of_edges [] i h = absurd (omega arith)
 item_of_edges (x ∷ xs) i h = item_of_xor xs (x ∷ xs) i (omega arith)
@@ -84,6 +86,7 @@ module _ (xs : List Bool) (start : ℕ) (bit : Bool) (here : get_or xs start fal
       ∙ equal_items (get_or xs (suc (start + n)) false) (get_or xs (start + n) false) (sym (item_of_edges xs (start + n) (omega arith)) ∙ none.each (suc (start + n)) (omega arith) (omega arith))
       ∙ before
 
+  -- without an edge the items stay equal
   pub equal_upto : (upto : ℕ) → upto ≤ length xs → IsAbsent true (edges_of xs) (start + 1) upto → (j : ℕ) → start ≤ j → j < upto → get_or xs j false ≡ bit
   equal_upto upto inside none j a b =
       let e : start + (j - start) ≡ j = omega arith in
@@ -147,6 +150,7 @@ module _ (xs : List Bool) (start end : ℕ) (bit : Bool) (run : IsRunUpto bit xs
         (λ k b. passes bit (get_or (drop start xs) k false) (get_or-drop start xs k false ∙ equal_upto xs start bit run.here end inside run.same (start + k) (omega arith) (omega arith)))
         (λ l. fails bit (get_or (drop start xs) (end - start) false) (let e : start + (end - start) ≡ end = omega arith in get_or-drop start xs (end - start) false ∙ ap (λ j. get_or xs j false) e ∙ ends (omega arith)))
 
+    -- a run that begins and ends at these indices is the list's run there
     pub run_is : run_at xs start ≡ record { start = start; end = end; bit = bit }
     run_is =
         let o = run.ordered in
@@ -222,21 +226,26 @@ module _ (xs : List Bool) (start lo hi chunk : ℕ) (bit : Bool) (run : IsRunUpt
     abbrev next : ℕ
     next = lo + trailing_zeros w64 chunk
 
+    -- the next edge lies inside the block
     pub next_inside : next < hi
     next_inside = first_inside (edges_of xs) lo hi chunk left some fits
 
+    -- the run reaches the next edge
     pub run_to : IsRunUpto bit xs start next
     run_to = let l = next_inside in let here : first_in lo hi chunk ≡ next = omega arith in subst (IsRunUpto bit xs start) here run
 
+    -- the next edge is one
     pub begins_there : get_or (edges_of xs) next false ≡ true
     begins_there = first_set (edges_of xs) lo hi chunk left some fits
 
+    -- at the next edge the item is the other bit
     pub other_there : get_or xs next false ≡ not bit
     other_there =
         let l = next_inside in
         let o = run_to.ordered in
         other_after xs next bit (omega arith) (omega arith) (last_of_run xs start next bit run_to (omega arith)) begins_there
 
+    -- from the next edge on the run has the other bit
     pub run_after : IsRunUpto (not bit) xs next (first_in lo hi (bit_and chunk (chunk - 1)))
     run_after =
         let l = next_inside in
@@ -287,6 +296,7 @@ each_inside xs n i j bit inside same a b =
     (ap (λ k. get_or xs k false) (sym e) ∙ sym (get_or-take n (drop i xs) (j - i) false (omega arith) ∙ get_or-drop i xs (j - i) false)
     ∙ ap (λ l. get_or l (j - i) false) same ∙ get_or-replicate n (j - i) bit false (omega arith))
 
+-- each index of a found run has its bit
 pub each_of_run : (xs : List Bool) (n len : ℕ) (bit : Bool) → length xs ≡ len → (r : Option ℕ) → IfSome r (λ i. i + n ≤ len) → IfSome r (λ i. part n xs i ≡ replicate n bit) → IfSome r (λ i. (j : ℕ) → i ≤ j → j < i + n → slice_get xs j ≡ Some bit)
 each_of_run xs n len bit size None inside same = tt
 each_of_run xs n len bit size (Some i) inside same = λ j a b. each_inside xs n i j bit (omega arith) same a b
@@ -324,6 +334,7 @@ range_passed bit run rest all is other = ap (ranges_with bit) is ∙ ap (λ b. m
     is_not_bit false true h = refl
     is_not_bit false false h = absurd (h refl)
 
+-- a run with the bit is the next range
 pub range_given : (bit : Bool) (run : BitRun) (rest all : List BitRun) → all ≡ run ∷ rest → run.bit ≡ bit → ranges_with bit all ≡ range_of run ∷ ranges_with bit rest
 range_given bit run rest all is same = ap (ranges_with bit) is ∙ ap (λ b. map range_of (cond b (run ∷ filter (λ r. is_bit bit r.bit) rest) (filter (λ r. is_bit bit r.bit) rest))) (this_bit bit run.bit same)
   where

@@ -4,6 +4,7 @@ use Rattle.std.specs.List.{range_with_len}
 use Rattle.bit_slice.specs.Closures.{CallableFrom, ResultsFrom}
 
 module _ {F B : Type 0} (step : F → ℕ → B → F → Type 0) where
+  -- one call more adds its result
   pub results_more : (f : F) (i : ℕ) (results : List B) (g : F) (j : ℕ) (b : B) (h : F) → ResultsFrom step f i results g → step g j b h → j ≡ i + length results → ResultsFrom step f i (results ++ b ∷ []) h
   results_more f i [] g j b h run called at =
       let same : j ≡ i = omega arith in

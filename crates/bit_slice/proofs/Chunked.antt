@@ -94,6 +94,7 @@ module _ (xs : List Bool) (lo hi chunk : ℕ) (is : IsChunkLeft xs lo hi chunk) 
       | inr l ↦ absurd (true≢false (sym (has_lowest w64 chunk fits some) ∙ is.past z l))
     ]
 
+    -- the lowest one of a chunk is a one of the list
     pub first_set : get_or xs (lo + z) false ≡ true
     first_set = sym (is.same z z (has_lowest w64 chunk fits some) (omega arith) first_inside) ∙ has_lowest w64 chunk fits some
 
@@ -121,6 +122,7 @@ module _ (xs : List Bool) (lo hi chunk : ℕ) (is : IsChunkLeft xs lo hi chunk) 
     small : rest < 2 ^ 64
     small = omega (arith, and_le_l chunk (chunk - 1))
 
+    -- the next one of the chunk comes after the lowest
     pub next_after : lo + z + 1 ≤ min hi (lo + trailing_zeros w64 rest)
     next_after =
         let inside = first_inside in let few = is.few in

@@ -123,5 +123,6 @@ clean_words W P ws n width all = record {
 source_same : (s n j : ℕ) → source_of s s n j ≡ j
 source_same s n j = elim (leb s j && ltb j (s + n)) as (λ b. (if b then (s + j) - s else j) ≡ j) [ true ↦ omega arith | false ↦ refl ]
 
+-- a move onto itself changes nothing
 pub moved_nowhere : (xs : List Bool) (s n : ℕ) → moved xs s s n ≡ xs
 moved_nowhere xs s n = ext_get_or false (moved xs s s n) xs (length-moved xs s s n) (λ j h. get_or-moved xs s s n j (subst (λ l. j < l) (length-moved xs s s n) h) ∙ ap (λ k. get_or xs k false) (source_same s n j))

@@ -34,6 +34,7 @@ all_left : (f : Bool → Bool → Bool) → ((x : Bool) → f x false ≡ x) →
 all_left f keeps [] = refl
 all_left f keeps (x ∷ xs) = ap (λ y. y ∷ map (λ x. f x false) xs) (keeps x) ∙ ap (λ l. x ∷ l) (all_left f keeps xs)
 
+-- a combination is as long as its left list
 pub length-combined : (f : Bool → Bool → Bool) (xs ys : List Bool) → length (combined f xs ys) ≡ length xs
 length-combined f [] ys = refl
 length-combined f (x ∷ xs) [] = ap suc (length-combined f xs [])

@@ -16,9 +16,11 @@ use Rattle.bit_slice.specs.Operators.{bits_cmp, SameFromEitherSide, EqualWhereEq
 bits_total : IsTotalOrder bits_cmp
 bits_total = lists_total bool_cmp_total
 
+-- the first difference is the same from either side
 pub from_either_side : SameFromEitherSide
 from_either_side xs ys = bits_total.antisymm ys xs
 
+-- before the first difference the lists agree
 pub below_the_next : BelowTheNext
 below_the_next = bits_total.trans
 
@@ -42,12 +44,15 @@ with_itself [] = refl
 with_itself (false ∷ xs) = with_itself xs
 with_itself (true ∷ xs) = with_itself xs
 
+-- lists without a difference are equal
 pub equal_where_equal : EqualWhereEqual
 equal_where_equal xs ys = (one_list xs ys, λ e. ap (bits_cmp xs) (sym e) ∙ with_itself xs)
 
+-- false orders before true
 pub false_first : FalseFirst
 false_first zs xs ys = shared zs (false ∷ xs) (true ∷ ys)
 
+-- a list orders before one that it begins
 pub prefix_first : PrefixFirst
 prefix_first [] ys y = refl
 prefix_first (false ∷ xs) ys y = prefix_first xs ys y

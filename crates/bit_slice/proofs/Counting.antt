@@ -26,6 +26,7 @@ pub record IsPiece (w head end from upto : ℕ) : Type 0 where
   pub few : upto - from ≤ w
   pub in_one : from % w + (upto - from) ≤ w
 
+-- the first piece of a view begins at the head
 pub begin_first : (w head end k : ℕ) → head ≤ end → k ≡ 0 → begin w head end k ≡ head
 begin_first w head end k h e = let z : w * k ≡ 0 = ap (λ n. w * n) e ∙ mul-zero w in omega arith
 
@@ -62,6 +63,7 @@ next_fits w end k n bound positive below count fits =
     let before = next_before w end k positive (omega (arith, below, count)) in
     omega (arith, before, fits)
 
+-- each word of a view holds one piece of it
 pub piece : (w head end k : ℕ) → 0 < w → head < w → head ≤ end → k < words_for w end → IsPiece w head end (begin w head end k) (begin w head end (k + 1))
 piece w head end zero positive low ordered inside =
     let z : w * 0 ≡ 0 = mul-zero w in
@@ -131,9 +133,11 @@ module _ (xs ys : List Bool) (head end b : ℕ) (left : end ≤ length xs) (righ
 pub told_by : (x y : ℕ) (P : Type 0) → (x ≡ y → P) → (P → x ≡ y) → IsTrue (x == y) ↔ P
 told_by x y P there back = (λ t. there (search rules), λ p. let e = back p in search rules)
 
+-- true is true
 pub told : IsTrue true
 told = refl
 
+-- false is not true
 pub not_told : IsTrue false → ⊥
 not_told t = search rules
 
@@ -141,5 +145,6 @@ not_told t = search rules
 pub told_false : (P : Type 0) → (P → ⊥) → IsTrue false ↔ P
 told_false P fails = (λ t. absurd (not_told t), λ p. absurd (fails p))
 
+-- a claim that holds is told by true
 pub told_true : (P : Type 0) → P → IsTrue true ↔ P
 told_true P holds = (λ t. holds, λ p. told)

@@ -85,10 +85,12 @@ group_begins s n i positive h =
 
 -- ---- blocks of 60 bits
 
+-- whole blocks of 60 bits have whole digits of 1 to 4 bits
 pub block_groups : (s t : ℕ) → IsDigitSize s → t * words_for s 60 * s ≡ t * 60
 unfolding words_for
 block_groups s t size = elim size [ inl e ↦ rw e (omega arith) | inr r ↦ elim r [ inl e ↦ rw e (omega arith) | inr e ↦ rw e (omega arith) ] ]
 
+-- the digits of blocks and of a rest are those of all bits
 pub groups_split : (s t r : ℕ) → IsDigitSize s → t * words_for s 60 + words_for s r ≡ words_for s (t * 60 + r)
 unfolding words_for
 groups_split s t r size = elim size [ inl e ↦ rw e (omega arith) | inr r ↦ elim r [ inl e ↦ rw e (omega arith) | inr e ↦ rw e (omega arith) ] ]
@@ -130,6 +132,7 @@ pub groups_most : (s n : ℕ) → 0 < s → words_for s n ≤ n + (s - 1)
 unfolding words_for
 groups_most s n positive = div-le_self (n + (s - 1)) s
 
+-- a digit has at least one bit
 pub size_positive : (s : ℕ) → IsDigitSize s → 0 < s
 size_positive s size = elim size [ inl e ↦ omega arith | inr r ↦ elim r [ inl e ↦ omega arith | inr e ↦ omega arith ] ]
 
@@ -138,6 +141,7 @@ pub sixty_groups : (s : ℕ) → IsDigitSize s → words_for s 60 ≤ 60
 unfolding words_for
 sixty_groups s size = elim size [ inl e ↦ rw e (omega arith) | inr r ↦ elim r [ inl e ↦ rw e (omega arith) | inr e ↦ rw e (omega arith) ] ]
 
+-- the digits of n bits are counted by rounding up
 pub groups_are : (s n : ℕ) → 0 < s → words_for s n ≡ (n + (s - 1)) / s
 unfolding words_for
 groups_are s n positive = refl

@@ -95,6 +95,7 @@ module _ {X : Type 0} (value : X → ℕ) (place : ℕ → ℕ → ℕ) (w : ℕ
         done.shifted ∙ all_written (bits xs) (bits (ys ++ next ∷ [])) at (n * w) (omega (arith, size_x)) (omega (arith, size_y))
         ∙ ap (λ k. slice_range (bits (ys ++ next ∷ [])) at (at + k)) turned
 
+    -- once all words are exchanged the other list holds the first one's bits
     pub all_plain : (cx cy : List X) (n : ℕ) → n ≡ length ys → IsExchangedWith xs ys next at cx cy n → bits cy ≡ bits xs
     all_plain cx cy n all done =
         let turned : n * w ≡ w * length ys = ap (λ k. k * w) all ∙ mul_comm (length ys) w in
@@ -103,6 +104,7 @@ module _ {X : Type 0} (value : X → ℕ) (place : ℕ → ℕ → ℕ) (w : ℕ
         sym (take_at (bits cy) (bits (next ∷ [])) (n * w) size) ∙ ap (take (n * w)) (sym joined ∙ done.plain)
         ∙ front_written (bits (ys ++ next ∷ [])) (bits xs) (n * w) (omega (arith, size_x)) (omega (arith, size_y))
 
+    -- before the first word nothing is exchanged
     pub none_exchanged : IsExchangedWith xs ys next at xs ys 0
     none_exchanged = record {
       shifted = nothing_written (bits xs) (bits (ys ++ next ∷ [])) at (0 * w) (omega arith);
@@ -124,6 +126,7 @@ run_then xs at n w skip few room =
 pub first_alone : (xs one : List Bool) (n skip : ℕ) → n ≡ length xs → skip ≡ 0 → slice_range (xs ++ one) skip (skip + n) ≡ xs
 first_alone xs one n skip all none = rw (none, all) (same_lists _ _ (grind (arith, places)) (λ i e below. grind (arith, places)))
 
+-- a run with no bits skipped does not read the word after it
 pub run_alone : (xs one : List Bool) (at n skip : ℕ) → skip ≡ 0 → at + n ≤ length xs → slice_range (slice_range xs at (at + n) ++ one) skip (skip + n) ≡ slice_range xs (at + skip) (at + skip + n)
 run_alone xs one at n skip none room = rw none (same_lists _ _ (grind (arith, places)) (λ i e below. grind (arith, places)))
 
@@ -135,6 +138,7 @@ pub record AreNeighbours (xs before low high after : List Bool) (at size : ℕ) 
   pub high_size : length high ≡ size
 
 module _ (xs before low high after : List Bool) (at size : ℕ) (n : AreNeighbours xs before low high after at size) where
+  -- two parts written side by side are two parts put one after the other
   pub both_written : (first second : List Bool) → length first ≡ size → length second ≡ size → before ++ (first ++ (second ++ after)) ≡ put (put xs at first) (at + size) second
   unfolding put
   both_written first second fits also_fits =
@@ -143,12 +147,14 @@ module _ (xs before low high after : List Bool) (at size : ℕ) (n : AreNeighbou
       let h = n.high_size in
       rw (n.whole) (same_lists _ _ (grind (arith, places)) (λ i e below. grind (arith, places)))
 
+  -- the lower words hold the run from `at` on
   pub low_run : low ≡ slice_range xs at (at + size)
   low_run =
       let b = n.begins in
       let l = n.low_size in
       rw (n.whole) (same_lists _ _ (grind (arith, places)) (λ i e below. grind (arith, places)))
 
+  -- the higher words hold the run after it
   pub high_run : high ≡ slice_range xs (at + size) (at + size + size)
   high_run =
       let b = n.begins in
@@ -157,14 +163,17 @@ module _ (xs before low high after : List Bool) (at size : ℕ) (n : AreNeighbou
       rw (n.whole) (same_lists _ _ (grind (arith, places)) (λ i e below. grind (arith, places)))
 
 module _ {X Y : Type 0} (W : store.Ghosts X) (P : order.Ghosts Y) (positive : 0 < W.BITS) where
+  -- the row of four lists of words is the four rows one after the other
   pub row_parts : (a b c d : List X) → row W P (a ++ (b ++ (c ++ d))) ≡ row W P a ++ (row W P b ++ (row W P c ++ row W P d))
   row_parts a b c d =
       row_halves W P positive a (b ++ (c ++ d))
       ∙ ap (λ l. row W P a ++ l) (row_halves W P positive b (c ++ d) ∙ ap (λ l. row W P b ++ l) (row_halves W P positive c d))
 
+  -- the row of n words has n words of bits
   pub row_length : (xs : List X) (n : ℕ) → length xs ≡ n → length (row W P xs) ≡ n * W.BITS
   row_length xs n size = row_size W P xs ∙ ap (λ k. W.BITS * k) size ∙ mul_comm W.BITS n
 
+  -- words split at the runs' ends have the rows of two neighbouring runs
   pub neighbours : (ws before low high after run others : List X) (first count : ℕ) → ws ≡ before ++ run → run ≡ low ++ others → others ≡ high ++ after
       → length before ≡ first → length low ≡ count → length high ≡ count
       → AreNeighbours (row W P ws) (row W P before) (row W P low) (row W P high) (row W P after) (first * W.BITS) (count * W.BITS)

@@ -22,10 +22,12 @@ item : (xs : List Bool) (i : ℕ) (b : Bool) → i < length xs → get_or xs i f
 item xs i b h is = slice_get-get_or xs i false h ∙ ap Some is
 
 module _ (xs : List Bool) (n : ℕ) where
+  -- a search for a one tells whether there is any
   pub any_is : (r : Option ℕ) → MatchOption r (xs ≡ replicate n false) (λ k. IsFirst true xs k) → is_some r ≡ list_any (λ b. b) xs
   any_is None none = sym (ap (list_any (λ b. b)) none ∙ any_false n)
   any_is (Some k) first = sym (list_any_at (λ b. b) xs k false first.within first.here)
 
+  -- a search for a zero tells whether all are ones
   pub all_is : (r : Option ℕ) → MatchOption r (xs ≡ replicate n true) (λ k. IsFirst false xs k) → not (is_some r) ≡ list_all (λ b. b) xs
   all_is None none = sym (ap (list_all (λ b. b)) none ∙ all_true n)
   all_is (Some k) first = sym (list_all_at (λ b. b) xs k false first.within first.here)
@@ -36,14 +38,17 @@ module _ (xs : List Bool) (n : ℕ) where
       let size : length xs ≡ n = ap length same ∙ length-replicate n b in
       item xs i b h (ap (λ l. get_or l i false) same ∙ get_or-replicate n i b false (omega arith))
 
+  -- a search for a one tells whether some index has one
   pub any_by_index : (r : Option ℕ) → MatchOption r (xs ≡ replicate n false) (λ k. IsFirst true xs k) → IsTrue (is_some r) ↔ SomeIndex xs (λ i. slice_get xs i ≡ Some true)
   any_by_index None none = told_false _ (λ s. let i = s.0 in true≢false (sym (get_or_from_slice_get xs i true false s.2) ∙ get_or_from_slice_get xs i false false (repeated false none i s.1)))
   any_by_index (Some k) first = told_true _ (k, first.within, item xs k true first.within first.here)
 
+  -- a search for a zero tells whether each index has a one
   pub all_by_index : (r : Option ℕ) → MatchOption r (xs ≡ replicate n true) (λ k. IsFirst false xs k) → IsTrue (not (is_some r)) ↔ EachIndex xs (λ i. slice_get xs i ≡ Some true)
   all_by_index None none = told_true _ (repeated true none)
   all_by_index (Some k) first = told_false _ (λ each. true≢false (sym (get_or_from_slice_get xs k true false (each k first.within)) ∙ first.here))
 
+-- the complement of the complement is the bit
 pub other_way : (a b : Bool) → a ≡ not b → b ≡ not a
 other_way a true e = sym (ap not e)
 other_way a false e = sym (ap not e)

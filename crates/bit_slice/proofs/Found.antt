@@ -83,9 +83,11 @@ module _ (ms : List Bool) (x y n : ℕ) (read : x ≡ number_of ms) (size : leng
   told_same false false e = refl
   told_same false true e = absurd (true≢false (sym e))
 
+  -- a chunk without a difference from the other bit lacks the bit
   pub none_here : (bit : Bool) → y ≡ (if not bit then 2 ^ n - 1 else 0) → bit_xor x y ≡ 0 → (i : ℕ) → i < n → get_or ms i false ≡ not bit
   none_here bit others zero_is i h = told_other bit (get_or ms i false) (sym (low bit others i h) ∙ ap (λ v. has_bit v i) zero_is ∙ has_none i)
 
+  -- the highest difference of a chunk is its last such bit
   pub top_here : (bit : Bool) → y ≡ (if not bit then 2 ^ n - 1 else 0) → bit_xor x y ≢ 0 → bit_xor x y < 2 ^ 64 → (count_leading_zeros 64 (bit_xor x y) ≤ 63) × IsTop ms bit n (63 - count_leading_zeros 64 (bit_xor x y))
   top_here bit others some small =
       let a : ℕ = bit_xor x y in
@@ -118,9 +120,11 @@ module _ (xs found : List Bool) (head len from upto : ℕ) (bit : Bool) (is : fo
   there : (j : ℕ) → from ≤ j → j < upto → get_or (slice_range xs head (head + len)) j false ≡ get_or found (j - from) false
   there j a b = same_item xs head len from upto j inside a b ∙ ap (λ l. get_or l (j - from) false) (sym is)
 
+  -- a part of other bits alone lacks the bit
   pub absent : (n : ℕ) → n ≡ upto - from → found ≡ replicate n (not bit) → IsAbsent bit (slice_range xs head (head + len)) from upto
   absent n count none = record { each = λ j a b. there j a b ∙ ap (λ l. get_or l (j - from) false) none ∙ get_or-replicate n (j - from) (not bit) false (omega arith) }
 
+  -- the first such bit of a part is the next one of the list
   pub next : (k : ℕ) → from ≤ upto → IsFirst bit found k → IsNext bit (slice_range xs head (head + len)) from upto (from + k)
   next k ordered first =
       let size : length found ≡ head + upto - (head + from) = ap length is ∙ length-between xs (head + from) (head + upto) (omega arith) in
@@ -150,6 +154,7 @@ module _ (xs found : List Bool) (head len from upto : ℕ) (bit : Bool) (is : fo
         };
       }
 
+  -- a part without the bit before a part without it is one part without it
   pub more_absent : (high n : ℕ) → n ≡ upto - from → ((i : ℕ) → i < n → get_or found i false ≡ not bit) → IsAbsent bit (slice_range xs head (head + len)) upto high → IsAbsent bit (slice_range xs head (head + len)) from high
   more_absent high n count none after = record {
     each = λ j c d. elim (cases_lt j upto) [
@@ -160,6 +165,7 @@ module _ (xs found : List Bool) (head len from upto : ℕ) (bit : Bool) (is : fo
 
 -- ---- what the first or the last index of a bit says of the list's items
 
+-- an item read with a default is the item, inside the list
 pub item_is : (xs : List Bool) (j : ℕ) (b : Bool) → j < length xs → get_or xs j false ≡ b → slice_get xs j ≡ Some b
 item_is xs j b h is = slice_get-get_or xs j false h ∙ ap Some is
 
@@ -174,82 +180,101 @@ module _ (xs : List Bool) (lo n : ℕ) (bit : Bool) (size : length xs ≡ n) whe
   each_other h j a b = item_is xs j (not bit) (omega arith) (h.each j a b)
 
 module _ (xs : List Bool) (lo n : ℕ) (bit : Bool) (size : length xs ≡ n) where
+  -- what a forward search returns has the bit
   pub next_found : (r : Option ℕ) → MatchOption r (IsAbsent bit xs lo n) (λ i. IsNext bit xs lo n i) → IfSome r (λ i. slice_get xs i ≡ Some bit)
   next_found None h = tt
   next_found (Some i) h = let w = h.within in item_is xs i bit (omega arith) h.here
 
+  -- no index before what a forward search returns has the bit
   pub next_before : (r : Option ℕ) → MatchOption r (IsAbsent bit xs lo n) (λ i. IsNext bit xs lo n i) → IfSome r (λ i. (j : ℕ) → lo ≤ j → j < i → slice_get xs j ≡ Some (not bit))
   next_before None h = tt
   next_before (Some i) h = let w = h.within in λ j a b. item_is xs j (not bit) (omega arith) (h.before.each j a b)
 
+  -- a forward search returns None only where no index has the bit
   pub next_none : (r : Option ℕ) → MatchOption r (IsAbsent bit xs lo n) (λ i. IsNext bit xs lo n i) → IfNone r ((j : ℕ) → lo ≤ j → j < n → slice_get xs j ≡ Some (not bit))
   next_none None h = λ j a b. item_is xs j (not bit) (omega arith) (h.each j a b)
   next_none (Some i) h = tt
 
+  -- what a backward search returns has the bit
   pub last_found : (r : Option ℕ) → MatchOption r (IsAbsent bit xs lo n) (λ i. IsLast bit xs lo n i) → IfSome r (λ i. slice_get xs i ≡ Some bit)
   last_found None h = tt
   last_found (Some i) h = let w = h.within in item_is xs i bit (omega arith) h.here
 
+  -- no index after what a backward search returns has the bit
   pub last_after : (r : Option ℕ) → MatchOption r (IsAbsent bit xs lo n) (λ i. IsLast bit xs lo n i) → IfSome r (λ i. (j : ℕ) → i < j → j < n → slice_get xs j ≡ Some (not bit))
   last_after None h = tt
   last_after (Some i) h = λ j a b. item_is xs j (not bit) (omega arith) (h.after.each j (omega arith) b)
 
+  -- a backward search returns None only where no index has the bit
   pub last_none : (r : Option ℕ) → MatchOption r (IsAbsent bit xs lo n) (λ i. IsLast bit xs lo n i) → IfNone r ((j : ℕ) → lo ≤ j → j < n → slice_get xs j ≡ Some (not bit))
   last_none None h = λ j a b. item_is xs j (not bit) (omega arith) (h.each j a b)
   last_none (Some i) h = tt
 
 -- the same from an index on that may be past the end
 module _ (xs : List Bool) (from n : ℕ) (bit : Bool) (size : length xs ≡ n) (lo : ℕ) (begins : lo ≤ from) where
+  -- from the asked index up to what is returned no index has the bit
   pub next_before_from : (r : Option ℕ) → MatchOption r (IsAbsent bit xs lo n) (λ i. IsNext bit xs lo n i) → IfSome r (λ i. (j : ℕ) → from ≤ j → j < i → slice_get xs j ≡ Some (not bit))
   next_before_from None h = tt
   next_before_from (Some i) h = λ j a b. next_before xs lo n bit size (Some i) h j (omega arith) b
 
+  -- None from an index on means that no index from there has the bit
   pub next_none_from : (r : Option ℕ) → MatchOption r (IsAbsent bit xs lo n) (λ i. IsNext bit xs lo n i) → IfNone r ((j : ℕ) → from ≤ j → j < n → slice_get xs j ≡ Some (not bit))
   next_none_from None h = λ j a b. next_none xs lo n bit size None h j (omega arith) b
   next_none_from (Some i) h = tt
 
 -- the last index before one that may be past the end
 module _ (xs : List Bool) (before end : ℕ) (bit : Bool) (ends : end ≤ before) (inside : end ≤ length xs) where
+  -- what a search before an index returns has the bit
   pub prev_found : (r : Option ℕ) → MatchOption r (IsAbsent bit xs 0 end) (λ i. IsLast bit xs 0 end i) → IfSome r (λ i. slice_get xs i ≡ Some bit)
   prev_found None h = tt
   prev_found (Some i) h = let w = h.within in item_is xs i bit (omega arith) h.here
 
   module _ (n : ℕ) (least : (j : ℕ) → j < before → j < n → j < end) where
+    -- between what is returned and the asked index no index has the bit
     pub prev_between : (r : Option ℕ) → MatchOption r (IsAbsent bit xs 0 end) (λ i. IsLast bit xs 0 end i) → IfSome r (λ i. (j : ℕ) → i < j → j < before → j < n → slice_get xs j ≡ Some (not bit))
     prev_between None h = tt
     prev_between (Some i) h = λ j a b c. let l = least j b c in item_is xs j (not bit) (omega arith) (h.after.each j (omega arith) l)
 
+    -- None before an index means that no index before it has the bit
     pub prev_none : (r : Option ℕ) → MatchOption r (IsAbsent bit xs 0 end) (λ i. IsLast bit xs 0 end i) → IfNone r ((j : ℕ) → j < before → j < n → slice_get xs j ≡ Some (not bit))
     prev_none None h = λ j a b. let l = least j a b in item_is xs j (not bit) (omega arith) (h.each j (omega arith) l)
     prev_none (Some i) h = tt
 
 -- the same from the front on
 module _ (xs : List Bool) (n : ℕ) (bit : Bool) (size : length xs ≡ n) where
+  -- no index before the first found one has the bit
   pub first_before : (r : Option ℕ) → MatchOption r (IsAbsent bit xs 0 n) (λ i. IsNext bit xs 0 n i) → IfSome r (λ i. (j : ℕ) → j < i → slice_get xs j ≡ Some (not bit))
   first_before None h = tt
   first_before (Some i) h = λ j b. next_before xs 0 n bit size (Some i) h j (omega arith) b
 
+  -- None from the start means that each index has the other bit
   pub none_first : (r : Option ℕ) → MatchOption r (IsAbsent bit xs 0 n) (λ i. IsNext bit xs 0 n i) → IfNone r (EachIndex xs (λ j. slice_get xs j ≡ Some (not bit)))
   none_first None h = λ j b. next_none xs 0 n bit size None h j (omega arith) (omega arith)
   none_first (Some i) h = tt
 
+  -- None from the end means that each index has the other bit
   pub none_last : (r : Option ℕ) → MatchOption r (IsAbsent bit xs 0 n) (λ i. IsLast bit xs 0 n i) → IfNone r (EachIndex xs (λ j. slice_get xs j ≡ Some (not bit)))
   none_last None h = λ j b. last_none xs 0 n bit size None h j (omega arith) (omega arith)
   none_last (Some i) h = tt
 
 module _ (xs : List Bool) (n : ℕ) (bit : Bool) (size : length xs ≡ n) where
+  -- before the next such bit are the other bits
   pub other_before : (i : ℕ) → IsNext bit xs 0 n i → (j : ℕ) → j < i → slice_get xs j ≡ Some (not bit)
   other_before i h = first_before xs n bit size (Some i) h
 
+  -- at the next such bit is the bit
   pub found_at : (i : ℕ) → IsNext bit xs 0 n i → slice_get xs i ≡ Some bit
   found_at i h = next_found xs 0 n bit size (Some i) h
 
+  -- counted from the end, each bit is the other one
   pub each_from_end : IsAbsent bit xs 0 n → (j : ℕ) → j < n → slice_get xs (n - 1 - j) ≡ Some (not bit)
   each_from_end h j b = each_other xs 0 n bit size h (n - 1 - j) (omega arith) (omega arith)
 
+  -- counted from the end, the bits after the last such one are the other ones
   pub each_after : (i : ℕ) → IsLast bit xs 0 n i → (j : ℕ) → j < n - 1 - i → slice_get xs (n - 1 - j) ≡ Some (not bit)
   each_after i h j b = last_after xs 0 n bit size (Some i) h (n - 1 - j) (omega arith) (omega arith)
 
+  -- counted from the end, the last such bit is where it was found
   pub last_at : (i : ℕ) → IsLast bit xs 0 n i → slice_get xs (n - 1 - (n - 1 - i)) ≡ Some bit
   last_at i h =
       let w = h.within in
@@ -259,17 +284,21 @@ module _ (xs : List Bool) (n : ℕ) (bit : Bool) (size : length xs ≡ n) where
 -- ---- counts at an end, for a test that one bit passes and the other fails
 
 module _ (xs : List Bool) (n : ℕ) (bit : Bool) (p : Bool → Bool) (fails : p bit ≡ false) (passes : p (not bit) ≡ true) (size : length xs ≡ n) where
+  -- without the bit, the whole list is the prefix of other bits
   pub prefix_none : IsAbsent bit xs 0 n → n ≡ prefix_len p xs
   prefix_none h = sym (prefix_len_is p xs n false (omega arith) (λ k b. ap p (h.each k (omega arith) b) ∙ passes) (λ l. absurd (omega arith)))
 
+  -- the prefix of other bits ends at the next such bit
   pub prefix_some : (i : ℕ) → IsNext bit xs 0 n i → i ≡ prefix_len p xs
   prefix_some i h = let w = h.within in sym (prefix_len_is p xs i false (omega arith) (λ k b. ap p (h.before.each k (omega arith) b) ∙ passes) (λ l. ap p h.here ∙ fails))
 
+  -- without the bit, the whole list is the suffix of other bits
   pub suffix_none : IsAbsent bit xs 0 n → n ≡ suffix_len p xs
   suffix_none h =
       let all : length xs - 0 ≡ n = omega arith in
       sym (suffix_len_is p xs 0 false (omega arith) (λ k a b. ap p (h.each k (omega arith) (omega arith)) ∙ passes) (λ l. absurd (omega arith)) ∙ all)
 
+  -- the suffix of other bits begins after the last such bit
   pub suffix_some : (i : ℕ) → IsLast bit xs 0 n i → n - 1 - i ≡ suffix_len p xs
   suffix_some i h =
       let w = h.within in
@@ -280,6 +309,7 @@ module _ (xs : List Bool) (n : ℕ) (bit : Bool) (p : Bool → Bool) (fails : p 
 -- ---- the first index whose item passes a test
 
 module _ (xs : List Bool) (n : ℕ) (bit : Bool) (p : Bool → Bool) (passes : p bit ≡ true) (fails : p (not bit) ≡ false) (size : length xs ≡ n) where
+  -- the forward search is `position` of the list
   pub first_value : (r : Option ℕ) → MatchOption r (IsAbsent bit xs 0 n) (λ i. IsNext bit xs 0 n i) → r ≡ position p xs
   first_value None h =
       let e : position_or_len p xs ≡ n = position_or_len_is p xs n false (omega arith) (λ k b. ap p (h.each k (omega arith) b) ∙ fails) (λ l. absurd (omega arith)) in
@@ -297,6 +327,7 @@ some_false [] e = absurd (true≢false e)
 some_false (false ∷ xs) e = (0, omega arith, refl)
 some_false (true ∷ xs) e = let s = some_false xs e in (suc s.0, (let l = s.1 in omega arith), s.2)
 
+-- not all ones means that some index has a zero
 pub not_all_index : (xs : List Bool) (b : Bool) → b ≡ list_all (λ b. b) xs → (IsTrue b ↔ EachIndex xs (λ i. slice_get xs i ≡ Some true)) → IsTrue (not b) ↔ SomeIndex xs (λ i. slice_get xs i ≡ Some false)
 not_all_index xs true e h = told_false _ (λ s. true≢false (sym (get_or_from_slice_get xs s.0 true false (h.0 refl s.0 s.1)) ∙ get_or_from_slice_get xs s.0 false false s.2))
 not_all_index xs false e h = told_true _ (some_false xs (sym e))

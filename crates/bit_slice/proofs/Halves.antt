@@ -25,6 +25,7 @@ module _ {X Y : Type 0} (W : store.Ghosts X) (P : order.Ghosts Y) (positive : 0 
     pub begins : at ≡ length (row W P xs) + skip
     pub all : length (row W P xs) + length (row W P ys) ≡ W.BITS * length ws
 
+  -- words cut at a place's word are a list cut there
   pub cut : (ws xs ys : List X) (at w : ℕ) → w ≡ W.BITS → ws ≡ xs ++ ys → length xs ≡ at / w → IsCut ws xs ys at (at % w)
   cut ws xs ys at w width is few =
       let rows : row W P ws ≡ row W P xs ++ row W P ys = ap (row W P) is ∙ row_halves xs ys in
@@ -36,13 +37,16 @@ module _ {X Y : Type 0} (W : store.Ghosts X) (P : order.Ghosts Y) (positive : 0 
 pub run_of_front : (xs ys : List Bool) (a b : ℕ) → b ≤ length xs → slice_range (xs ++ ys) a b ≡ slice_range xs a b
 run_of_front xs ys a b h = same_lists _ _ (search (rules, places)) (λ i d below. grind (arith, places))
 
+-- a run of the second list, read from both lists
 pub run_of_back : (xs ys : List Bool) (a n : ℕ) → slice_range (xs ++ ys) (length xs + a) (length xs + a + n) ≡ slice_range ys a (a + n)
 run_of_back xs ys a n = same_lists _ _ (search (rules, places)) (λ i d below. grind (arith, places))
 
+-- a part put into the first list is put into both
 pub put_front : (xs ys zs : List Bool) (d : ℕ) → d + length zs ≤ length xs → put xs d zs ++ ys ≡ put (xs ++ ys) d zs
 unfolding put
 put_front xs ys zs d h = same_lists _ _ (search (rules, places)) (λ i e below. grind (arith, places))
 
+-- a part put into the second list is put into both, after the first
 pub put_back : (xs ys zs : List Bool) (d : ℕ) → d + length zs ≤ length ys → xs ++ put ys d zs ≡ put (xs ++ ys) (length xs + d) zs
 unfolding put
 put_back xs ys zs d h = same_lists _ _ (search (rules, places)) (λ i e below. grind (arith, places))

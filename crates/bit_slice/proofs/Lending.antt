@@ -77,18 +77,22 @@ module _ {M : Type 1} {𝓤 : Ura M} (𝓛 : Logic 𝓤) (T O : RattleType) (L :
   abbrev pub KeptLen : SProp 𝓤
   KeptLen = KeptAt 2 24
 
+  -- the head of a lent row is lent by itself
   pub head_out : ent 𝓤 (sem 𝓛 (part_at (the_row a T O W P) full_share d b o)) (sep 𝓤 (sem 𝓛 (part_at usize full_share d.head b (o + 16))) KeptHead)
   head_out = subst (λ (X : Fml). ent 𝓤 (sem 𝓛 X) (sep 𝓤 (sem 𝓛 (part_at usize full_share d.head b (o + 16))) KeptHead))
       (sym (part_apart N full_share d ((struct a T O W P).as_values d) refl b o)) (field_apart N (the_loose a T O W P L L') 1 16 𝓛 refl refl ((struct a T O W P).as_values d) b o)
 
+  -- and is given back
   pub head_back : ent 𝓤 (sep 𝓤 (sem 𝓛 (part_at usize full_share d.head b (o + 16))) KeptHead) (sem 𝓛 (part_at (the_row a T O W P) full_share d b o))
   head_back = subst (λ (X : Fml). ent 𝓤 (sep 𝓤 (sem 𝓛 (part_at usize full_share d.head b (o + 16))) KeptHead) (sem 𝓛 X))
       (sym (part_apart N full_share d ((struct a T O W P).as_values d) refl b o)) (field_fill N (the_loose a T O W P L L') 1 16 refl (λ w. w) (λ w. refl) M 𝓤 𝓛 ((struct a T O W P).as_values d) d.head b o)
 
+  -- the length of a lent row is lent by itself
   pub len_out : ent 𝓤 (sem 𝓛 (part_at (the_row a T O W P) full_share d b o)) (sep 𝓤 (sem 𝓛 (part_at usize full_share d.len b (o + 24))) KeptLen)
   len_out = subst (λ (X : Fml). ent 𝓤 (sem 𝓛 X) (sep 𝓤 (sem 𝓛 (part_at usize full_share d.len b (o + 24))) KeptLen))
       (sym (part_apart N full_share d ((struct a T O W P).as_values d) refl b o)) (field_apart N (the_loose a T O W P L L') 2 24 𝓛 refl refl ((struct a T O W P).as_values d) b o)
 
+  -- and is given back
   pub len_back : ent 𝓤 (sep 𝓤 (sem 𝓛 (part_at usize full_share d.len b (o + 24))) KeptLen) (sem 𝓛 (part_at (the_row a T O W P) full_share d b o))
   len_back = subst (λ (X : Fml). ent 𝓤 (sep 𝓤 (sem 𝓛 (part_at usize full_share d.len b (o + 24))) KeptLen) (sem 𝓛 X))
       (sym (part_apart N full_share d ((struct a T O W P).as_values d) refl b o)) (field_fill N (the_loose a T O W P L L') 2 24 refl (λ w. w) (λ w. refl) M 𝓤 𝓛 ((struct a T O W P).as_values d) d.len b o)

@@ -47,6 +47,7 @@ by_three (x ∷ xs) [] (y ∷ ys) = ap (λ b. b ∷ xor_of (and_not_of (xor_of x
 by_three (x ∷ xs) (m ∷ mask) [] = ap (λ b. b ∷ xor_of (and_not_of (xor_of xs []) mask) []) (bit_masked x m false) ∙ ap (λ l. (if m then false else x) ∷ l) (by_three xs mask [])
 by_three (x ∷ xs) (m ∷ mask) (y ∷ ys) = ap (λ b. b ∷ xor_of (and_not_of (xor_of xs ys) mask) ys) (bit_masked x m y) ∙ ap (λ l. (if m then y else x) ∷ l) (by_three xs mask ys)
 
+-- a masked copy keeps the length
 pub length-masked : (xs mask ys : List Bool) → length (masked xs mask ys) ≡ length xs
 length-masked [] mask ys = refl
 length-masked (x ∷ xs) [] ys = refl
@@ -65,6 +66,7 @@ drop_none : (n : ℕ) → drop {A = Bool} n [] ≡ []
 drop_none zero = refl
 drop_none (suc n) = refl
 
+-- a deposit keeps the length
 pub length-deposited : (xs mask ys : List Bool) → length (deposited xs mask ys) ≡ length xs
 length-deposited [] mask ys = refl
 length-deposited (x ∷ xs) [] ys = refl
@@ -72,6 +74,7 @@ length-deposited (x ∷ xs) (false ∷ mask) ys = ap suc (length-deposited xs ma
 length-deposited (x ∷ xs) (true ∷ mask) [] = ap suc (length-deposited xs mask [])
 length-deposited (x ∷ xs) (true ∷ mask) (y ∷ ys) = ap suc (length-deposited xs mask ys)
 
+-- the ones of two lists add up
 pub ones_append : (ms vs : List Bool) → ones (ms ++ vs) ≡ ones ms + ones vs
 ones_append [] vs = omega arith
 ones_append (true ∷ ms) vs = let rest = ones_append ms vs in omega arith
@@ -151,9 +154,11 @@ module _ (old ms ys : List Bool) (head len : ℕ) (room : head + len ≤ length 
       let k : n ≡ at + n - at = omega arith in
       take-add at n zs ∙ ap (λ j. take at zs ++ take j (drop at zs)) k
 
+  -- before the first block nothing is written
   pub nothing_done : put old head (written_to list ms ys 0) ≡ old
   nothing_done = put_none old head
 
+  -- one block more deposits its bits
   pub more_done : (at n made taken more bits : ℕ) → at + n ≤ len → at + n ≤ length ms → n ≤ 64 → taken ≡ min (ones (take at ms)) (length ys) → more ≡ min (ones (slice_range ms at (at + n))) (length ys - taken) → bits ≡ number_of (slice_range ys taken (taken + more))
       → number_bits made n ≡ deposited (slice_range list at (at + n)) (slice_range ms at (at + n)) (number_bits bits 64)
       → put (put old head (written_to list ms ys at)) (head + at) (number_bits made n) ≡ put old head (written_to list ms ys (at + n))
@@ -209,6 +214,7 @@ module _ (old ms ys : List Bool) (head len : ℕ) (room : head + len ≤ length 
 none_there : (j : ℕ) → slice_get {X = Bool} [] j ≡ Some true → ⊥
 none_there j e = cc
 
+-- where the mask has a one the bit is the other list's
 pub masked_copied : (xs mask ys : List Bool) (j : ℕ) → slice_get mask j ≡ Some true → j < length xs → j < length ys → slice_get (masked xs mask ys) j ≡ slice_get ys j
 masked_copied [] mask ys j one below there = absurd (omega arith)
 masked_copied (x ∷ xs) [] ys j one below there = absurd (none_there j one)
@@ -217,6 +223,7 @@ masked_copied (x ∷ xs) (true ∷ mask) (y ∷ ys) zero one below there = refl
 masked_copied (x ∷ xs) (false ∷ mask) (y ∷ ys) zero one below there = cc
 masked_copied (x ∷ xs) (m ∷ mask) (y ∷ ys) (suc j) one below there = masked_copied xs mask ys j one (omega arith) (omega arith)
 
+-- where the mask has no one the bit stays
 pub masked_kept : (xs mask ys : List Bool) (j : ℕ) → (slice_get mask j ≢ Some true) → slice_get (masked xs mask ys) j ≡ slice_get xs j
 masked_kept [] mask ys j zero_there = refl
 masked_kept (x ∷ xs) [] ys j zero_there = refl
@@ -226,6 +233,7 @@ masked_kept (x ∷ xs) (false ∷ mask) (y ∷ ys) zero zero_there = refl
 masked_kept (x ∷ xs) (m ∷ mask) [] (suc j) zero_there = masked_kept xs mask [] j zero_there
 masked_kept (x ∷ xs) (m ∷ mask) (y ∷ ys) (suc j) zero_there = masked_kept xs mask ys j zero_there
 
+-- where the mask has no one a deposit leaves the bit
 pub deposited_kept : (xs mask ys : List Bool) (j : ℕ) → (slice_get mask j ≢ Some true) → slice_get (deposited xs mask ys) j ≡ slice_get xs j
 deposited_kept [] mask ys j zero_there = refl
 deposited_kept (x ∷ xs) [] ys j zero_there = refl
@@ -261,6 +269,7 @@ module _ (old mask source number left i : ℕ) (below : i < 64)
   few : ones (number_bits mask i) ≤ i
   few = let a = ones_few (number_bits mask i) in let b = length-number_bits mask i in omega arith
 
+  -- one bit more of a block is deposited, or stays
   pub bit_deposited : (next : ℕ) → number_bits number i ≡ deposited (number_bits old i) (number_bits mask i) (number_bits source 64)
       → number_bits next (i + 1) ≡ number_bits number i ++ (if has_bit mask i then has_bit left 0 else has_bit old i) ∷ []
       → number_bits next (i + 1) ≡ deposited (number_bits old (i + 1)) (number_bits mask (i + 1)) (number_bits source 64)
@@ -279,12 +288,14 @@ module _ (old mask source number left i : ℕ) (below : i < 64)
       ∙ ap (λ l. deposited l (number_bits mask i ++ has_bit mask i ∷ []) ys) (sym (number_bits_more old i))
       ∙ ap (λ l. deposited (number_bits old (i + 1)) l ys) (sym (number_bits_more mask i))
 
+  -- after a one of the mask the next source bit is the next to deposit
   pub left_after_one : has_bit mask i ≡ true → (k : ℕ) → has_bit (left / 2 ^ 1) k ≡ has_bit source (ones (number_bits mask (i + 1)) + k)
   left_after_one one k =
       let sum : ones (number_bits mask (i + 1)) ≡ ones (number_bits mask i) + 1 = ones_one mask i ∙ ap (λ b. ones (number_bits mask i) + ones (b ∷ [])) one in
       let there : ones (number_bits mask i) + (k + 1) ≡ ones (number_bits mask (i + 1)) + k = omega arith in
       has_shr_low left 1 k ∙ left_is (k + 1) ∙ ap (has_bit source) there
 
+  -- after a zero of the mask the same source bit is the next
   pub left_after_zero : has_bit mask i ≡ false → (k : ℕ) → has_bit left k ≡ has_bit source (ones (number_bits mask (i + 1)) + k)
   left_after_zero none k =
       let sum : ones (number_bits mask (i + 1)) ≡ ones (number_bits mask i) + 0 = ones_one mask i ∙ ap (λ b. ones (number_bits mask i) + ones (b ∷ [])) none in
@@ -293,6 +304,7 @@ module _ (old mask source number left i : ℕ) (below : i < 64)
 
 -- ---- three combinations
 
+-- xor, and-not and xor with the other list write the masked copy
 pub written_thrice : (row0 row1 row2 row3 xs first second ms ys : List Bool) (head : ℕ) → head + length xs ≤ length row0
     → row1 ≡ put row0 head (xor_of xs ys) → first ≡ xor_of xs ys
     → row2 ≡ put row1 head (and_not_of first ms) → second ≡ and_not_of first ms

@@ -21,6 +21,7 @@ read_take : (xs : List Bool) (n j : ℕ) → n ≤ length xs → j < n → slice
 read_take xs n j fits h =
     slice_get-get_or (take n xs) j false (omega (arith, length-take n xs, fits, h)) ∙ ap Some (get_or-take n xs j false h) ∙ sym (slice_get-get_or xs j false (omega (arith, fits, h)))
 
+-- bit j of a reversed list is the one as far from its end
 pub read_reversed : (xs : List Bool) (n j : ℕ) → length xs ≡ n → j < n → slice_get (reverse xs) j ≡ slice_get xs (n - 1 - j)
 read_reversed xs n j e h =
     slice_get-get_or (reverse xs) j false (omega (arith, length-reverse xs, e, h)) ∙ ap Some (get_or-reverse xs j false (omega (arith, e, h)))
@@ -28,16 +29,19 @@ read_reversed xs n j e h =
 
 -- what follows the first items of a list, and then another list
 module _ (xs ys : List Bool) (n by : ℕ) (size : length xs ≡ n) (inside : by ≤ n) where
+  -- a list without its first bits, read at j, is the list read later
   pub read_later : (j : ℕ) → j + by < n → slice_get (drop by xs ++ ys) j ≡ slice_get xs (j + by)
   read_later j h =
       let e : by + j ≡ j + by = omega arith in
       read_first (drop by xs) ys j (omega (arith, length-drop by xs, size, h)) ∙ read_drop xs by j (omega (arith, size, h)) ∙ ap (slice_get xs) e
 
+  -- the bits appended to a shortened list are read after it
   pub read_joined : (j : ℕ) → j < length ys → slice_get (drop by xs ++ ys) (n - by + j) ≡ slice_get ys j
   read_joined j h = read_second (drop by xs) ys (n - by) j (omega (arith, length-drop by xs, size)) h
 
 -- rotated: the first `by` items after the others
 module _ (xs : List Bool) (n by : ℕ) (size : length xs ≡ n) (inside : by ≤ n) where
+  -- a rotated list ends with its first bits
   pub read_turned : (j : ℕ) → j < by → slice_get (drop by xs ++ take by xs) (n - by + j) ≡ slice_get xs j
   read_turned j h = read_joined xs (take by xs) n by size inside j (omega (arith, length-take by xs, size, inside, h)) ∙ read_take xs by j (omega (arith, size, inside)) h
 
@@ -50,6 +54,7 @@ module _ (xs : List Bool) (n by : ℕ) (size : length xs ≡ n) (inside : by ≤
       ap (slice_get (drop by xs ++ replicate by false)) e ∙ read_joined xs (replicate by false) n by size inside (j - (n - by)) (omega (arith, size_of, below))
       ∙ slice_get-get_or (replicate by false) (j - (n - by)) false (omega (arith, size_of, below)) ∙ ap Some (get_or-replicate by (j - (n - by)) false false below)
 
+  -- a list moved up is read by as many places later
   pub read_shifted : (j : ℕ) → j + by < n → slice_get (replicate by false ++ take (n - by) xs) (j + by) ≡ slice_get xs j
   read_shifted j h =
       let e : j + by ≡ by + j = omega arith in
@@ -57,6 +62,7 @@ module _ (xs : List Bool) (n by : ℕ) (size : length xs ≡ n) (inside : by ≤
       ∙ read_second (replicate by false) (take (n - by) xs) by j (length-replicate by false) (omega (arith, length-take (n - by) xs, size, h))
       ∙ read_take xs (n - by) j (omega (arith, size)) (omega (arith, h))
 
+  -- the places that were vacated are false
   pub read_cleared : (ys : List Bool) (j : ℕ) → j < by → slice_get (replicate by false ++ ys) j ≡ Some false
   read_cleared ys j h =
       let size_of : length (replicate by false) ≡ by = length-replicate by false in
@@ -64,33 +70,42 @@ module _ (xs : List Bool) (n by : ℕ) (size : length xs ≡ n) (inside : by ≤
 
 -- the same of a list that is said to be another, as the calls of containers say it
 module _ (xs ys : List Bool) where
+  -- each index of a reversed list
   pub reversed_at : (j : ℕ) → ys ≡ reverse xs → j < length xs → slice_get ys j ≡ slice_get xs (length xs - 1 - j)
   reversed_at j is h = rw is (read_reversed xs (length xs) j refl h)
 
+  -- an index before the seam of a left rotation
   pub rotated_front : (by j : ℕ) → ys ≡ drop by xs ++ take by xs → by ≤ length xs → j + by < length xs → slice_get ys j ≡ slice_get xs (j + by)
   rotated_front by j is inside h = rw is (read_later xs (take by xs) (length xs) by refl inside j h)
 
+  -- an index after the seam of a left rotation
   pub rotated_back : (by j : ℕ) → ys ≡ drop by xs ++ take by xs → by ≤ length xs → j < by → slice_get ys (length xs - by + j) ≡ slice_get xs j
   rotated_back by j is inside h = rw is (read_turned xs (length xs) by refl inside j h)
 
+  -- an index before the seam of a right rotation
   pub rotated_right_front : (by j : ℕ) → ys ≡ drop (length xs - by) xs ++ take (length xs - by) xs → by ≤ length xs → j < by → slice_get ys j ≡ slice_get xs (length xs - by + j)
   rotated_right_front by j is inside h =
       let e : j + (length xs - by) ≡ length xs - by + j = omega arith in
       rotated_front (length xs - by) j is (omega arith) (omega (arith, inside, h)) ∙ ap (slice_get xs) e
 
+  -- an index after the seam of a right rotation
   pub rotated_right_back : (by j : ℕ) → ys ≡ drop (length xs - by) xs ++ take (length xs - by) xs → by ≤ length xs → j + by < length xs → slice_get ys (j + by) ≡ slice_get xs j
   rotated_right_back by j is inside h =
       let e : j + by ≡ length xs - (length xs - by) + j = omega (arith, inside) in
       ap (slice_get ys) e ∙ rotated_back (length xs - by) j is (omega arith) (omega (arith, inside, h))
 
+  -- an index that a left shift fills from later
   pub shifted_left_at : (by j : ℕ) → ys ≡ drop by xs ++ replicate by false → by ≤ length xs → j + by < length xs → slice_get ys j ≡ slice_get xs (j + by)
   shifted_left_at by j is inside h = rw is (read_later xs (replicate by false) (length xs) by refl inside j h)
 
+  -- an index that a left shift vacates
   pub shifted_left_end : (by j : ℕ) → ys ≡ drop by xs ++ replicate by false → by ≤ length xs → length xs ≤ j + by → j < length xs → slice_get ys j ≡ Some false
   shifted_left_end by j is inside a b = rw is (read_emptied xs (length xs) by refl inside j a b)
 
+  -- an index that a right shift fills from earlier
   pub shifted_right_at : (by j : ℕ) → ys ≡ replicate by false ++ take (length xs - by) xs → by ≤ length xs → j + by < length xs → slice_get ys (j + by) ≡ slice_get xs j
   shifted_right_at by j is inside h = rw is (read_shifted xs (length xs) by refl inside j h)
 
+  -- an index that a right shift vacates
   pub shifted_right_front : (by j : ℕ) → ys ≡ replicate by false ++ take (length xs - by) xs → by ≤ length xs → j < by → slice_get ys j ≡ Some false
   shifted_right_front by j is inside h = rw is (read_cleared xs (length xs) by refl inside (take (length xs - by) xs) j h)

@@ -17,6 +17,7 @@ gap_is align first some = elim (cases_lt 0 (first % align)) [
       inl (zero_is, ap (λ x. x % align) whole ∙ mod-mul-add 1 align 0 some)
 ]
 
+-- the gap leads to a multiple
 pub gap_reaches : (align first : ℕ) → 0 < align → (first + (align - first % align) % align) % align ≡ 0
 gap_reaches align first some = elim (gap_is align first some) [
   | inl l ↦ (let e : first + (align - first % align) % align ≡ first = (let z = l.1 in omega arith) in ap (λ x. x % align) e ∙ l.0)
@@ -28,6 +29,7 @@ gap_reaches align first some = elim (gap_is align first some) [
       ap (λ x. x % align) e ∙ mod-mul-add (first / align + 1) align 0 some
 ]
 
+-- the gap leads to the first multiple
 pub gap_least : (align first i : ℕ) → 0 < align → first ≤ i → i % align ≡ 0 → first + (align - first % align) % align ≤ i
 gap_least align first i some from multiple = elim (gap_is align first some) [
   | inl l ↦ (let z = l.1 in omega arith)

@@ -34,12 +34,15 @@ module _ (p : Bool → Bool) where
       ∙ sum_by-append (λ x. cond (p x) 1 0) (slice_range xs 0 a) (slice_range xs a b)
       ∙ ap (λ n. count_by p (take n xs) + count_by p (slice_range xs a b)) za
 
+  -- before an index at most as many items pass
   pub at_most_index : (xs : List Bool) (i : ℕ) → count_by p (take i xs) ≤ i
   at_most_index xs i = omega (arith, count_by-le-length p (take i xs), length-take i xs)
 
+  -- before a later index no fewer items pass
   pub more_before : (xs : List Bool) (a b : ℕ) → a ≤ b → b ≤ length xs → count_by p (take a xs) ≤ count_by p (take b xs)
   more_before xs a b h k = omega (arith, parted xs a b h k)
 
+  -- before the end all that pass have passed
   pub before_end : (xs : List Bool) (n : ℕ) → n ≡ length xs → count_by p (take n xs) ≡ count_by p xs
   before_end xs n is = ap (count_by p) (take_all n xs (omega arith))
 
@@ -79,6 +82,7 @@ module _ (p : Bool → Bool) where
       ∙ ap (λ k. passing xs (range_with_len 0 i) ++ passing xs (range_with_len k (suc (length xs - (i + 1))))) (let z : 0 + i ≡ i = omega arith in z)
       ∙ ap (λ b. passing xs (range_with_len 0 i) ++ cond b (i ∷ passing xs (range_with_len (i + 1) (length xs - (i + 1)))) (passing xs (range_with_len (i + 1) (length xs - (i + 1))))) is
 
+  -- the passing indices below i are as many as the passing items before i
   pub as_many : (xs : List Bool) (i : ℕ) → i ≤ length xs → length (passing xs (range_with_len 0 i)) ≡ count_by p (take i xs)
   as_many xs i h =
       let z : i ≡ i - 0 = omega arith in
@@ -107,6 +111,7 @@ pub passes_here : (bit b : Bool) → b ≡ bit → is_bit bit b ≡ true
 passes_here true b e = e
 passes_here false b e = ap not e
 
+-- an item that is the asked bit is that bit
 pub is_here : (bit b : Bool) → is_bit bit b ≡ true → b ≡ bit
 is_here true b e = e
 is_here false true e = sym e
@@ -188,14 +193,17 @@ found_numbered bit xs from upto left k word r h l few is before set ones =
 -- ---- what a search gave
 
 module _ (bit : Bool) (xs : List Bool) (k : ℕ) where
+  -- a search by number returns item k of the indices with the bit
   pub given_value : (r : Option ℕ) → IfSome r (λ i. IsNumbered bit xs k i) → IfNone r (count_by (is_bit bit) xs ≤ k) → r ≡ slice_get (filter (λ j. is_bit bit (get_or xs j false)) (range_with_len 0 (length xs))) k
   given_value None some none = none_numbered (is_bit bit) xs k none
   given_value (Some i) some none = index_numbered (is_bit bit) xs i k some.inside (passes_here bit (get_or xs i false) some.here) some.before
 
+  -- what it returns has the bit
   pub given_found : (r : Option ℕ) → IfSome r (λ i. IsNumbered bit xs k i) → IfSome r (λ i. slice_get xs i ≡ Some bit)
   given_found None some = tt
   given_found (Some i) some = item_is xs i bit some.inside some.here
 
+  -- an index with the bit and k such bits before it is the one returned
   pub given_only : (r : Option ℕ) → IfSome r (λ i. IsNumbered bit xs k i) → IfNone r (count_by (is_bit bit) xs ≤ k) → (i : ℕ) → slice_get xs i ≡ Some bit → count_before bit xs i ≡ k → r ≡ Some i
   given_only None some none i here before =
       let inside = slice_get_within xs i bit here in
@@ -206,10 +214,12 @@ module _ (bit : Bool) (xs : List Bool) (k : ℕ) where
       let passes = passes_here bit (get_or xs i false) (get_or_from_slice_get xs i bit false here) in
       ap Some (same_index (is_bit bit) xs j i some.inside inside (passes_here bit (get_or xs j false) some.here) passes (some.before ∙ sym before))
 
+  -- before what it returns are k such bits
   pub given_before : (r : Option ℕ) → IfSome r (λ i. IsNumbered bit xs k i) → IfSome r (λ i. count_before bit xs i ≡ k)
   given_before None some = tt
   given_before (Some i) some = some.before
 
+  -- it returns None exactly where there are not more than k
   pub given_none : (r : Option ℕ) → IfSome r (λ i. IsNumbered bit xs k i) → IfNone r (count_by (is_bit bit) xs ≤ k) → IsNone r ↔ (count_by (is_bit bit) xs ≤ k)
   given_none None some none = (λ t. none, λ l. refl)
   given_none (Some i) some none = (λ t. absurd (search rules), λ l. absurd (omega (arith, l, some.before, not_all (is_bit bit) xs i some.inside (passes_here bit (get_or xs i false) some.here))))
@@ -225,17 +235,22 @@ module _ (bit : Bool) (xs : List Bool) (k : ℕ) (r : Option ℕ) (some : IfSome
   none_there : IfNone r (count_by (is_bit bit) xs ≤ k)
   none_there = subst (λ n. IfNone r (count_by (is_bit bit) xs ≤ n)) starts none
 
+  -- the same of the call on lists: item k of the indices with the bit
   pub nth_value : r ≡ slice_get (filter (λ j. is_bit bit (get_or xs j false)) (range_with_len 0 (length xs))) k
   nth_value = given_value bit xs k r some_there none_there
 
+  -- what the call returns has the bit
   pub nth_found : IfSome r (λ i. slice_get xs i ≡ Some bit)
   nth_found = given_found bit xs k r some_there
 
+  -- before what the call returns are k such bits
   pub nth_before : IfSome r (λ i. count_before bit xs i ≡ k)
   nth_before = given_before bit xs k r some_there
 
+  -- an index with k such bits before it is the one that the call returns
   pub nth_only : (i : ℕ) → slice_get xs i ≡ Some bit → count_before bit xs i ≡ k → r ≡ Some i
   nth_only = given_only bit xs k r some_there none_there
 
+  -- the call returns None exactly where there are not more than k
   pub nth_none : IsNone r ↔ (count_by (is_bit bit) xs ≤ k)
   nth_none = given_none bit xs k r some_there none_there

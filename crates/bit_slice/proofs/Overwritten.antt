@@ -18,6 +18,7 @@ module _ {X Y : Type 0} (W : store.Ghosts X) (P : order.Ghosts Y) (old new : Lis
   abbrev seen_in : List X → Seen
   seen_in ws = record { head = head; row = row W P ws; list = list_in W P ws head len }
 
+  -- a part put into the row is written into the list
   pub written_in : (start end : ℕ) (bits : List Bool) → start + length bits ≡ end → end ≤ len → row W P new ≡ put (row W P old) (head + start) bits → IsWritten W P old new head len start end bits
   written_in start end bits ends inside is =
       let fits : start + length bits ≤ len = omega arith in
@@ -34,6 +35,7 @@ module _ {X Y : Type 0} (W : store.Ghosts X) (P : order.Ghosts Y) (old new : Lis
         size = size;
       }
 
+  -- a whole list put into the row is the new list
   pub rewritten_in : (bits : List Bool) → length bits ≡ len → row W P new ≡ put (row W P old) head bits → IsRewritten W P old new head len bits
   rewritten_in bits full is =
       let long : length (list_in W P old head len) ≡ len = shown_length W P old head len room in
@@ -47,6 +49,7 @@ module _ {X Y : Type 0} (W : store.Ghosts X) (P : order.Ghosts Y) (old new : Lis
         size = size;
       }
 
+  -- a move within the row is one within the list
   pub moved_within : (s d n : ℕ) → s + n ≤ len → d + n ≤ len → row W P new ≡ moved (row W P old) (head + s) (head + d) n → IsMovedWithin W P old new head len s d n
   moved_within s d n from to is =
       let shown : List Bool = list_in W P old head len in

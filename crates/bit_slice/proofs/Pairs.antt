@@ -36,6 +36,7 @@ past_right f (x ∷ xs) (y ∷ ys) zero past below = absurd (omega arith)
 past_right f (x ∷ xs) (y ∷ ys) (suc j) past below = past_right f xs ys j (omega arith) (omega arith)
 
 module _ (f : Bool → Bool → Bool) (xs ys : List Bool) (at n : ℕ) (size : length xs ≡ n) (past : min n (length ys) ≤ at) where
+  -- past the other list's end a combination that needs it has no ones
   pub none_past : ((x : Bool) → f x false ≡ false) → IsAbsent true (combined f xs ys) at n
   none_past clears = record { each = λ j a b. past_right f xs ys j (omega arith) (omega arith) ∙ clears (get_or xs j false) }
 
@@ -45,6 +46,7 @@ module _ (f : Bool → Bool → Bool) (xs ys : List Bool) (at n : ℕ) (size : l
   kept_absent : ((x : Bool) → f x false ≡ x) → (hi : ℕ) → hi ≤ n → IsAbsent true xs at hi → IsAbsent true (combined f xs ys) at hi
   kept_absent keeps hi within none = record { each = λ j a b. kept keeps j a (omega arith) ∙ none.each j a b }
 
+  -- past the other list's end a combination that does not need it has the ones of this one
   pub found_past : ((x : Bool) → f x false ≡ x) → (r : Option ℕ) → MatchOption r (IsAbsent true xs at n) (λ i. IsNext true xs at n i) → MatchOption r (IsAbsent true (combined f xs ys) at n) (λ i. IsNext true (combined f xs ys) at n i)
   found_past keeps None none = kept_absent keeps n (omega arith) none
   found_past keeps (Some i) next =
@@ -65,12 +67,15 @@ module _ (f : Bool → Bool → Bool) (xs ys : List Bool) (n : ℕ) (size : leng
   long : length both ≡ n
   long = length-combined f xs ys ∙ size
 
+  -- what the search of a combination returns is one of its ones
   pub pair_found : (lo : ℕ) (r : Option ℕ) → MatchOption r (IsAbsent true both lo n) (λ i. IsNext true both lo n i) → IfSome r (λ i. slice_get both i ≡ Some true)
   pair_found lo r h = next_found both lo n true long r h
 
   module _ (lo from : ℕ) (is : lo ≡ min from n) (r : Option ℕ) (h : MatchOption r (IsAbsent true both lo n) (λ i. IsNext true both lo n i)) where
+    -- no index before it is one
     pub pair_before : IfSome r (λ i. (j : ℕ) → from ≤ j → j < i → slice_get both j ≡ Some false)
     pair_before = next_before_from both from n true long lo (omega arith) r h
 
+    -- None means that there is none from the asked index on
     pub pair_none : IfNone r ((j : ℕ) → from ≤ j → j < n → slice_get both j ≡ Some false)
     pair_none = next_none_from both from n true long lo (omega arith) r h

@@ -48,6 +48,7 @@ module _ {M : Type 1} {𝓤 : Ura M} (𝓛 : Logic 𝓤) (ℓ : Lifetime) (κ : 
       use2 𝓛 (‵ (cells (mem R) (around ws) b o)) (join_app 𝓛 (mem R) front (ws ++ back) b o) $
       feq_i ! ℕ (length (around ws)) (length xs) (omega arith) $ fjoin ! $ done !)
 
+  -- a lent slice of words lends a part of itself
   pub lends_part : Room R (length mid) → (vs : List Val)
       → ent 𝓤 (sep 𝓤 (sem 𝓛 ((MutSlice ℓ κ R).own_val (record { ref_ptr = (b, o); ghost_name = γ; now = xs }) vs)) (A.lft κ q)) (H.⇛ (ex 𝓤 PartLent))
   lends_part rm vs = qed 𝓛 (‵ ((MutSlice ℓ κ R).own_val (record { ref_ptr = (b, o); ghost_name = γ; now = xs }) vs) ∷ ‵ (flft κ q) ∷ []) ∵ updating ! $ fsplit3 ! $ drop ! $

@@ -18,6 +18,7 @@ use Rattle.bit_slice.specs.Fits.{IsView}
 use Rattle.bit_slice.specs.declared.slice.BitSlice.{BitSlice}
 use Rattle.bit_slice.specs.BitSlice.{head_of, len_of, list_of, IsPlaced}
 
+-- a head, a length and the words for both are a view
 pub made : (w words head len : ℕ) → IsWidth w → head < w → len ≤ MAX_BITS → words ≡ words_for w (head + len) → IsView w words head len
 made w words head len width below few exact = record {
   in_word = below;
@@ -48,10 +49,12 @@ part_room w n at len positive h =
     let fits = words_for_le w (at % w + len) (n - at / w) positive (omega arith) in
     omega arith
 
+-- a part of some words has their number
 pub words_cut : {X : Type 0} (ws : List X) (first count : ℕ) → first + count ≤ length ws → length (slice_range ws first (first + count)) ≡ count
 words_cut ws first count h = simp (length-take, length-drop) (omega arith)
 
 module _ (place : ℕ → ℕ → ℕ) (w : ℕ) where
+  -- the row without its first words
   pub row_drop : (n : ℕ) (words : List ℕ) → 0 < w → n ≤ length words → row_of place w (drop n words) ≡ drop (w * n) (row_of place w words)
   row_drop n words positive h =
       sym (drop_at (row_of place w (take n words)) (row_of place w (drop n words)) (w * n) (length-row_of place w (take n words) ∙ ap (λ l. w * l) (length-take-le n words h)))
@@ -92,6 +95,7 @@ module _ {X : Type 0} (value : X → ℕ) (place : ℕ → ℕ → ℕ) (w : ℕ
       ∙ sym (run_in_run (typed ws) head (head + len) from upto (omega arith) (omega arith) ordered)
 
 module _ {X Y : Type 0} (W : store.Ghosts X) (P : order.Ghosts Y) where
+  -- the row has a word's bits for each word
   pub row_size : (ws : List X) → length (row W P ws) ≡ W.BITS * length ws
   row_size ws = length_row W.value P.place W.BITS ws
 

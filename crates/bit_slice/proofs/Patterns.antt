@@ -16,21 +16,27 @@ use Rattle.bit_slice.proofs.Writing.{bits_of_number}
 
 -- ---- two numbers
 
+-- a bit below 64 of two words is the first one's
 pub of_first : (low high q : ℕ) → q < 64 → bit_of_two low high q ≡ has_bit low q
 of_first low high q h = rw (lt-ltb q 64 h) refl
 
+-- a bit from 64 on of two words is the second one's
 pub of_second : (low high q : ℕ) → 64 ≤ q → bit_of_two low high q ≡ has_bit high (q - 64)
 of_second low high q h = rw (le-ltb q 64 h) refl
 
+-- `or` with false on the right changes nothing
 pub or_none : (a b : Bool) → b ≡ false → (a || b) ≡ a
 or_none a b none = rw none (or-false a)
 
+-- `or` with false on the left changes nothing
 pub none_or : (a b : Bool) → a ≡ false → (a || b) ≡ b
 none_or a b none = rw none refl
 
+-- true and false differ
 pub xor_none : (a b : Bool) → a ≡ true → b ≡ false → (if a then not b else b) ≡ true
 xor_none a b whole none = rw whole (ap not none)
 
+-- false and true differ
 pub xor_all : (a b : Bool) → a ≡ false → b ≡ true → (if a then not b else b) ≡ true
 xor_all a b none whole = rw none whole
 
@@ -89,11 +95,13 @@ part_later xs n from len i size =
     ap (λ l. take n (drop i l)) (take_all (len - from) (drop from xs) (omega (arith, length-drop from xs)))
     ∙ ap (take n) (drop-drop i from xs)
 
+-- no place in the rest means none at these places of the list
 pub none_later : (xs ys : List Bool) (n from len upto : ℕ) → length xs ≡ len → ((i : ℕ) → i < upto → part n (slice_range xs from len) i ≢ ys) → (j : ℕ) → from ≤ j → j < from + upto → part n xs j ≢ ys
 none_later xs ys n from len upto size none j a b same =
     let e : from + (j - from) ≡ j = omega arith in
     none (j - from) (omega arith) (part_later xs n from len (j - from) size ∙ ap (part n xs) e ∙ same)
 
+-- no place in the whole rest means none from there on
 pub none_there : (xs ys : List Bool) (n from len : ℕ) → length xs ≡ len → ((i : ℕ) → i + n ≤ len - from → part n (slice_range xs from len) i ≢ ys) → (j : ℕ) → from ≤ j → j + n ≤ len → part n xs j ≢ ys
 none_there xs ys n from len size none j a b same =
     let e : from + (j - from) ≡ j = omega arith in
@@ -105,6 +113,7 @@ none_there xs ys n from len size none j a b same =
 pub part_within : (xs : List Bool) (n from upto i : ℕ) → upto ≤ length xs → from + i + n ≤ upto → part n (slice_range xs from upto) i ≡ part n xs (from + i)
 part_within xs n from upto i room inside = same_lists _ _ (search (rules, places)) (λ j d below. grind (arith, places))
 
+-- no place in a part of the rest means none between these indices
 pub none_within : (xs ys : List Bool) (n from upto stop : ℕ) → upto ≤ length xs → stop + n ≤ upto + 1 → ((i : ℕ) → i + n ≤ upto - from → i < stop - from → part n (slice_range xs from upto) i ≢ ys) → (j : ℕ) → from ≤ j → j < stop → part n xs j ≢ ys
 none_within xs ys n from upto stop room last none j a b same =
     let e : from + (j - from) ≡ j = omega arith in
@@ -121,6 +130,7 @@ module _ (xs ys : List Bool) (n at upto : ℕ) (none : (j : ℕ) → at ≤ j �
     | inr l ↦ none j l b
   ]
 
+  -- a last place found so far is still the last of a longer stretch without one
   pub still_none : (from : ℕ) (last : Option ℕ) → IfNone last ((j : ℕ) → from ≤ j → j < at → part n xs j ≢ ys) → IfNone last ((j : ℕ) → from ≤ j → j < upto → part n xs j ≢ ys)
   still_none from None h = λ j a b. elim (cases_lt j at) [
     | inl l ↦ h j a l
@@ -145,12 +155,14 @@ told_here (true ∷ ys) (false ∷ xs) is = cc
 told_here (false ∷ ys) (true ∷ xs) is = cc
 told_here (false ∷ ys) (false ∷ xs) is = ap (λ l. false ∷ l) (told_here ys xs is)
 
+-- a list whose first items differ from a pattern does not begin with it
 pub begins_not : (ys xs : List Bool) → take (length ys) xs ≢ ys → begins_with ys xs ≡ false
 begins_not ys xs not_same = elim (cases_Bool (begins_with ys xs)) [
   | inl same ↦ absurd (not_same (told_here ys xs same))
   | inr not_told ↦ not_told
 ]
 
+-- a pattern is tried at each index and at the end
 pub length-begins : (ys xs : List Bool) → length (begins_at_each ys xs) ≡ length xs + 1
 length-begins ys [] = refl
 length-begins ys (x ∷ xs) = let e = length-begins ys xs in omega arith

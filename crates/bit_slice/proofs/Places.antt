@@ -30,6 +30,7 @@ module _ (p : Bool → Bool) where
       ap (λ b. cond b (lo ∷ filter (passes_at xs) (range_with_len (lo + 1) n)) (filter (passes_at xs) (range_with_len (lo + 1) n))) (h lo (omega arith) (omega arith))
       ∙ none_pass xs (lo + 1) n (λ j a b. h j (omega arith) (omega arith))
 
+  -- between ends that have met are no places
   pub places_empty : (xs : List Bool) (lo hi : ℕ) → hi ≤ lo → places_between p xs lo hi ≡ []
   places_empty xs lo hi h = none_pass xs lo (hi - lo) (λ j a b. absurd (omega arith))
 
@@ -68,18 +69,22 @@ module _ (p : Bool → Bool) where
       ∙ ap (λ n. count_by (passes_at xs) (range_with_len lo n)) (sym size)
       ∙ count_from xs (slice_range xs lo hi) lo (λ k h. sym (item_of_part xs lo hi k (omega arith)))
 
+  -- the places of the whole list are the indices whose items pass
   pub places_whole : (xs : List Bool) (n : ℕ) → length xs ≡ n → places_between p xs 0 n ≡ filter (passes_at xs) (range_with_len 0 (length xs))
   places_whole xs n h = let e : n - 0 ≡ length xs = omega arith in ap (λ k. filter (passes_at xs) (range_with_len 0 k)) e
 
+  -- there are as many places as items that pass
   pub places_count_all : (xs : List Bool) (n : ℕ) → length xs ≡ n → length (places_between p xs 0 n) ≡ count_by p xs
   places_count_all xs n h = ap length (places_whole xs n h) ∙ length-filter (passes_at xs) (range_with_len 0 (length xs)) ∙ count_from xs xs 0 (λ k h. let e : 0 + k ≡ k = omega arith in ap (λ j. get_or xs j false) e)
 
+  -- each place is an index of the list
   pub all_inside : (xs : List Bool) (n : ℕ) → length xs ≡ n → All (λ i. i < n) (places_between p xs 0 n)
   all_inside xs n size =
       All-filter (passes_at xs) (λ i. i < n) (range_with_len 0 (n - 0))
       (λ k d h. let below : k < n = omega (arith, length-range_with_len 0 (n - 0), h) in let e = get_or-range_with_len 0 (n - 0) k d (omega arith) in omega (arith, e))
 
   module _ (bit : Bool) (passes : p bit ≡ true) (fails : p (not bit) ≡ false) where
+    -- where no item passes there are no places
     pub places_none : (xs : List Bool) (lo hi : ℕ) → IsAbsent bit xs lo hi → places_between p xs lo hi ≡ []
     places_none xs lo hi h = none_pass xs lo (hi - lo) (λ j a b. ap p (h.each j a (omega arith)) ∙ fails)
 
@@ -87,11 +92,13 @@ module _ (p : Bool → Bool) where
     pub places_later : (xs : List Bool) (lo middle hi : ℕ) → lo ≤ middle → middle ≤ hi → IsAbsent bit xs lo middle → places_between p xs middle hi ≡ places_between p xs lo hi
     places_later xs lo middle hi a b h = sym (places_split xs lo hi middle a b ∙ ap (λ l. l ++ places_between p xs middle hi) (places_none xs lo middle h))
 
+    -- the places are the next one and those after it
     pub places_first : (xs : List Bool) (lo hi i : ℕ) → IsNext bit xs lo hi i → places_between p xs lo hi ≡ i ∷ places_between p xs (i + 1) hi
     places_first xs lo hi i h =
         let b = h.begins in let w = h.within in
         places_split xs lo hi i b (omega arith) ∙ ap (λ l. l ++ places_between p xs i hi) (places_none xs lo i h.before) ∙ places_from xs i hi w (ap p h.here ∙ passes)
 
+    -- the places are those before the last one, and it
     pub places_last : (xs : List Bool) (lo hi i : ℕ) → IsLast bit xs lo hi i → places_between p xs lo hi ≡ places_between p xs lo i ++ i ∷ []
     places_last xs lo hi i h =
         let b = h.begins in let w = h.within in
@@ -103,9 +110,11 @@ module _ (p : Bool → Bool) where
       let i = get_or (places_between p xs 0 n) k d in
       item_is xs i bit (let below = all_inside xs n size k d h in omega (arith, below, size)) (told (get_or xs i false) (filter_passes (passes_at xs) (range_with_len 0 (n - 0)) k d h))
 
+-- an item that is true is true
 pub true_alone : (b : Bool) → b ≡ true → b ≡ true
 true_alone b e = e
 
+-- an item that is not true is false
 pub false_alone : (b : Bool) → not b ≡ true → b ≡ false
 false_alone false e = refl
 false_alone true e = sym e

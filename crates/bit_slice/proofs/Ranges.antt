@@ -30,20 +30,25 @@ same_read xs ys j size is = elim (cases_lt j (length xs)) [
 ]
 
 module _ (xs ys : List Bool) (d n : ℕ) (size : length ys ≡ n) (fits : d + n ≤ length xs) where
+  -- an index before the written part keeps its bit
   pub read_before : (j : ℕ) → j < d → slice_get (put xs d ys) j ≡ slice_get xs j
   read_before j h = same_read (put xs d ys) xs j (length-put xs ys d (omega arith)) (put_before xs ys d j false (omega arith) h)
 
+  -- an index after the written part keeps its bit
   pub read_after : (j : ℕ) → d + n ≤ j → slice_get (put xs d ys) j ≡ slice_get xs j
   read_after j h = same_read (put xs d ys) xs j (length-put xs ys d (omega arith)) (put_after xs ys d j false (omega arith) (omega arith))
 
+  -- an index of the written part has the bit written there
   pub read_within : (j : ℕ) → d ≤ j → j < d + n → slice_get (put xs d ys) j ≡ Some (get_or ys (j - d) false)
   read_within j a b =
       let long : length (put xs d ys) ≡ length xs = length-put xs ys d (omega arith) in
       slice_get-get_or (put xs d ys) j false (omega arith) ∙ ap Some (put_inside xs ys d j false (omega arith) a (omega arith))
 
+-- an index of a filled part has the bit
 pub read_filled : (xs : List Bool) (d n : ℕ) (b : Bool) → d + n ≤ length xs → (j : ℕ) → d ≤ j → j < d + n → slice_get (put xs d (replicate n b)) j ≡ Some b
 read_filled xs d n b fits j l h = read_within xs (replicate n b) d n (length-replicate n b) fits j l h ∙ ap Some (get_or-replicate n (j - d) b false (omega arith))
 
+-- an index of a copied part has the source's bit
 pub read_copied : (xs ys : List Bool) (d : ℕ) → d + length ys ≤ length xs → (k : ℕ) → k < length ys → slice_get (put xs d ys) (d + k) ≡ slice_get ys k
 read_copied xs ys d fits k h =
     let e : d + k - d ≡ k = omega arith in
@@ -51,6 +56,7 @@ read_copied xs ys d fits k h =
 
 -- ---- what the left has alone
 
+-- and-not with false changes nothing
 pub and_not_keeps : (x : Bool) → (x && not false) ≡ x
 and_not_keeps true = refl
 and_not_keeps false = refl
@@ -59,6 +65,7 @@ never : (x : Bool) → (x && not true) ≡ false
 never true = refl
 never false = refl
 
+-- each item of a combination is the function of both items
 pub item_combined : (f : Bool → Bool → Bool) (xs ys : List Bool) (j : ℕ) → j < length xs → get_or (combined f xs ys) j false ≡ f (get_or xs j false) (get_or ys j false)
 item_combined f [] ys j h = absurd (omega arith)
 item_combined f (x ∷ xs) [] zero h = refl
@@ -66,6 +73,7 @@ item_combined f (x ∷ xs) [] (suc j) h = item_combined f xs [] j (omega arith)
 item_combined f (x ∷ xs) (y ∷ ys) zero h = refl
 item_combined f (x ∷ xs) (y ∷ ys) (suc j) h = item_combined f xs ys j (omega arith)
 
+-- and-not clears where the other list has a one
 pub cleared_where : (xs ys : List Bool) (j : ℕ) → slice_get ys j ≡ Some true → j < length xs → slice_get (and_not_of xs ys) j ≡ Some false
 cleared_where xs ys j set h =
     let size = length-combined (λ x y. x && not y) xs ys in
@@ -79,6 +87,7 @@ unset (true ∷ ys) zero h = absurd (h refl)
 unset (false ∷ ys) zero h = refl
 unset (y ∷ ys) (suc j) h = unset ys j h
 
+-- and-not keeps where the other list has no one
 pub kept_where : (xs ys : List Bool) (j : ℕ) → slice_get ys j ≢ Some true → slice_get (and_not_of xs ys) j ≡ slice_get xs j
 kept_where xs ys j h =
     let size = length-combined (λ x y. x && not y) xs ys in
@@ -89,6 +98,7 @@ kept_where xs ys j h =
 
 -- ---- runs flipped one after another
 
+-- the complement of a chunk's number is the chunk flipped
 pub flipped_number : (ms : List Bool) (n : ℕ) → length ms ≡ n → n ≤ 64 → number_bits (bit_not w64 (number_of ms)) n ≡ map not ms
 unfolding number_bits
 flipped_number ms n size few =
@@ -115,6 +125,7 @@ module _ (xs : List Bool) (from at n : ℕ) (ordered : from ≤ at) (room : at +
       ext_get_or false (slice_range ys at (at + n)) (slice_range xs at (at + n)) (omega arith)
       (λ i h. get_or-run ys at n i (omega arith) ∙ put_after xs (map not (slice_range xs from at)) from (at + i) false (omega arith) (omega arith) ∙ sym (get_or-run xs at n i (omega arith)))
 
+  -- one chunk more is flipped
   pub flipped_more : put (put xs from (map not (slice_range xs from at))) at (map not (slice_range xs at (at + n))) ≡ put xs from (map not (slice_range xs from (at + n)))
   flipped_more =
       let s = size_before in
@@ -122,6 +133,7 @@ module _ (xs : List Bool) (from at n : ℕ) (ordered : from ≤ at) (room : at +
       put_joined xs (map not (slice_range xs from at)) (map not (slice_range xs at (at + n))) from at (omega arith) (omega arith)
       ∙ ap (put xs from) (sym (map-append not (slice_range xs from at) (slice_range xs at (at + n))) ∙ ap (map not) (slices_joined xs from at (at + n) ordered (omega arith) room))
 
+-- before the first chunk nothing is flipped
 pub flipped_none : (xs : List Bool) (from : ℕ) → xs ≡ put xs from (map not (slice_range xs from from))
 flipped_none xs from = sym (ap (λ l. put xs from (map not l)) (run_none xs from from (omega arith)) ∙ put_none xs from)
 

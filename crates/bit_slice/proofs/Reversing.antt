@@ -52,9 +52,11 @@ module _ (place : ℕ → ℕ → ℕ) (w : ℕ) (positive : 0 < w) (lawful : Is
       ∙ sym (get_or-reverse (row_of place w ys) j false (omega (arith, below, size))))
 
   module _ {X : Type 0} (value : X → ℕ) (words : List X) where
+    -- no words are their own reverse
     pub no_word_reversed : length words ≡ 0 → row_of place w (map value words) ≡ reverse (row_of place w (map value words))
     no_word_reversed none = reversed_row (map value words) (map value words) refl (λ k p h q. absurd (omega (arith, h, none, length-map words value)))
 
+    -- one word with its bits reversed is the reverse of its row
     pub one_word_reversed : (old new : X) → length words ≡ 1 → old ≡ get_or words 0 old → ((p : ℕ) → p < w → has_bit (value new) p ≡ has_bit (value old) (w - 1 - p)) → row_of place w (map value (set words 0 new)) ≡ reverse (row_of place w (map value words))
     one_word_reversed old new one read turned =
         let size : length (map value words) ≡ length words = length-map words value in
@@ -162,9 +164,11 @@ module _ {X : Type 0} (value : X → ℕ) (w : ℕ) where
       subst (λ i. IsExchanged w (map value low) (map value high) (map value (set (set lower (n + 2) u_2) (n + 3) u_3)) (map value (set (set upper (j + 1) v_1) j v_0)) i) e inner
 
 module _ (place : ℕ → ℕ → ℕ) (w : ℕ) (positive : 0 < w) (lawful : IsPermutation w (place w)) (mirrored : IsMirrored w (place w)) (low high new_low new_high : List ℕ) (n : ℕ) (same : length low ≡ length high) (most : length high ≤ n) (all : IsExchanged w low high new_low new_high n) where
+  -- the lower words now hold the higher ones in reverse
   pub low_reversed : row_of place w new_low ≡ reverse (row_of place w high)
   low_reversed = reversed_row place w positive lawful mirrored new_low high (all.low_size ∙ same) (λ k p h q. all.low_done k p (omega arith) q)
 
+  -- the higher words now hold the lower ones in reverse
   pub high_reversed : row_of place w new_high ≡ reverse (row_of place w low)
   high_reversed = reversed_row place w positive lawful mirrored new_high low (all.high_size ∙ sym same)
       (λ k p h q.

@@ -11,22 +11,27 @@ unfoldable pub rotated_run : List Bool → ℕ → ℕ → ℕ → List Bool
 rotated_run xs at len by = put xs at (drop by (slice_range xs at (at + len)) ++ take by (slice_range xs at (at + len)))
 
 module _ (xs : List Bool) (at len by : ℕ) (inside : by ≤ len) (room : at + len ≤ length xs) where
+  -- a rotated run keeps the length
   pub length-rotated : length (rotated_run xs at len by) ≡ length xs
   unfolding put rotated_run
   length-rotated = grind (arith, places)
 
+  -- an index before the run keeps its bit
   pub rotated_before : (i : ℕ) (b : Bool) → i < at → get_or (rotated_run xs at len by) i b ≡ get_or xs i b
   unfolding put rotated_run
   rotated_before i b h = grind (arith, places)
 
+  -- an index before the seam has the bit `by` places later
   pub rotated_front : (i : ℕ) (b : Bool) → at ≤ i → i + by < at + len → get_or (rotated_run xs at len by) i b ≡ get_or xs (i + by) b
   unfolding put rotated_run
   rotated_front i b h k = grind (arith, places)
 
+  -- an index after the seam has a bit of the run's front
   pub rotated_back : (i : ℕ) (b : Bool) → at + len ≤ i + by → i < at + len → get_or (rotated_run xs at len by) i b ≡ get_or xs (i + by - len) b
   unfolding put rotated_run
   rotated_back i b h k = grind (arith, places)
 
+  -- an index after the run keeps its bit
   pub rotated_after : (i : ℕ) (b : Bool) → at + len ≤ i → get_or (rotated_run xs at len by) i b ≡ get_or xs i b
   unfolding put rotated_run
   rotated_after i b h = grind (arith, places)
@@ -92,6 +97,7 @@ pub record AreLast (w count last skip end n words : ℕ) : Type 0 where
   pub low : (last - (count + count)) * w + (count * w + count * w) ≡ end + skip
   pub within : end + skip ≤ w * words
 
+-- the last whole words of a run lie in the words
 pub are_last : (w count last skip end n words : ℕ) → last * w ≡ end + skip → skip < w → count * w < n + w → n + count * w ≤ end → end ≤ w * words → AreLast w count last skip end n words
 are_last w count last skip end n words ends few least inside within =
     let twice = right_sum count count w in
@@ -112,6 +118,7 @@ up_fits w first count skip head by words begins whole within positive =
     let sum : (first + 2 * count) * w ≡ first * w + (count * w + count * w) = grind arith in
     no_more_words (first + 2 * count) words w (omega (arith, sum, mul_comm w words))
 
+-- two groups of words after the first one lie in the words
 pub up_follows : (w first count skip head by words : ℕ) → first * w + skip ≡ head → count * w < by → head + (by + count * w) ≤ w * words → first + 2 * count < words
 up_follows w first count skip head by words begins whole within =
     let sum : (first + 2 * count + 1) * w ≡ first * w + (count * w + count * w) + w = grind arith in

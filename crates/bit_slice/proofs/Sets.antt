@@ -30,17 +30,20 @@ ones xs = count_by (λ b. b) xs
 abbrev some_true : List Bool → Bool
 some_true xs = list_any (λ b. b) xs
 
+-- a conjunction with false is false
 pub and_false : (x : Bool) → (x && false) ≡ false
 and_false true = refl
 and_false false = refl
 
 -- ---- lists with no item that is true, and numbers of them
 
+-- a list with no true bit has no true bit by the test
 pub none_true : (ms : List Bool) → ((k : ℕ) → get_or ms k false ≡ false) → some_true ms ≡ false
 none_true [] h = refl
 none_true (true ∷ ms) h = h 0
 none_true (false ∷ ms) h = none_true ms (λ k. h (suc k))
 
+-- a list with no true bit has no ones
 pub none_counted : (ms : List Bool) → ((k : ℕ) → get_or ms k false ≡ false) → ones ms ≡ 0
 none_counted [] h = refl
 none_counted (true ∷ ms) h = absurd (true≢false (h 0))
@@ -52,10 +55,12 @@ none_at (true ∷ ms) e k = absurd (true≢false e)
 none_at (false ∷ ms) e zero = refl
 none_at (false ∷ ms) e (suc k) = none_at ms e k
 
+-- without a true bit each index has false
 pub not_any_index : (xs : List Bool) (b : Bool) → b ≡ some_true xs → (IsTrue b ↔ SomeIndex xs (λ i. slice_get xs i ≡ Some true)) → IsTrue (not b) ↔ EachIndex xs (λ i. slice_get xs i ≡ Some false)
 not_any_index xs true e h = told_false _ (λ each. let s = h.0 refl in true≢false (sym (get_or_from_slice_get xs s.0 true false s.2) ∙ get_or_from_slice_get xs s.0 false false (each s.0 s.1)))
 not_any_index xs false e h = told_true _ (λ i inside. item_is xs i false inside (none_at xs (sym e) i))
 
+-- a chunk whose number is 0 has no true bit
 pub number_none : (ms : List Bool) → number_of ms ≡ 0 → some_true ms ≡ false
 number_none ms e = none_true ms (λ k. sym (has_number ms k) ∙ ap (λ n. has_bit n k) e ∙ has_none k)
 
@@ -63,6 +68,7 @@ some_where : (ms : List Bool) (b : Bool) → some_true ms ≡ b → length ms �
 some_where ms true e few h = e
 some_where ms false e few h = absurd (h (sym (number_from_bits 0 ms (omega arith) few (λ i l. has_none i ∙ sym (none_at ms e i)))))
 
+-- a chunk whose number is not 0 has a true bit
 pub number_some : (ms : List Bool) → length ms ≤ 64 → number_of ms ≢ 0 → some_true ms ≡ true
 number_some ms few h = some_where ms (some_true ms) refl few h
 
@@ -75,9 +81,11 @@ number_tells ms x few is = elim (eqb_tells x 0) [
 
 -- ---- a run and the one after it
 
+-- two adjoining parts have a true bit where either has
 pub any_joined : (cs : List Bool) (at upto : ℕ) → at ≤ upto → upto ≤ length cs → some_true (slice_range cs 0 upto) ≡ (some_true (slice_range cs 0 at) || some_true (slice_range cs at upto))
 any_joined cs at upto h l = ap some_true (sym (slices_joined cs 0 at upto (omega arith) h l)) ∙ list_any-append (λ b. b) (slice_range cs 0 at) (slice_range cs at upto)
 
+-- a true bit of the front is one of the whole
 pub any_up_to : (cs : List Bool) (at upto : ℕ) → at ≤ upto → upto ≤ length cs → some_true (slice_range cs 0 at) ≡ true → some_true (slice_range cs 0 upto) ≡ true
 any_up_to cs at upto h l e = any_joined cs at upto h l ∙ ap (λ b. b || some_true (slice_range cs at upto)) e
 
@@ -117,6 +125,7 @@ module _ (f : Bool → Bool → Bool) (xs ys : List Bool) where
   past_item n k least h =
       item_of_part made n (length xs) k (omega arith) ∙ item_combined f xs ys (n + k) h ∙ ap (f (get_or xs (n + k) false)) (get_or_past ys (n + k) false (omega arith))
 
+  -- past the other list's end a combination that keeps this one's bits is this one
   pub rest_kept : (n : ℕ) → ((x : Bool) → f x false ≡ x) → n ≡ min (length xs) (length ys) → slice_range made n (length xs) ≡ slice_range xs n (length xs)
   rest_kept n keeps least =
       let long = length-combined f xs ys in
@@ -137,11 +146,13 @@ module _ (f : Bool → Bool → Bool) (xs ys : List Bool) where
   made_whole : slice_range made 0 (length xs) ≡ made
   made_whole = let long = length-combined f xs ys in take_all (length xs - 0) made (omega arith)
 
+  -- the ones of a combination are those of its front and of its rest
   pub count_split : (n : ℕ) → n ≤ length xs → ones made ≡ ones (slice_range made 0 n) + ones (slice_range made n (length xs))
   count_split n h =
       let long = length-combined f xs ys in
       sym (counted_next made 0 n (length xs) (ones (slice_range made 0 n)) (ones (slice_range made n (length xs))) (omega arith) h (omega arith) refl refl ∙ ap ones made_whole)
 
+  -- a combination that needs both has its ones in the common front
   pub count_front : (n : ℕ) → ((x : Bool) → f x false ≡ false) → n ≡ min (length xs) (length ys) → ones (slice_range made 0 n) ≡ ones made
   count_front n clears least =
       let none = none_counted (slice_range made n (length xs)) (rest_clear n clears least) in
@@ -157,12 +168,14 @@ module _ (f : Bool → Bool → Bool) (xs ys : List Bool) where
   or_none true = refl
   or_none false = refl
 
+  -- a combination that needs both has a true bit only in the common front
   pub any_front : (n : ℕ) → ((x : Bool) → f x false ≡ false) → n ≡ min (length xs) (length ys) → some_true (slice_range made 0 n) ≡ some_true made
   any_front n clears least =
       or_none (some_true (slice_range made 0 n))
       ∙ ap (λ b. some_true (slice_range made 0 n) || b) (sym (none_true (slice_range made n (length xs)) (rest_clear n clears least)))
       ∙ sym (any_split n (omega arith))
 
+  -- a combination that keeps this list's bits has a true bit in the front or in this list's rest
   pub any_kept : (n : ℕ) → ((x : Bool) → f x false ≡ x) → n ≡ min (length xs) (length ys) → (some_true (slice_range made 0 n) || some_true (slice_range xs n (length xs))) ≡ some_true made
   any_kept n keeps least =
       ap (λ l. some_true (slice_range made 0 n) || some_true l) (sym (rest_kept n keeps least)) ∙ sym (any_split n (omega arith))
@@ -216,6 +229,7 @@ step_xor false false = refl
 one_more : (x : Bool) (xs : List Bool) → ones (x ∷ xs) ≡ bit x + ones xs
 one_more x xs = sum_by-cons (λ b. cond b 1 0) x xs
 
+-- the ones of `or` and of `and` are those of both lists
 pub or_and : (xs ys : List Bool) → (ones (or_of xs ys) + ones (drop (length xs) ys)) + ones (and_of xs ys) ≡ ones xs + ones ys
 or_and [] ys = omega arith
 or_and (x ∷ xs) [] =
@@ -228,6 +242,7 @@ or_and (x ∷ xs) (y ∷ ys) =
     let b : ones (and_of (x ∷ xs) (y ∷ ys)) ≡ bit (x && y) + ones (and_of xs ys) = one_more (x && y) (and_of xs ys) in
     omega (arith, a, b, one_more x xs, one_more y ys, step_or x y, or_and xs ys)
 
+-- the ones of `xor` and twice those of `and` are those of both lists
 pub xor_and : (xs ys : List Bool) → (ones (xor_of xs ys) + ones (drop (length xs) ys)) + 2 * ones (and_of xs ys) ≡ ones xs + ones ys
 xor_and [] ys = omega arith
 xor_and (x ∷ xs) [] =
@@ -289,6 +304,7 @@ lacks_none true true h = refl
 lacks_none true false h = sym (h refl)
 lacks_none false b h = refl
 
+-- the subset test by indices
 pub subset_index : (xs ys : List Bool) (r : Bool) → r ≡ not (some_true (and_not_of xs ys)) → IsTrue r ↔ ((j : ℕ) → slice_get xs j ≡ Some true → slice_get ys j ≡ Some true)
 subset_index xs ys r is = (
   λ t j h. true_item ys j (lacks (get_or xs j false) (get_or ys j false)
@@ -311,6 +327,7 @@ same_and true true e = refl
 same_and true false e = sym e
 same_and false b e = refl
 
+-- a list is a subset exactly where `and` with the other is the list
 pub subset_and : (xs ys : List Bool) (r : Bool) → r ≡ not (some_true (and_not_of xs ys)) → IsTrue r ↔ (and_of xs ys ≡ xs)
 subset_and xs ys r is = (
   λ t. kept_and xs ys (is_not (some_true (and_not_of xs ys)) (sym is ∙ t)),
@@ -329,6 +346,7 @@ never_both true true h = absurd (h refl refl)
 never_both true false h = refl
 never_both false b h = refl
 
+-- the test for a common one by indices
 pub common_index : (xs ys : List Bool) (r : Bool) → r ≡ some_true (and_of xs ys) → IsTrue r ↔ SomeIndex xs (λ j. (slice_get xs j ≡ Some true) × (slice_get ys j ≡ Some true))
 common_index xs ys r is = (
   λ t. (let s = some_at (and_of xs ys) (sym is ∙ t) in
@@ -339,6 +357,7 @@ common_index xs ys r is = (
       ∙ ap (λ a. a && get_or ys s.0 false) (get_or_from_slice_get xs s.0 true false s.2.0) ∙ get_or_from_slice_get ys s.0 true false s.2.1),
 )
 
+-- the disjoint test by indices
 pub apart_index : (xs ys : List Bool) (r : Bool) → r ≡ not (some_true (and_of xs ys)) → IsTrue r ↔ ((j : ℕ) → slice_get xs j ≡ Some true → slice_get ys j ≢ Some true)
 apart_index xs ys r is = (
   λ t j h k. true≢false (sym (some_from (and_of xs ys) j (made_at (λ x y. x && y) (λ b. refl) xs ys j

@@ -11,14 +11,17 @@ use Rattle.bit_slice.proofs.Rules.{zeros_and_ones}
 
 -- ---- what an iterator has left
 
+-- a part whose ends have met is empty
 pub run_none : (xs : List Bool) (from upto : ℕ) → upto ≤ from → slice_range xs from upto ≡ []
 run_none xs from upto h = let e : upto - from ≡ 0 = omega arith in ap (λ n. take n (drop from xs)) e
 
+-- a part is its first bit and the rest
 pub run_first : (xs : List Bool) (from upto : ℕ) (b : Bool) → from < upto → upto ≤ length xs → b ≡ get_or xs from false → slice_range xs from upto ≡ b ∷ slice_range xs (from + 1) upto
 run_first xs from upto b h k is =
     let e : upto - from ≡ suc (upto - (from + 1)) = omega arith in
     ap (λ n. take n (drop from xs)) e ∙ ap (take (suc (upto - (from + 1)))) (drop_more xs from false (omega arith)) ∙ ap (λ x. x ∷ slice_range xs (from + 1) upto) (sym is)
 
+-- a part is all but its last bit, and that bit
 pub run_last : (xs : List Bool) (from upto : ℕ) (b : Bool) → from < upto → upto ≤ length xs → b ≡ get_or xs (upto - 1) false → slice_range xs from upto ≡ slice_range xs from (upto - 1) ++ b ∷ []
 run_last xs from upto b h k is =
     let e : upto ≡ upto - 1 + 1 = omega arith in
@@ -26,12 +29,15 @@ run_last xs from upto b h k is =
 
 -- ---- what a view shows
 
+-- a bit of the row from the head on is the list's
 pub shown_item : (xs : List Bool) (head len i : ℕ) (b : Bool) → i < len → head + len ≤ length xs → b ≡ get_or xs (head + i) false → b ≡ get_or (slice_range xs head (head + len)) i false
 shown_item xs head len i b h k is = is ∙ sym (get_or-take (head + len - head) (drop head xs) i false (omega arith) ∙ get_or-drop head xs i false)
 
+-- a view of the whole row shows it all
 pub shown_all : (xs : List Bool) (len : ℕ) → len ≡ length xs → slice_range xs 0 (0 + len) ≡ xs
 shown_all xs len is = take_all (0 + len - 0) xs (omega arith)
 
+-- a list put over the whole part is what it shows
 pub shown_filled : (xs ys : List Bool) (head len : ℕ) → len ≡ length ys → head + len ≤ length xs → slice_range (put xs head ys) head (head + len) ≡ ys
 shown_filled xs ys head len is h =
     ap (λ n. slice_range (put xs head ys) head (head + n)) is ∙ shows_put xs ys head head (omega arith) (omega arith) ∙ ap (λ l. l ++ ys) (run_none xs head head (omega arith))

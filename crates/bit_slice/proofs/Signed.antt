@@ -19,9 +19,11 @@ use Rattle.bit_slice.specs.Signed.{IsSigned, signed_of}
 pub halves : (n : ℕ) → 0 < n → 2 ^ n ≡ 2 ^ (n - 1) * 2
 halves n some = ap (λ k. 2 ^ k) (let e : n ≡ n - 1 + 1 = omega arith in e) ∙ pow-add 2 (n - 1) 1
 
+-- a number below half of the range is itself
 pub lower : (n x : ℕ) → x < 2 ^ (n - 1) → signed_of n x ≡ pos x
 lower n x h = rw (lt-ltb x (2 ^ (n - 1)) h) refl
 
+-- a number from half of the range on is negative
 pub upper : (n x : ℕ) → 2 ^ (n - 1) ≤ x → signed_of n x ≡ negsuc (2 ^ n - 1 - x)
 upper n x h = rw (le-ltb x (2 ^ (n - 1)) h) refl
 
@@ -68,9 +70,11 @@ signed_digits n x some few below =
 pub signed_same : (n x : ℕ) → 0 < n → n ≤ 64 → x < 2 ^ n → binary n (cast_unsigned w64 (signed_of n x)) ≡ binary n x
 signed_same n x some few below = sym (binary_low n (cast_unsigned w64 (signed_of n x))) ∙ ap (binary n) (signed_digits n x some few below).0
 
+-- the signed number has the same bits
 pub signed_same_bits : (n x : ℕ) → 0 < n → n ≤ 64 → x < 2 ^ n → number_bits (cast_unsigned w64 (signed_of n x)) n ≡ number_bits x n
 signed_same_bits n x some few below = sym (bits_low n (cast_unsigned w64 (signed_of n x))) ∙ ap (λ k. number_bits k n) (signed_digits n x some few below).0
 
+-- a number whose highest bit is set is in the upper half
 pub in_upper : (n x : ℕ) → 0 < x / 2 ^ (n - 1) → 2 ^ (n - 1) ≤ x
 in_upper n x some = let h = (le-div_iff_mul-le {k = 2 ^ (n - 1)} {x = 1} {y = x} (pow_pos (n - 1))).0 (omega arith) in omega arith
 
@@ -96,6 +100,7 @@ signed_written n x some few is =
 
 -- ---- digits in reverse
 
+-- a number turned round and moved down has the digits in the other order
 pub turned_digits : (n x turned : ℕ) → 0 < n → n ≤ 64 → ((p : ℕ) → p < 64 → has_bit turned p ≡ has_bit x (64 - 1 - p)) → binary n (turned / 2 ^ (64 - n)) ≡ number_bits x n
 turned_digits n x turned some few round = ext_get_or false (binary n (turned / 2 ^ (64 - n))) (number_bits x n) (length-binary n (turned / 2 ^ (64 - n)) ∙ sym (length-number_bits x n))
     (λ i h.
@@ -105,6 +110,7 @@ turned_digits n x turned some few round = ext_get_or false (binary n (turned / 2
     get_or-binary n (turned / 2 ^ (64 - n)) i below ∙ has_shr_low turned (64 - n) (n - 1 - i) ∙ round (n - 1 - i + (64 - n)) (omega arith) ∙ ap (has_bit x) back
     ∙ sym (get_or-number_bits x n i below))
 
+-- no digits are the same in either order
 pub none_turned : (n x : ℕ) → n ≡ 0 → (binary n 0 ≡ number_bits x n) × (number_bits 0 n ≡ binary n x)
 unfolding binary number_bits
 none_turned n x none = rw none (refl, refl)
@@ -128,6 +134,7 @@ number_of_bits n x few below =
       | inr l ↦ no_digit n x i below l ∙ sym (get_or_past (number_bits x n) i false (omega arith))
     ])
 
+-- the signed number is read back from its bits
 pub signed_bits_written : (n : ℕ) (x : ℤ) → 0 < n → n ≤ 64 → IsSigned n x → signed_of n (number_of (number_bits (cast_unsigned w64 x) n)) ≡ x
 signed_bits_written n x some few is =
     let y = cast_unsigned w64 x in

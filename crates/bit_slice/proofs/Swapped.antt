@@ -28,9 +28,11 @@ in_words W P ws n bits some fits is =
 
 -- two lists of one length of which each is combined with the other in turn, by three steps
 module _ (a b first second third : List Bool) (size : length a ≡ length b) (one : first ≡ xor_of a b) (two : second ≡ xor_of b first) (three : third ≡ xor_of first second) where
+  -- the second list now holds the first one's bits
   pub second_is : second ≡ a
   second_is = two ∙ ap (xor_of b) one ∙ xor_back a b size
 
+  -- after three combinations the first list holds the second one's bits
   pub third_is : third ≡ b
   third_is = three ∙ ap (xor_of first) second_is ∙ ap (λ l. xor_of l a) one ∙ xor_other a b size
 

@@ -16,6 +16,7 @@ use Rattle.bit_addressing.proofs.lists.Shown.{shows_fewer}
 
 -- ---- a number's bits, read as digits and written as places
 
+-- a bit of a number read with its first digit highest, counted from the end
 pub turned_bit : (x n at i : ℕ) (zs : List Bool) → binary n x ≡ slice_range zs at (at + n) → i < n → get_or (number_bits x n) i false ≡ get_or zs (at + (n - 1 - i)) false
 unfolding binary number_bits
 turned_bit x n at i zs is h =
@@ -55,6 +56,7 @@ pub record IsTurned (xs zs : List Bool) (head len low high : ℕ) : Type 0 where
   pub before : (j : ℕ) → j < head → get_or zs j false ≡ get_or xs j false
   pub after : (j : ℕ) → head + len ≤ j → get_or zs j false ≡ get_or xs j false
 
+-- before the first exchange nothing is turned
 pub turned_none : (xs : List Bool) (head len : ℕ) → IsTurned xs xs head len head (head + len)
 turned_none xs head len = record {
   begins = omega arith;
@@ -93,6 +95,7 @@ module _ (xs zs : List Bool) (head len low high n : ℕ) (t : IsTurned xs zs hea
   length-one : length one ≡ length zs
   length-one = let b = length-upper in let s = t.size in let m = t.middle in let o = t.ordered in length-put zs upper_run low (omega (arith, b, s, m, o, few, room))
 
+  -- one exchange more turns its bits at both ends
   pub turned_more : IsTurned xs both head len (low + n) (high - n)
   turned_more =
       let b = length-upper in
@@ -134,6 +137,7 @@ module _ (xs zs : List Bool) (head len low high n : ℕ) (t : IsTurned xs zs hea
 pub turned_to : (xs zs : List Bool) (head len low high l h : ℕ) → low ≡ l → high ≡ h → IsTurned xs zs head len low high → IsTurned xs zs head len l h
 turned_to xs zs head len low high l h el eh t = subst (λ n. IsTurned xs zs head len n h) el (subst (IsTurned xs zs head len low) eh t)
 
+-- once the ends meet the whole run is reversed
 pub turned_all : (xs zs : List Bool) (head len low high : ℕ) → IsTurned xs zs head len low high → high - low ≤ 1 → head + len ≤ length xs → zs ≡ put xs head (reverse (slice_range xs head (head + len)))
 turned_all xs zs head len low high t few room =
     let ms : List Bool = slice_range xs head (head + len) in
@@ -164,11 +168,13 @@ turned_all xs zs head len low high t few room =
       ]
     ])
 
+-- a rotation keeps the length
 pub rotated_length : (xs : List Bool) (by : ℕ) → by ≤ length xs → length (drop by xs ++ take by xs) ≡ length xs
 rotated_length xs by h = omega (arith, length-append (drop by xs) (take by xs), length-drop by xs, length-take by xs)
 
 -- ---- two runs, side by side, the second written first
 
+-- two adjoining parts put in either order are one part put
 pub put_front : (xs ys zs : List Bool) (d n : ℕ) → n ≡ d + length ys → n + length zs ≤ length xs → put (put xs n zs) d ys ≡ put xs d (ys ++ zs)
 unfolding put
 put_front xs ys zs d n is room = same_lists _ _ (search (rules, places)) (λ i e below. grind (arith, places))
@@ -195,11 +201,13 @@ module _ (xs : List Bool) (head len by : ℕ) (inside : by ≤ len) (room : head
       ∙ put_front xs ys (slice_range xs head (head + n)) head (head + by) (omega (arith, count)) (omega (arith, size))
       ∙ ap (λ l. put xs head (ys ++ l)) (shows_fewer xs head n len (omega arith) room)
 
+  -- a move down and false bits at the end are the left shift
   pub shifted_left : put (moved xs (head + by) head (len - by)) (head + (len - by)) (replicate (head + len - (head + (len - by))) false) ≡ put xs head (drop by (slice_range xs head (head + len)) ++ replicate by false)
   shifted_left =
       let count : head + len - (head + (len - by)) ≡ by = omega arith in
       ap (λ k. put (moved xs (head + by) head (len - by)) (head + (len - by)) (replicate k false)) count ∙ moved_front (replicate by false) (length-replicate by false)
 
+  -- a move up and false bits at the front are the right shift
   pub shifted_right : put (moved xs head (head + by) (len - by)) head (replicate (head + by - head) false) ≡ put xs head (replicate by false ++ take (len - by) (slice_range xs head (head + len)))
   shifted_right =
       let count : head + by - head ≡ by = omega arith in

@@ -27,9 +27,11 @@ module _ (f : Bool → Bool → Bool) (xs : List Bool) (from at n : ℕ) (source
   abbrev pub front : ℕ → List Bool
   front done = combined f (slice_range xs at (at + done)) (slice_range xs from (from + done))
 
+  -- before the first piece nothing is combined from the front
   pub front_none : xs ≡ put xs at (front 0)
   front_none = sym (ap (λ l. put xs at (combined f l (slice_range xs from (from + 0)))) (run_none xs at (at + 0) (omega arith)) ∙ put_none xs at)
 
+  -- one piece more is combined from the front
   pub front_more : (zs : List Bool) (done m : ℕ) → at ≤ from → zs ≡ put xs at (front done) → done + m ≤ n
       → put zs (at + done) (combined f (slice_range zs (at + done) (at + done + m)) (slice_range zs (from + done) (from + done + m))) ≡ put xs at (front (done + m))
   front_more zs done m order is few =
@@ -56,9 +58,11 @@ module _ (f : Bool → Bool → Bool) (xs : List Bool) (from at n : ℕ) (source
   abbrev pub rest : ℕ → List Bool
   rest left = combined f (slice_range xs (at + left) (at + n)) (slice_range xs (from + left) (from + n))
 
+  -- before the first piece nothing is combined from the end
   pub rest_none : xs ≡ put xs (at + n) (rest n)
   rest_none = sym (ap (λ l. put xs (at + n) (combined f l (slice_range xs (from + n) (from + n)))) (run_none xs (at + n) (at + n) (omega arith)) ∙ put_none xs (at + n))
 
+  -- one piece more is combined from the end
   pub rest_more : (zs : List Bool) (left m : ℕ) → from ≤ at → zs ≡ put xs (at + (left + m)) (rest (left + m)) → left + m ≤ n
       → put zs (at + left) (combined f (slice_range zs (at + left) (at + left + m)) (slice_range zs (from + left) (from + left + m))) ≡ put xs (at + left) (rest left)
   rest_more zs left m order is few =

@@ -21,6 +21,7 @@ use Rattle.bit_slice.specs.Texts.{spaced}
 
 -- ---- the bits of a number
 
+-- the bits of a list's number are the list
 pub bits_of_number : (ms : List Bool) (n : ℕ) → length ms ≡ n → number_bits (number_of ms) n ≡ ms
 unfolding number_bits
 bits_of_number ms n size =
@@ -36,6 +37,7 @@ number_below ms n size = subst (λ k. number_of ms < 2 ^ k) size (mask_l-lt ms)
 pub run_of_number : (zs : List Bool) (x at n : ℕ) → at + n ≤ length zs → x ≡ number_of (slice_range zs at (at + n)) → number_bits x n ≡ slice_range zs at (at + n)
 run_of_number zs x at n inside is = ap (λ y. number_bits y n) is ∙ bits_of_number (slice_range zs at (at + n)) n (length-run zs at n inside)
 
+-- one bit more of a number is its next bit
 pub number_bits_more : (x n : ℕ) → number_bits x (n + 1) ≡ number_bits x n ++ has_bit x n ∷ []
 unfolding number_bits
 number_bits_more x n = map-range_with_len_more (has_bit x) 0 n n (omega arith)
@@ -58,6 +60,7 @@ number_bits_next x y n b change =
 
 -- ---- digits after commas
 
+-- the text of two lists is the texts one after the other
 pub spaced-append : (xs ys : List Bool) → spaced (xs ++ ys) ≡ spaced xs ++ spaced ys
 spaced-append [] ys = refl
 spaced-append (x ∷ xs) ys = ap (λ l. 44 ∷ 32 ∷ digit_of x ∷ l) (spaced-append xs ys)
@@ -77,6 +80,7 @@ pub joined_spaced : (b : Bool) (bits : List Bool) → joined (b ∷ bits) ≡ di
 joined_spaced b [] = refl
 joined_spaced b (c ∷ bits) = ap (λ l. digit_of b ∷ 44 ∷ 32 ∷ l) (joined_spaced c bits)
 
+-- the text of two adjoining parts is that of both
 pub spaced_runs : (xs : List Bool) (a b c : ℕ) → a ≤ b → b ≤ c → c ≤ length xs → spaced (slice_range xs a b) ++ spaced (slice_range xs b c) ≡ spaced (slice_range xs a c)
 spaced_runs xs a b c h k l = sym (spaced-append (slice_range xs a b) (slice_range xs b c)) ∙ ap spaced (slices_joined xs a b c h k l)
 
@@ -96,6 +100,7 @@ text_whole (x ∷ ys) d n from upto some is at one more end =
 
 -- a run of a view's list stands in the row of its words
 module _ {X Y : Type 0} (W : store.Ghosts X) (P : order.Ghosts Y) (v : BitSlice X Y W P) where
+  -- a chunk of the row from the head on is one of the list
   pub chunk_of_list : (from n : ℕ) → from + n ≤ v.len → slice_range (row W P v.words.now) (v.head + from) (v.head + from + n) ≡ slice_range (list_of v) from (from + n)
   chunk_of_list from n within =
       let bits = row W P v.words.now in

@@ -38,7 +38,7 @@ range_of run = record { start = run.start; end = run.end }
 abbrev pub ranges_with : Bool → List BitRun → List (Range ℕ)
 ranges_with bit runs = map range_of (filter (λ run. is_bit bit run.bit) runs)
 
--- the ranges of the indices with this bit, ascending, each as long as it is
+-- the ranges of the indices with this bit, ascending, each a whole run
 abbrev pub ranges_of : Bool → List Bool → List (Range ℕ)
 ranges_of bit xs = ranges_with bit (runs_of xs)
 

@@ -40,7 +40,7 @@ impl<'a, T: BitStore, O: BitOrder> Counted<'a, T, O> {
         }
     }
 
-    /// How many bits the view has.
+    /// The number of bits of the view.
     pub fn len(&self) -> usize
         ensures value { result ≡ len_of self.now }
         ensures few { result ≤ MAX_BITS }
@@ -87,7 +87,7 @@ impl<'a, T: BitStore, O: BitOrder> Counted<'a, T, O> {
         )
     }
 
-    /// How many bits are true. Each word of the view is read once at most.
+    /// The number of true bits. Each word of the view is read once at most.
     pub fn count_ones_counted(&mut self) -> usize
         ensures value { result ≡ count_by (λ b. b) (list_of self.old) }
         ensures view { WasRead self.old self.new }

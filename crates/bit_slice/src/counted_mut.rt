@@ -61,7 +61,7 @@ impl<'a, T: BitStore, O: BitOrder> CountedMut<'a, T, O> {
         CountedMut::of(words, head, len)
     }
 
-    /// How many bits the view has.
+    /// The number of bits of the view.
     pub fn len(&self) -> usize
         ensures value { result ≡ len_of self.now }
         ensures few { result ≤ MAX_BITS }

@@ -108,7 +108,7 @@ impl<'a, T: BitStore, O: BitOrder> DoubleEndedIterator for Iter<'a, T, O> {
 }
 
 impl<'a, T: BitStore, O: BitOrder> ExactSizeIterator for Iter<'a, T, O> {
-    /// How many bits are left.
+    /// The number of bits left.
     fn len(&self) -> usize {
         self.upto - self.from
     }

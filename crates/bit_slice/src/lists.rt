@@ -50,7 +50,7 @@ pub trait BitList {
     // The index, in its first word, at which the list begins.
     ghost head: { Self → ℕ };
 
-    // How many bits the list has.
+    // The number of bits of the list.
     ghost len: { Self → ℕ };
 
     // The bits, the first first.
@@ -85,7 +85,7 @@ pub trait BitList {
         self.as_bitslice().head()
     }
 
-    /// How many bits there are.
+    /// The number of bits.
     ///
     /// ```text
     /// of 01101001: bits.len() == 8
@@ -158,7 +158,7 @@ pub trait BitList {
         self.as_bitslice().last()
     }
 
-    /// How many bits are true.
+    /// The number of true bits.
     ///
     /// ```text
     /// of 01101001: bits.count_ones() == 4
@@ -170,7 +170,7 @@ pub trait BitList {
         self.as_bitslice().count_ones()
     }
 
-    /// How many bits are false.
+    /// The number of false bits.
     ///
     /// ```text
     /// of 01101001: bits.count_zeros() == 4
@@ -220,7 +220,7 @@ pub trait BitList {
         ).is_none()
     }
 
-    /// How many bits at a range of indices are true. Requires that the range lies in the length.
+    /// The number of bits at a range of indices that are true. Requires that the range lies in the length.
     ///
     /// ```text
     /// of 01101001: bits.count_ones_in(1..5) == 3
@@ -361,7 +361,7 @@ pub trait BitList {
         any_pair::<And, Self::Store, Self::Order, U, P>(view, other, view.len.min(other.len))
     }
 
-    /// How many indices are true both here and in `other`.
+    /// The number of indices that are true both here and in `other`.
     ///
     /// ```text
     /// of 01101001 and 11110000: bits.count_and(other) == 2
@@ -374,7 +374,7 @@ pub trait BitList {
         count_pairs::<And, Self::Store, Self::Order, U, P>(view, other, view.len.min(other.len))
     }
 
-    /// How many indices are true here or in `other`. The shorter list counts as filled up with false.
+    /// The number of indices that are true here or in `other`. The shorter list counts as filled up with false.
     ///
     /// ```text
     /// of 01101001 and 11110000: bits.count_or(other) == 6
@@ -392,7 +392,7 @@ pub trait BitList {
         shared + view.ones_from(both) + other.ones_from(both)
     }
 
-    /// How many indices differ from those of `other`. The shorter list counts as filled up with false.
+    /// The number of indices that differ from those of `other`. The shorter list counts as filled up with false.
     ///
     /// ```text
     /// of 01101001 and 11110000: bits.count_xor(other) == 4
@@ -410,7 +410,7 @@ pub trait BitList {
         shared + view.ones_from(both) + other.ones_from(both)
     }
 
-    /// How many indices are true here, and false in `other` or past its end.
+    /// The number of indices that are true here, and false in `other` or past its end.
     ///
     /// ```text
     /// of 01101001 and 11110000: bits.count_and_not(other) == 2
@@ -705,7 +705,7 @@ pub trait BitList {
         nth_from::<Self::Store, Self::Order>(self.as_bitslice(), 0, k, false)
     }
 
-    /// How many bits at the front are true, up to the first that is false.
+    /// The number of bits at the front that are true, up to the first that is false.
     ///
     /// ```text
     /// of 01101001: bits.leading_ones() == 0
@@ -723,7 +723,7 @@ pub trait BitList {
         }
     }
 
-    /// How many bits at the front are false, up to the first that is true.
+    /// The number of bits at the front that are false, up to the first that is true.
     ///
     /// ```text
     /// of 01101001: bits.leading_zeros() == 1
@@ -741,7 +741,7 @@ pub trait BitList {
         }
     }
 
-    /// How many bits at the end are true, after the last that is false.
+    /// The number of bits at the end that are true, after the last that is false.
     ///
     /// ```text
     /// of 01101001: bits.trailing_ones() == 1
@@ -760,7 +760,7 @@ pub trait BitList {
         }
     }
 
-    /// How many bits at the end are false, after the last that is true.
+    /// The number of bits at the end that are false, after the last that is true.
     ///
     /// ```text
     /// of 01101001: bits.trailing_zeros() == 0
@@ -870,7 +870,7 @@ pub trait BitList {
         self.as_bitslice().iter_runs()
     }
 
-    /// The ranges of the indices whose bits are `bit`, ascending, each as long as it is. 64 bits are read at a time.
+    /// The ranges of the indices whose bits are `bit`, ascending, each a whole run. 64 bits are read at a time.
     ///
     /// ```text
     /// of 01101001: bits.iter_ranges(true) gives 1..3, 4..5, 7..8

@@ -33,10 +33,10 @@ use bit_rows::{And, BitOperator, Or, Xor, flip_words};
 
 /// A list of bits that is written: a view for writing, an array, a box or a vector.
 pub trait BitListMut: BitList {
-    // How many words there are.
+    // The number of words.
     ghost count: { Self → ℕ };
 
-    // How many bits it has room for without new memory.
+    // The number of bits that it has room for without new memory.
     ghost capacity: { Self → ℕ };
 
     // The loan of its words, where they are borrowed: what is written lands in the words that were lent under this

@@ -37,9 +37,20 @@ use std::ops::Index;
 /// that begins at the head, in the row of its words by the order `O`. The head is in the first word,
 /// and the words are exactly those that the head and the length take. No call takes memory.
 ///
+/// ```rust
+/// use bit_addressing::Msb0;
+/// use bit_slice::{BitList, BitSlice};
+///
+/// let words = [0x1234_u16, 0x5678];
+/// let view = BitSlice::<u16, Msb0>::from_slice(&words);
+/// let part = view.get_range(4..12);
+/// println!(&rt; "{part}: {} ones, {} as a number", part.count_ones(), part.load_be())?;
+/// println!(&rt; "the next one from index 17 on: {:?}", view.next_one(17))?;
+/// ```
+///
 /// ```text
-/// let view = BitSlice::<u16, Msb0>::from_slice(&[0x1234]);
-/// view.get_range(4..8).count_ones() == 1
+/// [0, 0, 1, 0, 0, 0, 1, 1]: 3 ones, 35 as a number
+/// the next one from index 17 on: Some(17)
 /// ```
 pub struct BitSlice<'a, T: BitStore, O: BitOrder> {
     pub(crate) words: &'a [T],
@@ -161,7 +172,7 @@ impl<'a, T: BitStore, O: BitOrder> BitSlice<'a, T, O> {
         Counted::of(self.words, self.head, self.len)
     }
 
-    /// How many bits the view has.
+    /// The number of bits of the view.
     ///
     /// ```text
     /// of 01101001: bits.len() == 8
@@ -285,7 +296,7 @@ impl<'a, T: BitStore, O: BitOrder> BitSlice<'a, T, O> {
         Iter::new(self.words, self.head, self.head + self.len)
     }
 
-    /// How many bits are true, by whole words where it can.
+    /// The number of true bits, by whole words where it can.
     ///
     /// ```text
     /// of 01101001: bits.count_ones() == 4

@@ -30,10 +30,19 @@ use std::ops::Index;
 /// words that it borrows. A call that writes changes no bit outside the run, and keeps the head and the
 /// length. No call takes memory.
 ///
+/// ```rust
+/// use bit_addressing::Msb0;
+/// use bit_slice::{BitListMut, BitSliceMut};
+///
+/// let mut words = [0x1234_u16, 0];
+/// let mut view = BitSliceMut::<u16, Msb0>::from_slice_mut(&mut words);
+/// view.copy_within(0..16, 16);
+/// view.fill_range(0..4, true);
+/// println!(&rt; "{:x} {:x}", words[0], words[1])?;
+/// ```
+///
 /// ```text
-/// let mut words = [0x1234_u16];
-/// BitSliceMut::<u16, Msb0>::from_slice_mut(&mut words).set(4, true);
-/// words == [0x1a34]
+/// f234 1234
 /// ```
 #[derive(Drop)]
 pub struct BitSliceMut<'a, T: BitStore, O: BitOrder> {
@@ -159,7 +168,7 @@ impl<'a, T: BitStore, O: BitOrder> BitSliceMut<'a, T, O> {
         CountedMut::of(&mut *self.words, head, len)
     }
 
-    /// How many bits the view has.
+    /// The number of bits of the view.
     ///
     /// ```text
     /// of 01101001: bits.len() == 8
@@ -243,7 +252,7 @@ impl<'a, T: BitStore, O: BitOrder> BitSliceMut<'a, T, O> {
         self.as_bitslice().iter()
     }
 
-    /// How many bits are true.
+    /// The number of true bits.
     ///
     /// ```text
     /// of 01101001: bits.count_ones() == 4

@@ -22,12 +22,22 @@ pub struct Full;
 ///
 /// In contracts such a list `s` is `front (row (A.words s.array)) s.len`: the first `s.len` bits of its words.
 ///
-/// ```text
+/// ```rust
+/// use bit_addressing::Lsb0;
+/// use bit_slice::{BitList, BitListMut};
+/// use bit_small::SmallBits;
+///
 /// let mut flags = SmallBits::<u32, Lsb0>::new();
 /// flags.push(true)?;
 /// flags.push(false)?;
-/// flags.count_ones()      // 1
-/// flags.pop()             // Some(false)
+/// flags.set(1, true);
+/// println!(&rt; "{} ones of {} bits, room for {}", flags.count_ones(), flags.len(), flags.capacity())?;
+/// println!(&rt; "{:?}, then {}", flags.pop(), flags.as_bitslice())?;
+/// ```
+///
+/// ```text
+/// 2 ones of 2 bits, room for 32
+/// Some(true), then [1]
 /// ```
 #[derive(Drop)]
 pub struct SmallBits<A: BitWords = [usize; 1], O: BitOrder = Lsb0> {
@@ -64,7 +74,7 @@ impl<A: BitWords, O: BitOrder> SmallBits<A, O> {
         }
     }
 
-    /// How many bits it has room for: all of its words.
+    /// The number of bits that it has room for: all of its words.
     ///
     /// ```text
     /// SmallBits::<[u8; 2], Lsb0>::new().capacity() == 16

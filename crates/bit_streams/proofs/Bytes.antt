@@ -9,15 +9,18 @@ use Rattle.bit_streams.specs.Codes.{leb_bytes}
 use Rattle.bit_streams.specs.Fields.{items_bits}
 use Rattle.bit_streams.specs.Refusals.{LebEnds, LebPadded, LebPasses}
 
+-- with no further bytes a number is one byte
 pub leb_none : (m x : ℕ) → m ≡ 0 → leb_bytes m x ≡ binary 8 x
 unfolding leb_bytes
 leb_none m x none = rw none refl
 
+-- a number below 128 is one byte
 pub leb_last : (m x : ℕ) → x < 128 → leb_bytes m x ≡ binary 8 x
 unfolding leb_bytes
 leb_last zero x h = refl
 leb_last (suc m) x h = rw (lt-ltb x 128 h) refl
 
+-- a larger number is its low seven bits, marked, and the rest
 pub leb_more : (m x : ℕ) → 0 < m → 128 ≤ x → leb_bytes m x ≡ binary 8 (x % 128 + 128) ++ leb_bytes (m - 1) (x / 128)
 unfolding leb_bytes
 leb_more zero x some h = absurd (omega arith)
@@ -31,6 +34,7 @@ leb_read m byte upper more some high low =
     leb_more m (upper * 128 + byte % 128) more (omega arith)
     ∙ ap (λ b. binary 8 b ++ leb_bytes (m - 1) ((upper * 128 + byte % 128) / 128)) first ∙ ap (λ u. binary 8 byte ++ leb_bytes (m - 1) u) rest
 
+-- the rest of a number fits the bytes that are left
 pub leb_within : (m x : ℕ) → 0 < m → x < 2 ^ (8 + 7 * m) → x / 128 < 2 ^ (8 + 7 * (m - 1))
 leb_within m x some h =
     let more : 8 + 7 * m ≡ 8 + 7 * (m - 1) + 7 = omega arith in
@@ -47,6 +51,7 @@ pub record FirstByte (m x : ℕ) (old more : List Bool) : Type 0 where
   pub last_is : x < 128 → (byte ≡ x) × (tail ≡ more)
   pub more_is : 0 < m → 128 ≤ x → (byte ≡ x % 128 + 128) × (tail ≡ leb_bytes (m - 1) (x / 128) ++ more)
 
+-- the first byte of a number tells whether more follow
 pub first_byte : (m x : ℕ) (old more : List Bool) → x < 2 ^ (8 + 7 * m) → old ≡ leb_bytes m x ++ more → FirstByte m x old more
 first_byte zero x old more h e = record {
   byte = x;
@@ -92,6 +97,7 @@ ends_on old mid byte m is high more p =
       p.5,
     )
 
+-- a marked byte before a padded number makes one that is padded
 pub padded_on : (old mid : List Bool) (byte m : ℕ) → old ≡ binary 8 byte ++ mid → 128 ≤ byte → 0 < m → LebPadded (m - 1) mid → LebPadded m old
 padded_on old mid byte m is high more p =
     let size = p.4 in (
@@ -125,6 +131,7 @@ passes_here old mid new byte m upper is next past high low more = (
       ∙ ap (λ l. l ++ new) (sym (leb_read m byte upper more (omega arith) high low)),
 )
 
+-- a marked byte before a number that is too long makes one that is
 pub passes_on : (old mid : List Bool) (byte m : ℕ) → old ≡ binary 8 byte ++ mid → 128 ≤ byte → byte < 256 → 0 < m → LebPasses (m - 1) mid → LebPasses m old
 passes_on old mid byte m is high low more p =
     let past = p.1 in passes_here old mid p.2 byte m p.0 is p.3 (omega arith) high low more

@@ -26,14 +26,17 @@ parts_opened old more xs ys code is parts = is ∙ ap (λ l. l ++ more) parts �
 
 -- ---- Rice's code
 
+-- a Rice code is the unary quotient and the remainder's digits
 pub rice_joined : (k q r : ℕ) → rice k (q * 2 ^ k + r % 2 ^ k) ≡ unary q ++ binary k r
 rice_joined k q r =
     ap (λ u. unary u ++ binary k (q * 2 ^ k + r % 2 ^ k)) (div-mul-add q (2 ^ k) (r % 2 ^ k) (mod_below r (2 ^ k) (pow_pos k)))
     ∙ ap (λ l. unary q ++ l) (digits_joined k q r)
 
+-- the Rice code of a number, by its quotient and remainder
 pub rice_parted : (k x : ℕ) → rice k x ≡ unary (x / 2 ^ k) ++ binary k (x % 2 ^ k)
 rice_parted k x = ap (λ l. unary (x / 2 ^ k) ++ l) (sym (binary_low k x))
 
+-- the remainder of a remainder is itself
 pub low_twice : (k x : ℕ) → x % 2 ^ k % 2 ^ k ≡ x % 2 ^ k
 low_twice k x = mod-eq_of_lt (mod_below x (2 ^ k) (pow_pos k))
 
@@ -41,17 +44,20 @@ low_twice k x = mod-eq_of_lt (mod_below x (2 ^ k) (pow_pos k))
 pub number_joined : (k x : ℕ) → x / 2 ^ k * 2 ^ k + x % 2 ^ k % 2 ^ k ≡ x
 number_joined k x = ap (λ r. x / 2 ^ k * 2 ^ k + r) (low_twice k x) ∙ div-add-mod' x (2 ^ k)
 
+-- a quotient at most the largest fits its digits
 pub quotient_fits : (k q : ℕ) → k < 64 → q ≤ 18446744073709551615 / 2 ^ k → q < 2 ^ (64 - k)
 quotient_fits k q few h =
     let whole : 2 ^ (64 - k) * 2 ^ k ≡ 2 ^ 64 = sym (pow-add 2 (64 - k) k) ∙ ap (λ e. 2 ^ e) (let e : 64 - k + k ≡ 64 = omega arith in e) in
     let most : 18446744073709551615 / 2 ^ k < 2 ^ (64 - k) = (div-lt_iff_lt-mul (pow_pos k)).1 (subst (λ e. 18446744073709551615 < e) (sym whole) (omega arith)) in
     omega arith
 
+-- a quotient above the largest makes a number past 64 bits
 pub quotient_past : (k q : ℕ) → 18446744073709551615 / 2 ^ k < q → 2 ^ 64 ≤ q * 2 ^ k
 quotient_past k q h =
     let past = (div-lt_iff_lt-mul {k = 2 ^ k} {x = 18446744073709551615} {y = q} (pow_pos k)).0 h in
     omega arith
 
+-- a quotient at most the largest makes a number of 64 bits
 pub quotient_below : (k q : ℕ) → q ≤ 18446744073709551615 / 2 ^ k → q * 2 ^ k < 2 ^ 64
 quotient_below k q h =
     let most = (le-div_iff_mul-le {k = 2 ^ k} {x = q} {y = 18446744073709551615} (pow_pos k)).0 h in
@@ -71,6 +77,7 @@ top_is x some below =
       subst (λ k. x < 2 ^ suc k) (sym is) t.3,
     )
 
+-- the highest bit of 2^t plus a remainder is t
 pub top_of_joined : (t r : ℕ) → t < 64 → top_place (1 * 2 ^ t + r % 2 ^ t) ≡ t
 top_of_joined t r few =
     let low = mod_below r (2 ^ t) (pow_pos t) in
@@ -78,10 +85,12 @@ top_of_joined t r few =
     let count : 63 - t ≡ leading_zeros w64 (1 * 2 ^ t + r % 2 ^ t) = leading_unique 64 (1 * 2 ^ t + r % 2 ^ t) (63 - t) (t + 1) (omega arith) (omega arith) (omega arith) in
     omega arith
 
+-- a gamma code is its unary length and the digits below the highest bit
 pub gamma_joined : (t r : ℕ) → t < 64 → gamma (1 * 2 ^ t + r % 2 ^ t) ≡ unary t ++ binary t r
 gamma_joined t r few =
     ap (λ k. unary k ++ binary k (1 * 2 ^ t + r % 2 ^ t)) (top_of_joined t r few) ∙ ap (λ l. unary t ++ l) (digits_joined t 1 r)
 
+-- the gamma code of a number, by its highest bit and the rest
 pub gamma_parted : (x : ℕ) → gamma x ≡ unary (top_place x) ++ binary (top_place x) (x % 2 ^ top_place x)
 gamma_parted x = ap (λ l. unary (top_place x) ++ l) (sym (binary_low (top_place x) x))
 
@@ -109,9 +118,11 @@ first_digit x some below =
         not_zero (suc zero) r a m e h less some = refl
         not_zero (suc (suc q)) r a m e h less some = absurd (omega arith)
 
+-- a delta code is the gamma code of its length and the digits below the highest bit
 pub delta_joined : (t r : ℕ) → t < 64 → delta (1 * 2 ^ t + r % 2 ^ t) ≡ gamma (t + 1) ++ binary t r
 delta_joined t r few =
     ap (λ k. gamma (k + 1) ++ binary k (1 * 2 ^ t + r % 2 ^ t)) (top_of_joined t r few) ∙ ap (λ l. gamma (t + 1) ++ l) (digits_joined t 1 r)
 
+-- the delta code of a number, by its highest bit and the rest
 pub delta_parted : (x : ℕ) → delta x ≡ gamma (top_place x + 1) ++ binary (top_place x) (x % 2 ^ top_place x)
 delta_parted x = ap (λ l. gamma (top_place x + 1) ++ l) (sym (binary_low (top_place x) x))

@@ -38,6 +38,7 @@ module _ (place : ℕ → ℕ → ℕ) where
   unfolding row_of
   row_none held pending = let d = length-binary held pending in omega arith
 
+  -- at the end of input only the held bits are left
   pub end_left : (old : Option (List ℕ)) (held pending : ℕ) → IsAtEnd old → IfSome (bits_left place held pending old) (λ bits. length bits ≡ held)
   end_left None held pending e = tt
   end_left (Some xs) held pending e =
@@ -61,6 +62,7 @@ module _ (place : ℕ → ℕ → ℕ) where
       ∙ append_assoc (row_of place 8 xs) (binary 8 (pending / 2 ^ left)) (binary left (pending % 2 ^ left))
       ∙ ap (λ l. row_of place 8 xs ++ l) (sym (binary_parted 8 left pending) ∙ ap (λ k. binary k pending) (sym is))
 
+  -- bytes kept keep the bits made of them
   pub kept_made : (old new : Option (List ℕ)) (held pending : ℕ) → Keeps old new → Stays (bits_made place held pending old) (bits_made place held pending new)
   kept_made None new held pending e = tt
   kept_made (Some xs) None held pending e = e
@@ -71,10 +73,12 @@ module _ (place : ℕ → ℕ → ℕ) where
   more_held None held pending n x = tt
   more_held (Some xs) held pending n x = ap (λ l. row_of place 8 xs ++ l) (joined_digits held n pending x) ∙ sym (append_assoc (row_of place 8 xs) (binary held pending) (binary n x))
 
+-- what was not touched stays
 pub stays_same : (a : Option (List Bool)) → Stays a a
 stays_same None = tt
 stays_same (Some xs) = refl
 
+-- a passage after nothing was touched is the whole passage
 pub passes_on : (a b c : Option (List Bool)) (bits : List Bool) → Stays a b → Passes b c bits → Passes a c bits
 passes_on None b c bits e f = tt
 passes_on (Some xs) None c bits e f = absurd e
@@ -83,9 +87,11 @@ passes_on (Some xs) (Some ys) (Some zs) bits e f = sym e ∙ f
 
 -- ---- numbers of 128 digits
 
+-- the remainder by a shifted 1 of 128 bits is that by the power
 pub wide_rest : (b x : ℕ) → b < 128 → x % (1 * 2 ^ b % 2 ^ 128) ≡ x % 2 ^ b
 wide_rest b x few = ap (λ k. x % (k % 2 ^ 128)) (let e : 1 * 2 ^ b ≡ 2 ^ b = omega arith in e) ∙ ap (λ k. x % k) (mod-eq_of_lt (pow_below b 128 few))
 
+-- digits below those held make one number
 pub wide_joined : (a b p x : ℕ) → b < 128 → a + b ≤ 128 → p < 2 ^ a → p * 2 ^ b % 2 ^ 128 + x % (1 * 2 ^ b % 2 ^ 128) ≡ p * 2 ^ b + x % 2 ^ b
 wide_joined a b p x few all small =
     let below = joined_below a b p x small in
@@ -93,6 +99,7 @@ wide_joined a b p x few all small =
     let whole : p * 2 ^ b % 2 ^ 128 ≡ p * 2 ^ b = mod-eq_of_lt (omega arith) in
     ap (λ k. k + x % (1 * 2 ^ b % 2 ^ 128)) whole ∙ ap (λ k. p * 2 ^ b + k) (wide_rest b x few)
 
+-- a byte after the held bits stays below their limit
 pub byte_below : (held pending x : ℕ) → pending < 2 ^ held → x < 2 ^ 8 → pending * 256 + x < 2 ^ (held + 8)
 byte_below held pending x small below =
     let j = joined_below held 8 pending x small in

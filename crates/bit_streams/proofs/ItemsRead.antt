@@ -7,6 +7,7 @@ use Rattle.std.proofs.lemmas.List.{length-append, nil_from_length}
 use Rattle.bit_streams.specs.Fields.{items_bits}
 
 module _ {X : Type 0} (bits : X → List Bool) where
+  -- the bits of one item more come after the others
   pub items_push : (xs : List X) (x : X) → items_bits bits (xs ++ x ∷ []) ≡ items_bits bits xs ++ bits x
   items_push [] x = append-nil (bits x)
   items_push (y ∷ xs) x = ap (λ l. bits y ++ l) (items_push xs x) ∙ sym (append_assoc (bits y) (items_bits bits xs) (bits x))
@@ -35,6 +36,7 @@ module _ {X : Type 0} (bits : X → List Bool) where
     pub fit : All fits left
     pub bits_are : rest ≡ bits next ++ (items_bits bits left ++ more)
 
+  -- while fewer items are read than there are, one more is coming
   pub next_of : (fits : X → Type 0) (xs items : List X) (rest more : List Bool) → length items < length xs → Coming fits xs items rest more → NextOf fits xs items rest more
   next_of fits xs items rest more short c = by_left c.left c.is c.fit c.bits_are
     where
@@ -49,6 +51,7 @@ module _ {X : Type 0} (bits : X → List Bool) where
         bits_are = bits_are ∙ append_assoc (bits y) (items_bits bits ys) more;
       }
 
+  -- after the next item is read the others are coming
   pub coming_on : (fits : X → Type 0) (xs items after : List X) (rest left_over more : List Bool) (x : X) (n : NextOf fits xs items rest more) → x ≡ n.next → left_over ≡ items_bits bits n.left ++ more → after ≡ items ++ x ∷ [] → Coming fits xs after left_over more
   coming_on fits xs items after rest left_over more x n same are is = record {
     left = n.left;
@@ -57,6 +60,7 @@ module _ {X : Type 0} (bits : X → List Bool) where
     bits_are = are;
   }
 
+  -- a property of one item is one of all of a single list
   pub all_one : (fits : X → Type 0) (x : X) → fits x → All fits (x ∷ [])
   all_one fits x h zero d below = h
   all_one fits x h (suc k) d below = absurd (omega arith)
@@ -74,6 +78,7 @@ module _ {X : Type 0} (bits : X → List Bool) where
     pub fit : All fits items
     pub back : (xs : List X) → (more : List Bool) → length xs ≡ n → All fits xs → old ≡ items_bits bits xs ++ more → Coming fits xs items now more
 
+  -- before the first item nothing is read
   pub none_so_far : (fits : X → Type 0) (old : List Bool) (n : ℕ) → SoFar fits old n [] old
   none_so_far fits old n = record {
     found = refl;

@@ -20,6 +20,7 @@ use Rattle.bit_addressing.specs.Binary.{value}
 use Rattle.bit_addressing.specs.Row.{binary}
 use Rattle.bit_rows.proofs.Binary.{length-binary, value_of_binary, binary_low, binary_parted}
 
+-- the first n items of two lists, the first of length n, are the first list
 pub take_front : (n : ℕ) (ys zs : List Bool) → length ys ≡ n → take n (ys ++ zs) ≡ ys
 take_front n ys zs e = ap (λ k. take k (ys ++ zs)) (sym e) ∙ take-append_seam ys zs
 
@@ -29,6 +30,7 @@ reads_back n x xs more e below =
     let long = length-binary n x in
     (ap (λ l. value (take n l)) e ∙ ap value (take_front n (binary n x) more long) ∙ value_of_binary n x below, ap (drop n) e ∙ drop_at (binary n x) more n long)
 
+-- a list that begins with n digits has at least n items
 pub has_digits : (n x : ℕ) (xs more : List Bool) → xs ≡ binary n x ++ more → n ≤ length xs
 has_digits n x xs more e =
     let long = length-binary n x in
@@ -38,12 +40,15 @@ has_digits n x xs more e =
 bit_here : (xs : List Bool) (at : ℕ) (b : Bool) → slice_get xs at ≡ Some b → (at < length xs) × (get_or xs at false ≡ b)
 bit_here xs at b e = (slice_get_within xs at b e, get_or_from_slice_get xs at b false e)
 
+-- equal lists have equal first items
 pub heads : {a b : Bool} {xs ys : List Bool} → a ∷ xs ≡ b ∷ ys → a ≡ b
 heads e = ap (λ l. get_or l 0 false) e
 
+-- equal lists have equal rests
 pub tails : {a b : Bool} {xs ys : List Bool} → a ∷ xs ≡ b ∷ ys → xs ≡ ys
 tails e = ap (drop 1) e
 
+-- past the end nothing is left
 pub none_left : (xs : List Bool) (at : ℕ) → slice_get xs at ≡ None → drop at xs ≡ []
 none_left xs at e = elim (cases_lt at (length xs)) [
   | inl l ↦ absurd (let q = slice_get-get_or xs at false l in cc)
@@ -52,6 +57,7 @@ none_left xs at e = elim (cases_lt at (length xs)) [
 
 -- ---- digits of two numbers joined
 
+-- the digits of a number joined of two are the digits of both
 pub joined_digits : (a b p x : ℕ) → binary (a + b) (p * 2 ^ b + x % 2 ^ b) ≡ binary a p ++ binary b x
 joined_digits a b p x =
     let low = mod_below x (2 ^ b) (pow_pos b) in
@@ -60,6 +66,7 @@ joined_digits a b p x =
     ∙ ap (λ l. binary a p ++ binary b l) (mod-mul-add p (2 ^ b) (x % 2 ^ b) low)
     ∙ ap (λ l. binary a p ++ l) (binary_low b x)
 
+-- a number joined of two is below the joined limit
 pub joined_below : (a b p x : ℕ) → p < 2 ^ a → p * 2 ^ b + x % 2 ^ b < 2 ^ (a + b)
 joined_below a b p x h =
     let low = mod_below x (2 ^ b) (pow_pos b) in
@@ -78,6 +85,7 @@ joined_fits a b p x few all small =
     let unit : 1 * 2 ^ b % 2 ^ 64 ≡ 2 ^ b = ap (λ k. k % 2 ^ 64) (let e : 1 * 2 ^ b ≡ 2 ^ b = omega arith in e) ∙ mod-eq_of_lt one in
     (ap (λ k. k + x % (1 * 2 ^ b % 2 ^ 64)) whole ∙ ap (λ k. p * 2 ^ b + x % k) unit, omega arith)
 
+-- the part over all is the list
 pub slice_whole : (n : ℕ) (xs : List Bool) → length xs ≡ n → slice_range xs 0 n ≡ xs
 slice_whole n xs size = same_lists _ _ (search (rules, places)) (λ i e below. grind (arith, places))
 
@@ -88,6 +96,7 @@ one_more old now b word i w so_far is room =
     ap (λ l. l ++ word) so_far ∙ append_assoc old (slice_range b 0 (i * w)) word
     ∙ ap (λ l. old ++ l) (ap (λ l. slice_range b 0 (i * w) ++ l) is ∙ slices_joined b 0 (i * w) (i * w + w) (omega arith) (omega arith) (omega arith) ∙ ap (slice_range b 0) next)
 
+-- with no bits waiting a block is written as it is
 pub nothing_waits : (p x : ℕ) → binary 64 x ≡ binary 0 p ++ binary 64 x
 unfolding binary
 nothing_waits p x = refl
@@ -104,15 +113,18 @@ block_written rs now count pending room rest n x block high low is block_is high
     ∙ ap (λ l. (rs ++ binary count pending) ++ l) (sym digits)
 
 module _ {X Y : Type 0} (W : store.Ghosts X) (P : order.Ghosts Y) where
+  -- the bits written are those of the words and those that wait
   pub written_length : (ws : List X) (count pending : ℕ) → length (row W P ws ++ binary count pending) ≡ W.BITS * length ws + count
   written_length ws count pending =
       let digits = length-binary count pending in
       let words : length (row W P ws) ≡ W.BITS * length ws = length_row W.value P.place W.BITS ws in
       length-append (row W P ws) (binary count pending) ∙ omega arith
 
+  -- before the first number nothing is written
   pub nothing_written : (ws : List X) → ws ≡ [] → row W P ws ++ binary 0 0 ≡ []
   nothing_written ws e = nil_from_length _ (written_length ws 0 0 ∙ (let l : W.BITS * length ws ≡ 0 = ap (λ v. W.BITS * length v) e ∙ omega arith in omega arith))
 
+-- a number that fits is not refused for its length
 pub not_refused : (wanted : ℕ) (old new : Writing) → wanted ≤ MAX_BITS → Refuses {A = Unit {0}} (Ok tt) wanted old new
 not_refused wanted old new h = record {
   too_long = (λ e. absurd cc, λ l. absurd (omega arith));
@@ -120,6 +132,7 @@ not_refused wanted old new h = record {
   unchanged = search rules;
 }
 
+-- a number past the longest list is refused, and nothing is written
 pub refused_long : (wanted : ℕ) (old : Writing) → MAX_BITS < wanted → Refuses {A = Unit {0}} (Err TooLong) wanted old old
 refused_long wanted old h = record {
   too_long = (λ e. h, λ l. refl);
@@ -127,6 +140,7 @@ refused_long wanted old h = record {
   unchanged = search rules;
 }
 
+-- where memory is refused the list is as it was
 pub refused_memory : (wanted : ℕ) (old new : Writing) → wanted ≤ MAX_BITS → old.capacity < wanted → new.list ≡ old.list → Refuses {A = Unit {0}} (Err OutOfMemory) wanted old new
 refused_memory wanted old new h full same = record {
   too_long = (λ e. absurd cc, λ l. absurd (omega arith));
@@ -134,14 +148,17 @@ refused_memory wanted old new h full same = record {
   unchanged = search (rules, same);
 }
 
+-- the remainder by a shifted 1 is that by the power
 pub one_shifted : (b x : ℕ) → b < 64 → x % (1 * 2 ^ b % 2 ^ 64) ≡ x % 2 ^ b
 one_shifted b x few = ap (λ k. x % (k % 2 ^ 64)) (let e : 1 * 2 ^ b ≡ 2 ^ b = omega arith in e) ∙ ap (λ k. x % k) (mod-eq_of_lt (pow_below b 64 few))
 
+-- one bit is one digit
 pub bit_digit : (b : Bool) → binary 1 (cond b 1 0) ≡ b ∷ []
 unfolding binary
 bit_digit true = refl
 bit_digit false = refl
 
+-- the digits read are what was passed
 pub passed_by : (n x : ℕ) (old new : Reading) → old.rest ≡ binary n x ++ new.rest → x < 2 ^ n → new.position ≡ old.position + n → Passed n old new
 passed_by n x old new is below at =
     let digits = length-binary n x in
@@ -152,15 +169,18 @@ passed_by n x old new is below at =
       left = omega arith;
     }
 
+-- a number of one digit is its bit
 pub bit_read : (x : ℕ) → x < 2 ^ 1 → binary 1 x ≡ nat_eq x 1 ∷ []
 unfolding binary
 bit_read zero h = refl
 bit_read (suc zero) h = refl
 bit_read (suc (suc x)) h = absurd (omega arith)
 
+-- a list with more appended begins as before
 pub begins_with : (old new more : List Bool) → new ≡ old ++ more → take (length old) new ≡ old
 begins_with old new more is = ap (take (length old)) is ∙ take_front (length old) old more refl
 
+-- equal counts pass the same
 pub passed_at : (n m : ℕ) (old new : Reading) → n ≡ m → Passed n old new → Passed m old new
 passed_at n m old new e p = subst (λ k. Passed k old new) e p
 
@@ -185,6 +205,7 @@ room_short w words more cap bits least short =
     let d = mul_comm w cap in
     omega arith
 
+-- what begins with a list that begins with another begins with that
 pub begins_through : (old mid new more : List Bool) → mid ≡ old ++ more → take (length mid) new ≡ mid → take (length old) new ≡ old
 begins_through old mid new more is begins =
     begins_with old new (more ++ drop (length mid) new)

@@ -13,6 +13,7 @@ use Rattle.bit_addressing.proofs.Runs.{mul_mono, slices_joined}
 use Rattle.bit_streams.proofs.Windows.{dropped, held_by_half, nothing_held, rest_parted, slice_empty, taken, taken_next}
 use Rattle.bit_streams.proofs.Zeros.{zeros_of}
 
+-- a padded row has 64 bits more
 pub length-padded : (row : List Bool) → length (padded row) ≡ length row + 64
 unfolding padded
 length-padded row = length-append row (replicate 64 false)
@@ -113,6 +114,7 @@ half_fits : (half have : ℕ) → half < 2 ^ 32 → have < 32 → half * 2 ^ (32
 half_fits half have below few = shl_whole half 32 (32 - have) 64 below (omega arith)
 
 module _ (row : List Bool) (w n start left end have window : ℕ) (r : IsReading row w n start left end have window) (size : length row ≡ w * n) where
+  -- the length of the rest is what is left
   pub length_rest : length (slice_range row (end - left) end) ≡ left
   length_rest =
       let begins = r.begins in

@@ -16,6 +16,7 @@ pub three_parts : (old first second new xs ys zs : List Bool) → old ≡ xs ++ 
 three_parts old first second new xs ys zs a b c =
     a ∙ ap (λ l. xs ++ l) (b ∙ ap (λ l. ys ++ l) c) ∙ sym (append_assoc xs ys (zs ++ new)) ∙ sym (append_assoc (xs ++ ys) zs new)
 
+-- three parts and a rest, grouped from the right
 pub three_opened : (old more xs ys zs : List Bool) → old ≡ ((xs ++ ys) ++ zs) ++ more → old ≡ xs ++ (ys ++ (zs ++ more))
 three_opened old more xs ys zs e = e ∙ append_assoc (xs ++ ys) zs more ∙ append_assoc xs ys (zs ++ more)
 
@@ -23,14 +24,17 @@ three_opened old more xs ys zs e = e ∙ append_assoc (xs ++ ys) zs more ∙ app
 pub part_size : (n : ℕ) (old new part : List Bool) → part ≡ take n old → length new + n ≡ length old → length part ≡ n
 part_size n old new part is left = ap length is ∙ length-take-le n old (omega arith)
 
+-- a part taken is the value, and the rest what follows
 pub part_is : (n : ℕ) (old new part value more : List Bool) → part ≡ take n old → new ≡ drop n old → old ≡ value ++ more → length value ≡ n → (part ≡ value) × (new ≡ more)
 part_is n old new part value more is rest e size = (is ∙ ap (take n) e ∙ take_front n value more size, rest ∙ ap (drop n) e ∙ drop_at value more n size)
 
+-- a value of n bits needs n bits
 pub part_there : (n : ℕ) (old value more : List Bool) → old ≡ value ++ more → length value ≡ n → n ≤ length old
 part_there n old value more e size = let sum = ap length e ∙ length-append value more in omega arith
 
 -- ---- tagged values
 
+-- a tag, a length and a value read in turn are a tagged value
 pub tagged_found : (old first second new value : List Bool) (tag bytes : ℕ) → old ≡ binary 8 tag ++ first → first ≡ binary 16 bytes ++ second → second ≡ value ++ new → length value ≡ 8 * bytes → old ≡ tagged_bits tag value ++ new
 tagged_found old first second new value tag bytes a b c size =
     let is : length value / 8 ≡ bytes = omega arith in
@@ -38,6 +42,7 @@ tagged_found old first second new value tag bytes a b c size =
 
 -- ---- lists with their length
 
+-- a length, bits and filling read in turn are a list with its length
 pub listed_found : (old first second new bits : List Bool) (len zeros : ℕ) → old ≡ binary 64 len ++ first → first ≡ bits ++ second → second ≡ binary ((8 - len % 8) % 8) zeros ++ new → length bits ≡ len → zeros ≡ 0 → old ≡ listed_bits bits ++ new
 listed_found old first second new bits len zeros a b c size none =
     let few : (8 - len % 8) % 8 ≤ 64 = omega arith in
@@ -46,12 +51,14 @@ listed_found old first second new bits len zeros a b c size none =
     ∙ ap (λ l. ((binary 64 len ++ bits) ++ l) ++ new) last
     ∙ ap (λ k. ((binary 64 k ++ bits) ++ replicate ((8 - k % 8) % 8) false) ++ new) (sym size)
 
+-- a list with its length is its length, its bits and its filling
 pub listed_opened : (old more bits : List Bool) → old ≡ listed_bits bits ++ more → old ≡ binary 64 (length bits) ++ (bits ++ (binary ((8 - length bits % 8) % 8) 0 ++ more))
 listed_opened old more bits e =
     let n = length bits in
     let few : (8 - n % 8) % 8 ≤ 64 = omega arith in
     three_opened old more (binary 64 n) bits (replicate ((8 - n % 8) % 8) false) e ∙ ap (λ l. binary 64 n ++ (bits ++ (l ++ more))) (sym (zeros_of ((8 - n % 8) % 8) few))
 
+-- a length, bits and filling written in turn are a list with its length
 pub listed_written : (old first second new bits : List Bool) (len : ℕ) → first ≡ old ++ binary 64 len → second ≡ first ++ bits → new ≡ second ++ binary ((8 - len % 8) % 8) 0 → len ≡ length bits → new ≡ old ++ listed_bits bits
 listed_written old first second new bits len a b c size =
     let few : (8 - len % 8) % 8 ≤ 64 = omega arith in

@@ -16,11 +16,13 @@ short_is m top some below is =
     let next : suc top ≡ top + 1 = omega arith in
     (subst (λ k. 2 ^ k ≤ m) (sym is) t.1, subst (λ k. m < 2 ^ k) next (subst (λ k. m < 2 ^ suc k) (sym is) t.2), pow-add 2 top 1, subst (λ k. k < 64) (sym is) t.0)
 
+-- a small remainder has the short code
 pub short_rest : (m top short r : ℕ) → top ≡ top_place m → short ≡ 2 ^ (top + 1) - m → r < short → rest_code m r ≡ binary top r
 short_rest m top short r is count h =
     let less : r < 2 ^ (top_place m + 1) - m = subst (λ k. r < 2 ^ (k + 1) - m) is (omega arith) in
     rw (lt-ltb r (2 ^ (top_place m + 1) - m) less) (ap (λ k. binary k r) (sym is))
 
+-- a larger remainder has the long code
 pub long_rest : (m top short r : ℕ) → top ≡ top_place m → short ≡ 2 ^ (top + 1) - m → short ≤ r → rest_code m r ≡ binary (top + 1) (r + short)
 long_rest m top short r is count h =
     let same : 2 ^ (top_place m + 1) - m ≡ short = ap (λ k. 2 ^ (k + 1) - m) (sym is) ∙ sym count in
@@ -49,6 +51,7 @@ parity y = by_rest (y % 2) (mod_below y 2 (omega arith)) (div-add-mod' y 2)
     by_rest (suc zero) h e = (true, sym e)
     by_rest (suc (suc r)) h e = absurd (omega arith)
 
+-- a long code read digit by digit is the remainder's
 pub rest_found_long : (m top short r digit : ℕ) (b : Bool) (old mid new : List Bool) → top ≡ top_place m → short ≡ 2 ^ (top + 1) - m → short ≤ r → digit ≡ cond b 1 0 → old ≡ binary top r ++ mid → mid ≡ b ∷ new
     → old ≡ rest_code m (r - short + r + digit) ++ new
 rest_found_long m top short r digit b old mid new is count h is_digit first next =
@@ -66,6 +69,7 @@ pub record FirstDigits (top short x : ℕ) (old more : List Bool) : Type 0 where
   pub short_is : x < short → (digits ≡ x) × (tail ≡ more)
   pub long_is : short ≤ x → (short ≤ digits) × ((b : Bool) × ((x + short ≡ digits * 2 + cond b 1 0) × (tail ≡ b ∷ more)))
 
+-- the first digits of a remainder tell whether its code is short
 pub first_digits : (m top short x : ℕ) (old more : List Bool) → 2 ^ top ≤ m → m < 2 ^ (top + 1) → 2 ^ (top + 1) ≡ 2 ^ top * 2 → top ≡ top_place m → short ≡ 2 ^ (top + 1) - m → x < m → old ≡ rest_code m x ++ more → FirstDigits top short x old more
 first_digits m top short x old more least most double is count below e = elim (cases_lt x short) [
   | inl l ↦ record {
@@ -98,11 +102,14 @@ first_digits m top short x old more least most double is count below e = elim (c
 
 -- ---- the quotient
 
+-- a Golomb code is the unary quotient and the remainder's code
 pub golomb_joined : (m q r : ℕ) → r < m → golomb m (q * m + r) ≡ unary q ++ rest_code m r
 golomb_joined m q r h = ap (λ k. unary k ++ rest_code m ((q * m + r) % m)) (div-mul-add q m r h) ∙ ap (λ k. unary q ++ rest_code m k) (mod-mul-add q m r h)
 
+-- a quotient above the largest makes a product past the limit
 pub product_past : (q a m : ℕ) → 0 < m → a / m < q → a < q * m
 product_past q a m positive h = (div-lt_iff_lt-mul {k = m} {x = a} {y = q} positive).0 h
 
+-- a 1 moved up by t is 2^t
 pub one_shl : (t : ℕ) → t < 64 → 1 * 2 ^ t % 2 ^ 64 ≡ 2 ^ t
 one_shl t few = ap (λ k. k % 2 ^ 64) (let e : 1 * 2 ^ t ≡ 2 ^ t = omega arith in e) ∙ mod-eq_of_lt (pow_below t 64 few)

@@ -16,6 +16,7 @@ bits_unique n x y xs ys few below_x below_y e =
       sym (drop_at (number_bits x n) xs n long_x) ∙ ap (drop n) e ∙ drop_at (number_bits y n) ys n long_y,
     )
 
+-- a list that begins with n bits of a number has at least n items
 pub has_bits : (n x : ℕ) (xs more : List Bool) → xs ≡ number_bits x n ++ more → n ≤ length xs
 has_bits n x xs more e =
     let long = length-number_bits x n in

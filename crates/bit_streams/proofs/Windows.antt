@@ -41,12 +41,14 @@ mod_scaled v m c pm pc =
     ap (λ k. k % (m * c)) split ∙ mod-mul-add (v / m) (m * c) (v % m * c) less
 
 module _ (row : List Bool) (from have window n : ℕ) (some : 0 < n) (held : IsHeld row from have window) where
+  -- the highest bits of the register are the first bits held
   pub top_of_held : n ≤ have → window / 2 ^ (64 - n) ≡ held.number / 2 ^ (have - n)
   top_of_held within =
       let few = held.few in
       ap (λ k. k / 2 ^ (64 - n)) held.is ∙ ap (λ k. held.number * 2 ^ (64 - have) / k) (pow_parts (64 - n) (have - n) (64 - have) (omega arith))
       ∙ mul-div-mul_right {m = 2 ^ (64 - have)} held.number (2 ^ (have - n)) (pow_pos (64 - have))
 
+  -- the register moved up by n holds the rest
   pub left_in_held : n ≤ have → window * 2 ^ n % 2 ^ 64 ≡ held.number % 2 ^ (have - n) * 2 ^ (64 - (have - n))
   left_in_held within =
       let few = held.few in
@@ -82,6 +84,7 @@ module _ (row : List Bool) (from have window n : ℕ) (some : 0 < n) (held : IsH
 
 -- the register is used up, and the rest comes out of the next 64 bits
 module _ (row : List Bool) (from have window n block : ℕ) (held : IsHeld row from have window) where
+  -- digits taken across the register's end are those of the row
   pub taken_over : have < n → n ≤ 64 → from + have + 64 ≤ length row → binary 64 block ≡ slice_range row (from + have) (from + have + 64)
       → (binary n (window / 2 ^ (64 - n) + block / 2 ^ (64 - (n - have)) % 2 ^ (n - have)) ≡ slice_range row from (from + n))
       × (window / 2 ^ (64 - n) + block / 2 ^ (64 - (n - have)) % 2 ^ (n - have) < 2 ^ n)
@@ -117,6 +120,7 @@ module _ (row : List Bool) (from have window n block : ℕ) (held : IsHeld row f
         },
       )
 
+-- a part between equal ends is empty
 pub slice_empty : (row : List Bool) (a b : ℕ) → a ≡ b → slice_range row a b ≡ []
 slice_empty row a b e = same_lists _ _ (search (rules, places)) (λ i d below. grind (arith, places))
 
@@ -157,6 +161,7 @@ taken_next row from have window n block held over few room below next =
       subst (λ k. IsHeld row (from + n) (64 - (n - have)) k) (sym (shifted_out block (64 - (n - have)) (n - have) (omega arith) (omega arith))) t.2,
     )
 
+-- the rest after n bits begins n bits later
 pub dropped : (row : List Bool) (from n end : ℕ) → from + n ≤ end → end ≤ length row → (drop n (slice_range row from end) ≡ slice_range row (from + n) end) × (length (slice_range row (from + n) end) + n ≡ length (slice_range row from end))
 dropped row from n end h room =
     let first : length (slice_range row from (from + n)) ≡ n = length-run row from n (omega arith) in
@@ -216,9 +221,11 @@ front_digits count n p h =
     sym (take_front n (binary n (p / 2 ^ (count - n))) (binary (count - n) (p % 2 ^ (count - n))) (length-binary n (p / 2 ^ (count - n))))
     ∙ ap (take n) (sym (binary_parted n (count - n) p) ∙ ap (λ k. binary k p) all)
 
+-- the first n of some bits are a number below 2^n
 pub front_below : (count n p : ℕ) → n ≤ count → p < 2 ^ count → p / 2 ^ (count - n) < 2 ^ n
 front_below count n p h small = (div-lt_iff_lt-mul (pow_pos (count - n))).1 (subst (λ k. p < k) (pow_parts count n (count - n) (omega arith)) small)
 
+-- a part of the unread part is a part of the row
 pub rest_taken : (row : List Bool) (start from end : ℕ) → start ≤ from → from ≤ end → end ≤ length row
     → slice_range (slice_range row start (start + (end - start))) (from - start) (end - start) ≡ slice_range row from end
 rest_taken row start from end begins h room = same_lists _ _ (search (rules, places)) (λ i d below. grind (arith, places))

@@ -11,6 +11,7 @@ use Rattle.bit_rows.proofs.Binary.{binary_low, binary_parted, get_or-binary, len
 use Rattle.bit_streams.specs.Codes.{unary}
 use Rattle.bit_streams.proofs.Lists.{heads, tails}
 
+-- filling up to a multiple reaches it
 pub aligned_at : (p m : ℕ) → 0 < m → (p + (m - p % m)) % m ≡ 0
 aligned_at p m some =
     let low = mod_below p m some in
@@ -19,10 +20,12 @@ aligned_at p m some =
     let e : p + (m - p % m) ≡ (p / m + 1) * m + 0 = omega arith in
     ap (λ k. k % m) e ∙ mod-mul-add (p / m + 1) m 0 some
 
+-- false bits after false bits are false bits
 pub zeros_joined : (a b : ℕ) → replicate a false ++ replicate b false ≡ replicate (a + b) false
 zeros_joined zero b = let e : 0 + b ≡ b = omega arith in rw e refl
 zeros_joined (suc a) b = let e : suc a + b ≡ suc (a + b) = omega arith in rw e (ap (λ l. false ∷ l) (zeros_joined a b))
 
+-- the digits of 0 are false bits
 pub block_of_zeros : binary 64 0 ≡ replicate 64 false
 unfolding binary
 block_of_zeros = refl
@@ -34,18 +37,21 @@ more_zeros old now k is =
     ap (λ l. l ++ binary 64 0) is ∙ append_assoc old (replicate (k * 64) false) (binary 64 0)
     ∙ ap (λ l. old ++ l) (ap (λ l. replicate (k * 64) false ++ l) block_of_zeros ∙ zeros_joined (k * 64) 64 ∙ ap (λ n. replicate n false) next)
 
+-- equal lists that begin with unary numbers begin with the same one
 pub same_unary : (a b : ℕ) (xs ys : List Bool) → unary a ++ xs ≡ unary b ++ ys → (a ≡ b) × (xs ≡ ys)
 same_unary zero zero xs ys e = (refl, tails e)
 same_unary zero (suc b) xs ys e = absurd (let h = heads e in cc)
 same_unary (suc a) zero xs ys e = absurd (let h = heads e in cc)
 same_unary (suc a) (suc b) xs ys e = let r = same_unary a b xs ys (tails e) in (ap suc r.0, r.1)
 
+-- false bits alone begin with no unary number
 pub no_one : (n q : ℕ) (ys : List Bool) → replicate n false ≡ unary q ++ ys → ⊥
 no_one zero zero ys e = let l = ap length e in absurd (omega arith)
 no_one zero (suc q) ys e = let l = ap length e in absurd (omega arith)
 no_one (suc n) zero ys e = absurd (let h = heads e in cc)
 no_one (suc n) (suc q) ys e = no_one n q ys (tails e)
 
+-- false bits and then a true one are a unary number
 pub one_passed : (old now rest : List Bool) (q : ℕ) → old ≡ replicate q false ++ now → now ≡ true ∷ rest → old ≡ unary q ++ rest
 one_passed old now rest q is next = is ∙ ap (λ l. replicate q false ++ l) next ∙ sym (append_assoc (replicate q false) (true ∷ []) rest)
 
@@ -56,6 +62,7 @@ digit_of_one i =
     let none : 1 / 2 ^ suc i ≡ 0 = div-eq_of_lt (omega arith) in
     ap (λ k. eqb (k % 2) 1) none
 
+-- the digits of 1 are a unary number
 pub last_digits : (r : ℕ) → binary (r + 1) 1 ≡ unary r
 last_digits r =
     let long = length-binary (r + 1) 1 in
@@ -100,11 +107,14 @@ block_of_ones : binary 64 18446744073709551615 ≡ replicate 64 true
 unfolding binary
 block_of_ones = refl
 
+-- n digits of 0 are false bits
 pub zeros_of : (n : ℕ) → n ≤ 64 → binary n 0 ≡ replicate n false
 zeros_of n few = filled_digits n 0 false few block_of_zeros
 
+-- n digits of the largest number are true bits
 pub ones_of : (n : ℕ) → n ≤ 64 → binary n 18446744073709551615 ≡ replicate n true
 ones_of n few = filled_digits n 18446744073709551615 true few block_of_ones
 
+-- where bits do not fill their words the filling is what is missing
 pub some_pad : (l m over : ℕ) → 0 < m → over ≡ l % m → 0 < over → (m - l % m) % m ≡ m - over
 some_pad l m over some is there = ap (λ k. (m - k) % m) (sym is) ∙ mod-eq_of_lt (omega arith)

@@ -19,11 +19,22 @@ use std::marker::{Model, PhantomData};
 /// In contracts a reader `r` is `r.rest`, the bits that are left, and `r.position`, how many bits it has passed. No call
 /// takes memory.
 ///
+/// ```rust
+/// use bit_addressing::Msb0;
+/// use bit_containers::BitSlice;
+/// use bit_streams::BitReader;
+///
+/// let words = [191_u8, 144, 96];
+/// let mut reader = BitReader::new(BitSlice::<u8, Msb0>::from_slice(&words));
+/// println!(&rt; "{:?}, {:?}", reader.read(3), reader.read(13))?;
+/// println!(&rt; "{:?}, {} left", reader.read_gamma(), reader.remaining())?;
+/// println!(&rt; "{:?}", reader.read(6))?;
+/// ```
+///
 /// ```text
-/// let mut reader = BitReader::new(bits);
-/// let kind = reader.read(3)?;
-/// let port = reader.read(13)?;
-/// reader.align(8)?;
+/// Some(5), Some(8080)
+/// Ok(3), 5 left
+/// None
 /// ```
 #[derive(Drop)]
 pub struct BitReader<'a, T: BitStore, O: BitOrder> {
@@ -176,7 +187,7 @@ impl<'a, T: BitStore, O: BitOrder> BitReader<'a, T, O> {
         }
     }
 
-    /// How many bits are left.
+    /// The number of bits left.
     #[inline(always)]
     pub fn remaining(&self) -> usize
         ensures value { result ≡ length self.now.rest }
@@ -185,7 +196,7 @@ impl<'a, T: BitStore, O: BitOrder> BitReader<'a, T, O> {
         self.left
     }
 
-    /// How many bits of the view the reader has passed.
+    /// The number of bits of the view that the reader has passed.
     #[inline(always)]
     pub fn position(&self) -> usize
         ensures { result ≡ self.now.position }

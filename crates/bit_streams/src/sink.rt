@@ -16,6 +16,21 @@ use std::marker::{Model, PhantomData};
 /// call that fails keeps all bits that were written before and adds none. In contracts a sink `s` is `s.list`, None where
 /// it isn't known which bytes the writer holds, and else Some of the bits that were written, and `s.held`, how many of them
 /// the writer has not taken yet.
+///
+/// ```rust
+/// use bit_addressing::Msb0;
+/// use bit_streams::BitSink;
+///
+/// let mut sink = BitSink::<_, Msb0>::new(Vec::<u8>::new(rt.alloc()));
+/// sink.write(3, 5)?;
+/// sink.write(14, 8080)?;
+/// sink.finish()?;
+/// println!(&rt; "{:?}", sink.into_inner().as_slice())?;
+/// ```
+///
+/// ```text
+/// [175, 200, 0]
+/// ```
 #[derive(Drop)]
 pub struct BitSink<W: Write, O: BitOrder> {
     inner: W,
@@ -85,7 +100,7 @@ impl<W: Write, O: BitOrder> BitSink<W, O> {
         inner
     }
 
-    /// How many bits the writer has not taken yet.
+    /// The number of bits that the writer has not taken yet.
     pub fn held(&self) -> u8
         ensures { result ≡ self.now.held }
     {

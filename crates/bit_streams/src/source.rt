@@ -26,6 +26,21 @@ pub enum SourceError {
 /// It asks for one byte at a time, and only for those that a number needs; wrap a file or a socket in a `BufReader`. In
 /// contracts a source `s` is `s.rest`, None where it isn't known which bytes the reader has left, and else Some of the bits
 /// that are left, and `s.held`, how many of them were taken from the reader.
+///
+/// ```rust
+/// use bit_addressing::Msb0;
+/// use bit_streams::BitSource;
+///
+/// let bytes = [191_u8, 144];
+/// let mut source = BitSource::<_, Msb0>::new(bytes.as_slice());
+/// println!(&rt; "{:?}, {} bits of the byte held", source.read(3)?, source.held())?;
+/// println!(&rt; "{:?}, then {:?}", source.read(13)?, source.read(1).is_err())?;
+/// ```
+///
+/// ```text
+/// 5, 5 bits of the byte held
+/// 8080, then true
+/// ```
 #[derive(Drop)]
 pub struct BitSource<R: Read, O: BitOrder> {
     inner: R,
@@ -158,7 +173,7 @@ impl<R: Read, O: BitOrder> BitSource<R, O> {
         Ok(())
     }
 
-    /// How many bits were taken from the reader and not read yet.
+    /// The number of bits that were taken from the reader and not read yet.
     pub fn held(&self) -> u8
         ensures { result ≡ self.now.held }
     {

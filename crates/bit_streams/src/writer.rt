@@ -21,12 +21,22 @@ use std::marker::{Model, PhantomData};
 /// what was written before stays. In contracts a writer `w` is `w.list`, the bits that were written, and `w.capacity`,
 /// how many there is room for.
 ///
-/// ```text
-/// let mut writer = BitWriter::<u8, Msb0>::new(alloc);
-/// writer.write(3, kind)?;
-/// writer.write(13, port)?;
+/// ```rust
+/// use bit_addressing::Msb0;
+/// use bit_streams::BitWriter;
+///
+/// let mut writer = BitWriter::<u8, Msb0>::new(rt.alloc());
+/// writer.write(3, 5)?;
+/// writer.write(13, 8080)?;
+/// writer.write_gamma(3)?;
 /// writer.align(8, false)?;
-/// let bits = writer.finish()?;
+/// println!(&rt; "{} bits", writer.len())?;
+/// println!(&rt; "in words {:?}", writer.finish()?.into_vec().as_slice())?;
+/// ```
+///
+/// ```text
+/// 24 bits
+/// in words [191, 144, 96]
 /// ```
 #[derive(Drop)]
 pub struct BitWriter<T: BitStore, O: BitOrder> {
@@ -109,7 +119,7 @@ impl<T: BitStore, O: BitOrder> BitWriter<T, O> {
         }
     }
 
-    /// How many bits were written.
+    /// The number of bits that were written.
     #[inline(always)]
     pub fn len(&self) -> usize
         ensures value { result ≡ length self.now.list }

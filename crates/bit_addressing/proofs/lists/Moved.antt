@@ -10,10 +10,12 @@ use Rattle.bit_addressing.specs.Row.{source_of, moved, sized}
 use Rattle.bit_addressing.proofs.lists.Shown.{get_or-run, length-run, shows_sized, shows_set, shrunk_shows}
 use Rattle.bit_addressing.proofs.Moves.{source_below}
 
+-- a move keeps the length
 pub length-moved : (xs : List Bool) (s d n : ℕ) → length (moved xs s d n) ≡ length xs
 unfolding moved
 length-moved xs s d n = length-map-range_with_len (λ j. get_or xs (source_of s d n j) false) 0 (length xs)
 
+-- a bit after a move is that of its source before it
 pub get_or-moved : (xs : List Bool) (s d n j : ℕ) → j < length xs → get_or (moved xs s d n) j false ≡ get_or xs (source_of s d n j) false
 unfolding moved
 get_or-moved xs s d n j h = get_or-map-range_with_len (λ j. get_or xs (source_of s d n j) false) 0 (length xs) j j false h (omega arith)
@@ -102,6 +104,7 @@ aligned_shows w xs head len positive fits =
 
 -- ---- whole calls
 
+-- the rest moved up by one and the bit set is the list with the bit inserted
 pub inserted_shows : (xs list : List Bool) (head len i : ℕ) (b : Bool) → slice_range xs head (head + len) ≡ list ++ b ∷ [] → len ≡ length list + 1 → i ≤ length list → head + len ≤ length xs → slice_range (set (moved xs (head + i) (head + i + 1) (len - 1 - i)) (head + i) b) head (head + len) ≡ insert list i b
 inserted_shows xs list head len i b pushed size h fits =
     let n : ℕ = len - 1 - i in
@@ -112,6 +115,7 @@ inserted_shows xs list head len i b pushed size h fits =
     ∙ ap (λ l. set l i b) (ap (λ d. slice_range (moved xs (head + i) d n) head (head + len)) next ∙ shows_moved xs head len i (i + 1) n (omega arith) (omega arith) fits ∙ ap (λ l. moved l i (i + 1) n) pushed ∙ ap (moved (list ++ b ∷ []) i (i + 1)) beyond)
     ∙ inserted list i b h
 
+-- the rest moved down by one and the last bit cut is the list without the bit
 pub removed_shows : (w : ℕ) (xs : List Bool) (head len i : ℕ) → 0 < w → i < len → head + len ≤ length xs → slice_range (sized w (moved xs (head + i + 1) (head + i) (len - 1 - i)) (head + (len - 1))) head (head + (len - 1)) ≡ remove (slice_range xs head (head + len)) i
 removed_shows w xs head len i positive h fits =
     let n : ℕ = len - 1 - i in
@@ -125,6 +129,7 @@ removed_shows w xs head len i positive h fits =
     ∙ ap (λ m. take m (moved list (i + 1) i (m - i))) less
     ∙ removed list i (omega arith)
 
+-- the last bit set in the place of another and cut is `swap_remove`
 pub swap_removed_shows : (w : ℕ) (xs : List Bool) (head len i : ℕ) (last : Bool) → 0 < w → i < len → head + len ≤ length xs → last ≡ get_or xs (head + (len - 1)) false → slice_range (sized w (set xs (head + i) last) (head + (len - 1))) head (head + (len - 1)) ≡ swap_remove (slice_range xs head (head + len)) i false
 swap_removed_shows w xs head len i last positive h fits is =
     let list : List Bool = slice_range xs head (head + len) in

@@ -34,25 +34,31 @@ pub shows_sized : (w : ℕ) (xs : List Bool) (b head end : ℕ) → 0 < w → he
 unfolding sized
 shows_sized w xs b head end positive h k l = let r = (room w b positive).0 in same_lists _ _ (search (rules, places)) (λ i d below. grind (arith, places))
 
+-- filling all bits outside a part keeps the part
 pub shows_filled : (xs : List Bool) (head len : ℕ) (b : Bool) → head + len ≤ length xs → slice_range (filled xs head len b) head (head + len) ≡ slice_range xs head (head + len)
 unfolding filled
 shows_filled xs head len b h = same_lists _ _ (search (rules, places)) (λ i d below. grind (arith, places))
 
+-- setting a bit of a part sets it in the part
 pub shows_set : (xs : List Bool) (head len i : ℕ) (b : Bool) → i < len → head + len ≤ length xs → slice_range (set xs (head + i) b) head (head + len) ≡ set (slice_range xs head (head + len)) i b
 shows_set xs head len i b h k = ap (take (head + len - head)) (drop-set-add head xs i b) ∙ take-set-comm (head + len - head) (drop head xs) i b
 
+-- a shorter part is the first bits of the longer one
 pub shows_fewer : (xs : List Bool) (head n len : ℕ) → n ≤ len → head + len ≤ length xs → slice_range xs head (head + n) ≡ take n (slice_range xs head (head + len))
 shows_fewer xs head n len h k =
     let a : head + n - head ≡ n = omega arith in
     let b : head + len - head ≡ len = omega arith in
     rw (a, b) (sym (take-take n len (drop head xs) h))
 
+-- a part of a mapped list is the mapped part
 pub shows_map : (f : Bool → Bool) (xs : List Bool) (head end : ℕ) → slice_range (map f xs) head end ≡ map f (slice_range xs head end)
 shows_map f xs head end = ap (take (end - head)) (drop-map f head xs) ∙ take-map f (end - head) (drop head xs)
 
+-- the length of a part is the distance of its ends
 pub length-between : (xs : List Bool) (a b : ℕ) → b ≤ length xs → length (slice_range xs a b) ≡ b - a
 length-between xs a b h = simp (length-take, length-drop) (omega arith)
 
+-- the length of a part of len bits is len
 pub length-run : (xs : List Bool) (head len : ℕ) → head + len ≤ length xs → length (slice_range xs head (head + len)) ≡ len
 length-run xs head len h = simp (length-take, length-drop) (omega arith)
 
@@ -69,15 +75,18 @@ pub shown_written : (xs ys : List Bool) (head len d : ℕ) → d + length ys ≤
 unfolding put
 shown_written xs ys head len d h k = same_lists _ _ (search (rules, places)) (λ i e below. grind (arith, places))
 
+-- a bit of the row is that of the part at the index counted from the head
 pub shows_some : (xs : List Bool) (head len i : ℕ) (b : Bool) → i < len → head + len ≤ length xs → b ≡ get_or xs (head + i) false → Some b ≡ slice_get (slice_range xs head (head + len)) i
 shows_some xs head len i b h k is =
     let size = length-run xs head len k in
     let read : get_or (slice_range xs head (head + len)) i false ≡ get_or xs (head + i) false = get_or-take (head + len - head) (drop head xs) i false (omega arith) ∙ get_or-drop head xs i false in
     sym (slice_get_read (slice_range xs head (head + len)) len i b (sym size) h (is ∙ sym read ∙ get_or_default (slice_range xs head (head + len)) i false b (rw size h)))
 
+-- an index from the length on has no bit
 pub shows_none : (xs : List Bool) (head len i : ℕ) → len ≤ i → head + len ≤ length xs → None ≡ slice_get (slice_range xs head (head + len)) i
 shows_none xs head len i h k = sym (slice_get_past (slice_range xs head (head + len)) i (rw (length-run xs head len k) h))
 
+-- bits put after the part's end are appended to it
 pub grown_shows : (w : ℕ) (xs ys : List Bool) (head len n : ℕ) → 0 < w → head + len ≤ length xs → n ≡ length ys → slice_range (put (sized w xs (head + len + n)) (head + len) ys) head (head + (len + n)) ≡ slice_range xs head (head + len) ++ ys
 grown_shows w xs ys head len n positive h is =
     let e : head + (len + n) ≡ head + len + length ys = omega arith in
@@ -86,9 +95,11 @@ grown_shows w xs ys head len n positive h is =
     ∙ shows_put (sized w xs (head + len + n)) ys head (head + len) (omega arith) (rw (length-sized w xs (head + len + n)) (omega arith))
     ∙ ap (λ l. l ++ ys) (shows_sized w xs (head + len + n) head (head + len) positive (omega arith) h (omega arith))
 
+-- a part cut to n bits is its first n
 pub shrunk_shows : (w : ℕ) (xs : List Bool) (head len n : ℕ) → 0 < w → n ≤ len → head + len ≤ length xs → slice_range (sized w xs (head + n)) head (head + n) ≡ take n (slice_range xs head (head + len))
 shrunk_shows w xs head len n positive h k = shows_sized w xs (head + n) head (head + n) positive (omega arith) (omega arith) (omega arith) ∙ shows_fewer xs head n len h k
 
+-- a row with its dead bits cleared is that of its list alone
 pub canonical_row : (w : ℕ) (xs : List Bool) (len : ℕ) → 0 < w → length xs ≡ w * words_for w (0 + len) → filled xs 0 len false ≡ sized w (slice_range xs 0 (0 + len)) (0 + len)
 unfolding filled sized
 canonical_row w xs len positive size =
@@ -106,6 +117,7 @@ sized_joined w bits len b positive size =
     let next : 0 + len + 1 ≡ len + 1 = omega arith in
     rw next (same_lists _ _ (search (rules, places)) (λ i d below. grind (arith, places)))
 
+-- equal bits put after the part's end resize the list
 pub resized_shows : (w : ℕ) (xs : List Bool) (head len n : ℕ) (b : Bool) → 0 < w → head + len ≤ length xs → len < n → slice_range (put (sized w xs (head + n)) (head + len) (replicate (head + n - (head + len)) b)) head (head + n) ≡ take n (slice_range xs head (head + len)) ++ replicate (n - len) b
 resized_shows w xs head len n b positive h k =
     let more : head + n - (head + len) ≡ n - len = omega arith in
@@ -117,6 +129,7 @@ resized_shows w xs head len n b positive h k =
     ∙ grown_shows w xs (replicate (n - len) b) head len (n - len) positive h (sym (length-replicate (n - len) b))
     ∙ ap (λ l. l ++ replicate (n - len) b) (sym (take_all n (slice_range xs head (head + len)) (rw (length-run xs head len h) (omega arith))))
 
+-- a part is the part without its last bit, and that bit
 pub popped_shows : (w : ℕ) (xs : List Bool) (head len : ℕ) (b : Bool) → 0 < w → 0 < len → head + len ≤ length xs → b ≡ get_or xs (head + (len - 1)) false → slice_range xs head (head + len) ≡ slice_range (sized w xs (head + (len - 1))) head (head + (len - 1)) ++ b ∷ []
 popped_shows w xs head len b positive some h is =
     let last : head + len ≡ head + (len - 1) + 1 = omega arith in
@@ -125,11 +138,13 @@ popped_shows w xs head len b positive some h is =
     ∙ ap (λ x. slice_range xs head (head + (len - 1)) ++ x ∷ []) (sym is)
     ∙ ap (λ l. l ++ b ∷ []) (sym (shows_sized w xs (head + (len - 1)) head (head + (len - 1)) positive (omega arith) (omega arith) (omega arith)))
 
+-- flipping each bit twice changes nothing
 pub flipped_twice : (xs : List Bool) → map not (map not xs) ≡ xs
 flipped_twice [] = refl
 flipped_twice (true ∷ xs) = ap (λ l. true ∷ l) (flipped_twice xs)
 flipped_twice (false ∷ xs) = ap (λ l. false ∷ l) (flipped_twice xs)
 
+-- a part of another row put after the part's end is appended to it
 pub joined_shows : (w : ℕ) (xs ys : List Bool) (head len from n : ℕ) → 0 < w → head + len ≤ length xs → from + n ≤ length ys → slice_range (put (sized w xs (head + (len + n))) (head + len) (slice_range ys from (from + n))) head (head + (len + n)) ≡ slice_range xs head (head + len) ++ slice_range ys from (from + n)
 joined_shows w xs ys head len from n positive h k =
     let size = length-run ys from n k in

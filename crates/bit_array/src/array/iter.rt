@@ -165,7 +165,7 @@ impl<A: BitWords, O: BitOrder> DoubleEndedIterator for IntoIter<A, O> {
 }
 
 impl<A: BitWords, O: BitOrder> ExactSizeIterator for IntoIter<A, O> {
-    /// How many bits are left.
+    /// The number of bits left.
     fn len(&self) -> usize {
         self.as_bitslice().len()
     }

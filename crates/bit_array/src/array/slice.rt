@@ -12,7 +12,7 @@ use bit_addressing::{BitOrder, RangeExt};
 use bit_slice::{BitListMut, BitSlice};
 
 impl<A: BitWords, O: BitOrder> BitArray<A, O> {
-    /// How many bits the array has.
+    /// The number of bits of the array.
     ///
     /// ```text
     /// of 01101001: bits.len() == 8
@@ -83,7 +83,7 @@ impl<A: BitWords, O: BitOrder> BitArray<A, O> {
         self.as_bitslice().last()
     }
 
-    /// How many bits are true.
+    /// The number of true bits.
     ///
     /// ```text
     /// of 01101001: bits.count_ones() == 4

@@ -227,7 +227,7 @@ impl<T: BitStore, O: BitOrder> DoubleEndedIterator for IntoIter<T, O> {
 }
 
 impl<T: BitStore, O: BitOrder> ExactSizeIterator for IntoIter<T, O> {
-    /// How many bits are left.
+    /// The number of bits left.
     fn len(&self) -> usize {
         self.upto - self.from
     }

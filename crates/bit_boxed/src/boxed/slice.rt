@@ -11,7 +11,7 @@ use bit_addressing::{BitOrder, BitStore, RangeExt};
 use bit_slice::{BitListMut, BitSlice};
 
 impl<T: BitStore, O: BitOrder> BitBox<T, O> {
-    /// How many bits the box has.
+    /// The number of bits of the box.
     ///
     /// ```text
     /// of 01101001: bits.len() == 8
@@ -80,7 +80,7 @@ impl<T: BitStore, O: BitOrder> BitBox<T, O> {
         self.as_bitslice().last()
     }
 
-    /// How many bits are true.
+    /// The number of true bits.
     ///
     /// ```text
     /// of 01101001: bits.count_ones() == 4

@@ -9,7 +9,7 @@ use bit_addressing::{BitOrder, BitStore, GrowError, MAX_BITS, elts};
 use std::alloc::{AllocError, Global};
 
 impl<T: BitStore, O: BitOrder> BitVec<T, O> {
-    /// How many bits the vector has room for without new memory: as many as the words in its memory have,
+    /// The number of bits that the vector has room for without new memory: as many as the words in its memory have,
     /// or `usize::MAX` where that is less, minus the head.
     ///
     /// ```text

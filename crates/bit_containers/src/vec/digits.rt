@@ -1,5 +1,5 @@
 //! The vector read from binary, octal and hexadecimal digits.
-ghost use Rattle.std.specs.Prelude.{◌≡◌, ℕ, ◌+◌, ◌*◌, ◌<◌, ◌≤◌, Bool, List, Err, IfErr, IfNone, IfOk, IfSome, None, Ok, Some, length, slice_range};
+ghost use Rattle.std.specs.Prelude.{◌≡◌, ◌↔◌, ℕ, ◌+◌, ◌*◌, ◌<◌, ◌≤◌, Bool, List, Err, IfErr, IfNone, IfOk, IfSome, None, Ok, Some, length, slice_range};
 ghost use Rattle.bit_addressing.specs.Row.{binary};
 ghost use Rattle.bit_addressing.specs.declared.length.TheConstants.{MAX_BITS};
 ghost use Rattle.bit_containers.specs.BitVec.{IsClean};
@@ -47,11 +47,11 @@ fn digit_of_bits(byte: u8, n: u8) -> Option<u8>
 }
 
 impl<T: BitStore, O: BitOrder> BitVec<T, O> {
-    /// The `len` bits that digits say, from head 0 on: `size` bits each, the most significant first, and the last those
-    /// that are left. Letters are in either case, and the digits may stand between brackets, as `Binary`, `Octal`,
-    /// `LowerHex` and `UpperHex` write them. Returns `Wrong` with the index of the first character that is no digit
-    /// for its place, or of the end where digits are missing, and `TooLong` only where `len` is above `MAX_BITS`. Takes
-    /// memory where there is a digit. Requires that `size` is from 1 to 4.
+    /// The list of `len` bits that digits write, from head 0 on: each digit is `size` bits, the most significant first, and
+    /// the last one is the bits that are left. Letters are in either case, and the digits may stand between brackets, as
+    /// `Binary`, `Octal`, `LowerHex` and `UpperHex` write them. Returns `Wrong` with the index of the first character that
+    /// is no digit for its place, or of the end where digits are missing, and `TooLong` exactly where `len` is above
+    /// `MAX_BITS`. Takes memory where there is a digit. Requires that `size` is from 1 to 4.
     ///
     /// ```text
     /// BitVec::<u8, Msb0>::from_digits(alloc, "[d0]", 4, 5)? holds 11010
@@ -70,7 +70,7 @@ impl<T: BitStore, O: BitOrder> BitVec<T, O> {
         ensures reads_back { IfOk result (λ v. (upper : Bool) (bits : List Bool) → length bits ≡ len
             → IsDigitsOf size upper text.now bits → v.list ≡ bits) }
         ensures wrong { IfErr result (IsWrongDigit size len text.now) }
-        ensures too_long { result ≡ Err ParseBitsError.TooLong → MAX_BITS < len }
+        ensures too_long { (result ≡ Err ParseBitsError.TooLong) ↔ (MAX_BITS < len) }
         ensures memory { result ≡ Err ParseBitsError.OutOfMemory → 0 < length text.now }
     {
         if len > MAX_BITS {
@@ -95,8 +95,7 @@ impl<T: BitStore, O: BitOrder> BitVec<T, O> {
         Ok(v)
     }
 
-    /// Like `from_digits`, all bits of hexadecimal digits, four each. `TooLong` only where the text has more than a
-    /// quarter of `MAX_BITS` bytes.
+    /// Like `from_digits`, of all hexadecimal digits of the text, four bits each.
     ///
     /// ```text
     /// BitVec::<u8, Msb0>::from_hex(alloc, "d0")? holds 11010000
@@ -109,7 +108,8 @@ impl<T: BitStore, O: BitOrder> BitVec<T, O> {
         ensures reads_back { IfOk result (λ v. (upper : Bool) (bits : List Bool)
             → length bits ≡ 4 * length (digits_of_text text.now) → IsDigitsOf 4 upper text.now bits → v.list ≡ bits) }
         ensures wrong { IfErr result (IsWrongDigit 4 (4 * length (digits_of_text text.now)) text.now) }
-        ensures too_long { result ≡ Err ParseBitsError.TooLong → MAX_BITS < 4 * length text.now }
+        ensures too_long { (result ≡ Err ParseBitsError.TooLong)
+            ↔ (MAX_BITS < 4 * length (digits_of_text text.now)) }
         ensures memory { result ≡ Err ParseBitsError.OutOfMemory → 0 < length text.now }
     {
         let (first, end) = digits_range(text.as_bytes());

@@ -66,7 +66,7 @@ impl<'b, T: BitStore, O: BitOrder> DoubleEndedIterator for Items<'b, T, O> {
 }
 
 impl<'b, T: BitStore, O: BitOrder> ExactSizeIterator for Items<'b, T, O> {
-    /// How many bits are left.
+    /// The number of bits left.
     fn len(&self) -> usize {
         self.inner.len()
     }

@@ -47,7 +47,7 @@ impl<T: BitStore, O: BitOrder> BitVec<T, O> {
         self.as_bitslice().last()
     }
 
-    /// How many bits are true.
+    /// The number of true bits.
     ///
     /// ```text
     /// of 01101001: bits.count_ones() == 4

@@ -354,7 +354,7 @@ impl<'a, T: BitStore, O: BitOrder, I: Iterator<Item = bool>> Splice<'a, T, O, I>
         Items::of(self.vec.get_range(front..back).iter())
     }
 
-    /// How many of the replaced bits are still to come.
+    /// The number of replaced bits still to come.
     pub fn len(&self) -> usize
         requires { SpliceIsReady self.now }
         ensures { result ≡ length (splice_rest self.now) }

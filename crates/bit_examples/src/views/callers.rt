@@ -514,7 +514,7 @@ pub fn exact_chunks<T: BitStore, O: BitOrder>(view: BitSlice<'_, T, O>, n: usize
     view.chunks_exact(n).len()
 }
 
-/// How many bits are left after all whole chunks, however many of them were given.
+/// The number of bits left after all whole chunks, however many of them were given.
 pub fn rest_after_two<T: BitStore, O: BitOrder>(view: BitSlice<'_, T, O>, n: usize) -> usize
     requires { 0 < n }
     ensures { result ≡ length (drop (len_of view.entry / n * n) (list_of view.entry)) }

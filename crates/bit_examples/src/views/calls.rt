@@ -427,7 +427,7 @@ fn ranges_as_text(rt: HostRuntime) {
     check(&rt, text.as_str() == "1-2,4,7 0,3,5-6");
 }
 
-// How many bits a part has.
+// The number of bits of a part.
 fn length_of<T: BitStore, O: BitOrder>(part: Option<BitSlice<'_, T, O>>) -> Option<usize> {
     match part {
         Some(part) => Some(part.len()),

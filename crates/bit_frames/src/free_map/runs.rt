@@ -10,7 +10,7 @@ use bit_addressing::{BitOrder, BitStore, Lsb0};
 use bit_containers::{BitList, IterRanges};
 
 impl FreeMap {
-    /// The runs of free frames, ascending, each as long as it is. 64 frames are read at a time.
+    /// The runs of free frames, ascending, each a whole run. 64 frames are read at a time.
     ///
     /// ```text
     /// frames.iter_free_runs()         // 1..1024, where frame 0 of 1024 is taken

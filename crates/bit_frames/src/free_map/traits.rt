@@ -45,7 +45,7 @@ impl Eq for FreeMap {
     ghost laws = { bits_equiv };
 }
 
-/// How many frames there are, and the runs of free ones.
+/// The number of frames, and the runs of free ones.
 impl fmt::Debug for FreeMap {
     fn fmt<W: fmt::Write>(&self, f: &mut fmt::Formatter<W>) -> fmt::Result {
         let frames = self.frames();

@@ -92,7 +92,7 @@ impl<'a> Rows<'a> {
         self.matrix.row(row)
     }
 
-    // How many rows are left.
+    // The number of rows left.
     fn count_left(&self) -> usize
         ensures { result ≡ length (rows_left self.now) }
     {
@@ -152,7 +152,7 @@ impl<'a> DoubleEndedIterator for Rows<'a> {
 }
 
 impl<'a> ExactSizeIterator for Rows<'a> {
-    /// How many rows are left.
+    /// The number of rows left.
     fn len(&self) -> usize {
         self.count_left()
     }
@@ -163,7 +163,7 @@ impl<'a> FusedIterator for Rows<'a> {}
 impl<'a> Column<'a> {
     ghost use Rattle.bit_matrix.specs.MatrixLeft.{column_left};
 
-    // How many bits are left.
+    // The number of bits left.
     fn count_left(&self) -> usize
         ensures { result ≡ length (column_left self.now) }
     {
@@ -221,7 +221,7 @@ impl<'a> DoubleEndedIterator for Column<'a> {
 }
 
 impl<'a> ExactSizeIterator for Column<'a> {
-    /// How many bits are left.
+    /// The number of bits left.
     fn len(&self) -> usize {
         self.count_left()
     }

@@ -164,7 +164,7 @@ impl Matrix {
     }
 }
 
-// How many numbers of `place` bits there are.
+// The count of numbers of `place` bits.
 #[inline(always)]
 fn half_of(place: u32) -> usize
     requires { place < 8 }

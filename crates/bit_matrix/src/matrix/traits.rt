@@ -49,7 +49,7 @@ impl Eq for Matrix {
     ghost laws = { grid_equiv };
 }
 
-/// How many rows and columns there are, and the digits of each row.
+/// The numbers of rows and columns, and the digits of each row.
 impl fmt::Debug for Matrix {
     fn fmt<W: fmt::Write>(&self, f: &mut fmt::Formatter<W>) -> fmt::Result {
         let (rows, columns) = (self.rows, self.columns);

@@ -30,14 +30,14 @@ impl NumberSet {
         self.bits.is_disjoint(other.bits.as_bitslice())
     }
 
-    /// How many numbers are in either set. Takes no memory.
+    /// The count of numbers in either set. Takes no memory.
     pub fn count_union(&self, other: &Self) -> usize
         ensures { result ≡ length (ones_of (or_of (filled_up self.now (length other.now)) other.now)) }
     {
         self.bits.count_or(other.bits.as_bitslice())
     }
 
-    /// How many numbers are in both sets. Takes no memory.
+    /// The count of numbers in both sets. Takes no memory.
     #[tactic(auto, using(crate::proofs::CountedSets::in_both))]
     pub fn count_intersection(&self, other: &Self) -> usize
         ensures { result ≡ length (ones_of (and_of (filled_up self.now (length other.now)) other.now)) }
@@ -45,14 +45,14 @@ impl NumberSet {
         self.bits.count_and(other.bits.as_bitslice())
     }
 
-    /// How many numbers are in this set and not in the other. Takes no memory.
+    /// The count of numbers in this set and not in the other. Takes no memory.
     pub fn count_difference(&self, other: &Self) -> usize
         ensures { result ≡ length (ones_of (and_not_of (filled_up self.now (length other.now)) other.now)) }
     {
         self.bits.count_ones() - self.bits.count_and(other.bits.as_bitslice())
     }
 
-    /// How many numbers are in exactly one of the sets. Takes no memory.
+    /// The count of numbers in exactly one of the sets. Takes no memory.
     pub fn count_symmetric_difference(&self, other: &Self) -> usize
         ensures { result ≡ length (ones_of (xor_of (filled_up self.now (length other.now)) other.now)) }
     {

@@ -105,7 +105,7 @@ impl NumberSet {
         self.bits.any_in(part)
     }
 
-    /// How many numbers of a range of any kind are in the set. Requires that the range was not iterated to its end.
+    /// The count of numbers of a range of any kind that are in the set. Requires that the range was not iterated to its end.
     ///
     /// ```text
     /// of 2, 3, 4, 7: seen.count_in(3..8) == 3
@@ -227,7 +227,7 @@ impl<'a> DoubleEndedIterator for SetRange<'a> {
 }
 
 impl<'a> ExactSizeIterator for SetRange<'a> {
-    /// How many numbers are left: the bits that are left are counted.
+    /// The count of numbers left: the bits that are left are counted.
     fn len(&self) -> usize {
         self.ones.len()
     }

@@ -173,7 +173,7 @@ impl<'a> DoubleEndedIterator for Numbers<'a> {
 }
 
 impl<'a> ExactSizeIterator for Numbers<'a> {
-    /// How many numbers are left.
+    /// The count of numbers left.
     fn len(&self) -> usize {
         self.end - self.at
     }

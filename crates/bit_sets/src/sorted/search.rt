@@ -65,7 +65,7 @@ impl SortedNumbers {
         }
     }
 
-    /// How many numbers are below `x`. It searches like `next_at_least`.
+    /// The count of numbers below `x`. It searches like `next_at_least`.
     ///
     /// ```text
     /// of 2, 3, 9, 9:  numbers.rank(9) == 2
@@ -125,7 +125,7 @@ fn same_high(ones: &Ranks<u64, Lsb0>, len: usize, high: usize) -> Option<Range<u
     }
 }
 
-// How many numbers have at most these high bits: how many ones are before the first zero at `from` or after
+// The count of numbers that have at most these high bits: how many ones are before the first zero at `from` or after
 // it. Requires that as many zeros are before `from` as the high bits say.
 #[inline(always)]
 fn upto_zero(ones: &Ranks<u64, Lsb0>, len: usize, from: usize, high: usize) -> usize

@@ -168,7 +168,7 @@ impl<'a, T: BitStore, O: BitOrder> Chunks<'a, T, O> {
         self.view.get_range(start..start + count)
     }
 
-    // How many chunks are left.
+    // The number of chunks left.
     fn count_left(&self) -> usize
         ensures { result ≡ length (chunks_left self.now) }
     {
@@ -236,7 +236,7 @@ impl<'a, T: BitStore, O: BitOrder> DoubleEndedIterator for Chunks<'a, T, O> {
 }
 
 impl<'a, T: BitStore, O: BitOrder> ExactSizeIterator for Chunks<'a, T, O> {
-    /// How many chunks are left.
+    /// The number of chunks left.
     fn len(&self) -> usize {
         self.count_left()
     }
@@ -281,7 +281,7 @@ impl<'a, T: BitStore, O: BitOrder> ChunksExact<'a, T, O> {
         self.view.get_range(start..start + self.size)
     }
 
-    // How many chunks are left.
+    // The number of chunks left.
     fn count_left(&self) -> usize
         ensures { result ≡ length (exact_chunks_left self.now) }
     {
@@ -347,7 +347,7 @@ impl<'a, T: BitStore, O: BitOrder> DoubleEndedIterator for ChunksExact<'a, T, O>
 }
 
 impl<'a, T: BitStore, O: BitOrder> ExactSizeIterator for ChunksExact<'a, T, O> {
-    /// How many chunks are left.
+    /// The number of chunks left.
     fn len(&self) -> usize {
         self.count_left()
     }
@@ -381,7 +381,7 @@ impl<'a, T: BitStore, O: BitOrder> RChunks<'a, T, O> {
         self.view.get_range(end.saturating_sub(self.size)..end)
     }
 
-    // How many chunks are left.
+    // The number of chunks left.
     fn count_left(&self) -> usize
         ensures { result ≡ length (back_chunks_left self.now) }
     {
@@ -449,7 +449,7 @@ impl<'a, T: BitStore, O: BitOrder> DoubleEndedIterator for RChunks<'a, T, O> {
 }
 
 impl<'a, T: BitStore, O: BitOrder> ExactSizeIterator for RChunks<'a, T, O> {
-    /// How many chunks are left.
+    /// The number of chunks left.
     fn len(&self) -> usize {
         self.count_left()
     }
@@ -482,7 +482,7 @@ impl<'a, T: BitStore, O: BitOrder> Windows<'a, T, O> {
         self.view.get_range(k..k + self.size)
     }
 
-    // How many windows are left.
+    // The number of windows left.
     fn count_left(&self) -> usize
         ensures { result ≡ length (windows_left self.now) }
     {
@@ -550,7 +550,7 @@ impl<'a, T: BitStore, O: BitOrder> DoubleEndedIterator for Windows<'a, T, O> {
 }
 
 impl<'a, T: BitStore, O: BitOrder> ExactSizeIterator for Windows<'a, T, O> {
-    /// How many windows are left.
+    /// The number of windows left.
     fn len(&self) -> usize {
         self.count_left()
     }

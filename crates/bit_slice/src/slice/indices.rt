@@ -74,7 +74,7 @@ impl<'a, T: BitStore, O: BitOrder> IterOnes<'a, T, O> {
             .min(self.base + self.chunk.trailing_zeros() as usize)
     }
 
-    // How many indices are left: the bits that are left are counted.
+    // The number of indices left: the bits that are left are counted.
     fn count_left(&self) -> usize
         ensures { result ≡ length (ones_left self.now) }
     {
@@ -197,7 +197,7 @@ impl<'a, T: BitStore, O: BitOrder> DoubleEndedIterator for IterOnes<'a, T, O> {
 }
 
 impl<'a, T: BitStore, O: BitOrder> ExactSizeIterator for IterOnes<'a, T, O> {
-    /// How many indices are left: the bits that are left are counted.
+    /// The number of indices left: the bits that are left are counted.
     fn len(&self) -> usize {
         self.count_left()
     }
@@ -245,7 +245,7 @@ impl<'a, T: BitStore, O: BitOrder> BitSlice<'a, T, O> {
 impl<'a, T: BitStore, O: BitOrder> IterZeros<'a, T, O> {
     ghost use Rattle.bit_slice.specs.Indices.{zeros_left};
 
-    // How many indices are left: the bits that are left are counted.
+    // The number of indices left: the bits that are left are counted.
     fn count_left(&self) -> usize
         ensures { result ≡ length (zeros_left self.now) }
     {
@@ -311,7 +311,7 @@ impl<'a, T: BitStore, O: BitOrder> DoubleEndedIterator for IterZeros<'a, T, O> {
 }
 
 impl<'a, T: BitStore, O: BitOrder> ExactSizeIterator for IterZeros<'a, T, O> {
-    /// How many indices are left: the bits that are left are counted.
+    /// The number of indices left: the bits that are left are counted.
     fn len(&self) -> usize {
         self.count_left()
     }

@@ -32,7 +32,7 @@ pub struct RangesText<'a, T: BitStore, O: BitOrder> {
 }
 
 impl<'a, T: BitStore, O: BitOrder> BitSlice<'a, T, O> {
-    /// The ranges of the indices whose bits are `bit`, ascending, each as long as it is. 64 bits are read at a time.
+    /// The ranges of the indices whose bits are `bit`, ascending, each a whole run. 64 bits are read at a time.
     ///
     /// ```text
     /// of 01101001: bits.iter_ranges(true) gives 1..3, 4..5, 7..8

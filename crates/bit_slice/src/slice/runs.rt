@@ -30,7 +30,7 @@ pub struct BitRun {
 }
 
 impl BitRun {
-    /// How many bits it has.
+    /// Its number of bits.
     ///
     /// ```text
     /// BitRun { start: 1, end: 3, bit: true }.len() == 2

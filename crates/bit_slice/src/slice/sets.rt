@@ -123,7 +123,7 @@ pub(crate) fn any_pair<F: BitOperator, T: BitStore, O: BitOrder, U: BitStore, P:
 }
 
 impl<'a, T: BitStore, O: BitOrder> BitSlice<'a, T, O> {
-    // How many bits are true from index `from` on: 0, without a call, where the view ends there.
+    // The number of true bits from index `from` on: 0, without a call, where the view ends there.
     #[inline(always)]
     pub(crate) fn ones_from(self, from: usize) -> usize
         requires { from ≤ len_of self }

@@ -13,7 +13,7 @@ use bit_containers::{
     BitList, BitListMut, BitOrder, BitSlice, BitSliceMut, BitStore, BitVec, Lsb0, Msb0,
 };
 
-// How many bits are true.
+// The number of true bits.
 pub(crate) fn count<B: BitList>(bits: &B) -> usize
     ensures { result ≡ count_by (λ b. b) (B.list bits.now) }
 {

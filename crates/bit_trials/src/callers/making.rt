@@ -1,6 +1,7 @@
 //! Callers that make vectors of other lists, of bytes, of indices and of text.
-ghost use Rattle.std.specs.Prelude.{◌≡◌, ℕ, ◌<◌, ◌↔◌, All, Contains, IfOk, OnOk, OnErr, IsOk, Some, true, false, [], ◌∷◌, length, slice_get};
+ghost use Rattle.std.specs.Prelude.{◌≡◌, ℕ, ◌<◌, ◌↔◌, All, Contains, Err, IfOk, OnOk, OnErr, IsOk, Some, true, false, [], ◌∷◌, length, slice_get};
 ghost use Rattle.bit_addressing.specs.Text.{list_text};
+ghost use Rattle.bit_slice.specs.BitRuns.{ranges_text};
 ghost use Rattle.bit_slice.specs.BitSlice.{list_of};
 ghost use Rattle.bit_slice.specs.Texts.{digits_text};
 
@@ -160,6 +161,19 @@ pub fn hexadecimal_read_back(
     ensures { IfOk result (λ v. v.list ≡ bits.now.list) }
 {
     BitVec::from_digits(alloc, text, 4, bits.len())
+}
+
+/// What is written as the ranges of the ones is read back.
+pub fn ranges_read_back(
+    alloc: Global,
+    text: &str,
+    bits: &BitVec<u8, Msb0>,
+) -> Result<BitVec<u64, Lsb0>, ParseBitsError>
+    requires written { text.now ≡ ranges_text true bits.now.list }
+    ensures list { IfOk result (λ v. v.list ≡ bits.now.list) }
+    ensures not_wrong { (at : ℕ) → result ≡ Err (ParseBitsError.Wrong at) → ⊥ }
+{
+    BitVec::from_ranges_text(alloc, text, bits.len())
 }
 
 pub fn text_as_written(alloc: Global) -> Result<BitVec<u8, Msb0>, ParseBitsError>

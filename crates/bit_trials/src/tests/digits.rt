@@ -1,4 +1,4 @@
-//! Vectors read from digits, and without equal neighbours.
+//! Vectors read from digits and from ranges, and without equal neighbours.
 ghost use Rattle.std.specs.Prelude.{◌<◌, ◌≤◌};
 
 use crate::common::{check, holds, of, ok};
@@ -43,6 +43,45 @@ fn wrong_digits(rt: HostRuntime) {
     check(&rt, wrong_at(alloc, "[62", 3, 5) == Some(0));
     check(&rt, wrong_at(alloc, "6", 3, 5) == Some(1));
     check(&rt, wrong_at(alloc, "621", 3, 5) == Some(2));
+}
+
+// Where a text of ranges is wrong, or None where it is right or memory was refused.
+fn range_wrong_at(alloc: Global, text: &str, len: usize) -> Option<usize> {
+    match BitVec::<u8, Msb0>::from_ranges_text(alloc, text, len) {
+        Err(ParseBitsError::Wrong(at)) => Some(at),
+        _ => None,
+    }
+}
+
+#[test]
+fn ranges_of_ones(rt: HostRuntime) {
+    let v = ok(
+        &rt,
+        BitVec::<u8, Msb0>::from_ranges_text(rt.alloc(), "1-2,4", 6),
+    );
+    holds(&rt, &v, b"011010");
+    let v = ok(
+        &rt,
+        BitVec::<u64, Lsb0>::from_ranges_text(rt.alloc(), "7,0-3", 8),
+    );
+    holds(&rt, &v, b"11110001");
+}
+
+#[test]
+fn no_ranges(rt: HostRuntime) {
+    let v = ok(&rt, BitVec::<u8, Msb0>::from_ranges_text(rt.alloc(), "", 3));
+    holds(&rt, &v, b"000");
+}
+
+#[test]
+fn wrong_ranges(rt: HostRuntime) {
+    let alloc = rt.alloc();
+    check(&rt, range_wrong_at(alloc, "0,2-4", 4) == Some(2));
+    check(&rt, range_wrong_at(alloc, "3-2", 4) == Some(0));
+    check(&rt, range_wrong_at(alloc, "0-1-2", 4) == Some(0));
+    check(&rt, range_wrong_at(alloc, "1,", 4) == Some(2));
+    check(&rt, range_wrong_at(alloc, "1,+2", 4) == Some(2));
+    check(&rt, range_wrong_at(alloc, "1, 2", 4) == Some(2));
 }
 
 #[test]

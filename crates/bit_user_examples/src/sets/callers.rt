@@ -139,7 +139,7 @@ pub fn counted_of_either(
     Ok((set.count_union(other), numbers))
 }
 
-/// How many numbers of a set are at least a number.
+/// The count of numbers of a set that are at least a number.
 pub fn counted_from(set: &NumberSet, least: usize) -> usize
     ensures { result ≡ length (numbers_between set.now least (length set.now)) }
 {

@@ -50,20 +50,20 @@ gathers_length w old now number got pulled was =
     let s = length-highest_bits number got in
     omega arith
 
--- an iterator of which no run has more items than fit is not refused
-module _ {U S : Type 0} (becomes : U → S → Type 0) (steps : S → Option Bool → S → Type 0) (iter : U) (len capacity : ℕ) where
-  pub never_refused : (result : Result (Unit {0}) GrowError) → (result ≡ Err TooLong → GivesFirst becomes steps iter (λ bits. MAX_BITS < len + length bits))
-      → (result ≡ Err OutOfMemory → GivesFirst becomes steps iter (λ bits. (capacity < len + length bits) × (len + length bits ≤ MAX_BITS)))
-      → ((it : S) → becomes iter it → EachRunFrom steps it (λ run. (len + length run.items ≤ capacity) × (len + length run.items ≤ MAX_BITS))) → IsOk result
-  never_refused (Ok done) long wants fits = refl
-  never_refused (Err TooLong) long wants fits =
-      let gave = long refl in
-      let bound = along_from_runs steps gave.0 (λ items. (len + length items ≤ capacity) × (len + length items ≤ MAX_BITS)) (fits gave.0 gave.3) gave.1 gave.2 gave.4 in
+-- an iterator of which no run takes more bits than fit is not refused
+module _ {U S A : Type 0} (becomes : U → S → Type 0) (steps : S → Option A → S → Type 0) (iter : U) (size : List A → ℕ) (capacity : ℕ) where
+  pub never_refused : (result : Result (Unit {0}) GrowError) → (result ≡ Err TooLong → GivesFirst becomes steps iter (λ items. MAX_BITS < size items))
+      → (result ≡ Err OutOfMemory → GivesFirst becomes steps iter (λ items. capacity < size items))
+      → ((it : S) → becomes iter it → EachRunFrom steps it (λ run. (size run.items ≤ capacity) × (size run.items ≤ MAX_BITS))) → IsOk result
+  never_refused (Ok done) too_long no_memory fits = refl
+  never_refused (Err TooLong) too_long no_memory fits =
+      let gave = too_long refl in
+      let bound = along_from_runs steps gave.0 (λ items. (size items ≤ capacity) × (size items ≤ MAX_BITS)) (fits gave.0 gave.3) gave.1 gave.2 gave.4 in
       absurd (omega (arith, gave.5, bound.1))
-  never_refused (Err OutOfMemory) long wants fits =
-      let gave = wants refl in
-      let bound = along_from_runs steps gave.0 (λ items. (len + length items ≤ capacity) × (len + length items ≤ MAX_BITS)) (fits gave.0 gave.3) gave.1 gave.2 gave.4 in
-      absurd (omega (arith, gave.5.0, bound.0))
+  never_refused (Err OutOfMemory) too_long no_memory fits =
+      let gave = no_memory refl in
+      let bound = along_from_runs steps gave.0 (λ items. (size items ≤ capacity) × (size items ≤ MAX_BITS)) (fits gave.0 gave.3) gave.1 gave.2 gave.4 in
+      absurd (omega (arith, gave.5, bound.0))
 
 -- where no run has more items than the capacity has room for, the capacity stays
 module _ {U S A : Type 0} (becomes : U → S → Type 0) (steps : S → Option A → S → Type 0) (iter : U) (size : List A → ℕ) where

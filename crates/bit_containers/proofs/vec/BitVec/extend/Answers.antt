@@ -20,7 +20,8 @@ returns-clause-clean g c =
 
 pub returns-clause-fits : goal.returns-clause-fits
 returns-clause-fits g c =
-    never_refused g.I.IntoIterator.into_iter_gives g.I.IntoIter.Iterator.next_gives c.args.iter (length c.args.self.now.list) c.args.self.now.capacity c.extend_by.result c.extend_by.ensures.too_long c.extend_by.ensures.memory
+    never_refused g.I.IntoIterator.into_iter_gives g.I.IntoIter.Iterator.next_gives c.args.iter (λ bits. length c.args.self.now.list + length bits) c.args.self.now.capacity c.extend_by.result c.extend_by.ensures.too_long
+    (λ refused. let gave = c.extend_by.ensures.memory refused in (gave.0, gave.1, gave.2, gave.3, gave.4, gave.5.0))
 
 pub returns-clause-no_memory : goal.returns-clause-no_memory
 returns-clause-no_memory g c =

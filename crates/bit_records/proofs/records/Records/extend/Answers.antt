@@ -7,9 +7,8 @@ use Rattle.std.proofs.Math.Seq.{take-append_seam}
 use Rattle.std.proofs.lemmas.List.Elements.{All-pop}
 use Rattle.bit_addressing.proofs.lists.Sized.{one_more_word}
 use Rattle.bit_containers.specs.BitVec.{IsClean}
-use Rattle.bit_containers.proofs.Pulling.{grown_more, never_grown}
+use Rattle.bit_containers.proofs.Pulling.{grown_more, never_grown, never_refused}
 use Rattle.bit_records.proofs.Numbers.{count_of}
-use Rattle.bit_records.proofs.Pulling.{never_refused}
 use Rattle.bit_records.proofs.records.Records.extend.Goals as goal
 
 pub loop-number-init : goal.loop-number-init

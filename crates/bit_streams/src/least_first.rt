@@ -18,10 +18,7 @@ impl<T: BitStore, O: BitOrder> BitWriter<T, O> {
         ensures refusal { Refuses result (length self.old.list + n) self.old self.new }
         ensures capacity { self.old.capacity ≤ self.new.capacity }
     {
-        match self.append_le(n, x) {
-            Ok(()) => Ok(()),
-            Err(why) => Err(why),
-        }
+        self.append_le(n, x)
     }
 }
 

@@ -375,8 +375,8 @@ impl<'a, T: BitStore, O: BitOrder> BitReader<'a, T, O> {
         ensures passed { IfSome result (λ _. Passed n self.old self.new) }
         ensures kept { result ≡ None → self.new ≡ self.old }
     {
-        let n = n as usize;
-        if self.left < n {
+        let (n, left) = (n as usize, self.left);
+        if left < n {
             return None;
         }
         if n <= self.lows {

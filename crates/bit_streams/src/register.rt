@@ -67,7 +67,7 @@ pub(crate) fn turned(number: u64) -> u64
     ensures written { binary 64 result ≡ number_bits number 64 }
     ensures read { number_bits result 64 ≡ binary 64 number }
 {
-    number.reverse_pair(number).1
+    number.reverse_pair(number).0
 }
 
 // The same. By an order whose first bit is the highest, words are reversed as well, and a compiler sees that both cancel.

@@ -195,6 +195,10 @@ impl<T: BitStore, O: BitOrder> BitWriter<T, O> {
         ensures capacity { self.old.capacity ≤ self.new.capacity }
     {
         let len = bits.len();
+        // Few bits are one number, which is refused as they are.
+        if len <= 64 {
+            return self.write(len as u8, bits.load_be());
+        }
         match self.reserve(len) {
             Ok(()) => {}
             Err(why) => return Err(why),

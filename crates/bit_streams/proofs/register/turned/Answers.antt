@@ -6,10 +6,10 @@ use Rattle.bit_streams.proofs.register.turned.Goals as goal
 
 pub returns-clause-written : goal.returns-clause-written
 returns-clause-written c =
-    let same : c.reverse_pair.result.1 ≡ c.reverse_pair.result.1 / 2 ^ (64 - 64) = omega arith in
-    ap (binary 64) same ∙ turned_digits 64 c.args.number c.reverse_pair.result.1 (omega arith) (omega arith) c.reverse_pair.ensures.back
+    let same : c.reverse_pair.result.0 ≡ c.reverse_pair.result.0 / 2 ^ (64 - 64) = omega arith in
+    ap (binary 64) same ∙ turned_digits 64 c.args.number c.reverse_pair.result.0 (omega arith) (omega arith) c.reverse_pair.ensures.front
 
 pub returns-clause-read : goal.returns-clause-read
 returns-clause-read c =
-    let same : c.reverse_pair.result.1 ≡ c.reverse_pair.result.1 / 2 ^ (64 - 64) = omega arith in
-    ap (λ k. number_bits k 64) same ∙ chunk_of 64 c.args.number c.reverse_pair.result.1 (omega arith) (omega arith) c.reverse_pair.ensures.back
+    let same : c.reverse_pair.result.0 ≡ c.reverse_pair.result.0 / 2 ^ (64 - 64) = omega arith in
+    ap (λ k. number_bits k 64) same ∙ chunk_of 64 c.args.number c.reverse_pair.result.0 (omega arith) (omega arith) c.reverse_pair.ensures.front

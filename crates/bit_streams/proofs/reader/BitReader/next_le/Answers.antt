@@ -13,8 +13,8 @@ use Rattle.bit_streams.proofs.Lows.{low_next, low_taken}
 use Rattle.bit_streams.proofs.Padded.{length_rest, length-padded, passed_off, taken_off}
 use Rattle.bit_streams.proofs.reader.BitReader.next_le.Goals as goal
 
-pub returns-then-self-n-clause-none : goal.returns-then-self-n-clause-none
-returns-then-self-n-clause-none g c =
+pub returns-then-left-n-clause-none : goal.returns-then-left-n-clause-none
+returns-then-left-n-clause-none g c =
     let i = c.self.inside in
     let r = c.self.invariant.reading in
     let rows = row g.T.BitStore g.O.BitOrder i.words.now in

@@ -110,7 +110,7 @@ low_next row from lows low n block ahead held over few room below next filled =
     let both : number_bits ahead n ≡ number_bits low lows ++ number_bits block need = first_digits in
     let less : block < 2 ^ (64 - need) * 2 ^ need = subst (λ k. block < k) (pow_parts 64 (64 - need) need (omega arith)) below in (
       ap (λ k. number_bits k n) cut ∙ bits_low n ahead ∙ both ∙ ap (λ l. l ++ number_bits block need) held.digits ∙ ap (λ l. slice_range row from (from + lows) ++ l) (sym parts.0)
-      ∙ slices_joined row from (from + lows) (from + n) (omega arith) (omega arith) (omega arith),
+          ∙ slices_joined row from (from + lows) (from + n) (omega arith) (omega arith) (omega arith),
       subst (λ k. k < 2 ^ n) (sym cut) (mod_below ahead (2 ^ n) (pow_pos n)),
       subst (λ k. IsLow row (from + n) (64 - need) k) (sym shifts) (record {
         digits = sym parts.1 ∙ ap (slice_range row (from + n)) end;

@@ -6,7 +6,9 @@ ghost use Rattle.bit_addressing.specs.declared.length.TheConstants.{MAX_BITS};
 ghost use Rattle.bit_containers.specs.BitVec.{IsClean};
 ghost use Rattle.bit_streams.specs.Streams.{Refuses};
 
-use crate::register::{block_of, block_of_le, cut_at, filled, front_of, joined, make_room, push_block};
+use crate::register::{
+    block_of, block_of_le, cut_at, filled, front_of, joined, make_room, push_block,
+};
 use bit_addressing::{BitOrder, BitStore, GrowError, MAX_BITS, elts};
 use bit_containers::{BitList, BitVec};
 use bit_slice::inner::reversed;

@@ -10,3 +10,5 @@ pub mod ItemsRead
 pub mod Parted
 pub mod Held
 pub mod Headers
+pub mod Lows
+pub mod Both

@@ -1,5 +1,5 @@
 -- A list that begins with the digits of a number, or with a bit.
-use Rattle.std.proofs.Common.{◌≡◌, ℕ, ◌+◌, ◌*◌, ◌/◌, ◌%◌, ◌^◌, ◌<◌, ◌≤◌, Bool, true, false, cond, List, [], ◌∷◌, ◌++◌, length, take, drop, slice_range, append_assoc, rules, slice_get, get_or, Some, None, Ok, Err, nat_eq, sym, ◌∙◌, ap, subst, refl, zero, suc, inl, inr, arith}
+use Rattle.std.proofs.Common.{◌≡◌, ℕ, ◌+◌, ◌*◌, ◌/◌, ◌%◌, ◌^◌, ◌<◌, ◌≤◌, Bool, true, false, cond, List, [], ◌∷◌, ◌++◌, length, take, drop, slice_range, append_assoc, rules, slice_get, get_or, Some, None, Ok, Err, Result, OnErr, ◌↔◌, append-nil, nat_eq, sym, ◌∙◌, ap, subst, refl, zero, suc, inl, inr, arith}
 use Rattle.std.proofs.lemmas.List.{take-append-drop, drop_at, length-append, drop_all, same_lists, places}
 use Rattle.std.proofs.lemmas.Option.{slice_get_within, slice_get-get_or, get_or_from_slice_get}
 use Rattle.std.proofs.lemmas.Bool.{cases_lt}
@@ -13,6 +13,7 @@ use Rattle.bit_addressing.specs.declared.order.BitOrder as order
 use Rattle.bit_addressing.specs.Typed.{row}
 use Rattle.bit_addressing.proofs.Typed.{length_row}
 use Rattle.bit_addressing.specs.declared.length.TheConstants.{MAX_BITS}
+use Rattle.bit_addressing.specs.declared.errors.GrowError.{GrowError}
 use Rattle.bit_addressing.specs.declared.errors.GrowError.TheVariants.{TooLong, OutOfMemory}
 use Rattle.bit_streams.specs.Streams.{Passed, Reading, Writing, Refuses}
 use Rattle.bit_addressing.proofs.Runs.{mul_mono, slices_joined}
@@ -210,3 +211,26 @@ pub begins_through : (old mid new more : List Bool) → mid ≡ old ++ more → 
 begins_through old mid new more is begins =
     begins_with old new (more ++ drop (length mid) new)
     (sym (take-append-drop (length mid) new) ∙ ap (λ l. l ++ drop (length mid) new) (begins ∙ is) ∙ append_assoc old more (drop (length mid) new))
+
+-- where no bits wait the list is the words' row
+pub none_waits : (rs : List Bool) (count p : ℕ) → count ≡ 0 → rs ++ binary count p ≡ rs
+none_waits rs count p e = ap (λ l. rs ++ l) (nil_from_length (binary count p) (length-binary count p ∙ e)) ∙ append-nil rs
+
+-- a call is refused as the call that it makes, which wants no more bits
+pub refused_as : {A : Type 0} (result : Result A GrowError) (wanted more : ℕ) (old new was now : Writing) → was.capacity ≡ old.capacity → (now.list ≡ was.list → new.list ≡ old.list) → more ≤ wanted → (MAX_BITS < wanted → MAX_BITS < more) → Refuses result more was now → Refuses result wanted old new
+refused_as {A = A} result wanted more old new was now capacity back least most r = record {
+  too_long = (λ e. (let p = r.too_long.0 e in omega arith), λ h. r.too_long.1 (most h));
+  memory = λ e. (let full = r.memory e in omega arith);
+  unchanged = kept result r.unchanged;
+}
+  where
+    kept : (answer : Result A GrowError) → OnErr answer (now.list ≡ was.list) → OnErr answer (new.list ≡ old.list)
+    kept (Ok x) e = search rules
+    kept (Err why) e = back e
+
+-- what is not refused is within the limit
+pub within_limit : {A : Type 0} (x : A) (more : ℕ) (was now : Writing) → Refuses (Ok x) more was now → more ≤ MAX_BITS
+within_limit x more was now r = elim (cases_lt MAX_BITS more) [
+  | inl l ↦ absurd (let e = r.too_long.1 l in cc)
+  | inr l ↦ l
+]

@@ -25,13 +25,14 @@ parted_run row xs ys a b c is h k room size =
       sym (drop_at (slice_range row a b) (slice_range row b c) (b - a) first) ∙ ap (drop (b - a)) all ∙ drop_at xs ys (b - a) size,
     )
 
-pow_parts : (a b c : ℕ) → a ≡ b + c → 2 ^ a ≡ 2 ^ b * 2 ^ c
+-- a power of a sum is the product of the powers
+pub pow_parts : (a b c : ℕ) → a ≡ b + c → 2 ^ a ≡ 2 ^ b * 2 ^ c
 pow_parts a b c e = ap (λ k. 2 ^ k) e ∙ pow-add 2 b c
 
 products : (q m r c : ℕ) → (q * m + r) * c ≡ q * (m * c) + r * c
 products q m r c = grind (arith, mul_assoc)
 
-mod_scaled : (v m c : ℕ) → 0 < m → 0 < c → (v * c) % (m * c) ≡ v % m * c
+pub mod_scaled : (v m c : ℕ) → 0 < m → 0 < c → (v * c) % (m * c) ≡ v % m * c
 mod_scaled v m c pm pc =
     let low = mod_below v m pm in
     let most = mul_mono (v % m + 1) m c (omega arith) in

@@ -1,7 +1,7 @@
 -- Readers and writers: what contracts see of them, and what always holds of their registers.
-use Rattle.std.specs.Prelude.{◌≡◌, ℕ, ◌+◌, ◌-◌, ◌*◌, ◌%◌, ◌^◌, ◌<◌, ◌≤◌, ◌++◌, ◌↔◌, Bool, false, List, drop, length, replicate, slice_range, refl, Result, Err, OnErr}
+use Rattle.std.specs.Prelude.{◌≡◌, ℕ, ◌+◌, ◌-◌, ◌*◌, ◌%◌, ◌^◌, ◌<◌, ◌≤◌, ◌++◌, ◌↔◌, ◌⊎◌, Bool, false, List, drop, length, replicate, slice_range, refl, Result, Err, OnErr}
 use Rattle.std.specs.Coded.{Coded, code_by, coded×, coded_list, coded_ℕ, coded_bool}
-use Rattle.bit_addressing.specs.Row.{binary, words_for}
+use Rattle.bit_addressing.specs.Row.{binary, number_bits, words_for}
 use Rattle.bit_addressing.specs.declared.errors.GrowError.{GrowError}
 use Rattle.bit_addressing.specs.declared.errors.GrowError.TheVariants.{TooLong, OutOfMemory}
 use Rattle.bit_addressing.specs.declared.length.TheConstants.{MAX_BITS}
@@ -42,6 +42,11 @@ pub record IsPending (w n count pending : ℕ) : Type 0 where
   pub blocks : w * n % 64 ≡ 0
   pub fits : w * n ≤ MAX_BITS
 
+-- what always holds of a writer's last digits: they wait as a number of `tails` digits after a list of `len` bits, of whose last block it is not the end
+pub record IsTail (len tails tail : ℕ) : Type 0 where
+  pub few : len % 64 + tails < 64
+  pub small : tail < 2 ^ tails
+
 -- the highest `have` digits of a register are the items of a row from `from` on, and its other digits are 0
 pub record IsHeld (row : List Bool) (from have window : ℕ) : Type 0 where
   pub number : ℕ
@@ -63,3 +68,16 @@ pub record IsReading (row : List Bool) (w n start left end have window : ℕ) : 
   pub few : end ≤ start + MAX_BITS
   pub in_word : start < w
   pub exact : n ≡ words_for w end
+
+-- the same bits as a number whose first bit is the lowest
+pub record IsLow (row : List Bool) (from lows low : ℕ) : Type 0 where
+  pub digits : number_bits low lows ≡ slice_range row from (from + lows)
+  pub small : low < 2 ^ lows
+  pub few : lows < 64
+
+-- what always holds of a reader: each of its registers holds what comes next, and one of them nothing
+pub record IsReadingBoth (row : List Bool) (w n start left end have window lows low : ℕ) : Type 0 where
+  pub reading : IsReading row w n start left end have window
+  pub low_held : IsLow (padded row) (end - left) lows low
+  pub low_ahead : end - left + lows ≤ w * n + 64
+  pub one : (have ≡ 0) ⊎ (lows ≡ 0)

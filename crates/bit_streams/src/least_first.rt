@@ -6,7 +6,6 @@ ghost use Rattle.bit_streams.specs.Streams.{Passed, Refuses};
 use crate::reader::BitReader;
 use crate::writer::BitWriter;
 use bit_addressing::{BitOrder, BitStore, GrowError};
-use bit_slice::inner::reversed;
 
 impl<T: BitStore, O: BitOrder> BitWriter<T, O> {
     /// Appends the `n` lowest binary digits of a number, the least significant first. Refused like `write`. Requires that
@@ -19,10 +18,7 @@ impl<T: BitStore, O: BitOrder> BitWriter<T, O> {
         ensures refusal { Refuses result (length self.old.list + n) self.old self.new }
         ensures capacity { self.old.capacity ≤ self.new.capacity }
     {
-        match self.write(n, reversed(n, x)) {
-            Ok(()) => Ok(()),
-            Err(why) => Err(why),
-        }
+        self.append_le(n, x)
     }
 }
 

@@ -1,6 +1,7 @@
 //! Streams of bits: `BitReader` reads the bits of a view in order, `BitWriter` appends bits to a vector of its own.
 #![tactic(auto)]
 
+mod blocks;
 mod codes;
 mod fields;
 mod formats;

@@ -7,7 +7,8 @@ ghost use Rattle.bit_addressing.specs.declared.length.TheConstants.{MAX_BITS};
 ghost use Rattle.bit_slice.specs.BitSlice.{len_of, list_of};
 ghost use Rattle.bit_streams.specs.Streams.{Passed, padded};
 
-use bit_addressing::{BitIdx, BitOrder, BitStore};
+use crate::register::{filled_le, lowest_first, turned, turned_in};
+use bit_addressing::{BitOrder, BitStore};
 use bit_rows::{read_binary, read_block, read_chunk};
 use bit_slice::BitSlice;
 use bit_slice::inner::reversed;
@@ -49,13 +50,17 @@ pub struct BitReader<'a, T: BitStore, O: BitOrder> {
     // compiler that sees the widths of a record's fields knows how many are held at each.
     window: u64,
     have: usize,
+    // The same for numbers whose least significant digit comes first: the next `lows` bits, fewer than 64, of which the first
+    // is the lowest. One of the two holds nothing: a read that finds its register empty fills it, and empties the other.
+    low: u64,
+    lows: usize,
     order: PhantomData<O>,
 }
 
 impl<'a, T: BitStore, O: BitOrder> Model for BitReader<'a, T, O> {
     ghost use Rattle.std.specs.Prelude.{◌-◌, length, slice_range};
     ghost use Rattle.bit_addressing.specs.Typed.{row};
-    ghost use Rattle.bit_streams.specs.Streams.{IsReading, Reading, reading_code};
+    ghost use Rattle.bit_streams.specs.Streams.{IsReadingBoth, Reading, reading_code};
 
     ghost Value = { Reading };
 
@@ -66,15 +71,8 @@ impl<'a, T: BitStore, O: BitOrder> Model for BitReader<'a, T, O> {
       position = r.end - r.left - r.start;
     } };
 
-    ghost invariant = { λ r. IsReading (row T.BitStore O.BitOrder r.words.now)
-        T.BITS (length r.words.now) r.start r.left r.end r.have r.window };
-}
-
-// Whether index 0 of a word is its lowest place, where the order goes by shifts: then a number whose least significant digit
-// comes first lies in the words as it is. It is a hint for speed alone.
-#[inline(always)]
-fn lowest_first<O: BitOrder>() -> bool {
-    O::goes_by_shifts() && O::at(BitIdx::<u64>::new_unchecked(0)).into_inner() == 0
+    ghost invariant = { λ r. IsReadingBoth (row T.BitStore O.BitOrder r.words.now)
+        T.BITS (length r.words.now) r.start r.left r.end r.have r.window r.lows r.low };
 }
 
 // The number that the 64 bits from `at` on write, the first the most significant. Requires that a word begins at `at`.
@@ -84,7 +82,7 @@ fn block_at<T: BitStore, O: BitOrder>(words: &[T], at: usize) -> u64
     requires within { at + 64 ≤ T.BITS * length words.now }
     ensures { binary 64 result ≡ slice_range (row T.BitStore O.BitOrder words.now) at (at + 64) }
 {
-    read_block::<T, O>(words, at).reverse()
+    turned_in::<O>(read_block::<T, O>(words, at))
 }
 
 // The number that the 64 bits from `at` on write, where those past the words are 0. Requires that `at` lies in the words,
@@ -104,6 +102,20 @@ fn bits_at<T: BitStore, O: BitOrder>(words: &[T], at: usize, known: usize) -> u6
         return block_at::<T, O>(words, at);
     }
     joined_blocks::<T, O>(words, at, skip)
+}
+
+// Like `bits_at`, the first bit the least significant digit.
+#[inline(always)]
+fn lows_at<T: BitStore, O: BitOrder>(words: &[T], at: usize, known: usize) -> u64
+    requires inside { at < T.BITS * length words.now }
+    requires known { at + known ≤ T.BITS * length words.now }
+    requires fits { T.BITS * length words.now < 2 ^ 64 }
+    ensures { number_bits result 64 ≡ slice_range (padded (row T.BitStore O.BitOrder words.now)) at (at + 64) }
+{
+    if known >= 128 && lowest_first::<O>() {
+        return read_chunk::<T, O>(words, at, 64);
+    }
+    turned(bits_at::<T, O>(words, at, known))
 }
 
 // The 64 bits from `at` on out of two blocks of whole words. Requires that `skip` bits of a word lie before `at`.
@@ -158,6 +170,8 @@ impl<'a, T: BitStore, O: BitOrder> BitReader<'a, T, O> {
             left: len,
             window: 0,
             have: 0,
+            low: 0,
+            lows: 0,
             order: PhantomData,
         }
     }
@@ -183,6 +197,8 @@ impl<'a, T: BitStore, O: BitOrder> BitReader<'a, T, O> {
             left: self.left,
             window: self.window,
             have: self.have,
+            low: self.low,
+            lows: self.lows,
             order: PhantomData,
         }
     }
@@ -293,6 +309,8 @@ impl<'a, T: BitStore, O: BitOrder> BitReader<'a, T, O> {
         let half = half_at::<T, O>(self.words, at, skip);
         self.window += half << (32 - self.have);
         self.have += 32;
+        self.low = 0;
+        self.lows = 0;
     }
 
     // Passes more bits than the register holds.
@@ -315,6 +333,8 @@ impl<'a, T: BitStore, O: BitOrder> BitReader<'a, T, O> {
         ensures { Passed n self.old self.new }
     {
         self.left -= n;
+        self.low = 0;
+        self.lows = 0;
         if n <= self.have {
             self.window = self.window << n;
             self.have -= n;
@@ -356,7 +376,7 @@ impl<'a, T: BitStore, O: BitOrder> BitReader<'a, T, O> {
         }
     }
 
-    // What `read_le` returns, like `look_le`.
+    // What `read_le` returns.
     #[inline(always)]
     pub(crate) fn next_le(&mut self, n: u8) -> Option<u64>
         requires { n ≤ 64 }
@@ -366,18 +386,32 @@ impl<'a, T: BitStore, O: BitOrder> BitReader<'a, T, O> {
         ensures passed { IfSome result (λ _. Passed n self.old self.new) }
         ensures kept { result ≡ None → self.new ≡ self.old }
     {
-        if lowest_first::<O>() {
-            if self.remaining() < n as usize {
-                return None;
-            }
-            let x = self.seen_le(n);
-            self.pass(n as usize);
+        let (n, left) = (n as usize, self.left);
+        if left < n {
+            return None;
+        }
+        if n <= self.lows {
+            let x = self.low % (1 << n);
+            self.low = self.low >> n;
+            self.lows -= n;
+            self.left -= n;
             return Some(x);
         }
-        match self.read(n) {
-            None => None,
-            Some(x) => Some(reversed(n, x)),
-        }
+        let need = n - self.lows;
+        let block = lows_at::<T, O>(
+            self.words,
+            self.end - self.left + self.lows,
+            self.left - self.lows,
+        );
+        let ahead = filled_le(self.lows as u8, self.low, block);
+        let x = (ahead << (64 - n)) >> (64 - n);
+        // By two shifts, so that none is by 64.
+        self.low = (block >> 1) >> (need - 1);
+        self.lows = 64 - need;
+        self.left -= n;
+        self.window = 0;
+        self.have = 0;
+        Some(x)
     }
 
     // What `read` returns, with the clauses that the others follow from.
@@ -412,6 +446,8 @@ impl<'a, T: BitStore, O: BitOrder> BitReader<'a, T, O> {
         self.window = (block << (need - 1)) << 1;
         self.have = 64 - need;
         self.left -= n;
+        self.low = 0;
+        self.lows = 0;
         Some(x)
     }
 
@@ -450,6 +486,12 @@ impl<'a, T: BitStore, O: BitOrder> BitReader<'a, T, O> {
         ensures back { (bit : Bool) → (more : List Bool) → self.old.rest ≡ bit ∷ more
             → (result ≡ Some bit) × (self.new.rest ≡ more) }
     {
+        if self.lows != 0 {
+            return match self.next_le(1) {
+                None => None,
+                Some(x) => Some(x == 1),
+            };
+        }
         match self.next(1) {
             None => None,
             Some(x) => Some(x == 1),

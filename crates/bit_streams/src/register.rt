@@ -1,9 +1,10 @@
 //! What the writer keeps in its register, and the blocks of 64 bits that it appends to its words.
-ghost use Rattle.std.specs.Prelude.{◌≡◌, if◌then◌else◌, ◌+◌, ◌-◌, ◌*◌, ◌/◌, ◌^◌, ◌<◌, ◌≤◌, ◌%◌, ◌++◌, [], ◌∷◌, OnErr, OnOk, length, replicate, slice_range, take, vec_capacity};
-ghost use Rattle.bit_addressing.specs.Row.{binary, row_of};
+ghost use Rattle.std.specs.Prelude.{◌≡◌, ℕ, if◌then◌else◌, ◌+◌, ◌-◌, ◌*◌, ◌/◌, ◌^◌, ◌<◌, ◌≤◌, ◌%◌, ◌++◌, [], ◌∷◌, OnErr, OnOk, length, replicate, slice_range, take, vec_capacity};
+ghost use Rattle.bit_addressing.specs.Bits.{has_bit};
+ghost use Rattle.bit_addressing.specs.Row.{binary, number_bits, row_of};
 ghost use Rattle.bit_addressing.specs.Typed.{row};
 
-use bit_addressing::{BitOrder, BitStore};
+use bit_addressing::{BitIdx, BitOrder, BitStore};
 use bit_rows::{cut_words_in_vec, read_binary};
 use std::alloc::AllocError;
 use std::mem::replace;
@@ -12,6 +13,7 @@ use std::mem::replace;
 #[inline(always)]
 pub(crate) fn digit_of(bit: bool) -> u64
     ensures digits { binary 1 result ≡ bit ∷ [] }
+    ensures lowest { number_bits result 1 ≡ bit ∷ [] }
     ensures value { result ≡ (if bit then 1 else 0) }
 {
     if bit { 1 } else { 0 }
@@ -51,12 +53,87 @@ pub(crate) fn filled(pending: u64, count: u8, high: u64) -> u64
     joined(pending, count, 64 - count, high)
 }
 
+// Whether index 0 of a word is its lowest place, where the order goes by shifts: then a number whose least significant digit
+// comes first lies in the words as it is. It is a hint for speed alone.
+#[inline(always)]
+pub(crate) fn lowest_first<O: BitOrder>() -> bool {
+    O::goes_by_shifts() && O::at(BitIdx::<u64>::new_unchecked(0)).into_inner() == 0
+}
+
+// The digits of a number in reverse, by shuffles of bytes, which a processor does beside the shifts and sums of a register.
+#[inline(always)]
+pub(crate) fn turned(number: u64) -> u64
+    ensures places { (p : ℕ) → p < 64 → has_bit result p ≡ has_bit number (63 - p) }
+    ensures written { binary 64 result ≡ number_bits number 64 }
+    ensures read { number_bits result 64 ≡ binary 64 number }
+{
+    number.reverse_pair(number).0
+}
+
+// The same. By an order whose first bit is the highest, words are reversed as well, and a compiler sees that both cancel.
+#[inline(always)]
+pub(crate) fn turned_in<O: BitOrder>(number: u64) -> u64
+    ensures { (p : ℕ) → p < 64 → has_bit result p ≡ has_bit number (63 - p) }
+{
+    if lowest_first::<O>() {
+        turned(number)
+    } else {
+        number.reverse()
+    }
+}
+
+// `tail` of `tails` digits, the least significant first, with the `n` lowest digits of `x` after them.
+#[inline(always)]
+pub(crate) fn joined_le(tails: u8, tail: u64, n: u8, x: u64) -> u64
+    requires all { tails + n < 64 }
+    requires small { tail < 2 ^ tails }
+    ensures digits { number_bits result (tails + n) ≡ number_bits tail tails ++ number_bits x n }
+    ensures below { result < 2 ^ (tails + n) }
+{
+    tail + ((x % (1 << n)) << tails)
+}
+
+// `tail` of `tails` digits, filled up to 64 with the lowest digits of `x`.
+#[inline(always)]
+pub(crate) fn filled_le(tails: u8, tail: u64, x: u64) -> u64
+    requires few { tails < 64 }
+    requires small { tail < 2 ^ tails }
+    ensures { number_bits result 64 ≡ number_bits tail tails ++ number_bits x (64 - tails) }
+{
+    tail + (x << tails)
+}
+
+// What is left of `n` digits of `x` after the first `n - rest` of them.
+#[inline(always)]
+pub(crate) fn rest_le(n: u8, x: u64, rest: u8) -> u64
+    requires few { rest < 64 }
+    requires some { rest < n }
+    requires all { n ≤ 64 }
+    ensures digits { number_bits x n ≡ number_bits x (n - rest) ++ number_bits result rest }
+    ensures below { result < 2 ^ rest }
+{
+    // By two shifts, so that none is by 64.
+    ((x >> (n - rest - 1)) >> 1) % (1 << rest)
+}
+
 // The word of 64 bits that shows the number in this order, its most significant digit first.
 #[inline(always)]
-fn block_of<O: BitOrder>(number: u64) -> u64
+pub(crate) fn block_of<O: BitOrder>(number: u64) -> u64
     ensures { row_of O.place 64 (result ∷ []) ≡ binary 64 number }
 {
-    O::from_lsb0(number.reverse())
+    O::from_lsb0(turned_in::<O>(number))
+}
+
+// The word of 64 bits that shows the number in this order, its least significant digit first.
+#[inline(always)]
+pub(crate) fn block_of_le<O: BitOrder>(number: u64) -> u64
+    ensures { row_of O.place 64 (result ∷ []) ≡ number_bits number 64 }
+{
+    if lowest_first::<O>() {
+        O::from_lsb0(number)
+    } else {
+        block_of::<O>(turned(number))
+    }
 }
 
 // Word `i` of those that a block of 64 bits is made of.
@@ -101,14 +178,14 @@ fn grown_by<T: BitStore>(words: Vec<T>, more: usize) -> (Vec<T>, Result<(), Allo
     (words, done)
 }
 
-// Appends the 64 digits of a number as whole words, the most significant digit first.
+// Appends a block of 64 bits as whole words.
 #[inline(always)]
 pub(crate) fn push_block<T: BitStore, O: BitOrder>(
     words: &mut Vec<T>,
-    number: u64,
+    block: u64,
 ) -> Result<(), AllocError>
     ensures bits { OnOk result (row T.BitStore O.BitOrder words.new.items
-        ≡ row T.BitStore O.BitOrder words.old.items ++ binary 64 number) }
+        ≡ row T.BitStore O.BitOrder words.old.items ++ row_of O.place 64 (block ∷ [])) }
     ensures size { OnOk result (T.BITS * length words.new.items ≡ T.BITS * length words.old.items + 64) }
     ensures capacity { vec_capacity words.old ≤ vec_capacity words.new }
     ensures full { OnErr result (T.BITS * vec_capacity words.old < T.BITS * length words.old.items + 64) }
@@ -116,7 +193,6 @@ pub(crate) fn push_block<T: BitStore, O: BitOrder>(
 {
     let each = 64 / T::BITS;
     make_room(words, each as usize)?;
-    let block = block_of::<O>(number);
     for i in 0..each {
         words.push_reserved(word_of_block::<T, O>(block, i));
     }

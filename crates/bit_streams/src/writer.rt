@@ -1,22 +1,24 @@
 //! The writer: bits, numbers and lists of bits, one after another.
 ghost use Rattle.std.specs.Prelude.{◌≡◌, ◌≢◌, ◌+◌, ◌*◌, ◌≤◌, ◌<◌, ◌++◌, ◌↔◌, [], ◌∷◌, Err, IfOk, OnErr, OnOk, length, replicate, take, ◌-◌, ◌%◌};
-ghost use Rattle.bit_addressing.specs.Row.{binary};
+ghost use Rattle.bit_addressing.specs.Row.{binary, number_bits};
 ghost use Rattle.bit_addressing.specs.declared.errors.GrowError.{GrowError};
 ghost use Rattle.bit_addressing.specs.declared.length.TheConstants.{MAX_BITS};
 ghost use Rattle.bit_containers.specs.BitVec.{IsClean};
 ghost use Rattle.bit_slice.specs.BitSlice.{list_of};
 ghost use Rattle.bit_streams.specs.Streams.{Refuses};
 
-use crate::register::{cut_at, digit_of, filled, front_of, joined, make_room, push_block, run_of};
-use bit_addressing::{BitOrder, BitStore, GrowError, MAX_BITS, elts};
+use crate::blocks::Blocks;
+use crate::register::{digit_of, filled_le, joined_le, rest_le, run_of};
+use bit_addressing::{BitOrder, BitStore, GrowError, MAX_BITS};
 use bit_containers::{BitList, BitVec};
 use bit_slice::BitSlice;
+use bit_slice::inner::reversed;
 use std::alloc::Global;
-use std::marker::{Model, PhantomData};
+use std::marker::Model;
 
 /// Appends bits to words that it owns, and gives them back as a vector.
 ///
-/// The last bits wait in a register until there are 64 of them, so words are written whole. Bits and numbers are refused
+/// The last bits wait in registers until there are 64 of them, so words are written whole. Bits and numbers are refused
 /// as `TooLong` exactly where the list would pass `MAX_BITS`, and as `OutOfMemory` only where it would pass the capacity;
 /// what was written before stays. In contracts a writer `w` is `w.list`, the bits that were written, and `w.capacity`,
 /// how many there is room for.
@@ -40,31 +42,26 @@ use std::marker::{Model, PhantomData};
 /// ```
 #[derive(Drop)]
 pub struct BitWriter<T: BitStore, O: BitOrder> {
-    // What was written, but for the last bits.
-    words: Vec<T>,
-    // The last bits as a number of `count` digits, fewer than 64.
-    pending: u64,
-    count: u8,
-    order: PhantomData<O>,
+    // What was written, but for the last digits where those came with the least significant first.
+    blocks: Blocks<T, O>,
+    // The last bits, as a number of `tails` digits whose first bit is the lowest. They and what waits in the blocks are
+    // fewer than 64: so digits are turned round once for a block, and not once for each number.
+    tail: u64,
+    tails: u8,
 }
 
 impl<T: BitStore, O: BitOrder> Model for BitWriter<T, O> {
-    ghost use Rattle.std.specs.Prelude.{◌++◌, length, vec_capacity};
-    ghost use Rattle.bit_addressing.specs.Row.{binary};
-    ghost use Rattle.bit_addressing.specs.Typed.{row};
-    ghost use Rattle.bit_containers.specs.BitVec.{bits_in};
-    ghost use Rattle.bit_streams.specs.Streams.{IsPending, Writing, writing_code};
+    ghost use Rattle.std.specs.Prelude.{◌++◌, length};
+    ghost use Rattle.bit_addressing.specs.Row.{number_bits};
+    ghost use Rattle.bit_streams.specs.Streams.{IsTail, Writing, writing_code};
 
     ghost Value = { Writing };
 
     ghost coded = { writing_code };
 
-    ghost view = { λ w. record {
-      list = row T.BitStore O.BitOrder w.words.items ++ binary w.count w.pending;
-      capacity = bits_in T.BITS (vec_capacity w.words) 0;
-    } };
+    ghost view = { λ w. record { list = w.blocks.list ++ number_bits w.tail w.tails; capacity = w.blocks.capacity } };
 
-    ghost invariant = { λ w. IsPending T.BITS (length w.words.items) w.count w.pending };
+    ghost invariant = { λ w. IsTail (length w.blocks.list) w.tails w.tail };
 }
 
 impl<T: BitStore, O: BitOrder> BitWriter<T, O> {
@@ -74,10 +71,9 @@ impl<T: BitStore, O: BitOrder> BitWriter<T, O> {
         ensures capacity { result.capacity ≡ 0 }
     {
         BitWriter {
-            words: Vec::new(alloc),
-            pending: 0,
-            count: 0,
-            order: PhantomData,
+            blocks: Blocks::new(alloc),
+            tail: 0,
+            tails: 0,
         }
     }
 
@@ -88,12 +84,11 @@ impl<T: BitStore, O: BitOrder> BitWriter<T, O> {
         ensures too_long { (result ≡ Err GrowError.TooLong) ↔ (MAX_BITS < n) }
         ensures memory { result ≡ Err GrowError.OutOfMemory → 0 < n }
     {
-        match BitVec::<T, O>::with_capacity(alloc, n) {
-            Ok(bits) => Ok(BitWriter {
-                words: bits.into_vec(),
-                pending: 0,
-                count: 0,
-                order: PhantomData,
+        match Blocks::with_capacity(alloc, n) {
+            Ok(blocks) => Ok(BitWriter {
+                blocks,
+                tail: 0,
+                tails: 0,
             }),
             Err(why) => Err(why),
         }
@@ -104,18 +99,10 @@ impl<T: BitStore, O: BitOrder> BitWriter<T, O> {
     pub fn over(bits: BitVec<T, O>) -> Self
         ensures { result.list ≡ bits.list }
     {
-        let mut bits = bits;
-        bits.force_align();
-        let len = bits.len();
-        let count = (len % 64) as u8;
-        let at = len - count as usize;
-        let pending = bits.load_be_at(at, count);
-        bits.truncate(at);
         BitWriter {
-            words: bits.into_vec(),
-            pending,
-            count,
-            order: PhantomData,
+            blocks: Blocks::over(bits),
+            tail: 0,
+            tails: 0,
         }
     }
 
@@ -125,7 +112,7 @@ impl<T: BitStore, O: BitOrder> BitWriter<T, O> {
         ensures value { result ≡ length self.now.list }
         ensures few { result ≤ MAX_BITS }
     {
-        self.words.len() * T::BITS as usize + self.count as usize
+        self.blocks.len() + self.tails as usize
     }
 
     /// Makes room for `n` more bits, so that they are not refused for memory. Changes nothing but perhaps the capacity.
@@ -140,11 +127,7 @@ impl<T: BitStore, O: BitOrder> BitWriter<T, O> {
         if n > MAX_BITS - len {
             return Err(GrowError::TooLong);
         }
-        match make_room(&mut self.words, elts::<T>(self.count as usize + n)) {
-            Ok(()) => {}
-            Err(_) => return Err(GrowError::OutOfMemory),
-        }
-        Ok(())
+        self.blocks.reserve(self.tails as usize + n)
     }
 
     /// Appends a bit.
@@ -155,10 +138,10 @@ impl<T: BitStore, O: BitOrder> BitWriter<T, O> {
         ensures refusal { Refuses result (length self.old.list + 1) self.old self.new }
         ensures capacity { self.old.capacity ≤ self.new.capacity }
     {
-        match self.write(1, digit_of(bit)) {
-            Ok(()) => Ok(()),
-            Err(why) => Err(why),
+        if self.tails != 0 {
+            return self.append_le(1, digit_of(bit));
         }
+        self.write(1, digit_of(bit))
     }
 
     /// Appends the `n` lowest binary digits of a number, the most significant first. Requires that `n` is at most 64.
@@ -174,25 +157,40 @@ impl<T: BitStore, O: BitOrder> BitWriter<T, O> {
         ensures refusal { Refuses result (length self.old.list + n) self.old self.new }
         ensures capacity { self.old.capacity ≤ self.new.capacity }
     {
-        let count = self.count + n;
+        let (tail, tails) = (self.tail, self.tails);
+        self.tail = 0;
+        self.tails = 0;
+        self.blocks.join_le(tails, tail);
+        self.blocks.write(n, x)
+    }
+
+    // What `write_le` does: digits wait as they come, until they and those before them are 64.
+    #[inline(always)]
+    pub(crate) fn append_le(&mut self, n: u8, x: u64) -> Result<(), GrowError>
+        requires { n ≤ 64 }
+        ensures list { OnOk result (self.new.list ≡ self.old.list ++ number_bits x n) }
+        ensures len { OnOk result (length self.new.list ≡ length self.old.list + n) }
+        ensures refusal { Refuses result (length self.old.list + n) self.old self.new }
+        ensures capacity { self.old.capacity ≤ self.new.capacity }
+    {
+        let waits = self.blocks.waits();
+        let count = waits + self.tails + n;
         if count < 64 {
-            self.pending = joined(self.pending, self.count, n, x);
-            self.count = count;
+            self.tail = joined_le(self.tails, self.tail, n, x);
+            self.tails += n;
             return Ok(());
         }
-        // Up to here no test is needed: a register that isn't full stays within MAX_BITS, since the words are whole blocks.
-        if self.words.len() * T::BITS as usize > MAX_BITS - 64 {
-            return Err(GrowError::TooLong);
+        if waits != 0 {
+            return self.write(n, reversed(n, x));
         }
         let rest = count - 64;
-        let block = filled(self.pending, self.count, x >> rest);
-        match push_block::<T, O>(&mut self.words, block) {
+        match self.blocks.push_le(filled_le(self.tails, self.tail, x)) {
             Ok(()) => {
-                self.pending = x % (1 << rest);
-                self.count = rest;
+                self.tail = rest_le(n, x, rest);
+                self.tails = rest;
                 Ok(())
             }
-            Err(_) => Err(GrowError::OutOfMemory),
+            Err(why) => Err(why),
         }
     }
 
@@ -207,6 +205,10 @@ impl<T: BitStore, O: BitOrder> BitWriter<T, O> {
         ensures capacity { self.old.capacity ≤ self.new.capacity }
     {
         let len = bits.len();
+        // Few bits are one number, which is refused as they are.
+        if len <= 64 {
+            return self.write(len as u8, bits.load_be());
+        }
         match self.reserve(len) {
             Ok(()) => {}
             Err(why) => return Err(why),
@@ -264,19 +266,14 @@ impl<T: BitStore, O: BitOrder> BitWriter<T, O> {
         ensures list { self.new.list ≡ take n self.old.list }
         ensures capacity { self.new.capacity ≡ self.old.capacity }
     {
-        let whole = self.words.len() * T::BITS as usize;
-        if n >= whole + self.count as usize {
+        if n >= self.len() {
             return;
         }
-        if n >= whole {
-            let count = (n - whole) as u8;
-            self.pending = front_of(self.pending, self.count, count);
-            self.count = count;
-            return;
-        }
-        let (pending, count) = cut_at::<T, O>(&mut self.words, n);
-        self.pending = pending;
-        self.count = count;
+        let (tail, tails) = (self.tail, self.tails);
+        self.tail = 0;
+        self.tails = 0;
+        self.blocks.join_le(tails, tail);
+        self.blocks.truncate(n);
     }
 
     /// The vector of the bits that were written, from head 0 on, with each dead bit false. Refused only for memory, and
@@ -288,10 +285,8 @@ impl<T: BitStore, O: BitOrder> BitWriter<T, O> {
         ensures not_long { result ≢ Err GrowError.TooLong }
         ensures memory { result ≡ Err GrowError.OutOfMemory → self.capacity < length self.list }
     {
-        let mut bits = BitVec::from_vec(self.words);
-        match bits.push_be(self.count, self.pending) {
-            Ok(()) => Ok(bits),
-            Err(why) => Err(why),
-        }
+        let mut blocks = self.blocks;
+        blocks.join_le(self.tails, self.tail);
+        blocks.finish()
     }
 }

@@ -10,5 +10,5 @@ returns g c =
     let digits = binary 64 c.args.number in
     let long = length-binary 64 c.args.number in
     row_from g.O.BitOrder.place 64 c.from_lsb0.result 0 digits (omega arith) (omega arith)
-    (λ i h. c.from_lsb0.ensures i h ∙ c.reverse.ensures i h ∙ sym (get_or-binary 64 c.args.number i h) ∙ (let e : i ≡ 0 + i = omega arith in ap (λ k. get_or digits k false) e))
+    (λ i h. c.from_lsb0.ensures i h ∙ c.turned_in.ensures i h ∙ sym (get_or-binary 64 c.args.number i h) ∙ (let e : i ≡ 0 + i = omega arith in ap (λ k. get_or digits k false) e))
     ∙ slice_whole 64 digits long

@@ -15,10 +15,10 @@ loop-i-preserved g c =
     let place = g.O.BitOrder.place in
     let items = c.loop-i.words.items in
     let word = c.word_of_block.result in
-    let b = row_of place 64 (c.block_of-block.result ∷ []) in
+    let b = row_of place 64 (c.args.block ∷ []) in
     let positive = width_positive w g.met.T.BitStore.width in
     let whole = pack_fills w g.met.T.BitStore.width in
-    let size : length b ≡ 64 * 1 = length-row_of place 64 (c.block_of-block.result ∷ []) in
+    let size : length b ≡ 64 * 1 = length-row_of place 64 (c.args.block ∷ []) in
     let count : 64 / c.BITS-each.result ≡ 64 / w = ap (λ n. 64 / n) c.BITS-each.ensures in
     let most = mul_mono (c.loop-i.i + 1) (64 / w) w (omega arith) in
     let added : row g.T.BitStore g.O.BitOrder c.push_reserved.new.self.items ≡ row g.T.BitStore g.O.BitOrder items ++ row g.T.BitStore g.O.BitOrder (word ∷ []) =
@@ -39,11 +39,11 @@ loop-i-preserved g c =
 pub returns-clause-bits : goal.returns-clause-bits
 returns-clause-bits g c =
     let w = g.T.BitStore.BITS in
-    let b = row_of g.O.BitOrder.place 64 (c.block_of-block.result ∷ []) in
+    let b = row_of g.O.BitOrder.place 64 (c.args.block ∷ []) in
     let whole = pack_fills w g.met.T.BitStore.width in
-    let size : length b ≡ 64 * 1 = length-row_of g.O.BitOrder.place 64 (c.block_of-block.result ∷ []) in
+    let size : length b ≡ 64 * 1 = length-row_of g.O.BitOrder.place 64 (c.args.block ∷ []) in
     let count : 64 / c.BITS-each.result ≡ 64 / w = ap (λ n. 64 / n) c.BITS-each.ensures in
     let end : c.loop-i.i ≡ 64 / w = omega arith in
     let all : c.loop-i.i * w ≡ 64 = ap (λ n. n * w) end ∙ whole in
     c.loop-i.invariant.0
-    ∙ ap (λ l. row g.T.BitStore g.O.BitOrder c.args.words.now.items ++ l) (ap (slice_range b 0) all ∙ slice_whole 64 b (omega arith) ∙ c.block_of-block.ensures)
+    ∙ ap (λ l. row g.T.BitStore g.O.BitOrder c.args.words.now.items ++ l) (ap (slice_range b 0) all ∙ slice_whole 64 b (omega arith))

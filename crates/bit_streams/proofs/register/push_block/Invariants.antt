@@ -5,7 +5,7 @@ use Rattle.bit_streams.proofs.register.push_block.Given as goal
 
 abbrev pub invariant-loop-i : goal.invariant-loop-i
 invariant-loop-i g l =
-    (row g.T.BitStore g.O.BitOrder l.words.items ≡ row g.T.BitStore g.O.BitOrder l.fn.words.items ++ slice_range (row_of g.O.BitOrder.place 64 (l.block ∷ [])) 0 (l.i * g.T.BitStore.BITS))
+    (row g.T.BitStore g.O.BitOrder l.words.items ≡ row g.T.BitStore g.O.BitOrder l.fn.words.items ++ slice_range (row_of g.O.BitOrder.place 64 (l.fn.block ∷ [])) 0 (l.i * g.T.BitStore.BITS))
     × (length l.words.items ≡ length l.fn.words.items + l.i)
     × (vec_capacity l.fn.words ≤ vec_capacity l.words)
     × (length l.fn.words.items + l.each ≤ vec_capacity l.words)

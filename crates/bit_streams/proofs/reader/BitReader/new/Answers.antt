@@ -4,6 +4,7 @@ use Rattle.bit_addressing.specs.Row.{words_for}
 use Rattle.bit_addressing.proofs.Rows.{width_positive}
 use Rattle.bit_addressing.proofs.lists.Sized.{room}
 use Rattle.bit_streams.specs.Streams.{padded}
+use Rattle.bit_streams.proofs.Both.{emptied}
 use Rattle.bit_streams.proofs.Windows.{nothing_held}
 use Rattle.bit_streams.proofs.reader.BitReader.new.Goals as goal
 
@@ -15,7 +16,7 @@ invariant_of-result g c =
     let count : length c.as_raw_slice.result.now ≡ words_for w end = grind arith in
     let size : w * length c.as_raw_slice.result.now ≡ w * words_for w end = ap (λ n. w * n) count in
     let few = c.len-len.ensures.few in
-    record {
+    emptied (row g.T.BitStore g.O.BitOrder c.as_raw_slice.result.now) w (length c.as_raw_slice.result.now) c.head-start.result c.len-len.result end 0 0 (record {
       held = nothing_held (padded (row g.T.BitStore g.O.BitOrder c.as_raw_slice.result.now)) (end - c.len-len.result);
       ahead = omega arith;
       begins = omega arith;
@@ -23,4 +24,4 @@ invariant_of-result g c =
       few = omega arith;
       in_word = omega arith;
       exact = count;
-    }
+    })

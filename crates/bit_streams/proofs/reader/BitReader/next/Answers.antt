@@ -6,6 +6,7 @@ use Rattle.bit_addressing.proofs.lists.Sized.{room}
 use Rattle.bit_addressing.specs.Typed.{row}
 use Rattle.bit_addressing.proofs.Typed.{length_row}
 use Rattle.bit_streams.specs.Streams.{padded}
+use Rattle.bit_streams.proofs.Both.{emptied, first_on}
 use Rattle.bit_streams.proofs.Windows.{taken_next}
 use Rattle.bit_streams.proofs.Padded.{length_rest, length-padded, reading_on, taken_any, taken_off}
 use Rattle.bit_streams.proofs.reader.BitReader.next.Goals as goal
@@ -13,7 +14,7 @@ use Rattle.bit_streams.proofs.reader.BitReader.next.Goals as goal
 pub returns-then-self-n-clause-none : goal.returns-then-self-n-clause-none
 returns-then-self-n-clause-none g c =
     let i = c.self.inside in
-    let r = c.self.invariant in
+    let r = c.self.invariant.reading in
     let rows = row g.T.BitStore g.O.BitOrder i.words.now in
     let w = g.T.BitStore.BITS in
     let count = length i.words.now in
@@ -24,7 +25,7 @@ returns-then-self-n-clause-none g c =
 pub invariant_of-self : goal.invariant_of-self
 invariant_of-self g c =
     let i = c.self.inside in
-    let r = c.self.invariant in
+    let r = c.self.invariant.reading in
     let rows = row g.T.BitStore g.O.BitOrder i.words.now in
     let w = g.T.BitStore.BITS in
     let count = length i.words.now in
@@ -33,12 +34,13 @@ invariant_of-self g c =
     let ahead = r.ahead in
     let wide = length-padded rows in
     let t = taken_any (padded rows) (i.end - i.left) i.have i.window c.args.n r.held (omega arith) (omega arith) in
-    reading_on rows w count i.start i.left i.end i.have i.window r long c.args.n (i.have - c.args.n) (i.window * 2 ^ c.args.n % 2 ^ 64) (omega arith) (omega arith) t.2
+    first_on rows w count i.start i.left i.end i.have i.window i.lows i.low c.self.invariant long c.args.n (i.have - c.args.n) (i.window * 2 ^ c.args.n % 2 ^ 64) (omega arith) (omega arith) refl
+    (reading_on rows w count i.start i.left i.end i.have i.window r long c.args.n (i.have - c.args.n) (i.window * 2 ^ c.args.n % 2 ^ 64) (omega arith) (omega arith) t.2)
 
 pub returns-then-n-self-clause-none : goal.returns-then-n-self-clause-none
 returns-then-n-self-clause-none g c =
     let i = c.self.inside in
-    let r = c.self.invariant in
+    let r = c.self.invariant.reading in
     let rows = row g.T.BitStore g.O.BitOrder i.words.now in
     let w = g.T.BitStore.BITS in
     let count = length i.words.now in
@@ -49,7 +51,7 @@ returns-then-n-self-clause-none g c =
 pub returns-then-n-self-clause-digits : goal.returns-then-n-self-clause-digits
 returns-then-n-self-clause-digits g c =
     let i = c.self.inside in
-    let r = c.self.invariant in
+    let r = c.self.invariant.reading in
     let rows = row g.T.BitStore g.O.BitOrder i.words.now in
     let w = g.T.BitStore.BITS in
     let count = length i.words.now in
@@ -63,7 +65,7 @@ returns-then-n-self-clause-digits g c =
 pub returns-then-n-self-clause-below : goal.returns-then-n-self-clause-below
 returns-then-n-self-clause-below g c =
     let i = c.self.inside in
-    let r = c.self.invariant in
+    let r = c.self.invariant.reading in
     let rows = row g.T.BitStore g.O.BitOrder i.words.now in
     let w = g.T.BitStore.BITS in
     let count = length i.words.now in
@@ -77,7 +79,7 @@ returns-then-n-self-clause-below g c =
 pub overflow_add-x : goal.overflow_add-x
 overflow_add-x g c =
     let i = c.self.inside in
-    let r = c.self.invariant in
+    let r = c.self.invariant.reading in
     let rows = row g.T.BitStore g.O.BitOrder i.words.now in
     let w = g.T.BitStore.BITS in
     let count = length i.words.now in
@@ -95,7 +97,7 @@ overflow_add-x g c =
 pub invariant_of-self-2 : goal.invariant_of-self-2
 invariant_of-self-2 g c =
     let i = c.self.inside in
-    let r = c.self.invariant in
+    let r = c.self.invariant.reading in
     let rows = row g.T.BitStore g.O.BitOrder i.words.now in
     let w = g.T.BitStore.BITS in
     let count = length i.words.now in
@@ -106,12 +108,13 @@ invariant_of-self-2 g c =
     let begins = r.begins in
     let within = r.within in
     let t = taken_next (padded rows) (i.end - i.left) i.have i.window c.args.n c.bits_at-block.result r.held (omega arith) c.requires (omega arith) (omega arith) c.bits_at-block.ensures in
-    reading_on rows w count i.start i.left i.end i.have i.window r long c.args.n (64 - (c.args.n - i.have)) (c.bits_at-block.result * 2 ^ (c.args.n - i.have - 1) % 2 ^ 64 * 2 ^ 1 % 2 ^ 64) (omega arith) (omega arith) t.2
+    emptied rows w count i.start (i.left - c.args.n) i.end (64 - (c.args.n - i.have)) (c.bits_at-block.result * 2 ^ (c.args.n - i.have - 1) % 2 ^ 64 * 2 ^ 1 % 2 ^ 64)
+    (reading_on rows w count i.start i.left i.end i.have i.window r long c.args.n (64 - (c.args.n - i.have)) (c.bits_at-block.result * 2 ^ (c.args.n - i.have - 1) % 2 ^ 64 * 2 ^ 1 % 2 ^ 64) (omega arith) (omega arith) t.2)
 
 pub returns-clause-none : goal.returns-clause-none
 returns-clause-none g c =
     let i = c.self.inside in
-    let r = c.self.invariant in
+    let r = c.self.invariant.reading in
     let rows = row g.T.BitStore g.O.BitOrder i.words.now in
     let w = g.T.BitStore.BITS in
     let count = length i.words.now in
@@ -122,7 +125,7 @@ returns-clause-none g c =
 pub returns-clause-digits : goal.returns-clause-digits
 returns-clause-digits g c =
     let i = c.self.inside in
-    let r = c.self.invariant in
+    let r = c.self.invariant.reading in
     let rows = row g.T.BitStore g.O.BitOrder i.words.now in
     let w = g.T.BitStore.BITS in
     let count = length i.words.now in
@@ -138,7 +141,7 @@ returns-clause-digits g c =
 pub returns-clause-below : goal.returns-clause-below
 returns-clause-below g c =
     let i = c.self.inside in
-    let r = c.self.invariant in
+    let r = c.self.invariant.reading in
     let rows = row g.T.BitStore g.O.BitOrder i.words.now in
     let w = g.T.BitStore.BITS in
     let count = length i.words.now in
@@ -154,7 +157,7 @@ returns-clause-below g c =
 pub bits_at-block-requires-clause-fits : goal.bits_at-block-requires-clause-fits
 bits_at-block-requires-clause-fits g c =
     let i = c.self.inside in
-    let r = c.self.invariant in
+    let r = c.self.invariant.reading in
     let w = g.T.BitStore.BITS in
     let count = length i.words.now in
     let most = (room w i.end (width_positive w g.met.T.BitStore.width)).1 in

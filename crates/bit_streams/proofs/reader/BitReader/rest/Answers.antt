@@ -7,7 +7,7 @@ use Rattle.bit_streams.proofs.reader.BitReader.rest.Goals as goal
 pub returns : goal.returns
 returns g c =
     let i = c.self.inside in
-    let r = c.self.invariant in
+    let r = c.self.invariant.reading in
     let rows = row g.T.BitStore g.O.BitOrder i.words.now in
     let w = g.T.BitStore.BITS in
     let count = length i.words.now in

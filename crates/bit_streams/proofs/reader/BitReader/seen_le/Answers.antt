@@ -10,7 +10,7 @@ use Rattle.bit_streams.proofs.reader.BitReader.seen_le.Goals as goal
 pub returns-clause-digits : goal.returns-clause-digits
 returns-clause-digits g c =
     let i = c.self.inside in
-    let r = c.self.invariant in
+    let r = c.self.invariant.reading in
     let rows = row g.T.BitStore g.O.BitOrder i.words.now in
     let w = g.T.BitStore.BITS in
     let count = length i.words.now in
@@ -25,7 +25,7 @@ returns-clause-digits g c =
 pub returns-clause-below : goal.returns-clause-below
 returns-clause-below g c =
     let i = c.self.inside in
-    let r = c.self.invariant in
+    let r = c.self.invariant.reading in
     let rows = row g.T.BitStore g.O.BitOrder i.words.now in
     let w = g.T.BitStore.BITS in
     let count = length i.words.now in
@@ -39,7 +39,7 @@ returns-clause-below g c =
 pub read_chunk-requires-clause-within : goal.read_chunk-requires-clause-within
 read_chunk-requires-clause-within g c =
     let i = c.self.inside in
-    let r = c.self.invariant in
+    let r = c.self.invariant.reading in
     let rows = row g.T.BitStore g.O.BitOrder i.words.now in
     let w = g.T.BitStore.BITS in
     let count = length i.words.now in

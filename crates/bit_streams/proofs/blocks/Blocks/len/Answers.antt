@@ -1,0 +1,10 @@
+use Rattle.std.proofs.Common.{length, ap, arith}
+use Rattle.bit_streams.proofs.Lists.{written_length}
+use Rattle.bit_streams.proofs.blocks.Blocks.len.Goals as goal
+
+pub returns-clause-value : goal.returns-clause-value
+returns-clause-value g c =
+    let i = c.self.inside in
+    let long = written_length g.T.BitStore g.O.BitOrder i.words.items i.count i.pending in
+    let now = ap (λ v. length v.list) c.self.view_is in
+    grind arith

@@ -1,5 +1,5 @@
 -- A list that begins with the digits of a number, or with a bit.
-use Rattle.std.proofs.Common.{◌≡◌, ℕ, ◌+◌, ◌*◌, ◌/◌, ◌%◌, ◌^◌, ◌<◌, ◌≤◌, Bool, true, false, cond, List, [], ◌∷◌, ◌++◌, length, take, drop, slice_range, append_assoc, rules, slice_get, get_or, Some, None, Ok, Err, Result, OnErr, ◌↔◌, append-nil, nat_eq, sym, ◌∙◌, ap, subst, refl, zero, suc, inl, inr, arith}
+use Rattle.std.proofs.Common.{◌≡◌, ℕ, ◌+◌, ◌*◌, ◌/◌, ◌%◌, ◌^◌, ◌<◌, ◌≤◌, Bool, true, false, cond, List, [], ◌∷◌, ◌++◌, length, take, drop, slice_range, append_assoc, rules, slice_get, get_or, Some, None, Ok, Err, Result, OnErr, append-nil, nat_eq, sym, ◌∙◌, ap, subst, refl, zero, suc, inl, inr, arith}
 use Rattle.std.proofs.lemmas.List.{take-append-drop, drop_at, length-append, drop_all, same_lists, places}
 use Rattle.std.proofs.lemmas.Option.{slice_get_within, slice_get-get_or, get_or_from_slice_get}
 use Rattle.std.proofs.lemmas.Bool.{cases_lt}

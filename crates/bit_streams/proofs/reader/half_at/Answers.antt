@@ -1,8 +1,7 @@
-use Rattle.std.proofs.Common.{◌≡◌, ◌*◌, ◌%◌, ◌<◌, ◌≤◌, length, arith}
-use Rattle.std.proofs.lemmas.Nat.{div-add-mod', mod_below}
+use Rattle.std.proofs.Common.{◌≡◌, ◌*◌, ◌≤◌, length, arith}
+use Rattle.std.proofs.lemmas.Nat.{div-add-mod'}
 use Rattle.bit_addressing.specs.Typed.{row}
 use Rattle.bit_addressing.proofs.Typed.{length_row}
-use Rattle.bit_addressing.proofs.Rows.{width_positive}
 use Rattle.bit_streams.proofs.Windows.{half_of}
 use Rattle.bit_streams.proofs.reader.half_at.Goals as goal
 

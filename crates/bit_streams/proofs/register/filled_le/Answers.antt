@@ -1,4 +1,4 @@
-use Rattle.std.proofs.Common.{◌^◌, arith}
+use Rattle.std.proofs.Common.{arith}
 use Rattle.bit_streams.proofs.Lows.{bits_filled}
 use Rattle.bit_streams.proofs.register.filled_le.Goals as goal
 

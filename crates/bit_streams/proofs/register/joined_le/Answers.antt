@@ -1,4 +1,4 @@
-use Rattle.std.proofs.Common.{◌≡◌, ◌+◌, ◌*◌, ◌%◌, ◌^◌, ◌<◌, sym, ◌∙◌, ap, subst, arith}
+use Rattle.std.proofs.Common.{◌+◌, ◌^◌, ◌<◌, sym, ◌∙◌, ap, subst, arith}
 use Rattle.bit_addressing.specs.Row.{number_bits}
 use Rattle.bit_streams.proofs.Lows.{bits_joined, bits_joined_below, joined_fits_le}
 use Rattle.bit_streams.proofs.register.joined_le.Goals as goal

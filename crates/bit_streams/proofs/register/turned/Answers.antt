@@ -1,4 +1,4 @@
-use Rattle.std.proofs.Common.{◌≡◌, ◌-◌, ◌/◌, ◌^◌, sym, ◌∙◌, ap, arith}
+use Rattle.std.proofs.Common.{◌≡◌, ◌-◌, ◌/◌, ◌^◌, ◌∙◌, ap, arith}
 use Rattle.bit_addressing.specs.Row.{binary, number_bits}
 use Rattle.bit_rows.proofs.Binary.{chunk_of}
 use Rattle.bit_slice.proofs.Signed.{turned_digits}

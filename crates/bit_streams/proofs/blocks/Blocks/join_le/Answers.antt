@@ -1,4 +1,4 @@
-use Rattle.std.proofs.Common.{◌≡◌, ◌+◌, ◌*◌, ◌%◌, ◌≤◌, ◌++◌, append-nil, append_assoc, length, sym, ◌∙◌, ap, arith}
+use Rattle.std.proofs.Common.{◌≡◌, ◌+◌, ◌*◌, ◌++◌, append-nil, append_assoc, length, sym, ◌∙◌, ap, arith}
 use Rattle.bit_addressing.specs.Row.{binary, number_bits}
 use Rattle.bit_addressing.specs.Typed.{row}
 use Rattle.bit_rows.proofs.Binary.{number_bits_none}

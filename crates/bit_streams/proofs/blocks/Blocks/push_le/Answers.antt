@@ -1,4 +1,4 @@
-use Rattle.std.proofs.Common.{◌≡◌, ◌+◌, ◌*◌, ◌%◌, ◌<◌, ◌++◌, [], append-nil, length, sym, ◌∙◌, ap, arith, vec_capacity}
+use Rattle.std.proofs.Common.{◌≡◌, ◌+◌, ◌*◌, ◌<◌, ◌++◌, length, sym, ◌∙◌, ap, arith, vec_capacity}
 use Rattle.bit_addressing.specs.Row.{binary, number_bits}
 use Rattle.bit_addressing.specs.Typed.{row}
 use Rattle.bit_containers.specs.BitVec.{bits_in}

@@ -1,4 +1,4 @@
-use Rattle.std.proofs.Common.{◌≡◌, ◌+◌, ◌*◌, ◌%◌, length, sym, ◌∙◌, ap, arith}
+use Rattle.std.proofs.Common.{◌≡◌, ◌+◌, ◌*◌, length, sym, ◌∙◌, ap, arith}
 use Rattle.bit_streams.proofs.Lists.{written_length}
 use Rattle.bit_streams.proofs.blocks.Blocks.waits.Goals as goal
 

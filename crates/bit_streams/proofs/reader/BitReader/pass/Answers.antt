@@ -1,9 +1,9 @@
-use Rattle.std.proofs.Common.{◌≡◌, ◌+◌, ◌-◌, ◌*◌, ◌%◌, ◌^◌, length, drop, slice_range, sym, ◌∙◌, ap, arith}
+use Rattle.std.proofs.Common.{◌≡◌, ◌+◌, ◌-◌, ◌*◌, ◌%◌, ◌^◌, length, sym, ◌∙◌, ap, arith}
 use Rattle.bit_addressing.specs.Typed.{row}
 use Rattle.bit_addressing.proofs.Typed.{length_row}
-use Rattle.bit_streams.specs.Streams.{Passed, Reading, padded}
+use Rattle.bit_streams.specs.Streams.{padded}
 use Rattle.bit_streams.proofs.Both.{emptied}
-use Rattle.bit_streams.proofs.Windows.{nothing_held, dropped}
+use Rattle.bit_streams.proofs.Windows.{nothing_held}
 use Rattle.bit_streams.proofs.Padded.{length-padded, length_rest, passed_off, reading_on, taken_any}
 use Rattle.bit_streams.proofs.reader.BitReader.pass.Goals as goal
 

@@ -1,4 +1,4 @@
-use Rattle.std.proofs.Common.{◌≡◌, ◌+◌, ◌-◌, ◌%◌, ◌<◌, ◌≤◌, ◌++◌, append_assoc, length, sym, ◌∙◌, ap, arith}
+use Rattle.std.proofs.Common.{◌≡◌, ◌+◌, ◌-◌, ◌++◌, append_assoc, length, sym, ◌∙◌, ap, arith}
 use Rattle.bit_addressing.specs.Row.{number_bits}
 use Rattle.bit_streams.proofs.Lists.{not_refused, refused_as, within_limit}
 use Rattle.bit_streams.proofs.Lows.{with_tail}

@@ -1,4 +1,4 @@
-use Rattle.std.proofs.Common.{◌≡◌, ◌+◌, ◌≤◌, ◌++◌, length, sym, ◌∙◌, ap, arith}
+use Rattle.std.proofs.Common.{◌≡◌, ◌+◌, ◌++◌, length, sym, ◌∙◌, ap, arith}
 use Rattle.std.proofs.lemmas.Result.{on_ok_weaker}
 use Rattle.bit_addressing.specs.Row.{number_bits}
 use Rattle.bit_streams.proofs.Lists.{refused_as}

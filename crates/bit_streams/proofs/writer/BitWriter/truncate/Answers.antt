@@ -1,5 +1,4 @@
-use Rattle.std.proofs.Common.{◌≡◌, ◌≤◌, length, take, sym, ◌∙◌, ap, arith}
-use Rattle.std.proofs.lemmas.List.{take_all}
+use Rattle.std.proofs.Common.{take, ◌∙◌, ap}
 use Rattle.bit_streams.proofs.Lows.{no_tail}
 use Rattle.bit_streams.proofs.writer.BitWriter.truncate.Goals as goal
 

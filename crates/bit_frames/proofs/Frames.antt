@@ -1,16 +1,14 @@
 -- Runs of free frames: where one ends, and that none begins before it.
-use Rattle.std.proofs.Common.{◌≡◌, ◌≢◌, ℕ, ◌+◌, ◌-◌, ◌*◌, ◌/◌, ◌%◌, ◌<◌, ◌≤◌, Bool, true, false, List, length, replicate, get_or, Option, Some, None, slice_get, slice_range, sym, ◌∙◌, ap, inl, inr, arith}
+use Rattle.std.proofs.Common.{◌≡◌, ◌≢◌, ℕ, ◌+◌, ◌-◌, ◌%◌, ◌<◌, ◌≤◌, Bool, true, false, List, length, replicate, get_or, Option, Some, None, slice_get, slice_range, sym, ◌∙◌, ap, inl, inr, arith}
 use Rattle.std.specs.Option.{IfNone, IfSome, unwrap_or}
 use Rattle.std.proofs.lemmas.Bool.{cases_lt}
 use Rattle.std.proofs.lemmas.List.{ext_get_or, get_or-replicate, length-replicate}
 use Rattle.std.proofs.lemmas.Option.{get_or_from_slice_get, slice_get-get_or, slice_get_within}
 use Rattle.bit_addressing.specs.Row.{put}
 use Rattle.bit_addressing.proofs.lists.Put.{length-put, put_before, put_after, put_inside, put_none}
-use Rattle.std.specs.Prelude.{◌⊎◌, ◌↔◌, EachIndex, MatchOption}
-use Rattle.std.proofs.lemmas.Nat.{mod-mul-add}
-use Rattle.bit_addressing.proofs.lists.Sized.{one_more_word}
+use Rattle.std.specs.Prelude.{◌↔◌, EachIndex, MatchOption}
 use Rattle.bit_addressing.proofs.lists.Shown.{get_or-run, length-run}
-use Rattle.bit_slice.proofs.Multiples.{gap_least, gap_reaches}
+use Rattle.bit_slice.proofs.Multiples.{gap_least}
 use Rattle.bit_slice.proofs.Ranges.{read_filled}
 use Rattle.bit_slice.specs.Pieces.{part}
 use Rattle.bit_slice.proofs.BitRuns.{all_inside}
@@ -55,6 +53,31 @@ next_fit map count from (Some i) some begins inside each before none = record {
   free = λ k h. each (i + k) (omega arith) (omega arith);
   before = λ k low high free. before k low high (part_free map count k some free);
 }
+
+module _ (map : List Bool) (from count : ℕ) (some : 0 < count) where
+  -- no run of that many begins from `from` on before an index
+  abbrev pub NoneBefore : ℕ → Type 0
+  NoneBefore at = (k : ℕ) → from ≤ k → k < at → AreFree map count k → ⊥
+
+  -- frames that are taken up to a free one begin no run
+  pub none_up_to : (at first : ℕ) → ((j : ℕ) → at ≤ j → j < first → IsTaken map j) → NoneBefore at → NoneBefore first
+  none_up_to at first taken none k low high free = elim (cases_lt k at) [
+    | inl l ↦ none k low l free
+    | inr l ↦ (let e : k + 0 ≡ k = omega arith in other_bit (slice_get map k) (taken k l high) (ap (slice_get map) (sym e) ∙ free 0 some))
+  ]
+
+  -- nor does a frame from which a taken one comes too soon
+  pub none_over : (first last : ℕ) → first ≤ last → last < first + count → IsTaken map last → NoneBefore first → NoneBefore (last + 1)
+  none_over first last order near taken none k low high free = elim (cases_lt k first) [
+    | inl l ↦ none k low l free
+    | inr l ↦ (let e : k + (last - k) ≡ last = omega arith in other_bit (slice_get map last) taken (ap (slice_get map) (sym e) ∙ free (last - k) (omega arith)))
+  ]
+
+  -- nor does any where all later frames are taken
+  pub none_past : (at : ℕ) → ((j : ℕ) → at ≤ j → j < length map → IsTaken map j) → NoneBefore at → (k : ℕ) → from ≤ k → AreFree map count k → ⊥
+  none_past at taken none k low free =
+      let inside = run_inside map count k some free in
+      none_up_to at (length map) taken none k low (omega arith) free
 
 -- the next free run from frame 0 on is the first free run
 pub first_fit : (map : List Bool) (count : ℕ) (r : Option ℕ) → MatchOption r ((k : ℕ) → 0 ≤ k → AreFree map count k → ⊥) (λ first. IsNextRun map count 0 first) → MatchOption r ((k : ℕ) → AreFree map count k → ⊥) (λ first. IsFirstRun map count first)

@@ -15,8 +15,8 @@ use bit_slice::inner::reversed;
 use std::alloc::Global;
 use std::marker::{Model, PhantomData};
 
-// Appends digits to words that it owns, each number with its most significant digit first. In contracts `w` is `w.list`, what
-// was written, and `w.capacity`, how many bits there is room for.
+// Appends digits to words that it owns, each number with its most significant digit first. In contracts `w` is `w.list`,
+// what was written, and `w.capacity`, the number of bits that there is room for.
 #[derive(Drop)]
 pub(crate) struct Blocks<T: BitStore, O: BitOrder> {
     // What was written, but for the last bits.
@@ -98,7 +98,7 @@ impl<T: BitStore, O: BitOrder> Blocks<T, O> {
         }
     }
 
-    // How many bits were written.
+    // The number of bits written.
     #[inline(always)]
     pub(crate) fn len(&self) -> usize
         ensures value { result ≡ length self.now.list }
@@ -107,7 +107,7 @@ impl<T: BitStore, O: BitOrder> Blocks<T, O> {
         self.words.len() * T::BITS as usize + self.count as usize
     }
 
-    // How many bits wait in the register. A register that isn't full stays within `MAX_BITS`, since the
+    // The number of bits that wait in the register. A register that isn't full stays within `MAX_BITS`, since the
     // words are whole blocks.
     #[inline(always)]
     pub(crate) fn waits(&self) -> u8

@@ -43,7 +43,7 @@ pub struct BitReader<'a, T: BitStore, O: BitOrder> {
     // The indices, in the row of the words, of the view's first bit, and after its last bit.
     start: usize,
     end: usize,
-    // How many bits of the view are left.
+    // The number of bits of the view that are left.
     left: usize,
     // The next `have` bits, fewer than 64: the first is the highest, and the bits below them are 0. They may lie past the
     // view's end, where the words' bits or zeros are held: so a read fills the register by 64 bits everywhere, and a

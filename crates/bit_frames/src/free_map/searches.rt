@@ -18,7 +18,7 @@ impl FreeMap {
         ensures { MatchOption result ((k : ℕ) → AreFree self.now count k → ⊥)
             (λ first. IsFirstRun self.now count first) }
     {
-        self.taken.next_run(count, false, 0)
+        self.find_next_fit(0, count)
     }
 
     /// Like `find_first_fit`, but the lowest such frame from `from` on. None exactly where there is no such run from
@@ -32,7 +32,31 @@ impl FreeMap {
         ensures { MatchOption result ((k : ℕ) → from ≤ k → AreFree self.now count k → ⊥)
             (λ first. IsNextRun self.now count from first) }
     {
-        self.taken.next_run(count, false, from)
+        let mut at = from;
+        while let Some(first) = self.taken.next_zero(at) {
+            if self.frames() - first < count {
+                return None;
+            }
+            // Each run up to the last taken frame of these has one that is taken, so the frames before it are passed.
+            let Some(last) = self.last_taken(first, count) else {
+                return Some(first);
+            };
+            at = last + 1;
+        }
+        None
+    }
+
+    // The last taken one of `count` frames from `first` on. Requires that the map has them, and that the first is free.
+    fn last_taken(&self, first: usize, count: usize) -> Option<usize>
+        requires free { IsFree self.now first }
+        requires inside { first + count ≤ length self.now }
+        ensures { MatchOption result (AreFree self.now count first)
+            (λ last. (first ≤ last) × (last < first + count) × IsTaken self.now last) }
+    {
+        match self.taken.prev_one(first + count) {
+            Some(last) if last > first => Some(last),
+            _ => None,
+        }
     }
 
     /// Like `find_first_fit`, but the highest such frame, which is searched from the end on.

@@ -1,5 +1,6 @@
 //! The list, what makes it, and how it grows and shrinks.
-ghost use Rattle.std.specs.Prelude.{◌≡◌, ◌+◌, ◌*◌, ◌<◌, ◌≤◌, ◌↔◌, ◌++◌, ◌∷◌, [], IfNone, IfOk, IfSome, IsOk, OnErr, OnOk, min, take};
+ghost use Rattle.std.specs.Prelude.{◌≡◌, ◌+◌, ◌-◌, ◌*◌, ◌<◌, ◌≤◌, ◌↔◌, ◌++◌, ◌∷◌, [], IfNone, IfOk, IfSome, IsOk, OnErr, OnOk, Some, min, replicate, slice_get, take};
+ghost use Rattle.std.specs.List.{insert, remove};
 ghost use Rattle.bit_addressing.specs.declared.length.TheConstants.{MAX_BITS};
 ghost use Rattle.bit_addressing.specs.Typed.{row};
 ghost use Rattle.bit_slice.specs.BitSlice.{len_of, list_of};
@@ -187,6 +188,77 @@ impl<A: BitViewSized, O: BitOrder> SmallBits<A, O> {
         let end = self.len + view.len();
         self.array.copy_into(self.len..end, view);
         self.len = end;
+        Ok(())
+    }
+
+    /// Inserts a bit at index `i`, and moves the bits from there on to the next index. `Full`, and nothing changes, exactly
+    /// where all bits of the words are taken. Requires that `i` is at most the length.
+    ///
+    /// ```text
+    /// of 010: bits.insert(1, true)? leaves 0110
+    /// ```
+    pub fn insert(&mut self, i: usize, bit: bool) -> Result<(), Full>
+        requires { i ≤ self.old.len }
+        ensures len { OnOk result (self.new.len ≡ self.old.len + 1) }
+        ensures list { OnOk result (front (row A.Store.BitStore O.BitOrder (A.words self.new.array)) self.new.len
+            ≡ insert (front (row A.Store.BitStore O.BitOrder (A.words self.old.array)) self.old.len) i bit) }
+        ensures full { IsOk result ↔ (self.old.len < A.Store.BITS * A.count) }
+        ensures stays { OnErr result (self.new ≡ self.old) }
+    {
+        let end = self.len;
+        self.push(bit)?;
+        // Proof only: how many bits the words have.
+        let _len = self.array.len();
+        self.array.copy_within(i..end, i + 1);
+        self.array.set(i, bit);
+        Ok(())
+    }
+
+    /// Removes and returns the bit at index `i`, and moves the later bits to the index before. Requires that `i` is below
+    /// the length.
+    ///
+    /// ```text
+    /// of 0110: bits.remove(1) leaves 010
+    /// ```
+    pub fn remove(&mut self, i: usize) -> bool
+        requires { i < self.old.len }
+        ensures len { self.old.len ≡ self.new.len + 1 }
+        ensures value { Some result
+            ≡ slice_get (front (row A.Store.BitStore O.BitOrder (A.words self.old.array)) self.old.len) i }
+        ensures list { front (row A.Store.BitStore O.BitOrder (A.words self.new.array)) self.new.len
+            ≡ remove (front (row A.Store.BitStore O.BitOrder (A.words self.old.array)) self.old.len) i }
+    {
+        // Proof only: how many bits the words have.
+        let _len = self.array.len();
+        let bit = self.array[i];
+        self.array.copy_within(i + 1..self.len, i);
+        self.len -= 1;
+        bit
+    }
+
+    /// Keeps the first `n` bits, or appends `bit` until there are `n`. `Full`, and nothing changes, exactly where `n` is
+    /// more than the words have.
+    ///
+    /// ```text
+    /// of 0110: bits.resize(6, true)? leaves 011011
+    /// ```
+    pub fn resize(&mut self, n: usize, bit: bool) -> Result<(), Full>
+        ensures len { OnOk result (self.new.len ≡ n) }
+        ensures list { OnOk result (front (row A.Store.BitStore O.BitOrder (A.words self.new.array)) self.new.len
+            ≡ take n (front (row A.Store.BitStore O.BitOrder (A.words self.old.array)) self.old.len)
+            ++ replicate (n - self.old.len) bit) }
+        ensures full { IsOk result ↔ (n ≤ A.Store.BITS * A.count) }
+        ensures stays { OnErr result (self.new ≡ self.old) }
+    {
+        if n <= self.len {
+            self.truncate(n);
+            return Ok(());
+        }
+        if n > self.array.len() {
+            return Err(Full);
+        }
+        self.array.fill_range(self.len..n, bit);
+        self.len = n;
         Ok(())
     }
 }

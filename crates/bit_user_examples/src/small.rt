@@ -55,3 +55,29 @@ fn written_and_compared(rt: HostRuntime) {
     other.flip(0);
     check(&rt, bits == other);
 }
+
+#[test]
+fn inserted_and_removed(rt: HostRuntime) {
+    let mut bits = SmallBits::<u8, Msb0>::new();
+    check(&rt, bits.resize(3, false).is_ok());
+    assert!(rt; bits.len() == 3);
+    check(&rt, bits.insert(1, true).is_ok());
+    assert!(rt; bits.len() == 4);
+    check(&rt, bits.insert(4, true).is_ok());
+    assert!(rt; bits.len() == 5);
+    check(&rt, !bits.remove(0));
+    check(&rt, bits.first() == Some(true));
+    check(&rt, bits.last() == Some(true));
+    check(&rt, bits.count_ones() == 2);
+}
+
+#[test]
+fn resized_until_full(rt: HostRuntime) {
+    let mut bits = SmallBits::<u8, Lsb0>::new();
+    check(&rt, bits.resize(8, true).is_ok());
+    check(&rt, bits.resize(9, true) == Err(Full));
+    check(&rt, bits.insert(0, false) == Err(Full));
+    check(&rt, bits.count_ones() == 8);
+    check(&rt, bits.resize(2, false).is_ok());
+    check(&rt, bits.len() == 2);
+}

@@ -6,7 +6,7 @@
 #include <cstdlib>
 #include <vector>
 
-using Bits = std::vector<bool>;
+#include "timed.hpp"
 
 static bool bit_at(uint64_t i) { return (i * 0xD1342543DE82EF95 + 0x2545F4914F6CDD1D) >> 61 & 1; }
 
@@ -14,24 +14,6 @@ static Bits made(size_t n, size_t seed) {
   Bits v;
   for (size_t i = 0; i < n; i++) v.push_back(bit_at(i + seed));
   return v;
-}
-
-static size_t ones(const Bits &v) { return std::count(v.begin(), v.end(), true); }
-
-template <class Make, class Work, class Check> void timed(const char *name, size_t repetitions, Make make, Work work, Check check) {
-  long long best = -1;
-  size_t sum = 0;
-  for (size_t r = 0; r < repetitions; r++) {
-    auto value = make();
-    asm volatile("" : : "r"(&value) : "memory");
-    auto start = std::chrono::steady_clock::now();
-    auto answer = work(value);
-    asm volatile("" : : "r"(&answer), "r"(&value) : "memory");
-    long long took = std::chrono::duration_cast<std::chrono::nanoseconds>(std::chrono::steady_clock::now() - start).count();
-    best = best < 0 ? took : std::min(best, took);
-    sum = check(value, answer);
-  }
-  std::printf("%s %lld %zu\n", name, best, sum);
 }
 
 static void large(size_t n, size_t r) {

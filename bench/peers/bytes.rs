@@ -1,6 +1,7 @@
 //! The ones of bytes, whose first bit is the highest one, and records, codes and values in them, by loops by hand. Prints
 //! what the program prints.
 mod records;
+mod timed;
 
 use records::{Digits, Found, Record};
 use std::hint::black_box;

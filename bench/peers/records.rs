@@ -1,6 +1,5 @@
 //! The records, codes and tagged values that the peers pack and read: what bench/program/streams.rt.txt makes.
-use std::hint::black_box;
-use std::time::Instant;
+use crate::timed::timed;
 
 /// A record whose fields take 3, 13, 1, 20 and 27 bits.
 #[derive(Clone, Copy)]
@@ -140,19 +139,6 @@ fn write_values<W: Digits>(values: &[Value]) -> Vec<W::Word> {
         writer.write(8 * it.len, it.number);
     }
     writer.finish()
-}
-
-/// Runs the work a number of times, each on a value made anew, and prints the shortest time.
-pub fn timed<V, A>(name: &str, repetitions: usize, make: impl Fn() -> V, work: impl Fn(&mut V) -> A, check: impl Fn(&V, A) -> usize) {
-    let (mut best, mut sum) = (u128::MAX, 0);
-    for _ in 0..repetitions {
-        let mut value = black_box(make());
-        let start = Instant::now();
-        let answer = black_box(work(&mut value));
-        best = best.min(start.elapsed().as_nanos());
-        sum = check(black_box(&value), answer);
-    }
-    println!("{name} {best} {sum}");
 }
 
 /// The rows of records, codes and values. By hand it is the same work at indices and one after another.

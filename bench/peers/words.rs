@@ -1,7 +1,9 @@
 //! The calls of the bench on a vector of words written by hand. Prints what the program prints, each line after a name.
 mod records;
+mod timed;
 
-use records::{Found, Record, timed};
+use records::{Found, Record};
+use timed::timed;
 use std::fmt::Write;
 use std::hint::black_box;
 
@@ -600,8 +602,8 @@ fn streams(n: usize, r: usize) {
     let ones = |words: &[u64]| words.iter().map(|w| w.count_ones() as usize).sum::<usize>();
     let all = records::records(n);
     let packed = pack_le(&all);
-    records::timed("pack_records_le", r, || (), |_| pack_le(&all), |_, made| ones(&made));
-    records::timed(
+    timed("pack_records_le", r, || (), |_| pack_le(&all), |_, made| ones(&made));
+    timed(
         "unpack_records_le",
         r,
         || records::empty_records(n),

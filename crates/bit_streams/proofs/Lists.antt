@@ -216,7 +216,7 @@ begins_through old mid new more is begins =
 pub none_waits : (rs : List Bool) (count p : ℕ) → count ≡ 0 → rs ++ binary count p ≡ rs
 none_waits rs count p e = ap (λ l. rs ++ l) (nil_from_length (binary count p) (length-binary count p ∙ e)) ∙ append-nil rs
 
--- a call is refused as the call that it makes, which wants no more bits
+-- a call is refused as the call that it makes, which needs no more bits
 pub refused_as : {A : Type 0} (result : Result A GrowError) (wanted more : ℕ) (old new was now : Writing) → was.capacity ≡ old.capacity → (now.list ≡ was.list → new.list ≡ old.list) → more ≤ wanted → (MAX_BITS < wanted → MAX_BITS < more) → Refuses result more was now → Refuses result wanted old new
 refused_as {A = A} result wanted more old new was now capacity back least most r = record {
   too_long = (λ e. (let p = r.too_long.0 e in omega arith), λ h. r.too_long.1 (most h));

@@ -1,15 +1,19 @@
 //! The indices of the ones of a list, from a given number on.
 ghost use Rattle.std.specs.Iterator.{YieldsFirst, YieldsLast};
 ghost use Rattle.std.specs.Iterator.Runs.{YieldsInOrder, YieldsInReverse};
-ghost use Rattle.std.specs.Prelude.{◌≡◌, ◌-◌, ◌≤◌, IfSome, Some, count_by, drop, length};
+ghost use Rattle.std.specs.Prelude.{◌≡◌, ◌-◌, ◌<◌, ◌≤◌, IfSome, None, Some, count_by, drop, length, slice_get, true};
+ghost use Rattle.bit_slice.specs.BitSlice.{len_of, list_of};
 ghost use Rattle.bit_slice.specs.Indices.{ones_left};
+ghost use Rattle.bit_slice.specs.Numbered.{ones_before};
 ghost use Rattle.bit_slice.specs.Places.{ones_of, places_between};
 ghost use Rattle.bit_ranks.specs.Fits.{FitFrom};
 
 mod copies;
 
+use crate::ranked::RankedBits;
 use crate::ranks::Ranks;
 use bit_containers::{BitOrder, BitStore, IterOnes};
+use bit_slice::BitSlice;
 use std::iter::{DoubleEndedIterator, ExactSizeIterator, FusedIterator, Iterator};
 
 /// The indices of the ones of a list, ascending, from both ends, without the first `k` of them.
@@ -24,6 +28,49 @@ pub struct OnesFrom<'a, T: BitStore, O: BitOrder> {
     left: usize,
     ghost fits: { FitFrom base (ones_left ones) },
     ghost count: { left ≡ length (ones_left ones) },
+}
+
+// The index `first`, or the length of the view where there is none. Requires that `first` is the index of the `k`-th one.
+fn begin_of<T: BitStore, O: BitOrder>(view: BitSlice<'_, T, O>, k: usize, first: Option<usize>) -> usize
+    requires found { IfSome first (λ i. slice_get (list_of view) i ≡ Some true) }
+    requires before { IfSome first (λ i. ones_before (list_of view) i ≡ k) }
+    requires inside { IfSome first (λ i. i < length (list_of view)) }
+    requires none { first ≡ None → count_by (λ bit. bit) (list_of view) ≤ k }
+    ensures list { places_between (λ b. b) (list_of view.entry) result (length (list_of view.entry))
+        ≡ drop k (ones_of (list_of view.entry)) }
+    ensures inside { result ≤ length (list_of view.entry) }
+{
+    match first {
+        None => view.len(),
+        Some(i) => i,
+    }
+}
+
+impl<'a, T: BitStore, O: BitOrder> OnesFrom<'a, T, O> {
+    ghost use Rattle.bit_ranks.specs.Ones.{ones_from};
+
+    // The indices of the ones of a view without the first `k` of them. Requires that `first` is the index of the `k`-th, and
+    // `count` the number of all.
+    fn of(view: BitSlice<'a, T, O>, k: usize, first: Option<usize>, count: usize) -> Self
+        requires found { IfSome first (λ i. slice_get (list_of view) i ≡ Some true) }
+        requires before { IfSome first (λ i. ones_before (list_of view) i ≡ k) }
+        requires inside { IfSome first (λ i. i < length (list_of view)) }
+        requires none { first ≡ None → count_by (λ bit. bit) (list_of view) ≤ k }
+        requires count { count ≡ count_by (λ bit. bit) (list_of view) }
+        ensures list { ones_from result ≡ drop k (ones_of (list_of view.entry)) }
+        ensures count { length (ones_from result) ≡ count - k }
+        ensures runs { YieldsInOrder
+            (YieldsFirst (ones_from {X = T} {Y = O} {W = T.BitStore} {P = O.BitOrder})) ones_from }
+        ensures runs_back { YieldsInReverse
+            (YieldsLast (ones_from {X = T} {Y = O} {W = T.BitStore} {P = O.BitOrder})) ones_from }
+    {
+        let base = begin_of(view, k, first);
+        OnesFrom {
+            ones: view.get_range(base..).iter_ones(),
+            base,
+            left: count.saturating_sub(k),
+        }
+    }
 }
 
 impl<T: BitStore, O: BitOrder> Ranks<T, O> {
@@ -43,24 +90,27 @@ impl<T: BitStore, O: BitOrder> Ranks<T, O> {
         ensures runs_back { YieldsInReverse
             (YieldsLast (ones_from {X = T} {Y = O} {W = T.BitStore} {P = O.BitOrder})) ones_from }
     {
-        let base = self.index_from(k);
-        OnesFrom {
-            ones: self.as_bitslice().get_range(base..).iter_ones(),
-            base,
-            left: self.count_ones().saturating_sub(k),
-        }
+        OnesFrom::of(self.as_bitslice(), k, self.select1(k), self.count_ones())
     }
+}
 
-    // The index of the `k`-th one, counted from 0, or the length where there is none.
-    fn index_from(&self, k: usize) -> usize
-        ensures list { places_between (λ b. b) self.now.list result (length self.now.list)
-            ≡ drop k (ones_of self.now.list) }
-        ensures inside { result ≤ length self.now.list }
+impl<T: BitStore, O: BitOrder> RankedBits<T, O> {
+    ghost use Rattle.bit_ranks.specs.Ones.{ones_from};
+
+    /// Like `iter_ones_from` of `Ranks`.
+    ///
+    /// ```text
+    /// of 0110100: ranked.iter_ones_from(1) gives 2, 4
+    /// ```
+    pub fn iter_ones_from(&self, k: usize) -> OnesFrom<'_, T, O>
+        ensures list { ones_from result ≡ drop k (ones_of self.now.list) }
+        ensures count { length (ones_from result) ≡ count_by (λ b. b) self.now.list - k }
+        ensures runs { YieldsInOrder
+            (YieldsFirst (ones_from {X = T} {Y = O} {W = T.BitStore} {P = O.BitOrder})) ones_from }
+        ensures runs_back { YieldsInReverse
+            (YieldsLast (ones_from {X = T} {Y = O} {W = T.BitStore} {P = O.BitOrder})) ones_from }
     {
-        match self.select1(k) {
-            None => self.len(),
-            Some(i) => i,
-        }
+        OnesFrom::of(self.as_bitslice(), k, self.select1(k), self.count_ones())
     }
 }
 

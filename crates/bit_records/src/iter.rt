@@ -4,6 +4,8 @@ ghost use Rattle.bit_addressing.specs.declared.length.TheConstants.{MAX_BITS};
 
 use crate::records::Records;
 use bit_containers::{BitOrder, BitStore};
+use std::alloc::AllocError;
+use std::fmt;
 use std::iter::{DoubleEndedIterator, ExactSizeIterator, FusedIterator, IntoIterator, Iterator};
 
 /// The numbers of records, from both ends, each once.
@@ -119,3 +121,39 @@ impl<'a, T: BitStore, O: BitOrder> ExactSizeIterator for Iter<'a, T, O> {
 }
 
 impl<'a, T: BitStore, O: BitOrder> FusedIterator for Iter<'a, T, O> {}
+
+impl<'a, T: BitStore, O: BitOrder> Iter<'a, T, O> {
+    ghost use Rattle.bit_records.specs.Iter.{numbers_left};
+
+    // The same iterator, with the same left.
+    fn same(&self) -> Self
+        ensures { numbers_left result ≡ numbers_left self.now }
+    {
+        Iter {
+            records: self.records,
+            from: self.from,
+            upto: self.upto,
+        }
+    }
+}
+
+impl<'a, T: BitStore, O: BitOrder> Clone for Iter<'a, T, O> {
+    ghost use Rattle.std.specs.Prelude.{⊤};
+    ghost use Rattle.bit_records.specs.Iter.{numbers_left};
+
+    ghost is_clone = { λ a b. numbers_left b ≡ numbers_left a };
+
+    ghost is_infallible = { λ _. ⊤ };
+
+    /// The same iterator, with the same left. Takes no memory.
+    fn clone(&self) -> Result<Self, AllocError> {
+        Ok(self.same())
+    }
+}
+
+/// The numbers that are left, as a list.
+impl<'a, T: BitStore, O: BitOrder> fmt::Debug for Iter<'a, T, O> {
+    fn fmt<W: fmt::Write>(&self, f: &mut fmt::Formatter<W>) -> fmt::Result {
+        f.debug_list().entries(self.same()).finish()
+    }
+}

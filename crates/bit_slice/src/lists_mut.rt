@@ -142,7 +142,7 @@ pub trait BitListMut: BitList {
         ensures clean { StaysClean Self.Store.BITS Self.head Self.bits Self.list self.old self.new }
         ensures stays { Stays Self.head Self.len count capacity loan self.old self.new }
     {
-        let bit = self.as_bitslice()[i];
+        let bit = self.as_bitslice().bit(i);
         self.set(i, !bit);
     }
 

@@ -8,6 +8,8 @@ use std::process::Abort;
 #[cfg(test)]
 mod frames;
 #[cfg(test)]
+mod iterators;
+#[cfg(test)]
 mod matrices;
 #[cfg(test)]
 mod ranks;

@@ -44,9 +44,9 @@ fn range_of(part: &[u8], len: usize) -> Option<Range<usize>>
 
 impl<T: BitStore, O: BitOrder> BitVec<T, O> {
     /// The list of `len` bits of which those at the indices of a text are true, from head 0 on: `0-3,7` says 0 to 3 and
-    /// 7, in any order, as `ranges_text(true)` writes a list. Returns `Wrong` with the index at which the first part
-    /// begins that is no index below `len`, and no first and last one in order, and `TooLong` exactly where `len` is
-    /// above `MAX_BITS`. Takes memory unless `len` is 0.
+    /// 7, in any order, as `ranges_text(true)` writes a list. Each part is an index below `len`, or two of them in order:
+    /// `Wrong` has the place where the first other part begins. Returns `TooLong` exactly where `len` is above `MAX_BITS`.
+    /// Takes memory unless `len` is 0.
     ///
     /// ```text
     /// BitVec::<u8, Lsb0>::from_ranges_text(alloc, "1-2,4", 6)? holds 011010

@@ -446,3 +446,18 @@ fn split_at_ones(rt: HostRuntime) {
     check(&rt, length_of(parts.next()) == Some(0));
     check(&rt, parts.next().is_none());
 }
+
+#[test]
+fn split_copied_and_shown(rt: HostRuntime) {
+    let view = BitSlice::<u8, Msb0>::from_slice(&[0x69]);
+    let mut parts = view.split(|_, bit| bit);
+    check(&rt, length_of(parts.next()) == Some(1));
+    let mut copy = ok(&rt, parts.clone());
+    check(&rt, length_of(copy.next()) == Some(0));
+    let text = ok(&rt, format!(in rt.alloc(); "{parts:?} {copy:?}"));
+    check(
+        &rt,
+        text.as_str()
+            == "Split { from: 2, done: false } [0, 1, 1, 0, 1, 0, 0, 1] Split { from: 3, done: false } [0, 1, 1, 0, 1, 0, 0, 1]",
+    );
+}

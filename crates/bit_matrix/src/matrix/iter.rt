@@ -8,6 +8,8 @@ ghost use Rattle.bit_matrix.specs.Matrix.{column_bits, item, row_bits, rows_bits
 use crate::matrix::Matrix;
 use bit_addressing::{BitOrder, BitStore, Lsb0};
 use bit_containers::BitSlice;
+use std::alloc::AllocError;
+use std::fmt;
 use std::iter::{DoubleEndedIterator, ExactSizeIterator, FusedIterator, Iterator};
 
 /// The rows of a matrix as views, from both ends, each once.
@@ -228,3 +230,76 @@ impl<'a> ExactSizeIterator for Column<'a> {
 }
 
 impl<'a> FusedIterator for Column<'a> {}
+
+impl<'a> Rows<'a> {
+    ghost use Rattle.bit_matrix.specs.MatrixLeft.{rows_left};
+
+    // The same iterator, with the same left.
+    fn same(&self) -> Self
+        ensures { rows_left result ≡ rows_left self.now }
+    {
+        Rows {
+            matrix: self.matrix,
+            from: self.from,
+            upto: self.upto,
+        }
+    }
+}
+
+impl<'a> Clone for Rows<'a> {
+    ghost use Rattle.std.specs.Prelude.{⊤};
+    ghost use Rattle.bit_matrix.specs.MatrixLeft.{rows_left};
+
+    ghost is_clone = { λ a b. rows_left b ≡ rows_left a };
+
+    ghost is_infallible = { λ _. ⊤ };
+
+    /// The same iterator, with the same left. Takes no memory.
+    fn clone(&self) -> Result<Self, AllocError> {
+        Ok(self.same())
+    }
+}
+
+/// The rows that are left, as a list.
+impl<'a> fmt::Debug for Rows<'a> {
+    fn fmt<W: fmt::Write>(&self, f: &mut fmt::Formatter<W>) -> fmt::Result {
+        f.debug_list().entries(self.same()).finish()
+    }
+}
+
+impl<'a> Column<'a> {
+    ghost use Rattle.bit_matrix.specs.MatrixLeft.{column_left};
+
+    // The same iterator, with the same left.
+    fn same(&self) -> Self
+        ensures { column_left result ≡ column_left self.now }
+    {
+        Column {
+            matrix: self.matrix,
+            column: self.column,
+            from: self.from,
+            upto: self.upto,
+        }
+    }
+}
+
+impl<'a> Clone for Column<'a> {
+    ghost use Rattle.std.specs.Prelude.{⊤};
+    ghost use Rattle.bit_matrix.specs.MatrixLeft.{column_left};
+
+    ghost is_clone = { λ a b. column_left b ≡ column_left a };
+
+    ghost is_infallible = { λ _. ⊤ };
+
+    /// The same iterator, with the same left. Takes no memory.
+    fn clone(&self) -> Result<Self, AllocError> {
+        Ok(self.same())
+    }
+}
+
+/// The bits that are left, as a list.
+impl<'a> fmt::Debug for Column<'a> {
+    fn fmt<W: fmt::Write>(&self, f: &mut fmt::Formatter<W>) -> fmt::Result {
+        f.debug_list().entries(self.same()).finish()
+    }
+}

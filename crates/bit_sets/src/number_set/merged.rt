@@ -7,6 +7,8 @@ ghost use Rattle.bit_slice.specs.Places.{IsAbsent, IsNext, ones_of};
 ghost use Rattle.bit_sets.specs.NumberSet.{IsIn};
 
 use crate::number_set::NumberSet;
+use std::alloc::AllocError;
+use std::fmt;
 use std::iter::{FusedIterator, Iterator};
 
 // Which numbers of two sets an iterator gives.
@@ -170,3 +172,41 @@ impl<'a> Iterator for Merged<'a> {
 }
 
 impl<'a> FusedIterator for Merged<'a> {}
+
+impl<'a> Merged<'a> {
+    ghost use Rattle.bit_sets.specs.Merged.{merged_left};
+
+    // The same iterator, with the same left.
+    fn same(&self) -> Self
+        ensures { merged_left result ≡ merged_left self.now }
+    {
+        Merged {
+            left: self.left,
+            right: self.right,
+            merging: self.merging,
+            from: self.from,
+            upto: self.upto,
+        }
+    }
+}
+
+impl<'a> Clone for Merged<'a> {
+    ghost use Rattle.std.specs.Prelude.{⊤};
+    ghost use Rattle.bit_sets.specs.Merged.{merged_left};
+
+    ghost is_clone = { λ a b. merged_left b ≡ merged_left a };
+
+    ghost is_infallible = { λ _. ⊤ };
+
+    /// The same iterator, with the same left. Takes no memory.
+    fn clone(&self) -> Result<Self, AllocError> {
+        Ok(self.same())
+    }
+}
+
+/// The numbers that are left, as a list.
+impl<'a> fmt::Debug for Merged<'a> {
+    fn fmt<W: fmt::Write>(&self, f: &mut fmt::Formatter<W>) -> fmt::Result {
+        f.debug_list().entries(self.same()).finish()
+    }
+}

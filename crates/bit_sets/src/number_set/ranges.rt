@@ -13,6 +13,8 @@ ghost use Rattle.bit_sets.specs.NumberSet.{IsIn, numbers_between};
 use crate::number_set::NumberSet;
 use bit_addressing::{GrowError, Lsb0};
 use bit_containers::{BitList, BitListMut, IterOnes};
+use std::alloc::AllocError;
+use std::fmt;
 use std::iter::{DoubleEndedIterator, ExactSizeIterator, FusedIterator, Iterator};
 use std::ops::{Bound, Range, RangeBounds};
 
@@ -234,3 +236,31 @@ impl<'a> ExactSizeIterator for SetRange<'a> {
 }
 
 impl<'a> FusedIterator for SetRange<'a> {}
+
+impl<'a> Clone for SetRange<'a> {
+    ghost use Rattle.std.specs.Prelude.{⊤};
+    ghost use Rattle.bit_sets.specs.RangeLeft.{range_left};
+
+    ghost is_clone = { λ a b. range_left b ≡ range_left a };
+
+    ghost is_infallible = { λ _. ⊤ };
+
+    /// The same iterator, with the same left. Takes no memory.
+    fn clone(&self) -> Result<Self, AllocError> {
+        let ones = self.ones.clone()?;
+        Ok(SetRange {
+            ones,
+            base: self.base,
+        })
+    }
+}
+
+/// The numbers that are left, as a list.
+impl<'a> fmt::Debug for SetRange<'a> {
+    fn fmt<W: fmt::Write>(&self, f: &mut fmt::Formatter<W>) -> fmt::Result {
+        let Ok(left) = self.clone() else {
+            return Err(fmt::Error);
+        };
+        f.debug_list().entries(left).finish()
+    }
+}

@@ -11,6 +11,8 @@ use crate::sorted::SortedNumbers;
 use bit_containers::{BitList, Lsb0};
 use bit_ranks::Ranks;
 use bit_slice::BitSlice;
+use std::alloc::AllocError;
+use std::fmt;
 use std::iter::{DoubleEndedIterator, ExactSizeIterator, FusedIterator, Iterator};
 
 /// Sorted numbers, ascending, from both ends, each once. Its length is known, and after the first None there is no
@@ -180,3 +182,44 @@ impl<'a> ExactSizeIterator for Numbers<'a> {
 }
 
 impl<'a> FusedIterator for Numbers<'a> {}
+
+impl<'a> Numbers<'a> {
+    ghost use Rattle.bit_sets.specs.Numbers.{numbers_left};
+
+    // The same iterator, with the same left.
+    fn same(&self) -> Self
+        ensures { numbers_left result ≡ numbers_left self.now }
+    {
+        Numbers {
+            high: self.high,
+            low: self.low,
+            width: self.width,
+            len: self.len,
+            at: self.at,
+            place: self.place,
+            end: self.end,
+            upto: self.upto,
+        }
+    }
+}
+
+impl<'a> Clone for Numbers<'a> {
+    ghost use Rattle.std.specs.Prelude.{⊤};
+    ghost use Rattle.bit_sets.specs.Numbers.{numbers_left};
+
+    ghost is_clone = { λ a b. numbers_left b ≡ numbers_left a };
+
+    ghost is_infallible = { λ _. ⊤ };
+
+    /// The same iterator, with the same left. Takes no memory.
+    fn clone(&self) -> Result<Self, AllocError> {
+        Ok(self.same())
+    }
+}
+
+/// The numbers that are left, as a list.
+impl<'a> fmt::Debug for Numbers<'a> {
+    fn fmt<W: fmt::Write>(&self, f: &mut fmt::Formatter<W>) -> fmt::Result {
+        f.debug_list().entries(self.same()).finish()
+    }
+}

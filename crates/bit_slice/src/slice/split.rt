@@ -4,7 +4,10 @@ ghost use Rattle.std.specs.Prelude.{◌≡◌, ◌+◌, ◌-◌, ◌<◌, ◌≤
 ghost use Rattle.bit_slice.specs.BitSlice.{len_of, list_of};
 
 use crate::slice::BitSlice;
+use crate::texts::write_list;
 use bit_addressing::{BitOrder, BitStore};
+use std::alloc::AllocError;
+use std::fmt;
 use std::iter::Iterator;
 
 /// The parts of a view between the bits that a test takes out, in order: one more than it takes out.
@@ -93,5 +96,35 @@ impl<'a, T: BitStore, O: BitOrder, F: FnMut(usize, bool) -> bool> Iterator for S
         }
         self.from = end + 1;
         Some(self.view.get_range(from..end))
+    }
+}
+
+impl<'a, T: BitStore, O: BitOrder, F: Clone> Clone for Split<'a, T, O, F> {
+    ghost use Rattle.bit_slice.specs.Split.{split_done, split_from, split_list, split_test};
+
+    ghost is_clone = { λ a b. (split_list b ≡ split_list a) × (split_from b ≡ split_from a) × (split_done b ≡ split_done a)
+        × F.is_clone (split_test a) (split_test b) };
+
+    ghost is_infallible = { λ s. F.is_infallible (split_test s) };
+
+    /// The same parts left, with a clone of the test. Takes memory where that clone does.
+    fn clone(&self) -> Result<Self, AllocError> {
+        let test = self.test.clone()?;
+        Ok(Split {
+            view: self.view,
+            from: self.from,
+            done: self.done,
+            test,
+        })
+    }
+}
+
+/// `Split { from: `, the index at which the next part begins, `, done: `, whether the last part was returned, ` } `, and
+/// the text of `Display` of the view.
+impl<'a, T: BitStore, O: BitOrder, F> fmt::Debug for Split<'a, T, O, F> {
+    fn fmt<W: fmt::Write>(&self, f: &mut fmt::Formatter<W>) -> fmt::Result {
+        let (from, done) = (self.from, self.done);
+        write!(f, "Split {{ from: {from}, done: {done} }} ")?;
+        write_list(self.view, f)
     }
 }

@@ -1,13 +1,14 @@
 use Rattle.std.proofs.Common.{true, false, refl}
 use Rattle.std.proofs.lemmas.Option.{get_or_from_slice_get}
+use Rattle.bit_slice.specs.BitSlice.{list_of}
 use Rattle.bit_ranks.proofs.Numbered.{rest_numbered, none_left}
-use Rattle.bit_ranks.proofs.ranks.Ranks.index_from.Goals as goal
+use Rattle.bit_ranks.proofs.ones.begin_of.Goals as goal
 
 pub returns-in-None-clause-list : goal.returns-in-None-clause-list
-returns-in-None-clause-list g c = none_left c.args.self.now.list c.len.result c.args.k c.len.ensures.value (c.in-None.ensures.none.0 refl)
+returns-in-None-clause-list g c = none_left (list_of c.args.view) c.len.result c.args.k c.len.ensures.list (c.in-None.requires.none refl)
 
 pub returns-in-Some-clause-list : goal.returns-in-Some-clause-list
 returns-in-Some-clause-list g c =
-    let xs = c.args.self.now.list in
-    let e = c.in-Some.ensures in
+    let xs = list_of c.args.view in
+    let e = c.args.requires in
     rest_numbered xs c.in-Some.i c.args.k e.inside (get_or_from_slice_get xs c.in-Some.i true false e.found) e.before

@@ -11,6 +11,7 @@ mod combined;
 mod copies;
 mod equal;
 mod growth;
+mod narrow;
 mod pairs;
 mod searches;
 mod single;

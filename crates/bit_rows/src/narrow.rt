@@ -28,7 +28,7 @@ fn words_joined<T: BitStore, O: BitOrder>(words: &[T], k: usize, count: u8) -> u
 fn words_in_two<T: BitStore, O: BitOrder>(words: &[T], k: usize, count: u8, each: u8) -> u64
     requires least { each ≤ count }
     requires most { count ≤ 2 * each }
-    requires few { count * T.BITS < 64 }
+    requires few { count * T.BITS ≤ 64 }
     requires within { k + count ≤ length words.now }
     ensures { result ≡ number_of (run_at (row T.BitStore O.BitOrder words.now) (k * T.BITS) (count * T.BITS)) }
 {
@@ -38,11 +38,11 @@ fn words_in_two<T: BitStore, O: BitOrder>(words: &[T], k: usize, count: u8, each
     low | high << (apart * T::BITS)
 }
 
-// Like `words_joined`, of words with less than 64 bits: by two loads of four bytes or of two.
+// Like `words_joined`, of some words: by two loads of four bytes or of two.
 #[inline(always)]
-fn words_short<T: BitStore, O: BitOrder>(words: &[T], k: usize, count: u8) -> u64
+pub(crate) fn words_short<T: BitStore, O: BitOrder>(words: &[T], k: usize, count: u8) -> u64
     requires some { 0 < count }
-    requires few { count * T.BITS < 64 }
+    requires few { count * T.BITS ≤ 64 }
     requires within { k + count ≤ length words.now }
     ensures { result ≡ number_of (run_at (row T.BitStore O.BitOrder words.now) (k * T.BITS) (count * T.BITS)) }
 {
@@ -51,6 +51,9 @@ fn words_short<T: BitStore, O: BitOrder>(words: &[T], k: usize, count: u8) -> u6
     }
     if T::BITS < 32 && count >= 2 {
         return words_in_two::<T, O>(words, k, count, 2);
+    }
+    if T::BITS == 32 && count == 2 {
+        return words_joined::<T, O>(words, k, 2);
     }
     words_joined::<T, O>(words, k, 1)
 }
@@ -70,11 +73,11 @@ pub(crate) fn goes_back<T: BitStore, O: BitOrder>() -> bool
 }
 
 // The bits of `count` words from word `k` on as a number: the words are loaded as they are, and the bits of all put in
-// order at once. Requires that the words are there, and have less than 64 bits, and that the order goes back.
+// order at once. Requires that the words are there, and have at most 64 bits, and that the order goes back.
 #[inline(always)]
 pub(crate) fn block_short<T: BitStore, O: BitOrder>(words: &[T], k: usize, count: u8) -> u64
     requires some { 0 < count }
-    requires few { count * T.BITS < 64 }
+    requires few { count * T.BITS ≤ 64 }
     requires within { k + count ≤ length words.now }
     requires back { (i : ℕ) → i < T.BITS → O.place T.BITS (O.place T.BITS i) ≡ i }
     ensures { result ≡ number_of (run_at (row T.BitStore O.BitOrder words.now) (k * T.BITS) (count * T.BITS)) }

@@ -32,7 +32,7 @@ returns g c =
     let meets : apart * w ≤ each * w = mul_mono apart each w (omega arith) in
     let front : IsRead ms (k * w) (each * w) x = run_read ms (k * w) (each * w) x (omega (arith, size, room, turned, sum, all)) c.words_joined-low.ensures in
     let back : IsRead ms ((k + apart) * w) (each * w) y = run_read ms ((k + apart) * w) (each * w) y (omega (arith, size, room, turned, sum, all, begins)) c.words_joined-high.ensures in
-    let joined = read_joined ms (k * w) (each * w) (apart * w) (each * w) x y front (subst (λ n. IsRead ms n (each * w) y) begins back) meets (omega arith) (omega (arith, all, c.requires.few)) in
+    let joined = read_joined ms (k * w) (each * w) (apart * w) (each * w) x y front (subst (λ n. IsRead ms n (each * w) y) begins back) meets (omega arith) (omega (arith, all, meets, c.requires.few)) in
     let read : IsRead ms (k * w) (count * w) (bit_or x (y * 2 ^ (apart * w) % 2 ^ 64)) = subst (λ n. IsRead ms (k * w) n (bit_or x (y * 2 ^ (apart * w) % 2 ^ 64))) all joined in
     subst (λ n. bit_or x (y * 2 ^ (apart * n) % 2 ^ 64) ≡ number_of (run_at ms (k * w) (count * w))) (sym c.BITS.ensures)
     (read_is ms (k * w) (count * w) (bit_or x (y * 2 ^ (apart * w) % 2 ^ 64)) read (omega (arith, c.requires.few)) (or_lt 64 x (y * 2 ^ (apart * w) % 2 ^ 64) c.words_joined-low.type_inv (mod-lt (y * 2 ^ (apart * w)) (lit< tt))) (omega (arith, size, room, turned, sum)))

@@ -5,7 +5,7 @@ ghost use Rattle.bit_addressing.specs.Typed.{row};
 ghost use Rattle.bit_rows.specs.Runs.{run_at};
 
 use crate::chunks::word_number;
-use bit_addressing::{BitIdx, BitOrder, BitStore, Lsb0};
+use bit_addressing::{BitIdx, BitOrder, BitStore, Lsb0, elts};
 
 // The bits of `count` words from word `k` on as a number. Of words by `Lsb0` the compiler makes one load, where it knows
 // how many they are. Requires that the words are there, and have at most 64 bits.
@@ -84,4 +84,17 @@ pub(crate) fn block_short<T: BitStore, O: BitOrder>(words: &[T], k: usize, count
 {
     let raw = words_short::<T, Lsb0>(words, k, count);
     O::unpack::<T>(O::from_lsb0::<u64>(raw))
+}
+
+// Like `read_chunk`, from word `k` on. Requires besides that there is a bit, and that the order goes back.
+#[inline(always)]
+pub(crate) fn chunk_short<T: BitStore, O: BitOrder>(words: &[T], k: usize, n: u8) -> u64
+    requires some { 0 < n }
+    requires few { n ≤ 64 }
+    requires within { k * T.BITS + n ≤ T.BITS * length words.now }
+    requires back { (i : ℕ) → i < T.BITS → O.place T.BITS (O.place T.BITS i) ≡ i }
+    ensures { result ≡ number_of (run_at (row T.BitStore O.BitOrder words.now) (k * T.BITS) n) }
+{
+    let count = elts::<T>(n as usize) as u8;
+    block_short::<T, O>(words, k, count) & (u64::MAX >> (64 - n))
 }

@@ -3,6 +3,7 @@ pub mod Onto
 pub mod Canon
 pub mod Binary
 pub mod Numbers
+pub mod Ends
 pub mod Differs
 pub mod Finds
 pub mod Wholes

@@ -10,6 +10,7 @@ ghost use Rattle.bit_addressing.specs.Typed.{row};
 ghost use Rattle.bit_rows.specs.Runs.{run_at, AreAlike, AreEqualRuns};
 
 use crate::copies::copy_bits;
+use crate::narrow::{block_short, goes_back};
 use crate::single::write_part;
 use bit_addressing::inner::{PairTable, Span, in_row, in_word};
 use bit_addressing::{BitIdx, BitOrder, BitStore, Lsb0};
@@ -19,6 +20,26 @@ pub(crate) fn word_number<T: BitStore, O: BitOrder>(word: T) -> u64
     ensures { result ≡ number_of (row T.BitStore O.BitOrder (word ∷ [])) }
 {
     O::to_lsb0(word).to_u64()
+}
+
+// Like `read_chunk`, word by word. Requires that there is a bit.
+fn read_by_words<T: BitStore, O: BitOrder>(words: &[T], at: usize, n: u8) -> u64
+    requires some { 0 < n }
+    requires few { n ≤ 64 }
+    requires within { at + n ≤ T.BITS * length words.now }
+    ensures { result ≡ number_of (run_at (row T.BitStore O.BitOrder words.now) at n) }
+{
+    let width = T::BITS as usize;
+    let mut k = at / width;
+    let skip = (at % width) as u8;
+    let mut chunk = word_number::<T, O>(words[k]) >> skip;
+    let mut got = T::BITS - skip;
+    while got < n {
+        k += 1;
+        chunk |= word_number::<T, O>(words[k]) << got;
+        got += T::BITS;
+    }
+    chunk & (u64::MAX >> (64 - n))
 }
 
 // Like `read_chunk`, each word read once.
@@ -32,25 +53,23 @@ fn read_over<T: BitStore, O: BitOrder>(words: &[T], at: usize, n: u8) -> u64
         return 0;
     }
     let width = T::BITS as usize;
-    let mut k = at / width;
+    let k = at / width;
     let skip = (at % width) as u8;
     let each = 64 / width;
-    if O::goes_by_shifts() && skip + n <= 64 && k + each <= words.len() {
+    let left = words.len() - k;
+    if O::goes_by_shifts() && left < each && goes_back::<T, O>() {
+        let block = block_short::<T, O>(words, k, left as u8) >> skip;
+        return block & (u64::MAX >> (64 - n));
+    }
+    if O::goes_by_shifts() && skip + n <= 64 && each <= left {
         let block = word_number::<u64, O>(O::pack(words, k)) >> skip;
         return block & (u64::MAX >> (64 - n));
     }
-    if O::goes_by_shifts() && k + 2 * each <= words.len() {
+    if O::goes_by_shifts() && 2 * each <= left {
         let block = word_number::<u64, O>(block_at::<O, T, O>(words, k, skip));
         return block & (u64::MAX >> (64 - n));
     }
-    let mut chunk = word_number::<T, O>(words[k]) >> skip;
-    let mut got = T::BITS - skip;
-    while got < n {
-        k += 1;
-        chunk |= word_number::<T, O>(words[k]) << got;
-        got += T::BITS;
-    }
-    chunk & (u64::MAX >> (64 - n))
+    read_by_words::<T, O>(words, at, n)
 }
 
 // Whether two kinds of words have one width, and their bits lie in one order.

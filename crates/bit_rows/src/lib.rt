@@ -11,6 +11,7 @@ mod combined;
 mod copies;
 mod equal;
 mod growth;
+mod narrow;
 mod pairs;
 mod searches;
 mod single;
@@ -24,7 +25,7 @@ pub use growth::{
     append_run_in_vec, cut_words_in_vec, push_binary_in_vec, push_bit_in_vec, push_chunk_in_vec,
     resize_words_in_vec,
 };
-pub use pairs::{count_blocks, false_blocks};
+pub use pairs::{count_blocks, false_blocks, read_pair};
 pub use searches::{count_bits, differ_at, find_bit};
 pub use single::{fill_bits, flip_words, prove_exact_words, read_bit, swap_bits, write_bit};
 pub use vectors::{

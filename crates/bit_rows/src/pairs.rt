@@ -2,12 +2,14 @@
 ghost use Rattle.std.specs.Prelude.{◌≡◌, ℕ, ◌+◌, ◌*◌, ◌^◌, ◌<◌, ◌≤◌, false, length, slice_index_or};
 ghost use Rattle.std.specs.List.{count_by};
 ghost use Rattle.std.specs.Simd.Lanes.{zip2};
+ghost use Rattle.bit_addressing.specs.Row.{number_of};
 ghost use Rattle.bit_addressing.specs.Typed.{row};
 ghost use Rattle.bit_rows.specs.Runs.{run_at, AreAlike};
 
-use crate::chunks::{are_alike, word_alike};
+use crate::chunks::{are_alike, read_chunk, word_alike};
 use crate::combined::BitOperator;
-use bit_addressing::{BitOrder, BitStore, Lsb0};
+use crate::narrow::{goes_back, words_short};
+use bit_addressing::{BitOrder, BitStore, Lsb0, elts};
 
 // How many of the first `count` words from words `k` and `l` on `F` makes into false bits alone, by turns of
 // `each` words up to one that it does not. A turn is tested once, so that the compiler takes its words side by
@@ -160,4 +162,59 @@ pub fn count_blocks<F: BitOperator, T: BitStore, O: BitOrder, U: BitStore, P: Bi
     let blocks = n / 64;
     let count = count_alike::<F, T, O, U, P>(a, i / width, b, j / width, blocks);
     (blocks, count)
+}
+
+// Like `read_pair`, from words `k` and `l` on, whose bits lie alike: `F` makes bits of the words as they are, which are put
+// in order once. It is one call for both sides, since two would take longer than the work. Requires besides that there is
+// a bit, and that the order goes back.
+#[inline(never)]
+fn pair_short<F: BitOperator, T: BitStore, O: BitOrder, U: BitStore, P: BitOrder>(
+    a: &[T],
+    k: usize,
+    b: &[U],
+    l: usize,
+    n: u8,
+) -> u64
+    requires alike { AreAlike T.BITS U.BITS O.place P.place }
+    requires back { (i : ℕ) → i < T.BITS → O.place T.BITS (O.place T.BITS i) ≡ i }
+    requires some { 0 < n }
+    requires few { n ≤ 64 }
+    requires first { k * T.BITS + n ≤ T.BITS * length a.now }
+    requires second { l * T.BITS + n ≤ T.BITS * length b.now }
+    ensures { result ≡ number_of (zip2 F.made (run_at (row T.BitStore O.BitOrder a.now) (k * T.BITS) n) (run_at (row U.BitStore P.BitOrder b.now) (l * T.BITS) n)) }
+{
+    let count = elts::<T>(n as usize) as u8;
+    let old = words_short::<T, Lsb0>(a, k, count);
+    let new = words_short::<U, Lsb0>(b, l, count);
+    let raw = F::apply::<u64>(old, new);
+    O::unpack::<T>(O::from_lsb0::<u64>(raw)) & (u64::MAX >> (64 - n))
+}
+
+/// The bits that `F` makes of `n` bits of two rows, from places `i` and `j` on, as a number, the first at place 0.
+/// Requires that `F` makes false of two false bits, `n` is at most 64, and both runs lie in their words.
+///
+/// ```text
+/// of 0110 and 1100 by Lsb0: read_pair::<And, ..>(a, 0, b, 0, 4) == 0b0010
+/// ```
+#[inline(always)]
+pub fn read_pair<F: BitOperator, T: BitStore, O: BitOrder, U: BitStore, P: BitOrder>(
+    a: &[T],
+    i: usize,
+    b: &[U],
+    j: usize,
+    n: u8,
+) -> u64
+    requires quiet { F.made false false ≡ false }
+    requires few { n ≤ 64 }
+    requires first { i + n ≤ T.BITS * length a.now }
+    requires second { j + n ≤ U.BITS * length b.now }
+    ensures { result ≡ number_of (zip2 F.made (run_at (row T.BitStore O.BitOrder a.now) i n) (run_at (row U.BitStore P.BitOrder b.now) j n)) }
+{
+    let width = T::BITS as usize;
+    if T::BITS < n && n < 64 && i % width == 0 && j % width == 0 && are_alike::<T, O, U, P>() && goes_back::<T, O>() {
+        return pair_short::<F, T, O, U, P>(a, i / width, b, j / width, n);
+    }
+    let old = read_chunk::<T, O>(a, i, n);
+    let new = read_chunk::<U, P>(b, j, n);
+    F::apply::<u64>(old, new)
 }

@@ -6,11 +6,12 @@ ghost use Rattle.bit_addressing.specs.Typed.{row};
 ghost use Rattle.bit_rows.specs.Runs.{run_at, AreAlike, AreEqualRuns, AreAll, DiffersFirst, FindsFirst};
 
 use crate::chunks::{are_alike, block_after, followed_blocks, read_chunk, word_alike, word_number};
+use crate::narrow::{chunk_short, goes_back, words_short};
 use bit_addressing::inner::{Span, in_row, in_word};
 use bit_addressing::{BitEnd, BitIdx, BitOrder, BitStore, Lsb0};
 
-// The number of set bits in the words `first..last`, by blocks of 64 bits as far as they go
-// (docs/TUNING.md, "Rows of words", count). Requires that the words are there.
+// The number of set bits in the words `first..last`, by blocks of 64 bits as far as they go, and the words after them as one
+// number (docs/TUNING.md, "Rows of words", count). Requires that the words are there.
 fn count_words<T: BitStore, O: BitOrder>(words: &[T], first: usize, last: usize) -> usize
     requires ordered { first ≤ last }
     requires within { last ≤ length words.now }
@@ -26,13 +27,14 @@ fn count_words<T: BitStore, O: BitOrder>(words: &[T], first: usize, last: usize)
         let block = O::pack(words, first + t * each);
         count += word_number::<u64, O>(block).count_ones() as usize;
     }
-    for k in first + blocks * each..last {
-        count += word_number::<T, O>(words[k]).count_ones() as usize;
+    let next = first + blocks * each;
+    if next == last {
+        return count;
     }
-    count
+    count + words_short::<T, O>(words, next, (last - next) as u8).count_ones() as usize
 }
 
-// Like `count_bits`, of the `n` bits from word `first` on.
+// Like `count_bits`, of the `n` bits from word `first` on: those of a few narrow words by two loads.
 #[inline(always)]
 fn count_front<T: BitStore, O: BitOrder>(words: &[T], first: usize, n: usize) -> usize
     requires within { first * T.BITS + n ≤ T.BITS * length words.now }
@@ -40,6 +42,9 @@ fn count_front<T: BitStore, O: BitOrder>(words: &[T], first: usize, n: usize) ->
     ensures { result ≡ count_by (λ b. b) (run_at (row T.BitStore O.BitOrder words.now) (first * T.BITS) n) }
 {
     let width = T::BITS as usize;
+    if width < n && n <= 64 && goes_back::<T, O>() {
+        return chunk_short::<T, O>(words, first, n as u8).count_ones() as usize;
+    }
     let last = first + n / width;
     let rest = read_chunk::<T, O>(words, last * width, (n % width) as u8);
     count_words::<T, Lsb0>(words, first, last) + rest.count_ones() as usize

@@ -1,24 +1,54 @@
-use Rattle.std.proofs.Common.{◌≡◌, ℕ, ◌+◌, ◌-◌, ◌*◌, ◌/◌, ◌%◌, ◌^◌, ◌<◌, bit_or, length, slice_range, sym, ◌∙◌, ap, subst, arith}
+use Rattle.std.proofs.Common.{◌≡◌, ℕ, ◌+◌, ◌-◌, ◌*◌, ◌/◌, ◌%◌, ◌^◌, ◌<◌, ◌≤◌, length, slice_range, sym, ◌∙◌, ap, subst, arith, mul_comm}
 use Rattle.std.proofs.lemmas.Nat.{div-add-mod'}
 use Rattle.std.proofs.Math.Nat.{mod-lt}
 use Rattle.bit_addressing.specs.Row.{number_of}
 use Rattle.bit_addressing.specs.Typed.{row}
 use Rattle.bit_addressing.proofs.Blocks.{two_blocks}
-use Rattle.bit_addressing.proofs.Chunks.{IsRead, no_bits, read_block, read_first, read_next, read_done, reach_first, reach_next}
+use Rattle.bit_addressing.proofs.Chunks.{no_bits, read_block, read_done}
+use Rattle.bit_addressing.proofs.Packs.{pack_fills}
 use Rattle.bit_addressing.proofs.Rows.{width_positive, width_small, word_below}
-use Rattle.bit_addressing.proofs.Runs.{inside_words}
+use Rattle.bit_addressing.proofs.Runs.{mul_mono}
 use Rattle.bit_addressing.proofs.Typed.{length_row}
+use Rattle.bit_addressing.proofs.lists.Sized.{right_sum}
 use Rattle.bit_rows.proofs.Numbers.{one_block, read_later}
+use Rattle.bit_rows.proofs.Ends.{read_further, run_read}
 use Rattle.bit_rows.proofs.chunks.read_over.Goals as goal
 
 pub returns-then-n-eq0 : goal.returns-then-n-eq0
 returns-then-n-eq0 g c = no_bits (row g.T.BitStore g.O.BitOrder c.args.words.now) c.args.at c.args.n c.if-n-eq0.true
 
-pub pack-requires : goal.pack-requires
-pack-requires g c = one_block (c.args.at / c.BITS-width.result) g.met.T.BitStore.width c.BITS-width.ensures (omega arith)
+pub returns-then-goes_back : goal.returns-then-goes_back
+returns-then-goes_back g c =
+    let w = g.T.BitStore.BITS in
+    let at = c.args.at in
+    let words = c.args.words.now in
+    let width = c.BITS-width.result in
+    let k : ℕ = at / width in
+    let skip : ℕ = at % width in
+    let left : ℕ = length words - k in
+    let positive = width_positive w g.met.T.BitStore.width in
+    let zs = row g.T.BitStore g.O.BitOrder words in
+    let size : length zs ≡ w * length words = length_row g.T.BitStore.value g.O.BitOrder.place w words in
+    let there : k < length words = rw c.BITS-width.ensures (word_below w at (length words) positive (omega arith)) in
+    let here : k * w + skip ≡ at = ap (λ n. k * n + skip) (sym c.BITS-width.ensures) ∙ div-add-mod' at width in
+    let sum = right_sum k left w in
+    let all : (k + left) * w ≡ length words * w = ap (λ n. n * w) (omega arith) in
+    let turned = mul_comm w (length words) in
+    let x = c.block_short.result in
+    let fills : 64 / w * w ≡ 64 = pack_fills w g.met.T.BitStore.width in
+    let short : left < 64 / w = subst (λ n. left < 64 / n) c.BITS-width.ensures c.if-left-each.true in
+    let most = mul_mono left (64 / w) w (omega arith) in
+    let few : left * w ≤ 64 = omega (arith, fills, most) in
+    let read = run_read zs (k * w) (left * w) x (omega arith) c.block_short.ensures in
+    read_done zs at c.args.n (left * w - skip) (x / 2 ^ skip) (read_further zs (k * w) at (left * w) skip x (sym here) few read) (omega arith) (omega arith) c.requires.few (omega arith)
 
-pub returns-then-k-each : goal.returns-then-k-each
-returns-then-k-each g c =
+pub pack-requires : goal.pack-requires
+pack-requires g c =
+    let here : c.args.at / c.BITS-width.result < length c.args.words.now = rw c.BITS-width.ensures (word_below g.T.BitStore.BITS c.args.at (length c.args.words.now) (width_positive _ g.met.T.BitStore.width) (omega arith)) in
+    one_block (c.args.at / c.BITS-width.result) g.met.T.BitStore.width c.BITS-width.ensures (omega arith)
+
+pub returns-then-each-left : goal.returns-then-each-left
+returns-then-each-left g c =
     let w = g.T.BitStore.BITS in
     let at = c.args.at in
     let width = c.BITS-width.result in
@@ -34,10 +64,12 @@ returns-then-k-each g c =
     read_done zs at c.args.n (64 - skip) (x / 2 ^ skip) (read_later zs (at / width * w) at skip x (sym here) (omega arith) (read_block zs (at / width * w) x number)) (omega arith) (omega arith) c.requires.few (omega arith)
 
 pub block_at-requires-clause-words : goal.block_at-requires-clause-words
-block_at-requires-clause-words g c = two_blocks (c.args.at / c.BITS-width.result) g.met.T.BitStore.width c.BITS-width.ensures (omega arith)
+block_at-requires-clause-words g c =
+    let here : c.args.at / c.BITS-width.result < length c.args.words.now = rw c.BITS-width.ensures (word_below g.T.BitStore.BITS c.args.at (length c.args.words.now) (width_positive _ g.met.T.BitStore.width) (omega arith)) in
+    two_blocks (c.args.at / c.BITS-width.result) g.met.T.BitStore.width c.BITS-width.ensures (omega arith)
 
-pub returns-then-k-each-2 : goal.returns-then-k-each-2
-returns-then-k-each-2 g c =
+pub returns-then-each-left-2 : goal.returns-then-each-left-2
+returns-then-each-left-2 g c =
     let w = g.T.BitStore.BITS in
     let at = c.args.at in
     let width = c.BITS-width.result in
@@ -48,49 +80,3 @@ returns-then-k-each-2 g c =
     let number : c.word_number-block.result ≡ number_of (slice_range zs at (at + 64)) = c.word_number-block.ensures ∙ ap number_of c.block_at.ensures ∙ ap (λ n. number_of (slice_range zs n (n + 64))) here in
     read_done zs at c.args.n 64 c.word_number-block.result (read_block zs at c.word_number-block.result number) (omega arith) c.requires.few c.requires.few (omega arith)
 
-pub bounds-words-k : goal.bounds-words-k
-bounds-words-k g c = rw c.BITS-width.ensures (word_below g.T.BitStore.BITS c.args.at (length c.args.words.now) (width_positive _ g.met.T.BitStore.width) (omega arith))
-
-pub loop-got-init : goal.loop-got-init
-loop-got-init g c =
-    let w = g.T.BitStore.BITS in
-    let at = c.args.at in
-    let width = c.BITS-width.result in
-    let positive = width_positive w g.met.T.BitStore.width in
-    let small = width_small w g.met.T.BitStore.width in
-    let rest : at % width ≡ at % w = ap (λ n. at % n) c.BITS-width.ensures in
-    let word : at / width ≡ at / w = ap (λ n. at / n) c.BITS-width.ensures in
-    record {
-      read = subst (λ m. IsRead (row g.T.BitStore g.O.BitOrder c.args.words.now) at (m - at % width) (c.word_number-2.result / 2 ^ (at % width))) (sym c.BITS.ensures)
-          (read_first g.T.BitStore.value g.O.BitOrder.place w positive c.args.words.now at (at / width) (at % width) c.word_number-2.result c.index-words-k.result (omega arith) word rest c.index-words-k.is c.word_number-2.ensures);
-      reached = reach_first w at (at / width) (at % width) c.BITS.result positive word rest c.BITS.ensures;
-      few = omega arith;
-    }
-
-pub overflow_add-k-in-loop-got : goal.overflow_add-k-in-loop-got
-overflow_add-k-in-loop-got g c = let here = inside_words g.T.BitStore.BITS (c.loop-got.k + 1) (length c.args.words.now) (c.args.at + c.loop-got.got) c.loop-got.invariant.reached (omega arith) in omega arith
-
-pub bounds-words-k-in-loop-got : goal.bounds-words-k-in-loop-got
-bounds-words-k-in-loop-got g c = inside_words g.T.BitStore.BITS (c.loop-got.k + 1) (length c.args.words.now) (c.args.at + c.loop-got.got) c.loop-got.invariant.reached (omega arith)
-
-pub loop-got-preserved : goal.loop-got-preserved
-loop-got-preserved g c =
-    let w = g.T.BitStore.BITS in
-    let words = c.args.words.now in
-    let positive = width_positive w g.met.T.BitStore.width in
-    let small = width_small w g.met.T.BitStore.width in
-    let got = c.loop-got.got in
-    let k = c.loop-got.k in
-    let here : k + 1 < length words = inside_words w (k + 1) (length words) (c.args.at + got) c.loop-got.invariant.reached (omega arith) in
-    record {
-      read = subst (λ m. IsRead (row g.T.BitStore g.O.BitOrder words) c.args.at (got + m) (bit_or c.loop-got.chunk (c.word_number-in-loop-got.result * 2 ^ got % 2 ^ 64))) (sym c.BITS-got.ensures)
-          (read_next g.T.BitStore.value g.O.BitOrder.place w positive words c.args.at (k + 1) got c.loop-got.chunk c.word_number-in-loop-got.result c.index-words-k-in-loop-got.result c.loop-got.invariant.read c.loop-got.invariant.reached (omega arith) here c.index-words-k-in-loop-got.is c.word_number-in-loop-got.ensures);
-      reached = reach_next w c.args.at got k c.BITS-got.result c.loop-got.invariant.reached c.BITS-got.ensures;
-      few = omega arith;
-    }
-
-pub returns : goal.returns
-returns g c =
-    let zs = row g.T.BitStore g.O.BitOrder c.args.words.now in
-    let size : length zs ≡ g.T.BitStore.BITS * length c.args.words.now = length_row g.T.BitStore.value g.O.BitOrder.place g.T.BitStore.BITS c.args.words.now in
-    read_done zs c.args.at c.args.n c.loop-got.got c.loop-got.chunk c.loop-got.invariant.read (omega arith) c.loop-got-test.false c.requires.few (omega arith)

@@ -42,6 +42,9 @@ total g c =
     counted_next zs a b (a + n) c.count_words.result (count_ones c.read_chunk-rest.result) (omega arith) (omega arith) (omega (arith, c.requires.within)) whole
     (counted zs ((first + n / c.BITS-width.result) * c.BITS-width.result) ((first + n / c.BITS-width.result) * c.BITS-width.result + n % c.BITS-width.result) b (a + n) c.read_chunk-rest.result (sym at) (omega arith) c.read_chunk-rest.ensures)
 
+pub returns-then-goes_back : goal.returns-then-goes_back
+returns-then-goes_back g c = counted (row g.T.BitStore g.O.BitOrder c.args.words.now) (c.args.first * g.T.BitStore.BITS) (c.args.first * g.T.BitStore.BITS + c.args.n) (c.args.first * g.T.BitStore.BITS) (c.args.first * g.T.BitStore.BITS + c.args.n) c.chunk_short.result refl refl c.chunk_short.ensures
+
 pub returns : goal.returns
 returns g c = total g c
 

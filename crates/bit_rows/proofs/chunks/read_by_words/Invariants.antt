@@ -1,7 +1,7 @@
 use Rattle.std.proofs.Common.{◌≡◌, ◌+◌, ◌-◌, ◌*◌, ◌≤◌}
 use Rattle.bit_addressing.specs.Typed.{row}
 use Rattle.bit_addressing.proofs.Chunks.{IsRead}
-use Rattle.bit_rows.proofs.chunks.read_over.Given as goal
+use Rattle.bit_rows.proofs.chunks.read_by_words.Given as goal
 
 abbrev pub invariant-loop-got : goal.invariant-loop-got
 invariant-loop-got g l = record {

@@ -233,7 +233,13 @@ pub fn read_pair<F: BitOperator, T: BitStore, O: BitOrder, U: BitStore, P: BitOr
     ensures { result ≡ number_of (zip2 F.made (run_at (row T.BitStore O.BitOrder a.now) i n) (run_at (row U.BitStore P.BitOrder b.now) j n)) }
 {
     let width = T::BITS as usize;
-    if T::BITS < n && n < 64 && i % width == 0 && j % width == 0 && are_alike::<T, O, U, P>() && goes_back::<T, O>() {
+    if T::BITS < n
+        && n < 64
+        && i % width == 0
+        && j % width == 0
+        && are_alike::<T, O, U, P>()
+        && goes_back::<T, O>()
+    {
         return pair_short::<F, T, O, U, P>(a, i / width, b, j / width, n);
     }
     let old = read_chunk::<T, O>(a, i, n);

@@ -69,6 +69,11 @@ fn read_over<T: BitStore, O: BitOrder>(words: &[T], at: usize, n: u8) -> u64
         let block = word_number::<u64, O>(block_at::<O, T, O>(words, k, skip));
         return block & (u64::MAX >> (64 - n));
     }
+    if O::goes_by_shifts() && each < left && 0 < skip {
+        let block = word_number::<u64, O>(O::pack(words, k)) >> skip;
+        let last = word_number::<T, O>(words[k + each]) << (64 - skip);
+        return (block | last) & (u64::MAX >> (64 - n));
+    }
     read_by_words::<T, O>(words, at, n)
 }
 

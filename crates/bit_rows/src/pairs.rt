@@ -47,17 +47,9 @@ fn false_turns<F: BitOperator, T: BitStore, O: BitOrder, U: BitStore, P: BitOrde
     count / each * each
 }
 
-/// A number of blocks of 64 bits, the first of `n` bits from places `i` and `j` on, of which `F` makes false
-/// bits alone. It tests bits that lie alike where both runs begin with a word, 2048 at a time and then 512, so
-/// more such blocks may follow; of others it returns 0. Requires that both runs lie in their words.
-///
-/// ```text
-/// of 512 false bits and 512 true ones: false_blocks::<And, ..>(a, 0, b, 0, 512) == 8
-/// of 8 bits: false_blocks::<And, ..>(a, 0, b, 0, 8) == 0
-/// ```
-// It is not inlined, for the reason that `count_alike` names.
+// Like `false_blocks`. It is not inlined, for the reason that `count_alike` names.
 #[inline(never)]
-pub fn false_blocks<F: BitOperator, T: BitStore, O: BitOrder, U: BitStore, P: BitOrder>(
+fn false_long<F: BitOperator, T: BitStore, O: BitOrder, U: BitStore, P: BitOrder>(
     a: &[T],
     i: usize,
     b: &[U],
@@ -79,6 +71,36 @@ pub fn false_blocks<F: BitOperator, T: BitStore, O: BitOrder, U: BitStore, P: Bi
     let far = false_turns::<F, T, O, U, P>(a, k, b, l, count, 2048 / width);
     let near = false_turns::<F, T, O, U, P>(a, k + far, b, l + far, count - far, 512 / width);
     (far + near) / (64 / width)
+}
+
+/// A number of blocks of 64 bits, the first of `n` bits from places `i` and `j` on, of which `F` makes false
+/// bits alone. It tests bits that lie alike where both runs begin with a word, 2048 at a time and then 512, so
+/// more such blocks may follow; of others it returns 0. Requires that both runs lie in their words.
+///
+/// ```text
+/// of 512 false bits and 512 true ones: false_blocks::<And, ..>(a, 0, b, 0, 512) == 8
+/// of 8 bits: false_blocks::<And, ..>(a, 0, b, 0, 8) == 0
+/// ```
+// Most runs are too short for such a block, and take no call.
+#[inline(always)]
+pub fn false_blocks<F: BitOperator, T: BitStore, O: BitOrder, U: BitStore, P: BitOrder>(
+    a: &[T],
+    i: usize,
+    b: &[U],
+    j: usize,
+    n: usize,
+) -> usize
+    requires first { i + n ≤ T.BITS * length a.now }
+    requires second { j + n ≤ U.BITS * length b.now }
+    ensures few { result * 64 ≤ n }
+    ensures none { (q : ℕ) → q < result * 64
+        → F.made (slice_index_or (row T.BitStore O.BitOrder a.now) (i + q) false)
+        (slice_index_or (row U.BitStore P.BitOrder b.now) (j + q) false) ≡ false }
+{
+    if n < 512 {
+        return 0;
+    }
+    false_long::<F, T, O, U, P>(a, i, b, j, n)
 }
 
 // The number of true bits of those that `F` makes of `blocks` blocks of 64 bits from words `k` and `l` on. As
@@ -211,7 +233,13 @@ pub fn read_pair<F: BitOperator, T: BitStore, O: BitOrder, U: BitStore, P: BitOr
     ensures { result ≡ number_of (zip2 F.made (run_at (row T.BitStore O.BitOrder a.now) i n) (run_at (row U.BitStore P.BitOrder b.now) j n)) }
 {
     let width = T::BITS as usize;
-    if T::BITS < n && n < 64 && i % width == 0 && j % width == 0 && are_alike::<T, O, U, P>() && goes_back::<T, O>() {
+    if T::BITS < n
+        && n < 64
+        && i % width == 0
+        && j % width == 0
+        && are_alike::<T, O, U, P>()
+        && goes_back::<T, O>()
+    {
         return pair_short::<F, T, O, U, P>(a, i / width, b, j / width, n);
     }
     let old = read_chunk::<T, O>(a, i, n);

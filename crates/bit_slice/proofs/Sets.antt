@@ -120,6 +120,17 @@ module _ (f : Bool → Bool → Bool) (xs ys : List Bool) where
             ∙ ap (f false) (get_or_past (slice_range ys at (at + n)) i false (omega arith)) ∙ quiet ∙ sym (get_or_past (slice_range made at (at + n)) i false (omega arith))
       ]
 
+  -- what is made of the items of two parts is a part of what is made of both lists
+  pub pair_run : (at n : ℕ) → f false false ≡ false → at + n ≤ length xs → at + n ≤ length ys → zip2 f (slice_range xs at (at + n)) (slice_range ys at (at + n)) ≡ slice_range made at (at + n)
+  pair_run at n quiet here there =
+      let long = length-combined f xs ys in
+      let a : length (slice_range xs at (at + n)) ≡ n = length-run xs at n here in
+      let b : length (slice_range ys at (at + n)) ≡ n = length-run ys at n there in
+      let c : length (slice_range made at (at + n)) ≡ n = length-run made at n (omega arith) in
+      let size = length-zip2 f (slice_range xs at (at + n)) (slice_range ys at (at + n)) (a ∙ sym b) in
+      ext_get_or false (zip2 f (slice_range xs at (at + n)) (slice_range ys at (at + n))) (slice_range made at (at + n)) (size ∙ a ∙ sym c)
+      (λ i h. get_or-zip2 f (slice_range xs at (at + n)) (slice_range ys at (at + n)) i false false false (omega arith) (omega arith) ∙ pair_bit at n i quiet here there)
+
   -- an item that the right is too short for
   past_item : (n k : ℕ) → n ≡ min (length xs) (length ys) → n + k < length xs → get_or (slice_range made n (length xs)) k false ≡ f (get_or xs (n + k) false) false
   past_item n k least h =

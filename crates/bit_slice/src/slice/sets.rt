@@ -9,10 +9,29 @@ use crate::edits::AndNot;
 use crate::lists::BitList;
 use crate::slice::BitSlice;
 use bit_addressing::{BitOrder, BitStore};
-use bit_rows::{And, BitOperator, Or, Xor, count_blocks, false_blocks, read_chunk};
+use bit_rows::{And, BitOperator, Or, Xor, count_blocks, false_blocks, read_pair};
+
+// Like `pair_chunk`, of views that may have a head.
+#[inline(never)]
+fn pair_chunk_apart<F: BitOperator, T: BitStore, O: BitOrder, U: BitStore, P: BitOrder>(
+    left: BitSlice<'_, T, O>,
+    right: BitSlice<'_, U, P>,
+    at: usize,
+    n: u8,
+) -> u64
+    requires quiet { F.made false false ≡ false }
+    requires few { n ≤ 64 }
+    requires left { at + n ≤ len_of left }
+    requires right { at + n ≤ len_of right }
+    ensures { result ≡ number_of (slice_range (combined F.made (list_of left.entry) (list_of right.entry)) at
+        (at + n)) }
+{
+    let (i, j) = (left.head + at, right.head + at);
+    read_pair::<F, T, O, U, P>(left.words, i, right.words, j, n)
+}
 
 // The `n` bits from index `at` on that the operator makes of two views, as a number, the first at
-// place 0.
+// place 0. Views without a head are tested first, since most have none and no bit has to be shifted there.
 #[inline(always)]
 pub(crate) fn pair_chunk<F: BitOperator, T: BitStore, O: BitOrder, U: BitStore, P: BitOrder>(
     left: BitSlice<'_, T, O>,
@@ -27,9 +46,10 @@ pub(crate) fn pair_chunk<F: BitOperator, T: BitStore, O: BitOrder, U: BitStore, 
     ensures { result ≡ number_of (slice_range (combined F.made (list_of left.entry) (list_of right.entry)) at
         (at + n)) }
 {
-    let old = read_chunk::<T, O>(left.words, left.head + at, n);
-    let new = read_chunk::<U, P>(right.words, right.head + at, n);
-    F::apply::<u64>(old, new)
+    if left.head == 0 && right.head == 0 {
+        return read_pair::<F, T, O, U, P>(left.words, at, right.words, at, n);
+    }
+    pair_chunk_apart::<F, T, O, U, P>(left, right, at, n)
 }
 
 // Like `count_pairs`: first the bits of words that lie alike, then the others 64 at a time.
@@ -142,9 +162,10 @@ impl<'a, T: BitStore, O: BitOrder> BitSlice<'a, T, O> {
         ensures { result ≡ list_any (λ b. b) (and_not_of (list_of self.entry) (list_of other.entry)) }
     {
         let both = self.len.min(other.len);
-        if any_pair::<AndNot, T, O, U, P>(self, other, both) {
-            return true;
+        let some = any_pair::<AndNot, T, O, U, P>(self, other, both);
+        if both == self.len {
+            return some;
         }
-        both < self.len && self.get_range(both..self.len).any()
+        some || self.get_range(both..self.len).any()
     }
 }

@@ -1,14 +1,9 @@
-use Rattle.std.proofs.Common.{◌≡◌, ℕ, ◌+◌, ◌-◌, ◌*◌, ◌/◌, ◌%◌, ◌^◌, ◌<◌, bit_or, length, slice_range, sym, ◌∙◌, ap, subst, arith}
-use Rattle.std.proofs.lemmas.Nat.{div-add-mod'}
-use Rattle.std.proofs.Math.Nat.{mod-lt}
-use Rattle.bit_addressing.specs.Row.{number_of}
+use Rattle.std.proofs.Common.{◌≡◌, ◌+◌, ◌-◌, ◌*◌, ◌/◌, ◌%◌, ◌^◌, ◌<◌, bit_or, length, sym, ap, subst, arith}
 use Rattle.bit_addressing.specs.Typed.{row}
-use Rattle.bit_addressing.proofs.Blocks.{two_blocks}
-use Rattle.bit_addressing.proofs.Chunks.{IsRead, no_bits, read_block, read_first, read_next, read_done, reach_first, reach_next}
+use Rattle.bit_addressing.proofs.Chunks.{IsRead, read_first, read_next, read_done, reach_first, reach_next}
 use Rattle.bit_addressing.proofs.Rows.{width_positive, width_small, word_below}
 use Rattle.bit_addressing.proofs.Runs.{inside_words}
 use Rattle.bit_addressing.proofs.Typed.{length_row}
-use Rattle.bit_rows.proofs.Numbers.{one_block, read_later}
 use Rattle.bit_rows.proofs.chunks.read_by_words.Goals as goal
 
 pub bounds-words-k : goal.bounds-words-k

@@ -1,4 +1,4 @@
-use Rattle.std.proofs.Common.{◌≡◌, ◌+◌, ◌*◌, ◌≤◌, length, arith, mul_comm}
+use Rattle.std.proofs.Common.{◌≡◌, ◌+◌, ◌*◌, length, arith, mul_comm}
 use Rattle.bit_addressing.specs.Typed.{row}
 use Rattle.bit_addressing.proofs.Chunks.{read_done}
 use Rattle.bit_addressing.proofs.Runs.{mul_mono}

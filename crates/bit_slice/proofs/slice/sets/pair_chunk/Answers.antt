@@ -1,34 +1,29 @@
-use Rattle.std.proofs.Common.{◌≡◌, ℕ, ◌+◌, false, length, get_or, slice_range, ◌∙◌, ap, arith}
-use Rattle.bit_addressing.specs.Bits.{has_bit}
+use Rattle.std.proofs.Common.{◌≡◌, ◌+◌, slice_range, ◌∙◌, ap, arith}
+use Rattle.std.specs.Simd.Lanes.{zip2}
+use Rattle.bit_addressing.specs.Row.{number_of}
 use Rattle.bit_addressing.specs.Typed.{row}
-use Rattle.bit_addressing.proofs.Chunks.{has_number, number_from_bits}
-use Rattle.bit_addressing.proofs.lists.Shown.{length-run}
 use Rattle.bit_slice.specs.BitSlice.{list_of}
-use Rattle.bit_slice.specs.Operators.{combined}
-use Rattle.bit_slice.proofs.Combining.{length-combined}
 use Rattle.bit_slice.proofs.Parts.{view_length}
-use Rattle.bit_slice.proofs.Sets.{pair_bit}
+use Rattle.bit_slice.proofs.Sets.{pair_run}
 use Rattle.bit_slice.proofs.Writing.{chunk_of_list}
 use Rattle.bit_slice.proofs.slice.sets.pair_chunk.Goals as goal
 
-pub returns : goal.returns
-returns g c =
+pub returns-then-right-eq0 : goal.returns-then-right-eq0
+returns-then-right-eq0 g c =
     let v = c.args.left in
     let u = c.args.right in
     let at = c.args.at in
     let n = c.args.n in
     let f = g.F.BitOperator.made in
-    let xs = list_of v in
-    let ys = list_of u in
+    let xs = row g.T.BitStore g.O.BitOrder v.words.now in
+    let ys = row g.U.BitStore g.P.BitOrder u.words.now in
     let left = view_length v in
-    let long = length-combined f xs ys in
-    let size : length (slice_range (combined f xs ys) at (at + n)) ≡ n = length-run (combined f xs ys) at n (omega (arith, long, left)) in
-    let old : (i : ℕ) → has_bit c.read_chunk-old.result i ≡ get_or (slice_range xs at (at + n)) i false =
-    λ i. ap (λ x. has_bit x i) c.read_chunk-old.ensures ∙ has_number (slice_range (row g.T.BitStore g.O.BitOrder v.words.now) (v.head + at) (v.head + at + n)) i
-    ∙ ap (λ l. get_or l i false) (chunk_of_list g.T.BitStore g.O.BitOrder v at n c.requires.left) in
-    let new : (i : ℕ) → has_bit c.read_chunk-new.result i ≡ get_or (slice_range ys at (at + n)) i false =
-    λ i. ap (λ x. has_bit x i) c.read_chunk-new.ensures ∙ has_number (slice_range (row g.U.BitStore g.P.BitOrder u.words.now) (u.head + at) (u.head + at + n)) i
-    ∙ ap (λ l. get_or l i false) (chunk_of_list g.U.BitStore g.P.BitOrder u at n c.requires.right) in
-    number_from_bits c.apply.result (slice_range (combined f xs ys) at (at + n)) c.apply.type_inv (omega (arith, size))
-    (λ i h. c.apply.ensures i h ∙ ap (λ b. f b (has_bit c.read_chunk-new.result i)) (old i) ∙ ap (f (get_or (slice_range xs at (at + n)) i false)) (new i)
-    ∙ pair_bit f xs ys at n i c.requires.quiet (omega (arith, left)) (omega (arith, (view_length u))))
+    let right = view_length u in
+    let first : at ≡ v.head + at = omega arith in
+    let second : at ≡ u.head + at = omega arith in
+    c.read_pair.ensures
+    ∙ ap (λ m. number_of (zip2 f (slice_range xs m (m + n)) (slice_range ys at (at + n)))) first
+    ∙ ap (λ m. number_of (zip2 f (slice_range xs (v.head + at) (v.head + at + n)) (slice_range ys m (m + n)))) second
+    ∙ ap (λ l. number_of (zip2 f l (slice_range ys (u.head + at) (u.head + at + n)))) (chunk_of_list g.T.BitStore g.O.BitOrder v at n c.requires.left)
+    ∙ ap (λ l. number_of (zip2 f (slice_range (list_of v) at (at + n)) l)) (chunk_of_list g.U.BitStore g.P.BitOrder u at n c.requires.right)
+    ∙ ap number_of (pair_run f (list_of v) (list_of u) at n c.requires.quiet (omega (arith, left, c.requires.left)) (omega (arith, right, c.requires.right)))

@@ -8,7 +8,7 @@ use Rattle.bit_addressing.proofs.Rows.{width_positive}
 use Rattle.bit_addressing.proofs.Runs.{mul_mono}
 use Rattle.bit_addressing.proofs.lists.Sized.{right_sum}
 use Rattle.bit_rows.proofs.Wholes.{words_there}
-use Rattle.bit_rows.proofs.pairs.false_blocks.Goals as goal
+use Rattle.bit_rows.proofs.pairs.false_long.Goals as goal
 
 -- the blocks that lie whole in m words have no more bits than these
 blocks_in : {w d : ℕ} (m : ℕ) → IsWidth w → d ≡ w → m / (64 / d) * 64 ≤ m * w

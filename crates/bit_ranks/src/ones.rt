@@ -31,7 +31,11 @@ pub struct OnesFrom<'a, T: BitStore, O: BitOrder> {
 }
 
 // The index `first`, or the length of the view where there is none. Requires that `first` is the index of the `k`-th one.
-fn begin_of<T: BitStore, O: BitOrder>(view: BitSlice<'_, T, O>, k: usize, first: Option<usize>) -> usize
+fn begin_of<T: BitStore, O: BitOrder>(
+    view: BitSlice<'_, T, O>,
+    k: usize,
+    first: Option<usize>,
+) -> usize
     requires found { IfSome first (λ i. slice_get (list_of view) i ≡ Some true) }
     requires before { IfSome first (λ i. ones_before (list_of view) i ≡ k) }
     requires inside { IfSome first (λ i. i < length (list_of view)) }

@@ -71,7 +71,10 @@ fn ones_of_ranked_bits(rt: HostRuntime) {
     let bits = ok(&rt, BitVec::<u8, Msb0>::from_text(rt.alloc(), "0110100"));
     let ranked = ok(&rt, RankedBits::from_vec(rt.alloc(), bits));
     check(&rt, ranked.iter_ones_from(1).len() == 2);
-    let text = ok(&rt, format!(in rt.alloc(); "{:?}", ranked.iter_ones_from(1)));
+    let text = ok(
+        &rt,
+        format!(in rt.alloc(); "{:?}", ranked.iter_ones_from(1)),
+    );
     check(
         &rt,
         text.as_str()

@@ -107,7 +107,10 @@ pub fn ones_from_in_vec<T: BitStore, O: BitOrder>(
     ranks.iter_ones_from(k).collect::<Vec<usize>>(alloc)
 }
 
-pub fn how_many_ranked_ones_from<T: BitStore, O: BitOrder>(ranked: &RankedBits<T, O>, k: usize) -> usize
+pub fn how_many_ranked_ones_from<T: BitStore, O: BitOrder>(
+    ranked: &RankedBits<T, O>,
+    k: usize,
+) -> usize
     ensures { result ≡ count_by (λ b. b) ranked.now.list - k }
 {
     ranked.iter_ones_from(k).len()

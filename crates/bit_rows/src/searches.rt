@@ -10,7 +10,7 @@ use crate::narrow::{chunk_short, goes_back, words_short};
 use bit_addressing::inner::{Span, in_row, in_word};
 use bit_addressing::{BitEnd, BitIdx, BitOrder, BitStore, Lsb0};
 
-// The number of set bits in the words `first..last`, by blocks of 64 bits as far as they go, and the words after them as one
+// The number of set bits in the words `first..last`, by blocks of 64 bits as far as they go, and bytes after them as one
 // number (docs/TUNING.md, "Rows of words", count). Requires that the words are there.
 fn count_words<T: BitStore, O: BitOrder>(words: &[T], first: usize, last: usize) -> usize
     requires ordered { first ≤ last }
@@ -28,10 +28,14 @@ fn count_words<T: BitStore, O: BitOrder>(words: &[T], first: usize, last: usize)
         count += word_number::<u64, O>(block).count_ones() as usize;
     }
     let next = first + blocks * each;
-    if next == last {
-        return count;
+    if T::BITS == 8 && next < last {
+        let rest = words_short::<T, O>(words, next, (last - next) as u8);
+        return count + rest.count_ones() as usize;
     }
-    count + words_short::<T, O>(words, next, (last - next) as u8).count_ones() as usize
+    for k in next..last {
+        count += word_number::<T, O>(words[k]).count_ones() as usize;
+    }
+    count
 }
 
 // Like `count_bits`, of the `n` bits from word `first` on: those of one wide word, or of a few narrow ones by two loads,

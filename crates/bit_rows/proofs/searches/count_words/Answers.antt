@@ -11,11 +11,12 @@ use Rattle.bit_rows.proofs.Counts.{counted, counted_next, counted-le}
 use Rattle.bit_addressing.proofs.Packs.{pack_fills}
 use Rattle.bit_addressing.proofs.Blocks.{block_inside, block_there, blocks_inside, stands}
 use Rattle.bit_addressing.proofs.Runs.{mul_mono}
-use Rattle.bit_addressing.proofs.lists.Sized.{right_sum}
-use Rattle.bit_addressing.proofs.Typed.{length_row}
+use Rattle.bit_addressing.proofs.lists.Sized.{one_more_word, right_sum}
+use Rattle.bit_addressing.proofs.Rows.{width_positive}
+use Rattle.bit_addressing.proofs.Typed.{length_row, row_whole}
 use Rattle.bit_rows.proofs.searches.count_words.Given as given
 use Rattle.bit_rows.proofs.searches.count_words.Goals as goal
-use Rattle.bit_rows.proofs.searches.count_words.Goals.{After-word_number, After-words_short}
+use Rattle.bit_rows.proofs.searches.count_words.Goals.{After-word_number, After-word_number-in-loop-k, After-words_short-rest}
 
 -- the blocks lie in the words
 blocks_fit : {w each first last size : ℕ} → IsWidth w → each ≡ w → first ≤ last → last ≤ size → first * w + (last - first) / (64 / each) * 64 ≤ w * size
@@ -102,21 +103,54 @@ overflow_mul-next g c = let p = parted g.met.T.BitStore.width c.BITS.ensures c.r
 pub overflow_sub-last : goal.overflow_sub-last
 overflow_sub-last g c = let p = parted g.met.T.BitStore.width c.BITS.ensures c.requires.ordered c.requires.within in omega arith
 
-pub words_short-requires : goal.words_short-requires
-words_short-requires g c =
+pub words_short-rest-requires : goal.words_short-rest-requires
+words_short-rest-requires g c =
     let p = parted g.met.T.BitStore.width c.BITS.ensures c.requires.ordered c.requires.within in
-    record { some = omega (arith, p.0, c.if-next-last.false); few = p.1; within = omega (arith, p.0, c.requires.within) }
+    record { some = omega (arith, p.0, c.if-next-last.true); few = p.1; within = omega (arith, p.0, c.requires.within) }
 
-pub returns-then-next-last : goal.returns-then-next-last
-returns-then-next-last g c =
+-- one word more is counted
+word : (g : given.Over) (c : After-word_number-in-loop-k g) → c.loop-k.count + count_ones c.word_number-in-loop-k.result ≡ count_by (λ b. b) (slice_range (row g.T.BitStore g.O.BitOrder c.args.words.now) (c.args.first * g.T.BitStore.BITS) ((c.loop-k.k + 1) * g.T.BitStore.BITS))
+word g c =
+    let w = g.T.BitStore.BITS in
+    let words = c.args.words.now in
+    let zs = row g.T.BitStore g.O.BitOrder words in
+    let k = c.loop-k.k in
+    let more = one_more_word k w in
+    let above = mul_mono c.args.first k w (omega arith) in
+    let room = mul_mono (k + 1) (length words) w (omega arith) in
+    let turned : w * length words ≡ length words * w = mul_comm w (length words) in
+    let long : length zs ≡ w * length words = length_row g.T.BitStore.value g.O.BitOrder.place w words in
+    counted_next zs (c.args.first * w) (k * w) ((k + 1) * w) c.loop-k.count (count_ones c.word_number-in-loop-k.result) above (omega arith) (omega arith) c.loop-k.invariant.counted
+    (counted zs (k * w) ((k + 1) * w) (k * w) ((k + 1) * w) c.word_number-in-loop-k.result refl refl (c.word_number-in-loop-k.ensures
+    ∙ ap number_of (row_whole g.T.BitStore.value g.O.BitOrder.place w words k (k * w) ((k + 1) * w) c.index-words-k.result (width_positive w g.met.T.BitStore.width) (omega arith) c.index-words-k.is refl (omega arith))))
+
+pub overflow_add-count-in-loop-k : goal.overflow_add-count-in-loop-k
+overflow_add-count-in-loop-k g c =
+    let w = g.T.BitStore.BITS in
+    let words = c.args.words.now in
+    let zs = row g.T.BitStore g.O.BitOrder words in
+    let end : ℕ = (c.loop-k.k + 1) * w in
+    let above = mul_mono c.args.first (c.loop-k.k + 1) w (omega arith) in
+    let below = mul_mono (c.loop-k.k + 1) c.args.last w (omega arith) in
+    let room = mul_mono c.args.last (length words) w c.requires.within in
+    let turned : w * length words ≡ length words * w = mul_comm w (length words) in
+    let long : length zs ≡ w * length words = length_row g.T.BitStore.value g.O.BitOrder.place w words in
+    let most = counted-le zs (c.args.first * w) end (c.loop-k.count + count_ones c.word_number-in-loop-k.result) above (omega arith) (word g c) in
+    omega arith
+
+pub loop-k-preserved : goal.loop-k-preserved
+loop-k-preserved g c = record { counted = word g c }
+
+pub loop-k-init : goal.loop-k-init
+loop-k-init g c =
     let w = g.T.BitStore.BITS in
     let p = parted g.met.T.BitStore.width c.BITS.ensures c.requires.ordered c.requires.within in
     let all : c.loop-t.t ≡ (c.args.last - c.args.first) / (64 / c.BITS.result) = omega arith in
-    let end : c.args.first * w + c.loop-t.t * 64 ≡ c.args.last * w = ap (λ t. c.args.first * w + t * 64) all ∙ p.2 ∙ ap (λ n. n * w) c.if-next-last.true in
-    c.loop-t.invariant.counted ∙ ap (λ n. count_by (λ b. b) (slice_range (row g.T.BitStore g.O.BitOrder c.args.words.now) (c.args.first * w) n)) end
+    let end : c.args.first * w + c.loop-t.t * 64 ≡ (c.args.first + (c.args.last - c.args.first) / (64 / c.BITS.result) * (64 / c.BITS.result)) * w = ap (λ t. c.args.first * w + t * 64) all ∙ p.2 in
+    record { counted = c.loop-t.invariant.counted ∙ ap (λ n. count_by (λ b. b) (slice_range (row g.T.BitStore g.O.BitOrder c.args.words.now) (c.args.first * w) n)) end }
 
 -- the words after the blocks are counted too
-whole : (g : given.Over) (c : After-words_short g) → c.loop-t.count + count_ones c.words_short.result ≡ count_by (λ b. b) (slice_range (row g.T.BitStore g.O.BitOrder c.args.words.now) (c.args.first * g.T.BitStore.BITS) (c.args.last * g.T.BitStore.BITS))
+whole : (g : given.Over) (c : After-words_short-rest g) → c.loop-t.count + count_ones c.words_short-rest.result ≡ count_by (λ b. b) (slice_range (row g.T.BitStore g.O.BitOrder c.args.words.now) (c.args.first * g.T.BitStore.BITS) (c.args.last * g.T.BitStore.BITS))
 whole g c =
     let w = g.T.BitStore.BITS in
     let words = c.args.words.now in
@@ -136,12 +170,12 @@ whole g c =
     let room = mul_mono last (length words) w c.requires.within in
     let turned : w * length words ≡ length words * w = mul_comm w (length words) in
     let long : length zs ≡ w * length words = length_row g.T.BitStore.value g.O.BitOrder.place w words in
-    counted_next zs (first * w) (next * w) (last * w) c.loop-t.count (count_ones c.words_short.result) above below (omega (arith, room, turned, long))
+    counted_next zs (first * w) (next * w) (last * w) c.loop-t.count (count_ones c.words_short-rest.result) above below (omega (arith, room, turned, long))
     (c.loop-t.invariant.counted ∙ ap (λ n. count_by (λ b. b) (slice_range zs (first * w) n)) mid)
-    (counted zs (next * w) (next * w + (last - next) * w) (next * w) (last * w) c.words_short.result refl (sym end) c.words_short.ensures)
+    (counted zs (next * w) (next * w + (last - next) * w) (next * w) (last * w) c.words_short-rest.result refl (sym end) c.words_short-rest.ensures)
 
-pub returns : goal.returns
-returns g c = whole g c
+pub returns-then-next-last : goal.returns-then-next-last
+returns-then-next-last g c = whole g c
 
 pub overflow_add-result : goal.overflow_add-result
 overflow_add-result g c =
@@ -152,5 +186,5 @@ overflow_add-result g c =
     let room = mul_mono c.args.last (length words) w c.requires.within in
     let turned : w * length words ≡ length words * w = mul_comm w (length words) in
     let long : length zs ≡ w * length words = length_row g.T.BitStore.value g.O.BitOrder.place w words in
-    let most = counted-le zs (c.args.first * w) (c.args.last * w) (c.loop-t.count + count_ones c.words_short.result) above (omega (arith, room, turned, long)) (whole g c) in
+    let most = counted-le zs (c.args.first * w) (c.args.last * w) (c.loop-t.count + count_ones c.words_short-rest.result) above (omega (arith, room, turned, long)) (whole g c) in
     omega (arith, most, c.requires.fits)

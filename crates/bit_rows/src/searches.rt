@@ -38,7 +38,7 @@ fn count_words<T: BitStore, O: BitOrder>(words: &[T], first: usize, last: usize)
     count
 }
 
-// Like `count_bits`, of the `n` bits from word `first` on: those of one wide word, or of a few narrow ones by two loads,
+// Like `count_bits`, of the `n` bits from word `first` on: those of one word, or of a few narrow ones by two loads,
 // without a loop.
 #[inline(always)]
 fn count_front<T: BitStore, O: BitOrder>(words: &[T], first: usize, n: usize) -> usize
@@ -47,10 +47,10 @@ fn count_front<T: BitStore, O: BitOrder>(words: &[T], first: usize, n: usize) ->
     ensures { result ≡ count_by (λ b. b) (run_at (row T.BitStore O.BitOrder words.now) (first * T.BITS) n) }
 {
     let width = T::BITS as usize;
-    if width == 64 && n <= 64 {
+    if n <= width {
         return read_chunk::<T, O>(words, first * width, n as u8).count_ones() as usize;
     }
-    if width < n && n <= 64 && goes_back::<T, O>() {
+    if n <= 64 && goes_back::<T, O>() {
         return chunk_short::<T, O>(words, first, n as u8).count_ones() as usize;
     }
     let last = first + n / width;

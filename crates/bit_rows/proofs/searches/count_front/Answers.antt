@@ -42,8 +42,8 @@ total g c =
     counted_next zs a b (a + n) c.count_words.result (count_ones c.read_chunk-rest.result) (omega arith) (omega arith) (omega (arith, c.requires.within)) whole
     (counted zs ((first + n / c.BITS-width.result) * c.BITS-width.result) ((first + n / c.BITS-width.result) * c.BITS-width.result + n % c.BITS-width.result) b (a + n) c.read_chunk-rest.result (sym at) (omega arith) c.read_chunk-rest.ensures)
 
-pub returns-then-n-le64 : goal.returns-then-n-le64
-returns-then-n-le64 g c =
+pub returns-then-n-width : goal.returns-then-n-width
+returns-then-n-width g c =
     let same : c.args.first * c.BITS-width.result ≡ c.args.first * g.T.BitStore.BITS = ap (λ k. c.args.first * k) c.BITS-width.ensures in
     let end : c.args.first * g.T.BitStore.BITS + c.args.n ≡ c.args.first * c.BITS-width.result + c.args.n = ap (λ k. k + c.args.n) (sym same) in
     counted (row g.T.BitStore g.O.BitOrder c.args.words.now) (c.args.first * c.BITS-width.result) (c.args.first * c.BITS-width.result + c.args.n) (c.args.first * g.T.BitStore.BITS) (c.args.first * g.T.BitStore.BITS + c.args.n) c.read_chunk.result (sym same) end c.read_chunk.ensures

@@ -1,4 +1,4 @@
-use Rattle.std.proofs.Common.{◌≡◌, ◌+◌, slice_range, ◌∙◌, ap, arith}
+use Rattle.std.proofs.Common.{◌+◌, slice_range, ◌∙◌, ap, arith}
 use Rattle.std.specs.Simd.Lanes.{zip2}
 use Rattle.bit_addressing.specs.Row.{number_of}
 use Rattle.bit_addressing.specs.Typed.{row}

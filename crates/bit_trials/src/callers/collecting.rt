@@ -1,5 +1,5 @@
 //! Callers that collect, extend, empty and make by the traits of std.
-ghost use Rattle.std.specs.Prelude.{◌≡◌, ◌+◌, ◌≤◌, [], ◌∷◌, ◌++◌, IfOk, OnErr, OnOk, false, length, map, not, true};
+ghost use Rattle.std.specs.Prelude.{◌≡◌, ◌+◌, ◌≤◌, [], ◌∷◌, ◌++◌, IfOk, OnErr, OnOk, false, length, true};
 ghost use Rattle.bit_addressing.specs.declared.length.TheConstants.{MAX_BITS};
 
 use bit_containers::boxed::BitBox;
@@ -9,12 +9,6 @@ use std::collections::BTreeMap;
 use std::default::MadeWith;
 use std::iter::Extend;
 use std::mem;
-
-pub fn collected(alloc: Global) -> Result<BitVec<u8, Msb0>, AllocError>
-    ensures { IfOk result (λ v. v.list ≡ true ∷ false ∷ []) }
-{
-    [true, false].into_iter().collect(alloc)
-}
 
 /// `?` converts the error.
 pub fn collected_from_another(
@@ -38,15 +32,6 @@ pub fn collected_by_reference(alloc: Global, bits: &[bool]) -> Result<BitVec<u64
     ensures { IfOk result (λ v. v.list ≡ bits.now) }
 {
     bits.iter().collect(alloc)
-}
-
-pub fn collected_flipped(
-    alloc: Global,
-    w: &BitVec<u8, Msb0>,
-) -> Result<BitVec<u8, Msb0>, AllocError>
-    ensures { IfOk result (λ v. v.list ≡ map not w.now.list) }
-{
-    w.iter().map(|b| !b).collect(alloc)
 }
 
 pub fn collected_in_a_box(alloc: Global, bits: &[bool]) -> Result<BitBox<u16, Msb0>, AllocError>
@@ -77,13 +62,6 @@ pub fn extended_by_reference(v: &mut BitVec<u8, Msb0>, bits: &[bool]) -> Result<
     ensures kept { OnErr result (v.new.list ≡ v.old.list) }
 {
     Extend::extend(v, bits)
-}
-
-/// The vector's own method has the trait's name, and needs no import.
-pub fn extended_by_its_own(v: &mut BitVec<u8, Msb0>) -> Result<(), GrowError>
-    ensures { OnOk result (v.new.list ≡ v.old.list ++ true ∷ false ∷ true ∷ []) }
-{
-    v.extend([true, false, true])
 }
 
 /// Where there is room, it is not refused.

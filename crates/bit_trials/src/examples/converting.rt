@@ -42,9 +42,14 @@ fn boxed(rt: HostRuntime) {
 #[test]
 fn given_up(rt: HostRuntime) {
     let mut bits: IntoIter<u8, Lsb0> = of(&rt, b"011001").into_iter();
-    check(&rt, bits.next() == Some(false));
-    check(&rt, bits.next_back() == Some(true));
-    check(&rt, bits.nth(1) == Some(true));
-    check(&rt, bits.nth_back(1) == Some(false));
-    check(&rt, bits.next() == None);
+    check(
+        &rt,
+        [
+            bits.next(),
+            bits.next_back(),
+            bits.nth(1),
+            bits.nth_back(1),
+            bits.next(),
+        ] == [Some(false), Some(true), Some(true), Some(false), None],
+    );
 }

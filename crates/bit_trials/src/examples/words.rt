@@ -28,11 +28,16 @@ fn limits(rt: HostRuntime) {
 
 #[test]
 fn past_the_limits(rt: HostRuntime) {
-    check(&rt, !BitVec::<u8, Lsb0>::fits(usize::MAX));
-    check(&rt, !BitVec::<u16, Lsb0>::fits(usize::MAX));
-    check(&rt, !BitVec::<u32, Lsb0>::fits(usize::MAX));
-    check(&rt, !BitVec::<u64, Lsb0>::fits(usize::MAX));
-    check(&rt, !BitVec::<usize, Lsb0>::fits(usize::MAX));
+    check(
+        &rt,
+        [
+            BitVec::<u8, Lsb0>::fits(usize::MAX),
+            BitVec::<u16, Lsb0>::fits(usize::MAX),
+            BitVec::<u32, Lsb0>::fits(usize::MAX),
+            BitVec::<u64, Lsb0>::fits(usize::MAX),
+            BitVec::<usize, Lsb0>::fits(usize::MAX),
+        ] == [false; 5],
+    );
 }
 
 #[test]

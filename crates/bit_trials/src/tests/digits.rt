@@ -38,11 +38,15 @@ fn digits_of_other_sizes(rt: HostRuntime) {
 #[test]
 fn wrong_digits(rt: HostRuntime) {
     let alloc = rt.alloc();
-    check(&rt, wrong_at(alloc, "dg", 4, 8) == Some(1));
-    check(&rt, wrong_at(alloc, "[d2]", 4, 5) == Some(2));
+    check(
+        &rt,
+        [wrong_at(alloc, "dg", 4, 8), wrong_at(alloc, "[d2]", 4, 5)] == [Some(1), Some(2)],
+    );
     check(&rt, wrong_at(alloc, "[62", 3, 5) == Some(0));
-    check(&rt, wrong_at(alloc, "6", 3, 5) == Some(1));
-    check(&rt, wrong_at(alloc, "621", 3, 5) == Some(2));
+    check(
+        &rt,
+        [wrong_at(alloc, "6", 3, 5), wrong_at(alloc, "621", 3, 5)] == [Some(1), Some(2)],
+    );
 }
 
 // Where a text of ranges is wrong, or None where it is right or memory was refused.
@@ -76,12 +80,17 @@ fn no_ranges(rt: HostRuntime) {
 #[test]
 fn wrong_ranges(rt: HostRuntime) {
     let alloc = rt.alloc();
-    check(&rt, range_wrong_at(alloc, "0,2-4", 4) == Some(2));
-    check(&rt, range_wrong_at(alloc, "3-2", 4) == Some(0));
-    check(&rt, range_wrong_at(alloc, "0-1-2", 4) == Some(0));
-    check(&rt, range_wrong_at(alloc, "1,", 4) == Some(2));
-    check(&rt, range_wrong_at(alloc, "1,+2", 4) == Some(2));
-    check(&rt, range_wrong_at(alloc, "1, 2", 4) == Some(2));
+    check(
+        &rt,
+        [
+            range_wrong_at(alloc, "0,2-4", 4),
+            range_wrong_at(alloc, "3-2", 4),
+            range_wrong_at(alloc, "0-1-2", 4),
+            range_wrong_at(alloc, "1,", 4),
+            range_wrong_at(alloc, "1,+2", 4),
+            range_wrong_at(alloc, "1, 2", 4),
+        ] == [Some(2), Some(0), Some(0), Some(2), Some(2), Some(2)],
+    );
 }
 
 #[test]

@@ -74,8 +74,7 @@ fn bits(rt: &(impl Abort + AllocGlobal), n: usize) -> Vec<bool> {
 fn ends_with(rt: &impl Abort, v: &BitVec<u8, Lsb0>, n: usize) {
     assert!(rt; n < 2000);
     assert!(rt; v.len() == n + 2);
-    check(rt, v.get(0) == Some(false));
-    check(rt, v.get(1) == Some(true));
+    check(rt, [v.get(0), v.get(1)] == [Some(false), Some(true)]);
     for i in 0..n {
         check(rt, v.get(2 + i) == Some((n - 1 - i) % 3 == 0));
     }

@@ -196,22 +196,6 @@ pub fn moved_bit(v: &mut BitVec<u8, Lsb0>) -> Option<bool>
     v.get(2)
 }
 
-/// A struct that holds a vector, and is copied by it.
-#[derive(Drop, Clone)]
-pub struct Marks {
-    marks: BitVec<u8, Lsb0>,
-    name: u32,
-}
-
-impl Marks {
-    pub fn doubled(&self) -> Result<Marks, AllocError>
-        ensures marks { IfOk result (λ copy. copy.marks.list ≡ self.now.marks.list) }
-        ensures name { IfOk result (λ copy. copy.name ≡ self.now.name) }
-    {
-        self.clone()
-    }
-}
-
 /// A bit that is set on both sides is set in the intersection.
 pub fn set_in_both<T: BitStore, O: BitOrder>(
     a: BitVec<T, O>,

@@ -5,7 +5,6 @@ ghost use Rattle.bit_addressing.specs.declared.length.TheConstants.{MAX_BITS};
 use bit_containers::boxed::BitBox;
 use bit_containers::{BitOrder, BitStore, BitVec, GrowError, Lsb0, Msb0};
 use std::alloc::{AllocError, Global};
-use std::collections::BTreeMap;
 use std::default::MadeWith;
 use std::iter::Extend;
 use std::mem;
@@ -93,16 +92,4 @@ pub fn made(alloc: Global) -> BitVec<u8, Msb0>
     ensures capacity { result.capacity ≡ 0 }
 {
     MadeWith::made_with(alloc)
-}
-
-/// A map's vectors, made where they are not there.
-pub fn noted(
-    notes: &mut BTreeMap<u32, BitVec<u8, Msb0>>,
-    key: u32,
-    bit: bool,
-) -> Result<(), GrowError> {
-    match notes.entry(key) {
-        Ok(slot) => slot.or_default().push(bit),
-        Err(_) => Err(GrowError::OutOfMemory),
-    }
 }

@@ -51,13 +51,13 @@ pub fn how_many_parts<T: BitStore, O: BitOrder>(b: &BitBox<T, O>, n: usize) -> b
     requires { 0 < n }
     ensures { IsTrue result }
 {
-    b.chunks_exact(n).len() == b.len() / n && b.chunks(n).len() == b.rchunks(n).len()
+    (b.chunks_exact(n).len() == b.len() / n) & (b.chunks(n).len() == b.rchunks(n).len())
 }
 
 pub fn same_numbers(a: &BitArray<[u8; 4], Msb0>) -> bool
     ensures { IsTrue result }
 {
-    a.load_be() == a.as_bitslice().load_be() && a.get_range(8..16).load_be() < 256
+    (a.load_be() == a.as_bitslice().load_be()) & (a.get_range(8..16).load_be() < 256)
 }
 
 /// All places of a pattern in a vector.

@@ -18,15 +18,6 @@ pub fn drained_once<T: BitStore, O: BitOrder>(v: &mut BitVec<T, O>) -> Option<bo
     drain.next()
 }
 
-/// A range is gone after each of its bits was asked for.
-pub fn drained_all<T: BitStore, O: BitOrder>(v: &mut BitVec<T, O>, from: usize, upto: usize)
-    requires ordered { from ≤ upto }
-    requires within { upto ≤ length v.old.list }
-    ensures { v.new.list ≡ splice v.old.list from upto [] }
-{
-    for _bit in v.drain(from..upto) {}
-}
-
 pub fn cut_in_two<T: BitStore, O: BitOrder>(
     v: &mut BitVec<T, O>,
     at: usize,

@@ -19,26 +19,6 @@ pub fn permission_byte(alloc: Global, write: bool) -> Result<Vec<u8>, GrowError>
     Ok(v.into_vec())
 }
 
-pub fn in_a_wide_word(alloc: Global) -> Result<Vec<u64>, GrowError>
-    ensures { IfOk result (λ words. words.items ≡ 5 ∷ []) }
-{
-    let mut v = BitVec::<u64, Lsb0>::new(alloc);
-    v.push(true)?;
-    v.push(false)?;
-    v.push(true)?;
-    Ok(v.into_vec())
-}
-
-pub fn pushed_and_set(alloc: Global) -> Result<Vec<u8>, GrowError>
-    ensures { IfOk result (λ words. words.items ≡ 0xc0 ∷ []) }
-{
-    let mut v = BitVec::<u8, Msb0>::new(alloc);
-    v.push(true)?;
-    v.push(false)?;
-    v.set(1, true);
-    Ok(v.into_vec())
-}
-
 #[tactic(auto, unfolding(bit_containers::proofs::OnLiterals::words_on_literals))]
 pub fn popped_and_set(words: Vec<u8>) -> Vec<u8>
     requires { words.items ≡ 0xdc ∷ [] }

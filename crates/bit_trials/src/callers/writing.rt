@@ -7,15 +7,6 @@ use bit_containers::boxed::BitBox;
 use bit_containers::{BitListMut, BitOrder, BitStore, BitVec, Lsb0};
 use bit_slice::BitSlice;
 
-/// The last three bits are cleared.
-#[tactic(auto, unfolding(bit_addressing::specs::Row::put))]
-pub fn filled<T: BitStore, O: BitOrder>(v: &mut BitVec<T, O>)
-    requires bits { v.old.list ≡ true ∷ false ∷ true ∷ true ∷ [] }
-    ensures { v.new.list ≡ true ∷ false ∷ false ∷ false ∷ [] }
-{
-    v.fill_range(1..4, false);
-}
-
 /// The two bits in the middle are flipped.
 #[tactic(auto, unfolding(bit_addressing::specs::Row::put))]
 pub fn flipped_part<T: BitStore, O: BitOrder>(v: &mut BitVec<T, O>)
@@ -23,41 +14,6 @@ pub fn flipped_part<T: BitStore, O: BitOrder>(v: &mut BitVec<T, O>)
     ensures { v.new.list ≡ true ∷ true ∷ false ∷ true ∷ [] }
 {
     v.flip_range(1..3);
-}
-
-/// The second bit is flipped.
-pub fn flipped_one<T: BitStore, O: BitOrder>(v: &mut BitVec<T, O>)
-    requires bits { v.old.list ≡ true ∷ false ∷ true ∷ true ∷ [] }
-    ensures { v.new.list ≡ true ∷ true ∷ true ∷ true ∷ [] }
-{
-    v.flip(1);
-}
-
-/// What a shorter view has is taken away.
-pub fn taken_away<T: BitStore, O: BitOrder, U: BitStore, P: BitOrder>(
-    v: &mut BitVec<T, O>,
-    other: BitSlice<'_, U, P>,
-)
-    requires bits { v.old.list ≡ true ∷ false ∷ true ∷ true ∷ [] }
-    requires other { list_of other ≡ true ∷ true ∷ [] }
-    requires len { len_of other ≡ 2 }
-    ensures { v.new.list ≡ false ∷ false ∷ true ∷ true ∷ [] }
-{
-    v.and_not_bits(other);
-}
-
-/// Two bits are written in the middle.
-#[tactic(auto, unfolding(bit_addressing::specs::Row::put))]
-pub fn copied_into<T: BitStore, O: BitOrder, U: BitStore, P: BitOrder>(
-    v: &mut BitVec<T, O>,
-    other: BitSlice<'_, U, P>,
-)
-    requires bits { v.old.list ≡ true ∷ false ∷ true ∷ true ∷ [] }
-    requires other { list_of other ≡ true ∷ false ∷ [] }
-    requires len { len_of other ≡ 2 }
-    ensures { v.new.list ≡ true ∷ true ∷ false ∷ true ∷ [] }
-{
-    v.copy_into(1..3, other);
 }
 
 /// The two bits in the middle and those of a view.
@@ -102,14 +58,6 @@ pub fn xored_part<T: BitStore, O: BitOrder, U: BitStore, P: BitOrder>(
     v.xor_range(0..2, other);
 }
 
-/// The list the other way round.
-pub fn reversed<T: BitStore, O: BitOrder>(v: &mut BitVec<T, O>)
-    requires bits { v.old.list ≡ true ∷ false ∷ true ∷ true ∷ [] }
-    ensures { v.new.list ≡ true ∷ true ∷ false ∷ true ∷ [] }
-{
-    v.reverse();
-}
-
 /// The first bit comes last.
 pub fn rotated_left<T: BitStore, O: BitOrder>(v: &mut BitVec<T, O>)
     requires bits { v.old.list ≡ true ∷ false ∷ true ∷ true ∷ [] }
@@ -124,14 +72,6 @@ pub fn rotated_right<T: BitStore, O: BitOrder>(v: &mut BitVec<T, O>)
     ensures { v.new.list ≡ false ∷ true ∷ true ∷ true ∷ [] }
 {
     v.rotate_right(3);
-}
-
-/// The first bit goes, and false comes last.
-pub fn shifted_left<T: BitStore, O: BitOrder>(v: &mut BitVec<T, O>)
-    requires bits { v.old.list ≡ true ∷ false ∷ true ∷ true ∷ [] }
-    ensures { v.new.list ≡ false ∷ true ∷ true ∷ false ∷ [] }
-{
-    v.shift_left(1);
 }
 
 /// The last bit goes, and false comes first.
@@ -151,15 +91,6 @@ pub fn anded_within<T: BitStore, O: BitOrder>(v: &mut BitVec<T, O>)
     v.and_within(0..2, 2);
 }
 
-/// The first two bits or the last two.
-#[tactic(auto, unfolding(bit_addressing::specs::Row::put))]
-pub fn ored_within<T: BitStore, O: BitOrder>(v: &mut BitVec<T, O>)
-    requires bits { v.old.list ≡ true ∷ false ∷ true ∷ true ∷ [] }
-    ensures { v.new.list ≡ true ∷ true ∷ true ∷ true ∷ [] }
-{
-    v.or_within(2..4, 0);
-}
-
 /// Two bits are flipped where their neighbours before them were true.
 #[tactic(auto, unfolding(bit_addressing::specs::Row::put))]
 pub fn xored_within<T: BitStore, O: BitOrder>(v: &mut BitVec<T, O>)
@@ -176,15 +107,6 @@ pub fn stored_le<T: BitStore, O: BitOrder>(v: &mut BitVec<T, O>)
     ensures { v.new.list ≡ true ∷ false ∷ true ∷ false ∷ [] }
 {
     v.store_le(5);
-}
-
-/// A number, the most significant bit first.
-#[tactic(auto, unfolding(bit_addressing::specs::Row::binary))]
-pub fn stored_be<T: BitStore, O: BitOrder>(v: &mut BitVec<T, O>)
-    requires bits { v.old.list ≡ true ∷ false ∷ true ∷ true ∷ [] }
-    ensures { v.new.list ≡ false ∷ true ∷ false ∷ true ∷ [] }
-{
-    v.store_be(5);
 }
 
 /// The last three bits are cleared.

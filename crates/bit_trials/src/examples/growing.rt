@@ -20,13 +20,6 @@ fn appended_by_another_order_of_a_user(rt: HostRuntime) {
 }
 
 #[test]
-fn joined_within(rt: HostRuntime) {
-    let mut v = of::<u8, Msb0>(&rt, b"01");
-    ok(&rt, v.extend_from_within(..));
-    holds(&rt, &v, b"0101");
-}
-
-#[test]
 fn pulled(rt: HostRuntime) {
     let mut v = BitVec::<u8, Msb0>::new(rt.alloc());
     ok(&rt, v.push(false));
@@ -45,15 +38,6 @@ fn words_pulled(rt: HostRuntime) {
     ok(&rt, v.extend_words([3]));
     shows(&rt, &v, &[0x07, 0x00]);
     check(&rt, v.len() == 9);
-}
-
-#[test]
-fn filled_by_results(rt: HostRuntime) {
-    let mut v = of::<u8, Lsb0>(&rt, b"11");
-    ok(&rt, v.resize_with(5, |i| i % 2 == 1));
-    holds(&rt, &v, b"11010");
-    ok(&rt, v.resize_with(1, |_| false));
-    holds(&rt, &v, b"1");
 }
 
 #[test]

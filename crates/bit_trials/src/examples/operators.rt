@@ -55,12 +55,6 @@ fn compared_with_a_longer(rt: HostRuntime) {
 }
 
 #[test]
-fn compared_by_the_first_bit(rt: HostRuntime) {
-    let (low, high) = (of::<u8, Msb0>(&rt, b"01"), of(&rt, b"1"));
-    check(&rt, low < high);
-}
-
-#[test]
 fn combined_with_views(rt: HostRuntime) {
     let mask = of::<u64, Msb0>(&rt, b"101");
     let mut v = of::<u8, Lsb0>(&rt, b"0111");

@@ -13,17 +13,6 @@ fn drained(rt: HostRuntime) {
     holds(&rt, &v, b"00");
 }
 
-#[test]
-fn drained_past_the_end(rt: HostRuntime) {
-    let mut v = of::<u8, Msb0>(&rt, b"01110");
-    {
-        let mut drain = v.drain(1..4);
-        check(&rt, drain.nth(5).is_none());
-        check(&rt, drain.len() == 0);
-    }
-    holds(&rt, &v, b"00");
-}
-
 // What a drain has yet to give, as a view and as text.
 #[test]
 fn drain_seen(rt: HostRuntime) {

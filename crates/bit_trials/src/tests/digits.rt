@@ -72,12 +72,6 @@ fn ranges_of_ones(rt: HostRuntime) {
 }
 
 #[test]
-fn no_ranges(rt: HostRuntime) {
-    let v = ok(&rt, BitVec::<u8, Msb0>::from_ranges_text(rt.alloc(), "", 3));
-    holds(&rt, &v, b"000");
-}
-
-#[test]
 fn wrong_ranges(rt: HostRuntime) {
     let alloc = rt.alloc();
     check(
@@ -98,16 +92,6 @@ fn without_equal_neighbours(rt: HostRuntime) {
     let mut v = of::<u8, Msb0>(&rt, b"0110111");
     v.dedup();
     holds(&rt, &v, b"0101");
-}
-
-#[test]
-fn many_runs_are_kept(rt: HostRuntime) {
-    let mut v = ok(&rt, BitVec::<u16, Lsb0>::repeat(rt.alloc(), false, 150));
-    v.fill_with(|i| i % 2 == 1);
-    v.dedup();
-    check(&rt, v.len() == 150);
-    check(&rt, v.count_ones() == 75);
-    check(&rt, v.get(149) == Some(true));
 }
 
 #[test]

@@ -3,7 +3,6 @@ ghost use Rattle.std.specs.Prelude.{◌≡◌, length};
 
 mod callers;
 mod memory;
-mod reading;
 mod slice;
 mod writing;
 
@@ -78,15 +77,6 @@ fn copied_from_the_beginning(rt: HostRuntime) {
 }
 
 #[test]
-fn aligned_at_the_beginning(rt: HostRuntime) {
-    let words = [0xb5_u8];
-    let view = BitSlice::<u8, Msb0>::from_slice(&words).get_range(2..6);
-    let mut b = ok(&rt, BitBox::from_bitslice(rt.alloc(), view));
-    b.force_align();
-    shows(&rt, &b, &[0xd0]);
-}
-
-#[test]
 #[tactic(auto, unfolding(bit_addressing::specs::Row::words_for))]
 fn made_of_words(rt: HostRuntime) {
     let boxed: BoxedSlice<u8> = ok(&rt, vec![in rt.alloc(); 0x80, 0x01]).into_boxed_slice();
@@ -145,8 +135,10 @@ fn iterated(rt: HostRuntime) {
 #[test]
 fn iterator_seen(rt: HostRuntime) {
     let mut bits = first_bits(&rt, 0x26, 6).into_iter();
-    check(&rt, bits.next() == Some(false));
-    check(&rt, bits.next_back() == Some(true));
+    check(
+        &rt,
+        [bits.next(), bits.next_back()] == [Some(false), Some(true)],
+    );
     check(&rt, bits.size_hint() == (4, Some(4)));
     let text = ok(&rt, format!(in rt.alloc(); "{bits:?}"));
     check(&rt, text.as_str() == "IntoIter([1, 1, 0, 0])");

@@ -35,14 +35,3 @@ fn moved(rt: HostRuntime) {
     a.copy_within(0..3, 5);
     check(&rt, a.into_inner() == 0x7e);
 }
-
-#[test]
-fn iterated(rt: HostRuntime) {
-    let a = BitArray::<u8, Lsb0>::new(0x05);
-    check(&rt, a.head() == 0);
-    let mut bits = a.iter();
-    check(&rt, bits.next() == Some(true));
-    check(&rt, bits.next() == Some(false));
-    check(&rt, bits.next_back() == Some(false));
-    check(&rt, bits.len() == 5);
-}

@@ -1,19 +1,9 @@
 //! Views compared.
 
 use crate::common::check;
-use bit_addressing::{Lsb0, Msb0};
+use bit_addressing::Lsb0;
 use bit_slice::{BitList, BitSlice, BitSliceMut};
 use std::cmp::Ordering;
-
-#[test]
-fn order_of_lists(rt: HostRuntime) {
-    let (two, one) = ([2_u8], [0x8000_u16]);
-    let left = BitSlice::<u8, Lsb0>::from_slice(&two).get_range(..2);
-    let right = BitSlice::<u16, Msb0>::from_slice(&one).get_range(..1);
-    check(&rt, left.cmp_bits(right) == Ordering::Less);
-    check(&rt, right.cmp_bits(left) == Ordering::Greater);
-    check(&rt, !left.eq_bits(right));
-}
 
 // A view for writing, beside one of other words.
 #[test]

@@ -1,18 +1,10 @@
 //! Callers that prove the list.
-ghost use Rattle.std.specs.Prelude.{◌≡◌, ◌+◌, ◌-◌, ◌*◌, ◌<◌, ◌≤◌, ◌↔◌, Some, Ok, Err, true, false, [], ◌∷◌, ◌++◌, length, set, insert, swap, slice_get, slice_range, OnOk, OnErr, IfOk, not};
+ghost use Rattle.std.specs.Prelude.{◌≡◌, ◌+◌, ◌-◌, ◌*◌, ◌<◌, ◌≤◌, ◌↔◌, Some, Ok, Err, true, false, [], ◌∷◌, length, set, insert, swap, slice_get, slice_range, OnOk, OnErr, IfOk, not};
 ghost use Rattle.bit_addressing.specs.declared.length.TheConstants.{MAX_BITS};
 
 use bit_containers::{BitList, BitListMut, BitOrder, BitStore, BitVec, GrowError, Lsb0, Msb0};
 use bit_rows::write_bit;
 use std::alloc::{AllocError, Global};
-
-pub fn push_two<T: BitStore, O: BitOrder>(v: &mut BitVec<T, O>, bit: bool) -> Result<(), GrowError>
-    ensures { OnOk result (v.new.list ≡ v.old.list ++ bit ∷ false ∷ []) }
-{
-    v.push(bit)?;
-    v.push(false)?;
-    Ok(())
-}
 
 pub fn push_then_pop<T: BitStore, O: BitOrder>(
     v: &mut BitVec<T, O>,
@@ -43,15 +35,6 @@ pub fn permission(alloc: Global, write: bool) -> Result<BitVec<u8, Msb0>, GrowEr
     bits.push(write)?;
     bits.push(false)?;
     Ok(bits)
-}
-
-pub fn set_two<T: BitStore, O: BitOrder>(v: &mut BitVec<T, O>, i: usize, j: usize)
-    requires first { i < length v.old.list }
-    requires second { j < length v.old.list }
-    ensures { v.new.list ≡ set (set v.old.list i true) j false }
-{
-    v.set(i, true);
-    v.set(j, false);
 }
 
 pub fn insert_in_the_middle<T: BitStore, O: BitOrder>(v: &mut BitVec<T, O>) -> Result<(), GrowError>
@@ -104,9 +87,7 @@ pub fn lengths_stay<T: BitStore, O: BitOrder>(v: &mut BitVec<T, O>)
     ensures { length v.new.list ≡ length v.old.list }
 {
     v.copy_within(1..4, 6);
-    v.set(9, true);
     v.force_align();
-    v.set(9, false);
     v.fill(false);
     v.set(9, true);
 }
@@ -213,22 +194,6 @@ pub fn moved_bit(v: &mut BitVec<u8, Lsb0>) -> Option<bool>
 {
     v.copy_within(0..1, 2);
     v.get(2)
-}
-
-/// A struct that holds a vector, and is copied by it.
-#[derive(Drop, Clone)]
-pub struct Marks {
-    marks: BitVec<u8, Lsb0>,
-    name: u32,
-}
-
-impl Marks {
-    pub fn doubled(&self) -> Result<Marks, AllocError>
-        ensures marks { IfOk result (λ copy. copy.marks.list ≡ self.now.marks.list) }
-        ensures name { IfOk result (λ copy. copy.name ≡ self.now.name) }
-    {
-        self.clone()
-    }
 }
 
 /// A bit that is set on both sides is set in the intersection.

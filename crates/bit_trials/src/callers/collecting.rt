@@ -1,20 +1,13 @@
 //! Callers that collect, extend, empty and make by the traits of std.
-ghost use Rattle.std.specs.Prelude.{◌≡◌, ◌+◌, ◌≤◌, [], ◌∷◌, ◌++◌, IfOk, OnErr, OnOk, false, length, map, not, true};
+ghost use Rattle.std.specs.Prelude.{◌≡◌, ◌+◌, ◌≤◌, [], ◌∷◌, ◌++◌, IfOk, OnErr, OnOk, false, length, true};
 ghost use Rattle.bit_addressing.specs.declared.length.TheConstants.{MAX_BITS};
 
 use bit_containers::boxed::BitBox;
 use bit_containers::{BitOrder, BitStore, BitVec, GrowError, Lsb0, Msb0};
 use std::alloc::{AllocError, Global};
-use std::collections::BTreeMap;
 use std::default::MadeWith;
 use std::iter::Extend;
 use std::mem;
-
-pub fn collected(alloc: Global) -> Result<BitVec<u8, Msb0>, AllocError>
-    ensures { IfOk result (λ v. v.list ≡ true ∷ false ∷ []) }
-{
-    [true, false].into_iter().collect(alloc)
-}
 
 /// `?` converts the error.
 pub fn collected_from_another(
@@ -38,15 +31,6 @@ pub fn collected_by_reference(alloc: Global, bits: &[bool]) -> Result<BitVec<u64
     ensures { IfOk result (λ v. v.list ≡ bits.now) }
 {
     bits.iter().collect(alloc)
-}
-
-pub fn collected_flipped(
-    alloc: Global,
-    w: &BitVec<u8, Msb0>,
-) -> Result<BitVec<u8, Msb0>, AllocError>
-    ensures { IfOk result (λ v. v.list ≡ map not w.now.list) }
-{
-    w.iter().map(|b| !b).collect(alloc)
 }
 
 pub fn collected_in_a_box(alloc: Global, bits: &[bool]) -> Result<BitBox<u16, Msb0>, AllocError>
@@ -79,13 +63,6 @@ pub fn extended_by_reference(v: &mut BitVec<u8, Msb0>, bits: &[bool]) -> Result<
     Extend::extend(v, bits)
 }
 
-/// The vector's own method has the trait's name, and needs no import.
-pub fn extended_by_its_own(v: &mut BitVec<u8, Msb0>) -> Result<(), GrowError>
-    ensures { OnOk result (v.new.list ≡ v.old.list ++ true ∷ false ∷ true ∷ []) }
-{
-    v.extend([true, false, true])
-}
-
 /// Where there is room, it is not refused.
 pub fn extended_within(v: &mut BitVec<u8, Msb0>, bits: Vec<bool>) -> bool
     requires few { length v.old.list + length bits.items ≤ MAX_BITS }
@@ -115,16 +92,4 @@ pub fn made(alloc: Global) -> BitVec<u8, Msb0>
     ensures capacity { result.capacity ≡ 0 }
 {
     MadeWith::made_with(alloc)
-}
-
-/// A map's vectors, made where they are not there.
-pub fn noted(
-    notes: &mut BTreeMap<u32, BitVec<u8, Msb0>>,
-    key: u32,
-    bit: bool,
-) -> Result<(), GrowError> {
-    match notes.entry(key) {
-        Ok(slot) => slot.or_default().push(bit),
-        Err(_) => Err(GrowError::OutOfMemory),
-    }
 }

@@ -18,17 +18,6 @@ pub fn pushed_into_room<T: BitStore, O: BitOrder>(
     v.push(bit)
 }
 
-pub fn reserved_then_pushed<T: BitStore, O: BitOrder>(
-    v: &mut BitVec<T, O>,
-) -> Result<bool, GrowError>
-    requires { length v.old.list + 2 ≤ MAX_BITS }
-    ensures { IfOk result (λ all. all ≡ true) }
-{
-    v.reserve(2)?;
-    let first = v.push(true).is_ok();
-    Ok(first && v.push(false).is_ok())
-}
-
 pub fn filled_up(v: &mut BitVec<u8, Lsb0>) -> Result<(), GrowError>
     requires { v.old.list ≡ true ∷ false ∷ [] }
     ensures { OnOk result (v.new.list ≡ true ∷ false ∷ true ∷ true ∷ []) }

@@ -1,15 +1,9 @@
 //! Callers that go over the bits.
-ghost use Rattle.std.specs.Prelude.{◌≡◌, ◌+◌, length, map, not, slice_get, count_by, reverse, IfOk};
+ghost use Rattle.std.specs.Prelude.{◌≡◌, ◌+◌, length, slice_get, count_by, reverse, IfOk};
 
 use bit_containers::boxed::IntoIter;
 use bit_containers::{BitOrder, BitStore, BitVec};
 use std::alloc::{AllocError, Global};
-
-pub fn how_many<T: BitStore, O: BitOrder>(v: &BitVec<T, O>) -> usize
-    ensures { result ≡ length v.now.list }
-{
-    v.iter().count()
-}
 
 pub fn how_many_true<T: BitStore, O: BitOrder>(v: &BitVec<T, O>) -> usize
     ensures { result ≡ count_by (λ bit. bit) v.now.list }
@@ -30,15 +24,6 @@ pub fn listed<T: BitStore, O: BitOrder>(
     ensures { IfOk result (λ all. all.items ≡ v.now.list) }
 {
     v.iter().collect::<Vec<bool>>(alloc)
-}
-
-pub fn opposites<T: BitStore, O: BitOrder>(
-    alloc: Global,
-    v: &BitVec<T, O>,
-) -> Result<Vec<bool>, AllocError>
-    ensures { IfOk result (λ all. all.items ≡ map not v.now.list) }
-{
-    v.iter().map(|bit| !bit).collect::<Vec<bool>>(alloc)
 }
 
 pub fn backward<T: BitStore, O: BitOrder>(

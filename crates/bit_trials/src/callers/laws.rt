@@ -16,19 +16,6 @@ use std::alloc::{AllocError, Global};
 use std::boxed::BoxedSlice;
 use std::cmp::Ordering;
 
-/// Aligned and cleared, vectors of one type have the same bits exactly where they are as long and have the
-/// same words.
-pub fn same_bytes<O: BitOrder>(a: BitVec<u8, O>, b: BitVec<u8, O>) -> bool
-    ensures { IsTrue result ↔ (a.list ≡ b.list) }
-{
-    let (mut a, mut b) = (a, b);
-    a.force_align();
-    a.set_uninitialized(false);
-    b.force_align();
-    b.set_uninitialized(false);
-    a.len() == b.len() && a.as_raw_slice() == b.as_raw_slice()
-}
-
 /// Aligned and cleared, vectors of one type have the same list exactly where they have the same length and the
 /// same words.
 pub fn same_words<T: BitStore, O: BitOrder>(

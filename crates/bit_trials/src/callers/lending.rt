@@ -6,13 +6,11 @@ use bit_containers::{BitListMut, BitOrder, BitStore};
 
 /// Whatever is written through the view of a box, its head and its lengths stay.
 pub fn through_the_box<T: BitStore, O: BitOrder>(b: &mut BitBox<T, O>)
-    requires { 0 < length b.old.list }
     ensures head { b.new.head ≡ b.old.head }
     ensures len { length b.new.list ≡ length b.old.list }
     ensures size { length b.new.words ≡ length b.old.words }
 {
     b.as_mut_bitslice().fill(true);
-    b.set(0, true);
 }
 
 /// Whatever is written through the view of what an iterator has left, as many bits are left.

@@ -8,7 +8,6 @@ use bit_containers::{
     BitOrder, BitStore, BitVec, GrowError, Lsb0, Msb0, array_bits, bits, boxed_bits,
 };
 use std::alloc::Global;
-use std::mem;
 
 pub fn written(alloc: Global) -> Result<BitVec<u8, Msb0>, GrowError>
     ensures { IfOk result (λ v. v.list ≡ true ∷ false ∷ true ∷ true ∷ []) }
@@ -61,15 +60,4 @@ pub fn word_as_written() -> u8
     ensures { result ≡ 0x60 }
 {
     array_bits![u8, Msb0; 0, 1, 1].into_inner()
-}
-
-/// A literal on the right side of an operator, and then taken.
-pub fn steps(alloc: Global) -> Result<BitVec<u8, Msb0>, GrowError>
-    ensures { IfOk result (λ v. v.list ≡ true ∷ false ∷ false ∷ []) }
-{
-    let mut v = bits![alloc; u8, Msb0; 0, 1, 1]?;
-    let mask = bits![alloc; u64, Lsb0; 1, 1, 0]?;
-    v &= mask.as_bitslice();
-    v <<= 1;
-    Ok(mem::try_take(&mut v)?)
 }

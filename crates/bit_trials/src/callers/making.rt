@@ -109,36 +109,12 @@ pub fn read_again<T: BitStore, O: BitOrder>(
     BitVec::from_text(alloc, text)
 }
 
-pub fn box_of_a_packet(alloc: Global, bytes: &[u8]) -> Result<usize, GrowError>
-    requires { length bytes.now ≡ 3 }
-    ensures { IfOk result (λ n. n ≡ 24) }
-{
-    let b = BitBox::<u16, Lsb0>::from_bytes::<Msb0>(alloc, bytes)?;
-    Ok(b.len())
-}
-
 /// A set of numbers that doesn't grow.
 pub fn boxed_set_of(alloc: Global, numbers: &[usize]) -> Result<BitBox<usize, Lsb0>, GrowError>
     requires { All (λ i. i < 64) numbers.now }
     ensures members { IfOk result (λ b. (j : ℕ) → (slice_get b.list j ≡ Some true) ↔ Contains numbers.now j) }
 {
     BitBox::from_indices(alloc, 64, numbers)
-}
-
-pub fn known_boxed_text(alloc: Global) -> Result<BitBox<u8, Msb0>, ParseBitsError>
-    ensures { IfOk result (λ b. b.list ≡ false ∷ true ∷ true ∷ []) }
-{
-    BitBox::from_text(alloc, "011")
-}
-
-pub fn byte_of_a_box<T: BitStore, O: BitOrder>(
-    alloc: Global,
-    b: &BitBox<T, O>,
-) -> Result<Vec<u8>, AllocError>
-    requires { b.now.list ≡ true ∷ true ∷ false ∷ true ∷ [] }
-    ensures { IfOk result (λ bytes. bytes.items ≡ 11 ∷ []) }
-{
-    b.to_bytes::<Lsb0>(alloc)
 }
 
 pub fn byte_of_a_view<T: BitStore, O: BitOrder>(

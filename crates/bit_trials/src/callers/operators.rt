@@ -19,15 +19,6 @@ pub fn masked<T: BitStore, O: BitOrder, U: BitStore, P: BitOrder>(
     *v &= mask.as_bitslice();
 }
 
-/// The right side is shorter: the length stays, and what the right side lacks counts as false.
-pub fn masked_by_a_shorter(v: &mut BitVec<u8, Msb0>, mask: &BitVec<u64, Lsb0>)
-    requires v { v.old.list ≡ true ∷ true ∷ false ∷ true ∷ [] }
-    requires mask { mask.now.list ≡ true ∷ false ∷ true ∷ [] }
-    ensures { v.new.list ≡ true ∷ false ∷ false ∷ false ∷ [] }
-{
-    *v &= mask.as_bitslice();
-}
-
 pub fn turned_on_then_flipped(
     v: &mut BitVec<u8, Msb0>,
     on: BitSlice<'_, u8, Msb0>,

@@ -8,15 +8,6 @@ ghost use Rattle.bit_containers.specs.Closures.{keep_where};
 use bit_containers::{BitOrder, BitSlice, BitStore, BitVec, GrowError, Lsb0, Msb0};
 use std::alloc::AllocError;
 
-/// A range is gone though nothing of it was asked for.
-pub fn drained_unseen<T: BitStore, O: BitOrder>(v: &mut BitVec<T, O>, from: usize, upto: usize)
-    requires ordered { from ≤ upto }
-    requires within { upto ≤ length v.old.list }
-    ensures { v.new.list ≡ splice v.old.list from upto [] }
-{
-    let _drain = v.drain(from..upto);
-}
-
 /// A range is gone though its first bit alone was asked for.
 pub fn drained_once<T: BitStore, O: BitOrder>(v: &mut BitVec<T, O>) -> Option<bool>
     requires { 3 ≤ length v.old.list }
@@ -25,15 +16,6 @@ pub fn drained_once<T: BitStore, O: BitOrder>(v: &mut BitVec<T, O>) -> Option<bo
 {
     let mut drain = v.drain(1..3);
     drain.next()
-}
-
-/// A range is gone after each of its bits was asked for.
-pub fn drained_all<T: BitStore, O: BitOrder>(v: &mut BitVec<T, O>, from: usize, upto: usize)
-    requires ordered { from ≤ upto }
-    requires within { upto ≤ length v.old.list }
-    ensures { v.new.list ≡ splice v.old.list from upto [] }
-{
-    for _bit in v.drain(from..upto) {}
 }
 
 pub fn cut_in_two<T: BitStore, O: BitOrder>(
@@ -46,14 +28,6 @@ pub fn cut_in_two<T: BitStore, O: BitOrder>(
     ensures kept { OnErr result (v.new.list ≡ v.old.list) }
 {
     v.split_off(at)
-}
-
-pub fn replaced_by_a_vector(v: &mut BitVec<u8, Lsb0>, bits: Vec<bool>) -> Result<(), GrowError>
-    requires { 4 ≤ length v.old.list }
-    ensures list { OnOk result (v.new.list ≡ splice v.old.list 1 4 bits.items) }
-    ensures kept { OnErr result (v.new.list ≡ v.old.list) }
-{
-    v.splice(1..4, bits).finish()
 }
 
 /// A function that counts its calls decides which bits stay.

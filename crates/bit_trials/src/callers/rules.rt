@@ -1,17 +1,10 @@
 //! Callers that need a rule of lists: the line at the head of this module switches the rules on.
 #![tactic(auto, using(bit_addressing::proofs::lists::Shown::flipped_twice, bit_slice::proofs::Parts::row_size, bit_slice::specs::Comparisons::equal_lists, bit_slice::proofs::Rules::and_with_itself, bit_slice::proofs::Rules::and_with_true, bit_slice::proofs::Rules::or_with_false, bit_slice::proofs::Rules::xor_with_itself, bit_slice::proofs::Rules::xor_twice, bit_slice::proofs::Rules::not_of_and, bit_slice::proofs::Rules::not_of_or))]
 
-ghost use Rattle.std.specs.Prelude.{◌≡◌, ◌↔◌, ◌+◌, ◌*◌, ◌<◌, ◌≤◌, IsTrue, IfOk, Some, true, false, not, map, length, replicate, count_by, slice_get};
+ghost use Rattle.std.specs.Prelude.{◌≡◌, ◌+◌, ◌*◌, ◌<◌, ◌≤◌, IfOk, Some, true, false, not, map, length, replicate, count_by, slice_get};
 ghost use Rattle.bit_slice.specs.Operators.{and_of, or_of};
 
 use bit_containers::{BitList, BitListMut, BitOrder, BitSlice, BitStore, BitVec, Lsb0};
-
-/// Vectors are equal exactly where their lists are.
-pub fn same_bits<T: BitStore, O: BitOrder>(a: &BitVec<T, O>, b: &BitVec<T, O>) -> bool
-    ensures { IsTrue result ↔ (a.now.list ≡ b.now.list) }
-{
-    a == b
-}
 
 /// A list combined with itself by `&` stays.
 pub fn with_itself<T: BitStore, O: BitOrder>(a: BitVec<T, O>, b: BitVec<T, O>) -> BitVec<T, O>

@@ -7,15 +7,6 @@ use bit_containers::boxed::BitBox;
 use bit_containers::{BitListMut, BitOrder, BitStore, BitVec, Lsb0};
 use bit_slice::BitSlice;
 
-/// The last three bits are cleared.
-#[tactic(auto, unfolding(bit_addressing::specs::Row::put))]
-pub fn filled<T: BitStore, O: BitOrder>(v: &mut BitVec<T, O>)
-    requires bits { v.old.list ≡ true ∷ false ∷ true ∷ true ∷ [] }
-    ensures { v.new.list ≡ true ∷ false ∷ false ∷ false ∷ [] }
-{
-    v.fill_range(1..4, false);
-}
-
 /// The two bits in the middle are flipped.
 #[tactic(auto, unfolding(bit_addressing::specs::Row::put))]
 pub fn flipped_part<T: BitStore, O: BitOrder>(v: &mut BitVec<T, O>)
@@ -23,41 +14,6 @@ pub fn flipped_part<T: BitStore, O: BitOrder>(v: &mut BitVec<T, O>)
     ensures { v.new.list ≡ true ∷ true ∷ false ∷ true ∷ [] }
 {
     v.flip_range(1..3);
-}
-
-/// The second bit is flipped.
-pub fn flipped_one<T: BitStore, O: BitOrder>(v: &mut BitVec<T, O>)
-    requires bits { v.old.list ≡ true ∷ false ∷ true ∷ true ∷ [] }
-    ensures { v.new.list ≡ true ∷ true ∷ true ∷ true ∷ [] }
-{
-    v.flip(1);
-}
-
-/// What a shorter view has is taken away.
-pub fn taken_away<T: BitStore, O: BitOrder, U: BitStore, P: BitOrder>(
-    v: &mut BitVec<T, O>,
-    other: BitSlice<'_, U, P>,
-)
-    requires bits { v.old.list ≡ true ∷ false ∷ true ∷ true ∷ [] }
-    requires other { list_of other ≡ true ∷ true ∷ [] }
-    requires len { len_of other ≡ 2 }
-    ensures { v.new.list ≡ false ∷ false ∷ true ∷ true ∷ [] }
-{
-    v.and_not_bits(other);
-}
-
-/// Two bits are written in the middle.
-#[tactic(auto, unfolding(bit_addressing::specs::Row::put))]
-pub fn copied_into<T: BitStore, O: BitOrder, U: BitStore, P: BitOrder>(
-    v: &mut BitVec<T, O>,
-    other: BitSlice<'_, U, P>,
-)
-    requires bits { v.old.list ≡ true ∷ false ∷ true ∷ true ∷ [] }
-    requires other { list_of other ≡ true ∷ false ∷ [] }
-    requires len { len_of other ≡ 2 }
-    ensures { v.new.list ≡ true ∷ true ∷ false ∷ true ∷ [] }
-{
-    v.copy_into(1..3, other);
 }
 
 /// The two bits in the middle and those of a view.
@@ -102,14 +58,6 @@ pub fn xored_part<T: BitStore, O: BitOrder, U: BitStore, P: BitOrder>(
     v.xor_range(0..2, other);
 }
 
-/// The list the other way round.
-pub fn reversed<T: BitStore, O: BitOrder>(v: &mut BitVec<T, O>)
-    requires bits { v.old.list ≡ true ∷ false ∷ true ∷ true ∷ [] }
-    ensures { v.new.list ≡ true ∷ true ∷ false ∷ true ∷ [] }
-{
-    v.reverse();
-}
-
 /// The first bit comes last.
 pub fn rotated_left<T: BitStore, O: BitOrder>(v: &mut BitVec<T, O>)
     requires bits { v.old.list ≡ true ∷ false ∷ true ∷ true ∷ [] }
@@ -124,14 +72,6 @@ pub fn rotated_right<T: BitStore, O: BitOrder>(v: &mut BitVec<T, O>)
     ensures { v.new.list ≡ false ∷ true ∷ true ∷ true ∷ [] }
 {
     v.rotate_right(3);
-}
-
-/// The first bit goes, and false comes last.
-pub fn shifted_left<T: BitStore, O: BitOrder>(v: &mut BitVec<T, O>)
-    requires bits { v.old.list ≡ true ∷ false ∷ true ∷ true ∷ [] }
-    ensures { v.new.list ≡ false ∷ true ∷ true ∷ false ∷ [] }
-{
-    v.shift_left(1);
 }
 
 /// The last bit goes, and false comes first.
@@ -149,15 +89,6 @@ pub fn anded_within<T: BitStore, O: BitOrder>(v: &mut BitVec<T, O>)
     ensures { v.new.list ≡ true ∷ false ∷ true ∷ false ∷ [] }
 {
     v.and_within(0..2, 2);
-}
-
-/// The first two bits or the last two.
-#[tactic(auto, unfolding(bit_addressing::specs::Row::put))]
-pub fn ored_within<T: BitStore, O: BitOrder>(v: &mut BitVec<T, O>)
-    requires bits { v.old.list ≡ true ∷ false ∷ true ∷ true ∷ [] }
-    ensures { v.new.list ≡ true ∷ true ∷ true ∷ true ∷ [] }
-{
-    v.or_within(2..4, 0);
 }
 
 /// Two bits are flipped where their neighbours before them were true.
@@ -178,23 +109,6 @@ pub fn stored_le<T: BitStore, O: BitOrder>(v: &mut BitVec<T, O>)
     v.store_le(5);
 }
 
-/// A number, the most significant bit first.
-#[tactic(auto, unfolding(bit_addressing::specs::Row::binary))]
-pub fn stored_be<T: BitStore, O: BitOrder>(v: &mut BitVec<T, O>)
-    requires bits { v.old.list ≡ true ∷ false ∷ true ∷ true ∷ [] }
-    ensures { v.new.list ≡ false ∷ true ∷ false ∷ true ∷ [] }
-{
-    v.store_be(5);
-}
-
-/// Reversed twice, the list is what it was.
-pub fn reversed_twice<T: BitStore, O: BitOrder>(v: &mut BitVec<T, O>)
-    ensures { v.new.list ≡ v.old.list }
-{
-    v.reverse();
-    v.reverse();
-}
-
 /// The last three bits are cleared.
 #[tactic(auto, unfolding(bit_addressing::specs::Row::put))]
 pub fn box_filled<T: BitStore, O: BitOrder>(b: &mut BitBox<T, O>)
@@ -202,99 +116,6 @@ pub fn box_filled<T: BitStore, O: BitOrder>(b: &mut BitBox<T, O>)
     ensures { b.new.list ≡ true ∷ false ∷ false ∷ false ∷ [] }
 {
     b.fill_range(1..4, false);
-}
-
-/// What a shorter view has is taken away.
-pub fn box_taken_away<T: BitStore, O: BitOrder, U: BitStore, P: BitOrder>(
-    b: &mut BitBox<T, O>,
-    other: BitSlice<'_, U, P>,
-)
-    requires bits { b.old.list ≡ true ∷ false ∷ true ∷ true ∷ [] }
-    requires other { list_of other ≡ true ∷ true ∷ [] }
-    requires len { len_of other ≡ 2 }
-    ensures { b.new.list ≡ false ∷ false ∷ true ∷ true ∷ [] }
-{
-    b.and_not_bits(other);
-}
-
-/// Two bits are written in the middle.
-#[tactic(auto, unfolding(bit_addressing::specs::Row::put))]
-pub fn box_copied_into<T: BitStore, O: BitOrder, U: BitStore, P: BitOrder>(
-    b: &mut BitBox<T, O>,
-    other: BitSlice<'_, U, P>,
-)
-    requires bits { b.old.list ≡ true ∷ false ∷ true ∷ true ∷ [] }
-    requires other { list_of other ≡ true ∷ false ∷ [] }
-    requires len { len_of other ≡ 2 }
-    ensures { b.new.list ≡ true ∷ true ∷ false ∷ true ∷ [] }
-{
-    b.copy_into(1..3, other);
-}
-
-/// The two bits in the middle or those of a view.
-#[tactic(auto, unfolding(bit_addressing::specs::Row::put))]
-pub fn box_ored_part<T: BitStore, O: BitOrder, U: BitStore, P: BitOrder>(
-    b: &mut BitBox<T, O>,
-    other: BitSlice<'_, U, P>,
-)
-    requires bits { b.old.list ≡ true ∷ false ∷ true ∷ true ∷ [] }
-    requires other { list_of other ≡ true ∷ false ∷ [] }
-    requires len { len_of other ≡ 2 }
-    ensures { b.new.list ≡ true ∷ true ∷ true ∷ true ∷ [] }
-{
-    b.or_range(1..3, other);
-}
-
-/// The list the other way round.
-pub fn box_reversed<T: BitStore, O: BitOrder>(b: &mut BitBox<T, O>)
-    requires bits { b.old.list ≡ true ∷ false ∷ true ∷ true ∷ [] }
-    ensures { b.new.list ≡ true ∷ true ∷ false ∷ true ∷ [] }
-{
-    b.reverse();
-}
-
-/// The last three bits come first.
-pub fn box_rotated_right<T: BitStore, O: BitOrder>(b: &mut BitBox<T, O>)
-    requires bits { b.old.list ≡ true ∷ false ∷ true ∷ true ∷ [] }
-    ensures { b.new.list ≡ false ∷ true ∷ true ∷ true ∷ [] }
-{
-    b.rotate_right(3);
-}
-
-/// The last bit goes, and false comes first.
-pub fn box_shifted_right<T: BitStore, O: BitOrder>(b: &mut BitBox<T, O>)
-    requires bits { b.old.list ≡ true ∷ false ∷ true ∷ true ∷ [] }
-    ensures { b.new.list ≡ false ∷ true ∷ false ∷ true ∷ [] }
-{
-    b.shift_right(1);
-}
-
-/// The first two bits or the last two.
-#[tactic(auto, unfolding(bit_addressing::specs::Row::put))]
-pub fn box_ored_within<T: BitStore, O: BitOrder>(b: &mut BitBox<T, O>)
-    requires bits { b.old.list ≡ true ∷ false ∷ true ∷ true ∷ [] }
-    ensures { b.new.list ≡ true ∷ true ∷ true ∷ true ∷ [] }
-{
-    b.or_within(2..4, 0);
-}
-
-/// A number, the most significant bit first.
-#[tactic(auto, unfolding(bit_addressing::specs::Row::binary))]
-pub fn box_stored_be<T: BitStore, O: BitOrder>(b: &mut BitBox<T, O>)
-    requires bits { b.old.list ≡ true ∷ false ∷ true ∷ true ∷ [] }
-    ensures { b.new.list ≡ false ∷ true ∷ false ∷ true ∷ [] }
-{
-    b.store_be(5);
-}
-
-/// Bits that are false stay so.
-#[tactic(auto, unfolding(bit_containers::proofs::OnLiterals::words_on_literals))]
-pub fn byte_fill_range() -> u8
-    ensures { result ≡ 0x31 }
-{
-    let mut a = BitArray::<u8, Lsb0>::new(0x31);
-    a.fill_range(2..4, false);
-    a.into_inner()
 }
 
 /// The first four bits are flipped.
@@ -307,16 +128,6 @@ pub fn byte_flip_range() -> u8
     a.into_inner()
 }
 
-/// The second bit is flipped.
-#[tactic(auto, unfolding(bit_containers::proofs::OnLiterals::words_on_literals))]
-pub fn byte_flip() -> u8
-    ensures { result ≡ 0x33 }
-{
-    let mut a = BitArray::<u8, Lsb0>::new(0x31);
-    a.flip(1);
-    a.into_inner()
-}
-
 /// The bits the other way round.
 #[tactic(auto, unfolding(bit_containers::proofs::OnLiterals::words_on_literals))]
 pub fn byte_reverse() -> u8
@@ -324,36 +135,6 @@ pub fn byte_reverse() -> u8
 {
     let mut a = BitArray::<u8, Lsb0>::new(0x31);
     a.reverse();
-    a.into_inner()
-}
-
-/// The first three bits come last.
-#[tactic(auto, unfolding(bit_containers::proofs::OnLiterals::words_on_literals))]
-pub fn byte_rotate_left() -> u8
-    ensures { result ≡ 0x26 }
-{
-    let mut a = BitArray::<u8, Lsb0>::new(0x31);
-    a.rotate_left(3);
-    a.into_inner()
-}
-
-/// The first two bits go.
-#[tactic(auto, unfolding(bit_containers::proofs::OnLiterals::words_on_literals))]
-pub fn byte_shift_left() -> u8
-    ensures { result ≡ 0x0c }
-{
-    let mut a = BitArray::<u8, Lsb0>::new(0x31);
-    a.shift_left(2);
-    a.into_inner()
-}
-
-/// The last three bits go.
-#[tactic(auto, unfolding(bit_containers::proofs::OnLiterals::words_on_literals))]
-pub fn byte_shift_right() -> u8
-    ensures { result ≡ 0x88 }
-{
-    let mut a = BitArray::<u8, Lsb0>::new(0x31);
-    a.shift_right(3);
     a.into_inner()
 }
 

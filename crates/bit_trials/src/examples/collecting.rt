@@ -31,12 +31,15 @@ fn extended_by_the_trait(rt: HostRuntime) {
     ok(&rt, Extend::extend(&mut v, [true, true]));
     ok(&rt, Extend::extend(&mut v, &[false, true]));
     holds(&rt, &v, b"011101");
+}
+
+#[test]
+fn taken(rt: HostRuntime) {
+    let mut v = of::<u8, Lsb0>(&rt, b"01");
     let taken = ok(&rt, mem::try_take(&mut v));
-    holds(&rt, &taken, b"011101");
-    holds(&rt, &v, b"");
+    check(&rt, v.is_empty());
     let mut b = ok(&rt, taken.into_boxed_bitslice());
-    let whole = ok(&rt, mem::try_take(&mut b));
-    check(&rt, whole.len() == 6);
+    check(&rt, ok(&rt, mem::try_take(&mut b)).len() == 2);
     check(&rt, b.is_empty());
     let made: BitBox<u8, Lsb0> = MadeWith::made_with(rt.alloc());
     check(&rt, made.is_empty());
@@ -49,10 +52,18 @@ fn as_it_is_written(rt: HostRuntime) {
     shows(&rt, &v, &[0x68]);
     let ones = ok(&rt, bits![rt.alloc(); u16, Lsb0; 1; 20]);
     check(&rt, ones.count_ones() == 20);
+}
+
+#[test]
+fn boxes_as_they_are_written(rt: HostRuntime) {
     let b = ok(&rt, boxed_bits![rt.alloc(); u8, Lsb0; 0, 1, 1]);
     check(&rt, b.as_raw_slice() == [0x06].as_slice());
     let none = ok(&rt, boxed_bits![rt.alloc(); u8, Lsb0; 0; 3]);
     check(&rt, none.len() == 3);
+}
+
+#[test]
+fn arrays_as_they_are_written(rt: HostRuntime) {
     check(
         &rt,
         array_bits![[u8; 2], Msb0; 0, 1, 1].into_inner() == [0x60, 0],
@@ -75,6 +86,10 @@ fn arrays_made_of_bytes(rt: HostRuntime) {
     check(&rt, back.as_slice() == bytes.as_slice());
     let short = BitArray::<u32, Lsb0>::from_bytes::<Msb0>(rt.alloc(), &bytes);
     check(&rt, short.is_err());
+}
+
+#[test]
+fn arrays_made_of_indices_and_text(rt: HostRuntime) {
     let marked = ok(
         &rt,
         BitArray::<u8, Msb0>::from_indices(rt.alloc(), 8, &[3, 0]),
@@ -85,23 +100,30 @@ fn arrays_made_of_bytes(rt: HostRuntime) {
 }
 
 #[test]
-fn view_for_writing_compared_and_shown(rt: HostRuntime) {
+fn view_for_writing_compared(rt: HostRuntime) {
     let (mut left, mut right) = ([0x16_u8], [0x16_u8]);
     let a = BitSliceMut::<u8, Lsb0>::from_slice_mut(&mut left);
     let mut b = BitSliceMut::<u8, Lsb0>::from_slice_mut(&mut right);
     check(&rt, a == b);
     b.set(7, true);
     check(&rt, a < b);
-    let text = ok(&rt, format!(in rt.alloc(); "{b}"));
-    check(&rt, text.as_str() == "[0, 1, 1, 0, 1, 0, 0, 1]");
-    let shown = ok(&rt, format!(in rt.alloc(); "{b:?}"));
+    let mut bits = b.into_iter();
     check(
         &rt,
-        shown.as_str() == "BitSliceMut { head: 0, bits: 8 } [0, 1, 1, 0, 1, 0, 0, 1]",
+        [bits.next(), bits.next_back()] == [Some(false), Some(true)],
     );
-    let mut bits = b.into_iter();
-    check(&rt, bits.next() == Some(false));
-    check(&rt, bits.next_back() == Some(true));
+}
+
+#[test]
+fn view_for_writing_shown(rt: HostRuntime) {
+    let mut words = [0x96_u8];
+    let b = BitSliceMut::<u8, Lsb0>::from_slice_mut(&mut words);
+    let text = ok(&rt, format!(in rt.alloc(); "{b} {b:?}"));
+    check(
+        &rt,
+        text.as_str()
+            == "[0, 1, 1, 0, 1, 0, 0, 1] BitSliceMut { head: 0, bits: 8 } [0, 1, 1, 0, 1, 0, 0, 1]",
+    );
 }
 
 #[test]
@@ -144,10 +166,6 @@ fn runs_copied_and_shown(rt: HostRuntime) {
     let mut runs = view.iter_runs();
     check(&rt, runs.next().is_some());
     check(&rt, ok(&rt, runs.clone()).count() == 5);
-    let mut places = view.find_all(view.get_range(0..2));
-    check(&rt, places.next() == Some(0));
-    let mut again = ok(&rt, places.clone());
-    check(&rt, again.next() == Some(3));
     let ranges = ok(&rt, view.iter_ranges(true).clone());
     let shown = ok(&rt, format!(in rt.alloc(); "{ranges:?}"));
     check(
@@ -157,12 +175,28 @@ fn runs_copied_and_shown(rt: HostRuntime) {
 }
 
 #[test]
-fn chunks_copied_and_shown(rt: HostRuntime) {
+fn places_copied(rt: HostRuntime) {
+    let words = [0x96_u8];
+    let view = BitSlice::<u8, Lsb0>::from_slice(&words);
+    let mut places = view.find_all(view.get_range(0..2));
+    check(&rt, places.next() == Some(0));
+    let mut again = ok(&rt, places.clone());
+    check(&rt, again.next() == Some(3));
+}
+
+#[test]
+fn chunks_copied(rt: HostRuntime) {
     let words = [0x96_u8];
     let view = BitSlice::<u8, Lsb0>::from_slice(&words);
     check(&rt, ok(&rt, view.chunks(3).clone()).count() == 3);
     check(&rt, ok(&rt, view.chunks_exact(3).clone()).count() == 2);
     check(&rt, ok(&rt, view.rchunks(3).clone()).count() == 3);
+}
+
+#[test]
+fn windows_shown(rt: HostRuntime) {
+    let words = [0x96_u8];
+    let view = BitSlice::<u8, Lsb0>::from_slice(&words);
     let shown = ok(&rt, format!(in rt.alloc(); "{:?}", view.windows(3)));
     check(
         &rt,

@@ -17,7 +17,6 @@ fn box_as_a_vector(rt: HostRuntime) {
     let view = BitSlice::<u8, Lsb0>::from_slice(&words).get_range(3..11);
     let mut b = ok(&rt, BitBox::from_bitslice_headed(rt.alloc(), view));
     b.force_align();
-    check(&rt, b.as_raw_slice() == [0xf5, 0x07].as_slice());
     b.fill_uninitialized(false);
     check(&rt, b.as_raw_slice() == [0xf5, 0x00].as_slice());
     let v = ok(&rt, vector_of(b));
@@ -42,9 +41,14 @@ fn boxed(rt: HostRuntime) {
 #[test]
 fn given_up(rt: HostRuntime) {
     let mut bits: IntoIter<u8, Lsb0> = of(&rt, b"011001").into_iter();
-    check(&rt, bits.next() == Some(false));
-    check(&rt, bits.next_back() == Some(true));
-    check(&rt, bits.nth(1) == Some(true));
-    check(&rt, bits.nth_back(1) == Some(false));
-    check(&rt, bits.next() == None);
+    check(
+        &rt,
+        [
+            bits.next(),
+            bits.next_back(),
+            bits.nth(1),
+            bits.nth_back(1),
+            bits.next(),
+        ] == [Some(false), Some(true), Some(true), Some(false), None],
+    );
 }

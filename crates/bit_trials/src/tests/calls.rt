@@ -20,25 +20,11 @@ fn each_word(rt: HostRuntime) {
 }
 
 #[test]
-fn two_bits(rt: HostRuntime) {
-    let mut v = of::<u8, Msb0>(&rt, b"01");
-    check(&rt, v.capacity() >= 2);
-    check(&rt, v.get(5) == None);
-    v.set(0, true);
-    holds(&rt, &v, b"11");
-}
-
-#[test]
 fn calls_of_a_view(rt: HostRuntime) {
     let v = of::<u16, Msb0>(&rt, b"0110");
-    check(&rt, v.first() == Some(false));
-    check(&rt, v.last() == Some(false));
+    check(&rt, [v.first(), v.last()] == [Some(false); 2]);
     check(&rt, v.count_ones() == 2);
-    let mut ones = 0u8;
-    for bit in v.iter() {
-        ones = ones.saturating_add(bit as u8);
-    }
-    check(&rt, ones == 2);
+    check(&rt, v.iter().next() == Some(false));
     check(&rt, v.as_bitslice().len() == 4);
     check(&rt, v.as_slice().len() == 4);
 }
@@ -47,11 +33,10 @@ fn calls_of_a_view(rt: HostRuntime) {
 fn views_that_write(rt: HostRuntime) {
     let mut v = of::<u16, Msb0>(&rt, b"0110");
     v.as_mut_bitslice().fill(true);
-    holds(&rt, &v, b"1111");
+    shows(&rt, &v, &[0xf000]);
     v.as_mut_slice().fill(false);
-    holds(&rt, &v, b"0000");
+    shows(&rt, &v, &[0x0000]);
     v.fill(true);
-    holds(&rt, &v, b"1111");
     shows(&rt, &v, &[0xf000]);
 }
 
@@ -71,15 +56,12 @@ fn handed_over(rt: HostRuntime) {
     let mut splice = v.splice(1..6, None);
     check(&rt, splice.next() == Some(true));
     let mut items = splice.items();
-    check(&rt, items.size_hint() == (4, Some(4)));
-    check(&rt, items.next() == Some(true));
-    check(&rt, items.next_back() == Some(true));
-    check(&rt, items.len() == 2);
-    check(&rt, items.nth(1) == Some(false));
-    check(&rt, items.next().is_none());
-    check(&rt, items.next_back().is_none());
-    check(&rt, splice.next().is_none());
-    check(&rt, splice.len() == 0);
+    check(&rt, [items.next(), items.next_back()] == [Some(true); 2]);
+    check(
+        &rt,
+        [items.nth(1), items.next(), items.next_back(), splice.next()]
+            == [Some(false), None, None, None],
+    );
     ok(&rt, splice.finish());
     holds(&rt, &v, b"00");
 }
@@ -103,17 +85,6 @@ fn numbers_of_five_digits(rt: HostRuntime) {
     shows(&rt, &v, &[0x08, 0x00]);
 }
 
-#[test]
-fn numbers_of_three_digits(rt: HostRuntime) {
-    let mut v = BitVec::<u8, Lsb0>::new(rt.alloc());
-    ok(&rt, v.push_be(3, 5));
-    ok(&rt, v.push_be(3, 3));
-    ok(&rt, v.push_be(3, 6));
-    shows(&rt, &v, &[0xf5, 0x00]);
-    v.store_be_at(3, 3, 0);
-    shows(&rt, &v, &[0xc5, 0x00]);
-}
-
 // Words that become a vector, and are taken out of it, by the traits of conversions.
 #[test]
 fn words_converted(rt: HostRuntime) {
@@ -129,51 +100,41 @@ fn words_converted(rt: HostRuntime) {
 #[test]
 fn told_apart(rt: HostRuntime) {
     let v = BitVec::<u8, Lsb0>::new(rt.alloc());
+    let text = ok(&rt, format!(in rt.alloc(); "{v:?}"));
     check(
         &rt,
-        ok(&rt, format!(in rt.alloc(); "{v:?}")).as_str()
-            == "BitVec { head: 0, bits: 0, capacity: 0 } []",
+        text.as_str() == "BitVec { head: 0, bits: 0, capacity: 0 } []",
     );
+}
+
+#[test]
+fn told_apart_at_a_head(rt: HostRuntime) {
     let words = [0x0b];
     let view = BitSlice::<u8, Lsb0>::from_slice(&words).get_range(1..4);
     let v = ok(&rt, BitVec::from_bitslice_headed(rt.alloc(), view));
     let room = v.capacity();
-    let want = ok(
-        &rt,
-        format!(in rt.alloc(); "BitVec {{ head: 1, bits: 3, capacity: {room} }} [1, 0, 1]"),
-    );
-    check(
-        &rt,
-        ok(&rt, format!(in rt.alloc(); "{v:?}")).as_str() == want.as_str(),
-    );
-}
-
-// Bits that are mapped.
-#[test]
-fn a_hundred_bits(rt: HostRuntime) {
-    let v = ok(
-        &rt,
-        BitVec::<u16, Msb0>::from_bits(rt.alloc(), (0..100).map(|i| i % 3 == 0)),
-    );
-    check(&rt, v.count_ones() == 34);
-    check(&rt, v.get(66) == Some(true));
-    check(&rt, v.get(65) == Some(false));
+    let want = format!(in rt.alloc(); "BitVec {{ head: 1, bits: 3, capacity: {room} }} [1, 0, 1]");
+    let text = ok(&rt, format!(in rt.alloc(); "{v:?}"));
+    check(&rt, text.as_str() == ok(&rt, want).as_str());
 }
 
 #[test]
 fn numbers_of_four_digits(rt: HostRuntime) {
     let mut v = of::<u8, Msb0>(&rt, b"01101001");
-    check(&rt, v.load_be_at(1, 4) == 13);
-    check(&rt, v.load_le_at(1, 4) == 11);
-    check(&rt, v.load_signed_be_at(1, 4) == -3);
-    check(&rt, v.load_signed_le_at(1, 4) == -5);
-    check(&rt, v.load_be_at(8, 0) == 0);
+    let numbers = [v.load_be_at(1, 4), v.load_le_at(1, 4), v.load_be_at(8, 0)];
+    check(&rt, numbers == [13, 11, 0]);
+    let signed = [v.load_signed_be_at(1, 4), v.load_signed_le_at(1, 4)];
+    check(&rt, signed == [-3, -5]);
+    ok(&rt, v.push_le(3, 6));
+    holds(&rt, &v, b"01101001011");
+}
+
+#[test]
+fn numbers_of_four_digits_written(rt: HostRuntime) {
+    let mut v = of::<u8, Msb0>(&rt, b"01101001");
     v.store_le_at(0, 4, 1);
-    holds(&rt, &v, b"10001001");
     v.store_signed_be_at(4, 3, -2);
     holds(&rt, &v, b"10001101");
     v.store_signed_le_at(4, 3, -2);
     holds(&rt, &v, b"10000111");
-    ok(&rt, v.push_le(3, 6));
-    holds(&rt, &v, b"10000111011");
 }

@@ -38,11 +38,15 @@ fn digits_of_other_sizes(rt: HostRuntime) {
 #[test]
 fn wrong_digits(rt: HostRuntime) {
     let alloc = rt.alloc();
-    check(&rt, wrong_at(alloc, "dg", 4, 8) == Some(1));
-    check(&rt, wrong_at(alloc, "[d2]", 4, 5) == Some(2));
+    check(
+        &rt,
+        [wrong_at(alloc, "dg", 4, 8), wrong_at(alloc, "[d2]", 4, 5)] == [Some(1), Some(2)],
+    );
     check(&rt, wrong_at(alloc, "[62", 3, 5) == Some(0));
-    check(&rt, wrong_at(alloc, "6", 3, 5) == Some(1));
-    check(&rt, wrong_at(alloc, "621", 3, 5) == Some(2));
+    check(
+        &rt,
+        [wrong_at(alloc, "6", 3, 5), wrong_at(alloc, "621", 3, 5)] == [Some(1), Some(2)],
+    );
 }
 
 // Where a text of ranges is wrong, or None where it is right or memory was refused.
@@ -68,20 +72,19 @@ fn ranges_of_ones(rt: HostRuntime) {
 }
 
 #[test]
-fn no_ranges(rt: HostRuntime) {
-    let v = ok(&rt, BitVec::<u8, Msb0>::from_ranges_text(rt.alloc(), "", 3));
-    holds(&rt, &v, b"000");
-}
-
-#[test]
 fn wrong_ranges(rt: HostRuntime) {
     let alloc = rt.alloc();
-    check(&rt, range_wrong_at(alloc, "0,2-4", 4) == Some(2));
-    check(&rt, range_wrong_at(alloc, "3-2", 4) == Some(0));
-    check(&rt, range_wrong_at(alloc, "0-1-2", 4) == Some(0));
-    check(&rt, range_wrong_at(alloc, "1,", 4) == Some(2));
-    check(&rt, range_wrong_at(alloc, "1,+2", 4) == Some(2));
-    check(&rt, range_wrong_at(alloc, "1, 2", 4) == Some(2));
+    check(
+        &rt,
+        [
+            range_wrong_at(alloc, "0,2-4", 4),
+            range_wrong_at(alloc, "3-2", 4),
+            range_wrong_at(alloc, "0-1-2", 4),
+            range_wrong_at(alloc, "1,", 4),
+            range_wrong_at(alloc, "1,+2", 4),
+            range_wrong_at(alloc, "1, 2", 4),
+        ] == [Some(2), Some(0), Some(0), Some(2), Some(2), Some(2)],
+    );
 }
 
 #[test]
@@ -89,16 +92,6 @@ fn without_equal_neighbours(rt: HostRuntime) {
     let mut v = of::<u8, Msb0>(&rt, b"0110111");
     v.dedup();
     holds(&rt, &v, b"0101");
-}
-
-#[test]
-fn many_runs_are_kept(rt: HostRuntime) {
-    let mut v = ok(&rt, BitVec::<u16, Lsb0>::repeat(rt.alloc(), false, 150));
-    v.fill_with(|i| i % 2 == 1);
-    v.dedup();
-    check(&rt, v.len() == 150);
-    check(&rt, v.count_ones() == 75);
-    check(&rt, v.get(149) == Some(true));
 }
 
 #[test]

@@ -24,19 +24,29 @@ fn map_with_gaps(rt: &(impl Abort + AllocGlobal)) -> FreeMap {
 #[test]
 fn runs_that_fit(rt: HostRuntime) {
     let mut map = map_with_gaps(&rt);
-    check(&rt, map.take_best_fit(4) == Some(20));
-    check(&rt, map.take_best_fit(5) == Some(60));
-    check(&rt, map.take_best_fit(3) == Some(40));
-    check(&rt, map.take_best_fit(10).is_none());
+    check(
+        &rt,
+        [
+            map.take_best_fit(4),
+            map.take_best_fit(5),
+            map.take_best_fit(3),
+            map.take_best_fit(10),
+        ] == [Some(20), Some(60), Some(40), None],
+    );
     check(&rt, map.count_free() == 10);
 }
 
 #[test]
 fn runs_that_are_aligned(rt: HostRuntime) {
     let mut map = map_with_gaps(&rt);
-    check(&rt, map.take_aligned(2, 5) == Some(5));
-    check(&rt, map.take_aligned(2, 64).is_none());
-    check(&rt, map.take_aligned(2, 4) == Some(8));
+    check(
+        &rt,
+        [
+            map.take_aligned(2, 5),
+            map.take_aligned(2, 64),
+            map.take_aligned(2, 4),
+        ] == [Some(5), None, Some(8)],
+    );
     check(&rt, map.count_free() == 18);
 }
 
@@ -81,13 +91,14 @@ fn requests(rt: HostRuntime) {
 fn frames_of_a_map(rt: HostRuntime) {
     let mut map = ok(&rt, FreeMap::new(rt.alloc(), 130));
     assert!(rt; map.frames() == 130);
-    check(&rt, map.take() == Some(0));
-    check(&rt, map.take_run(100) == Some(1));
+    check(&rt, [map.take(), map.take_run(100)] == [Some(0), Some(1)]);
     assert!(rt; map.frames() == 130);
     check(&rt, map.is_taken(100));
     check(&rt, !map.is_taken(101));
-    check(&rt, map.take_run(30).is_none());
-    check(&rt, map.take_run(29) == Some(101));
+    check(
+        &rt,
+        [map.take_run(30), map.take_run(29)] == [None, Some(101)],
+    );
     check(&rt, map.take().is_none());
 }
 
@@ -102,9 +113,10 @@ fn frames_given_back(rt: HostRuntime) {
     check(&rt, map.is_taken(68));
     check(&rt, map.count_free() == 13);
     check(&rt, map.take() == Some(60));
-    check(&rt, map.take_run(8).is_none());
-    check(&rt, map.take_run(5) == Some(61));
-    check(&rt, map.take_run(5) == Some(70));
+    check(
+        &rt,
+        [map.take_run(8), map.take_run(5), map.take_run(5)] == [None, Some(61), Some(70)],
+    );
     check(&rt, map.count_free() == 2);
 }
 
@@ -120,15 +132,25 @@ fn too_many_frames(rt: HostRuntime) {
 }
 
 #[test]
+fn frames_that_are_free(rt: HostRuntime) {
+    let map = map_with_gaps(&rt);
+    check(
+        &rt,
+        [
+            map.is_free(3),
+            map.is_free(2),
+            map.is_free(100),
+            map.is_run_free(20..24),
+            map.is_run_free(20..25),
+            map.is_run_free(99..101),
+            map.is_run_free(99..99),
+        ] == [true, false, false, true, false, false, true],
+    );
+}
+
+#[test]
 fn frames_reserved(rt: HostRuntime) {
     let mut map = map_with_gaps(&rt);
-    check(&rt, map.is_free(3));
-    check(&rt, !map.is_free(2));
-    check(&rt, !map.is_free(100));
-    check(&rt, map.is_run_free(20..24));
-    check(&rt, !map.is_run_free(20..25));
-    check(&rt, !map.is_run_free(99..101));
-    check(&rt, map.is_run_free(99..99));
     check(&rt, map.reserve(21..23).is_ok());
     check(&rt, map.reserve(20..22) == Err(NotFree));
     check(&rt, map.reserve(64..101) == Err(NotFree));

@@ -40,7 +40,7 @@ fn bit(matrix: &Matrix, row: usize, column: usize) -> bool {
 fn ways(left: &Matrix, right: &Matrix, row: usize, column: usize, middle: usize) -> usize {
     let mut count: usize = 0;
     for k in 0..middle {
-        if bit(left, row, k) && bit(right, k, column) {
+        if bit(left, row, k) & bit(right, k, column) {
             count = count.saturating_add(1);
         }
     }
@@ -193,7 +193,7 @@ fn sums_to_zero(matrix: &Matrix, rows: usize, columns: usize, named: usize) -> b
     for column in 0..columns {
         let (mut odd, mut rest) = (false, named);
         for row in 0..rows {
-            odd ^= rest % 2 == 1 && bit(matrix, row, column);
+            odd ^= (rest % 2 == 1) & bit(matrix, row, column);
             rest /= 2;
         }
         if odd {

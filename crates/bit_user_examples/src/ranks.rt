@@ -27,14 +27,20 @@ fn seven_bits(rt: HostRuntime) {
     let ranks = seven(&rt);
     assert!(rt; ranks.len() == 7);
     check(&rt, !ranks.is_empty());
-    check(&rt, ranks.index_len() == 0);
-    check(&rt, ranks.count_ones() == 3);
-    check(&rt, ranks.count_zeros() == 4);
-    check(&rt, ranks.rank1(4) == 2);
-    check(&rt, ranks.rank0(4) == 2);
-    check(&rt, ranks.select1(2) == Some(4));
-    check(&rt, ranks.select1(3).is_none());
-    check(&rt, ranks.select0(1) == Some(3));
+    check(
+        &rt,
+        [
+            ranks.index_len(),
+            ranks.count_ones(),
+            ranks.count_zeros(),
+            ranks.rank1(4),
+            ranks.rank0(4),
+        ] == [0, 3, 4, 2, 2],
+    );
+    check(
+        &rt,
+        [ranks.select1(2), ranks.select1(3), ranks.select0(1)] == [Some(4), None, Some(3)],
+    );
 }
 
 #[test]
@@ -60,10 +66,15 @@ fn ones_from_both_ends(rt: HostRuntime) {
     check(&rt, ones.len() == 3);
     check(&rt, ones.next_back() == Some(4));
     check(&rt, ones.size_hint() == (2, Some(2)));
-    check(&rt, ok(&rt, ones.clone()).next_back() == Some(2));
-    check(&rt, ones.next() == Some(1));
-    check(&rt, ones.next() == Some(2));
-    check(&rt, ones.next_back().is_none());
+    check(
+        &rt,
+        [
+            ok(&rt, ones.clone()).next_back(),
+            ones.next(),
+            ones.next(),
+            ones.next_back(),
+        ] == [Some(2), Some(1), Some(2), None],
+    );
 }
 
 #[test]

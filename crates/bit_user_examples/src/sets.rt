@@ -67,23 +67,35 @@ fn numbers_toggled(rt: HostRuntime) {
 #[test]
 fn numbers_at_both_ends(rt: HostRuntime) {
     let mut set = set_of(&rt, &[2, 64, 65, 199]);
-    check(&rt, set.first() == Some(2));
-    check(&rt, set.last() == Some(199));
-    check(&rt, set.pop_first() == Some(2));
-    check(&rt, set.pop_last() == Some(199));
+    check(
+        &rt,
+        [set.first(), set.last(), set.pop_first(), set.pop_last()]
+            == [Some(2), Some(199), Some(2), Some(199)],
+    );
     has(&rt, &set, &[64, 65]);
-    check(&rt, set_of(&rt, &[]).pop_first().is_none());
-    check(&rt, set_of(&rt, &[]).pop_last().is_none());
+}
+
+#[test]
+fn no_numbers_at_the_ends(rt: HostRuntime) {
+    let mut set = NumberSet::new(rt.alloc());
+    check(&rt, [set.pop_first(), set.pop_last()] == [None; 2]);
 }
 
 #[test]
 fn numbers_searched(rt: HostRuntime) {
     let set = set_of(&rt, &[2, 64, 199]);
-    check(&rt, set.next_at_least(3) == Some(64));
-    check(&rt, set.next_at_least(200).is_none());
-    check(&rt, set.previous_at_most(64) == Some(64));
-    check(&rt, set.previous_at_most(usize::MAX) == Some(199));
-    check(&rt, set.previous_at_most(1).is_none());
+    check(
+        &rt,
+        [set.next_at_least(3), set.next_at_least(200)] == [Some(64), None],
+    );
+    check(
+        &rt,
+        [
+            set.previous_at_most(64),
+            set.previous_at_most(usize::MAX),
+            set.previous_at_most(1),
+        ] == [Some(64), Some(199), None],
+    );
 }
 
 #[test]

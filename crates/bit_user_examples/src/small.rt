@@ -23,8 +23,7 @@ fn popped(rt: HostRuntime) {
     check(&rt, bits.pop().is_none());
     check(&rt, bits.push(true).is_ok());
     check(&rt, bits.push(false).is_ok());
-    check(&rt, bits.pop() == Some(false));
-    check(&rt, bits.pop() == Some(true));
+    check(&rt, [bits.pop(), bits.pop()] == [Some(false), Some(true)]);
     check(&rt, bits.is_empty());
 }
 
@@ -66,8 +65,7 @@ fn inserted_and_removed(rt: HostRuntime) {
     check(&rt, bits.insert(4, true).is_ok());
     assert!(rt; bits.len() == 5);
     check(&rt, !bits.remove(0));
-    check(&rt, bits.first() == Some(true));
-    check(&rt, bits.last() == Some(true));
+    check(&rt, [bits.first(), bits.last()] == [Some(true); 2]);
     check(&rt, bits.count_ones() == 2);
 }
 

@@ -78,24 +78,20 @@ fn searches_beside_loops(rt: HostRuntime) {
 }
 
 #[test]
-fn searches_in_long_runs(rt: HostRuntime) {
-    let mut map = ok(&rt, FreeMap::new(rt.alloc(), 700));
-    check(&rt, map.reserve(0..100).is_ok());
-    check(&rt, map.reserve(250..251).is_ok());
-    for count in [1, 64, 100, 149, 150, 448, 449, 450] {
-        assert!(rt; count > 0);
-        searches(&rt, &map, count);
-    }
-}
-
-#[test]
 fn frames_from_both_ends(rt: HostRuntime) {
     let mut map = ok(&rt, FreeMap::new(rt.alloc(), 100));
-    check(&rt, map.take_last_fit(10) == Some(90));
-    check(&rt, map.take_next_fit(50, 10) == Some(50));
-    check(&rt, map.take_next_fit(50, 10) == Some(60));
-    check(&rt, map.take_next_fit(75, 16).is_none());
-    check(&rt, map.take_last_fit(25) == Some(25));
-    check(&rt, map.take_last_fit(26).is_none());
+    check(
+        &rt,
+        [
+            map.take_last_fit(10),
+            map.take_next_fit(50, 10),
+            map.take_next_fit(50, 10),
+            map.take_next_fit(75, 16),
+        ] == [Some(90), Some(50), Some(60), None],
+    );
+    check(
+        &rt,
+        [map.take_last_fit(25), map.take_last_fit(26)] == [Some(25), None],
+    );
     check(&rt, map.count_free() == 45);
 }

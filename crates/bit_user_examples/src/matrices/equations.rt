@@ -21,8 +21,10 @@ fn an_echelon_form(rt: HostRuntime) {
     let text = ok(&rt, matrix.to_string(rt.alloc()));
     check(&rt, text.as_str() == "101\n011\n000\n");
     assert!(rt; matrix.rows() == 3);
-    check(&rt, matrix.first_in_row(1) == Some(1));
-    check(&rt, matrix.first_in_row(2).is_none());
+    check(
+        &rt,
+        [matrix.first_in_row(1), matrix.first_in_row(2)] == [Some(1), None],
+    );
 }
 
 // That a matrix is in reduced echelon form, with this rank.
@@ -62,7 +64,7 @@ fn gives(
     for row in 0..matrix.rows() {
         let mut odd = false;
         for column in 0..matrix.columns() {
-            odd ^= bit(matrix, row, column) && vector.get(column) == Some(true);
+            odd ^= bit(matrix, row, column) & (vector.get(column) == Some(true));
         }
         check(rt, product.get(row) == Some(odd));
     }

@@ -85,22 +85,3 @@ fn paths_of_a_graph(rt: HostRuntime) {
         leads(&rt, &graph, from);
     }
 }
-
-// In a line of a hundred nodes, whose rows begin anywhere in a word, a path leads to each later node.
-#[test]
-fn paths_of_a_line(rt: HostRuntime) {
-    let mut line = ok(&rt, Matrix::new(rt.alloc(), 100, 100));
-    for node in 1..100 {
-        assert!(rt; node < line.rows());
-        assert!(rt; node < line.columns());
-        line.set(node - 1, node, true);
-    }
-    assert!(rt; line.rows() == 100);
-    assert!(rt; line.columns() == 100);
-    line.close();
-    for from in 0..100 {
-        for to in 0..100 {
-            check(&rt, line.get(from, to) == (from < to));
-        }
-    }
-}

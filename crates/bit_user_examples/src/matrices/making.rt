@@ -44,43 +44,6 @@ fn a_matrix_of_a_function(rt: HostRuntime) {
 }
 
 #[test]
-fn a_wide_matrix_of_a_function(rt: HostRuntime) {
-    let mut third = |row: usize, column: usize| row == 1 && column % 3 == 0;
-    let matrix = ok(&rt, Matrix::from_fn(rt.alloc(), 2, 130, &mut third));
-    assert!(rt; matrix.rows() == 2);
-    assert!(rt; matrix.columns() == 130);
-    for column in 0..130 {
-        check(&rt, !bit(&matrix, 0, column));
-        check(&rt, bit(&matrix, 1, column) == (column % 3 == 0));
-    }
-}
-
-// Whether each bit is set exactly where the column is at least the row, and at an even distance if only those count.
-fn is_upper(matrix: &Matrix, even: bool) -> bool {
-    for row in 0..matrix.rows() {
-        for column in 0..matrix.columns() {
-            let set = column >= row && (!even || (column - row) % 2 == 0);
-            if bit(matrix, row, column) != set {
-                return false;
-            }
-        }
-    }
-    true
-}
-
-#[test]
-fn products_of_many_bits(rt: HostRuntime) {
-    let mut above = |row: usize, column: usize| column >= row;
-    let matrix = ok(&rt, Matrix::from_fn(rt.alloc(), 200, 200, &mut above));
-    assert!(rt; matrix.rows() == matrix.columns());
-    let product = ok(&rt, matrix.times(rt.alloc(), &matrix));
-    check(&rt, is_upper(&product, false));
-    // From a row to a column there are as many middle indices as from the one to the other, both counted.
-    let product = ok(&rt, matrix.times_mod_2(rt.alloc(), &matrix));
-    check(&rt, is_upper(&product, true));
-}
-
-#[test]
 fn no_matrix(rt: HostRuntime) {
     let words = [0b0110u8, 0b1011];
     let view = BitSlice::<u8, Lsb0>::from_slice(&words);

@@ -20,8 +20,10 @@ fn seven_bits(rt: HostRuntime) {
     check(&rt, ranked.count_zeros() == 4);
     check(&rt, ranked.rank1(4) == 2);
     check(&rt, ranked.rank0(4) == 2);
-    check(&rt, ranked.select1(2) == Some(4));
-    check(&rt, ranked.select0(1) == Some(3));
+    check(
+        &rt,
+        [ranked.select1(2), ranked.select0(1)] == [Some(4), Some(3)],
+    );
 }
 
 #[test]
@@ -80,7 +82,7 @@ fn as_counted(ranked: &RankedBits<u64, Lsb0>) -> bool {
             zeros += 1;
         }
     }
-    ranked.count_ones() == ones && ranked.select1(ones).is_none()
+    (ranked.count_ones() == ones) & ranked.select1(ones).is_none()
 }
 
 #[test]

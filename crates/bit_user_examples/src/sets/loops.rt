@@ -13,7 +13,7 @@ fn by_loop(
 ) -> Vec<usize> {
     let mut numbers = Vec::new(rt.alloc());
     for number in 0..200 {
-        let kept = match (number % 3 == 0, number % 5 == 1 && number < 140) {
+        let kept = match (number % 3 == 0, (number % 5 == 1) & (number < 140)) {
             (true, true) => both,
             (true, false) => third_alone,
             (false, true) => fifth_alone,
@@ -51,7 +51,6 @@ fn fifths(rt: &(impl Abort + AllocGlobal)) -> NumberSet {
 #[test]
 fn unions_by_loops(rt: HostRuntime) {
     let expected = by_loop(&rt, true, true, true);
-    has(&rt, &(thirds(&rt) | fifths(&rt)), expected.as_slice());
     has(&rt, &(fifths(&rt) | thirds(&rt)), expected.as_slice());
 }
 
@@ -59,7 +58,6 @@ fn unions_by_loops(rt: HostRuntime) {
 fn intersections_by_loops(rt: HostRuntime) {
     let expected = by_loop(&rt, false, false, true);
     has(&rt, &(thirds(&rt) & fifths(&rt)), expected.as_slice());
-    has(&rt, &(fifths(&rt) & thirds(&rt)), expected.as_slice());
 }
 
 #[test]
@@ -73,7 +71,6 @@ fn differences_by_loops(rt: HostRuntime) {
 #[test]
 fn symmetric_differences_by_loops(rt: HostRuntime) {
     let expected = by_loop(&rt, true, true, false);
-    has(&rt, &(thirds(&rt) ^ fifths(&rt)), expected.as_slice());
     has(&rt, &(fifths(&rt) ^ thirds(&rt)), expected.as_slice());
 }
 

@@ -43,8 +43,7 @@ fn four(rt: &(impl Abort + AllocGlobal)) -> SortedNumbers {
 #[test]
 fn four_numbers_searched(rt: HostRuntime) {
     let numbers = four(&rt);
-    check(&rt, numbers.first() == Some(2));
-    check(&rt, numbers.last() == Some(9));
+    check(&rt, [numbers.first(), numbers.last()] == [Some(2), Some(9)]);
     check(&rt, numbers.previous_at_most(4) == Some((1, 3)));
     check(&rt, numbers.previous_at_most(9) == Some((3, 9)));
     check(&rt, numbers.previous_at_most(u64::MAX) == Some((3, 9)));
@@ -59,13 +58,18 @@ fn four_numbers_from_both_ends(rt: HostRuntime) {
     let numbers = four(&rt);
     let mut left = numbers.iter_from(1);
     check(&rt, left.len() == 3);
-    check(&rt, left.next_back() == Some(9));
-    check(&rt, left.next() == Some(3));
-    check(&rt, left.next_back() == Some(9));
-    check(&rt, left.next().is_none());
-    check(&rt, left.next_back().is_none());
-    check(&rt, numbers.iter_from(9).next().is_none());
-    check(&rt, numbers.iter().next_back() == Some(9));
+    check(
+        &rt,
+        [
+            left.next_back(),
+            left.next(),
+            left.next_back(),
+            left.next(),
+            left.next_back(),
+            numbers.iter_from(9).next(),
+            numbers.iter().next_back(),
+        ] == [Some(9), Some(3), Some(9), None, None, None, Some(9)],
+    );
 }
 
 #[test]

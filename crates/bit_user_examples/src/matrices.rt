@@ -150,7 +150,7 @@ fn no_inverse(rt: HostRuntime) {
 }
 
 #[test]
-fn copies_and_texts(rt: HostRuntime) {
+fn copies(rt: HostRuntime) {
     let mut matrix = ok(&rt, Matrix::identity(rt.alloc(), 3));
     assert!(rt; matrix.rows() == 3);
     assert!(rt; matrix.columns() == 3);
@@ -159,12 +159,15 @@ fn copies_and_texts(rt: HostRuntime) {
     matrix.xor_row(2, 0);
     check(&rt, copy != matrix);
     check(&rt, matrix.row(0).len() == 3);
-    let (text, other) = (
-        ok(&rt, matrix.to_string(rt.alloc())),
-        ok(&rt, copy.to_string(rt.alloc())),
-    );
+}
+
+#[test]
+fn text_of_a_matrix(rt: HostRuntime) {
+    let mut matrix = ok(&rt, Matrix::identity(rt.alloc(), 3));
+    assert!(rt; matrix.rows() == 3);
+    matrix.xor_row(2, 0);
+    let text = ok(&rt, matrix.to_string(rt.alloc()));
     check(&rt, text.as_str() == "101\n010\n001\n");
-    check(&rt, other.as_str() == "100\n010\n001\n");
     let shown = ok(&rt, format!(in rt.alloc(); "{matrix:?}"));
     check(
         &rt,

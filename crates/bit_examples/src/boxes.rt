@@ -3,6 +3,7 @@ ghost use Rattle.std.specs.Prelude.{◌≡◌, length};
 
 mod callers;
 mod memory;
+mod reading;
 mod slice;
 mod writing;
 
@@ -144,10 +145,8 @@ fn iterated(rt: HostRuntime) {
 #[test]
 fn iterator_seen(rt: HostRuntime) {
     let mut bits = first_bits(&rt, 0x26, 6).into_iter();
-    check(
-        &rt,
-        [bits.next(), bits.next_back()] == [Some(false), Some(true)],
-    );
+    check(&rt, bits.next() == Some(false));
+    check(&rt, bits.next_back() == Some(true));
     check(&rt, bits.size_hint() == (4, Some(4)));
     let text = ok(&rt, format!(in rt.alloc(); "{bits:?}"));
     check(&rt, text.as_str() == "IntoIter([1, 1, 0, 0])");

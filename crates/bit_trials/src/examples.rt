@@ -8,6 +8,8 @@ mod growing;
 mod making;
 mod moves;
 mod operators;
+mod reading;
 mod removing;
 mod text;
 mod words;
+mod writing;

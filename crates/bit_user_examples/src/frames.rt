@@ -132,8 +132,8 @@ fn too_many_frames(rt: HostRuntime) {
 }
 
 #[test]
-fn frames_reserved(rt: HostRuntime) {
-    let mut map = map_with_gaps(&rt);
+fn frames_that_are_free(rt: HostRuntime) {
+    let map = map_with_gaps(&rt);
     check(
         &rt,
         [
@@ -144,9 +144,14 @@ fn frames_reserved(rt: HostRuntime) {
             map.is_run_free(20..25),
             map.is_run_free(99..101),
             map.is_run_free(99..99),
-            map.reserve(21..23).is_ok(),
-        ] == [true, false, false, true, false, false, true, true],
+        ] == [true, false, false, true, false, false, true],
     );
+}
+
+#[test]
+fn frames_reserved(rt: HostRuntime) {
+    let mut map = map_with_gaps(&rt);
+    check(&rt, map.reserve(21..23).is_ok());
     check(&rt, map.reserve(20..22) == Err(NotFree));
     check(&rt, map.reserve(64..101) == Err(NotFree));
     check(&rt, map.reserve(5..5).is_ok());

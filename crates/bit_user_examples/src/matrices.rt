@@ -40,7 +40,7 @@ fn bit(matrix: &Matrix, row: usize, column: usize) -> bool {
 fn ways(left: &Matrix, right: &Matrix, row: usize, column: usize, middle: usize) -> usize {
     let mut count: usize = 0;
     for k in 0..middle {
-        if bit(left, row, k) && bit(right, k, column) {
+        if bit(left, row, k) & bit(right, k, column) {
             count = count.saturating_add(1);
         }
     }
@@ -150,7 +150,7 @@ fn no_inverse(rt: HostRuntime) {
 }
 
 #[test]
-fn copies_and_texts(rt: HostRuntime) {
+fn copies(rt: HostRuntime) {
     let mut matrix = ok(&rt, Matrix::identity(rt.alloc(), 3));
     assert!(rt; matrix.rows() == 3);
     assert!(rt; matrix.columns() == 3);
@@ -159,12 +159,15 @@ fn copies_and_texts(rt: HostRuntime) {
     matrix.xor_row(2, 0);
     check(&rt, copy != matrix);
     check(&rt, matrix.row(0).len() == 3);
-    let (text, other) = (
-        ok(&rt, matrix.to_string(rt.alloc())),
-        ok(&rt, copy.to_string(rt.alloc())),
-    );
+}
+
+#[test]
+fn text_of_a_matrix(rt: HostRuntime) {
+    let mut matrix = ok(&rt, Matrix::identity(rt.alloc(), 3));
+    assert!(rt; matrix.rows() == 3);
+    matrix.xor_row(2, 0);
+    let text = ok(&rt, matrix.to_string(rt.alloc()));
     check(&rt, text.as_str() == "101\n010\n001\n");
-    check(&rt, other.as_str() == "100\n010\n001\n");
     let shown = ok(&rt, format!(in rt.alloc(); "{matrix:?}"));
     check(
         &rt,
@@ -193,7 +196,7 @@ fn sums_to_zero(matrix: &Matrix, rows: usize, columns: usize, named: usize) -> b
     for column in 0..columns {
         let (mut odd, mut rest) = (false, named);
         for row in 0..rows {
-            odd ^= rest % 2 == 1 && bit(matrix, row, column);
+            odd ^= (rest % 2 == 1) & bit(matrix, row, column);
             rest /= 2;
         }
         if odd {

@@ -51,6 +51,11 @@ fn ones_of_seven_bits(rt: HostRuntime) {
         ranks.iter_ones_from(0).collect::<Vec<usize>>(rt.alloc()),
     );
     check(&rt, ones.as_slice() == [1, 2, 4].as_slice());
+}
+
+#[test]
+fn last_ones_of_seven_bits(rt: HostRuntime) {
+    let ranks = seven(&rt);
     let ones = ok(
         &rt,
         ranks.iter_ones_from(2).collect::<Vec<usize>>(rt.alloc()),
@@ -81,8 +86,17 @@ fn ones_from_both_ends(rt: HostRuntime) {
 fn seven_bits_of_a_vector(rt: HostRuntime) {
     let ranks = ok(&rt, Ranks::from_vec(rt.alloc(), seven_in_vec(&rt)));
     check(&rt, ranks == seven(&rt));
-    check(&rt, ranks.eq_bits(seven(&rt).as_bitslice()));
-    check(&rt, ok(&rt, ranks.clone()) == ranks);
+}
+
+#[test]
+fn seven_bits_copied(rt: HostRuntime) {
+    let ranks = seven(&rt);
+    let copy = ok(&rt, ranks.clone());
+    check(&rt, copy.eq_bits(ranks.as_bitslice()));
+}
+
+#[test]
+fn seven_bits_converted(rt: HostRuntime) {
     let again = ok(&rt, Ranks::try_from(seven_in_vec(&rt)));
     check(&rt, BitBox::from(again).as_raw_slice() == [0x68].as_slice());
 }

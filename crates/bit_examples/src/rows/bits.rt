@@ -6,12 +6,6 @@ use bit_rows::{
     fill_bits, flip_words, move_bits_in_vec, push_bit_in_vec, read_binary, read_bit,
     resize_words_in_vec, write_binary, write_bit, write_bit_in_vec,
 };
-use std::process::Abort;
-
-// That these are the words.
-fn shows(rt: &impl Abort, kept: &[u8], words: &[u8]) {
-    check(rt, kept == words);
-}
 
 #[test]
 fn bits_of_words(rt: HostRuntime) {
@@ -26,9 +20,8 @@ fn bits_of_words(rt: HostRuntime) {
 fn runs_appended(rt: HostRuntime) {
     let mut words = ok(&rt, vec![in rt.alloc(); 0x05u8]);
     cut_words_in_vec::<u8, Lsb0>(&mut words, 3);
-    let appended = append_run_in_vec::<u8, Lsb0>(&mut words, 3, 18, true);
-    check(&rt, appended.is_ok());
-    shows(&rt, words.as_slice(), &[0xfd, 0xff, 0x03]);
+    ok(&rt, append_run_in_vec::<u8, Lsb0>(&mut words, 3, 18, true));
+    check(&rt, words.as_slice() == [0xfd, 0xff, 0x03].as_slice());
 }
 
 #[test]
@@ -37,7 +30,7 @@ fn words_of_a_vector(rt: HostRuntime) {
     ok(&rt, resize_words_in_vec::<u8, Lsb0>(&mut words, 9));
     write_bit_in_vec::<u8, Lsb0>(&mut words, 0, false);
     fill_bits::<u8, Lsb0>(words.as_mut_slice(), 6, 10, true);
-    shows(&rt, words.as_slice(), &[0xfe, 0x03]);
+    check(&rt, words.as_slice() == [0xfe, 0x03].as_slice());
 }
 
 #[test]
@@ -46,16 +39,15 @@ fn runs_of_a_vector(rt: HostRuntime) {
     flip_words::<u8, Lsb0>(words.as_mut_slice());
     copy_bits_in_vec::<u8, Lsb0, u16, Msb0>(&mut words, 4, &[0xf000], 0, 4);
     move_bits_in_vec::<u8, Lsb0>(&mut words, 4, 0, 8);
-    shows(&rt, words.as_slice(), &[0xcf, 0xfc]);
+    check(&rt, words.as_slice() == [0xcf, 0xfc].as_slice());
 }
 
 #[test]
 fn words_cut_and_pushed(rt: HostRuntime) {
     let mut words = ok(&rt, vec![in rt.alloc(); 0xcfu8, 0xfc]);
     cut_words_in_vec::<u8, Lsb0>(&mut words, 8);
-    let pushed = push_bit_in_vec::<u8, Lsb0>(&mut words, 8, true);
-    check(&rt, pushed.is_ok());
-    shows(&rt, words.as_slice(), &[0xcf, 0x01]);
+    ok(&rt, push_bit_in_vec::<u8, Lsb0>(&mut words, 8, true));
+    check(&rt, words.as_slice() == [0xcf, 0x01].as_slice());
 }
 
 #[test]

@@ -51,23 +51,22 @@ fn orders(rt: HostRuntime) {
 
 #[test]
 fn indices(rt: HostRuntime) {
-    check(&rt, BitIdx::<u8>::new(7) == Some(BitIdx::new_unchecked(7)));
+    check(&rt, BitIdx::<u8>::new(7).map(|i| i.into_inner()) == Some(7));
     check(&rt, BitIdx::<u8>::new(8).is_none());
-    check(&rt, BitEnd::<u8>::new(8) == Some(BitEnd::new_unchecked(8)));
+    check(&rt, BitEnd::<u8>::new(8).map(|e| e.into_inner()) == Some(8));
     check(&rt, BitEnd::<u8>::new(9).is_none());
-    check(&rt, BitPos::<u8>::new(7) == Some(BitPos::new_unchecked(7)));
+    check(&rt, BitPos::<u8>::new(7).map(|p| p.into_inner()) == Some(7));
     check(&rt, BitPos::<u8>::new(8).is_none());
 }
 
 #[test]
 fn indices_compared(rt: HostRuntime) {
-    let idx = BitIdx::<u8>::new_unchecked(3);
-    check(&rt, idx < BitIdx::new_unchecked(4));
-    let end = BitEnd::<u8>::new_unchecked(3);
-    check(&rt, end < BitEnd::new_unchecked(4));
-    check(&rt, end.into_inner() == 3);
-    let pos = BitPos::<u8>::new_unchecked(3);
-    check(&rt, pos < BitPos::new_unchecked(4));
+    check(&rt, BitIdx::<u8>::new(3) < BitIdx::<u8>::new(4));
+    check(&rt, BitEnd::<u8>::new(3) < BitEnd::<u8>::new(4));
+    check(&rt, BitPos::<u8>::new(3) < BitPos::<u8>::new(4));
+    check(&rt, BitIdx::<u8>::new(3) == BitIdx::<u8>::new(3));
+    check(&rt, BitEnd::<u8>::new(8) != BitEnd::<u8>::new(7));
+    check(&rt, BitPos::<u8>::new(3) == BitPos::<u8>::new(3));
 }
 
 #[test]

@@ -1,5 +1,5 @@
 //! Callers of the searches, indices, parts and changes of views.
-ghost use Rattle.std.specs.Prelude.{◌≡◌, ◌≢◌, ℕ, ◌+◌, ◌-◌, ◌*◌, ◌/◌, ◌%◌, ◌<◌, ◌≤◌, ◌↔◌, ◌++◌, eqb, EachIndex, slice_range, IfOk, IfSome, IsTrue, Some, count_by, drop, false, length, map, not, replicate, reverse, slice_get, sum, take, true};
+ghost use Rattle.std.specs.Prelude.{◌≡◌, ℕ, ◌+◌, ◌-◌, ◌*◌, ◌/◌, ◌%◌, ◌<◌, ◌≤◌, ◌↔◌, ◌++◌, eqb, EachIndex, slice_range, IfOk, IfSome, IsTrue, Some, count_by, drop, false, length, map, not, replicate, reverse, slice_get, sum, take, true};
 ghost use Rattle.std.specs.List.{range_with_len};
 ghost use Rattle.std.specs.Option.{option_map};
 ghost use Rattle.std.specs.String.{string_bytes};
@@ -32,9 +32,6 @@ pub fn bit_at_first<T: BitStore, O: BitOrder>(view: BitSlice<'_, T, O>) -> Optio
 pub fn before_first<T: BitStore, O: BitOrder>(view: BitSlice<'_, T, O>, j: usize) -> Option<bool>
     ensures { IfSome result (λ b. b ≡ false) }
 {
-    if j >= view.len() {
-        return None;
-    }
     match view.first_one() {
         Some(i) => if j < i { view.get(j) } else { None },
         None => view.get(j),
@@ -51,7 +48,7 @@ pub fn bit_at_next<T: BitStore, O: BitOrder>(view: BitSlice<'_, T, O>, from: usi
     ensures { IsTrue result }
 {
     match view.next_zero(from) {
-        Some(i) => (i >= from) & !view[i],
+        Some(i) => i >= from && !view[i],
         None => true,
     }
 }
@@ -60,7 +57,7 @@ pub fn bit_at_prev<T: BitStore, O: BitOrder>(view: BitSlice<'_, T, O>, before: u
     ensures { IsTrue result }
 {
     match view.prev_one(before) {
-        Some(i) => (i < before) & view[i],
+        Some(i) => i < before && view[i],
         None => true,
     }
 }
@@ -73,9 +70,6 @@ pub fn after_prev<T: BitStore, O: BitOrder>(
     requires { j < before }
     ensures { IfSome result (λ b. b ≡ true) }
 {
-    if j >= view.len() {
-        return None;
-    }
     match view.prev_zero(before) {
         Some(i) => if i < j { view.get(j) } else { None },
         None => view.get(j),
@@ -116,6 +110,12 @@ pub fn listed_runs<T: BitStore, O: BitOrder>(
     view.iter_runs().collect::<Vec<BitRun>>(alloc)
 }
 
+pub fn runs_by_loop<T: BitStore, O: BitOrder>(view: BitSlice<'_, T, O>) -> usize
+    ensures { result ≡ length (runs_of (list_of view.entry)) }
+{
+    view.iter_runs().count()
+}
+
 pub fn in_next_run<T: BitStore, O: BitOrder>(
     view: BitSlice<'_, T, O>,
     n: usize,
@@ -133,9 +133,6 @@ pub fn in_next_run<T: BitStore, O: BitOrder>(
 pub fn after_last<T: BitStore, O: BitOrder>(view: BitSlice<'_, T, O>, j: usize) -> Option<bool>
     ensures { IfSome result (λ b. b ≡ false) }
 {
-    if j >= view.len() {
-        return None;
-    }
     match view.last_one() {
         Some(i) => if i < j { view.get(j) } else { None },
         None => view.get(j),
@@ -153,6 +150,12 @@ pub fn in_the_leading_run<T: BitStore, O: BitOrder>(
     } else {
         None
     }
+}
+
+pub fn same_count<T: BitStore, O: BitOrder>(view: BitSlice<'_, T, O>) -> bool
+    ensures { IsTrue result }
+{
+    view.iter_ones().count() == view.count_ones()
 }
 
 pub fn same_count_of_zeros<T: BitStore, O: BitOrder>(view: BitSlice<'_, T, O>) -> bool
@@ -177,6 +180,12 @@ pub fn listed_backward<T: BitStore, O: BitOrder>(
     ensures { IfOk result (λ all. all.items ≡ reverse (zeros_of (list_of view.entry))) }
 {
     view.iter_zeros().rev().collect::<Vec<usize>>(alloc)
+}
+
+pub fn each_is_set<T: BitStore, O: BitOrder>(view: BitSlice<'_, T, O>) -> bool
+    ensures { IsTrue result }
+{
+    view.iter_ones().all(|i| view.get(i) == Some(true))
 }
 
 pub fn count_by_loop<T: BitStore, O: BitOrder>(view: BitSlice<'_, T, O>) -> usize
@@ -295,7 +304,7 @@ pub fn halves<T: BitStore, O: BitOrder>(view: BitSlice<'_, T, O>, mid: usize) ->
     ensures { IsTrue result }
 {
     let (front, back) = view.split_at(mid);
-    (front.len() + back.len() == view.len()) & front.eq_bits(view.get_range(0..mid))
+    front.len() + back.len() == view.len() && front.eq_bits(view.get_range(0..mid))
 }
 
 pub fn first_is_split_off<T: BitStore, O: BitOrder>(view: BitSlice<'_, T, O>) -> bool
@@ -310,7 +319,14 @@ pub fn first_is_split_off<T: BitStore, O: BitOrder>(view: BitSlice<'_, T, O>) ->
 pub fn starts_with_itself<T: BitStore, O: BitOrder>(view: BitSlice<'_, T, O>) -> bool
     ensures { IsTrue result }
 {
-    view.starts_with(view) & view.ends_with(view)
+    view.starts_with(view) && view.ends_with(view)
+}
+
+pub fn how_many_chunks<T: BitStore, O: BitOrder>(view: BitSlice<'_, T, O>, n: usize) -> usize
+    requires { 0 < n }
+    ensures { result ≡ chunk_count (len_of view.entry) n }
+{
+    view.chunks(n).count()
 }
 
 pub fn counts_of_chunks<T: BitStore, O: BitOrder>(
@@ -352,6 +368,17 @@ pub fn set_in_both<T: BitStore, O: BitOrder, U: BitStore, P: BitOrder>(
         other.get(j)
     } else {
         None
+    }
+}
+
+pub fn subset_is_kept<T: BitStore, O: BitOrder, U: BitStore, P: BitOrder>(
+    view: &mut BitSliceMut<'_, T, O>,
+    other: BitSlice<'_, U, P>,
+)
+    ensures { list_there view.new ≡ list_there view.old }
+{
+    if view.as_bitslice().is_subset(other) {
+        view.and_bits(other);
     }
 }
 
@@ -423,7 +450,7 @@ pub fn found_later<T: BitStore, O: BitOrder, U: BitStore, P: BitOrder>(
     ensures { IsTrue result }
 {
     match view.find_from(from, other) {
-        Some(i) => (from <= i) & view.get_range(i..i + other.len()).eq_bits(other),
+        Some(i) => from <= i && view.get_range(i..i + other.len()).eq_bits(other),
         None => true,
     }
 }
@@ -485,6 +512,17 @@ pub fn exact_chunks<T: BitStore, O: BitOrder>(view: BitSlice<'_, T, O>, n: usize
     ensures { result ≡ len_of view.entry / n }
 {
     view.chunks_exact(n).len()
+}
+
+/// The number of bits left after all whole chunks, however many of them were given.
+pub fn rest_after_two<T: BitStore, O: BitOrder>(view: BitSlice<'_, T, O>, n: usize) -> usize
+    requires { 0 < n }
+    ensures { result ≡ length (drop (len_of view.entry / n * n) (list_of view.entry)) }
+{
+    let mut chunks = view.chunks_exact(n);
+    let _first = chunks.next();
+    let _last = chunks.next_back();
+    chunks.remainder().len()
 }
 
 /// The bits that are left when all whole chunks were given, one after another.
@@ -592,8 +630,8 @@ pub fn last_part<T: BitStore, O: BitOrder, U: BitStore, P: BitOrder>(
     pattern: BitSlice<'_, U, P>,
 ) -> Option<usize>
     ensures there { IfSome result (λ i. part (len_of pattern.entry) (list_of view.entry) i ≡ list_of pattern.entry) }
-    ensures last { IfSome result (λ i. (j : ℕ) → i < j → j + len_of pattern.entry ≤ len_of view.entry
-        → part (len_of pattern.entry) (list_of view.entry) j ≢ list_of pattern.entry) }
+    ensures last { IfSome result (λ i. part (len_of pattern.entry) (list_of view.entry) (i + 1) ≡ list_of pattern.entry
+        → len_of view.entry < i + 1 + len_of pattern.entry) }
 {
     view.rfind(pattern)
 }

@@ -110,3 +110,84 @@ fn compared_at_other_heads(rt: HostRuntime) {
     check(&rt, counted.eq_counted(&mut aligned.counted()));
     check(&rt, eight(&words).eq_bits(aligned));
 }
+
+#[tactic(auto, unfolding(bit_addressing::specs::Row::touched))]
+fn count_down(view: &mut CountedMut<'_, u8, Lsb0>)
+    requires head { head_counted view.old ≡ 0 }
+    requires len { len_counted view.old ≡ 16 }
+    ensures writes { writes_of view.new ≤ writes_of view.old + 2 }
+    ensures reads { reads_counted view.new ≤ reads_counted view.old + 6 }
+{
+    view.copy_within_counted(3..14, 1);
+}
+
+#[tactic(auto, unfolding(bit_addressing::specs::Row::touched))]
+fn count_over_three_words(view: &mut CountedMut<'_, u8, Lsb0>)
+    requires head { head_counted view.old ≡ 0 }
+    requires len { len_counted view.old ≡ 24 }
+    ensures writes { writes_of view.new ≤ writes_of view.old + 3 }
+    ensures reads { reads_counted view.new ≤ reads_counted view.old + 9 }
+{
+    view.copy_within_counted(0..20, 4);
+}
+
+#[tactic(auto, unfolding(bit_addressing::specs::Row::touched))]
+fn count_into_a_whole_word(view: &mut CountedMut<'_, u16, Lsb0>)
+    requires head { head_counted view.old ≡ 0 }
+    requires len { len_counted view.old ≡ 32 }
+    ensures writes { writes_of view.new ≤ writes_of view.old + 1 }
+    ensures reads { reads_counted view.new ≤ reads_counted view.old + 3 }
+{
+    view.copy_within_counted(8..24, 0);
+}
+
+#[tactic(auto, unfolding(bit_addressing::specs::Row::touched))]
+fn count_in_one_word(view: &mut CountedMut<'_, u8, Lsb0>)
+    requires head { head_counted view.old ≡ 0 }
+    requires len { len_counted view.old ≡ 8 }
+    ensures writes { writes_of view.new ≤ writes_of view.old + 1 }
+    ensures reads { reads_counted view.new ≤ reads_counted view.old + 3 }
+{
+    view.copy_within_counted(0..3, 5);
+}
+
+#[tactic(auto, unfolding(bit_addressing::specs::Row::touched))]
+fn count_nothing(view: &mut CountedMut<'_, u8, Lsb0>)
+    requires head { head_counted view.old ≡ 0 }
+    requires len { len_counted view.old ≡ 8 }
+    ensures writes { writes_of view.new ≤ writes_of view.old }
+    ensures reads { reads_counted view.new ≤ reads_counted view.old }
+{
+    view.copy_within_counted(3..3, 0);
+}
+
+/// The moves whose reads and writes are bounded over rows, through views.
+#[test]
+#[tactic(auto, unfolding(bit_addressing::specs::Row::words_for))]
+fn counted_through_views(rt: HostRuntime) {
+    let mut words = [0xb1_u8, 0x6d];
+    let mut view = BitSliceMut::<u8, Lsb0>::from_parts_mut(&mut words, 0, 16);
+    count_down(&mut view.counted_mut());
+    check(&rt, words == [0x6d, 0x6b]);
+    let mut words = [0x01_u8, 0x80, 0xff];
+    let mut view = BitSliceMut::<u8, Lsb0>::from_parts_mut(&mut words, 0, 24);
+    count_over_three_words(&mut view.counted_mut());
+    check(&rt, words == [0x11, 0x00, 0xf8]);
+    let mut words = [0x1234_u16, 0xabcd];
+    let mut view = BitSliceMut::<u16, Lsb0>::from_parts_mut(&mut words, 0, 32);
+    count_into_a_whole_word(&mut view.counted_mut());
+    check(&rt, words == [0xcd12, 0xabcd]);
+}
+
+#[test]
+#[tactic(auto, unfolding(bit_addressing::specs::Row::words_for))]
+fn counted_in_one_word_through_views(rt: HostRuntime) {
+    let mut words = [0x07_u8];
+    let mut view = BitSliceMut::<u8, Lsb0>::from_parts_mut(&mut words, 0, 8);
+    count_in_one_word(&mut view.counted_mut());
+    check(&rt, words == [0xe7]);
+    let mut words = [0x07_u8];
+    let mut view = BitSliceMut::<u8, Lsb0>::from_parts_mut(&mut words, 0, 8);
+    count_nothing(&mut view.counted_mut());
+    check(&rt, words == [0x07]);
+}

@@ -19,6 +19,38 @@ pub fn permission_byte(alloc: Global, write: bool) -> Result<Vec<u8>, GrowError>
     Ok(v.into_vec())
 }
 
+pub fn in_a_wide_word(alloc: Global) -> Result<Vec<u64>, GrowError>
+    ensures { IfOk result (λ words. words.items ≡ 5 ∷ []) }
+{
+    let mut v = BitVec::<u64, Lsb0>::new(alloc);
+    v.push(true)?;
+    v.push(false)?;
+    v.push(true)?;
+    Ok(v.into_vec())
+}
+
+pub fn five_pushes(alloc: Global, bit: bool) -> Result<Vec<u64>, GrowError>
+    ensures { IfOk result (λ words. words.items ≡ (if bit then 21 else 20) ∷ []) }
+{
+    let mut v = BitVec::<u64, Lsb0>::new(alloc);
+    v.push(bit)?;
+    v.push(false)?;
+    v.push(true)?;
+    v.push(false)?;
+    v.push(true)?;
+    Ok(v.into_vec())
+}
+
+pub fn pushed_and_set(alloc: Global) -> Result<Vec<u8>, GrowError>
+    ensures { IfOk result (λ words. words.items ≡ 0xc0 ∷ []) }
+{
+    let mut v = BitVec::<u8, Msb0>::new(alloc);
+    v.push(true)?;
+    v.push(false)?;
+    v.set(1, true);
+    Ok(v.into_vec())
+}
+
 #[tactic(auto, unfolding(bit_containers::proofs::OnLiterals::words_on_literals))]
 pub fn popped_and_set(words: Vec<u8>) -> Vec<u8>
     requires { words.items ≡ 0xdc ∷ [] }
@@ -42,6 +74,19 @@ pub fn cut_and_cleared(words: Vec<u8>) -> Vec<u8>
     v.into_vec()
 }
 
+/// Equal lists, equal words: for every word type and order.
+pub fn canonical<T: BitStore, O: BitOrder>(a: BitVec<T, O>, b: BitVec<T, O>) -> (Vec<T>, Vec<T>)
+    requires { a.list ≡ b.list }
+    ensures { result.0.items ≡ result.1.items }
+{
+    let (mut a, mut b) = (a, b);
+    a.force_align();
+    a.set_uninitialized(false);
+    b.force_align();
+    b.set_uninitialized(false);
+    (a.into_vec(), b.into_vec())
+}
+
 /// A copy has the words for the list, wherever the list stood.
 pub fn copied(v: &BitVec<u8, Lsb0>) -> Result<Vec<u8>, AllocError>
     requires { v.now.list ≡ true ∷ false ∷ true ∷ [] }
@@ -49,6 +94,19 @@ pub fn copied(v: &BitVec<u8, Lsb0>) -> Result<Vec<u8>, AllocError>
 {
     let copy = v.clone()?;
     Ok(copy.into_vec())
+}
+
+/// Copies of equal lists have equal words, wherever the lists stood.
+pub fn copied_alike<T: BitStore, O: BitOrder>(
+    a: &BitVec<T, O>,
+    b: &BitVec<T, O>,
+) -> Result<(Vec<T>, Vec<T>), AllocError>
+    requires { a.now.list ≡ b.now.list }
+    ensures { IfOk result (λ both. both.0.items ≡ both.1.items) }
+{
+    let first = a.clone()?;
+    let second = b.clone()?;
+    Ok((first.into_vec(), second.into_vec()))
 }
 
 /// The row of a vector is that of its words.

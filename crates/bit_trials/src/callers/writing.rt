@@ -1,5 +1,5 @@
 //! Callers that write parts of a container, or all of it, and know its list after.
-ghost use Rattle.std.specs.Prelude.{◌≡◌, true, false, [], ◌∷◌};
+ghost use Rattle.std.specs.Prelude.{[], false, true, ◌∷◌, ◌≡◌};
 ghost use Rattle.bit_slice.specs.BitSlice.{len_of, list_of};
 
 use bit_containers::array::BitArray;
@@ -155,5 +155,55 @@ pub fn byte_store_le() -> u8
 {
     let mut a = BitArray::<u8, Lsb0>::new(0x31);
     a.store_le(0x57);
+    a.into_inner()
+}
+
+/// Bits that are false stay so.
+#[tactic(auto, unfolding(bit_containers::proofs::OnLiterals::words_on_literals))]
+pub fn byte_fill_range() -> u8
+    ensures { result ≡ 0x31 }
+{
+    let mut a = BitArray::<u8, Lsb0>::new(0x31);
+    a.fill_range(2..4, false);
+    a.into_inner()
+}
+
+/// The second bit is flipped.
+#[tactic(auto, unfolding(bit_containers::proofs::OnLiterals::words_on_literals))]
+pub fn byte_flip() -> u8
+    ensures { result ≡ 0x33 }
+{
+    let mut a = BitArray::<u8, Lsb0>::new(0x31);
+    a.flip(1);
+    a.into_inner()
+}
+
+/// The first three bits come last.
+#[tactic(auto, unfolding(bit_containers::proofs::OnLiterals::words_on_literals))]
+pub fn byte_rotate_left() -> u8
+    ensures { result ≡ 0x26 }
+{
+    let mut a = BitArray::<u8, Lsb0>::new(0x31);
+    a.rotate_left(3);
+    a.into_inner()
+}
+
+/// The first two bits go.
+#[tactic(auto, unfolding(bit_containers::proofs::OnLiterals::words_on_literals))]
+pub fn byte_shift_left() -> u8
+    ensures { result ≡ 0x0c }
+{
+    let mut a = BitArray::<u8, Lsb0>::new(0x31);
+    a.shift_left(2);
+    a.into_inner()
+}
+
+/// The last three bits go.
+#[tactic(auto, unfolding(bit_containers::proofs::OnLiterals::words_on_literals))]
+pub fn byte_shift_right() -> u8
+    ensures { result ≡ 0x88 }
+{
+    let mut a = BitArray::<u8, Lsb0>::new(0x31);
+    a.shift_right(3);
     a.into_inner()
 }

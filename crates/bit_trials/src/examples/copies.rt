@@ -17,6 +17,15 @@ fn copy_of_a_vector(rt: HostRuntime) {
 }
 
 #[test]
+fn copy_of_a_view(rt: HostRuntime) {
+    let words = [0xa8, 0x07];
+    let view = BitSlice::<u8, Lsb0>::from_slice(&words).get_range(3..11);
+    let copy = ok(&rt, BitVec::from_bitslice(rt.alloc(), view));
+    shows(&rt, &copy, &[0xf5]);
+    check(&rt, copy.head() == 0);
+}
+
+#[test]
 fn aligned_after_copying(rt: HostRuntime) {
     let words = [0xaf, 0xff];
     let view = BitSlice::<u8, Lsb0>::from_slice(&words).get_range(3..13);

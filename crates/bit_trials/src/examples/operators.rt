@@ -94,3 +94,9 @@ fn arrays_combined_with_views(rt: HostRuntime) {
     a >>= 2;
     check(&rt, a.into_inner() == 0x10);
 }
+
+#[test]
+fn compared_by_the_first_bit(rt: HostRuntime) {
+    let (low, high) = (of::<u8, Msb0>(&rt, b"01"), of(&rt, b"1"));
+    check(&rt, low < high);
+}

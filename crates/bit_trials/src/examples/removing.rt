@@ -7,8 +7,20 @@ fn drained(rt: HostRuntime) {
     let mut v = of::<u8, Lsb0>(&rt, b"01110");
     {
         let mut drain = v.drain(1..4);
-        check(&rt, [drain.next(), drain.next_back()] == [Some(true); 2]);
+        check(&rt, drain.next() == Some(true));
+        check(&rt, drain.next_back() == Some(true));
         check(&rt, drain.size_hint() == (1, Some(1)));
+    }
+    holds(&rt, &v, b"00");
+}
+
+#[test]
+fn drained_past_the_end(rt: HostRuntime) {
+    let mut v = of::<u8, Msb0>(&rt, b"01110");
+    {
+        let mut drain = v.drain(1..4);
+        check(&rt, drain.nth(5).is_none());
+        check(&rt, drain.len() == 0);
     }
     holds(&rt, &v, b"00");
 }
@@ -31,6 +43,14 @@ fn retained(rt: HostRuntime) {
     holds(&rt, &v, b"001");
 }
 
+#[test]
+fn retained_by_bits(rt: HostRuntime) {
+    let mut v = of::<u8, Lsb0>(&rt, b"001101010001010001010");
+    check(&rt, v.pop() == Some(false));
+    v.retain(|i, bit| *bit && i % 2 == 1);
+    holds(&rt, &v, b"1111111");
+}
+
 // What is asked of each bit may count the bits.
 #[test]
 fn retained_by_a_count(rt: HostRuntime) {
@@ -48,7 +68,7 @@ fn retained_by_a_count(rt: HostRuntime) {
 fn split(rt: HostRuntime) {
     let mut v = of::<u8, Lsb0>(&rt, b"01001");
     let rest = ok(&rt, v.split_off(2));
-    check(&rt, v.len() == 2);
+    holds(&rt, &v, b"01");
     holds(&rt, &rest, b"001");
     shows(&rt, &v, &[0x12]);
     shows(&rt, &rest, &[0x04]);
@@ -65,6 +85,13 @@ fn spliced(rt: HostRuntime) {
 }
 
 #[test]
+fn spliced_to_the_end(rt: HostRuntime) {
+    let mut v = of::<u8, Msb0>(&rt, b"01001");
+    ok(&rt, v.splice(2.., None).finish());
+    holds(&rt, &v, b"01");
+}
+
+#[test]
 fn replaced_by_a_view(rt: HostRuntime) {
     let words = [0b1010_0000_u8];
     let view = BitSlice::<u8, Msb0>::from_slice(&words).get_range(0..3);
@@ -78,10 +105,21 @@ fn replaced_by_a_view(rt: HostRuntime) {
 fn spliced_from_both_ends(rt: HostRuntime) {
     let mut v = of::<u8, Lsb0>(&rt, b"01110");
     let mut splice = v.splice(1..4, ok(&rt, vec![in rt.alloc(); false, true, true, false]));
-    check(&rt, [splice.next(), splice.next_back()] == [Some(true); 2]);
+    check(&rt, splice.next() == Some(true));
+    check(&rt, splice.next_back() == Some(true));
     check(&rt, splice.len() == 1);
     ok(&rt, splice.finish());
     holds(&rt, &v, b"001100");
+}
+
+// All that is replaced, taken first.
+#[test]
+fn spliced_after_all_was_taken(rt: HostRuntime) {
+    let mut v = of::<u8, Msb0>(&rt, b"111111111110100100001");
+    let mut splice = v.splice(2..10, Some(false));
+    check(&rt, splice.items().filter(|bit| *bit).count() == 8);
+    ok(&rt, splice.finish());
+    holds(&rt, &v, b"11010100100001");
 }
 
 // Shrinking keeps the capacity.
@@ -96,5 +134,18 @@ fn capacity_is_kept(rt: HostRuntime) {
     check(&rt, v.capacity() >= 80);
     v.clear();
     check(&rt, v.capacity() >= 80);
+    check(&rt, v.is_empty());
+}
+
+/// Nothing is asked where there is no bit.
+#[test]
+fn retained_of_nothing(rt: HostRuntime) {
+    let mut v = of::<u8, Msb0>(&rt, b"");
+    let mut count = 0u8;
+    v.retain(|_, _| {
+        count = count.saturating_add(1);
+        true
+    });
+    check(&rt, count == 0);
     check(&rt, v.is_empty());
 }

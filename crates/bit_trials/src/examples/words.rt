@@ -11,12 +11,28 @@ fn words_are_kept(rt: HostRuntime) {
 }
 
 #[test]
+fn no_words_are_kept(rt: HostRuntime) {
+    let mut v = of_words::<Lsb0>(&rt, &[0xdc]);
+    v.truncate(0);
+    check(&rt, v.into_vec().as_slice() == [].as_slice());
+}
+
+#[test]
 fn limits(rt: HostRuntime) {
     check(&rt, BitVec::<u8, Lsb0>::fits(288230376151711743));
     check(&rt, !BitVec::<u8, Lsb0>::fits(288230376151711744));
     check(&rt, BitVec::<u64, Lsb0>::fits(36028797018963967));
     check(&rt, !BitVec::<u64, Lsb0>::fits(36028797018963968));
     check(&rt, MAX_BITS == 2305843009213693951);
+}
+
+#[test]
+fn past_the_limits(rt: HostRuntime) {
+    check(&rt, !BitVec::<u8, Lsb0>::fits(usize::MAX));
+    check(&rt, !BitVec::<u16, Lsb0>::fits(usize::MAX));
+    check(&rt, !BitVec::<u32, Lsb0>::fits(usize::MAX));
+    check(&rt, !BitVec::<u64, Lsb0>::fits(usize::MAX));
+    check(&rt, !BitVec::<usize, Lsb0>::fits(usize::MAX));
 }
 
 #[test]

@@ -138,3 +138,35 @@ fn numbers_of_four_digits_written(rt: HostRuntime) {
     v.store_signed_le_at(4, 3, -2);
     holds(&rt, &v, b"10000111");
 }
+
+#[test]
+fn two_bits(rt: HostRuntime) {
+    let mut v = of::<u8, Msb0>(&rt, b"01");
+    check(&rt, v.capacity() >= 2);
+    check(&rt, v.get(5) == None);
+    v.set(0, true);
+    holds(&rt, &v, b"11");
+}
+
+#[test]
+fn numbers_of_three_digits(rt: HostRuntime) {
+    let mut v = BitVec::<u8, Lsb0>::new(rt.alloc());
+    ok(&rt, v.push_be(3, 5));
+    ok(&rt, v.push_be(3, 3));
+    ok(&rt, v.push_be(3, 6));
+    shows(&rt, &v, &[0xf5, 0x00]);
+    v.store_be_at(3, 3, 0);
+    shows(&rt, &v, &[0xc5, 0x00]);
+}
+
+// Bits that are mapped.
+#[test]
+fn a_hundred_bits(rt: HostRuntime) {
+    let v = ok(
+        &rt,
+        BitVec::<u16, Msb0>::from_bits(rt.alloc(), (0..100).map(|i| i % 3 == 0)),
+    );
+    check(&rt, v.count_ones() == 34);
+    check(&rt, v.get(66) == Some(true));
+    check(&rt, v.get(65) == Some(false));
+}

@@ -42,6 +42,18 @@ fn growing_commands(rt: HostRuntime) {
 }
 
 #[test]
+fn stopped_at_a_reserve(rt: HostRuntime) {
+    let mut v = BitVec::<u8, Msb0>::new(rt.alloc());
+    let commands = [
+        Command::Push(true),
+        Command::Reserve(usize::MAX),
+        Command::Pop,
+    ];
+    stops(&rt, &mut v, &commands);
+    check(&rt, v.len() == 1);
+}
+
+#[test]
 fn commands_on_words(rt: HostRuntime) {
     let mut v = BitVec::<u8, Msb0>::new(rt.alloc());
     let commands = [
@@ -89,4 +101,15 @@ fn removing_commands(rt: HostRuntime) {
     ];
     results(&rt, &mut v, &commands, &want);
     check(&rt, v.is_empty());
+}
+
+#[test]
+fn stopped_at_a_splice(rt: HostRuntime) {
+    let mut v = BitVec::<u16, Msb0>::new(rt.alloc());
+    let commands = [
+        Command::Push(true),
+        Command::Splice(0, 1, false, usize::MAX),
+    ];
+    stops(&rt, &mut v, &commands);
+    check(&rt, v.len() == 1);
 }

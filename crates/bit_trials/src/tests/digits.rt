@@ -101,3 +101,19 @@ fn text_written_and_read(rt: HostRuntime) {
     let text = ok(&rt, v.to_text(alloc));
     check(&rt, text.as_str() == "0110");
 }
+
+#[test]
+fn no_ranges(rt: HostRuntime) {
+    let v = ok(&rt, BitVec::<u8, Msb0>::from_ranges_text(rt.alloc(), "", 3));
+    holds(&rt, &v, b"000");
+}
+
+#[test]
+fn many_runs_are_kept(rt: HostRuntime) {
+    let mut v = ok(&rt, BitVec::<u16, Lsb0>::repeat(rt.alloc(), false, 150));
+    v.fill_with(|i| i % 2 == 1);
+    v.dedup();
+    check(&rt, v.len() == 150);
+    check(&rt, v.count_ones() == 75);
+    check(&rt, v.get(149) == Some(true));
+}

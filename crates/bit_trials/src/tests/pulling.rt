@@ -74,7 +74,8 @@ fn bits(rt: &(impl Abort + AllocGlobal), n: usize) -> Vec<bool> {
 fn ends_with(rt: &impl Abort, v: &BitVec<u8, Lsb0>, n: usize) {
     assert!(rt; n < 2000);
     assert!(rt; v.len() == n + 2);
-    check(rt, [v.get(0), v.get(1)] == [Some(false), Some(true)]);
+    check(rt, v.get(0) == Some(false));
+    check(rt, v.get(1) == Some(true));
     for i in 0..n {
         check(rt, v.get(2 + i) == Some((n - 1 - i) % 3 == 0));
     }
@@ -133,6 +134,62 @@ fn loose_hints(rt: HostRuntime) {
     }
 }
 
+// Bits by reference: each call but the last one finds one.
+fn bits_counted(rt: &(impl Abort + AllocGlobal), n: usize, bounded: bool) {
+    let mut bits = Loose::of(n, BITS, bounded);
+    if bounded {
+        let mut v = of::<u8, Lsb0>(rt, b"01");
+        ok(rt, v.extend(bits.by_ref()));
+        ends_with(rt, &v, n);
+    } else {
+        let v = ok(
+            rt,
+            BitVec::<u16, Msb0>::from_bits(rt.alloc(), bits.by_ref()),
+        );
+        check(rt, v.len() == n);
+    }
+    check(rt, bits.nones == 1);
+    check(rt, bits.calls.wrapping_sub(1) == n);
+}
+
+// Bits by reference, into a box.
+fn boxed_counted(rt: &(impl Abort + AllocGlobal), n: usize, bounded: bool) {
+    let mut bits = Loose::of(n, BITS, bounded);
+    let b = ok(
+        rt,
+        BitBox::<u16, Msb0>::from_bits(rt.alloc(), bits.by_ref()),
+    );
+    check(rt, b.len() == n);
+    check(rt, bits.nones == 1);
+    check(rt, bits.calls.wrapping_sub(1) == n);
+}
+
+// Words by reference, so too.
+fn words_counted(rt: &(impl Abort + AllocGlobal), n: usize, bounded: bool) {
+    let mut words = Loose::of(n, WORDS, bounded);
+    let mut v = BitVec::<u8, Lsb0>::new(rt.alloc());
+    if bounded {
+        ok(rt, v.extend_words(words.by_ref()));
+    } else {
+        v = ok(rt, BitVec::from_words(rt.alloc(), words.by_ref()));
+    }
+    check(rt, v.len() / 8 == n);
+    check(rt, words.nones == 1);
+    check(rt, words.calls.wrapping_sub(1) == n);
+}
+
+// No call follows the first None, after which there would be more.
+#[test]
+fn calls_counted(rt: HostRuntime) {
+    for n in [0usize, 1, 63, 64, 65, 200] {
+        for bounded in [false, true] {
+            bits_counted(&rt, n, bounded);
+            boxed_counted(&rt, n, bounded);
+            words_counted(&rt, n, bounded);
+        }
+    }
+}
+
 // That a thousand items were pulled and one call more, or fewer where memory was refused.
 fn stopped<X: Copy>(rt: &impl Abort, pulled: &Loose<X>, outcome: Result<(), GrowError>) {
     let (calls, nones) = (pulled.calls, pulled.nones);
@@ -149,43 +206,35 @@ fn stopped<X: Copy>(rt: &impl Abort, pulled: &Loose<X>, outcome: Result<(), Grow
     }
 }
 
-// A vector of two bits that bits are appended to.
-fn appended_until_refused(rt: &(impl Abort + AllocGlobal)) {
+// A vector of two bits appended to, by bits or by words.
+fn appended_until_refused(rt: &(impl Abort + AllocGlobal), by_words: bool) {
     let Ok(mut v) = BitVec::<u8, Lsb0>::from_bits(rt.alloc(), [false, true]) else {
         return;
     };
-    let mut bits = Loose::of(1000, BITS, true);
-    let outcome = v.extend(bits.by_ref());
-    stopped(rt, &bits, outcome);
+    let outcome = if by_words {
+        let mut words = Loose::of(1000, WORDS, false);
+        let outcome = v.extend_words(words.by_ref());
+        stopped(rt, &words, outcome);
+        outcome
+    } else {
+        let mut bits = Loose::of(1000, BITS, true);
+        let outcome = v.extend(bits.by_ref());
+        stopped(rt, &bits, outcome);
+        outcome
+    };
     if outcome.is_err() {
         holds(rt, &v, b"01");
     }
 }
 
-// A vector of two bits that words are appended to.
-fn words_appended_until_refused(rt: &(impl Abort + AllocGlobal)) {
-    let Ok(mut v) = BitVec::<u8, Lsb0>::from_bits(rt.alloc(), [false, true]) else {
-        return;
+// A vector or a box made of bits.
+fn made_until_refused(rt: &(impl Abort + AllocGlobal), boxed: bool) {
+    let mut bits = Loose::of(1000, BITS, true);
+    let outcome = if boxed {
+        BitBox::<u8, Msb0>::from_bits(rt.alloc(), bits.by_ref()).map(|_| ())
+    } else {
+        BitVec::<u8, Msb0>::from_bits(rt.alloc(), bits.by_ref()).map(|_| ())
     };
-    let mut words = Loose::of(1000, WORDS, false);
-    let outcome = v.extend_words(words.by_ref());
-    stopped(rt, &words, outcome);
-    if outcome.is_err() {
-        holds(rt, &v, b"01");
-    }
-}
-
-// A vector made of bits.
-fn made_until_refused(rt: &(impl Abort + AllocGlobal)) {
-    let mut bits = Loose::of(1000, BITS, true);
-    let outcome = BitVec::<u8, Msb0>::from_bits(rt.alloc(), bits.by_ref()).map(|_| ());
-    stopped(rt, &bits, outcome);
-}
-
-// A box made of bits.
-fn boxed_until_refused(rt: &(impl Abort + AllocGlobal)) {
-    let mut bits = Loose::of(1000, BITS, true);
-    let outcome = BitBox::<u8, Msb0>::from_bits(rt.alloc(), bits.by_ref()).map(|_| ());
     stopped(rt, &bits, outcome);
 }
 
@@ -200,11 +249,25 @@ fn made_of_words_until_refused(rt: &(impl Abort + AllocGlobal)) {
 // `rt try --test --fail-alloc N` refuses.
 #[test]
 fn pulled_until_refused(rt: HostRuntime) {
-    appended_until_refused(&rt);
-    words_appended_until_refused(&rt);
-    made_until_refused(&rt);
-    boxed_until_refused(&rt);
+    for other in [false, true] {
+        appended_until_refused(&rt, other);
+        made_until_refused(&rt, other);
+    }
     made_of_words_until_refused(&rt);
+}
+
+// A splice finished at once, or after one bit from either end.
+fn left_early(rt: &(impl Abort + AllocGlobal), way: u8) {
+    let mut v = of::<u16, Msb0>(rt, b"0110100");
+    let mut splice = v.splice(1..5, [true, false]);
+    let right = match way {
+        0 => splice.len() == 4,
+        1 => splice.next() == Some(true),
+        _ => splice.next_back() == Some(true),
+    };
+    ok(rt, splice.finish());
+    check(rt, right);
+    holds(rt, &v, b"01000");
 }
 
 // A splice finished after all of its bits, from the front.
@@ -216,20 +279,40 @@ fn left_after_all(rt: &(impl Abort + AllocGlobal)) {
     holds(rt, &v, b"01000");
 }
 
-// A splice finished after it was asked for more bits than it has.
-fn left_past_an_end(rt: &(impl Abort + AllocGlobal)) {
+// A splice finished after all of its bits, from the end.
+fn left_after_all_from_the_end(rt: &(impl Abort + AllocGlobal)) {
     let mut v = of::<u16, Msb0>(rt, b"0110100");
     let mut splice = v.splice(1..5, [true, false]);
-    check(rt, [splice.nth_back(4), splice.next()] == [None; 2]);
+    check(rt, splice.items().rev().filter(|bit| !*bit).count() == 1);
     ok(rt, splice.finish());
     holds(rt, &v, b"01000");
 }
 
-// Splices finished after all of their bits, and past the end.
+// A splice finished after it was asked for more bits than it has, from the front or from the end.
+fn left_past_an_end(rt: &(impl Abort + AllocGlobal), back: bool) {
+    let mut v = of::<u16, Msb0>(rt, b"0110100");
+    let mut splice = v.splice(1..5, [true, false]);
+    let right = if back {
+        splice.nth_back(4).is_none() && splice.next().is_none()
+    } else {
+        splice.nth(4).is_none() && splice.next_back().is_none()
+    };
+    ok(rt, splice.finish());
+    check(rt, right);
+    holds(rt, &v, b"01000");
+}
+
+// Splices finished after none of their bits, one from either end, all, and past the end.
 #[test]
-fn splices_left_at_the_end(rt: HostRuntime) {
+fn splices_left_early(rt: HostRuntime) {
+    for way in 0..3u8 {
+        left_early(&rt, way);
+    }
     left_after_all(&rt);
-    left_past_an_end(&rt);
+    left_after_all_from_the_end(&rt);
+    for back in [false, true] {
+        left_past_an_end(&rt, back);
+    }
 }
 
 /// Bits that are counted as they are given, also where the iterator is handed over.

@@ -64,7 +64,7 @@ fn gives(
     for row in 0..matrix.rows() {
         let mut odd = false;
         for column in 0..matrix.columns() {
-            odd ^= bit(matrix, row, column) && vector.get(column) == Some(true);
+            odd ^= bit(matrix, row, column) & (vector.get(column) == Some(true));
         }
         check(rt, product.get(row) == Some(odd));
     }

@@ -39,8 +39,13 @@ fn one_bit_written(rt: HostRuntime) {
 #[test]
 fn compared_and_copied(rt: HostRuntime) {
     let ranked = seven(&rt);
-    check(&rt, ok(&rt, ranked.clone()) == ranked);
-    check(&rt, ranked.eq_bits(seven(&rt).as_bitslice()));
+    let copy = ok(&rt, ranked.clone());
+    check(&rt, copy == ranked);
+    check(&rt, copy.eq_bits(ranked.as_bitslice()));
+}
+
+#[test]
+fn converted(rt: HostRuntime) {
     let again = ok(&rt, RankedBits::try_from(seven_in_vec(&rt)));
     check(&rt, BitBox::from(again).as_raw_slice() == [0x68].as_slice());
 }
@@ -82,7 +87,7 @@ fn as_counted(ranked: &RankedBits<u64, Lsb0>) -> bool {
             zeros += 1;
         }
     }
-    ranked.count_ones() == ones && ranked.select1(ones).is_none()
+    (ranked.count_ones() == ones) & ranked.select1(ones).is_none()
 }
 
 #[test]

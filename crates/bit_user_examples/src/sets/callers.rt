@@ -4,7 +4,7 @@ ghost use Rattle.std.specs.List.{filter};
 ghost use Rattle.bit_containers.specs.Making.{filled_up};
 ghost use Rattle.bit_slice.specs.Operators.{or_of};
 ghost use Rattle.bit_slice.specs.Places.{ones_of};
-ghost use Rattle.bit_sets.specs.NumberSet.{IsIn, IsPrime, numbers_between};
+ghost use Rattle.bit_sets.specs.NumberSet.{IsIn, IsPrime};
 
 use bit_addressing::GrowError;
 use bit_sets::NumberSet;
@@ -137,19 +137,4 @@ pub fn counted_of_either(
 {
     let numbers = set.union(other).collect(alloc)?;
     Ok((set.count_union(other), numbers))
-}
-
-/// The count of numbers of a set that are at least a number.
-pub fn counted_from(set: &NumberSet, least: usize) -> usize
-    ensures { result ≡ length (numbers_between set.now least (length set.now)) }
-{
-    set.count_in(least..)
-}
-
-/// A number up to which all were taken out is not in the set.
-pub fn taken_out_up_to(set: &mut NumberSet, last: usize) -> bool
-    ensures { IsTrue result }
-{
-    set.remove_range(..=last);
-    !set.contains(last)
 }

@@ -13,7 +13,7 @@ fn by_loop(
 ) -> Vec<usize> {
     let mut numbers = Vec::new(rt.alloc());
     for number in 0..200 {
-        let kept = match (number % 3 == 0, number % 5 == 1 && number < 140) {
+        let kept = match (number % 3 == 0, (number % 5 == 1) & (number < 140)) {
             (true, true) => both,
             (true, false) => third_alone,
             (false, true) => fifth_alone,

@@ -25,14 +25,6 @@ pub fn toggled_twice(set: &mut NumberSet, number: usize) -> Result<bool, GrowErr
     Ok(set.contains(number))
 }
 
-/// The number that is taken out first is no longer there, and no smaller one was.
-pub fn popped(set: &mut NumberSet) -> Option<bool>
-    ensures { IfSome result (λ there. there ≡ false) }
-{
-    let first = set.pop_first()?;
-    Some(set.contains(first))
-}
-
 /// What is taken out first is what the ascending list begins with.
 pub fn popped_list(set: &mut NumberSet) -> Option<usize>
     ensures { IfSome result (λ first. ones_of set.old ≡ first ∷ ones_of set.new) }
@@ -58,7 +50,7 @@ pub fn equal_lists(alloc: Global, set: &NumberSet, other: &NumberSet) -> Result<
 {
     let numbers = set.members(alloc)?;
     let others = other.members(alloc)?;
-    Ok(numbers == others && set == other)
+    Ok((numbers == others) & (set == other))
 }
 
 /// Equal sets have equal hashes.

@@ -77,10 +77,24 @@ fn four_numbers_copied(rt: HostRuntime) {
     let numbers = four(&rt);
     let copy = ok(&rt, numbers.clone());
     check(&rt, copy == numbers);
+}
+
+#[test]
+fn three_of_four_numbers(rt: HostRuntime) {
     let others = ok(&rt, SortedNumbers::from_slice(rt.alloc(), &[2, 3, 9]));
-    check(&rt, others != numbers);
+    check(&rt, others != four(&rt));
+}
+
+#[test]
+fn four_numbers_shown(rt: HostRuntime) {
+    let numbers = four(&rt);
     let text = ok(&rt, format!(in rt.alloc(); "{numbers:?}"));
     check(&rt, text.as_str() == "[2, 3, 9, 9]");
+}
+
+#[test]
+fn four_numbers_in_a_loop(rt: HostRuntime) {
+    let numbers = four(&rt);
     let mut sum = 0;
     for number in &numbers {
         sum = number.max(sum);

@@ -26,13 +26,6 @@ pub fn first_is_there(numbers: &SortedNumbers, x: u64) -> bool
     }
 }
 
-pub fn place_of_first(numbers: &SortedNumbers, x: u64) -> Option<u64>
-    ensures { IfSome result (λ number. x ≤ number) }
-{
-    let (k, _) = numbers.next_at_least(x)?;
-    numbers.get(k)
-}
-
 pub fn later_is_as_large(numbers: &SortedNumbers, k: usize, later: usize) -> Option<bool>
     requires { k ≤ later }
     ensures { IfSome result (λ larger. IsTrue larger) }

@@ -10,6 +10,18 @@ use bit_containers::BitVec;
 use bit_streams::{BitReader, BitWriter, CodeError, Fields, Number};
 use std::alloc::Global;
 
+/// A number that is written is read.
+pub fn number_back(alloc: Global, x: u64) -> Result<Option<u64>, GrowError>
+    requires { x < 2 ^ 13 }
+    ensures { IfOk result (λ read. read ≡ Some x) }
+{
+    let mut writer = BitWriter::<u8, Msb0>::new(alloc);
+    writer.write(13, x)?;
+    let bits = writer.finish()?;
+    let mut reader = BitReader::new(bits.as_bitslice());
+    Ok(reader.read(13))
+}
+
 /// A kind of three bits and a port of thirteen: written into two bytes, and read from them.
 pub fn there_and_back(
     alloc: Global,

@@ -39,27 +39,14 @@ fn codes_bit_by_bit(rt: HostRuntime) {
     ok(&rt, writer.write_leb128(300));
     let bits = ok(&rt, writer.finish());
     let mut reader = BitReader::new(bits.as_bitslice());
-    check(
-        &rt,
-        [
-            reader.read(4),
-            reader.read(5),
-            reader.read(5),
-            reader.read(4),
-            reader.read(4),
-        ] == [
-            Some(0b0001),
-            Some(0b00110),
-            Some(0b01110),
-            Some(0b0110),
-            Some(0b0111),
-        ],
-    );
+    check(&rt, reader.read(4) == Some(0b0001));
+    check(&rt, reader.read(5) == Some(0b00110));
+    check(&rt, reader.read(5) == Some(0b01110));
+    check(&rt, reader.read(4) == Some(0b0110));
+    check(&rt, reader.read(4) == Some(0b0111));
     check(&rt, reader.align(8) == Some(()));
-    check(
-        &rt,
-        [reader.read(8), reader.read(8)] == [Some(172), Some(2)],
-    );
+    check(&rt, reader.read(8) == Some(172));
+    check(&rt, reader.read(8) == Some(2));
 }
 
 #[test]
@@ -73,23 +60,13 @@ fn bad_codes_are_told_apart(rt: HostRuntime) {
     check(&rt, reader.read_rice(60) == Err(CodeError::TooLong));
     check(&rt, reader.read_delta() == Err(CodeError::TooLong));
     check(&rt, reader.position() == 0);
-    check(
-        &rt,
-        [reader.read_unary(), reader.read_unary()] == [Some(68), None],
-    );
-}
-
-#[test]
-fn a_number_that_is_not_shortest(rt: HostRuntime) {
+    check(&rt, reader.read_unary() == Some(68));
+    check(&rt, reader.read_unary().is_none());
     let mut writer = BitWriter::<u8, Msb0>::new(rt.alloc());
     ok(&rt, writer.write(24, 0x80_80_00));
     let bits = ok(&rt, writer.finish());
     let mut reader = BitReader::new(bits.as_bitslice());
     check(&rt, reader.read_leb128() == Err(CodeError::NotShortest));
-}
-
-#[test]
-fn a_number_that_is_too_long(rt: HostRuntime) {
     let mut writer = BitWriter::<u8, Msb0>::new(rt.alloc());
     for _ in 0..9 {
         ok(&rt, writer.write(8, 0xff));
@@ -133,20 +110,16 @@ fn cut_at_every_bit(rt: HostRuntime) {
     }
 }
 
-// Bytes that go on, read to the end of a number that ends too soon.
+// The bits of a writer, read to the end of a code that ends too soon, or that is of too long a number.
 #[test]
-fn a_number_that_ends_too_soon(rt: HostRuntime) {
+fn each_fault_has_its_error(rt: HostRuntime) {
     let mut writer = BitWriter::<u8, Msb0>::new(rt.alloc());
     ok(&rt, writer.write(16, 0x8080));
     ok(&rt, writer.write(7, 0));
     let bits = ok(&rt, writer.finish());
     let mut reader = BitReader::new(bits.as_bitslice());
     check(&rt, reader.read_leb128() == Err(CodeError::Ended));
-}
-
-// A gamma code of 65, which is too many digits for a number, and then of 64, of which 63 would follow.
-#[test]
-fn faults_of_delta_codes(rt: HostRuntime) {
+    // A gamma code of 65, which is too many digits for a number, and then of 64, of which 63 would follow.
     let mut writer = BitWriter::<u8, Msb0>::new(rt.alloc());
     ok(&rt, writer.write_gamma(65));
     ok(&rt, writer.write_gamma(64));
@@ -157,11 +130,7 @@ fn faults_of_delta_codes(rt: HostRuntime) {
     check(&rt, reader.read_gamma() == Ok(65));
     check(&rt, reader.read_delta() == Err(CodeError::Ended));
     check(&rt, reader.position() == 13);
-}
-
-// The quotient 1 by 2 to the power 63 and the rest 2 to the power 62, and the quotient 2.
-#[test]
-fn faults_of_golomb_codes(rt: HostRuntime) {
+    // The quotient 1 by 2 to the power 63 and the rest 2 to the power 62, and the quotient 2.
     let mut writer = BitWriter::<u64, Lsb0>::new(rt.alloc());
     ok(&rt, writer.write_golomb(1 << 63, (1 << 63) + (1 << 62)));
     ok(&rt, writer.write_unary(2));

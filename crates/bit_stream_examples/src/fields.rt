@@ -77,13 +77,32 @@ fn a_header_there_and_back(rt: HostRuntime) {
 }
 
 #[test]
-fn a_reserved_flag_has_a_name(rt: HostRuntime) {
+fn reserved_values_have_names(rt: HostRuntime) {
+    let bytes = [0x65u8; 20];
+    let mut reader = BitReader::new(BitSlice::<u8, Msb0>::from_slice(&bytes));
+    check(
+        &rt,
+        Header::read_checked(&mut reader) == Err(HeaderFault::Version),
+    );
+    let bytes = [0x46u8; 20];
+    let mut reader = BitReader::new(BitSlice::<u8, Msb0>::from_slice(&bytes));
+    check(
+        &rt,
+        Header::read_checked(&mut reader) == Err(HeaderFault::Options),
+    );
     let mut bytes = [0x45u8; 20];
     bytes[6] = 0x80;
     let mut reader = BitReader::new(BitSlice::<u8, Msb0>::from_slice(&bytes));
-    let read = Header::read_checked(&mut reader);
-    check(&rt, read == Err(HeaderFault::ReservedFlag));
+    check(
+        &rt,
+        Header::read_checked(&mut reader) == Err(HeaderFault::ReservedFlag),
+    );
     check(&rt, Header::read(&mut reader).is_none());
+    let mut reader = BitReader::new(BitSlice::<u8, Msb0>::from_slice(&bytes[..19]));
+    check(
+        &rt,
+        Header::read_checked(&mut reader) == Err(HeaderFault::Ended),
+    );
     check(&rt, reader.position() == 0);
 }
 

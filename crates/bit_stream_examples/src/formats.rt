@@ -17,29 +17,19 @@ const BYTES: [u8; 20] = [
 #[test]
 fn a_header_is_read(rt: HostRuntime) {
     let header = ok(&rt, header_of(BYTES.as_slice()));
-    check(
-        &rt,
-        [
-            header.version,
-            header.header_words,
-            header.service,
-            header.congestion,
-            header.total_length,
-            header.identification,
-            header.flags,
-            header.fragment_offset,
-        ] == [4, 5, 0, 0, 115, 0, 2, 0],
-    );
-    check(
-        &rt,
-        [
-            header.time_to_live,
-            header.protocol,
-            header.checksum,
-            header.source,
-            header.destination,
-        ] == [64, 17, 0xb861, 0xc0a80001, 0xc0a800c7],
-    );
+    check(&rt, header.version == 4);
+    check(&rt, header.header_words == 5);
+    check(&rt, header.service == 0);
+    check(&rt, header.congestion == 0);
+    check(&rt, header.total_length == 115);
+    check(&rt, header.identification == 0);
+    check(&rt, header.flags == 2);
+    check(&rt, header.fragment_offset == 0);
+    check(&rt, header.time_to_live == 64);
+    check(&rt, header.protocol == 17);
+    check(&rt, header.checksum == 0xb861);
+    check(&rt, header.source == 0xc0a80001);
+    check(&rt, header.destination == 0xc0a800c7);
 }
 
 #[test]
@@ -79,6 +69,11 @@ fn a_header_is_written(rt: HostRuntime) {
 }
 
 #[test]
+fn the_bits_of_a_header(rt: HostRuntime) {
+    check(&rt, again(&rt, &BYTES).len() == 20);
+}
+
+#[test]
 fn lists_as_bytes(rt: HostRuntime) {
     let mut bits = ok(&rt, BitVec::<u16, Lsb0>::repeat(rt.alloc(), true, 10));
     assert!(rt; bits.len() == 10);
@@ -99,9 +94,14 @@ fn lists_as_bytes(rt: HostRuntime) {
 }
 
 #[test]
-fn bytes_of_the_empty_list(rt: HostRuntime) {
+fn bytes_of_one_list(rt: HostRuntime) {
+    let bits = ok(&rt, BitVec::<u16, Lsb0>::repeat(rt.alloc(), true, 10));
+    let bytes = ok(&rt, listed(rt.alloc(), &bits)).into_vec();
+    let again = ok(&rt, listed(rt.alloc(), &bits)).into_vec();
+    check(&rt, bytes.as_slice() == again.as_slice());
     let none = BitVec::<u8, Msb0>::new(rt.alloc());
     let empty = ok(&rt, listed(rt.alloc(), &none)).into_vec();
+    check(&rt, bytes.as_slice() != empty.as_slice());
     check(&rt, empty.as_slice() == [0; 8].as_slice());
 }
 

@@ -1,11 +1,13 @@
 //! Callers of the searches, indices, parts and changes of views.
-ghost use Rattle.std.specs.Prelude.{◌≡◌, ℕ, ◌+◌, ◌-◌, ◌*◌, ◌/◌, ◌%◌, ◌<◌, ◌≤◌, ◌↔◌, ◌++◌, eqb, EachIndex, slice_range, IfOk, IfSome, IsTrue, Some, count_by, drop, false, length, map, not, replicate, reverse, slice_get, sum, take, true};
+ghost use Rattle.std.specs.Prelude.{◌≡◌, ℕ, ◌+◌, ◌-◌, ◌*◌, ◌/◌, ◌%◌, ◌<◌, ◌≤◌, ◌↔◌, ◌++◌, eqb, EachIndex, slice_range, IfOk, IfSome, IsTrue, Some, count_by, drop, false, length, map, not, replicate, reverse, set, slice_get, sum, take, true};
 ghost use Rattle.std.specs.List.{range_with_len};
 ghost use Rattle.std.specs.Option.{option_map};
 ghost use Rattle.std.specs.String.{string_bytes};
 ghost use Rattle.bit_addressing.specs.Binary.{value};
 ghost use Rattle.bit_addressing.specs.Row.{binary, put};
 ghost use Rattle.bit_addressing.specs.Text.{digit_of};
+ghost use Rattle.bit_addressing.specs.Typed.{row};
+ghost use Rattle.bit_addressing.specs.declared.length.TheConstants.{MAX_BITS};
 ghost use Rattle.bit_slice.specs.Operators.{and_of, or_of};
 ghost use Rattle.bit_slice.specs.BitRuns.{ranges_of, runs_of};
 ghost use Rattle.bit_slice.specs.BitSlice.{head_of, len_of, list_of, words_of, IsPlaced};
@@ -675,4 +677,18 @@ pub fn first_part<T: BitStore, O: BitOrder>(view: BitSlice<'_, T, O>) -> Option<
     ensures { IfSome result (λ part. list_of part ≡ slice_range (list_of view.entry) 0 (0 + len_of part)) }
 {
     view.split(|_, bit| bit).next()
+}
+
+// Sets bit 4, clears bit 5, and returns what bit 4 was.
+pub fn set_two<T: BitStore, O: BitOrder>(words: &mut [T]) -> bool
+    requires some { 5 < T.BITS * length words.old }
+    requires fits { T.BITS * length words.old ≤ MAX_BITS }
+    ensures read { slice_get (row T.BitStore O.BitOrder words.old) 4 ≡ Some result }
+    ensures words { row T.BitStore O.BitOrder words.new
+        ≡ set (set (row T.BitStore O.BitOrder words.old) 4 true) 5 false }
+{
+    let mut view = BitSliceMut::<T, O>::from_slice_mut(words);
+    let old = view.replace(4, true);
+    view.set(5, false);
+    old
 }

@@ -7,16 +7,17 @@ use Rattle.std.proofs.lemmas.List.{ext_get_or, places, same_lists, length-append
 use Rattle.std.proofs.lemmas.List.FromFn.{get_or-map-range_with_len}
 use Rattle.std.proofs.lemmas.Nat.Bits.{bit_at_ones, bit_at_ones_above, ones_shr}
 use Rattle.bit_addressing.specs.Bits.{has_bit}
+use Rattle.bit_addressing.specs.Order.{IsPermutation}
 use Rattle.bit_addressing.specs.Row.{number_bits, put, row_of}
 use Rattle.std.proofs.Common.{◌≢◌, mul_comm}
-use Rattle.std.proofs.Math.Nat.{mod-lt}
+use Rattle.std.proofs.Math.Nat.{div-add-mod, mod-lt}
 use Rattle.std.proofs.lemmas.Nat.{div-add-mod'}
 use Rattle.bit_addressing.specs.Row.{sized, words_for}
 use Rattle.bit_rows.proofs.Binary.{length-number_bits}
-use Rattle.bit_addressing.proofs.Runs.{mul_mono}
+use Rattle.bit_addressing.proofs.Runs.{mul_mono, slice_repeated}
 use Rattle.bit_addressing.proofs.lists.Sized.{one_more_word, room, sized_more, words_even, words_for_le, words_odd}
 use Rattle.bit_addressing.proofs.Words.{has_and, has_shr_low, has_shl_high}
-use Rattle.bit_addressing.proofs.Rows.{length-row_of, get_or-row_one}
+use Rattle.bit_addressing.proofs.Rows.{length-row_of, get_or-row_one, row_repeated}
 use Rattle.bit_addressing.proofs.lists.Shown.{get_or-run, length-run}
 
 -- bits put over the last of a list, and others after it
@@ -130,3 +131,26 @@ part_word place w v made x n positive small within narrowed ordered =
           let none : has_bit (2 ^ n - 1) i ≡ false = ap (λ m. eqb m 1) (bit_at_ones_above n i l) in
           rw none (and-false (has_bit x i) ∙ sym (get_or-append_right (number_bits x n) (replicate (w - n) false) n i false first l ∙ get_or-replicate (w - n) (i - n) false false (omega arith)))
     ])
+
+-- a part of a word whose bits are all the same
+pub part_repeated : (place : ℕ → ℕ → ℕ) (w v low high n : ℕ) (b : Bool) → 0 < w → IsPermutation w (place w) → ((p : ℕ) → p < w → has_bit v p ≡ b)
+    → high ≤ w → high - low ≡ n → slice_range (row_of place w (v ∷ [])) low high ≡ replicate n b
+part_repeated place w v low high n b positive lawful bits fits size =
+    slice_repeated (row_of place w (v ∷ [])) w low high n b (row_repeated place w v b positive lawful bits) fits size
+
+-- bits of which the first lies in the last of k words, or at their end, and that end in it, lie in one word
+pub in_one_word : (w k from upto : ℕ) → 0 < w → w * k < from + w → upto ≤ w * k → from % w + (upto - from) ≤ w
+in_one_word w k from upto positive begins ends =
+    let q : ℕ = from / w in
+    let parts : w * q + from % w ≡ from = div-add-mod from w in
+    let rest : from % w < w = mod-lt from positive in
+    elim (cases_lt k (q + 2)) [
+      | inl h ↦
+          let most : w * k ≤ w * (q + 1) = rw (mul_comm w k, mul_comm w (q + 1)) (mul_mono k (q + 1) w (omega arith)) in
+          let next : w * (q + 1) ≡ w * q + w = omega arith in
+          omega arith
+      | inr h ↦
+          let least : w * (q + 2) ≤ w * k = rw (mul_comm w k, mul_comm w (q + 2)) (mul_mono (q + 2) k w h) in
+          let next : w * (q + 2) ≡ w * q + w + w = omega arith in
+          absurd (omega arith)
+    ]

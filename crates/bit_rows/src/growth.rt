@@ -1,10 +1,10 @@
 //! Words grown or cut to a number of bits.
-ghost use Rattle.std.specs.Prelude.{◌≡◌, ◌+◌, ◌-◌, ◌*◌, ◌^◌, ◌<◌, ◌≤◌, ◌++◌, [], ◌∷◌, false, length, replicate, take, OnOk, OnErr, vec_capacity};
+ghost use Rattle.std.specs.Prelude.{◌≡◌, ◌+◌, ◌-◌, ◌*◌, ◌%◌, ◌^◌, ◌<◌, ◌≤◌, ◌++◌, [], ◌∷◌, false, length, replicate, take, OnOk, OnErr, vec_capacity};
 ghost use Rattle.bit_addressing.specs.Row.{binary, number_bits, words_for, put, sized};
 ghost use Rattle.bit_addressing.specs.Typed.{row};
 
-use crate::vectors::{fill_bits_in_vec, write_chunk_in_vec};
-use bit_addressing::inner::{blend, repeated};
+use crate::vectors::write_chunk_in_vec;
+use bit_addressing::inner::{blend, in_word, repeated};
 use bit_addressing::{BitEnd, BitIdx, BitOrder, BitStore, elts};
 use std::alloc::AllocError;
 use std::mem::replace;
@@ -43,8 +43,8 @@ pub fn resize_words_in_vec<T: BitStore, O: BitOrder>(
 }
 
 // Appends words whose bits are all `bit` until there are `count`. Allocates, and can fail, only where the capacity is
-// too small. Requires that there are no more than `count`. Each of the two words is known to the compiler, which then
-// fills memory by one call (docs/TUNING.md, resize).
+// too small. Requires that there are no more than `count`. One word is pushed without a loop; of more, each of the two
+// words is known to the compiler, which then fills memory by one call (docs/TUNING.md, resize).
 #[inline(always)]
 fn grow_words_by_bit<T: BitStore, O: BitOrder>(
     words: &mut Vec<T>,
@@ -61,12 +61,37 @@ fn grow_words_by_bit<T: BitStore, O: BitOrder>(
     ensures unchanged { OnErr result (words.new.items ≡ words.old.items) }
 {
     let more = count - words.len();
-    if bit {
+    if more == 1 {
+        push_word(words, repeated::<T>(bit))?;
+    } else if bit {
         push_words(words, more, repeated::<T>(true))?;
     } else {
         push_words(words, more, repeated::<T>(false))?;
     }
     Ok(())
+}
+
+// Like `fill_bits`, in one word of a vector. Requires that the word has all of these bits.
+#[inline(always)]
+fn fill_in_word<T: BitStore, O: BitOrder>(words: &mut Vec<T>, from: usize, upto: usize, bit: bool)
+    requires ordered { from ≤ upto }
+    requires within { upto ≤ T.BITS * length words.old.items }
+    requires one { from % T.BITS + (upto - from) ≤ T.BITS }
+    ensures bits { row T.BitStore O.BitOrder words.new.items
+        ≡ put (row T.BitStore O.BitOrder words.old.items) from (replicate (upto - from) bit) }
+    ensures size { length words.new.items ≡ length words.old.items }
+    ensures capacity { vec_capacity words.new ≡ vec_capacity words.old }
+{
+    if from == upto {
+        return;
+    }
+    let (k, low) = in_word::<T>(from);
+    let mask = O::mask(
+        BitIdx::<T>::new_unchecked(low),
+        BitEnd::<T>::new_unchecked(low + (upto - from) as u8),
+    );
+    let old = words[k];
+    words[k] = blend(old, repeated::<T>(bit), mask);
 }
 
 /// Appends words up to those for `upto` bits, and writes `bit` over the bits from `end` up to `upto`, each word
@@ -99,13 +124,13 @@ pub fn append_run_in_vec<T: BitStore, O: BitOrder>(
 {
     let (count, old) = (elts::<T>(upto), words.len());
     if count == old {
-        fill_bits_in_vec::<T, O>(words, end, upto, bit);
+        fill_in_word::<T, O>(words, end, upto, bit);
         return Ok(());
     }
     let width = T::BITS as usize;
     grow_words_by_bit::<T, O>(words, count, bit)?;
-    fill_bits_in_vec::<T, O>(words, end, width * old, bit);
-    fill_bits_in_vec::<T, O>(words, upto, width * count, false);
+    fill_in_word::<T, O>(words, end, width * old, bit);
+    fill_in_word::<T, O>(words, upto, width * count, false);
     Ok(())
 }
 

@@ -1,12 +1,12 @@
 //! The calls on words that lie in a vector, which keeps its capacity.
-ghost use Rattle.std.specs.Prelude.{◌≡◌, ◌+◌, ◌-◌, ◌*◌, ◌%◌, ◌^◌, ◌<◌, ◌≤◌, length, replicate, slice_range, set, vec_capacity};
+ghost use Rattle.std.specs.Prelude.{◌≡◌, ◌+◌, ◌-◌, ◌*◌, ◌%◌, ◌^◌, ◌<◌, ◌≤◌, length, slice_range, set, vec_capacity};
 ghost use Rattle.bit_addressing.specs.Row.{filled, moved, number_bits, put, touched};
 ghost use Rattle.bit_addressing.specs.declared.length.TheConstants.{MAX_BITS};
 ghost use Rattle.bit_addressing.specs.Typed.{row};
 
 use crate::chunks::write_chunk;
 use crate::copies::copy_bits;
-use crate::single::{fill_bits, fill_outside, write_bit};
+use crate::single::{fill_outside, write_bit};
 use bit_addressing::{BitEnd, BitIdx, BitOrder, BitStore, Meter, move_bits, move_bits_counted};
 
 /// Like `write_bit`, in the words of a vector.
@@ -17,23 +17,6 @@ pub fn write_bit_in_vec<T: BitStore, O: BitOrder>(words: &mut Vec<T>, at: usize,
     ensures capacity { vec_capacity words.new ≡ vec_capacity words.old }
 {
     write_bit::<T, O>(words.as_mut_slice(), at, bit);
-}
-
-// Like `fill_bits`, in the words of a vector.
-pub(crate) fn fill_bits_in_vec<T: BitStore, O: BitOrder>(
-    words: &mut Vec<T>,
-    from: usize,
-    upto: usize,
-    bit: bool,
-)
-    requires ordered { from ≤ upto }
-    requires within { upto ≤ T.BITS * length words.old.items }
-    ensures bits { row T.BitStore O.BitOrder words.new.items
-        ≡ put (row T.BitStore O.BitOrder words.old.items) from (replicate (upto - from) bit) }
-    ensures size { length words.new.items ≡ length words.old.items }
-    ensures capacity { vec_capacity words.new ≡ vec_capacity words.old }
-{
-    fill_bits::<T, O>(words.as_mut_slice(), from, upto, bit);
 }
 
 /// Like `fill_outside`, in the words of a vector.

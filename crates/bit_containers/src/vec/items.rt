@@ -3,6 +3,9 @@ ghost use Rattle.std.specs.Prelude.{◌≡◌, length};
 
 use bit_addressing::{BitOrder, BitStore, Lsb0};
 use bit_slice::Iter;
+use bit_slice::inner::write_list;
+use std::alloc::AllocError;
+use std::fmt;
 use std::iter::FusedIterator;
 
 /// The replaced bits that a `Splice` had left, from both ends, each once.
@@ -73,3 +76,28 @@ impl<'b, T: BitStore, O: BitOrder> ExactSizeIterator for Items<'b, T, O> {
 }
 
 impl<'b, T: BitStore, O: BitOrder> FusedIterator for Items<'b, T, O> {}
+
+impl<'b, T: BitStore, O: BitOrder> Clone for Items<'b, T, O> {
+    ghost use Rattle.std.specs.Prelude.{⊤};
+    ghost use Rattle.bit_containers.specs.Items.{items_rest};
+
+    ghost is_clone = { λ a b. items_rest b ≡ items_rest a };
+
+    ghost is_infallible = { λ _. ⊤ };
+
+    /// The same iterator, with the same left. Takes no memory.
+    fn clone(&self) -> Result<Self, AllocError> {
+        Ok(Items {
+            inner: self.inner.clone()?,
+        })
+    }
+}
+
+/// `Items(`, the text of the bits that are left, and `)`.
+impl<'b, T: BitStore, O: BitOrder> fmt::Debug for Items<'b, T, O> {
+    fn fmt<W: fmt::Write>(&self, f: &mut fmt::Formatter<W>) -> fmt::Result {
+        f.write_str("Items(")?;
+        write_list(self.inner.as_bitslice(), f)?;
+        f.write_str(")")
+    }
+}

@@ -3,6 +3,7 @@ ghost use Rattle.std.specs.Prelude.{◌≡◌, ℕ, ◌+◌, ◌-◌, ◌^◌, �
 
 use bit_containers::{BitOrder, BitStore, GrowError};
 use bit_records::Records;
+use std::alloc::AllocError;
 
 pub fn second_of_three<T: BitStore, O: BitOrder>(
     records: &mut Records<T, O>,
@@ -88,4 +89,14 @@ pub fn one_if_any<T: BitStore, O: BitOrder>(
     ensures none { OnErr result (records.new.list ≡ records.old.list) }
 {
     records.extend(number)
+}
+
+/// A copy of the iterator has as many numbers left.
+pub fn counted_in_a_copy<T: BitStore, O: BitOrder>(
+    records: &Records<T, O>,
+) -> Result<usize, AllocError>
+    ensures { IfOk result (λ count. count ≡ length records.now.list) }
+{
+    let numbers = records.iter();
+    Ok(numbers.clone()?.len())
 }

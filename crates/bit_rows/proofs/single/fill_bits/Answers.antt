@@ -3,10 +3,11 @@ use Rattle.bit_addressing.specs.Bits.{has_bit}
 use Rattle.bit_addressing.specs.Row.{put, row_of}
 use Rattle.bit_addressing.specs.Typed.{row}
 use Rattle.bit_addressing.proofs.lists.Put.{put_none}
-use Rattle.bit_addressing.proofs.Runs.{filled_next, slice_repeated, inner, mul_mono}
+use Rattle.bit_addressing.proofs.Runs.{filled_next, inner, mul_mono}
 use Rattle.bit_addressing.proofs.lists.Sized.{one_more_word}
 use Rattle.bit_addressing.proofs.Rows.{width_positive, row_repeated}
 use Rattle.bit_addressing.proofs.Typed.{length_row, row_replaced}
+use Rattle.bit_rows.proofs.Grown.{part_repeated}
 use Rattle.bit_rows.proofs.single.fill_bits.Given as given
 use Rattle.bit_rows.proofs.single.fill_bits.Goals as goal
 
@@ -20,7 +21,7 @@ full : (g : given.Over) (x : ℕ) (b : Bool) → ((p : ℕ) → p < g.T.BitStore
 full g x b bits = row_repeated g.O.BitOrder.place g.T.BitStore.BITS x b (width_positive g.T.BitStore.BITS g.met.T.BitStore.width) (g.met.O.BitOrder.lawful g.T.BitStore.BITS g.met.T.BitStore.width) bits
 
 part : (g : given.Over) (x low high n : ℕ) (b : Bool) → ((p : ℕ) → p < g.T.BitStore.BITS → has_bit x p ≡ b) → high ≤ g.T.BitStore.BITS → high - low ≡ n → slice_range (row_of g.O.BitOrder.place g.T.BitStore.BITS (x ∷ [])) low high ≡ replicate n b
-part g x low high n b bits fits size = slice_repeated (row_of g.O.BitOrder.place g.T.BitStore.BITS (x ∷ [])) g.T.BitStore.BITS low high n b (full g x b bits) fits size
+part g x low high n b bits fits size = part_repeated g.O.BitOrder.place g.T.BitStore.BITS x low high n b (width_positive g.T.BitStore.BITS g.met.T.BitStore.width) (g.met.O.BitOrder.lawful g.T.BitStore.BITS g.met.T.BitStore.width) bits fits size
 
 pub write_part-requires-clause-word : goal.write_part-requires-clause-word
 write_part-requires-clause-word g c = let inside = c.of-first.ensures.inside (length c.args.words.now) c.requires.within in omega arith

@@ -119,7 +119,7 @@ other_after xs i bit some inside before begins =
     ∙ other_items (get_or xs (suc (i - 1)) false) (get_or xs (i - 1) false) (sym (item_of_edges xs (i - 1) (omega arith)) ∙ ap (λ j. get_or (edges_of xs) j false) e ∙ begins)
     ∙ ap not before
 
-not_not : (b : Bool) → not (not b) ≡ b
+pub not_not : (b : Bool) → not (not b) ≡ b
 not_not true = refl
 not_not false = refl
 

@@ -114,6 +114,9 @@ impl<'a, T: BitStore, O: BitOrder> BitSlice<'a, T, O> {
         requires before { slice_index_or (list_of self) (at - 1) false ≡ before }
         ensures { IsChunk (edges_of (list_of self.entry)) at (at + 64) result }
     {
+        if self.is_block_of(at, before) {
+            return 0;
+        }
         steps(self.block_at(at), before)
     }
 
@@ -138,7 +141,7 @@ impl<'a, T: BitStore, O: BitOrder> BitSlice<'a, T, O> {
         }
     }
 
-    // Like `edges_from`, where up to 512 bits are read by blocks before the next one that differs is searched. Requires
+    // Like `edges_from`, where up to 1024 bits are read by blocks before the next one that differs is searched. Requires
     // that a block begins at index `at`, if bits are left.
     #[inline(always)]
     fn edges_near(self, at: usize, before: bool) -> (usize, usize, u64)
@@ -153,7 +156,7 @@ impl<'a, T: BitStore, O: BitOrder> BitSlice<'a, T, O> {
         ensures none { result.2 ≡ 0 → result.0 ≡ len_of self.entry }
     {
         let mut end = at;
-        let near = (self.len - at).min(512);
+        let near = (self.len - at).min(1024);
         'turns: while end - at + 64 <= near {
             let chunk = self.edges_of_block(end, before);
             if chunk != 0 {

@@ -54,6 +54,18 @@ impl<'a, T: BitStore, O: BitOrder> BitSlice<'a, T, O> {
         read_block::<T, O>(self.words, self.head + at)
     }
 
+    // Whether the 64 bits from index `at` on are all `bit`: their words are compared as they lie, and turned round in no
+    // order. Requires that a block begins there.
+    #[inline(always)]
+    pub(crate) fn is_block_of(self, at: usize, bit: bool) -> bool
+        requires begins { (head_of self + at) % 64 ≡ 0 }
+        requires inside { at + 64 ≤ len_of self }
+        ensures { IsTrue result → IsAbsent (not bit) (list_of self.entry) at (at + 64) }
+    {
+        let all = if bit { u64::MAX } else { 0 };
+        O::pack(self.words, (self.head + at) / T::BITS as usize) == all
+    }
+
     // Like `chunk_with_one`, where the first bits are searched by the call that finds a bit.
     #[inline(never)]
     fn chunk_found(self, at: usize, upto: usize) -> (usize, usize, u64)

@@ -36,6 +36,7 @@ pub mod Halved
 pub mod Numbered
 pub mod BitRuns
 pub mod Swapped
+pub mod Assigned
 pub mod Masking
 pub mod Pairs
 pub mod Multiples

@@ -73,6 +73,19 @@ item_combined f (x ∷ xs) [] (suc j) h = item_combined f xs [] j (omega arith)
 item_combined f (x ∷ xs) (y ∷ ys) zero h = refl
 item_combined f (x ∷ xs) (y ∷ ys) (suc j) h = item_combined f xs ys j (omega arith)
 
+-- a part of a combination is the combination of the parts
+pub part_combined : (f : Bool → Bool → Bool) (xs ys : List Bool) (lo n : ℕ) → lo + n ≤ length xs → combined f (slice_range xs lo (lo + n)) (slice_range ys lo (lo + n)) ≡ slice_range (combined f xs ys) lo (lo + n)
+part_combined f xs ys lo n inside =
+    let whole = length-combined f xs ys in
+    let left : length (slice_range xs lo (lo + n)) ≡ n = length-run xs lo n inside in
+    let made = length-combined f (slice_range xs lo (lo + n)) (slice_range ys lo (lo + n)) in
+    let part : length (slice_range (combined f xs ys) lo (lo + n)) ≡ n = length-run (combined f xs ys) lo n (omega arith) in
+    ext_get_or false _ _ (made ∙ left ∙ sym part) (λ i h.
+    let below : i < n = omega arith in
+    item_combined f (slice_range xs lo (lo + n)) (slice_range ys lo (lo + n)) i (omega arith)
+    ∙ ap (λ x. f x (get_or (slice_range ys lo (lo + n)) i false)) (get_or-run xs lo n i below) ∙ ap (f (get_or xs (lo + i) false)) (get_or-run ys lo n i below)
+    ∙ sym (item_combined f xs ys (lo + i) (omega arith)) ∙ sym (get_or-run (combined f xs ys) lo n i below))
+
 -- and-not clears where the other list has a one
 pub cleared_where : (xs ys : List Bool) (j : ℕ) → slice_get ys j ≡ Some true → j < length xs → slice_get (and_not_of xs ys) j ≡ Some false
 cleared_where xs ys j set h =

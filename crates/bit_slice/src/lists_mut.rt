@@ -16,14 +16,15 @@ ghost use Rattle.bit_slice.specs.Lists.{lends_to, BecomesWhole, Stays};
 ghost use Rattle.bit_slice.specs.Masked.{deposited, masked};
 ghost use Rattle.bit_slice.specs.Operators.{and_not_of, and_of, combined, or_of, part_onto, xor_of, AndsEach, OrsEach, XorsEach, CombinesEach, FlipsEach};
 ghost use Rattle.bit_slice.specs.Overwritten.{list_in, StaysBefore, StaysFrom};
+ghost use Rattle.bit_slice.specs.Written.{AndNotsEach};
 ghost use Rattle.bit_slice.specs.Signed.{IsSigned, signed_binary, signed_bits, signed_of};
 
 use crate::edits::{AndNot, copy_masked, deposit_masked, fill_by, map_numbers};
 use crate::lists::BitList;
 use crate::over::{
-    combine_over, combine_range_over, combine_within_over, copy_into_over, copy_over, fill_over,
-    fill_range_over, flip_range_over, move_within_over, reverse_over, rotate_over, set_over,
-    shift_left_over, shift_right_over, store_be_at_over, store_be_over, store_le_at_over,
+    assign_over, combine_over, combine_range_over, combine_within_over, copy_into_over, copy_over,
+    fill_over, fill_range_over, flip_range_over, move_within_over, reverse_over, rotate_over,
+    set_over, shift_left_over, shift_right_over, store_be_at_over, store_be_over, store_le_at_over,
     store_le_over, swap_over,
 };
 use crate::slice::BitSlice;
@@ -778,6 +779,132 @@ pub trait BitListMut: BitList {
     {
         let (head, len) = (self.head(), self.len());
         copy_over::<Self::Store, Self::Order, U, P>(self.as_raw_mut_slice(), head, len, source);
+    }
+
+    /// Writes what `F` makes of each bit of one view and the bit of another for it, in one pass. A view may be a part, so
+    /// either side may be shifted. No dead bit changes. Takes no memory. Requires that both views have as many bits as
+    /// the list.
+    ///
+    /// ```text
+    /// of 0000, 0101 and 0011: bits.assign::<Xor, u8, Lsb0, u8, Lsb0>(left, right) leaves 0110
+    /// ```
+    #[tactic(auto, using(crate::proofs::Rules::item_of_combined))]
+    final fn assign<F: BitOperator, U: BitStore, P: BitOrder, V: BitStore, Q: BitOrder>(
+        &mut self,
+        left: BitSlice<'_, U, P>,
+        right: BitSlice<'_, V, Q>,
+    )
+        requires left { len_of left ≡ Self.len self.old }
+        requires right { len_of right ≡ Self.len self.old }
+        ensures list { Self.list self.new ≡ combined F.made (list_of left.entry) (list_of right.entry) }
+        ensures index { CombinesEach F.made (list_of left.entry) (list_of right.entry) (Self.list self.new) }
+        ensures row { Self.bits self.new
+            ≡ put (Self.bits self.old) (Self.head self.old) (combined F.made (list_of left.entry) (list_of right.entry)) }
+        ensures whole { BecomesWhole Self.Store.BITS Self.head Self.len count Self.bits self.old self.new
+            (combined F.made (list_of left.entry) (list_of right.entry)) }
+        ensures clean { StaysClean Self.Store.BITS Self.head Self.bits Self.list self.old self.new }
+        ensures stays { Stays Self.head Self.len count capacity loan self.old self.new }
+    {
+        let (head, len) = (self.head(), self.len());
+        assign_over::<F, Self::Store, Self::Order, U, P, V, Q>(
+            self.as_raw_mut_slice(),
+            head,
+            len,
+            left,
+            right,
+        );
+    }
+
+    /// Writes which bits are true in both of two views. Like `assign`.
+    ///
+    /// ```text
+    /// of 0000, 0101 and 0011: bits.assign_and(left, right) leaves 0001
+    /// ```
+    final fn assign_and<U: BitStore, P: BitOrder, V: BitStore, Q: BitOrder>(
+        &mut self,
+        left: BitSlice<'_, U, P>,
+        right: BitSlice<'_, V, Q>,
+    )
+        requires left { len_of left ≡ Self.len self.old }
+        requires right { len_of right ≡ Self.len self.old }
+        ensures list { Self.list self.new ≡ and_of (list_of left.entry) (list_of right.entry) }
+        ensures index { AndsEach (list_of left.entry) (list_of right.entry) (Self.list self.new) }
+        ensures row { Self.bits self.new ≡ put (Self.bits self.old) (Self.head self.old) (and_of (list_of left.entry) (list_of right.entry)) }
+        ensures whole { BecomesWhole Self.Store.BITS Self.head Self.len count Self.bits self.old self.new
+            (and_of (list_of left.entry) (list_of right.entry)) }
+        ensures clean { StaysClean Self.Store.BITS Self.head Self.bits Self.list self.old self.new }
+        ensures stays { Stays Self.head Self.len count capacity loan self.old self.new }
+    {
+        self.assign::<And, U, P, V, Q>(left, right);
+    }
+
+    /// Writes which bits are true in either of two views. Like `assign`.
+    ///
+    /// ```text
+    /// of 0000, 0101 and 0011: bits.assign_or(left, right) leaves 0111
+    /// ```
+    final fn assign_or<U: BitStore, P: BitOrder, V: BitStore, Q: BitOrder>(
+        &mut self,
+        left: BitSlice<'_, U, P>,
+        right: BitSlice<'_, V, Q>,
+    )
+        requires left { len_of left ≡ Self.len self.old }
+        requires right { len_of right ≡ Self.len self.old }
+        ensures list { Self.list self.new ≡ or_of (list_of left.entry) (list_of right.entry) }
+        ensures index { OrsEach (list_of left.entry) (list_of right.entry) (Self.list self.new) }
+        ensures row { Self.bits self.new ≡ put (Self.bits self.old) (Self.head self.old) (or_of (list_of left.entry) (list_of right.entry)) }
+        ensures whole { BecomesWhole Self.Store.BITS Self.head Self.len count Self.bits self.old self.new
+            (or_of (list_of left.entry) (list_of right.entry)) }
+        ensures clean { StaysClean Self.Store.BITS Self.head Self.bits Self.list self.old self.new }
+        ensures stays { Stays Self.head Self.len count capacity loan self.old self.new }
+    {
+        self.assign::<Or, U, P, V, Q>(left, right);
+    }
+
+    /// Writes which bits differ in two views. Like `assign`.
+    ///
+    /// ```text
+    /// of 0000, 0101 and 0011: bits.assign_xor(left, right) leaves 0110
+    /// ```
+    final fn assign_xor<U: BitStore, P: BitOrder, V: BitStore, Q: BitOrder>(
+        &mut self,
+        left: BitSlice<'_, U, P>,
+        right: BitSlice<'_, V, Q>,
+    )
+        requires left { len_of left ≡ Self.len self.old }
+        requires right { len_of right ≡ Self.len self.old }
+        ensures list { Self.list self.new ≡ xor_of (list_of left.entry) (list_of right.entry) }
+        ensures index { XorsEach (list_of left.entry) (list_of right.entry) (Self.list self.new) }
+        ensures row { Self.bits self.new ≡ put (Self.bits self.old) (Self.head self.old) (xor_of (list_of left.entry) (list_of right.entry)) }
+        ensures whole { BecomesWhole Self.Store.BITS Self.head Self.len count Self.bits self.old self.new
+            (xor_of (list_of left.entry) (list_of right.entry)) }
+        ensures clean { StaysClean Self.Store.BITS Self.head Self.bits Self.list self.old self.new }
+        ensures stays { Stays Self.head Self.len count capacity loan self.old self.new }
+    {
+        self.assign::<Xor, U, P, V, Q>(left, right);
+    }
+
+    /// Writes which bits are true in one view and not in another. Like `assign`.
+    ///
+    /// ```text
+    /// of 0000, 0101 and 0011: bits.assign_and_not(left, right) leaves 0100
+    /// ```
+    final fn assign_and_not<U: BitStore, P: BitOrder, V: BitStore, Q: BitOrder>(
+        &mut self,
+        left: BitSlice<'_, U, P>,
+        right: BitSlice<'_, V, Q>,
+    )
+        requires left { len_of left ≡ Self.len self.old }
+        requires right { len_of right ≡ Self.len self.old }
+        ensures list { Self.list self.new ≡ and_not_of (list_of left.entry) (list_of right.entry) }
+        ensures index { AndNotsEach (list_of left.entry) (list_of right.entry) (Self.list self.new) }
+        ensures row { Self.bits self.new ≡ put (Self.bits self.old) (Self.head self.old) (and_not_of (list_of left.entry) (list_of right.entry)) }
+        ensures whole { BecomesWhole Self.Store.BITS Self.head Self.len count Self.bits self.old self.new
+            (and_not_of (list_of left.entry) (list_of right.entry)) }
+        ensures clean { StaysClean Self.Store.BITS Self.head Self.bits Self.list self.old self.new }
+        ensures stays { Stays Self.head Self.len count capacity loan self.old self.new }
+    {
+        self.assign::<AndNot, U, P, V, Q>(left, right);
     }
 
     /// Copies the bits of a range to index `dest`, as if they were copied out first. No other bit changes, dead

@@ -329,6 +329,34 @@ pub(crate) fn combine_over<F: BitOperator, T: BitStore, O: BitOrder, U: BitStore
     combine_view::<F, T, O, U, P>(words, head, len, other);
 }
 
+// Writes over the list what `F` makes of each bit of `left` and the bit of `right` for it, as many bits at a time as stay
+// in the cache between the two steps. Requires that both views are as long as the list.
+pub(crate) fn assign_over<
+    F: BitOperator,
+    T: BitStore,
+    O: BitOrder,
+    U: BitStore,
+    P: BitOrder,
+    V: BitStore,
+    Q: BitOrder,
+>(words: &mut [T], head: usize, len: usize, left: BitSlice<'_, U, P>, right: BitSlice<'_, V, Q>)
+    requires within { head + len ≤ T.BITS * length words.old }
+    requires fits { head + len < 2 ^ 64 }
+    requires left { len_seen left ≡ len }
+    requires right { len_seen right ≡ len }
+    ensures { IsRewritten T.BitStore O.BitOrder words.old words.new head len
+        (combined F.made (list_seen left.entry) (list_seen right.entry)) }
+{
+    let mut done = 0;
+    'pieces: while done < len {
+        let count = (len - done).min(16384);
+        let end = done + count;
+        copy_over::<T, O, U, P>(words, head + done, count, left.get_range(done..end));
+        combine_over::<F, T, O, V, Q>(words, head + done, count, right.get_range(done..end));
+        done = end;
+    }
+}
+
 // Writes the bit at index `i` of the list, and no other bit. Requires that `i` is below the length.
 pub(crate) fn set_over<T: BitStore, O: BitOrder>(
     words: &mut [T],

@@ -577,6 +577,35 @@ pub fn chosen<T: BitStore, O: BitOrder, U: BitStore, P: BitOrder>(
     view.copy_where(mask, source);
 }
 
+/// A one of both views is a one of what is written.
+pub fn in_both<T: BitStore, O: BitOrder, U: BitStore, P: BitOrder>(
+    view: &mut BitSliceMut<'_, T, O>,
+    left: BitSlice<'_, U, P>,
+    right: BitSlice<'_, T, O>,
+    i: usize,
+)
+    requires left { len_of left ≡ len_there view.old }
+    requires right { len_of right ≡ len_there view.old }
+    requires here { slice_get (list_of left) i ≡ Some true }
+    requires there { slice_get (list_of right) i ≡ Some true }
+    ensures { slice_get (list_there view.new) i ≡ Some true }
+{
+    view.assign_and(left, right);
+}
+
+/// Which bits are true together with the one after them.
+pub fn true_twice<T: BitStore, O: BitOrder>(
+    view: &mut BitSliceMut<'_, T, O>,
+    bits: BitSlice<'_, T, O>,
+)
+    requires { len_of bits ≡ len_there view.old + 1 }
+    ensures { list_there view.new ≡ and_of (slice_range (list_of bits.entry) 0 (len_there view.old))
+        (slice_range (list_of bits.entry) 1 (len_of bits.entry)) }
+{
+    let n = view.len();
+    view.assign_and(bits.get_range(..n), bits.get_range(1..));
+}
+
 /// What a mask leaves out is as before.
 pub fn left_out<T: BitStore, O: BitOrder, U: BitStore, P: BitOrder>(
     view: &mut BitSliceMut<'_, T, O>,

@@ -321,6 +321,31 @@ fn written_at_a_mask(rt: HostRuntime) {
 }
 
 #[test]
+fn two_views_in_one(rt: HostRuntime) {
+    let left = BitSlice::<u8, Msb0>::from_slice(&[0x5a, 0xf0]);
+    let right = BitSlice::<u16, Lsb0>::from_slice(&[0x00f3]);
+    let mut words = [0_u8; 2];
+    BitSliceMut::<u8, Msb0>::from_slice_mut(&mut words).assign_and(left, right);
+    check(&rt, words == [0x4a, 0x00]);
+    BitSliceMut::<u8, Msb0>::from_slice_mut(&mut words).assign_or(left, right);
+    check(&rt, words == [0xdf, 0xf0]);
+    BitSliceMut::<u8, Msb0>::from_slice_mut(&mut words).assign_xor(left, right);
+    check(&rt, words == [0x95, 0xf0]);
+}
+
+// Two parts at other heads, and the bits beside the part that is written.
+#[test]
+fn two_parts_in_a_part(rt: HostRuntime) {
+    let left = BitSlice::<u8, Msb0>::from_slice(&[0x5a, 0xf0]).get_range(1..9);
+    let right = BitSlice::<u16, Lsb0>::from_slice(&[0x00f3]).get_range(0..8);
+    let mut words = [0xff_u8, 0x01];
+    let mut view = BitSliceMut::<u8, Msb0>::from_slice_mut(&mut words);
+    let mut part = view.part_mut(4, 12);
+    part.assign_and_not(left, right);
+    check(&rt, words == [0xf3, 0x01]);
+}
+
+#[test]
 fn deposited(rt: HostRuntime) {
     let mut words = [0x00_u8];
     let mut view = BitSliceMut::<u8, Msb0>::from_slice_mut(&mut words);

@@ -23,6 +23,7 @@ module _ (xs : List Bool) (len at n : ℕ) (inside : len ≤ length xs) (room : 
   part_item : (i : ℕ) → i < n → get_or (slice_range xs at (at + 64)) i false ≡ get_or (slice_range (front xs len) at (at + 64)) i false
   part_item i h = grind (arith, places)
 
+  -- the number of a block under a mask of n ones is that of the list's bits in the block
   pub block_masked : (x y : ℕ) → x ≡ number_of (slice_range xs at (at + 64)) → (0 < n → y ≡ (2 ^ 64 - 1) / 2 ^ (64 - n)) → (n ≡ 0 → y ≡ 0) → bit_and x y ≡ number_of (slice_range (front xs len) at (at + 64))
   block_masked x y is ones none =
       let part : List Bool = slice_range (front xs len) at (at + 64) in
@@ -55,5 +56,6 @@ counted_further ys at count x before is =
     ap (λ n. n + count_ones x) before ∙ ap (λ n. count_by (λ b. b) (take at ys) + n) (counted ys at (at + 64) at (at + 64) x refl refl is)
     ∙ sym (sum_by-append (λ b. cond b 1 0) (take at ys) ps) ∙ ap (count_by (λ b. b)) (sym (joined ys at))
 
+-- the ones up to an index are no more than the bits
 pub few_counted : (ys : List Bool) (at : ℕ) → count_by (λ b. b) (take at ys) ≤ at
 few_counted ys at = omega (arith, count_by-le-length (λ b. b) (take at ys), length-take at ys)

@@ -22,7 +22,8 @@ impl FreeMap {
     }
 
     /// Like `find_first_fit`, but the lowest such frame from `from` on. None exactly where there is no such run from
-    /// there on. The frames are passed 64 at a time, where fewer than `count` of them could be of a run.
+    /// there on. Up to 512 frames are searched 64 at a time: those are passed of which fewer than `count` could be of a
+    /// run.
     ///
     /// ```text
     /// frames.find_next_fit(64, 4)     // Some(64), where frame 0 alone is taken
@@ -33,6 +34,10 @@ impl FreeMap {
             (λ first. IsNextRun self.now count from first) }
     {
         let frames = self.frames();
+        // Steps from one free frame to the next pass as many frames as are asked for.
+        if count > 512 {
+            return self.fit_within(from, frames, count);
+        }
         let mut start = from;
         let mut at = from.min(frames) / 64 * 64;
         'scan: while frames - at >= 64 {

@@ -15,4 +15,4 @@ scan-preserved c =
 pub returns : goal.returns
 returns c =
     let before = c.scan.invariant in
-    next_from c.args.self.now c.args.from c.args.count c.requires c.scan.start c.frames-frames.result c.fit_within.result c.frames-frames.ensures before.begins before.none c.fit_within.ensures
+    next_from c.args.self.now c.args.from c.args.count c.requires c.scan.start c.frames-frames.result c.fit_within-2.result c.frames-frames.ensures before.begins before.none c.fit_within-2.ensures

@@ -137,7 +137,7 @@ marked_length map first count taken inside =
     length-put map (replicate count taken) first (omega arith)
 
 -- a frame of a run is the one at its index in the part of the map
-in_run : (map : List Bool) (first count i : ℕ) → first + count ≤ length map → i < count → slice_get (slice_range map first (first + count)) i ≡ slice_get map (first + i)
+pub in_run : (map : List Bool) (first count i : ℕ) → first + count ≤ length map → i < count → slice_get (slice_range map first (first + count)) i ≡ slice_get map (first + i)
 in_run map first count i inside h =
     let size = length-run map first count inside in
     slice_get-get_or (slice_range map first (first + count)) i false (omega arith) ∙ ap Some (get_or-run map first count i h) ∙ sym (slice_get-get_or map (first + i) false (omega arith))

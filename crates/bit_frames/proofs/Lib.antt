@@ -1,4 +1,5 @@
 pub mod Blocks
 pub mod Counted
 pub mod Frames
+pub mod Passed
 pub mod Served

@@ -198,6 +198,9 @@ impl Matrix {
         ensures others { (i j : ℕ) → i < self.old.rows → j < self.old.columns → i ≢ into
             → item self.new i j ≡ item self.old i j }
     {
+        if from == into {
+            return;
+        }
         let stride = self.stride;
         let start = from * stride;
         self.bits.or_within(start..start + stride, into * stride);

@@ -11,6 +11,7 @@ use bit_array::{BitArray, BitViewSized, BitWords};
 use bit_containers::{BitList, BitListMut, BitSlice};
 use std::marker::Model;
 
+mod blocks;
 mod lists;
 mod traits;
 

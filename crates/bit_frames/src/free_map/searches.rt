@@ -1,6 +1,6 @@
 //! Searches for runs of free frames.
-ghost use Rattle.std.specs.Prelude.{◌≡◌, ◌+◌, ◌<◌, ◌≤◌, ℕ, true, MatchOption, length, replicate};
-ghost use Rattle.bit_addressing.specs.Row.{put};
+ghost use Rattle.std.specs.Prelude.{◌≡◌, ◌+◌, ◌-◌, ◌^◌, ◌<◌, ◌≤◌, ℕ, true, MatchOption, length, replicate, slice_range};
+ghost use Rattle.bit_addressing.specs.Row.{number_of, put};
 ghost use Rattle.bit_frames.specs.FreeMap.{AreFree, IsFirstRun, IsFree, IsLastRun, IsNextRun, IsTaken};
 
 use crate::free_map::FreeMap;
@@ -22,7 +22,8 @@ impl FreeMap {
     }
 
     /// Like `find_first_fit`, but the lowest such frame from `from` on. None exactly where there is no such run from
-    /// there on.
+    /// there on. Up to 512 frames are searched 64 at a time: those are passed of which fewer than `count` could be of a
+    /// run.
     ///
     /// ```text
     /// frames.find_next_fit(64, 4)     // Some(64), where frame 0 alone is taken
@@ -32,9 +33,68 @@ impl FreeMap {
         ensures { MatchOption result ((k : ℕ) → from ≤ k → AreFree self.now count k → ⊥)
             (λ first. IsNextRun self.now count from first) }
     {
+        let frames = self.frames();
+        // Steps from one free frame to the next pass as many frames as are asked for.
+        if count > 512 {
+            return self.fit_within(from, frames, count);
+        }
+        let mut start = from;
+        let mut at = from.min(frames) / 64 * 64;
+        'scan: while frames - at >= 64 {
+            let block = self.taken.load_le_at(at, 64);
+            if let Some(first) = self.fit_near(start, at, block, count) {
+                return Some(first);
+            }
+            start = self.after_taken(start, at, block);
+            at += 64;
+        }
+        self.fit_within(start, frames, count)
+    }
+
+    // Like `find_next_fit`, where a run that ends in the 64 frames from `at` on is enough. Fewer frames than `count` that
+    // could be of it are counted without a search. Requires that `block` has the bits of the 64 frames.
+    #[inline(always)]
+    fn fit_near(&self, start: usize, at: usize, block: u64, count: usize) -> Option<usize>
+        requires some { 0 < count }
+        requires inside { at + 64 ≤ length self.now }
+        requires fits { at + 64 < 2 ^ 63 }
+        requires block { block ≡ number_of (slice_range self.now at (at + 64)) }
+        ensures { MatchOption result ((k : ℕ) → start ≤ k → k + count ≤ at + 64 → AreFree self.now count k → ⊥)
+            (λ first. IsNextRun self.now count start first) }
+    {
+        let free = 64 - block.count_ones() as usize;
+        if at.saturating_sub(start) + free < count {
+            return None;
+        }
+        self.fit_within(start, at + 64, count)
+    }
+
+    // The frame after the last taken one of the 64 frames from `at` on, or `start` where that is a later one, or none is
+    // taken. Requires that `block` has the bits of the 64 frames.
+    #[inline(always)]
+    fn after_taken(&self, start: usize, at: usize, block: u64) -> usize
+        requires inside { at + 64 ≤ length self.now }
+        requires fits { at + 64 < 2 ^ 63 }
+        requires block { block ≡ number_of (slice_range self.now at (at + 64)) }
+        ensures later { start ≤ result }
+        ensures taken { start < result → (result ≤ at + 64) × IsTaken self.now (result - 1) }
+    {
+        if block == 0 {
+            return start;
+        }
+        start.max(at + (64 - block.leading_zeros() as usize))
+    }
+
+    // Like `find_next_fit`, where a run that ends by `end` is enough: step by step from one free frame to the next.
+    fn fit_within(&self, from: usize, end: usize, count: usize) -> Option<usize>
+        requires some { 0 < count }
+        requires inside { end ≤ length self.now }
+        ensures { MatchOption result ((k : ℕ) → from ≤ k → k + count ≤ end → AreFree self.now count k → ⊥)
+            (λ first. IsNextRun self.now count from first) }
+    {
         let mut at = from;
         while let Some(first) = self.taken.next_zero(at) {
-            if self.frames() - first < count {
+            if first > end || end - first < count {
                 return None;
             }
             // Each run up to the last taken frame of these has one that is taken, so the frames before it are passed.

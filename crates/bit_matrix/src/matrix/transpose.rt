@@ -96,7 +96,7 @@ impl Matrix {
         ensures above { (j : ℕ) → count ≤ j → has_bit result j ≡ false }
     {
         let start = row * self.stride + column;
-        self.bits.get_range(start..start + count).load_le()
+        self.bits.load_le_at(start, count as u8)
     }
 
     // Writes up to 64 bits of a row, from a column on: bit `j` of the number in column `column + j`.

@@ -48,6 +48,9 @@ impl<A: BitWords, O: BitOrder> PartialEq for SmallBits<A, O> {
             ↔ (front (row A.Store.BitStore O.BitOrder (A.words self.now.array)) self.now.len
             ≡ front (row A.Store.BitStore O.BitOrder (A.words other.now.array)) other.now.len) }
     {
+        if self.goes_by_blocks() {
+            return self.has_blocks_of(other);
+        }
         self.as_bitslice().eq_bits(other.as_bitslice())
     }
 }

@@ -1,27 +1,18 @@
-use Rattle.std.proofs.Common.{◌<◌, ◌≤◌, ℕ, length, arith}
-use Rattle.bit_frames.specs.FreeMap.{IsTaken}
-use Rattle.bit_frames.proofs.Frames.{none_over, none_past, none_up_to}
+use Rattle.std.proofs.Common.{◌+◌, arith}
+use Rattle.bit_frames.proofs.Passed.{next_from, none_passed}
 use Rattle.bit_frames.proofs.free_map.FreeMap.find_next_fit.Goals as goal
 
-pub loop-first-preserved : goal.loop-first-preserved
-loop-first-preserved c =
+pub scan-preserved : goal.scan-preserved
+scan-preserved c =
     let map = c.args.self.now in
-    let from = c.args.from in
-    let count = c.args.count in
-    let first = c.in-Some.first in
-    let found = c.in-Some.ensures in
-    let last = c.in-Some-last_taken.ensures in
-    let begins = c.loop-first.invariant.begins in
-    let after = found.begins in
-    let order = last.0 in
-    let taken : (j : ℕ) → c.loop-first.at ≤ j → j < first → IsTaken map j = rw (← c.self.view_is) found.before in
+    let after = c.after_taken-start.ensures in
     record {
-      begins = omega arith;
-      none = none_over map from count c.requires first c.in-Some-last_taken.last last.0 last.1 last.2 (none_up_to map from count c.requires c.loop-first.at first taken c.loop-first.invariant.none);
+      begins = omega (arith, c.scan.invariant.begins, after.later);
+      inside = omega (arith, c.scan.invariant.inside, c.scan-test.true);
+      none = none_passed map c.args.from c.args.count c.requires c.scan.start (c.scan.at + 64) c.after_taken-start.result after.taken c.scan.invariant.none c.in_default.ensures;
     }
 
 pub returns : goal.returns
 returns c =
-    let map = c.args.self.now in
-    let taken : (j : ℕ) → c.loop-first.at ≤ j → j < length map → IsTaken map j = rw (← c.self.view_is) c.in_default.ensures.none in
-    none_past map c.args.from c.args.count c.requires c.loop-first.at taken c.loop-first.invariant.none
+    let before = c.scan.invariant in
+    next_from c.args.self.now c.args.from c.args.count c.requires c.scan.start c.frames-frames.result c.fit_within-2.result c.frames-frames.ensures before.begins before.none c.fit_within-2.ensures

@@ -1,12 +1,13 @@
-use Rattle.std.proofs.Common.{◌-◌, ◌<◌, ◌≤◌, ℕ, length}
+use Rattle.std.proofs.Common.{◌-◌, ◌<◌, ◌≤◌, ℕ}
 use Rattle.bit_frames.specs.FreeMap.{AreFree}
 use Rattle.bit_frames.proofs.free_map.FreeMap.find_next_fit.Given as goal
 
-abbrev pub invariant-loop-first : goal.invariant-loop-first
-invariant-loop-first l = record {
-  begins : l.from ≤ l.at;
-  none : (k : ℕ) → l.from ≤ k → k < l.at → AreFree l.self l.count k → ⊥;
+abbrev pub invariant-scan : goal.invariant-scan
+invariant-scan l = record {
+  begins : l.from ≤ l.start;
+  inside : l.at ≤ l.frames;
+  none : (k : ℕ) → l.from ≤ k → k < l.start → AreFree l.self l.count k → ⊥;
 }
 
-abbrev pub decreases-loop-first : goal.decreases-loop-first
-decreases-loop-first l = length l.self - l.at
+abbrev pub decreases-scan : goal.decreases-scan
+decreases-scan l = l.frames - l.at

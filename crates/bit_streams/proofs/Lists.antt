@@ -4,7 +4,7 @@ use Rattle.std.proofs.lemmas.List.{take-append-drop, drop_at, length-append, dro
 use Rattle.std.proofs.lemmas.Option.{slice_get_within, slice_get-get_or, get_or_from_slice_get}
 use Rattle.std.proofs.lemmas.Bool.{cases_lt}
 use Rattle.std.proofs.Math.Seq.{take-append_seam}
-use Rattle.std.proofs.lemmas.Nat.{div-mul-add, mod-mul-add, mod_below, pow-add, pow_below}
+use Rattle.std.proofs.lemmas.Nat.{div-mul-add, mod-mul-add, mod_below, pow-add}
 use Rattle.std.proofs.Math.Nat.{mod-eq_of_lt, mul_comm}
 use Rattle.std.proofs.Math.Pow.{pow_pos, pow_mono}
 use Rattle.std.proofs.lemmas.List.{nil_from_length}
@@ -77,14 +77,12 @@ joined_below a b p x h =
     omega arith
 
 -- what a register computes, where nothing passes 64 digits
-pub joined_fits : (a b p x : ℕ) → b < 64 → a + b ≤ 64 → p < 2 ^ a → (p * 2 ^ b % 2 ^ 64 + x % (1 * 2 ^ b % 2 ^ 64) ≡ p * 2 ^ b + x % 2 ^ b) × (p * 2 ^ b + x % 2 ^ b < 2 ^ 64)
-joined_fits a b p x few all small =
+pub joined_fits : (a b p x low : ℕ) → a + b ≤ 64 → p < 2 ^ a → low ≡ x % 2 ^ b → (p * 2 ^ b % 2 ^ 64 + low ≡ p * 2 ^ b + x % 2 ^ b) × (p * 2 ^ b + x % 2 ^ b < 2 ^ 64)
+joined_fits a b p x low all small is =
     let below = joined_below a b p x small in
     let most = pow_mono all in
-    let one = pow_below b 64 few in
     let whole : p * 2 ^ b % 2 ^ 64 ≡ p * 2 ^ b = mod-eq_of_lt (omega arith) in
-    let unit : 1 * 2 ^ b % 2 ^ 64 ≡ 2 ^ b = ap (λ k. k % 2 ^ 64) (let e : 1 * 2 ^ b ≡ 2 ^ b = omega arith in e) ∙ mod-eq_of_lt one in
-    (ap (λ k. k + x % (1 * 2 ^ b % 2 ^ 64)) whole ∙ ap (λ k. p * 2 ^ b + x % k) unit, omega arith)
+    (ap (λ k. k + low) whole ∙ ap (λ k. p * 2 ^ b + k) is, omega arith)
 
 -- the part over all is the list
 pub slice_whole : (n : ℕ) (xs : List Bool) → length xs ≡ n → slice_range xs 0 n ≡ xs
@@ -148,10 +146,6 @@ refused_memory wanted old new h full same = record {
   memory = λ e. full;
   unchanged = search (rules, same);
 }
-
--- the remainder by a shifted 1 is that by the power
-pub one_shifted : (b x : ℕ) → b < 64 → x % (1 * 2 ^ b % 2 ^ 64) ≡ x % 2 ^ b
-one_shifted b x few = ap (λ k. x % (k % 2 ^ 64)) (let e : 1 * 2 ^ b ≡ 2 ^ b = omega arith in e) ∙ ap (λ k. x % k) (mod-eq_of_lt (pow_below b 64 few))
 
 -- one bit is one digit
 pub bit_digit : (b : Bool) → binary 1 (cond b 1 0) ≡ b ∷ []

@@ -9,7 +9,7 @@ use Rattle.bit_addressing.proofs.Runs.{mul_mono, slices_joined}
 use Rattle.bit_rows.proofs.Binary.{bits_low, length-number_bits, number_bits_none}
 use Rattle.bit_rows.proofs.Grown.{number_bits_parted}
 use Rattle.bit_streams.specs.Streams.{IsLow}
-use Rattle.bit_streams.proofs.Lists.{one_shifted, take_front}
+use Rattle.bit_streams.proofs.Lists.{take_front}
 use Rattle.bit_streams.proofs.Windows.{mod_scaled, parted_run, pow_parts, slice_empty}
 
 -- digits of two numbers joined
@@ -146,12 +146,12 @@ lowest_digit true = refl
 lowest_digit false = refl
 
 -- what a register computes, where nothing passes 64 digits
-pub joined_fits_le : (a b p x : ℕ) → a + b < 64 → p < 2 ^ a → (p + x % (1 * 2 ^ b % 2 ^ 64) * 2 ^ a % 2 ^ 64 ≡ p + x % 2 ^ b * 2 ^ a) × (p + x % 2 ^ b * 2 ^ a < 2 ^ 64)
-joined_fits_le a b p x few small =
+pub joined_fits_le : (a b p x low : ℕ) → a + b < 64 → p < 2 ^ a → low ≡ x % 2 ^ b → (p + low * 2 ^ a % 2 ^ 64 ≡ p + x % 2 ^ b * 2 ^ a) × (p + x % 2 ^ b * 2 ^ a < 2 ^ 64)
+joined_fits_le a b p x low few small is =
     let below = bits_joined_below a b p x small in
     let most = pow_mono {i = a + b} {j = 64} (omega arith) in
     let whole : x % 2 ^ b * 2 ^ a % 2 ^ 64 ≡ x % 2 ^ b * 2 ^ a = mod-eq_of_lt (omega arith) in
-    (ap (λ k. p + k * 2 ^ a % 2 ^ 64) (one_shifted b x (omega arith)) ∙ ap (λ k. p + k) whole, omega arith)
+    (ap (λ k. p + k * 2 ^ a % 2 ^ 64) is ∙ ap (λ k. p + k) whole, omega arith)
 
 -- ---- a writer's last digits
 

@@ -10,7 +10,7 @@ use Rattle.bit_addressing.proofs.lists.Shown.{length-run}
 use Rattle.bit_streams.specs.Streams.{IsHeld, IsReading, Passed, Reading, padded}
 use Rattle.bit_streams.proofs.Lists.{joined_digits, take_front}
 use Rattle.bit_addressing.proofs.Runs.{mul_mono, slices_joined}
-use Rattle.bit_streams.proofs.Windows.{dropped, held_by_half, nothing_held, rest_parted, slice_empty, taken, taken_next}
+use Rattle.bit_streams.proofs.Windows.{dropped, held_by_block, high_small, nothing_held, rest_parted, slice_empty, taken, taken_next}
 use Rattle.bit_streams.proofs.Zeros.{zeros_of}
 
 -- a padded row has 64 bits more
@@ -110,8 +110,8 @@ across row at skip first second some few before room a b is next =
     ap (λ k. k + second / 2 ^ (64 - (64 - (64 - skip)))) none ∙ ap (λ k. first * 2 ^ (skip - 1) % 2 ^ 64 * 2 ^ 1 % 2 ^ 64 + second / 2 ^ k) by in
     (subst (λ x. binary 64 x ≡ slice_range row at (at + 64)) sum t.0, subst (λ x. x < 2 ^ 64) sum t.1)
 
-half_fits : (half have : ℕ) → half < 2 ^ 32 → have < 32 → half * 2 ^ (32 - have) % 2 ^ 64 ≡ half * 2 ^ (32 - have)
-half_fits half have below few = shl_whole half 32 (32 - have) 64 below (omega arith)
+part_fits : (block have : ℕ) → block < 2 ^ 64 → have < 63 → block / 2 ^ (have + 1) * 2 ^ 1 % 2 ^ 64 ≡ block / 2 ^ (have + 1) * 2 ^ 1
+part_fits block have below few = shl_whole (block / 2 ^ (have + 1)) (63 - have) 1 64 (high_small block (have + 1) (63 - have) (omega arith) below) (omega arith)
 
 module _ (row : List Bool) (w n start left end have window : ℕ) (r : IsReading row w n start left end have window) (size : length row ≡ w * n) where
   -- the length of the rest is what is left
@@ -146,16 +146,15 @@ module _ (row : List Bool) (w n start left end have window : ℕ) (r : IsReading
       subst (λ f. slice_range row (end - left) end ≡ ds ++ slice_range row f end) to
       (rest_parted row ds (end - left) k end (is ∙ padded_part row (end - left) (end - left + k) (omega arith)) (omega arith) (omega arith))
 
-  -- 32 bits more are held
-  pub held_more : (half : ℕ) → have < 32 → have + 64 ≤ left → half < 2 ^ 32 → binary 32 half ≡ slice_range row (end - left + have) (end - left + have + 32) → IsReading row w n start left end (have + 32) (window + half * 2 ^ (32 - have) % 2 ^ 64)
-  held_more half few enough below next =
+  -- 63 bits are held, of which a block has those after the ones that were held
+  pub held_more : (block : ℕ) → have < 63 → have + 128 ≤ left → block < 2 ^ 64 → binary 64 block ≡ slice_range (padded row) (end - left + have) (end - left + have + 64) → IsReading row w n start left end 63 (window + block / 2 ^ (have + 1) * 2 ^ 1 % 2 ^ 64)
+  held_more block few enough below next =
       let begins = r.begins in
       let within = r.within in
       let long = length-padded row in
-      let fits : half * 2 ^ (32 - have) % 2 ^ 64 ≡ half * 2 ^ (32 - have) = half_fits half have below few in
-      let is = next ∙ sym (padded_part row (end - left + have) (end - left + have + 32) (omega arith)) in
+      let fits : block / 2 ^ (have + 1) * 2 ^ 1 % 2 ^ 64 ≡ block / 2 ^ (have + 1) * 2 ^ 1 = part_fits block have below few in
       record {
-        held = subst (λ k. IsHeld (padded row) (end - left) (have + 32) (window + k)) (sym fits) (held_by_half (padded row) (end - left) have window half r.held few (omega arith) below is);
+        held = subst (λ k. IsHeld (padded row) (end - left) 63 (window + k)) (sym fits) (held_by_block (padded row) (end - left) have window block r.held few (omega arith) below next);
         ahead = omega arith;
         begins = begins;
         within = within;

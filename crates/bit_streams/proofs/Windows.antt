@@ -139,7 +139,7 @@ nothing_held row from = record {
 pub rest_parted : (row ds : List Bool) (from n end : ℕ) → ds ≡ slice_range row from (from + n) → from + n ≤ end → end ≤ length row → slice_range row from end ≡ ds ++ slice_range row (from + n) end
 rest_parted row ds from n end is h room = sym (slices_joined row from (from + n) end (omega arith) h room) ∙ ap (λ l. l ++ slice_range row (from + n) end) (sym is)
 
-high_small : (block left need : ℕ) → left + need ≡ 64 → block < 2 ^ 64 → block / 2 ^ left < 2 ^ need
+pub high_small : (block left need : ℕ) → left + need ≡ 64 → block < 2 ^ 64 → block / 2 ^ left < 2 ^ need
 high_small block left need all below = (div-lt_iff_lt-mul (pow_pos left)).1 (subst (λ k. block < k) (pow_parts 64 need left (omega arith)) below)
 
 shifted_out : (block left need : ℕ) → 0 < need → left + need ≡ 64 → block * 2 ^ (need - 1) % 2 ^ 64 * 2 ^ 1 % 2 ^ 64 ≡ block % 2 ^ left * 2 ^ need
@@ -240,45 +240,28 @@ pub part_written : (old now new xs part digits : List Bool) (a b : ℕ) → now 
 part_written old now new xs part digits a b is shows same on h room =
     on ∙ ap (λ l. l ++ digits) is ∙ append_assoc old (take a xs) digits ∙ ap (λ l. old ++ l) (ap (λ l. take a xs ++ l) (same ∙ shows) ∙ part_more xs a b h room)
 
--- 32 bits out of a block that begins at most 32 bits before them
-pub half_of : (row : List Bool) (at skip block : ℕ) → skip ≤ 32 → skip ≤ at → at - skip + 64 ≤ length row → block < 2 ^ 64 → binary 64 block ≡ slice_range row (at - skip) (at - skip + 64)
-    → (binary 32 (block * 2 ^ skip % 2 ^ 64 / 2 ^ 32) ≡ slice_range row at (at + 32)) × (block * 2 ^ skip % 2 ^ 64 / 2 ^ 32 < 2 ^ 32)
-half_of row at zero block few before room below is =
-    let none : at - 0 ≡ at = omega arith in
-    let same : block * 2 ^ 0 ≡ block = omega arith in
-    let whole : block * 2 ^ 0 % 2 ^ 64 ≡ block = ap (λ k. k % 2 ^ 64) same ∙ mod-eq_of_lt below in
-    let size : length (binary 32 (block / 2 ^ 32)) ≡ at + 32 - at = length-binary 32 (block / 2 ^ 32) ∙ omega arith in
-    let parts = parted_run row (binary 32 (block / 2 ^ 32)) (binary 32 (block % 2 ^ 32)) at (at + 32) (at + 64) (subst (λ f. slice_range row f (f + 64) ≡ binary 64 block) none (sym is) ∙ binary_parted 32 32 block) (omega arith) (omega arith) (omega arith) size in
-    (subst (λ k. binary 32 (k / 2 ^ 32) ≡ slice_range row at (at + 32)) (sym whole) (sym parts.0), omega arith)
-half_of row at (suc m) block few before room below is =
-    let skip = suc m in
-    let from : at - skip + skip ≡ at = omega arith in
-    let same : at - skip ≡ at - skip + 0 = omega arith in
-    let left = 64 - skip in
-    let t = taken_over row (at - skip) 0 0 skip block (nothing_held row (at - skip)) (omega arith) (omega arith) (omega arith) (subst (λ f. binary 64 block ≡ slice_range row f (f + 64)) same is) in
-    let none : skip - 0 ≡ skip = omega arith in
-    let later : IsHeld row (at - skip + skip) left (block % 2 ^ left * 2 ^ skip) = subst (λ k. IsHeld row (at - skip + skip) (64 - k) (block % 2 ^ (64 - k) * 2 ^ k)) none t.2 in
-    let held : IsHeld row at left (block % 2 ^ left * 2 ^ skip) = subst (λ f. IsHeld row f left (block % 2 ^ left * 2 ^ skip)) from later in
-    let shifted : block * 2 ^ skip % 2 ^ 64 ≡ block % 2 ^ left * 2 ^ skip = ap (λ k. block * 2 ^ skip % k) (pow_parts 64 left skip (omega arith)) ∙ mod_scaled block (2 ^ left) (2 ^ skip) (pow_pos left) (pow_pos skip) in
-    let out = taken row at left (block % 2 ^ left * 2 ^ skip) 32 (omega arith) held (omega arith) (omega arith) in
-    (subst (λ k. binary 32 (k / 2 ^ 32) ≡ slice_range row at (at + 32)) (sym shifted) out.0, omega arith)
-
--- the next 32 bits after those that are held
-pub held_by_half : (row : List Bool) (from have window half : ℕ) → IsHeld row from have window → have < 32 → from + have + 32 ≤ length row → half < 2 ^ 32 → binary 32 half ≡ slice_range row (from + have) (from + have + 32)
-    → IsHeld row from (have + 32) (window + half * 2 ^ (32 - have))
-held_by_half row from have window half held few room below next =
+-- the bits after those that are held, out of the next 64, up to 63 that are held
+pub held_by_block : (row : List Bool) (from have window block : ℕ) → IsHeld row from have window → have < 63 → from + have + 64 ≤ length row → block < 2 ^ 64 → binary 64 block ≡ slice_range row (from + have) (from + have + 64)
+    → IsHeld row from 63 (window + block / 2 ^ (have + 1) * 2 ^ 1)
+held_by_block row from have window block held few room below next =
     let v = held.number in
-    let low : half % 2 ^ 32 ≡ half = mod-eq_of_lt below in
-    let up : v * 2 ^ (64 - have) ≡ v * 2 ^ 32 * 2 ^ (32 - have) = ap (λ k. v * k) (pow_parts (64 - have) 32 (32 - have) (omega arith)) ∙ sym (mul_assoc v (2 ^ 32) (2 ^ (32 - have))) in
-    let rest : 64 - (have + 32) ≡ 32 - have = omega arith in
-    let all : v * 2 ^ 32 * 2 ^ (32 - have) + half * 2 ^ (32 - have) ≡ (v * 2 ^ 32 + half) * 2 ^ (32 - have) = grind arith in
-    let small = held.few in
-    let end : from + (have + 32) ≡ from + have + 32 = omega arith in
+    let k = 63 - have in
+    let part = block / 2 ^ (have + 1) in
+    let sum : have + k ≡ 63 = omega arith in
+    let all : k + (have + 1) ≡ 64 = omega arith in
+    let split : slice_range row (from + have) (from + have + 64) ≡ binary k part ++ binary (have + 1) (block % 2 ^ (have + 1)) = sym next ∙ ap (λ j. binary j block) (sym all) ∙ binary_parted k (have + 1) block in
+    let size : length (binary k part) ≡ from + have + k - (from + have) = length-binary k part ∙ omega arith in
+    let parts = parted_run row (binary k part) (binary (have + 1) (block % 2 ^ (have + 1))) (from + have) (from + have + k) (from + have + 64) split (omega arith) (omega arith) room size in
+    let low : part % 2 ^ k ≡ part = mod-eq_of_lt (high_small block (have + 1) k (omega arith) below) in
+    let up : v * 2 ^ (64 - have) ≡ v * 2 ^ k * 2 ^ 1 = ap (λ j. v * j) (pow_parts (64 - have) k 1 (omega arith)) ∙ sym (mul_assoc v (2 ^ k) (2 ^ 1)) in
+    let end : from + (have + k) ≡ from + have + k = omega arith in
+    let digits : binary (have + k) (v * 2 ^ k + part) ≡ slice_range row from (from + (have + k)) =
+    ap (λ j. binary (have + k) (v * 2 ^ k + j)) (sym low) ∙ joined_digits have k v part ∙ ap (λ l. l ++ binary k part) held.digits ∙ ap (λ l. slice_range row from (from + have) ++ l) (sym parts.0)
+    ∙ slices_joined row from (from + have) (from + have + k) (omega arith) (omega arith) (omega arith) ∙ ap (slice_range row from) (sym end) in
     record {
-      number = v * 2 ^ 32 + half;
-      is = ap (λ k. k + half * 2 ^ (32 - have)) (held.is ∙ up) ∙ all ∙ ap (λ k. (v * 2 ^ 32 + half) * 2 ^ k) (sym rest);
-      small = subst (λ k. v * 2 ^ 32 + k < 2 ^ (have + 32)) low (joined_below have 32 v half held.small);
-      digits = ap (λ k. binary (have + 32) (v * 2 ^ 32 + k)) (sym low) ∙ joined_digits have 32 v half ∙ ap (λ l. l ++ binary 32 half) held.digits ∙ ap (λ l. slice_range row from (from + have) ++ l) next
-          ∙ slices_joined row from (from + have) (from + have + 32) (omega arith) (omega arith) room ∙ ap (slice_range row from) (sym end);
+      number = v * 2 ^ k + part;
+      is = ap (λ j. j + part * 2 ^ 1) (held.is ∙ up) ∙ grind arith;
+      small = subst (λ j. v * 2 ^ k + part < 2 ^ j) sum (subst (λ j. v * 2 ^ k + j < 2 ^ (have + k)) low (joined_below have k v part held.small));
+      digits = subst (λ j. binary j (v * 2 ^ k + part) ≡ slice_range row from (from + j)) sum digits;
       few = omega arith;
     }

@@ -1,5 +1,5 @@
 //! The words of a writer, and the last digits, which wait in a register until there are 64 of them.
-ghost use Rattle.std.specs.Prelude.{◌≡◌, ◌≢◌, ◌+◌, ◌≤◌, ◌<◌, ◌++◌, ◌↔◌, [], Err, IfOk, OnOk, length, take, ◌%◌};
+ghost use Rattle.std.specs.Prelude.{◌≡◌, ◌≢◌, ◌+◌, ◌*◌, ◌≤◌, ◌<◌, ◌++◌, ◌↔◌, [], Err, IfOk, OnOk, false, length, take, true, ◌%◌};
 ghost use Rattle.bit_addressing.specs.Row.{binary, number_bits};
 ghost use Rattle.bit_addressing.specs.declared.errors.GrowError.{GrowError};
 ghost use Rattle.bit_addressing.specs.declared.length.TheConstants.{MAX_BITS};
@@ -7,7 +7,7 @@ ghost use Rattle.bit_containers.specs.BitVec.{IsClean};
 ghost use Rattle.bit_streams.specs.Streams.{Refuses};
 
 use crate::register::{
-    block_of, block_of_le, cut_at, filled, front_of, joined, make_room, push_block,
+    block_of, block_of_le, cut_at, filled, front_of, joined, low_digits, make_room, push_block,
 };
 use bit_addressing::{BitOrder, BitStore, GrowError, MAX_BITS, elts};
 use bit_containers::{BitList, BitVec};
@@ -44,6 +44,15 @@ impl<T: BitStore, O: BitOrder> Model for Blocks<T, O> {
     } };
 
     ghost invariant = { λ w. IsPending T.BITS (length w.words.items) w.count w.pending };
+}
+
+// Whether 64 bits more than those of so many words pass `MAX_BITS`.
+#[inline(always)]
+fn is_full<T: BitStore>(words: usize) -> bool
+    ensures full { result ≡ true → MAX_BITS < T.BITS * words + 64 }
+    ensures room { result ≡ false → T.BITS * words + 64 ≤ MAX_BITS }
+{
+    words > (MAX_BITS - 64) / T::BITS as usize
 }
 
 impl<T: BitStore, O: BitOrder> Blocks<T, O> {
@@ -96,6 +105,12 @@ impl<T: BitStore, O: BitOrder> Blocks<T, O> {
             count,
             order: PhantomData,
         }
+    }
+
+    // The allocator of the words.
+    #[inline(always)]
+    pub(crate) fn allocator(&self) -> Global {
+        *self.words.allocator()
     }
 
     // The number of bits written.
@@ -153,14 +168,14 @@ impl<T: BitStore, O: BitOrder> Blocks<T, O> {
             return Ok(());
         }
         // Up to here no test is needed: a register that isn't full stays within MAX_BITS, since the words are whole blocks.
-        if self.words.len() * T::BITS as usize > MAX_BITS - 64 {
+        if is_full::<T>(self.words.len()) {
             return Err(GrowError::TooLong);
         }
         let rest = count - 64;
         let block = filled(self.pending, self.count, x >> rest);
         match push_block::<T, O>(&mut self.words, block_of::<O>(block)) {
             Ok(()) => {
-                self.pending = x % (1 << rest);
+                self.pending = low_digits(rest, x);
                 self.count = rest;
                 Ok(())
             }
@@ -190,7 +205,7 @@ impl<T: BitStore, O: BitOrder> Blocks<T, O> {
         ensures refusal { Refuses result (length self.old.list + 64) self.old self.new }
         ensures capacity { self.old.capacity ≤ self.new.capacity }
     {
-        if self.words.len() * T::BITS as usize > MAX_BITS - 64 {
+        if is_full::<T>(self.words.len()) {
             return Err(GrowError::TooLong);
         }
         match push_block::<T, O>(&mut self.words, block_of_le::<O>(x)) {

@@ -7,7 +7,7 @@ ghost use Rattle.bit_addressing.specs.declared.length.TheConstants.{MAX_BITS};
 ghost use Rattle.bit_slice.specs.BitSlice.{len_of, list_of};
 ghost use Rattle.bit_streams.specs.Streams.{Passed, padded};
 
-use crate::register::{filled_le, lowest_first, turned, turned_in};
+use crate::register::{filled_le, low_digits, lowest_first, turned, turned_in};
 use bit_addressing::{BitOrder, BitStore};
 use bit_rows::{read_binary, read_block, read_chunk};
 use bit_slice::BitSlice;
@@ -85,18 +85,72 @@ fn block_at<T: BitStore, O: BitOrder>(words: &[T], at: usize) -> u64
     turned_in::<O>(read_block::<T, O>(words, at))
 }
 
-// The number that the 64 bits from `at` on write, where those past the words are 0. Requires that `at` lies in the words,
-// and `known` bits from it on. Where 128 are known, they are one block or two, without a further test.
+// The number that the 64 bits from `at` on write, where those past the words are 0, of a view that has `left` bits from
+// `have` before `at` on. None where they are fewer than `n`. It asks first whether they are many, so that a compiler knows
+// of the reads after this one that they have their bits.
 #[inline(always)]
-fn bits_at<T: BitStore, O: BitOrder>(words: &[T], at: usize, known: usize) -> u64
-    requires inside { at < T.BITS * length words.now }
-    requires known { at + known ≤ T.BITS * length words.now }
+fn bits_for<T: BitStore, O: BitOrder>(
+    words: &[T],
+    at: usize,
+    have: usize,
+    left: usize,
+    n: usize,
+) -> Option<u64>
+    requires few { n ≤ 64 }
+    requires need { have < n }
+    requires begins { have ≤ at }
+    requires known { at + left ≤ T.BITS * length words.now + have }
+    requires fits { T.BITS * length words.now < 2 ^ 64 }
+    ensures none { result ≡ None → left < n }
+    ensures enough { IfSome result (λ _. n ≤ left) }
+    ensures digits { IfSome result (λ block.
+        binary 64 block ≡ slice_range (padded (row T.BitStore O.BitOrder words.now)) at (at + 64)) }
+{
+    if left >= have + 128 {
+        return Some(blocks_at::<T, O>(words, at));
+    }
+    if left < n {
+        return None;
+    }
+    Some(last_bits::<T, O>(words, at))
+}
+
+// Like `bits_for`, the first bit the least significant digit.
+#[inline(always)]
+fn lows_for<T: BitStore, O: BitOrder>(
+    words: &[T],
+    at: usize,
+    have: usize,
+    left: usize,
+    n: usize,
+) -> Option<u64>
+    requires few { n ≤ 64 }
+    requires need { have < n }
+    requires begins { have ≤ at }
+    requires known { at + left ≤ T.BITS * length words.now + have }
+    requires fits { T.BITS * length words.now < 2 ^ 64 }
+    ensures none { result ≡ None → left < n }
+    ensures enough { IfSome result (λ _. n ≤ left) }
+    ensures digits { IfSome result (λ block.
+        number_bits block 64 ≡ slice_range (padded (row T.BitStore O.BitOrder words.now)) at (at + 64)) }
+{
+    if left >= have + 128 {
+        return Some(lows_at::<T, O>(words, at));
+    }
+    if left < n {
+        return None;
+    }
+    Some(turned(last_bits::<T, O>(words, at)))
+}
+
+// The number that the 64 bits from `at` on write, out of one block or two. Requires that 128 bits from `at` on lie in the
+// words.
+#[inline(always)]
+fn blocks_at<T: BitStore, O: BitOrder>(words: &[T], at: usize) -> u64
+    requires within { at + 128 ≤ T.BITS * length words.now }
     requires fits { T.BITS * length words.now < 2 ^ 64 }
     ensures { binary 64 result ≡ slice_range (padded (row T.BitStore O.BitOrder words.now)) at (at + 64) }
 {
-    if known < 128 {
-        return last_bits::<T, O>(words, at);
-    }
     let skip = at % T::BITS as usize;
     if skip == 0 {
         return block_at::<T, O>(words, at);
@@ -104,18 +158,17 @@ fn bits_at<T: BitStore, O: BitOrder>(words: &[T], at: usize, known: usize) -> u6
     joined_blocks::<T, O>(words, at, skip)
 }
 
-// Like `bits_at`, the first bit the least significant digit.
+// Like `blocks_at`, the first bit the least significant digit.
 #[inline(always)]
-fn lows_at<T: BitStore, O: BitOrder>(words: &[T], at: usize, known: usize) -> u64
-    requires inside { at < T.BITS * length words.now }
-    requires known { at + known ≤ T.BITS * length words.now }
+fn lows_at<T: BitStore, O: BitOrder>(words: &[T], at: usize) -> u64
+    requires within { at + 128 ≤ T.BITS * length words.now }
     requires fits { T.BITS * length words.now < 2 ^ 64 }
     ensures { number_bits result 64 ≡ slice_range (padded (row T.BitStore O.BitOrder words.now)) at (at + 64) }
 {
-    if known >= 128 && lowest_first::<O>() {
+    if lowest_first::<O>() {
         return read_chunk::<T, O>(words, at, 64);
     }
-    turned(bits_at::<T, O>(words, at, known))
+    turned(blocks_at::<T, O>(words, at))
 }
 
 // The 64 bits from `at` on out of two blocks of whole words. Requires that `skip` bits of a word lie before `at`.
@@ -132,19 +185,7 @@ fn joined_blocks<T: BitStore, O: BitOrder>(words: &[T], at: usize, skip: usize) 
     ((first << (skip - 1)) << 1) + (second >> (64 - skip))
 }
 
-// The number that the 32 bits from `at` on write. Requires that `skip` bits of a word, at most 32, lie before `at`.
-#[inline(always)]
-fn half_at<T: BitStore, O: BitOrder>(words: &[T], at: usize, skip: usize) -> u64
-    requires within { at + 64 ≤ T.BITS * length words.now }
-    requires before { skip ≡ at % T.BITS }
-    requires few { skip ≤ 32 }
-    ensures digits { binary 32 result ≡ slice_range (row T.BitStore O.BitOrder words.now) at (at + 32) }
-    ensures below { result < 2 ^ 32 }
-{
-    (block_at::<T, O>(words, at - skip) << skip) >> 32
-}
-
-// Like `bits_at`, where fewer than 128 bits may be there.
+// Like `blocks_at`, where fewer than 128 bits may be there. Requires that `at` lies in the words.
 #[cold]
 #[inline(never)]
 fn last_bits<T: BitStore, O: BitOrder>(words: &[T], at: usize) -> u64
@@ -221,6 +262,7 @@ impl<'a, T: BitStore, O: BitOrder> BitReader<'a, T, O> {
     }
 
     /// The bits that are left, as a view.
+    #[inline(always)]
     pub fn rest(&self) -> BitSlice<'a, T, O>
         ensures { list_of result ≡ self.now.rest }
     {
@@ -233,6 +275,7 @@ impl<'a, T: BitStore, O: BitOrder> BitReader<'a, T, O> {
     /// ```text
     /// let name = reader.read_part(8 * 16)?;      // 16 bytes, without a copy
     /// ```
+    #[inline(always)]
     pub fn read_part(&mut self, n: usize) -> Option<BitSlice<'a, T, O>>
         ensures none { (result ≡ None) ↔ (length self.old.rest < n) }
         ensures part { IfSome result (λ part. list_of part ≡ take n self.old.rest) }
@@ -293,27 +336,23 @@ impl<'a, T: BitStore, O: BitOrder> BitReader<'a, T, O> {
         }
     }
 
-    // Where fewer than 32 bits are held, holds 32 more, but not at the view's end.
+    // Where fewer than 16 bits are held, holds 63, but not near the view's end: codes are mostly looked up by fewer.
     #[inline(always)]
     fn fill(&mut self)
         ensures { self.new ≡ self.old }
     {
-        if self.have >= 32 || self.left < self.have + 64 {
+        if self.have >= 16 || self.left < self.have + 128 {
             return;
         }
-        let at = self.end - self.left + self.have;
-        let skip = at % T::BITS as usize;
-        if skip > 32 {
-            return;
-        }
-        let half = half_at::<T, O>(self.words, at, skip);
-        self.window += half << (32 - self.have);
-        self.have += 32;
+        let block = blocks_at::<T, O>(self.words, self.end - self.left + self.have);
+        self.window += (block >> (self.have + 1)) << 1;
+        self.have = 63;
         self.low = 0;
         self.lows = 0;
     }
 
     // Passes more bits than the register holds.
+    #[inline(always)]
     fn skip_far(&mut self, n: usize) -> Option<()>
         ensures none { (result ≡ None) ↔ (length self.old.rest < n) }
         ensures passed { IfSome result (λ _. Passed n self.old self.new) }
@@ -386,23 +425,23 @@ impl<'a, T: BitStore, O: BitOrder> BitReader<'a, T, O> {
         ensures passed { IfSome result (λ _. Passed n self.old self.new) }
         ensures kept { result ≡ None → self.new ≡ self.old }
     {
-        let (n, left) = (n as usize, self.left);
-        if left < n {
-            return None;
-        }
+        let n = n as usize;
         if n <= self.lows {
-            let x = self.low % (1 << n);
+            if self.left < n {
+                return None;
+            }
+            let x = low_digits(n as u8, self.low);
             self.low = self.low >> n;
             self.lows -= n;
             self.left -= n;
             return Some(x);
         }
+        let at = self.end - self.left + self.lows;
+        let block = match lows_for::<T, O>(self.words, at, self.lows, self.left, n) {
+            None => return None,
+            Some(block) => block,
+        };
         let need = n - self.lows;
-        let block = lows_at::<T, O>(
-            self.words,
-            self.end - self.left + self.lows,
-            self.left - self.lows,
-        );
         let ahead = filled_le(self.lows as u8, self.low, block);
         let x = (ahead << (64 - n)) >> (64 - n);
         // By two shifts, so that none is by 64.
@@ -425,10 +464,10 @@ impl<'a, T: BitStore, O: BitOrder> BitReader<'a, T, O> {
         ensures kept { result ≡ None → self.new ≡ self.old }
     {
         let n = n as usize;
-        if self.left < n {
-            return None;
-        }
         if n <= self.have {
+            if self.left < n {
+                return None;
+            }
             // By two shifts, so that where `n` is 0 none is by 64, and no test of it is needed.
             let x = (self.window >> 1) >> (63 - n);
             self.window = self.window << n;
@@ -436,12 +475,12 @@ impl<'a, T: BitStore, O: BitOrder> BitReader<'a, T, O> {
             self.left -= n;
             return Some(x);
         }
+        let at = self.end - self.left + self.have;
+        let block = match bits_for::<T, O>(self.words, at, self.have, self.left, n) {
+            None => return None,
+            Some(block) => block,
+        };
         let need = n - self.have;
-        let block = bits_at::<T, O>(
-            self.words,
-            self.end - self.left + self.have,
-            self.left - self.have,
-        );
         let x = (self.window >> (64 - n)) + (block >> (64 - need));
         self.window = (block << (need - 1)) << 1;
         self.have = 64 - need;

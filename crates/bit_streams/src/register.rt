@@ -27,6 +27,84 @@ pub(crate) fn run_of(bit: bool, n: u8) -> u64
     if bit { u64::MAX } else { 0 }
 }
 
+// By `k`, the number that `k` binary ones write.
+static ONES: [u64; 64] = [
+    0x0,
+    0x1,
+    0x3,
+    0x7,
+    0xf,
+    0x1f,
+    0x3f,
+    0x7f,
+    0xff,
+    0x1ff,
+    0x3ff,
+    0x7ff,
+    0xfff,
+    0x1fff,
+    0x3fff,
+    0x7fff,
+    0xffff,
+    0x1ffff,
+    0x3ffff,
+    0x7ffff,
+    0xfffff,
+    0x1fffff,
+    0x3fffff,
+    0x7fffff,
+    0xffffff,
+    0x1ffffff,
+    0x3ffffff,
+    0x7ffffff,
+    0xfffffff,
+    0x1fffffff,
+    0x3fffffff,
+    0x7fffffff,
+    0xffffffff,
+    0x1ffffffff,
+    0x3ffffffff,
+    0x7ffffffff,
+    0xfffffffff,
+    0x1fffffffff,
+    0x3fffffffff,
+    0x7fffffffff,
+    0xffffffffff,
+    0x1ffffffffff,
+    0x3ffffffffff,
+    0x7ffffffffff,
+    0xfffffffffff,
+    0x1fffffffffff,
+    0x3fffffffffff,
+    0x7fffffffffff,
+    0xffffffffffff,
+    0x1ffffffffffff,
+    0x3ffffffffffff,
+    0x7ffffffffffff,
+    0xfffffffffffff,
+    0x1fffffffffffff,
+    0x3fffffffffffff,
+    0x7fffffffffffff,
+    0xffffffffffffff,
+    0x1ffffffffffffff,
+    0x3ffffffffffffff,
+    0x7ffffffffffffff,
+    0xfffffffffffffff,
+    0x1fffffffffffffff,
+    0x3fffffffffffffff,
+    0x7fffffffffffffff,
+];
+
+// The `n` lowest digits of a number. A mask out of a table is two steps where one by shifts is five, and none is left where
+// a compiler sees `n`.
+#[inline(always)]
+pub(crate) fn low_digits(n: u8, x: u64) -> u64
+    requires { n < 64 }
+    ensures { result ≡ x % 2 ^ n }
+{
+    x & ONES[n as usize]
+}
+
 // `pending` of `count` digits with the `n` lowest digits of `x` after them.
 #[inline(always)]
 pub(crate) fn joined(pending: u64, count: u8, n: u8, x: u64) -> u64
@@ -37,7 +115,7 @@ pub(crate) fn joined(pending: u64, count: u8, n: u8, x: u64) -> u64
     ensures below { result < 2 ^ (count + n) }
     ensures value { result ≡ pending * 2 ^ n + x % 2 ^ n }
 {
-    (pending << n) + x % (1 << n)
+    (pending << n) + low_digits(n, x)
 }
 
 // `pending` of `count` digits, filled up to 64 with the lowest digits of `high`.
@@ -90,7 +168,7 @@ pub(crate) fn joined_le(tails: u8, tail: u64, n: u8, x: u64) -> u64
     ensures digits { number_bits result (tails + n) ≡ number_bits tail tails ++ number_bits x n }
     ensures below { result < 2 ^ (tails + n) }
 {
-    tail + ((x % (1 << n)) << tails)
+    tail + (low_digits(n, x) << tails)
 }
 
 // `tail` of `tails` digits, filled up to 64 with the lowest digits of `x`.
@@ -113,7 +191,7 @@ pub(crate) fn rest_le(n: u8, x: u64, rest: u8) -> u64
     ensures below { result < 2 ^ rest }
 {
     // By two shifts, so that none is by 64.
-    ((x >> (n - rest - 1)) >> 1) % (1 << rest)
+    low_digits(rest, (x >> (n - rest - 1)) >> 1)
 }
 
 // The word of 64 bits that shows the number in this order, its most significant digit first.

@@ -15,6 +15,7 @@ use bit_slice::BitSlice;
 use bit_slice::inner::reversed;
 use std::alloc::Global;
 use std::marker::Model;
+use std::mem::replace;
 
 /// Appends bits to words that it owns, and gives them back as a vector.
 ///
@@ -62,6 +63,31 @@ impl<T: BitStore, O: BitOrder> Model for BitWriter<T, O> {
     ghost view = { λ w. record { list = w.blocks.list ++ number_bits w.tail w.tails; capacity = w.blocks.capacity } };
 
     ghost invariant = { λ w. IsTail (length w.blocks.list) w.tails w.tail };
+}
+
+// Appends the bits of a view by blocks.
+fn written_over<T: BitStore, O: BitOrder, U: BitStore, P: BitOrder>(
+    writer: BitWriter<T, O>,
+    bits: BitSlice<'_, U, P>,
+) -> (BitWriter<T, O>, Result<(), GrowError>)
+    ensures list { OnOk result.1 (result.0.list ≡ writer.list ++ list_of bits.entry) }
+    ensures refusal { Refuses result.1 (length writer.list + length (list_of bits.entry)) writer result.0 }
+    ensures capacity { writer.capacity ≤ result.0.capacity }
+{
+    let mut writer = writer;
+    let done = writer.write_blocks(bits);
+    (writer, done)
+}
+
+// The writer with the first `n` bits.
+#[cold]
+#[inline(never)]
+fn cut_back<T: BitStore, O: BitOrder>(writer: BitWriter<T, O>, n: usize) -> BitWriter<T, O>
+    ensures { result.list ≡ take n writer.list }
+{
+    let mut writer = writer;
+    writer.truncate(n);
+    writer
 }
 
 impl<T: BitStore, O: BitOrder> BitWriter<T, O> {
@@ -195,6 +221,7 @@ impl<T: BitStore, O: BitOrder> BitWriter<T, O> {
     }
 
     /// Appends the bits of a view, of words of any width and order.
+    #[inline(always)]
     pub fn write_bits<U: BitStore, P: BitOrder>(
         &mut self,
         bits: BitSlice<'_, U, P>,
@@ -209,6 +236,21 @@ impl<T: BitStore, O: BitOrder> BitWriter<T, O> {
         if len <= 64 {
             return self.write(len as u8, bits.load_be());
         }
+        let (writer, done) = written_over(self.moved_out(), bits);
+        let _empty = replace(self, writer);
+        done
+    }
+
+    // Appends the bits of a view by blocks.
+    fn write_blocks<U: BitStore, P: BitOrder>(
+        &mut self,
+        bits: BitSlice<'_, U, P>,
+    ) -> Result<(), GrowError>
+        ensures list { OnOk result (self.new.list ≡ self.old.list ++ list_of bits.entry) }
+        ensures refusal { Refuses result (length self.old.list + length (list_of bits.entry)) self.old self.new }
+        ensures capacity { self.old.capacity ≤ self.new.capacity }
+    {
+        let len = bits.len();
         match self.reserve(len) {
             Ok(()) => {}
             Err(why) => return Err(why),
@@ -225,6 +267,25 @@ impl<T: BitStore, O: BitOrder> BitWriter<T, O> {
             Ok(()) => Ok(()),
             Err(why) => Err(why),
         }
+    }
+
+    // The writer itself: one with no bit stays. A call that is no part of its caller takes it by value, so that the words and
+    // the registers need no place in memory where no such call is made.
+    #[inline(always)]
+    fn moved_out(&mut self) -> BitWriter<T, O>
+        ensures { result ≡ self.old }
+    {
+        let empty = BitWriter::new(self.blocks.allocator());
+        replace(self, empty)
+    }
+
+    // What `truncate` does, where a call that writes several fields is refused.
+    #[inline(always)]
+    pub(crate) fn go_back(&mut self, n: usize)
+        ensures { self.new.list ≡ take n self.old.list }
+    {
+        let writer = cut_back(self.moved_out(), n);
+        let _empty = replace(self, writer);
     }
 
     /// Appends `bit` until the length is a multiple of `multiple`: nothing where it is one already. Requires that

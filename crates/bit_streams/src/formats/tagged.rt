@@ -10,7 +10,7 @@ use crate::reader::BitReader;
 use crate::register::joined;
 use crate::writer::BitWriter;
 use bit_addressing::{BitOrder, BitStore, GrowError};
-use bit_slice::BitSlice;
+use bit_slice::{BitList, BitSlice};
 
 /// Why no tagged value was read: the reader stays where it was.
 #[derive(Clone, Copy, PartialEq, Eq, Debug)]
@@ -33,6 +33,7 @@ pub struct Tagged<'a, T: BitStore, O: BitOrder> {
 impl<T: BitStore, O: BitOrder> BitWriter<T, O> {
     /// Appends a tagged value. A refusal keeps what was written before. Requires that the tag is not 0, and that the value
     /// is whole bytes, fewer than 65536.
+    #[inline(always)]
     pub fn write_tagged<U: BitStore, P: BitOrder>(
         &mut self,
         tag: u8,
@@ -44,21 +45,29 @@ impl<T: BitStore, O: BitOrder> BitWriter<T, O> {
         ensures list { OnOk result (self.new.list ≡ self.old.list ++ tagged_bits tag (list_of value.entry)) }
         ensures unchanged { OnErr result (self.new.list ≡ self.old.list) }
     {
+        let len = value.len();
+        // A short value and what comes before it are one number, which is refused as a whole.
+        if len <= 40 {
+            let front = joined(tag as u64, 8, 16, (len / 8) as u64);
+            let number = joined(front, 24, len as u8, value.load_be());
+            return self.write(24 + len as u8, number);
+        }
         let before = self.len();
-        match self.write_front(tag, value.len() / 8) {
+        match self.write_front(tag, len / 8) {
             Ok(()) => {}
             Err(why) => return Err(why),
         }
         match self.write_bits(value) {
             Ok(()) => Ok(()),
             Err(why) => {
-                self.truncate(before);
+                self.go_back(before);
                 Err(why)
             }
         }
     }
 
     // Appends a tag and how many bytes there are, as one number.
+    #[inline(always)]
     fn write_front(&mut self, tag: u8, bytes: usize) -> Result<(), GrowError>
         requires { bytes < 2 ^ 16 }
         ensures list { OnOk result (self.new.list ≡ self.old.list ++ (binary 8 tag ++ binary 16 bytes)) }
@@ -73,6 +82,7 @@ impl<T: BitStore, O: BitOrder> BitWriter<T, O> {
 
 impl<'a, T: BitStore, O: BitOrder> BitReader<'a, T, O> {
     /// Reads a tagged value, without a copy of it.
+    #[inline(always)]
     pub fn read_tagged(&mut self) -> Result<Tagged<'a, T, O>, TaggedFault>
         ensures found { IfOk result (λ it. self.old.rest ≡ tagged_bits it.tag (list_of it.value) ++ self.new.rest) }
         ensures tag { IfOk result (λ it. 0 < it.tag) }
@@ -94,6 +104,7 @@ impl<'a, T: BitStore, O: BitOrder> BitReader<'a, T, O> {
     }
 
     // What `read_tagged` returns; after an error the reader may be anywhere.
+    #[inline(always)]
     fn tagged_parts(&mut self) -> Result<Tagged<'a, T, O>, TaggedFault>
         ensures found { IfOk result (λ it. self.old.rest ≡ tagged_bits it.tag (list_of it.value) ++ self.new.rest) }
         ensures tag { IfOk result (λ it. 0 < it.tag) }

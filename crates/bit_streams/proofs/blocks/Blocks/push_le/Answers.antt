@@ -5,13 +5,13 @@ use Rattle.bit_containers.specs.BitVec.{bits_in}
 use Rattle.bit_streams.proofs.Lists.{written_length, not_refused, refused_long, refused_memory, none_waits}
 use Rattle.bit_streams.proofs.blocks.Blocks.push_le.Goals as goal
 
-pub returns-then-len-BITS-clause-refusal : goal.returns-then-len-BITS-clause-refusal
-returns-then-len-BITS-clause-refusal g c =
+pub returns-then-is_full-clause-refusal : goal.returns-then-is_full-clause-refusal
+returns-then-is_full-clause-refusal g c =
     let i = c.self.inside in
     let w = g.T.BitStore.BITS in
     let all : length c.args.self.now.list ≡ w * length i.words.items + i.count = ap (λ v. length v.list) (sym c.self.view_is) ∙ written_length g.T.BitStore g.O.BitOrder i.words.items i.count i.pending in
-    let size : c.len.result * c.BITS.result ≡ w * length i.words.items = grind arith in
-    let past = c.if-len-BITS.true in
+    let size : w * c.len.result ≡ w * length i.words.items = grind arith in
+    let past = c.is_full.ensures.full c.if-is_full.true in
     refused_long (length c.args.self.now.list + 64) c.args.self.now (omega arith)
 
 pub returns-clause-list : goal.returns-clause-list
@@ -35,8 +35,8 @@ returns-clause-refusal g c =
     let few = c.self.invariant.few in
     let blocks = c.self.invariant.blocks in
     let even = c.requires in
-    let size : c.len.result * c.BITS.result ≡ w * length i.words.items = grind arith in
-    let within = c.if-len-BITS.false in
+    let size : w * c.len.result ≡ w * length i.words.items = grind arith in
+    let within = c.is_full.ensures.room c.if-is_full.false in
     not_refused (length c.args.self.now.list + 64) c.args.self.now _ (omega arith)
 
 pub returns-in-Err-clause-refusal : goal.returns-in-Err-clause-refusal
@@ -47,8 +47,8 @@ returns-in-Err-clause-refusal g c =
     let few = c.self.invariant.few in
     let blocks = c.self.invariant.blocks in
     let even = c.requires in
-    let size : c.len.result * c.BITS.result ≡ w * length i.words.items = grind arith in
-    let within = c.if-len-BITS.false in
+    let size : w * c.len.result ≡ w * length i.words.items = grind arith in
+    let within = c.is_full.ensures.room c.if-is_full.false in
     let full : w * vec_capacity i.words < w * length i.words.items + 64 = c.in-Err.ensures.full in
     let capacity : c.args.self.now.capacity ≡ bits_in w (vec_capacity i.words) 0 = ap (λ v. v.capacity) (sym c.self.view_is) in
     refused_memory (length c.args.self.now.list + 64) c.args.self.now _ (omega arith) (omega arith)

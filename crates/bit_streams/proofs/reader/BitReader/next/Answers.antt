@@ -89,7 +89,8 @@ overflow_add-x g c =
     let wide = length-padded rows in
     let begins = r.begins in
     let within = r.within in
-    let t = taken_next (padded rows) (i.end - i.left) i.have i.window c.args.n c.bits_at-block.result r.held (omega arith) c.requires (omega arith) (omega arith) c.bits_at-block.ensures in
+    let enough = c.in-Some.ensures.enough in
+    let t = taken_next (padded rows) (i.end - i.left) i.have i.window c.args.n c.in-Some.block r.held (omega arith) c.requires (omega arith) (omega arith) c.in-Some.ensures.digits in
     let below = t.1 in
     let most = pow_mono c.requires in
     omega (arith, below, most)
@@ -107,9 +108,10 @@ invariant_of-self-2 g c =
     let wide = length-padded rows in
     let begins = r.begins in
     let within = r.within in
-    let t = taken_next (padded rows) (i.end - i.left) i.have i.window c.args.n c.bits_at-block.result r.held (omega arith) c.requires (omega arith) (omega arith) c.bits_at-block.ensures in
-    emptied rows w count i.start (i.left - c.args.n) i.end (64 - (c.args.n - i.have)) (c.bits_at-block.result * 2 ^ (c.args.n - i.have - 1) % 2 ^ 64 * 2 ^ 1 % 2 ^ 64)
-    (reading_on rows w count i.start i.left i.end i.have i.window r long c.args.n (64 - (c.args.n - i.have)) (c.bits_at-block.result * 2 ^ (c.args.n - i.have - 1) % 2 ^ 64 * 2 ^ 1 % 2 ^ 64) (omega arith) (omega arith) t.2)
+    let enough = c.in-Some.ensures.enough in
+    let t = taken_next (padded rows) (i.end - i.left) i.have i.window c.args.n c.in-Some.block r.held (omega arith) c.requires (omega arith) (omega arith) c.in-Some.ensures.digits in
+    emptied rows w count i.start (i.left - c.args.n) i.end (64 - (c.args.n - i.have)) (c.in-Some.block * 2 ^ (c.args.n - i.have - 1) % 2 ^ 64 * 2 ^ 1 % 2 ^ 64)
+    (reading_on rows w count i.start i.left i.end i.have i.window r long c.args.n (64 - (c.args.n - i.have)) (c.in-Some.block * 2 ^ (c.args.n - i.have - 1) % 2 ^ 64 * 2 ^ 1 % 2 ^ 64) (omega arith) (omega arith) t.2)
 
 pub returns-clause-none : goal.returns-clause-none
 returns-clause-none g c =
@@ -120,6 +122,7 @@ returns-clause-none g c =
     let count = length i.words.now in
     let long : length rows ≡ w * count = length_row g.T.BitStore.value g.O.BitOrder.place w i.words.now in
     let rest_long : length c.args.self.now.rest ≡ i.left = ap (λ v. length v.rest) (sym c.self.view_is) ∙ length_rest rows w count i.start i.left i.end i.have i.window r long in
+    let enough = c.in-Some.ensures.enough in
     (λ e. absurd cc, λ h. absurd (omega arith))
 
 pub returns-clause-digits : goal.returns-clause-digits
@@ -135,8 +138,9 @@ returns-clause-digits g c =
     let wide = length-padded rows in
     let begins = r.begins in
     let within = r.within in
-    let t = taken_next (padded rows) (i.end - i.left) i.have i.window c.args.n c.bits_at-block.result r.held (omega arith) c.requires (omega arith) (omega arith) c.bits_at-block.ensures in
-    ap (λ v. v.rest) (sym c.self.view_is) ∙ taken_off rows w count i.start i.left i.end i.have i.window r long (binary c.args.n (i.window / 2 ^ (64 - c.args.n) + c.bits_at-block.result / 2 ^ (64 - (c.args.n - i.have)))) c.args.n (omega arith) t.0
+    let enough = c.in-Some.ensures.enough in
+    let t = taken_next (padded rows) (i.end - i.left) i.have i.window c.args.n c.in-Some.block r.held (omega arith) c.requires (omega arith) (omega arith) c.in-Some.ensures.digits in
+    ap (λ v. v.rest) (sym c.self.view_is) ∙ taken_off rows w count i.start i.left i.end i.have i.window r long (binary c.args.n (i.window / 2 ^ (64 - c.args.n) + c.in-Some.block / 2 ^ (64 - (c.args.n - i.have)))) c.args.n (omega arith) t.0
 
 pub returns-clause-below : goal.returns-clause-below
 returns-clause-below g c =
@@ -151,11 +155,12 @@ returns-clause-below g c =
     let wide = length-padded rows in
     let begins = r.begins in
     let within = r.within in
-    let t = taken_next (padded rows) (i.end - i.left) i.have i.window c.args.n c.bits_at-block.result r.held (omega arith) c.requires (omega arith) (omega arith) c.bits_at-block.ensures in
+    let enough = c.in-Some.ensures.enough in
+    let t = taken_next (padded rows) (i.end - i.left) i.have i.window c.args.n c.in-Some.block r.held (omega arith) c.requires (omega arith) (omega arith) c.in-Some.ensures.digits in
     t.1
 
-pub bits_at-block-requires-clause-fits : goal.bits_at-block-requires-clause-fits
-bits_at-block-requires-clause-fits g c =
+pub bits_for-requires-clause-fits : goal.bits_for-requires-clause-fits
+bits_for-requires-clause-fits g c =
     let i = c.self.inside in
     let r = c.self.invariant.reading in
     let w = g.T.BitStore.BITS in

@@ -8,13 +8,12 @@ use Rattle.bit_addressing.specs.Typed.{row}
 use Rattle.bit_addressing.proofs.Typed.{length_row}
 use Rattle.bit_streams.specs.Streams.{padded}
 use Rattle.bit_streams.proofs.Both.{second_filled, second_on}
-use Rattle.bit_streams.proofs.Lists.{one_shifted}
 use Rattle.bit_streams.proofs.Lows.{low_next, low_taken}
 use Rattle.bit_streams.proofs.Padded.{length_rest, length-padded, passed_off, taken_off}
 use Rattle.bit_streams.proofs.reader.BitReader.next_le.Goals as goal
 
-pub returns-then-left-n-clause-none : goal.returns-then-left-n-clause-none
-returns-then-left-n-clause-none g c =
+pub returns-then-self-n-clause-none : goal.returns-then-self-n-clause-none
+returns-then-self-n-clause-none g c =
     let i = c.self.inside in
     let r = c.self.invariant.reading in
     let rows = row g.T.BitStore g.O.BitOrder i.words.now in
@@ -36,7 +35,7 @@ invariant_of-self g c =
     let ahead = c.self.invariant.low_ahead in
     let wide = length-padded rows in
     let few = held.few in
-    let one = one_shifted c.args.n i.low (omega arith) in
+    let one = c.low_digits-x.ensures in
     let t = low_taken (padded rows) (i.end - i.left) i.lows i.low c.args.n held (omega arith) (omega arith) in
     second_on rows w count i.start i.left i.end i.have i.window i.lows i.low c.self.invariant long c.args.n (i.lows - c.args.n) (i.low / 2 ^ c.args.n) (omega arith) (omega arith) refl t.1
 
@@ -63,10 +62,10 @@ returns-then-n-self-clause-digits g c =
     let ahead = c.self.invariant.low_ahead in
     let wide = length-padded rows in
     let few = held.few in
-    let one = one_shifted c.args.n i.low (omega arith) in
+    let one = c.low_digits-x.ensures in
     let t = low_taken (padded rows) (i.end - i.left) i.lows i.low c.args.n held (omega arith) (omega arith) in
     ap (λ v. v.rest) (sym c.self.view_is)
-    ∙ taken_off rows w count i.start i.left i.end i.have i.window r long (number_bits (i.low % (1 * 2 ^ c.args.n % 2 ^ 64)) c.args.n) c.args.n (omega arith) (ap (λ k. number_bits k c.args.n) one ∙ t.0)
+    ∙ taken_off rows w count i.start i.left i.end i.have i.window r long (number_bits c.low_digits-x.result c.args.n) c.args.n (omega arith) (ap (λ k. number_bits k c.args.n) one ∙ t.0)
 
 pub returns-then-n-self-clause-below : goal.returns-then-n-self-clause-below
 returns-then-n-self-clause-below g c =
@@ -80,7 +79,7 @@ returns-then-n-self-clause-below g c =
     let ahead = c.self.invariant.low_ahead in
     let wide = length-padded rows in
     let few = held.few in
-    let one = one_shifted c.args.n i.low (omega arith) in
+    let one = c.low_digits-x.ensures in
     let t = low_taken (padded rows) (i.end - i.left) i.lows i.low c.args.n held (omega arith) (omega arith) in
     subst (λ k. k < 2 ^ c.args.n) (sym one) (mod_below i.low (2 ^ c.args.n) (pow_pos c.args.n))
 
@@ -108,8 +107,9 @@ invariant_of-self-2 g c =
     let few = held.few in
     let begins = r.begins in
     let within = r.within in
-    let t = low_next (padded rows) (i.end - i.left) i.lows i.low c.args.n c.lows_at-block.result c.filled_le-ahead.result held (omega arith) c.requires (omega arith) (omega arith) c.lows_at-block.ensures c.filled_le-ahead.ensures in
-    second_filled rows w count i.start i.left i.end i.have i.window i.lows i.low c.self.invariant long c.args.n (64 - (c.args.n - i.lows)) (c.lows_at-block.result / 2 ^ 1 / 2 ^ (c.args.n - i.lows - 1)) (omega arith) (omega arith) t.2
+    let enough = c.in-Some.ensures.enough in
+    let t = low_next (padded rows) (i.end - i.left) i.lows i.low c.args.n c.in-Some.block c.filled_le-ahead.result held (omega arith) c.requires (omega arith) (omega arith) c.in-Some.ensures.digits c.filled_le-ahead.ensures in
+    second_filled rows w count i.start i.left i.end i.have i.window i.lows i.low c.self.invariant long c.args.n (64 - (c.args.n - i.lows)) (c.in-Some.block / 2 ^ 1 / 2 ^ (c.args.n - i.lows - 1)) (omega arith) (omega arith) t.2
 
 pub returns-clause-none : goal.returns-clause-none
 returns-clause-none g c =
@@ -120,6 +120,7 @@ returns-clause-none g c =
     let count = length i.words.now in
     let long : length rows ≡ w * count = length_row g.T.BitStore.value g.O.BitOrder.place w i.words.now in
     let rest_long : length c.args.self.now.rest ≡ i.left = ap (λ v. length v.rest) (sym c.self.view_is) ∙ length_rest rows w count i.start i.left i.end i.have i.window r long in
+    let enough = c.in-Some.ensures.enough in
     (λ e. absurd cc, λ h. absurd (omega arith))
 
 pub returns-clause-digits : goal.returns-clause-digits
@@ -136,7 +137,8 @@ returns-clause-digits g c =
     let few = held.few in
     let begins = r.begins in
     let within = r.within in
-    let t = low_next (padded rows) (i.end - i.left) i.lows i.low c.args.n c.lows_at-block.result c.filled_le-ahead.result held (omega arith) c.requires (omega arith) (omega arith) c.lows_at-block.ensures c.filled_le-ahead.ensures in
+    let enough = c.in-Some.ensures.enough in
+    let t = low_next (padded rows) (i.end - i.left) i.lows i.low c.args.n c.in-Some.block c.filled_le-ahead.result held (omega arith) c.requires (omega arith) (omega arith) c.in-Some.ensures.digits c.filled_le-ahead.ensures in
     ap (λ v. v.rest) (sym c.self.view_is) ∙ taken_off rows w count i.start i.left i.end i.have i.window r long (number_bits (c.filled_le-ahead.result * 2 ^ (64 - c.args.n) % 2 ^ 64 / 2 ^ (64 - c.args.n)) c.args.n) c.args.n (omega arith) t.0
 
 pub returns-clause-below : goal.returns-clause-below
@@ -153,7 +155,8 @@ returns-clause-below g c =
     let few = held.few in
     let begins = r.begins in
     let within = r.within in
-    let t = low_next (padded rows) (i.end - i.left) i.lows i.low c.args.n c.lows_at-block.result c.filled_le-ahead.result held (omega arith) c.requires (omega arith) (omega arith) c.lows_at-block.ensures c.filled_le-ahead.ensures in
+    let enough = c.in-Some.ensures.enough in
+    let t = low_next (padded rows) (i.end - i.left) i.lows i.low c.args.n c.in-Some.block c.filled_le-ahead.result held (omega arith) c.requires (omega arith) (omega arith) c.in-Some.ensures.digits c.filled_le-ahead.ensures in
     t.1
 
 pub returns-clause-passed : goal.returns-clause-passed
@@ -164,10 +167,11 @@ returns-clause-passed g c =
     let w = g.T.BitStore.BITS in
     let count = length i.words.now in
     let long : length rows ≡ w * count = length_row g.T.BitStore.value g.O.BitOrder.place w i.words.now in
+    let enough = c.in-Some.ensures.enough in
     passed_off rows w count i.start i.left i.end i.have i.window r long c.args.n c.args.self.now c.self.view_is (omega arith)
 
-pub lows_at-block-requires-clause-fits : goal.lows_at-block-requires-clause-fits
-lows_at-block-requires-clause-fits g c =
+pub lows_for-requires-clause-fits : goal.lows_for-requires-clause-fits
+lows_for-requires-clause-fits g c =
     let i = c.self.inside in
     let r = c.self.invariant.reading in
     let w = g.T.BitStore.BITS in

@@ -1,6 +1,6 @@
 use Rattle.std.proofs.Common.{◌≡◌, ◌+◌, ◌*◌, ◌≤◌, ◌++◌, length, take}
 use Rattle.bit_slice.specs.BitSlice.{list_of}
-use Rattle.bit_streams.proofs.writer.BitWriter.write_bits.Given as goal
+use Rattle.bit_streams.proofs.writer.BitWriter.write_blocks.Given as goal
 
 abbrev pub invariant-loop-i : goal.invariant-loop-i
 invariant-loop-i g l =

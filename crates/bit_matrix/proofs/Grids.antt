@@ -1,5 +1,5 @@
 -- Where the bits of a matrix lie, and what becomes of them.
-use Rattle.std.proofs.Common.{◌≡◌, ◌≢◌, ℕ, ◌+◌, ◌-◌, ◌*◌, ◌<◌, ◌≤◌, Bool, true, false, ◌||◌, List, [], ◌∷◌, ◌++◌, Some, length, map, get_or, slice_get, slice_range, refl, sym, ◌∙◌, ap, subst, inl, inr, arith}
+use Rattle.std.proofs.Common.{◌≡◌, ◌≢◌, ℕ, ◌+◌, ◌-◌, ◌*◌, ◌<◌, ◌≤◌, Bool, true, false, ◌||◌, List, [], ◌∷◌, ◌++◌, Some, length, map, get_or, slice_get, slice_range, refl, sym, ◌∙◌, ap, subst, inl, inr, arith, zero, suc, ◌^◌, not, nat_eq}
 use Rattle.std.specs.Prelude.{◌⊎◌, ◌↔◌}
 use Rattle.std.proofs.lemmas.Bool.{cases_lt, cases_eq, true≢false}
 use Rattle.std.proofs.lemmas.Bool.Decides.{nat_tests}
@@ -7,8 +7,9 @@ use Rattle.std.proofs.lemmas.List.{map-append}
 use Rattle.std.proofs.Math.Nat.{mul-le-mul_right}
 use Rattle.std.proofs.lemmas.Option.{slice_get-get_or}
 use Rattle.bit_addressing.specs.Bits.{has_bit}
-use Rattle.bit_addressing.specs.Row.{moved, put, row_of, source_of}
+use Rattle.bit_addressing.specs.Row.{moved, number_of, put, row_of, source_of}
 use Rattle.bit_addressing.specs.Text.{digit_of}
+use Rattle.bit_addressing.proofs.Chunks.{has_number}
 use Rattle.bit_addressing.proofs.Rows.{get_or-row_one}
 use Rattle.bit_addressing.proofs.lists.Moved.{get_or-moved}
 use Rattle.bit_addressing.proofs.lists.Put.{put_before, put_after, put_inside}
@@ -156,6 +157,17 @@ get_or-first_bits number count j below few =
 -- a bit of a row is the one at its column in the row's part of the list
 pub row_item : (xs : List Bool) (start columns end j : ℕ) → end ≡ start + columns → j < columns → get_or (slice_range xs start end) j false ≡ get_or xs (start + j) false
 row_item xs start columns end j ends inside = ap (λ e. get_or (slice_range xs start e) j false) ends ∙ get_or-run xs start columns j inside
+
+-- a number of one bit says the bit that it was read from
+pub bit_loaded : (xs : List Bool) (at x : ℕ) → x ≡ number_of (slice_range xs at (at + 1)) → x < 2 ^ 1 → not (nat_eq x 0) ≡ get_or xs at false
+bit_loaded xs at x is small =
+    let same : at + 0 ≡ at = omega arith in
+    one x small ∙ ap (λ v. has_bit v 0) is ∙ has_number (slice_range xs at (at + 1)) 0 ∙ row_item xs at 1 (at + 1) 0 refl (omega arith) ∙ ap (λ i. get_or xs i false) same
+  where
+    one : (x : ℕ) → x < 2 ^ 1 → not (nat_eq x 0) ≡ has_bit x 0
+    one zero small = refl
+    one (suc zero) small = refl
+    one (suc (suc x)) small = absurd (omega arith)
 
 -- a bit of a row's view is that of the grid
 pub row_some : (xs : List Bool) (start columns end j : ℕ) → end ≡ start + columns → start + columns ≤ length xs → j < columns → slice_get (slice_range xs start end) j ≡ Some (get_or xs (start + j) false)

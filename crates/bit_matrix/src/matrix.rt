@@ -22,7 +22,7 @@ mod transpose;
 mod vectors;
 
 use bit_addressing::{GrowError, Lsb0};
-use bit_containers::{BitListMut, BitSlice, BitVec};
+use bit_containers::{BitList, BitListMut, BitSlice, BitVec};
 pub use iter::{Column, Rows};
 pub use making::RowsFault;
 use std::alloc::Global;
@@ -144,7 +144,7 @@ impl Matrix {
         ensures bit { result ≡ item self.now row column }
         ensures set { IsTrue result ↔ IsSet self.now row column }
     {
-        self.bits[row * self.stride + column]
+        self.bits.load_le_at(row * self.stride + column, 1) != 0
     }
 
     /// Writes the bit in a row and a column. Requires that the matrix has them.

@@ -42,18 +42,6 @@ part_free map count first some free =
       each = λ k low high. (let at : first + (k - first) ≡ k = omega arith in get_or_from_slice_get map k false false (ap (slice_get map) (sym at) ∙ free (k - first) (omega arith)));
     })
 
--- what a search for a part that is false has found
-pub next_fit : (map : List Bool) (count from : ℕ) (r : Option ℕ) → 0 < count → IfSome r (λ i. from ≤ i) → IfSome r (λ i. i + count ≤ length map) → IfSome r (λ i. (j : ℕ) → i ≤ j → j < i + count → slice_get map j ≡ Some false)
-    → IfSome r (λ i. (j : ℕ) → from ≤ j → j < i → part count map j ≢ replicate count false) → IfNone r ((j : ℕ) → from ≤ j → j + count ≤ length map → part count map j ≢ replicate count false)
-    → MatchOption r ((k : ℕ) → from ≤ k → AreFree map count k → ⊥) (λ first. IsNextRun map count from first)
-next_fit map count from None some begins inside each before none = λ k later free. none k later (run_inside map count k some free) (part_free map count k some free)
-next_fit map count from (Some i) some begins inside each before none = record {
-  begins = begins;
-  inside = inside;
-  free = λ k h. each (i + k) (omega arith) (omega arith);
-  before = λ k low high free. before k low high (part_free map count k some free);
-}
-
 module _ (map : List Bool) (from count : ℕ) (some : 0 < count) where
   -- no run of that many begins from `from` on before an index
   abbrev pub NoneBefore : ℕ → Type 0

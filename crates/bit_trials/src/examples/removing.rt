@@ -122,6 +122,7 @@ fn replaced_bits_shown(rt: HostRuntime) {
     check(&rt, items.next() == Some(true));
     let text = ok(&rt, format!(in rt.alloc(); "{items:?} {copy:?}"));
     check(&rt, text.as_str() == "Items([1, 0]) Items([1, 1, 0])");
+    ok(&rt, splice.finish());
 }
 
 // All that is replaced, taken first.

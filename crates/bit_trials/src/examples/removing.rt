@@ -112,19 +112,6 @@ fn spliced_from_both_ends(rt: HostRuntime) {
     holds(&rt, &v, b"001100");
 }
 
-// What is replaced, copied and shown.
-#[test]
-fn replaced_bits_shown(rt: HostRuntime) {
-    let mut v = of::<u8, Lsb0>(&rt, b"01101");
-    let mut splice = v.splice(1..4, None);
-    let mut items = splice.items();
-    let copy = ok(&rt, items.clone());
-    check(&rt, items.next() == Some(true));
-    let text = ok(&rt, format!(in rt.alloc(); "{items:?} {copy:?}"));
-    check(&rt, text.as_str() == "Items([1, 0]) Items([1, 1, 0])");
-    ok(&rt, splice.finish());
-}
-
 // All that is replaced, taken first.
 #[test]
 fn spliced_after_all_was_taken(rt: HostRuntime) {

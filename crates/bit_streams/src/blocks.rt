@@ -46,7 +46,7 @@ impl<T: BitStore, O: BitOrder> Model for Blocks<T, O> {
     ghost invariant = { λ w. IsPending T.BITS (length w.words.items) w.count w.pending };
 }
 
-// Whether 64 bits more than those of so many words pass `MAX_BITS`.
+// Whether 64 bits after those of `words` words pass `MAX_BITS`.
 #[inline(always)]
 fn is_full<T: BitStore>(words: usize) -> bool
     ensures full { result ≡ true → MAX_BITS < T.BITS * words + 64 }

@@ -2,13 +2,12 @@
 use Rattle.std.proofs.Common.{◌≡◌, ℕ, ◌+◌, ◌-◌, ◌≤◌, Bool, List, length, slice_range, refl, sym, ◌∙◌, ap, arith, rules}
 use Rattle.std.proofs.lemmas.List.{same_lists, places}
 use Rattle.bit_addressing.specs.Row.{put}
-use Rattle.bit_addressing.proofs.lists.Put.{length-put, put_none}
+use Rattle.bit_addressing.proofs.lists.Put.{length-put}
 use Rattle.bit_addressing.proofs.lists.Shown.{length-between, length-run}
 use Rattle.bit_rows.proofs.Numbers.{put_next}
 use Rattle.bit_slice.specs.Operators.{combined}
 use Rattle.bit_slice.proofs.Combining.{length-combined}
 use Rattle.bit_slice.proofs.Ranges.{part_combined}
-use Rattle.bit_slice.proofs.Shown.{run_none}
 use Rattle.bit_slice.proofs.Swapped.{put_again}
 
 -- what was put is read back
@@ -17,10 +16,6 @@ unfolding put
 put_read xs ys d n size h = same_lists _ _ (search (rules, places)) (λ i b below. grind (arith, places))
 
 module _ (f : Bool → Bool → Bool) (old ls rs : List Bool) (head len : ℕ) (size : length ls ≡ len) (room : head + len ≤ length old) where
-  -- before the first piece nothing is written
-  pub assigned_none : old ≡ put old head (slice_range (combined f ls rs) 0 0)
-  assigned_none = sym (ap (put old head) (run_none (combined f ls rs) 0 0 (omega arith)) ∙ put_none old head)
-
   -- one piece more is copied from the left and combined with the right
   pub assigned_more : (cur : List Bool) (done n : ℕ) → cur ≡ put old head (slice_range (combined f ls rs) 0 done) → done + n ≤ len
       → put (put cur (head + done) (slice_range ls done (done + n))) (head + done) (combined f (slice_range (put cur (head + done) (slice_range ls done (done + n))) (head + done) (head + done + n)) (slice_range rs done (done + n))) ≡ put old head (slice_range (combined f ls rs) 0 (done + n))

@@ -781,9 +781,8 @@ pub trait BitListMut: BitList {
         copy_over::<Self::Store, Self::Order, U, P>(self.as_raw_mut_slice(), head, len, source);
     }
 
-    /// Writes what `F` makes of each bit of one view and the bit of another for it, in one pass. A view may be a part, so
-    /// either side may be shifted. No dead bit changes. Takes no memory. Requires that both views have as many bits as
-    /// the list.
+    /// Writes the combination, by `F`, of the bits of two views at each index. A view may be a part, so either side may
+    /// be shifted. No dead bit changes. Takes no memory. Requires that both views have as many bits as the list.
     ///
     /// ```text
     /// of 0000, 0101 and 0011: bits.assign::<Xor, u8, Lsb0, u8, Lsb0>(left, right) leaves 0110

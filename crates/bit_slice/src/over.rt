@@ -329,8 +329,8 @@ pub(crate) fn combine_over<F: BitOperator, T: BitStore, O: BitOrder, U: BitStore
     combine_view::<F, T, O, U, P>(words, head, len, other);
 }
 
-// Writes over the list what `F` makes of each bit of `left` and the bit of `right` for it, as many bits at a time as stay
-// in the cache between the two steps. Requires that both views are as long as the list.
+// Writes over the list the combination, by `F`, of two views: a copy of `left`, which is combined with `right`, 16384 bits
+// at a time, so that the second step finds them in the cache. Requires that both views are as long as the list.
 pub(crate) fn assign_over<
     F: BitOperator,
     T: BitStore,

@@ -54,8 +54,8 @@ impl<'a, T: BitStore, O: BitOrder> BitSlice<'a, T, O> {
         read_block::<T, O>(self.words, self.head + at)
     }
 
-    // Whether the 64 bits from index `at` on are all `bit`: their words are compared as they lie, and turned round in no
-    // order. Requires that a block begins there.
+    // Whether the 64 bits from index `at` on are all `bit`. Their words are compared as they lie, in any order. Requires
+    // that a block begins there.
     #[inline(always)]
     pub(crate) fn is_block_of(self, at: usize, bit: bool) -> bool
         requires begins { (head_of self + at) % 64 ≡ 0 }

@@ -35,14 +35,6 @@ module _ {X Y : Type 0} (W : store.Ghosts X) (P : order.Ghosts Y) where
       row_whole old new (combined f (row W P old) ys) n count (length-combined f (row W P old) ys ∙ long)
       (is ∙ ap (λ l. put (row W P old) 0 (combined f l zs)) all ∙ ap (λ l. put (row W P old) 0 (combined f (row W P old) l)) same)
 
-  -- a list that is made of all bits and written over them
-  pub row_rewritten : (old new : List X) (f : List Bool → List Bool) (n len : ℕ) → length old ≡ n → len ≡ W.BITS * n → ((xs : List Bool) → length xs ≡ len → length (f xs) ≡ len)
-      → row W P new ≡ put (row W P old) 0 (f (slice_range (row W P old) 0 (0 + len))) → row W P new ≡ f (row W P old)
-  row_rewritten old new f n len count size keeps is =
-      let long : length (row W P old) ≡ W.BITS * n = length_row W.value P.place W.BITS old ∙ ap (λ m. W.BITS * m) count in
-      let all : slice_range (row W P old) 0 (0 + len) ≡ row W P old = shown_all (row W P old) len (size ∙ sym long) in
-      row_whole old new (f (row W P old)) n count (keeps (row W P old) (long ∙ sym size) ∙ size) (is ∙ ap (λ l. put (row W P old) 0 (f l)) all)
-
   -- the words of an array are those for its list
   pub words_of_bits : (ws : List X) → IsWidth W.BITS → ws ≡ words_from W P (row W P ws) → ws ≡ words_for_list W P (row W P ws)
   words_of_bits ws width from =

@@ -23,11 +23,3 @@ module _ {X : Type 0} where
   -- and the bits that are left end where they did
   pub nth_end : (s t : Left X) (n : ℕ) (r : Option Bool) → SkipsThenYields first_left s n r t → t.head + length t.list ≡ s.head + length s.list
   nth_end s t n r is = is.1.2.2 ∙ (words_yielded s is.1.0 is.0 is.1.1).1
-
-  -- after `nth_back` the words are the same
-  pub nth_back_words : (s t : Left X) (n : ℕ) (r : Option Bool) → SkipsThenYields last_left s n r t → t.words ≡ s.words
-  nth_back_words s t n r is = is.1.2.1 ∙ (back_yielded s is.1.0 is.0 is.1.1).0
-
-  -- and the bits that are left begin where they did
-  pub nth_back_head : (s t : Left X) (n : ℕ) (r : Option Bool) → SkipsThenYields last_left s n r t → t.head ≡ s.head
-  nth_back_head s t n r is = is.1.2.2 ∙ (back_yielded s is.1.0 is.0 is.1.1).1

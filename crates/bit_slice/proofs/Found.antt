@@ -1,13 +1,12 @@
 -- What is found in a part of a row, said of the list of a view.
-use Rattle.std.proofs.Common.{[], ◌∷◌, ◌≡◌, ℕ, zero, suc, ◌+◌, ◌-◌, ◌<◌, ◌≤◌, Bool, true, false, not, List, length, get_or, drop, replicate, slice_range, slice_get, option_map, set, Some, None, Option, refl, sym, ◌∙◌, ap, subst, arith, rules}
+use Rattle.std.proofs.Common.{[], ◌∷◌, ◌≡◌, ℕ, zero, suc, ◌+◌, ◌-◌, ◌<◌, ◌≤◌, Bool, true, false, not, List, length, get_or, drop, replicate, slice_range, slice_get, Some, None, Option, refl, sym, ◌∙◌, ap, subst, arith, rules}
 use Rattle.std.specs.Prelude.{MatchOption, IfSome, IfNone, EachIndex, SomeIndex, IsTrue, ◌↔◌}
 use Rattle.std.specs.List.{list_all, position, position_or_len, prefix_len, suffix_len}
 use Rattle.bit_slice.proofs.Counting.{told_false, told_true}
 use Rattle.std.proofs.lemmas.Option.{get_or_from_slice_get}
 use Rattle.std.proofs.lemmas.List.Sums.{position_or_len_is, prefix_len_is, suffix_len_is}
 use Rattle.std.proofs.lemmas.Option.{slice_get-get_or}
-use Rattle.std.proofs.Math.Seq.{lt-length-set}
-use Rattle.std.proofs.lemmas.List.{get_or-take, get_or-drop, get_or-replicate, get_or-set_same}
+use Rattle.std.proofs.lemmas.List.{get_or-take, get_or-drop, get_or-replicate}
 use Rattle.bit_addressing.proofs.lists.Shown.{length-between}
 use Rattle.bit_addressing.specs.Row.{IsFirst}
 use Rattle.std.proofs.Common.{◌≢◌, ◌*◌, ◌/◌, ◌%◌, ◌^◌, if◌then◌else◌, eqb, bit_xor, inl, inr}
@@ -168,11 +167,6 @@ module _ (xs found : List Bool) (head len from upto : ℕ) (bit : Bool) (is : fo
 -- an item read with a default is the item, inside the list
 pub item_is : (xs : List Bool) (j : ℕ) (b : Bool) → j < length xs → get_or xs j false ≡ b → slice_get xs j ≡ Some b
 item_is xs j b h is = slice_get-get_or xs j false h ∙ ap Some is
-
--- an item that is flipped where it stands
-pub item_flipped : (xs ys : List Bool) (i : ℕ) (b : Bool) → i < length xs → slice_get xs i ≡ Some b → ys ≡ set xs i (not b) → slice_get ys i ≡ option_map not (slice_get xs i)
-item_flipped xs ys i b inside is made =
-    ap (λ l. slice_get l i) made ∙ item_is (set xs i (not b)) i (not b) (lt-length-set xs i (not b) inside) (get_or-set_same xs i (not b) false inside) ∙ ap (option_map not) (sym is)
 
 module _ (xs : List Bool) (lo n : ℕ) (bit : Bool) (size : length xs ≡ n) where
   -- no item from lo on has the bit

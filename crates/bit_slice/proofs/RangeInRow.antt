@@ -1,12 +1,11 @@
 -- A range of the list that stands in a row from a head on: where it is in the row, and what calls leave that write it.
-use Rattle.std.proofs.Common.{◌≡◌, ℕ, ◌+◌, ◌-◌, ◌<◌, ◌≤◌, Bool, List, length, map, not, replicate, slice_get, slice_range, sym, ◌∙◌, ap, arith}
+use Rattle.std.proofs.Common.{◌≡◌, ℕ, ◌+◌, ◌-◌, ◌≤◌, Bool, List, length, map, not, replicate, slice_range, sym, ◌∙◌, ap, arith}
 use Rattle.bit_addressing.specs.Range.{LiesIn}
 use Rattle.bit_addressing.specs.Row.{put}
-use Rattle.bit_addressing.proofs.lists.Shown.{length-between, length-run, shown_written}
+use Rattle.bit_addressing.proofs.lists.Shown.{length-between, length-run}
 use Rattle.bit_slice.specs.Operators.{combined, part_onto}
 use Rattle.bit_slice.proofs.Combining.{length-combined}
 use Rattle.bit_slice.proofs.Parts.{run_in_run}
-use Rattle.bit_slice.proofs.Ranges.{read_before, read_after}
 
 module _ (old : List Bool) (head len : ℕ) (room : head + len ≤ length old) where
   abbrev list : List Bool
@@ -25,12 +24,6 @@ module _ (old : List Bool) (head len : ℕ) (room : head + len ≤ length old) w
   length-combined_within f from upto dest fits =
       let size = length-run old head len room in
       length-combined f (slice_range list dest (dest + (upto - from))) (slice_range list from upto) ∙ length-run list dest (upto - from) (omega (arith, size, fits))
-
-  -- the list after two runs of it were combined in the row
-  pub combined_list : (new : List Bool) (f : Bool → Bool → Bool) (from upto dest : ℕ) → dest + (upto - from) ≤ len → new ≡ put old (head + dest) (part_onto (combined f) list from upto dest) → slice_range new head (head + len) ≡ put list dest (part_onto (combined f) list from upto dest)
-  combined_list new f from upto dest fits is =
-      let size = length-combined_within f from upto dest fits in
-      ap (λ r. slice_range r head (head + len)) is ∙ shown_written old (part_onto (combined f) list from upto dest) head len dest (omega (arith, size, fits)) room
 
 module _ (old : List Bool) (head len : ℕ) (room : head + len ≤ length old) (from upto first last : ℕ) (begins : first ≡ from) (ends : last ≡ upto) (lies : LiesIn from upto len) where
   abbrev within : List Bool
@@ -69,20 +62,3 @@ module _ (old : List Bool) (head len : ℕ) (room : head + len ≤ length old) (
       ∙ ap (λ k. put old (head + dest) (combined f (slice_range old (head + dest) (head + (dest + n))) (slice_range old (head + k) (head + upto)))) begins
       ∙ ap (λ l. put old (head + dest) (combined f l (slice_range old (head + from) (head + upto)))) (range_of_run old head len room dest (dest + n) (omega arith, fits))
       ∙ ap (λ l. put old (head + dest) (combined f (slice_range within dest (dest + n)) l)) (range_of_run old head len room from upto lies)
-
-module _ (old new bits : List Bool) (head len from upto : ℕ) (room : head + len ≤ length old) (lies : LiesIn from upto len) (size : length bits ≡ upto - from) (is : new ≡ put old (head + from) bits) where
-  -- the list after a range of it was written in the row
-  pub written_list : slice_range new head (head + len) ≡ put (slice_range old head (head + len)) from bits
-  written_list = ap (λ r. slice_range r head (head + len)) is ∙ shown_written old bits head len from (omega (arith, size, lies)) room
-
-  -- each bit before the range stays
-  pub written_before : (j : ℕ) → j < from → slice_get (slice_range new head (head + len)) j ≡ slice_get (slice_range old head (head + len)) j
-  written_before j below =
-      let long = length-run old head len room in
-      ap (λ l. slice_get l j) written_list ∙ read_before (slice_range old head (head + len)) bits from (upto - from) size (omega (arith, long, lies)) j below
-
-  -- each bit from the end of the range on stays
-  pub written_after : (j : ℕ) → upto ≤ j → slice_get (slice_range new head (head + len)) j ≡ slice_get (slice_range old head (head + len)) j
-  written_after j above =
-      let long = length-run old head len room in
-      ap (λ l. slice_get l j) written_list ∙ read_after (slice_range old head (head + len)) bits from (upto - from) size (omega (arith, long, lies)) j (omega (arith, above, lies))

@@ -1,7 +1,7 @@
 -- Bits that are held between bytes and numbers.
 use Rattle.std.proofs.Common.{◌≡◌, ℕ, ◌+◌, ◌*◌, ◌/◌, ◌%◌, ◌^◌, ◌<◌, ◌≤◌, Bool, List, [], ◌∷◌, ◌++◌, append_assoc, length, Some, None, refl, sym, ◌∙◌, ap, arith}
 use Rattle.std.specs.Prelude.{Option, IfSome}
-use Rattle.std.specs.Io.KnownBytes.{Appends, Consumes, IsAtEnd, Keeps}
+use Rattle.std.specs.Io.KnownBytes.{Appends, Consumes, IsAtEnd}
 use Rattle.std.proofs.Math.Nat.{mod-eq_of_lt}
 use Rattle.std.proofs.Math.Pow.{pow_mono}
 use Rattle.std.proofs.lemmas.List.{length-append}
@@ -27,12 +27,6 @@ module _ (place : ℕ → ℕ → ℕ) where
       let low : pending * 256 + x ≡ pending * 2 ^ 8 + x % 2 ^ 8 = ap (λ k. pending * 256 + k) (sym (mod-eq_of_lt below)) in
       ap (λ k. binary (held + 8) k ++ row_of place 8 ys) low ∙ ap (λ l. l ++ row_of place 8 ys) (joined_digits held 8 pending x) ∙ append_assoc (binary held pending) (binary 8 x) (row_of place 8 ys)
       ∙ ap (λ l. binary held pending ++ l) (sym e)
-
-  -- no byte was read
-  pub kept_left : (old new : Option (List ℕ)) (held pending : ℕ) → Keeps old new → Stays (bits_left place held pending old) (bits_left place held pending new)
-  kept_left None new held pending e = tt
-  kept_left (Some xs) None held pending e = e
-  kept_left (Some xs) (Some ys) held pending e = ap (λ bs. binary held pending ++ row_of place 8 bs) e
 
   row_none : (held pending : ℕ) → length (binary held pending) + length (row_of place 8 []) ≡ held
   unfolding row_of
@@ -61,12 +55,6 @@ module _ (place : ℕ → ℕ → ℕ) where
       ap (λ l. l ++ binary left (pending % 2 ^ left)) (ap (row_of place 8) e ∙ row_append place 8 xs (byte ∷ []) (omega arith) ∙ ap (λ l. row_of place 8 xs ++ l) bits)
       ∙ append_assoc (row_of place 8 xs) (binary 8 (pending / 2 ^ left)) (binary left (pending % 2 ^ left))
       ∙ ap (λ l. row_of place 8 xs ++ l) (sym (binary_parted 8 left pending) ∙ ap (λ k. binary k pending) (sym is))
-
-  -- bytes kept keep the bits made of them
-  pub kept_made : (old new : Option (List ℕ)) (held pending : ℕ) → Keeps old new → Stays (bits_made place held pending old) (bits_made place held pending new)
-  kept_made None new held pending e = tt
-  kept_made (Some xs) None held pending e = e
-  kept_made (Some xs) (Some ys) held pending e = ap (λ bs. row_of place 8 bs ++ binary held pending) e
 
   -- more bits are held
   pub more_held : (bytes : Option (List ℕ)) (held pending n x : ℕ) → Gains (bits_made place held pending bytes) (bits_made place (held + n) (pending * 2 ^ n + x % 2 ^ n) bytes) (binary n x)

@@ -112,6 +112,26 @@ fn spliced_from_both_ends(rt: HostRuntime) {
     holds(&rt, &v, b"001100");
 }
 
+// What is replaced, as text.
+#[test]
+fn replaced_bits_shown(rt: HostRuntime) {
+    let mut v = of::<u8, Lsb0>(&rt, b"01101");
+    let mut splice = v.splice(1..4, None);
+    let text = ok(&rt, format!(in rt.alloc(); "{:?}", splice.items()));
+    check(&rt, text.as_str() == "Items([1, 1, 0])");
+    ok(&rt, splice.finish());
+}
+
+// A copy gives all of them, and the splice has none left.
+#[test]
+fn replaced_bits_copied(rt: HostRuntime) {
+    let mut v = of::<u8, Msb0>(&rt, b"01101");
+    let mut splice = v.splice(1..4, None);
+    check(&rt, ok(&rt, splice.items().clone()).count() == 3);
+    check(&rt, splice.next().is_none());
+    ok(&rt, splice.finish());
+}
+
 // All that is replaced, taken first.
 #[test]
 fn spliced_after_all_was_taken(rt: HostRuntime) {

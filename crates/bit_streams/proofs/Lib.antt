@@ -12,3 +12,4 @@ pub mod Held
 pub mod Headers
 pub mod Lows
 pub mod Both
+pub mod Late

@@ -8,10 +8,6 @@ use Rattle.std.proofs.lemmas.Nat.{div-mul-add, mod-mul-add, mod_below, pow-add}
 use Rattle.std.proofs.Math.Nat.{mod-eq_of_lt, mul_comm}
 use Rattle.std.proofs.Math.Pow.{pow_pos, pow_mono}
 use Rattle.std.proofs.lemmas.List.{nil_from_length}
-use Rattle.bit_addressing.specs.declared.store.BitStore as store
-use Rattle.bit_addressing.specs.declared.order.BitOrder as order
-use Rattle.bit_addressing.specs.Typed.{row}
-use Rattle.bit_addressing.proofs.Typed.{length_row}
 use Rattle.bit_addressing.specs.declared.length.TheConstants.{MAX_BITS}
 use Rattle.bit_addressing.specs.declared.errors.GrowError.{GrowError}
 use Rattle.bit_addressing.specs.declared.errors.GrowError.TheVariants.{TooLong, OutOfMemory}
@@ -111,17 +107,17 @@ block_written rs now count pending room rest n x block high low is block_is high
     ∙ append_assoc (rs ++ binary count pending) (binary room high) (binary rest low)
     ∙ ap (λ l. (rs ++ binary count pending) ++ l) (sym digits)
 
-module _ {X Y : Type 0} (W : store.Ghosts X) (P : order.Ghosts Y) where
-  -- the bits written are those of the words and those that wait
-  pub written_length : (ws : List X) (count pending : ℕ) → length (row W P ws ++ binary count pending) ≡ W.BITS * length ws + count
-  written_length ws count pending =
-      let digits = length-binary count pending in
-      let words : length (row W P ws) ≡ W.BITS * length ws = length_row W.value P.place W.BITS ws in
-      length-append (row W P ws) (binary count pending) ∙ omega arith
+-- where no bits wait the list is the words' row
+pub none_waits : (rs : List Bool) (count p : ℕ) → count ≡ 0 → rs ++ binary count p ≡ rs
+none_waits rs count p e = ap (λ l. rs ++ l) (nil_from_length (binary count p) (length-binary count p ∙ e)) ∙ append-nil rs
 
-  -- before the first number nothing is written
-  pub nothing_written : (ws : List X) → ws ≡ [] → row W P ws ++ binary 0 0 ≡ []
-  nothing_written ws e = nil_from_length _ (written_length ws 0 0 ∙ (let l : W.BITS * length ws ≡ 0 = ap (λ v. W.BITS * length v) e ∙ omega arith in omega arith))
+-- the bits written are those of the words and those that wait
+pub written_length : (rs : List Bool) (count pending : ℕ) → length (rs ++ binary count pending) ≡ length rs + count
+written_length rs count pending = let digits = length-binary count pending in length-append rs (binary count pending) ∙ omega arith
+
+-- before the first number nothing is written
+pub nothing_written : (rs : List Bool) → rs ≡ [] → rs ++ binary 0 0 ≡ []
+nothing_written rs e = none_waits rs 0 0 refl ∙ e
 
 -- a number that fits is not refused for its length
 pub not_refused : (wanted : ℕ) (old new : Writing) → wanted ≤ MAX_BITS → Refuses {A = Unit {0}} (Ok tt) wanted old new
@@ -205,10 +201,6 @@ pub begins_through : (old mid new more : List Bool) → mid ≡ old ++ more → 
 begins_through old mid new more is begins =
     begins_with old new (more ++ drop (length mid) new)
     (sym (take-append-drop (length mid) new) ∙ ap (λ l. l ++ drop (length mid) new) (begins ∙ is) ∙ append_assoc old more (drop (length mid) new))
-
--- where no bits wait the list is the words' row
-pub none_waits : (rs : List Bool) (count p : ℕ) → count ≡ 0 → rs ++ binary count p ≡ rs
-none_waits rs count p e = ap (λ l. rs ++ l) (nil_from_length (binary count p) (length-binary count p ∙ e)) ∙ append-nil rs
 
 -- a call is refused as the call that it makes, which needs no more bits
 pub refused_as : {A : Type 0} (result : Result A GrowError) (wanted more : ℕ) (old new was now : Writing) → was.capacity ≡ old.capacity → (now.list ≡ was.list → new.list ≡ old.list) → more ≤ wanted → (MAX_BITS < wanted → MAX_BITS < more) → Refuses result more was now → Refuses result wanted old new

@@ -1,5 +1,5 @@
 -- What a register of 64 bits gives, whose next bit is its highest.
-use Rattle.std.proofs.Common.{◌≡◌, ℕ, zero, suc, ◌+◌, ◌-◌, ◌*◌, ◌/◌, ◌%◌, ◌^◌, ◌<◌, ◌≤◌, Bool, List, [], ◌++◌, append_assoc, length, take, drop, slice_range, refl, sym, ◌∙◌, ap, subst, arith, rules}
+use Rattle.std.proofs.Common.{◌≡◌, ℕ, ◌+◌, ◌-◌, ◌*◌, ◌/◌, ◌%◌, ◌^◌, ◌<◌, ◌≤◌, Bool, List, [], ◌++◌, append_assoc, length, take, drop, slice_range, refl, sym, ◌∙◌, ap, subst, arith, rules}
 use Rattle.std.proofs.lemmas.List.{take-append-drop, length-take-le, drop_at, length-append, nil_from_length, same_lists, places}
 use Rattle.std.proofs.lemmas.Nat.{mod-mul-add, mod_below, pow-add, div-add-mod', mul-mod_first}
 use Rattle.std.proofs.Math.Pow.{pow_pos}

@@ -1,7 +1,10 @@
 -- Readers and writers: what contracts see of them, and what always holds of their registers.
-use Rattle.std.specs.Prelude.{◌≡◌, ℕ, ◌+◌, ◌-◌, ◌*◌, ◌%◌, ◌^◌, ◌<◌, ◌≤◌, ◌++◌, ◌↔◌, ◌⊎◌, Bool, false, List, drop, length, replicate, slice_range, refl, Result, Err, OnErr}
+use Rattle.std.specs.Prelude.{◌≡◌, ℕ, ◌+◌, ◌-◌, ◌*◌, ◌%◌, ◌^◌, ◌<◌, ◌≤◌, ◌++◌, ◌↔◌, ◌⊎◌, Bool, false, List, drop, length, map, replicate, slice_range, take, refl, Result, Err, OnErr}
 use Rattle.std.specs.Coded.{Coded, code_by, coded×, coded_list, coded_ℕ, coded_bool}
-use Rattle.bit_addressing.specs.Row.{binary, number_bits, words_for}
+use Rattle.bit_addressing.specs.Row.{binary, number_bits, row_of, words_for}
+use Rattle.bit_addressing.specs.Typed.{row}
+use Rattle.bit_addressing.specs.declared.store.BitStore as store
+use Rattle.bit_addressing.specs.declared.order.BitOrder as order
 use Rattle.bit_addressing.specs.declared.errors.GrowError.{GrowError}
 use Rattle.bit_addressing.specs.declared.errors.GrowError.TheVariants.{TooLong, OutOfMemory}
 use Rattle.bit_addressing.specs.declared.length.TheConstants.{MAX_BITS}
@@ -35,12 +38,21 @@ pub record Refuses {A : Type 0} (result : Result A GrowError) (wanted : ℕ) (ol
   pub memory : result ≡ Err OutOfMemory → old.capacity < wanted
   pub unchanged : OnErr result (new.list ≡ old.list)
 
--- what always holds of a writer: after n words of w bits, which are whole blocks of 64 bits, fewer than 64 bits wait in the register, as a number of `count` digits
-pub record IsPending (w n count pending : ℕ) : Type 0 where
+-- the places by the order from the most significant bit
+abbrev pub highest_first : ℕ → ℕ → ℕ
+highest_first w i = w - 1 - i
+
+module _ {X Y : Type 0} (W : store.Ghosts X) (P : order.Ghosts Y) where
+  -- the bits of words of which the last `late` are by the order from the most significant bit, and the others by their own
+  unfoldable pub written_row : ℕ → List X → List Bool
+  written_row late words = row W P (take (length words - late) words) ++ row_of highest_first W.BITS (map W.value (drop (length words - late) words))
+
+-- what always holds of a writer: after `len` bits in words, which are whole blocks of 64 bits, fewer than 64 bits wait in the register, as a number of `count` digits
+pub record IsPending (len count pending : ℕ) : Type 0 where
   pub few : count < 64
   pub small : pending < 2 ^ count
-  pub blocks : w * n % 64 ≡ 0
-  pub fits : w * n ≤ MAX_BITS
+  pub blocks : len % 64 ≡ 0
+  pub fits : len ≤ MAX_BITS
 
 -- what always holds of a writer's last digits: they wait as a number of `tails` digits after a list of `len` bits, of whose last block it is not the end
 pub record IsTail (len tails tail : ℕ) : Type 0 where

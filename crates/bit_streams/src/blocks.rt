@@ -6,32 +6,28 @@ ghost use Rattle.bit_addressing.specs.declared.length.TheConstants.{MAX_BITS};
 ghost use Rattle.bit_containers.specs.BitVec.{IsClean};
 ghost use Rattle.bit_streams.specs.Streams.{Refuses};
 
-use crate::register::{
-    block_of, block_of_le, cut_at, filled, front_of, joined, low_digits, make_room, push_block,
-};
-use bit_addressing::{BitOrder, BitStore, GrowError, MAX_BITS, elts};
+use crate::register::{filled, front_of, joined, low_digits};
+use crate::words::Words;
+use bit_addressing::{BitOrder, BitStore, GrowError, MAX_BITS};
 use bit_containers::{BitList, BitVec};
 use bit_slice::inner::reversed;
 use std::alloc::Global;
-use std::marker::{Model, PhantomData};
+use std::marker::Model;
 
 // Appends digits to words that it owns, each number with its most significant digit first. In contracts `w` is `w.list`,
 // what was written, and `w.capacity`, the number of bits that there is room for.
 #[derive(Drop)]
 pub(crate) struct Blocks<T: BitStore, O: BitOrder> {
     // What was written, but for the last bits.
-    words: Vec<T>,
+    words: Words<T, O>,
     // The last bits as a number of `count` digits, fewer than 64.
     pending: u64,
     count: u8,
-    order: PhantomData<O>,
 }
 
 impl<T: BitStore, O: BitOrder> Model for Blocks<T, O> {
-    ghost use Rattle.std.specs.Prelude.{◌++◌, length, vec_capacity};
+    ghost use Rattle.std.specs.Prelude.{◌++◌, length};
     ghost use Rattle.bit_addressing.specs.Row.{binary};
-    ghost use Rattle.bit_addressing.specs.Typed.{row};
-    ghost use Rattle.bit_containers.specs.BitVec.{bits_in};
     ghost use Rattle.bit_streams.specs.Streams.{IsPending, Writing, writing_code};
 
     ghost Value = { Writing };
@@ -39,20 +35,11 @@ impl<T: BitStore, O: BitOrder> Model for Blocks<T, O> {
     ghost coded = { writing_code };
 
     ghost view = { λ w. record {
-      list = row T.BitStore O.BitOrder w.words.items ++ binary w.count w.pending;
-      capacity = bits_in T.BITS (vec_capacity w.words) 0;
+      list = w.words.list ++ binary w.count w.pending;
+      capacity = w.words.capacity;
     } };
 
-    ghost invariant = { λ w. IsPending T.BITS (length w.words.items) w.count w.pending };
-}
-
-// Whether 64 bits after those of `words` words pass `MAX_BITS`.
-#[inline(always)]
-fn is_full<T: BitStore>(words: usize) -> bool
-    ensures full { result ≡ true → MAX_BITS < T.BITS * words + 64 }
-    ensures room { result ≡ false → T.BITS * words + 64 ≤ MAX_BITS }
-{
-    words > (MAX_BITS - 64) / T::BITS as usize
+    ghost invariant = { λ w. IsPending (length w.words.list) w.count w.pending };
 }
 
 impl<T: BitStore, O: BitOrder> Blocks<T, O> {
@@ -62,10 +49,9 @@ impl<T: BitStore, O: BitOrder> Blocks<T, O> {
         ensures capacity { result.capacity ≡ 0 }
     {
         Blocks {
-            words: Vec::new(alloc),
+            words: Words::new(alloc),
             pending: 0,
             count: 0,
-            order: PhantomData,
         }
     }
 
@@ -78,10 +64,9 @@ impl<T: BitStore, O: BitOrder> Blocks<T, O> {
     {
         match BitVec::<T, O>::with_capacity(alloc, n) {
             Ok(bits) => Ok(Blocks {
-                words: bits.into_vec(),
+                words: Words::of(bits.into_vec()),
                 pending: 0,
                 count: 0,
-                order: PhantomData,
             }),
             Err(why) => Err(why),
         }
@@ -100,17 +85,16 @@ impl<T: BitStore, O: BitOrder> Blocks<T, O> {
         let pending = bits.load_be_at(at, count);
         bits.truncate(at);
         Blocks {
-            words: bits.into_vec(),
+            words: Words::of(bits.into_vec()),
             pending,
             count,
-            order: PhantomData,
         }
     }
 
     // The allocator of the words.
     #[inline(always)]
     pub(crate) fn allocator(&self) -> Global {
-        *self.words.allocator()
+        self.words.allocator()
     }
 
     // The number of bits written.
@@ -119,7 +103,7 @@ impl<T: BitStore, O: BitOrder> Blocks<T, O> {
         ensures value { result ≡ length self.now.list }
         ensures few { result ≤ MAX_BITS }
     {
-        self.words.len() * T::BITS as usize + self.count as usize
+        self.words.len() + self.count as usize
     }
 
     // The number of bits that wait in the register. A register that isn't full stays within `MAX_BITS`, since the
@@ -145,7 +129,7 @@ impl<T: BitStore, O: BitOrder> Blocks<T, O> {
         if n > MAX_BITS - len {
             return Err(GrowError::TooLong);
         }
-        match make_room(&mut self.words, elts::<T>(self.count as usize + n)) {
+        match self.words.make_room(self.count as usize + n) {
             Ok(()) => {}
             Err(_) => return Err(GrowError::OutOfMemory),
         }
@@ -168,12 +152,12 @@ impl<T: BitStore, O: BitOrder> Blocks<T, O> {
             return Ok(());
         }
         // Up to here no test is needed: a register that isn't full stays within MAX_BITS, since the words are whole blocks.
-        if is_full::<T>(self.words.len()) {
+        if self.words.is_full() {
             return Err(GrowError::TooLong);
         }
         let rest = count - 64;
         let block = filled(self.pending, self.count, x >> rest);
-        match push_block::<T, O>(&mut self.words, block_of::<O>(block)) {
+        match self.words.push(block) {
             Ok(()) => {
                 self.pending = low_digits(rest, x);
                 self.count = rest;
@@ -205,10 +189,10 @@ impl<T: BitStore, O: BitOrder> Blocks<T, O> {
         ensures refusal { Refuses result (length self.old.list + 64) self.old self.new }
         ensures capacity { self.old.capacity ≤ self.new.capacity }
     {
-        if is_full::<T>(self.words.len()) {
+        if self.words.is_full() {
             return Err(GrowError::TooLong);
         }
-        match push_block::<T, O>(&mut self.words, block_of_le::<O>(x)) {
+        match self.words.push_le(x) {
             Ok(()) => {}
             Err(_) => return Err(GrowError::OutOfMemory),
         }
@@ -220,7 +204,7 @@ impl<T: BitStore, O: BitOrder> Blocks<T, O> {
         ensures list { self.new.list ≡ take n self.old.list }
         ensures capacity { self.new.capacity ≡ self.old.capacity }
     {
-        let whole = self.words.len() * T::BITS as usize;
+        let whole = self.words.len();
         if n >= whole + self.count as usize {
             return;
         }
@@ -230,7 +214,7 @@ impl<T: BitStore, O: BitOrder> Blocks<T, O> {
             self.count = count;
             return;
         }
-        let (pending, count) = cut_at::<T, O>(&mut self.words, n);
+        let (pending, count) = self.words.cut(n);
         self.pending = pending;
         self.count = count;
     }
@@ -243,7 +227,7 @@ impl<T: BitStore, O: BitOrder> Blocks<T, O> {
         ensures not_long { result ≢ Err GrowError.TooLong }
         ensures memory { result ≡ Err GrowError.OutOfMemory → self.capacity < length self.list }
     {
-        let mut bits = BitVec::from_vec(self.words);
+        let mut bits = BitVec::from_vec(self.words.into_vec());
         match bits.push_be(self.count, self.pending) {
             Ok(()) => Ok(bits),
             Err(why) => Err(why),

@@ -12,6 +12,7 @@ mod register;
 mod signed;
 mod sink;
 mod source;
+mod words;
 mod writer;
 
 pub use codes::CodeError;

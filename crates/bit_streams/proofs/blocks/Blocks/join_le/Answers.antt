@@ -1,6 +1,5 @@
-use Rattle.std.proofs.Common.{◌≡◌, ◌+◌, ◌*◌, ◌++◌, append-nil, append_assoc, length, sym, ◌∙◌, ap, arith}
+use Rattle.std.proofs.Common.{◌≡◌, ◌+◌, ◌++◌, append-nil, append_assoc, length, sym, ◌∙◌, ap, arith}
 use Rattle.bit_addressing.specs.Row.{binary, number_bits}
-use Rattle.bit_addressing.specs.Typed.{row}
 use Rattle.bit_rows.proofs.Binary.{number_bits_none}
 use Rattle.bit_streams.proofs.Lists.{written_length}
 use Rattle.bit_streams.proofs.blocks.Blocks.join_le.Goals as goal
@@ -13,7 +12,7 @@ returns-then-n-eq0-clause-list g c =
 pub returns-clause-list : goal.returns-clause-list
 returns-clause-list g c =
     let i = c.self.inside in
-    let rows = row g.T.BitStore g.O.BitOrder i.words.items in
+    let rows = i.words.list in
     ap (λ l. rows ++ l) (c.joined-self-inside.ensures.digits ∙ ap (λ l. binary i.count i.pending ++ l) c.reversed.ensures.written)
     ∙ sym (append_assoc rows (binary i.count i.pending) (number_bits c.args.x c.args.n))
     ∙ ap (λ v. v.list ++ number_bits c.args.x c.args.n) c.self.view_is
@@ -21,7 +20,7 @@ returns-clause-list g c =
 pub joined-self-inside-requires-clause-all : goal.joined-self-inside-requires-clause-all
 joined-self-inside-requires-clause-all g c =
     let i = c.self.inside in
-    let all : length c.args.self.now.list ≡ g.T.BitStore.BITS * length i.words.items + i.count = ap (λ v. length v.list) (sym c.self.view_is) ∙ written_length g.T.BitStore g.O.BitOrder i.words.items i.count i.pending in
+    let all : length c.args.self.now.list ≡ length i.words.list + i.count = ap (λ v. length v.list) (sym c.self.view_is) ∙ written_length i.words.list i.count i.pending in
     let few = c.self.invariant.few in
     let blocks = c.self.invariant.blocks in
     let room = c.requires in
@@ -30,7 +29,7 @@ joined-self-inside-requires-clause-all g c =
 pub invariant_of-self : goal.invariant_of-self
 invariant_of-self g c =
     let i = c.self.inside in
-    let all : length c.args.self.now.list ≡ g.T.BitStore.BITS * length i.words.items + i.count = ap (λ v. length v.list) (sym c.self.view_is) ∙ written_length g.T.BitStore g.O.BitOrder i.words.items i.count i.pending in
+    let all : length c.args.self.now.list ≡ length i.words.list + i.count = ap (λ v. length v.list) (sym c.self.view_is) ∙ written_length i.words.list i.count i.pending in
     let few = c.self.invariant.few in
     let blocks = c.self.invariant.blocks in
     let room = c.requires in

@@ -5,6 +5,6 @@ use Rattle.bit_streams.proofs.blocks.Blocks.len.Goals as goal
 pub returns-clause-value : goal.returns-clause-value
 returns-clause-value g c =
     let i = c.self.inside in
-    let long = written_length g.T.BitStore g.O.BitOrder i.words.items i.count i.pending in
+    let long = written_length i.words.list i.count i.pending in
     let now = ap (λ v. length v.list) c.self.view_is in
     grind arith

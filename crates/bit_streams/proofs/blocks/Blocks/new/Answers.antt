@@ -2,4 +2,4 @@ use Rattle.bit_streams.proofs.Lists.{nothing_written}
 use Rattle.bit_streams.proofs.blocks.Blocks.new.Goals as goal
 
 pub returns-clause-list : goal.returns-clause-list
-returns-clause-list g c = nothing_written g.T.BitStore g.O.BitOrder c.new.result.items c.new.ensures.items
+returns-clause-list g c = nothing_written c.new.result.list c.new.ensures.list

@@ -1,4 +1,4 @@
-use Rattle.std.proofs.Common.{◌≡◌, ◌+◌, ◌-◌, ◌*◌, ◌%◌, length, slice_range, take, ◌∙◌, ap, subst, arith}
+use Rattle.std.proofs.Common.{◌≡◌, ◌+◌, ◌-◌, ◌*◌, ◌%◌, ◌++◌, length, slice_range, take, ◌∙◌, ap, subst, arith}
 use Rattle.std.proofs.lemmas.List.{length-take-le}
 use Rattle.bit_addressing.specs.Row.{binary, words_for}
 use Rattle.bit_addressing.specs.Typed.{row}
@@ -19,10 +19,11 @@ invariant_of-result g c =
     let size : length c.truncate.new.self.list ≡ at = ap length c.truncate.ensures.list ∙ length-take-le at list (omega arith) in
     let all : c.truncate.new.self.head + length c.truncate.new.self.list ≡ at = omega arith in
     let whole : w * length c.into_vec.result.items ≡ at = ap (λ k. w * k) (c.into_vec.ensures.exact ∙ ap (words_for w) all) ∙ blocks_fill w at g.met.T.BitStore.width even in
+    let bits : length c.of.result.list ≡ at = ap length c.of.ensures.list ∙ length_row g.T.BitStore.value g.O.BitOrder.place w c.into_vec.result.items ∙ whole in
     record {
       few = omega arith;
       small = c.load_be_at-pending.ensures.below;
-      blocks = ap (λ k. k % 64) whole ∙ even;
+      blocks = ap (λ k. k % 64) bits ∙ even;
       fits = omega arith;
     }
 
@@ -42,5 +43,6 @@ returns g c =
     let shown = c.truncate.new.self.list in
     let s : slice_range rows 0 (0 + length shown) ≡ shown = subst (λ h. slice_range rows h (h + length shown) ≡ shown) head c.into_vec.ensures.shows in
     let t : slice_range rows 0 (0 + length (take at list)) ≡ take at list = subst (λ l. slice_range rows 0 (0 + length l) ≡ l) c.truncate.ensures.list s in
-    list_split list rows (binary (len % 64) c.load_be_at-pending.result) at (len % 64) (omega arith) t (length_row g.T.BitStore.value g.O.BitOrder.place w c.into_vec.result.items ∙ whole) c.load_be_at-pending.ensures.digits
+    ap (λ l. l ++ binary (len % 64) c.load_be_at-pending.result) c.of.ensures.list
+    ∙ list_split list rows (binary (len % 64) c.load_be_at-pending.result) at (len % 64) (omega arith) t (length_row g.T.BitStore.value g.O.BitOrder.place w c.into_vec.result.items ∙ whole) c.load_be_at-pending.ensures.digits
     ∙ c.force_align.ensures.list

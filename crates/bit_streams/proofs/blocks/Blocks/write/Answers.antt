@@ -1,8 +1,6 @@
-use Rattle.std.proofs.Common.{◌≡◌, ◌+◌, ◌-◌, ◌*◌, ◌/◌, ◌%◌, ◌^◌, ◌<◌, ◌++◌, length, refl, sym, ◌∙◌, ap, arith, vec_capacity}
+use Rattle.std.proofs.Common.{◌≡◌, ◌+◌, ◌-◌, ◌/◌, ◌^◌, ◌<◌, ◌++◌, length, refl, sym, ◌∙◌, ap, arith}
 use Rattle.std.proofs.lemmas.List.{length-append}
 use Rattle.bit_addressing.specs.Row.{binary}
-use Rattle.bit_addressing.specs.Typed.{row}
-use Rattle.bit_containers.specs.BitVec.{bits_in}
 use Rattle.bit_rows.proofs.Binary.{length-binary}
 use Rattle.bit_streams.proofs.Lists.{written_length, not_refused, refused_long, refused_memory, block_written}
 use Rattle.bit_streams.proofs.blocks.Blocks.write.Goals as goal
@@ -10,16 +8,14 @@ use Rattle.bit_streams.proofs.blocks.Blocks.write.Goals as goal
 pub returns-then-count-lt64-clause-len : goal.returns-then-count-lt64-clause-len
 returns-then-count-lt64-clause-len g c =
     let i = c.self.inside in
-    let w = g.T.BitStore.BITS in
-    let all : length c.args.self.now.list ≡ w * length i.words.items + i.count = ap (λ v. length v.list) (sym c.self.view_is) ∙ written_length g.T.BitStore g.O.BitOrder i.words.items i.count i.pending in
-    let more = written_length g.T.BitStore g.O.BitOrder i.words.items (i.count + c.args.n) c.joined-self-inside.result in
+    let all : length c.args.self.now.list ≡ length i.words.list + i.count = ap (λ v. length v.list) (sym c.self.view_is) ∙ written_length i.words.list i.count i.pending in
+    let more = written_length i.words.list (i.count + c.args.n) c.joined-self-inside.result in
     more ∙ omega arith
 
 pub returns-then-count-lt64-clause-refusal : goal.returns-then-count-lt64-clause-refusal
 returns-then-count-lt64-clause-refusal g c =
     let i = c.self.inside in
-    let w = g.T.BitStore.BITS in
-    let all : length c.args.self.now.list ≡ w * length i.words.items + i.count = ap (λ v. length v.list) (sym c.self.view_is) ∙ written_length g.T.BitStore g.O.BitOrder i.words.items i.count i.pending in
+    let all : length c.args.self.now.list ≡ length i.words.list + i.count = ap (λ v. length v.list) (sym c.self.view_is) ∙ written_length i.words.list i.count i.pending in
     let fits = c.self.invariant.fits in
     let few = c.self.invariant.few in
     let blocks = c.self.invariant.blocks in
@@ -29,13 +25,11 @@ returns-then-count-lt64-clause-refusal g c =
 pub returns-then-is_full-clause-refusal : goal.returns-then-is_full-clause-refusal
 returns-then-is_full-clause-refusal g c =
     let i = c.self.inside in
-    let w = g.T.BitStore.BITS in
-    let all : length c.args.self.now.list ≡ w * length i.words.items + i.count = ap (λ v. length v.list) (sym c.self.view_is) ∙ written_length g.T.BitStore g.O.BitOrder i.words.items i.count i.pending in
+    let all : length c.args.self.now.list ≡ length i.words.list + i.count = ap (λ v. length v.list) (sym c.self.view_is) ∙ written_length i.words.list i.count i.pending in
     let fits = c.self.invariant.fits in
     let few = c.self.invariant.few in
     let blocks = c.self.invariant.blocks in
     let over = c.if-count-lt64.false in
-    let size : w * c.len.result ≡ w * length i.words.items = grind arith in
     let past = c.is_full.ensures.full c.if-is_full.true in
     refused_long (length c.args.self.now.list + c.args.n) c.args.self.now (omega arith)
 
@@ -46,8 +40,8 @@ returns-in-Ok-clause-list g c =
     let room = c.if-count-lt64.false in
     let rest = i.count + c.args.n - 64 in
     let whole : c.args.n ≡ (64 - i.count) + rest = omega arith in
-    block_written (row g.T.BitStore g.O.BitOrder i.words.items) (row g.T.BitStore g.O.BitOrder c.push_block.new.words.items) i.count i.pending (64 - i.count) rest c.args.n c.args.x c.filled-block.result (c.args.x / 2 ^ rest) c.low_digits-self-inside.result
-    (c.in-Ok.ensures.bits ∙ ap (λ l. row g.T.BitStore g.O.BitOrder i.words.items ++ l) c.block_of.ensures) c.filled-block.ensures refl c.low_digits-self-inside.ensures whole
+    block_written i.words.list c.push.new.self.list i.count i.pending (64 - i.count) rest c.args.n c.args.x c.filled-block.result (c.args.x / 2 ^ rest) c.low_digits-self-inside.result
+    c.in-Ok.ensures.list c.filled-block.ensures refl c.low_digits-self-inside.ensures whole
     ∙ ap (λ v. v.list ++ binary c.args.n c.args.x) c.self.view_is
 
 pub returns-in-Ok-clause-len : goal.returns-in-Ok-clause-len
@@ -58,27 +52,23 @@ returns-in-Ok-clause-len g c =
 pub returns-in-Ok-clause-refusal : goal.returns-in-Ok-clause-refusal
 returns-in-Ok-clause-refusal g c =
     let i = c.self.inside in
-    let w = g.T.BitStore.BITS in
-    let all : length c.args.self.now.list ≡ w * length i.words.items + i.count = ap (λ v. length v.list) (sym c.self.view_is) ∙ written_length g.T.BitStore g.O.BitOrder i.words.items i.count i.pending in
+    let all : length c.args.self.now.list ≡ length i.words.list + i.count = ap (λ v. length v.list) (sym c.self.view_is) ∙ written_length i.words.list i.count i.pending in
     let fits = c.self.invariant.fits in
     let few = c.self.invariant.few in
     let blocks = c.self.invariant.blocks in
-    let size : w * c.len.result ≡ w * length i.words.items = grind arith in
     let within = c.is_full.ensures.room c.if-is_full.false in
     not_refused (length c.args.self.now.list + c.args.n) c.args.self.now _ (omega arith)
 
 pub returns-in-Err-clause-refusal : goal.returns-in-Err-clause-refusal
 returns-in-Err-clause-refusal g c =
     let i = c.self.inside in
-    let w = g.T.BitStore.BITS in
-    let all : length c.args.self.now.list ≡ w * length i.words.items + i.count = ap (λ v. length v.list) (sym c.self.view_is) ∙ written_length g.T.BitStore g.O.BitOrder i.words.items i.count i.pending in
+    let all : length c.args.self.now.list ≡ length i.words.list + i.count = ap (λ v. length v.list) (sym c.self.view_is) ∙ written_length i.words.list i.count i.pending in
     let fits = c.self.invariant.fits in
     let few = c.self.invariant.few in
     let blocks = c.self.invariant.blocks in
-    let size : w * c.len.result ≡ w * length i.words.items = grind arith in
     let within = c.is_full.ensures.room c.if-is_full.false in
     let room = c.if-count-lt64.false in
-    let full : w * vec_capacity i.words < w * length i.words.items + 64 = c.in-Err.ensures.full in
-    let capacity : c.args.self.now.capacity ≡ bits_in w (vec_capacity i.words) 0 = ap (λ v. v.capacity) (sym c.self.view_is) in
+    let full : i.words.capacity < length i.words.list + 64 = c.in-Err.ensures.full in
+    let capacity : c.args.self.now.capacity ≡ i.words.capacity = ap (λ v. v.capacity) (sym c.self.view_is) in
     refused_memory (length c.args.self.now.list + c.args.n) c.args.self.now _ (omega arith) (omega arith)
-    (ap (λ l. row g.T.BitStore g.O.BitOrder l ++ binary i.count i.pending) c.in-Err.ensures.unchanged ∙ ap (λ v. v.list) c.self.view_is)
+    (ap (λ l. l ++ binary i.count i.pending) c.in-Err.ensures.unchanged ∙ ap (λ v. v.list) c.self.view_is)

@@ -8,7 +8,7 @@ ghost use Rattle.bit_small.specs.SmallBits.{front};
 
 use bit_addressing::{BitOrder, BitStore, Lsb0};
 use bit_array::{BitArray, BitViewSized, BitWords};
-use bit_containers::{BitList, BitListMut, BitSlice};
+use bit_slice::{BitList, BitListMut, BitSlice};
 use std::marker::Model;
 
 mod blocks;

@@ -7,7 +7,7 @@ ghost use Rattle.bit_small.specs.SmallBits.{front};
 use crate::small::SmallBits;
 use bit_addressing::BitOrder;
 use bit_array::BitWords;
-use bit_containers::BitList;
+use bit_slice::BitList;
 use bit_rows::read_block;
 
 // The number whose `n` lowest bits are set.

@@ -6,7 +6,7 @@ ghost use Rattle.bit_small.specs.SmallBits.{front};
 use crate::small::SmallBits;
 use bit_addressing::BitOrder;
 use bit_array::{BitViewSized, BitWords};
-use bit_containers::{BitList, BitListMut, BitSlice};
+use bit_slice::{BitList, BitListMut, BitSlice};
 
 impl<A: BitWords, O: BitOrder> BitList for SmallBits<A, O> {
     type Store = A::Store;

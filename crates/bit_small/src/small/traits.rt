@@ -10,7 +10,7 @@ ghost use Rattle.bit_small.specs.SmallBits.{front};
 use crate::small::SmallBits;
 use bit_addressing::BitOrder;
 use bit_array::BitWords;
-use bit_containers::BitList;
+use bit_slice::BitList;
 use bit_slice::inner::write_list;
 use std::alloc::AllocError;
 use std::fmt;

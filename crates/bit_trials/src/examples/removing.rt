@@ -1,6 +1,7 @@
 //! Bits taken out, and put in place of others.
 use crate::common::{check, holds, of, ok, shows};
-use bit_containers::{BitList, BitSlice, BitVec, Lsb0, Msb0};
+use bit_containers::{BitList, BitOrder, BitSlice, BitStore, BitVec, Items, Lsb0, Msb0};
+use std::process::Abort;
 
 #[test]
 fn drained(rt: HostRuntime) {
@@ -112,13 +113,22 @@ fn spliced_from_both_ends(rt: HostRuntime) {
     holds(&rt, &v, b"001100");
 }
 
+// That the bits read so.
+fn reads<T: BitStore, O: BitOrder>(
+    rt: &(impl Abort + AllocGlobal),
+    items: Items<'_, T, O>,
+    want: &str,
+) {
+    let text = ok(rt, format!(in rt.alloc(); "{items:?}"));
+    check(rt, text.as_str() == want);
+}
+
 // What is replaced, as text.
 #[test]
 fn replaced_bits_shown(rt: HostRuntime) {
     let mut v = of::<u8, Lsb0>(&rt, b"01101");
     let mut splice = v.splice(1..4, None);
-    let text = ok(&rt, format!(in rt.alloc(); "{:?}", splice.items()));
-    check(&rt, text.as_str() == "Items([1, 1, 0])");
+    reads(&rt, splice.items(), "Items([1, 1, 0])");
     ok(&rt, splice.finish());
 }
 

@@ -67,7 +67,7 @@ fn turn_last<T: BitStore, O: BitOrder>(words: &mut [T], late: usize)
     let from = words.len() - late;
     for t in 0..late / 2 {
         let i = from + 2 * t;
-        let (second, first) = words[i].reverse_pair(words[i + 1]);
+        let (first, second) = words[i + 1].reverse_pair(words[i]);
         words[i] = O::from_lsb0(first);
         words[i + 1] = O::from_lsb0(second);
     }

@@ -48,3 +48,6 @@ returns-clause-list g c = grind (arith, common_steps)
 
 pub returns-clause-fit : goal.returns-clause-fit
 returns-clause-fit g c = grind (arith, common_steps)
+
+pub returns-clause-room : goal.returns-clause-room
+returns-clause-room g c = grind (arith, common_steps)

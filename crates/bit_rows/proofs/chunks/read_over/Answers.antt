@@ -1,6 +1,7 @@
 use Rattle.std.proofs.Common.{◌≡◌, ℕ, ◌+◌, ◌-◌, ◌*◌, ◌/◌, ◌%◌, ◌^◌, ◌<◌, ◌≤◌, bit_or, length, slice_range, sym, ◌∙◌, ap, subst, arith, mul_comm}
 use Rattle.std.proofs.lemmas.Nat.{div-add-mod'}
 use Rattle.std.proofs.Math.Nat.{mod-lt}
+use Rattle.std.proofs.lemmas.Grind.{common_steps}
 use Rattle.bit_addressing.specs.Row.{number_of}
 use Rattle.bit_addressing.specs.Typed.{row}
 use Rattle.bit_addressing.proofs.Blocks.{two_blocks}
@@ -110,3 +111,9 @@ returns-then-skip-gt0 g c =
     let reached : at + got ≡ (k + each) * w = omega arith in
     let both = read_next g.T.BitStore.value g.O.BitOrder.place w positive words at (k + each) got (x / 2 ^ skip) y c.index-words-k.result front reached (omega (arith, c.if-skip-gt0.true)) (omega (arith, c.if-each-left-3.true)) c.index-words-k.is c.word_number-then-skip-gt0-2.ensures in
     read_done zs at c.args.n (got + w) (bit_or (x / 2 ^ skip) (y * 2 ^ got % 2 ^ 64)) both (omega arith) (omega (arith, low, c.BITS-width.ensures, c.requires.few)) c.requires.few (omega (arith, size, c.requires.within))
+
+pub block_short-requires-clause-few : goal.block_short-requires-clause-few
+block_short-requires-clause-few g c = grind (arith, common_steps)
+
+pub block_short-requires-clause-some : goal.block_short-requires-clause-some
+block_short-requires-clause-some g c = grind (arith, common_steps)

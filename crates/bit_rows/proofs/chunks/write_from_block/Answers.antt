@@ -1,5 +1,6 @@
 use Rattle.std.proofs.Common.{◌≡◌, ℕ, ◌+◌, ◌*◌, ◌/◌, ◌%◌, ◌<◌, ◌≤◌, [], ◌∷◌, length, slice_range, refl, sym, ◌∙◌, ap, arith, rules, mul_comm}
 use Rattle.std.proofs.lemmas.Nat.{mod-mul-add}
+use Rattle.std.proofs.lemmas.Grind.{common_steps}
 use Rattle.bit_addressing.specs.Row.{put, row_of}
 use Rattle.bit_addressing.specs.Typed.{row}
 use Rattle.bit_addressing.proofs.Packs.{pack_fills, pack_inside}
@@ -153,3 +154,6 @@ returns-clause-bits g c =
     c.write_part-3.ensures.bits
     ∙ put_next old cur zs (slice_range back 0 end) at (at % w) (last * w) (at % w + n) ((first + last) * w + 0) (omega arith) (omega arith) (omega arith) (omega arith) (omega arith)
     (c.loop-i.invariant.bits ∙ ap (λ j. put old at (slice_range zs (at % w) (j * w))) stop) bits
+
+pub word_of_block-requires : goal.word_of_block-requires
+word_of_block-requires g c = grind (arith, common_steps)

@@ -1,5 +1,6 @@
 use Rattle.std.proofs.Common.{◌≡◌, ◌+◌, ◌-◌, ◌*◌, ◌%◌, Bool, List, [], ◌∷◌, length, slice_range, sym, ◌∙◌, ap, arith}
 use Rattle.std.proofs.lemmas.Nat.{mod-mul-add}
+use Rattle.std.proofs.lemmas.Grind.{common_steps}
 use Rattle.bit_addressing.specs.Row.{put, row_of}
 use Rattle.bit_addressing.specs.Typed.{row}
 use Rattle.bit_addressing.proofs.lists.Put.{put_joined}
@@ -53,3 +54,6 @@ returns-clause-bits g c =
     ∙ ap (λ r. put r (s.last * w + 0) (slice_range source split (split + s.end))) (c.write_part.ensures.bits ∙ ap (put old (s.first * w + s.low)) front ∙ ap (λ m. put old m (slice_range source 0 split)) run.begins)
     ∙ put_joined old (slice_range source 0 split) (slice_range source split (split + s.end)) at (s.last * w + 0) (omega arith) (omega (arith, c.requires.within))
     ∙ ap (put old at) (slices_joined source 0 split (split + s.end) (omega arith) (omega arith) (omega arith) ∙ ap (slice_range source 0) all ∙ lowest_bits c.args.chunk c.args.n c.requires.few)
+
+pub write_from_block-requires-clause-block : goal.write_from_block-requires-clause-block
+write_from_block-requires-clause-block g c = grind (arith, common_steps)

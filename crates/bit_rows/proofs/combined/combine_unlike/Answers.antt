@@ -1,6 +1,7 @@
 use Rattle.std.proofs.Common.{◌≡◌, ℕ, ◌+◌, ◌-◌, ◌*◌, ◌/◌, ◌≤◌, List, Bool, length, slice_range, ◌∙◌, ap, subst, arith, mul_comm}
 use Rattle.std.proofs.Math.Nat.{le-mul_of_pos_right}
 use Rattle.std.specs.Simd.Lanes.{zip2}
+use Rattle.std.proofs.lemmas.Grind.{common_steps}
 use Rattle.bit_addressing.specs.Bits.{IsWidth}
 use Rattle.bit_addressing.specs.Row.{put}
 use Rattle.bit_addressing.specs.Typed.{row}
@@ -97,3 +98,6 @@ returns-clause-bits g c =
     c.combine_after.ensures.bits
     ∙ ap (λ d. put cur d one) r.begins
     ∙ combined_next f old cur zs one at p (last * w) from a upto (omega arith) (omega arith) (omega arith) (omega arith) (omega arith) (omega arith) c.combine_blocks.ensures.bits is
+
+pub combine_blocks-requires-clause-source : goal.combine_blocks-requires-clause-source
+combine_blocks-requires-clause-source g c = grind (arith, common_steps)

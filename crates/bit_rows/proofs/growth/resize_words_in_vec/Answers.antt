@@ -1,5 +1,6 @@
 use Rattle.std.proofs.Common.{◌≡◌, ◌∙◌, ap, sym, ◌-◌, ◌*◌, [], ◌∷◌, ◌++◌, ◌≤◌, take, replicate, length, arith}
 use Rattle.std.proofs.lemmas.List.{take_all}
+use Rattle.std.proofs.lemmas.Grind.{common_steps}
 use Rattle.bit_addressing.specs.Row.{words_for}
 use Rattle.bit_addressing.specs.Typed.{row}
 use Rattle.bit_addressing.proofs.lists.Sized.{sized_same}
@@ -39,3 +40,6 @@ returns-clause-bits g c =
     let longer : length items ≤ count = omega (arith, old, c.if-count-old-2.false) in
     ap (row g.T.BitStore g.O.BitOrder) (c.in_ok-push_words.ensures.items ∙ ap (λ xs. xs ++ replicate (count - c.len-old.result) c.ZERO-2.result) (sym (take_all count items longer)) ∙ ap (λ n. take count items ++ replicate (count - n) c.ZERO-2.result) old)
     ∙ row_resized g.T.BitStore.value g.O.BitOrder.place g.T.BitStore.BITS items c.ZERO-2.result c.args.bits count (width_positive _ g.met.T.BitStore.width) blank c.elts-count.ensures.value
+
+pub returns-then-count-old-eq1-clause-size : goal.returns-then-count-old-eq1-clause-size
+returns-then-count-old-eq1-clause-size g c = grind (arith, common_steps)

@@ -3,6 +3,7 @@ use Rattle.std.specs.Simd.Lanes.{zip2}
 use Rattle.std.proofs.lemmas.Bool.{cases_lt}
 use Rattle.std.proofs.lemmas.List.{get_or_past}
 use Rattle.std.proofs.lemmas.Simd.{get_or-zip2, length-zip2}
+use Rattle.std.proofs.lemmas.Grind.{common_steps}
 use Rattle.bit_addressing.specs.Bits.{has_bit}
 use Rattle.bit_addressing.specs.Typed.{row}
 use Rattle.bit_addressing.proofs.Chunks.{has_number, number_from_bits}
@@ -34,3 +35,9 @@ returns g c =
       | inl l ↦ sym (get_or-zip2 f sx sy p false false false (omega (arith, l, one)) (omega (arith, l, two)))
       | inr l ↦ ap (λ v. f v (get_or sy p false)) (get_or_past sx p false (omega (arith, l, one))) ∙ ap (f false) (get_or_past sy p false (omega (arith, l, two))) ∙ c.requires.quiet ∙ sym (get_or_past (zip2 f sx sy) p false (omega (arith, l, long)))
     ])
+
+pub pair_short-requires-clause-second : goal.pair_short-requires-clause-second
+pair_short-requires-clause-second g c = grind (arith, common_steps)
+
+pub pair_short-requires-clause-first : goal.pair_short-requires-clause-first
+pair_short-requires-clause-first g c = grind (arith, common_steps)

@@ -14,17 +14,17 @@ loop-t-preserved g c =
     let words = c.loop-t.words in
     let late = c.args.late - 2 * c.loop-t.t in
     let i = length c.args.words.now - c.args.late + 2 * c.loop-t.t in
-    let x = c.index-words-i.result in
-    let a = c.index-words-i-in-loop-t.result in
+    let x = c.index-words-i-in-loop-t.result in
+    let a = c.index-words-i.result in
     let y = c.from_lsb0.result in
     let b = c.from_lsb0-in-loop-t.result in
     let size = c.loop-t.invariant.0 in
     let once = length-set words i y in
     let twice = length-set (set words i y) (i + 1) b in (
       omega arith,
-      two_turned g.T.BitStore g.O.BitOrder words late (c.args.late - 2 * (c.loop-t.t + 1)) i x a y b positive (omega arith) (omega arith) c.index-words-i.is c.index-words-i-in-loop-t.is
-          (word_turned place w (value x) (value c.reverse_pair-second.result.1) (value y) positive c.reverse_pair-second.ensures.back c.from_lsb0.ensures)
-          (word_turned place w (value a) (value c.reverse_pair-second.result.0) (value b) positive c.reverse_pair-second.ensures.front c.from_lsb0-in-loop-t.ensures)
+      two_turned g.T.BitStore g.O.BitOrder words late (c.args.late - 2 * (c.loop-t.t + 1)) i x a y b positive (omega arith) (omega arith) c.index-words-i-in-loop-t.is c.index-words-i.is
+          (word_turned place w (value x) (value c.reverse_pair-first.result.0) (value y) positive c.reverse_pair-first.ensures.front c.from_lsb0.ensures)
+          (word_turned place w (value a) (value c.reverse_pair-first.result.1) (value b) positive c.reverse_pair-first.ensures.back c.from_lsb0-in-loop-t.ensures)
           ∙ c.loop-t.invariant.1,
     )
 

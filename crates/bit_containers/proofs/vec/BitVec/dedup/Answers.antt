@@ -1,5 +1,6 @@
 use Rattle.std.proofs.Common.{◌≡◌, ℕ, ◌+◌, ◌-◌, length, slice_range, sym, ◌∙◌, ap, arith}
 use Rattle.std.proofs.lemmas.List.{length-take}
+use Rattle.std.proofs.lemmas.Grind.{common_steps}
 use Rattle.bit_slice.specs.BitSlice.{list_of}
 use Rattle.bit_containers.specs.Repeated.{alternating}
 use Rattle.bit_containers.proofs.Alternating.{changes_counted, changes_fewer, deduped}
@@ -19,3 +20,6 @@ returns-clause-list g c =
     ∙ ap (λ k. alternating k first) long
     ∙ ap (λ k. alternating (k + 1) first) changes
     ∙ sym (deduped xs first n size c.bit-first.ensures)
+
+pub overflow_add-changes : goal.overflow_add-changes
+overflow_add-changes g c = grind (arith, common_steps)

@@ -1,4 +1,5 @@
 use Rattle.std.proofs.Common.{◌≡◌, ◌+◌, ◌-◌, ◌*◌, ◌++◌, ◌<◌, ◌≤◌, [], length, sym, ◌∙◌, ap, subst, inl, inr, arith, rules, append-nil}
+use Rattle.std.proofs.lemmas.Grind.{common_steps}
 use Rattle.bit_addressing.proofs.Rows.{width_positive}
 use Rattle.bit_addressing.proofs.Runs.{mul_mono}
 use Rattle.bit_addressing.proofs.lists.Sized.{right_sum}
@@ -131,3 +132,6 @@ pub returns-clause-row : goal.returns-clause-row
 returns-clause-row g c =
     let end : c.loop-done.done ≡ c.args.times = omega (arith, c.loop-done-test.false, c.loop-done.invariant.ends) in
     subst (λ k. Grew g.T.BitStore.BITS c.args.self.now c.loop-done.self (repeated k (list_of c.args.view))) end c.loop-done.invariant.grew
+
+pub overflow_add-start : goal.overflow_add-start
+overflow_add-start g c = grind (arith, common_steps)

@@ -1,4 +1,5 @@
 use Rattle.std.proofs.Common.{◌≡◌, ◌+◌, ◌*◌, ◌≤◌, length, slice_range, rules, refl, sym, ◌∙◌, ap, arith}
+use Rattle.std.proofs.lemmas.Grind.{common_steps}
 use Rattle.bit_addressing.specs.Row.{moved, sized}
 use Rattle.bit_addressing.specs.Typed.{row}
 use Rattle.bit_addressing.proofs.Rows.{width_positive}
@@ -43,3 +44,6 @@ returns-clause-clean g c =
     let len : i.len ≡ length now.list = sym c.self.invariant.shows ∙ ap (λ v. length v.list) c.self.view_is in
     clean_aligned w now _ refl (returns-clause-list g c)
     (c.cut_words_in_vec.ensures.bits ∙ ap (λ r. sized w r i.len) c.move_bits_in_vec.ensures.bits ∙ ap (λ v. sized w (moved v.row v.head 0 i.len) i.len) c.self.view_is ∙ ap (λ n. sized w (moved now.row now.head 0 n) n) len)
+
+pub returns-clause-capacity : goal.returns-clause-capacity
+returns-clause-capacity g c = grind (arith, common_steps, shown_length)

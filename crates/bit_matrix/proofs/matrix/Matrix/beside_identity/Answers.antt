@@ -1,6 +1,7 @@
 use Rattle.std.proofs.Common.{◌≡◌, ◌+◌, false, sym, ◌∙◌, ap, eq-eqb, inl, inr, arith}
 use Rattle.std.proofs.lemmas.Bool.{cases_eq, ne_eqb}
 use Rattle.std.proofs.lemmas.Option.{get_or_from_slice_get}
+use Rattle.std.proofs.lemmas.Grind.{common_steps}
 use Rattle.bit_slice.specs.BitSlice.{list_of}
 use Rattle.bit_matrix.specs.Matrix.{Grid, item}
 use Rattle.bit_matrix.proofs.matrix.Matrix.beside_identity.Goals as goal
@@ -46,3 +47,9 @@ loop-row-preserved c =
       ];
       rest = λ i j past low inner. s.others i j (omega arith) (omega arith) (inl (λ e. omega arith)) ∙ w.others i j (omega arith) (omega arith) (inl (λ e. omega arith)) ∙ was.rest i j (omega arith) low inner;
     }
+
+pub loop-row-init : goal.loop-row-init
+loop-row-init g = grind (arith, common_steps)
+
+pub returns-clause-left : goal.returns-clause-left
+returns-clause-left g c = grind (arith, common_steps)

@@ -1,6 +1,7 @@
 use Rattle.std.proofs.Common.{get_or, sym, ◌∙◌, ap, inl, inr, arith}
 use Rattle.std.proofs.lemmas.Bool.{cases_eq}
 use Rattle.std.proofs.lemmas.List.{get_or_default}
+use Rattle.std.proofs.lemmas.Grind.{common_steps}
 use Rattle.bit_matrix.specs.Matrix.{Grid, row_bits}
 use Rattle.bit_matrix.proofs.Rowed.{rows_made}
 use Rattle.bit_matrix.proofs.matrix.Matrix.from_rows.Goals as goal
@@ -22,3 +23,6 @@ loop-i-preserved g c =
 
 pub returns-clause-rows : goal.returns-clause-rows
 returns-clause-rows g c = rows_made (row_bits c.loop-i.made) g.B.BitList.list c.args.rows.now c.loop-i.made.rows c.loop-i.invariant.rows (λ k d h. c.loop-i.invariant.done k d (omega arith) h)
+
+pub set_row-requires-clause-len : goal.set_row-requires-clause-len
+set_row-requires-clause-len g c = grind (arith, common_steps)

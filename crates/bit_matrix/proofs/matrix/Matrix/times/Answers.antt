@@ -1,6 +1,7 @@
 use Rattle.std.proofs.Common.{◌≡◌, ◌+◌, ◌*◌, ◌||◌, false, sym, ◌∙◌, ap, inl, inr, arith}
 use Rattle.std.proofs.lemmas.Bool.{cases_eq}
 use Rattle.std.proofs.lemmas.List.{get_or-replicate}
+use Rattle.std.proofs.lemmas.Grind.{common_steps}
 use Rattle.bit_matrix.specs.Matrix.{Grid, item, product}
 use Rattle.bit_matrix.proofs.Grids.{place_inside}
 use Rattle.bit_matrix.proofs.matrix.Matrix.times.Goals as goal
@@ -34,3 +35,6 @@ returns-in-Ok-clause-items c i j tall low =
     let w = c.columns.ensures.value in
     let none : item c.in_ok-made.made i j ≡ false = ap (λ (g : Grid). item g i j) zeros ∙ get_or-replicate (c.rows.result * c.columns.result) (i * c.columns.result + j) false false (place_inside c.rows.result c.columns.result i j (omega arith) (omega arith)) in
     c.or_products.ensures.items i j (omega arith) (omega arith) ∙ ap (λ b. b || product m n i j) none
+
+pub loop-row-init : goal.loop-row-init
+loop-row-init g = grind (arith, common_steps)

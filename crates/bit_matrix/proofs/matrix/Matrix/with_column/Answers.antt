@@ -1,6 +1,7 @@
 use Rattle.std.proofs.Common.{◌≡◌, ◌+◌, false, sym, ◌∙◌, ap, inl, inr, arith}
 use Rattle.std.proofs.lemmas.Bool.{cases_eq}
 use Rattle.std.proofs.lemmas.Option.{get_or_from_slice_get}
+use Rattle.std.proofs.lemmas.Grind.{common_steps}
 use Rattle.bit_slice.specs.BitSlice.{list_of}
 use Rattle.bit_matrix.specs.Matrix.{Grid, bit_of, item}
 use Rattle.bit_matrix.proofs.matrix.Matrix.with_column.Goals as goal
@@ -34,3 +35,9 @@ loop-row-preserved g c =
         | inr apart ↦ s.others i m.columns (omega arith) (omega arith) (inl apart) ∙ w.others i m.columns (omega arith) (omega arith) (inl apart) ∙ was.last i (omega arith) low
       ];
     }
+
+pub returns-clause-last : goal.returns-clause-last
+returns-clause-last g c = grind (arith, common_steps)
+
+pub returns-clause-items : goal.returns-clause-items
+returns-clause-items g c = grind (arith, common_steps)

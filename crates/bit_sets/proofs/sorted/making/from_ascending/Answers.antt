@@ -1,5 +1,6 @@
 use Rattle.std.proofs.Common.{◌≡◌, ◌+◌, ◌/◌, ◌^◌, length, subst, sym, ap, ◌∙◌, arith}
 use Rattle.std.specs.List.Sorted.{IsNonDecreasing}
+use Rattle.std.proofs.lemmas.Grind.{common_steps}
 use Rattle.bit_slice.specs.Places.{ones_of}
 use Rattle.bit_sets.specs.Sorted.{log2_of}
 use Rattle.bit_sets.proofs.Making.{made_packed, made_view}
@@ -38,3 +39,6 @@ returns-in-Ok-new-clause-ascends c =
     let same : high ≡ c.in-Ok.high.list = ap (λ b. b.list) c.in-Ok-new.ensures.bits ∙ c.in-Ok-into_boxed_bitslice.ensures.list in
     let ones = ap (λ l. ones_of l) same ∙ c.in-Ok.ensures.ones in
     subst IsNonDecreasing (sym (made_view w high c.in-Ok-low_bits.low.list xs ones c.in-Ok-low_bits.ensures.each)) c.requires
+
+pub returns-in-Err-clause-memory : goal.returns-in-Err-clause-memory
+returns-in-Err-clause-memory g c = grind (arith, common_steps)

@@ -3,11 +3,13 @@ ghost use Rattle.bit_streams.specs.Header.{IsPlain};
 
 use super::{check, ok};
 use bit_addressing::{Lsb0, Msb0};
+use bit_containers::BitVec;
 use bit_slice::{BitList, BitSlice};
 use bit_streams::{
     BitReader, BitWriter, Fields, Header, HeaderFault, ItemsError, ListFault, Number, Signed,
     TaggedFault, read_items, write_items,
 };
+use std::process::Abort;
 
 #[test]
 fn fields_there_and_back(rt: HostRuntime) {
@@ -106,29 +108,47 @@ fn reserved_values_have_names(rt: HostRuntime) {
     check(&rt, reader.position() == 0);
 }
 
+// The text "hi!" with the tag 7, and the tag 0, which is reserved.
+fn greeting(rt: &(impl Abort + AllocGlobal)) -> BitVec<u8, Msb0> {
+    let text = [0x68u8, 0x69, 0x21];
+    let mut writer = BitWriter::<u8, Msb0>::new(rt.alloc());
+    ok(
+        rt,
+        writer.write_tagged(7, BitSlice::<u8, Msb0>::from_slice(&text)),
+    );
+    ok(rt, writer.write(8, 0));
+    ok(rt, writer.finish())
+}
+
 #[test]
 fn tagged_values_are_views(rt: HostRuntime) {
-    let text = [0x68u8, 0x69, 0x21];
-    let value = BitSlice::<u8, Msb0>::from_slice(&text);
-    let mut writer = BitWriter::<u8, Msb0>::new(rt.alloc());
-    ok(&rt, writer.write_tagged(7, value));
-    ok(&rt, writer.write(8, 0));
-    let bits = ok(&rt, writer.finish());
+    let bits = greeting(&rt);
     check(&rt, bits.len() == 56);
     let mut reader = BitReader::new(bits.as_bitslice());
     match reader.read_tagged() {
         Ok(it) => {
             check(&rt, it.tag == 7);
             check(&rt, it.value.len() == 24);
-            check(&rt, it.value.starts_with(value));
+            check(&rt, it.value.load_be() == 0x686921);
         }
         Err(_) => check(&rt, false),
     }
+    check(&rt, reader.position() == 48);
+}
+
+#[test]
+fn a_reserved_tag_is_refused(rt: HostRuntime) {
+    let mut reader = BitReader::new(BitSlice::<u8, Msb0>::from_slice(&[0]));
     match reader.read_tagged() {
         Ok(_) => check(&rt, false),
         Err(why) => check(&rt, why == TaggedFault::ReservedTag),
     }
-    check(&rt, reader.position() == 48);
+    check(&rt, reader.position() == 0);
+}
+
+#[test]
+fn tagged_values_cut_off(rt: HostRuntime) {
+    let bits = greeting(&rt);
     for cut in 8..bits.len().min(48) {
         let mut reader = BitReader::new(bits.as_bitslice().get_range(..cut));
         match reader.read_tagged() {
@@ -153,9 +173,15 @@ fn lists_with_their_length(rt: HostRuntime) {
         Err(_) => check(&rt, false),
     }
     check(&rt, reader.remaining() == 0);
-    let mut bits = bits;
-    check(&rt, bits.pop() == Some(false));
-    ok(&rt, bits.push(true));
+}
+
+// A list of five bits whose byte is filled up with ones.
+#[test]
+fn a_list_filled_up_with_ones_is_refused(rt: HostRuntime) {
+    let mut writer = BitWriter::<u8, Msb0>::new(rt.alloc());
+    ok(&rt, writer.write(64, 5));
+    ok(&rt, writer.write(8, 0b01101_001));
+    let bits = ok(&rt, writer.finish());
     let mut reader = BitReader::new(bits.as_bitslice());
     match reader.read_list() {
         Ok(_) => check(&rt, false),
@@ -182,26 +208,33 @@ fn values_one_after_another(rt: HostRuntime) {
     check(&rt, reader.remaining() == 0);
 }
 
+// Three pairs of a number of three digits and a bit.
+const PAIRS: [(Number<3>, bool); 3] = [
+    (Number { value: 5 }, true),
+    (Number { value: 0 }, false),
+    (Number { value: 7 }, true),
+];
+
 #[test]
 fn arrays_of_fields(rt: HostRuntime) {
-    let numbers = [
-        (Number::<3> { value: 5 }, true),
-        (Number::<3> { value: 0 }, false),
-        (Number::<3> { value: 7 }, true),
-    ];
     let mut writer = BitWriter::<u8, Msb0>::new(rt.alloc());
-    ok(&rt, numbers.write(&mut writer));
+    ok(&rt, PAIRS.write(&mut writer));
     check(&rt, writer.len() == 12);
-    ok(&rt, writer.write(11, 0b101_0000_1111));
     let bits = ok(&rt, writer.finish());
     let mut reader = BitReader::new(bits.as_bitslice());
     check(&rt, reader.peek(12) == Some(0b1011_0000_1111));
     check(
         &rt,
-        <[(Number<3>, bool); 3]>::read(&mut reader) == Some(numbers),
+        <[(Number<3>, bool); 3]>::read(&mut reader) == Some(PAIRS),
     );
     check(&rt, reader.position() == 12);
+}
+
+#[test]
+fn nothing_is_read_of_half_an_array(rt: HostRuntime) {
+    let bytes = BitSlice::<u8, Msb0>::from_slice(&[0b1010_0001, 0b1110_0000]);
+    let mut reader = BitReader::new(bytes.get_range(..11));
     check(&rt, <[(Number<3>, bool); 3]>::read(&mut reader).is_none());
-    check(&rt, reader.position() == 12);
+    check(&rt, reader.position() == 0);
     check(&rt, <[bool; 0]>::read(&mut reader).is_none());
 }

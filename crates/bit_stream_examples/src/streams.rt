@@ -1,7 +1,9 @@
 //! Bits written and read, at every width and index, and cut off.
+ghost use Rattle.std.specs.Prelude.{◌<◌};
+
 use super::{check, ok};
 use bit_addressing::{BitOrder, BitStore, GrowError, Lsb0, Msb0};
-use bit_containers::{BitList, BitVec};
+use bit_containers::{BitList, BitSlice, BitVec};
 use bit_streams::{BitReader, BitWriter};
 use std::process::Abort;
 
@@ -20,26 +22,38 @@ fn low(x: u64, n: u8) -> u64 {
     }
 }
 
+// Numbers by both directions, of 3, 13, 1, 7 and 7 digits, the last two signed, filled up to 32 bits.
+fn numbers(rt: &(impl Abort + AllocGlobal)) -> BitVec<u8, Msb0> {
+    let mut writer = BitWriter::<u8, Msb0>::new(rt.alloc());
+    ok(rt, writer.write(3, 5));
+    ok(rt, writer.write_le(13, 4097));
+    ok(rt, writer.write_bit(true));
+    ok(rt, writer.write_signed(7, -3));
+    ok(rt, writer.write_signed_le(7, -64));
+    ok(rt, writer.align(8, false));
+    check(rt, writer.len() == 32);
+    ok(rt, writer.finish())
+}
+
 #[test]
 fn numbers_there_and_back(rt: HostRuntime) {
-    let mut writer = BitWriter::<u8, Msb0>::new(rt.alloc());
-    ok(&rt, writer.write(3, 5));
-    ok(&rt, writer.write_le(13, 4097));
-    ok(&rt, writer.write_bit(true));
-    ok(&rt, writer.write_signed(7, -3));
-    ok(&rt, writer.write_signed_le(7, -64));
-    ok(&rt, writer.align(8, false));
-    check(&rt, writer.len() == 32);
-    let bits = ok(&rt, writer.finish());
+    let bits = numbers(&rt);
     let mut reader = BitReader::new(bits.as_bitslice());
     check(&rt, reader.peek(3) == Some(5));
     check(&rt, reader.read(3) == Some(5));
     check(&rt, reader.peek_le(13) == Some(4097));
     check(&rt, reader.read_le(13) == Some(4097));
     check(&rt, reader.read_bit() == Some(true));
+    check(&rt, reader.position() == 17);
+}
+
+#[test]
+fn signed_numbers_there_and_back(rt: HostRuntime) {
+    let bits = numbers(&rt);
+    let mut reader = BitReader::new(bits.as_bitslice());
+    check(&rt, reader.skip(17) == Some(()));
     check(&rt, reader.read_signed(7) == Some(-3));
     check(&rt, reader.read_signed_le(7) == Some(-64));
-    check(&rt, reader.position() == 31);
     check(&rt, reader.align(8) == Some(()));
     check(&rt, reader.remaining() == 0);
     check(&rt, reader.read_bit().is_none());
@@ -63,16 +77,20 @@ fn the_first_bit_is_the_highest_digit(rt: HostRuntime) {
 }
 
 #[test]
+fn bits_of_a_view_are_copied(rt: HostRuntime) {
+    let words = [0x1234_u16, 0xabcd];
+    let view = BitSlice::<u16, Lsb0>::from_slice(&words);
+    let mut writer = BitWriter::<u64, Msb0>::new(rt.alloc());
+    ok(&rt, writer.write_bits(view));
+    let copied = ok(&rt, writer.finish());
+    check(&rt, copied.eq_bits(view));
+}
+
+#[test]
 fn parts_are_views(rt: HostRuntime) {
-    let mut writer = BitWriter::<u16, Lsb0>::new(rt.alloc());
-    ok(&rt, writer.write(64, 0x1234_5678_9abc_def0));
-    ok(&rt, writer.write(40, 0x55_aaaa_5555));
-    let bits = ok(&rt, writer.finish());
-    let mut copy = BitWriter::<u64, Msb0>::new(rt.alloc());
-    ok(&rt, copy.write_bits(bits.as_bitslice()));
-    let copied = ok(&rt, copy.finish());
-    check(&rt, copied.eq_bits(bits.as_bitslice()));
-    let mut reader = BitReader::new(copied.as_bitslice());
+    let words = [0x1234_5678_9abc_def0_u64, 0x55aa_aa55_5500_0000];
+    let bits = BitSlice::<u64, Msb0>::from_slice(&words).get_range(..104);
+    let mut reader = BitReader::new(bits);
     check(&rt, reader.skip(12) == Some(()));
     match reader.read_part(20) {
         Some(part) => check(&rt, part.load_be() == 0x45678),
@@ -83,18 +101,29 @@ fn parts_are_views(rt: HostRuntime) {
     check(&rt, reader.remaining() == 72);
 }
 
+// 64 ones and 20 digits more.
+fn begun(rt: &(impl Abort + AllocGlobal)) -> BitVec<u32, Msb0> {
+    let mut writer = BitWriter::<u32, Msb0>::new(rt.alloc());
+    ok(rt, writer.write(64, u64::MAX));
+    ok(rt, writer.write(20, 0x12345));
+    ok(rt, writer.finish())
+}
+
 #[test]
 fn a_writer_goes_on_after_a_vector(rt: HostRuntime) {
-    let mut first = BitWriter::<u32, Msb0>::new(rt.alloc());
-    ok(&rt, first.write(64, u64::MAX));
-    ok(&rt, first.write(20, 0x12345));
-    let bits = ok(&rt, first.finish());
-    let mut writer = BitWriter::over(bits);
+    let mut writer = BitWriter::over(begun(&rt));
     check(&rt, writer.len() == 84);
     ok(&rt, writer.write(12, 0xabc));
-    writer.truncate(92);
     ok(&rt, writer.reserve(4));
-    ok(&rt, writer.write(4, 7));
+    let all = ok(&rt, writer.finish());
+    let mut reader = BitReader::new(all.as_bitslice());
+    check(&rt, reader.read(64) == Some(u64::MAX));
+    check(&rt, reader.read(32) == Some(0x12345abc));
+}
+
+#[test]
+fn a_writer_cut_off(rt: HostRuntime) {
+    let mut writer = BitWriter::over(begun(&rt));
     writer.truncate(70);
     writer.truncate(99);
     check(&rt, writer.len() == 70);
@@ -105,15 +134,19 @@ fn a_writer_goes_on_after_a_vector(rt: HostRuntime) {
 }
 
 #[test]
-fn aligned_where_it_stands(rt: HostRuntime) {
+fn a_writer_aligned_where_it_stands(rt: HostRuntime) {
     let mut writer = BitWriter::<u8, Lsb0>::new(rt.alloc());
     ok(&rt, writer.align(8, true));
     check(&rt, writer.len() == 0);
     ok(&rt, writer.write(16, 0x1234));
     ok(&rt, writer.align(16, true));
     check(&rt, writer.len() == 16);
-    let bits = ok(&rt, writer.finish());
-    let mut reader = BitReader::new(bits.as_bitslice());
+}
+
+#[test]
+fn a_reader_aligned_where_it_stands(rt: HostRuntime) {
+    let bytes = [0x48_u8, 0x2c];
+    let mut reader = BitReader::new(BitSlice::<u8, Lsb0>::from_slice(&bytes));
     check(&rt, reader.align(8) == Some(()));
     check(&rt, reader.position() == 0);
     check(&rt, reader.read(5) == Some(2));
@@ -178,8 +211,8 @@ fn widths_of_bytes_lowest_first(rt: HostRuntime) {
     each_width_at_each_index(&rt, &bits);
 }
 
-// Writes twenty numbers without a pattern by widths without one, and reads them back.
-fn one_sequence(rt: &(impl Abort + AllocGlobal), start: u64) {
+// Twenty numbers without a pattern, written by widths without one.
+fn sequence(rt: &(impl Abort + AllocGlobal), start: u64) -> BitVec<u8, Msb0> {
     let mut writer = BitWriter::<u8, Msb0>::new(rt.alloc());
     let mut seed = start;
     for _ in 0..20 {
@@ -191,7 +224,11 @@ fn one_sequence(rt: &(impl Abort + AllocGlobal), start: u64) {
             ok(rt, writer.write_le(n, seed));
         }
     }
-    let bits = ok(rt, writer.finish());
+    ok(rt, writer.finish())
+}
+
+// The same numbers read back.
+fn reads_sequence(rt: &impl Abort, bits: &BitVec<u8, Msb0>, start: u64) {
     let mut reader = BitReader::new(bits.as_bitslice());
     let mut seed = start;
     for _ in 0..20 {
@@ -212,7 +249,8 @@ fn sequences_read_back(rt: HostRuntime) {
     let mut seed = 1;
     for _ in 0..100_000 {
         seed = next_random(seed);
-        one_sequence(&rt, seed);
+        let bits = sequence(&rt, seed);
+        reads_sequence(&rt, &bits, seed);
     }
 }
 
@@ -235,8 +273,15 @@ fn read_record<T: BitStore, O: BitOrder>(reader: &mut BitReader<'_, T, O>) -> Op
     Some(kind | (port << 3) | (last << 16) | (size << 17) | (sum << 37))
 }
 
-// Records after `before` bits, read from the vector, from a copy in words of 64 bits, and from a part that ends inside one.
-fn records_after(rt: &(impl Abort + AllocGlobal), before: u8) {
+// The number of bits before the records.
+fn bits_before(before: u8) -> usize
+    ensures { result < 32 }
+{
+    (before & 31) as usize
+}
+
+// Forty records after some bits.
+fn records(rt: &(impl Abort + AllocGlobal), before: u8) -> BitVec<u8, Msb0> {
     let mut writer = BitWriter::<u8, Msb0>::new(rt.alloc());
     ok(rt, writer.write(before & 31, u64::MAX));
     let mut seed = 3;
@@ -244,28 +289,43 @@ fn records_after(rt: &(impl Abort + AllocGlobal), before: u8) {
         seed = next_random(seed);
         ok(rt, write_record(&mut writer, seed));
     }
-    let bits = ok(rt, writer.finish());
-    let mut wide = BitWriter::<u64, Lsb0>::new(rt.alloc());
-    ok(rt, wide.write_bits(bits.as_bitslice()));
-    let wide = ok(rt, wide.finish());
-    let all = bits.as_bitslice();
-    let part = all.get_range(((before & 31) as usize).min(all.len())..);
-    let mut readers = (BitReader::new(part), BitReader::new(wide.as_bitslice()));
-    check(rt, readers.1.skip((before & 31) as usize) == Some(()));
+    ok(rt, writer.finish())
+}
+
+// That the forty records come next, and nothing after them.
+fn reads_records<T: BitStore, O: BitOrder>(rt: &impl Abort, reader: &mut BitReader<'_, T, O>) {
     let mut seed = 3;
     for _ in 0..40 {
         seed = next_random(seed);
-        check(rt, read_record(&mut readers.0) == Some(seed));
-        check(rt, read_record(&mut readers.1) == Some(seed));
+        check(rt, read_record(reader) == Some(seed));
     }
-    check(rt, readers.0.remaining() == 0);
-    check(rt, read_record(&mut readers.1).is_none());
+    check(rt, reader.remaining() == 0);
+    check(rt, read_record(reader).is_none());
 }
 
+// Read from a part of the vector, that begins within a word.
 #[test]
 fn records_read_back_after_each_number_of_bits(rt: HostRuntime) {
     for before in 0..32u8 {
-        records_after(&rt, before);
+        let bits = records(&rt, before);
+        let all = bits.as_bitslice();
+        let part = all.get_range(bits_before(before).min(all.len())..);
+        let mut reader = BitReader::new(part);
+        reads_records(&rt, &mut reader);
+    }
+}
+
+// Read from a copy in words of 64 bits.
+#[test]
+fn records_read_back_from_wide_words(rt: HostRuntime) {
+    for before in 0..32u8 {
+        let bits = records(&rt, before);
+        let mut wide = BitWriter::<u64, Lsb0>::new(rt.alloc());
+        ok(&rt, wide.write_bits(bits.as_bitslice()));
+        let wide = ok(&rt, wide.finish());
+        let mut reader = BitReader::new(wide.as_bitslice());
+        check(&rt, reader.skip(bits_before(before)) == Some(()));
+        reads_records(&rt, &mut reader);
     }
 }
 

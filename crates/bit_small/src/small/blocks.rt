@@ -7,8 +7,8 @@ ghost use Rattle.bit_small.specs.SmallBits.{front};
 use crate::small::SmallBits;
 use bit_addressing::BitOrder;
 use bit_array::BitWords;
-use bit_slice::BitList;
 use bit_rows::read_block;
+use bit_slice::BitList;
 
 // The number whose `n` lowest bits are set.
 #[inline(always)]

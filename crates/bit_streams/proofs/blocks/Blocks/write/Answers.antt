@@ -1,5 +1,6 @@
 use Rattle.std.proofs.Common.{◌≡◌, ◌+◌, ◌-◌, ◌/◌, ◌^◌, ◌<◌, ◌++◌, length, refl, sym, ◌∙◌, ap, arith}
 use Rattle.std.proofs.lemmas.List.{length-append}
+use Rattle.std.proofs.lemmas.Grind.{common_steps}
 use Rattle.bit_addressing.specs.Row.{binary}
 use Rattle.bit_rows.proofs.Binary.{length-binary}
 use Rattle.bit_streams.proofs.Lists.{written_length, not_refused, refused_long, refused_memory, block_written}
@@ -72,3 +73,6 @@ returns-in-Err-clause-refusal g c =
     let capacity : c.args.self.now.capacity ≡ i.words.capacity = ap (λ v. v.capacity) (sym c.self.view_is) in
     refused_memory (length c.args.self.now.list + c.args.n) c.args.self.now _ (omega arith) (omega arith)
     (ap (λ l. l ++ binary i.count i.pending) c.in-Err.ensures.unchanged ∙ ap (λ v. v.list) c.self.view_is)
+
+pub returns-then-count-lt64-clause-list : goal.returns-then-count-lt64-clause-list
+returns-then-count-lt64-clause-list g c = grind (arith, common_steps)

@@ -1,4 +1,5 @@
 use Rattle.std.proofs.Common.{◌+◌, ◌-◌, ◌*◌, ◌<◌, ◌≤◌, arith}
+use Rattle.std.proofs.lemmas.Grind.{common_steps}
 use Rattle.bit_streams.specs.Codes.{golomb, rest_code, unary}
 use Rattle.bit_streams.proofs.Coded.{both_parts}
 use Rattle.bit_streams.proofs.Rests.{golomb_joined, product_past}
@@ -17,3 +18,15 @@ returns-then-quotient-rest-clause-too_long g c e =
       both_parts c.args.self.now.rest c.read_unary.new.self.rest c.read_rest.new.self.rest (unary q) (rest_code m r) (golomb m (q * m + r)) c.in-Some.ensures.found c.in-Some-read_rest.ensures.found
           (golomb_joined m q r c.in-Some-read_rest.ensures.below),
     )
+
+pub returns-else-quotient-rest-clause-back : goal.returns-else-quotient-rest-clause-back
+returns-else-quotient-rest-clause-back g c = grind (arith, common_steps)
+
+pub returns-then-quotient-rest-clause-back : goal.returns-then-quotient-rest-clause-back
+returns-then-quotient-rest-clause-back g c = grind (arith, common_steps)
+
+pub returns-in-None-clause-back : goal.returns-in-None-clause-back
+returns-in-None-clause-back g c = grind (arith, common_steps)
+
+pub returns-in-None-read_rest-clause-back : goal.returns-in-None-read_rest-clause-back
+returns-in-None-read_rest-clause-back g c = grind (arith, common_steps)

@@ -122,6 +122,8 @@ fn greeting(rt: &(impl Abort + AllocGlobal)) -> BitVec<u8, Msb0> {
 
 #[test]
 fn tagged_values_are_views(rt: HostRuntime) {
+    let text = [0x68_u8, 0x69, 0x21];
+    let value = BitSlice::<u8, Msb0>::from_slice(&text);
     let bits = greeting(&rt);
     check(&rt, bits.len() == 56);
     let mut reader = BitReader::new(bits.as_bitslice());
@@ -129,7 +131,7 @@ fn tagged_values_are_views(rt: HostRuntime) {
         Ok(it) => {
             check(&rt, it.tag == 7);
             check(&rt, it.value.len() == 24);
-            check(&rt, it.value.load_be() == 0x686921);
+            check(&rt, it.value.starts_with(value));
         }
         Err(_) => check(&rt, false),
     }

@@ -212,8 +212,8 @@ fn widths_of_bytes_lowest_first(rt: HostRuntime) {
 }
 
 // Twenty numbers without a pattern, written by widths without one.
-fn sequence(rt: &(impl Abort + AllocGlobal), start: u64) -> BitVec<u8, Msb0> {
-    let mut writer = BitWriter::<u8, Msb0>::new(rt.alloc());
+fn sequence<T: BitStore, O: BitOrder>(rt: &(impl Abort + AllocGlobal), start: u64) -> BitVec<T, O> {
+    let mut writer = BitWriter::<T, O>::new(rt.alloc());
     let mut seed = start;
     for _ in 0..20 {
         seed = next_random(seed);
@@ -228,7 +228,7 @@ fn sequence(rt: &(impl Abort + AllocGlobal), start: u64) -> BitVec<u8, Msb0> {
 }
 
 // The same numbers read back.
-fn reads_sequence(rt: &impl Abort, bits: &BitVec<u8, Msb0>, start: u64) {
+fn reads_sequence<T: BitStore, O: BitOrder>(rt: &impl Abort, bits: &BitVec<T, O>, start: u64) {
     let mut reader = BitReader::new(bits.as_bitslice());
     let mut seed = start;
     for _ in 0..20 {
@@ -249,7 +249,18 @@ fn sequences_read_back(rt: HostRuntime) {
     let mut seed = 1;
     for _ in 0..100_000 {
         seed = next_random(seed);
-        let bits = sequence(&rt, seed);
+        let bits = sequence::<u8, Msb0>(&rt, seed);
+        reads_sequence(&rt, &bits, seed);
+    }
+}
+
+// In words of 64 bits by `Lsb0`, whose words are turned when the writer ends or the direction changes.
+#[test]
+fn sequences_read_back_from_wide_words(rt: HostRuntime) {
+    let mut seed = 2;
+    for _ in 0..10_000 {
+        seed = next_random(seed);
+        let bits = sequence::<u64, Lsb0>(&rt, seed);
         reads_sequence(&rt, &bits, seed);
     }
 }

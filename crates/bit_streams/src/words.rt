@@ -16,8 +16,8 @@ use std::marker::{Model, PhantomData};
 #[derive(Drop)]
 pub(crate) struct Words<T: BitStore, O: BitOrder> {
     words: Vec<T>,
-    // How many of the words, the last, are by `Msb0`. They are turned when the writer ends, two at a time: that takes less
-    // than half of the time of one by itself.
+    // The number of words at the end that are stored by `Msb0`. They are turned when the writer ends, two at a time, which
+    // is faster than to turn each as it comes.
     late: usize,
     order: PhantomData<O>,
 }
@@ -39,8 +39,8 @@ impl<T: BitStore, O: BitOrder> Model for Words<T, O> {
     ghost invariant = { λ w. w.late ≤ length w.words.items };
 }
 
-// Whether blocks are appended by `Msb0` and turned later: where they are words, and have to be turned. It is a hint for
-// speed alone.
+// Whether blocks are stored by `Msb0` and turned later: where a block is one word, and its order begins at the lowest
+// place. It is a hint for speed alone.
 #[inline(always)]
 fn is_turned_later<T: BitStore, O: BitOrder>() -> bool
     ensures { result ≡ true → T.BITS ≡ 64 }
@@ -77,7 +77,7 @@ fn turn_last<T: BitStore, O: BitOrder>(words: &mut [T], late: usize)
     }
 }
 
-// The same, where there are any.
+// Like `turn_last`, of the words of a vector.
 #[inline(always)]
 fn turn_in_vec<T: BitStore, O: BitOrder>(words: &mut Vec<T>, late: usize)
     requires { late ≤ length words.old.items }
@@ -104,7 +104,7 @@ impl<T: BitStore, O: BitOrder> Words<T, O> {
         }
     }
 
-    // These words.
+    // The words of a vector, each by the order.
     pub(crate) fn of(words: Vec<T>) -> Self
         ensures list { result.list ≡ row T.BitStore O.BitOrder words.items }
         ensures capacity { result.capacity ≡ bits_in T.BITS (vec_capacity words) 0 }
@@ -217,7 +217,7 @@ impl<T: BitStore, O: BitOrder> Words<T, O> {
         cut_at::<T, O>(&mut self.words, n)
     }
 
-    // The words, each by the order.
+    // The vector of the words, each by the order.
     pub(crate) fn into_vec(self) -> Vec<T>
         ensures bits { row T.BitStore O.BitOrder result.items ≡ self.list }
         ensures len { T.BITS * length result.items ≡ length self.list }

@@ -1,3 +1,4 @@
+use Rattle.std.proofs.lemmas.Grind.{common_steps}
 use Rattle.std.proofs.Common.{◌≡◌, ◌+◌, ◌*◌, ◌%◌, ◌^◌, ◌++◌, Ok, inl, inr, refl, sym, ◌∙◌, ap, arith}
 use Rattle.std.proofs.Math.Pow.{pow_pos}
 use Rattle.std.proofs.lemmas.Nat.{mod_below}
@@ -34,3 +35,9 @@ returns-in-None-clause-ended g c e = inl (c.in-None.ensures.none refl)
 
 pub returns-in-None-read-clause-ended : goal.returns-in-None-read-clause-ended
 returns-in-None-read-clause-ended g c e = inr (c.in-Some.top, c.read_unary.new.self.rest, c.in-Some.ensures.found, c.in-None-read.ensures.none.0 refl, omega arith)
+
+pub returns-then-top-gt63-clause-back : goal.returns-then-top-gt63-clause-back
+returns-then-top-gt63-clause-back g c = grind (arith, common_steps)
+
+pub returns-in-None-clause-back : goal.returns-in-None-clause-back
+returns-in-None-clause-back g c = grind (arith, common_steps)

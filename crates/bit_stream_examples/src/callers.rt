@@ -1,6 +1,7 @@
 //! Callers that need no proof of their own: each has one fact that a user of streams relies on.
 ghost use Rattle.std.specs.Prelude.{◌≡◌, ◌≢◌, ℕ, All, Bool, List, ◌+◌, ◌*◌, ◌/◌, ◌<◌, ◌≤◌, ◌^◌, ◌++◌, [], ◌∷◌, IfOk, IfSome, None, Ok, Some, OnOk, false, is_some, length, true};
 ghost use Rattle.bit_addressing.specs.Row.{binary};
+ghost use Rattle.bit_addressing.specs.declared.length.TheConstants.{MAX_BITS};
 ghost use Rattle.bit_streams.specs.Codes.{gamma};
 ghost use Rattle.bit_streams.specs.Refusals.{DeltaEnds, DeltaPasses, GolombEnds, GolombPasses, LebEnds, LebPadded, LebPasses};
 ghost use Rattle.bit_streams.specs.declared.codes.CodeError.TheVariants as errors;
@@ -20,6 +21,19 @@ pub fn number_back(alloc: Global, x: u64) -> Result<Option<u64>, GrowError>
     let bits = writer.finish()?;
     let mut reader = BitReader::new(bits.as_bitslice());
     Ok(reader.read(13))
+}
+
+/// A code that there is room for is written.
+pub fn code_in_room<T: BitStore, O: BitOrder>(writer: &mut BitWriter<T, O>) -> bool
+    requires room { length writer.old.list + 4 ≤ writer.old.capacity }
+    requires few { length writer.old.list + 4 ≤ MAX_BITS }
+    ensures { result ≡ true }
+{
+    match writer.write_unary(3) {
+        Ok(()) => true,
+        Err(GrowError::TooLong) => false,
+        Err(GrowError::OutOfMemory) => false,
+    }
 }
 
 /// A kind of three bits and a port of thirteen: written into two bytes, and read from them.

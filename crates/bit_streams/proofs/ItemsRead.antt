@@ -12,6 +12,15 @@ module _ {X : Type 0} (bits : X → List Bool) where
   items_push [] x = append-nil (bits x)
   items_push (y ∷ xs) x = ap (λ l. bits y ++ l) (items_push xs x) ∙ sym (append_assoc (bits y) (items_bits bits xs) (bits x))
 
+  -- those of a list in two parts
+  pub items_joined : (xs ys : List X) → items_bits bits (xs ++ ys) ≡ items_bits bits xs ++ items_bits bits ys
+  items_joined [] ys = refl
+  items_joined (x ∷ xs) ys = ap (λ l. bits x ++ l) (items_joined xs ys) ∙ sym (append_assoc (bits x) (items_bits bits xs) (items_bits bits ys))
+
+  -- the bits of the items up to one, and of those after it
+  pub items_around : (xs front back : List X) (x : X) → xs ≡ (front ++ x ∷ []) ++ back → items_bits bits xs ≡ (items_bits bits front ++ bits x) ++ items_bits bits back
+  items_around xs front back x is = ap (items_bits bits) is ∙ items_joined (front ++ x ∷ []) back ∙ ap (λ l. l ++ items_bits bits back) (items_push front x)
+
   -- one more value was written
   pub more_written : (old now new : List Bool) (xs : List X) (x : X) → now ≡ old ++ items_bits bits xs → new ≡ now ++ bits x → new ≡ old ++ items_bits bits (xs ++ x ∷ [])
   more_written old now new xs x is next = next ∙ ap (λ l. l ++ bits x) is ∙ append_assoc old (items_bits bits xs) (bits x) ∙ ap (λ l. old ++ l) (sym (items_push xs x))

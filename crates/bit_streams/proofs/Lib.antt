@@ -1,4 +1,5 @@
 pub mod Lists
+pub mod Steps
 pub mod Windows
 pub mod Padded
 pub mod Zeros

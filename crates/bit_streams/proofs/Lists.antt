@@ -1,6 +1,6 @@
 -- A list that begins with the digits of a number, or with a bit.
 use Rattle.std.proofs.Common.{◌≡◌, ℕ, ◌+◌, ◌*◌, ◌/◌, ◌%◌, ◌^◌, ◌<◌, ◌≤◌, Bool, true, false, cond, List, [], ◌∷◌, ◌++◌, length, take, drop, slice_range, append_assoc, rules, slice_get, get_or, Some, None, Ok, Err, Result, OnErr, append-nil, nat_eq, sym, ◌∙◌, ap, subst, refl, zero, suc, inl, inr, arith}
-use Rattle.std.proofs.lemmas.List.{take-append-drop, drop_at, length-append, drop_all, same_lists, places}
+use Rattle.std.proofs.lemmas.List.{drop_at, length-append, drop_all, same_lists, places}
 use Rattle.std.proofs.lemmas.Option.{slice_get_within, slice_get-get_or, get_or_from_slice_get}
 use Rattle.std.proofs.lemmas.Bool.{cases_lt}
 use Rattle.std.proofs.Math.Seq.{take-append_seam}
@@ -167,10 +167,6 @@ bit_read zero h = refl
 bit_read (suc zero) h = refl
 bit_read (suc (suc x)) h = absurd (omega arith)
 
--- a list with more appended begins as before
-pub begins_with : (old new more : List Bool) → new ≡ old ++ more → take (length old) new ≡ old
-begins_with old new more is = ap (take (length old)) is ∙ take_front (length old) old more refl
-
 -- equal counts pass the same
 pub passed_at : (n m : ℕ) (old new : Reading) → n ≡ m → Passed n old new → Passed m old new
 passed_at n m old new e p = subst (λ k. Passed k old new) e p
@@ -195,12 +191,6 @@ room_short w words more cap bits least short =
     let c = mul_comm w more in
     let d = mul_comm w cap in
     omega arith
-
--- what begins with a list that begins with another begins with that
-pub begins_through : (old mid new more : List Bool) → mid ≡ old ++ more → take (length mid) new ≡ mid → take (length old) new ≡ old
-begins_through old mid new more is begins =
-    begins_with old new (more ++ drop (length mid) new)
-    (sym (take-append-drop (length mid) new) ∙ ap (λ l. l ++ drop (length mid) new) (begins ∙ is) ∙ append_assoc old more (drop (length mid) new))
 
 -- a call is refused as the call that it makes, which needs no more bits
 pub refused_as : {A : Type 0} (result : Result A GrowError) (wanted more : ℕ) (old new was now : Writing) → was.capacity ≡ old.capacity → (now.list ≡ was.list → new.list ≡ old.list) → more ≤ wanted → (MAX_BITS < wanted → MAX_BITS < more) → Refuses result more was now → Refuses result wanted old new

@@ -40,6 +40,15 @@ tagged_found old first second new value tag bytes a b c size =
     let is : length value / 8 ≡ bytes = omega arith in
     three_parts old first second new (binary 8 tag) (binary 16 bytes) value a b c ∙ ap (λ k. ((binary 8 tag ++ binary 16 k) ++ value) ++ new) (sym is)
 
+-- how many bits a tagged value has
+pub tagged_size : (tag : ℕ) (value : List Bool) → length (tagged_bits tag value) ≡ 24 + length value
+tagged_size tag value =
+    let parts = length-append (binary 8 tag ++ binary 16 (length value / 8)) value in
+    let front = length-append (binary 8 tag) (binary 16 (length value / 8)) in
+    let first = length-binary 8 tag in
+    let second = length-binary 16 (length value / 8) in
+    omega arith
+
 -- ---- lists with their length
 
 -- a length, bits and filling read in turn are a list with its length
@@ -66,6 +75,14 @@ listed_written old first second new bits len a b c size =
     ∙ append_assoc old (binary 64 len ++ bits) (binary ((8 - len % 8) % 8) 0)
     ∙ ap (λ l. old ++ ((binary 64 len ++ bits) ++ l)) (zeros_of ((8 - len % 8) % 8) few)
     ∙ ap (λ k. old ++ ((binary 64 k ++ bits) ++ replicate ((8 - k % 8) % 8) false)) size
+
+-- a list with its length has 64 bits or more
+pub listed_least : (bits : List Bool) → 64 ≤ length (listed_bits bits)
+listed_least bits =
+    let all = length-append (binary 64 (length bits) ++ bits) (replicate ((8 - length bits % 8) % 8) false) in
+    let front = length-append (binary 64 (length bits)) bits in
+    let digits = length-binary 64 (length bits) in
+    omega arith
 
 -- what is written of a list is that of no other
 pub listed_once : (a b : List Bool) → (listed_bits a ≡ listed_bits b) ↔ (a ≡ b)

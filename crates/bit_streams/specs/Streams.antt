@@ -38,6 +38,12 @@ pub record Refuses {A : Type 0} (result : Result A GrowError) (wanted : ℕ) (ol
   pub memory : result ≡ Err OutOfMemory → old.capacity < wanted
   pub unchanged : OnErr result (new.list ≡ old.list)
 
+-- when a call that appends `bits` in several steps is refused: as too long only past MAX_BITS, and for memory only past the capacity; the list stays then
+pub record MayRefuse {A : Type 0} (result : Result A GrowError) (bits : List Bool) (old new : Writing) : Type 0 where
+  pub too_long : result ≡ Err TooLong → MAX_BITS < length old.list + length bits
+  pub memory : result ≡ Err OutOfMemory → old.capacity < length old.list + length bits
+  pub unchanged : OnErr result (new.list ≡ old.list)
+
 -- the places by the order from the most significant bit
 abbrev pub highest_first : ℕ → ℕ → ℕ
 highest_first w i = w - 1 - i

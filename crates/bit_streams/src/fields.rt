@@ -1,7 +1,8 @@
 //! Values that are written as bits and read back.
-ghost use Rattle.std.specs.Prelude.{◌≡◌, ℕ, ℤ, ◌+◌, ◌^◌, ◌<◌, ◌≤◌, ◌++◌, [], ◌∷◌, All, Bool, List, IfSome, None, OnErr, OnOk, Some, ⊤, false, true, length};
+ghost use Rattle.std.specs.Prelude.{◌≡◌, ℕ, ℤ, ◌+◌, ◌^◌, ◌<◌, ◌≤◌, ◌++◌, [], ◌∷◌, All, Bool, List, IfSome, None, OnOk, Some, ⊤, false, true, length};
 ghost use Rattle.bit_addressing.specs.Row.{binary};
 ghost use Rattle.bit_streams.specs.Fields.{OptionFits, items_bits, option_bits};
+ghost use Rattle.bit_streams.specs.Streams.{MayRefuse};
 ghost use Rattle.bit_slice.specs.Signed.{IsSigned, signed_binary};
 
 use crate::items::write_items;
@@ -26,11 +27,13 @@ pub trait Fields: Sized {
     /// The bits of a value.
     ghost bits_of: { Self → List Bool };
 
-    /// Appends the bits of the value. A refusal keeps what was written before. Requires that the value can be written.
+    /// Appends the bits of the value. A refusal keeps what was written before: as `TooLong` only where the list would pass
+    /// `MAX_BITS`, as `OutOfMemory` only where it would pass the capacity. Requires that the value can be written.
     fn write<T: BitStore, O: BitOrder>(&self, writer: &mut BitWriter<T, O>) -> Result<(), GrowError>
         requires { fits self.now }
         ensures list { OnOk result (writer.new.list ≡ writer.old.list ++ bits_of self.now) }
-        ensures unchanged { OnErr result (writer.new.list ≡ writer.old.list) };
+        ensures refusal { MayRefuse result (bits_of self.now) writer.old writer.new }
+        ensures capacity { writer.old.capacity ≤ writer.new.capacity };
 
     /// Reads a value. None exactly where the bits of no value come first, and then the reader stays where it is.
     fn read<T: BitStore, O: BitOrder>(reader: &mut BitReader<'_, T, O>) -> Option<Self>

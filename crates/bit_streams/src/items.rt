@@ -1,6 +1,7 @@
 //! Values of one kind, one after another.
-ghost use Rattle.std.specs.Prelude.{◌≡◌, ◌≢◌, ◌++◌, All, Bool, List, Err, IfOk, OnErr, OnOk, length};
+ghost use Rattle.std.specs.Prelude.{◌≡◌, ◌≢◌, ◌<◌, ◌≤◌, ◌++◌, All, Bool, List, Err, IfOk, OnErr, OnOk, length};
 ghost use Rattle.bit_streams.specs.Fields.{items_bits};
+ghost use Rattle.bit_streams.specs.Streams.{MayRefuse};
 ghost use Rattle.bit_streams.specs.declared.items.ItemsError.TheVariants as errors;
 
 use crate::fields::Fields;
@@ -26,7 +27,8 @@ pub fn write_items<F: Fields, T: BitStore, O: BitOrder>(
 ) -> Result<(), GrowError>
     requires { All F.fits items.now }
     ensures list { OnOk result (writer.new.list ≡ writer.old.list ++ items_bits F.bits_of items.now) }
-    ensures unchanged { OnErr result (writer.new.list ≡ writer.old.list) }
+    ensures refusal { MayRefuse result (items_bits F.bits_of items.now) writer.old writer.new }
+    ensures capacity { writer.old.capacity ≤ writer.new.capacity }
 {
     let before = writer.len();
     for item in items {
@@ -51,6 +53,7 @@ pub fn read_items<F: Fields + Drop, T: BitStore, O: BitOrder>(
     ensures found { IfOk result (λ v. reader.old.rest ≡ items_bits F.bits_of v.items ++ reader.new.rest) }
     ensures count { IfOk result (λ v. length v.items ≡ count) }
     ensures fitting { IfOk result (λ v. All F.fits v.items) }
+    ensures memory { result ≡ Err errors.OutOfMemory → 0 < count }
     ensures kept { OnErr result (reader.new ≡ reader.old) }
     ensures back { (xs : List F) → (more : List Bool) → length xs ≡ count → All F.fits xs
         → reader.old.rest ≡ items_bits F.bits_of xs ++ more

@@ -21,8 +21,9 @@ use std::mem::replace;
 ///
 /// The last bits wait in registers until there are 64 of them, so words are written whole. Bits and numbers are refused
 /// as `TooLong` exactly where the list would pass `MAX_BITS`, and as `OutOfMemory` only where it would pass the capacity;
-/// what was written before stays. In contracts a writer `w` is `w.list`, the bits that were written, and `w.capacity`,
-/// how many there is room for.
+/// what was written before stays. Codes, formats and fields are written in several steps, of which each may be refused:
+/// `TooLong` too comes only where the list with all their bits would pass the limit, and what was written before stays. In
+/// contracts a writer `w` is `w.list`, the bits that were written, and `w.capacity`, how many there is room for.
 ///
 /// ```rust
 /// use bit_addressing::Msb0;
@@ -83,7 +84,8 @@ fn written_over<T: BitStore, O: BitOrder, U: BitStore, P: BitOrder>(
 #[cold]
 #[inline(never)]
 fn cut_back<T: BitStore, O: BitOrder>(writer: BitWriter<T, O>, n: usize) -> BitWriter<T, O>
-    ensures { result.list ≡ take n writer.list }
+    ensures list { result.list ≡ take n writer.list }
+    ensures capacity { result.capacity ≡ writer.capacity }
 {
     let mut writer = writer;
     writer.truncate(n);
@@ -282,7 +284,8 @@ impl<T: BitStore, O: BitOrder> BitWriter<T, O> {
     // What `truncate` does, where a call that writes several fields is refused.
     #[inline(always)]
     pub(crate) fn go_back(&mut self, n: usize)
-        ensures { self.new.list ≡ take n self.old.list }
+        ensures list { self.new.list ≡ take n self.old.list }
+        ensures capacity { self.new.capacity ≡ self.old.capacity }
     {
         let writer = cut_back(self.moved_out(), n);
         let _empty = replace(self, writer);

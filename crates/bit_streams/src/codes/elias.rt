@@ -2,6 +2,7 @@
 ghost use Rattle.std.specs.Prelude.{◌≡◌, ◌≢◌, ℕ, ◌^◌, ◌<◌, ◌≤◌, ◌++◌, Bool, List, Err, IfOk, OnErr, OnOk, Ok};
 ghost use Rattle.bit_streams.specs.Codes.{delta, gamma, top_place};
 ghost use Rattle.bit_streams.specs.Refusals.{DeltaEnds, DeltaPasses, GammaEnds, GammaPasses};
+ghost use Rattle.bit_streams.specs.Streams.{MayRefuse};
 ghost use Rattle.bit_streams.specs.declared.codes.CodeError.TheVariants as errors;
 
 use crate::codes::CodeError;
@@ -30,7 +31,7 @@ impl<T: BitStore, O: BitOrder> BitWriter<T, O> {
     pub fn write_gamma(&mut self, x: u64) -> Result<(), GrowError>
         requires { 0 < x }
         ensures list { OnOk result (self.new.list ≡ self.old.list ++ gamma x) }
-        ensures unchanged { OnErr result (self.new.list ≡ self.old.list) }
+        ensures refusal { MayRefuse result (gamma x) self.old self.new }
         ensures capacity { self.old.capacity ≤ self.new.capacity }
     {
         let before = self.len();
@@ -57,7 +58,7 @@ impl<T: BitStore, O: BitOrder> BitWriter<T, O> {
     pub fn write_delta(&mut self, x: u64) -> Result<(), GrowError>
         requires { 0 < x }
         ensures list { OnOk result (self.new.list ≡ self.old.list ++ delta x) }
-        ensures unchanged { OnErr result (self.new.list ≡ self.old.list) }
+        ensures refusal { MayRefuse result (delta x) self.old self.new }
         ensures capacity { self.old.capacity ≤ self.new.capacity }
     {
         let before = self.len();

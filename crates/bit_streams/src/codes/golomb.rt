@@ -2,6 +2,7 @@
 ghost use Rattle.std.specs.Prelude.{◌≡◌, ◌≢◌, ℕ, ◌+◌, ◌-◌, ◌*◌, ◌/◌, ◌%◌, ◌^◌, ◌<◌, ◌≤◌, ◌++◌, Bool, List, Err, IfOk, IfSome, None, OnErr, OnOk, Ok, Some};
 ghost use Rattle.bit_streams.specs.Codes.{golomb, rest_code, rice, top_place, unary};
 ghost use Rattle.bit_streams.specs.Refusals.{GolombEnds, GolombPasses, RiceEnds};
+ghost use Rattle.bit_streams.specs.Streams.{MayRefuse};
 ghost use Rattle.bit_streams.specs.declared.codes.CodeError.TheVariants as errors;
 
 use crate::codes::CodeError;
@@ -33,7 +34,7 @@ impl<T: BitStore, O: BitOrder> BitWriter<T, O> {
     pub fn write_rice(&mut self, k: u8, x: u64) -> Result<(), GrowError>
         requires { k < 64 }
         ensures list { OnOk result (self.new.list ≡ self.old.list ++ rice k x) }
-        ensures unchanged { OnErr result (self.new.list ≡ self.old.list) }
+        ensures refusal { MayRefuse result (rice k x) self.old self.new }
         ensures capacity { self.old.capacity ≤ self.new.capacity }
     {
         let before = self.len();
@@ -59,7 +60,7 @@ impl<T: BitStore, O: BitOrder> BitWriter<T, O> {
     pub fn write_golomb(&mut self, m: u64, x: u64) -> Result<(), GrowError>
         requires { 0 < m }
         ensures list { OnOk result (self.new.list ≡ self.old.list ++ golomb m x) }
-        ensures unchanged { OnErr result (self.new.list ≡ self.old.list) }
+        ensures refusal { MayRefuse result (golomb m x) self.old self.new }
         ensures capacity { self.old.capacity ≤ self.new.capacity }
     {
         let before = self.len();
@@ -80,7 +81,7 @@ impl<T: BitStore, O: BitOrder> BitWriter<T, O> {
     fn write_rest(&mut self, m: u64, rest: u64) -> Result<(), GrowError>
         requires { rest < m }
         ensures list { OnOk result (self.new.list ≡ self.old.list ++ rest_code m rest) }
-        ensures unchanged { OnErr result (self.new.list ≡ self.old.list) }
+        ensures refusal { MayRefuse result (rest_code m rest) self.old self.new }
         ensures capacity { self.old.capacity ≤ self.new.capacity }
     {
         let top = top_of(m);

@@ -1,8 +1,9 @@
 //! LEB128: seven binary digits in a byte, the lowest first.
-ghost use Rattle.std.specs.Prelude.{◌≡◌, ℕ, ◌+◌, ◌*◌, ◌^◌, ◌<◌, ◌≤◌, ◌++◌, Bool, List, Err, IfOk, OnErr, OnOk, Ok, length, take};
+ghost use Rattle.std.specs.Prelude.{◌≡◌, ℕ, ◌+◌, ◌*◌, ◌^◌, ◌<◌, ◌≤◌, ◌++◌, Bool, List, Err, IfOk, OnErr, OnOk, Ok, length};
 ghost use Rattle.bit_addressing.specs.Row.{binary};
 ghost use Rattle.bit_streams.specs.Codes.{leb128, leb_bytes};
 ghost use Rattle.bit_streams.specs.Refusals.{LebEnds, LebPadded, LebPasses};
+ghost use Rattle.bit_streams.specs.Streams.{MayRefuse, Refuses};
 ghost use Rattle.bit_streams.specs.declared.codes.CodeError.TheVariants as errors;
 
 use crate::codes::CodeError;
@@ -12,30 +13,26 @@ use bit_addressing::{BitOrder, BitStore, GrowError};
 
 impl<T: BitStore, O: BitOrder> BitWriter<T, O> {
     /// Appends a number in LEB128, 1 to 10 bytes, each from its most significant bit on: seven digits, the lowest group
-    /// first, below a bit that says whether more follow. A refusal keeps what was written before.
+    /// first, below a bit that says whether more follow.
     ///
     /// ```text
     /// writer.write_leb128(300)?;       // appends the bytes 172, 2
     /// ```
     pub fn write_leb128(&mut self, x: u64) -> Result<(), GrowError>
         ensures list { OnOk result (self.new.list ≡ self.old.list ++ leb128 x) }
-        ensures unchanged { OnErr result (self.new.list ≡ self.old.list) }
+        ensures refusal { MayRefuse result (leb128 x) self.old self.new }
         ensures capacity { self.old.capacity ≤ self.new.capacity }
     {
-        let before = self.len();
         match self.write_bytes(9, x) {
             Ok(()) => Ok(()),
-            Err(why) => {
-                self.truncate(before);
-                Err(why)
-            }
+            Err(why) => Err(why),
         }
     }
 
     // Appends the last byte.
     fn write_last(&mut self, x: u64) -> Result<(), GrowError>
         ensures list { OnOk result (self.new.list ≡ self.old.list ++ binary 8 x) }
-        ensures begins { take (length self.old.list) self.new.list ≡ self.old.list }
+        ensures refusal { Refuses result (length self.old.list + 8) self.old self.new }
         ensures capacity { self.old.capacity ≤ self.new.capacity }
     {
         match self.write(8, x) {
@@ -44,10 +41,10 @@ impl<T: BitStore, O: BitOrder> BitWriter<T, O> {
         }
     }
 
-    // Appends a number in at most `more + 1` bytes; after a refusal some of them may be there.
+    // Appends a number in at most `more + 1` bytes.
     fn write_bytes(&mut self, more: u8, x: u64) -> Result<(), GrowError>
         ensures list { OnOk result (self.new.list ≡ self.old.list ++ leb_bytes more x) }
-        ensures begins { take (length self.old.list) self.new.list ≡ self.old.list }
+        ensures refusal { MayRefuse result (leb_bytes more x) self.old self.new }
         ensures capacity { self.old.capacity ≤ self.new.capacity }
     {
         if more == 0 {
@@ -56,9 +53,17 @@ impl<T: BitStore, O: BitOrder> BitWriter<T, O> {
         if x < 128 {
             return self.write_last(x);
         }
+        let before = self.len();
         match self.write(8, x % 128 + 128) {
-            Ok(()) => self.write_bytes(more - 1, x / 128),
-            Err(why) => Err(why),
+            Ok(()) => {}
+            Err(why) => return Err(why),
+        }
+        match self.write_bytes(more - 1, x / 128) {
+            Ok(()) => Ok(()),
+            Err(why) => {
+                self.truncate(before);
+                Err(why)
+            }
         }
     }
 }

@@ -1,6 +1,7 @@
 //! The unary code: a number of zeros and a one.
-ghost use Rattle.std.specs.Prelude.{◌≡◌, ℕ, ◌+◌, ◌≤◌, ◌++◌, [], ◌∷◌, Bool, List, IfSome, None, OnErr, OnOk, Some, false, length, replicate};
+ghost use Rattle.std.specs.Prelude.{◌≡◌, ℕ, ◌+◌, ◌≤◌, ◌++◌, [], ◌∷◌, Bool, List, IfSome, None, OnOk, Some, false, length, replicate};
 ghost use Rattle.bit_streams.specs.Codes.{unary};
+ghost use Rattle.bit_streams.specs.Streams.{MayRefuse};
 
 use crate::reader::BitReader;
 use crate::writer::BitWriter;
@@ -14,7 +15,7 @@ impl<T: BitStore, O: BitOrder> BitWriter<T, O> {
     /// ```
     pub fn write_unary(&mut self, zeros: usize) -> Result<(), GrowError>
         ensures list { OnOk result (self.new.list ≡ self.old.list ++ unary zeros) }
-        ensures unchanged { OnErr result (self.new.list ≡ self.old.list) }
+        ensures refusal { MayRefuse result (unary zeros) self.old self.new }
         ensures capacity { self.old.capacity ≤ self.new.capacity }
     {
         let before = self.len();

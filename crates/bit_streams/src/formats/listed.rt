@@ -4,6 +4,7 @@ ghost use Rattle.bit_addressing.specs.declared.length.TheConstants.{MAX_BITS};
 ghost use Rattle.bit_slice.specs.BitSlice.{list_of};
 ghost use Rattle.bit_streams.specs.Formats.{listed_bits};
 ghost use Rattle.bit_streams.specs.Refusals.{ListEnds, ListFilled};
+ghost use Rattle.bit_streams.specs.Streams.{MayRefuse};
 ghost use Rattle.bit_streams.specs.declared.formats.listed.ListFault.TheVariants as faults;
 
 use crate::reader::BitReader;
@@ -22,13 +23,14 @@ pub enum ListFault {
 
 impl<T: BitStore, O: BitOrder> BitWriter<T, O> {
     /// Appends a list with its length: 64 binary digits with how many bits there are, the bits, and zeros up to whole bytes.
-    /// A refusal keeps what was written before.
+    /// Refused like the codes.
     pub fn write_list<U: BitStore, P: BitOrder>(
         &mut self,
         bits: BitSlice<'_, U, P>,
     ) -> Result<(), GrowError>
         ensures list { OnOk result (self.new.list ≡ self.old.list ++ listed_bits (list_of bits.entry)) }
-        ensures unchanged { OnErr result (self.new.list ≡ self.old.list) }
+        ensures refusal { MayRefuse result (listed_bits (list_of bits.entry)) self.old self.new }
+        ensures capacity { self.old.capacity ≤ self.new.capacity }
     {
         let before = self.len();
         let len = bits.len();

@@ -1,9 +1,10 @@
 //! Tagged values: a tag, a length, and as many bytes.
-ghost use Rattle.std.specs.Prelude.{◌≡◌, ℕ, ◌+◌, ◌*◌, ◌%◌, ◌^◌, ◌<◌, ◌++◌, Bool, List, Err, IfOk, IsOk, OnErr, OnOk, length};
+ghost use Rattle.std.specs.Prelude.{◌≡◌, ℕ, ◌+◌, ◌*◌, ◌%◌, ◌^◌, ◌<◌, ◌≤◌, ◌++◌, Bool, List, Err, IfOk, IsOk, OnErr, OnOk, length};
 ghost use Rattle.bit_addressing.specs.Row.{binary};
 ghost use Rattle.bit_slice.specs.BitSlice.{len_of, list_of};
 ghost use Rattle.bit_streams.specs.Formats.{tagged_bits};
 ghost use Rattle.bit_streams.specs.Refusals.{TagEnds};
+ghost use Rattle.bit_streams.specs.Streams.{MayRefuse, Refuses};
 ghost use Rattle.bit_streams.specs.declared.formats.tagged.TaggedFault.TheVariants as faults;
 
 use crate::reader::BitReader;
@@ -31,8 +32,8 @@ pub struct Tagged<'a, T: BitStore, O: BitOrder> {
 }
 
 impl<T: BitStore, O: BitOrder> BitWriter<T, O> {
-    /// Appends a tagged value. A refusal keeps what was written before. Requires that the tag is not 0, and that the value
-    /// is whole bytes, fewer than 65536.
+    /// Appends a tagged value. Refused like the codes. Requires that the tag is not 0, and that the value is whole bytes,
+    /// fewer than 65536.
     #[inline(always)]
     pub fn write_tagged<U: BitStore, P: BitOrder>(
         &mut self,
@@ -43,7 +44,8 @@ impl<T: BitStore, O: BitOrder> BitWriter<T, O> {
         requires whole { len_of value % 8 ≡ 0 }
         requires few { len_of value < 8 * 2 ^ 16 }
         ensures list { OnOk result (self.new.list ≡ self.old.list ++ tagged_bits tag (list_of value.entry)) }
-        ensures unchanged { OnErr result (self.new.list ≡ self.old.list) }
+        ensures refusal { MayRefuse result (tagged_bits tag (list_of value.entry)) self.old self.new }
+        ensures capacity { self.old.capacity ≤ self.new.capacity }
     {
         let len = value.len();
         // A short value and what comes before it are one number, which is refused as a whole.
@@ -71,7 +73,8 @@ impl<T: BitStore, O: BitOrder> BitWriter<T, O> {
     fn write_front(&mut self, tag: u8, bytes: usize) -> Result<(), GrowError>
         requires { bytes < 2 ^ 16 }
         ensures list { OnOk result (self.new.list ≡ self.old.list ++ (binary 8 tag ++ binary 16 bytes)) }
-        ensures unchanged { OnErr result (self.new.list ≡ self.old.list) }
+        ensures refusal { Refuses result (length self.old.list + 24) self.old self.new }
+        ensures capacity { self.old.capacity ≤ self.new.capacity }
     {
         match self.write(24, joined(tag as u64, 8, 16, bytes as u64)) {
             Ok(()) => Ok(()),

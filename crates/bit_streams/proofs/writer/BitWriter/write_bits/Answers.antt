@@ -1,10 +1,8 @@
-use Rattle.std.proofs.Common.{◌≡◌, ◌+◌, ◌-◌, ◌*◌, ◌%◌, ◌++◌, take, sym, ◌∙◌, ap, arith}
-use Rattle.std.proofs.lemmas.List.{take_all}
+use Rattle.std.proofs.Common.{◌≡◌, ◌++◌, sym, ◌∙◌, ap, arith}
 use Rattle.std.proofs.lemmas.Result.{on_ok_weaker}
 use Rattle.std.proofs.lemmas.Grind.{common_steps}
 use Rattle.bit_addressing.specs.Row.{binary}
 use Rattle.bit_slice.specs.BitSlice.{len_of, list_of}
-use Rattle.bit_streams.proofs.Windows.{part_written}
 use Rattle.bit_streams.proofs.writer.BitWriter.write_bits.Goals as goal
 
 pub returns-then-len-le64-clause-list : goal.returns-then-len-le64-clause-list

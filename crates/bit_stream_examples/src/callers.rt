@@ -1,5 +1,5 @@
 //! Callers that need no proof of their own: each has one fact that a user of streams relies on.
-ghost use Rattle.std.specs.Prelude.{◌≡◌, ◌≢◌, ℕ, All, Bool, List, ◌+◌, ◌*◌, ◌/◌, ◌<◌, ◌≤◌, ◌^◌, ◌++◌, [], ◌∷◌, IfOk, IfSome, None, Ok, Some, OnOk, false, is_some, length, true};
+ghost use Rattle.std.specs.Prelude.{◌≡◌, ◌≢◌, ℕ, All, Bool, List, ◌+◌, ◌*◌, ◌/◌, ◌<◌, ◌≤◌, ◌^◌, ◌++◌, [], ◌∷◌, IfOk, IfSome, IsOk, None, Ok, Some, OnOk, false, is_some, length, true};
 ghost use Rattle.bit_addressing.specs.Row.{binary};
 ghost use Rattle.bit_addressing.specs.declared.length.TheConstants.{MAX_BITS};
 ghost use Rattle.bit_streams.specs.Codes.{gamma};
@@ -8,8 +8,12 @@ ghost use Rattle.bit_streams.specs.declared.codes.CodeError.TheVariants as error
 
 use bit_addressing::{BitOrder, BitStore, GrowError, Msb0};
 use bit_containers::BitVec;
-use bit_streams::{BitReader, BitWriter, CodeError, Fields, Number};
+use bit_streams::{
+    BitReader, BitSink, BitSource, BitWriter, CodeError, Fields, Number, SourceError,
+};
 use std::alloc::Global;
+use std::io;
+use std::io::{Read, Write};
 
 /// A number that is written is read.
 pub fn number_back(alloc: Global, x: u64) -> Result<Option<u64>, GrowError>
@@ -280,4 +284,23 @@ pub fn golomb_or_end<T: BitStore, O: BitOrder>(
         Err(CodeError::TooLong) => Some(false),
         Err(CodeError::NotShortest) => None,
     }
+}
+
+/// Seven bits are held back, so the writer isn't called and nothing fails.
+pub fn seven_bits<W: Write + Drop, O: BitOrder>(inner: W) -> io::Result<BitSink<W, O>>
+    ensures { IsOk result }
+{
+    let mut sink = BitSink::new(inner);
+    sink.write(3, 5)?;
+    sink.write(4, 9)?;
+    Ok(sink)
+}
+
+/// The last five bits of a byte are read without the reader, so this cannot fail.
+pub fn rest_of_a_byte<R: Read + Drop, O: BitOrder>(inner: R) -> Result<(u64, bool), SourceError>
+    ensures { IfOk result (λ read. read.1 ≡ true) }
+{
+    let mut source = BitSource::<R, O>::new(inner);
+    let kind = source.read(3)?;
+    Ok((kind, source.read(5).is_ok()))
 }

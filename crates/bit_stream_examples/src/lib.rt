@@ -15,6 +15,8 @@ mod fields;
 #[cfg(test)]
 mod formats;
 #[cfg(test)]
+mod own;
+#[cfg(test)]
 mod streams;
 
 // That this holds. A test calls it in place of `assert!`, which costs the prover more: a failed

@@ -1,10 +1,12 @@
 -- Calls that append in several steps: one step refused is the whole call refused, and what was written before stays.
 use Rattle.std.proofs.Common.{◌≡◌, ℕ, ◌+◌, ◌<◌, ◌≤◌, ◌++◌, Bool, List, length, take, Err, Result, sym, ◌∙◌, ap, arith}
 use Rattle.std.proofs.lemmas.List.{length-append}
+use Rattle.bit_addressing.specs.Row.{binary}
 use Rattle.bit_addressing.specs.declared.length.TheConstants.{MAX_BITS}
 use Rattle.bit_addressing.specs.declared.errors.GrowError.{GrowError}
 use Rattle.bit_addressing.specs.declared.errors.GrowError.TheVariants.{TooLong, OutOfMemory}
 use Rattle.bit_streams.specs.Streams.{MayRefuse, Refuses, Writing}
+use Rattle.bit_rows.proofs.Binary.{length-binary}
 use Rattle.bit_streams.proofs.Lists.{take_front}
 
 -- the result of a call that is refused
@@ -54,3 +56,18 @@ pub one_step : (result : Result (Unit {0}) GrowError) (bits step : List Bool) (n
 one_step result bits step n old new is size r =
     let all = ap length is in
     record { too_long = λ e. (let p = r.too_long.0 e in omega arith); memory = λ e. (let p = r.memory e in omega arith); unchanged = r.unchanged }
+
+-- a number of n digits refused before more is written
+pub number_refused : (why : GrowError) (n x : ℕ) (more : List Bool) (old new : Writing) → Refuses (refused why) (length old.list + n) old new → MayRefuse (refused why) (binary n x ++ more) old new
+number_refused why n x more old new r =
+    let sum = length-append (binary n x) more in
+    let digits = length-binary n x in
+    refused_first why (binary n x ++ more) n old new r (omega arith)
+
+-- a number of n digits refused after other bits, which are cut off
+pub number_refused_after : (why : GrowError) (front : List Bool) (n x k : ℕ) (old new was now : Writing) → Refuses (refused why) (length was.list + n) was now → was.list ≡ old.list ++ front
+    → old.capacity ≤ was.capacity → new.list ≡ take k now.list → k ≡ length old.list → MayRefuse (refused why) (front ++ binary n x) old new
+number_refused_after why front n x k old new was now r is grew cut at =
+    let sum = length-append front (binary n x) in
+    let digits = length-binary n x in
+    refused_after why (front ++ binary n x) front n k old new was now r is (omega arith) grew cut at

@@ -3,6 +3,7 @@ use Rattle.std.specs.Prelude.{◌≡◌, pos, negsuc, true, false, [], ◌∷◌
 use Rattle.bit_addressing.specs.Row.{binary}
 use Rattle.bit_streams.specs.Codes.{delta, gamma, golomb, leb128, leb_bytes, rice, unary, zigzag}
 use Rattle.bit_slice.specs.Signed.{signed_of}
+use Rattle.bit_streams.specs.Streamed.{held_after}
 
 unary_three : unary 3 ≡ false ∷ false ∷ false ∷ true ∷ []
 unary_three = refl
@@ -35,3 +36,12 @@ minus_two = refl
 
 three : signed_of 3 3 ≡ pos 3
 three = refl
+
+four_of_three : held_after 4 3 ≡ 7
+four_of_three = refl
+
+two_of_three : held_after 2 3 ≡ 1
+two_of_three = refl
+
+eleven_of_three : held_after 11 3 ≡ 0
+eleven_of_three = refl

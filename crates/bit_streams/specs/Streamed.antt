@@ -1,5 +1,5 @@
 -- Bits out of the bytes of a reader, and into those of a writer.
-use Rattle.std.specs.Prelude.{◌≡◌, ℕ, ◌^◌, ◌<◌, Bool, List, ◌++◌, Option, None, Some, ⊤, refl}
+use Rattle.std.specs.Prelude.{◌≡◌, ℕ, ◌+◌, ◌-◌, ◌^◌, ◌%◌, ◌<◌, Bool, List, ◌++◌, ◌⊎◌, Option, None, Some, ⊤, refl}
 use Rattle.std.specs.Option.{option_map}
 use Rattle.std.specs.Coded.{Coded, code_by, coded×, coded_list, coded_ℕ, coded_bool, coded_option}
 use Rattle.bit_addressing.specs.Row.{binary, row_of}
@@ -40,6 +40,10 @@ Passes None new bits = ⊤
 Passes (Some xs) None bits = ⊥
 Passes (Some xs) (Some ys) bits = xs ≡ bits ++ ys
 
+-- how many bits are held once n were read: bytes are taken whole, and no more of them than the number needs
+abbrev pub held_after : ℕ → ℕ → ℕ
+held_after n held = (held - n) + (8 - (n - held) % 8) % 8
+
 -- what contracts see of a sink: the bits that were written, where they are known, and how many of them its writer has not taken yet
 pub record Sunk : Type 0 where
   pub list : Option (List Bool)
@@ -58,3 +62,7 @@ abbrev pub Gains : Option (List Bool) → Option (List Bool) → List Bool → T
 Gains None new bits = ⊤
 Gains (Some xs) None bits = ⊥
 Gains (Some xs) (Some ys) bits = ys ≡ xs ++ bits
+
+-- a sink as it was, or with the last byte filled up by these bits
+abbrev pub MayFill : Sunk → Sunk → List Bool → Type 0
+MayFill old new bits = (Stays old.list new.list × (new.held % 8 ≡ old.held % 8)) ⊎ (Gains old.list new.list bits × (new.held % 8 ≡ 0))

@@ -1,8 +1,8 @@
 //! Bits into the bytes that a writer takes.
-ghost use Rattle.std.specs.Prelude.{◌≡◌, ◌+◌, ◌-◌, ◌<◌, ◌≤◌, ◌%◌, [], ◌∷◌, OnErr, OnOk, false, replicate};
+ghost use Rattle.std.specs.Prelude.{◌≡◌, ◌+◌, ◌-◌, ◌<◌, ◌≤◌, ◌%◌, [], ◌∷◌, IsOk, OnErr, OnOk, false, replicate};
 ghost use Rattle.bit_addressing.specs.Row.{binary, row_of};
 ghost use Rattle.std.specs.Io.KnownBytes.{Appends, Keeps};
-ghost use Rattle.bit_streams.specs.Streamed.{Gains, Stays, bits_made};
+ghost use Rattle.bit_streams.specs.Streamed.{Gains, MayFill, Stays, bits_made};
 
 use bit_addressing::{BitOrder, BitStore};
 use std::io;
@@ -131,6 +131,7 @@ impl<W: Write, O: BitOrder> BitSink<W, O> {
         ensures list { Stays self.old.list self.new.list }
         ensures held { OnOk result (self.new.held < 8) }
         ensures whole { self.new.held % 8 ≡ self.old.held % 8 }
+        ensures none { self.old.held < 8 → IsOk result }
     {
         for _ in 0..self.held() / 8 {
             match self.push_byte() {
@@ -153,11 +154,15 @@ impl<W: Write, O: BitOrder> BitSink<W, O> {
     }
 
     /// Writes the `n` lowest binary digits of a number, the most significant first. After an error nothing is lost of what
-    /// was written before, and nothing of this number is written. Requires that `n` is at most 64.
+    /// was written before, and nothing of this number is written. Calls the writer, and so can fail, only if a whole byte
+    /// is held. Requires that `n` is at most 64.
     pub fn write(&mut self, n: u8, x: u64) -> io::Result<()>
         requires { n ≤ 64 }
         ensures list { OnOk result (Gains self.old.list self.new.list (binary n x)) }
+        ensures held { OnOk result (self.new.held ≡ self.old.held % 8 + n) }
         ensures kept { OnErr result (Stays self.old.list self.new.list) }
+        ensures whole { OnErr result (self.new.held % 8 ≡ self.old.held % 8) }
+        ensures called { self.old.held < 8 → IsOk result }
     {
         match self.push_bytes() {
             Ok(()) => {
@@ -168,11 +173,12 @@ impl<W: Write, O: BitOrder> BitSink<W, O> {
         }
     }
 
-    /// Fills the last byte up with zeros, gives the writer all bytes, and flushes it. After an error the same call can be
-    /// made again.
+    /// Fills the last byte up with zeros, gives the writer all bytes, and flushes it. After an error the bits that were
+    /// written are kept, with or without those zeros, and the same call can be made again.
     pub fn finish(&mut self) -> io::Result<()>
         ensures list { OnOk result (Gains self.old.list self.new.list (replicate ((8 - self.old.held % 8) % 8) false)) }
         ensures done { OnOk result (self.new.held ≡ 0) }
+        ensures kept { OnErr result (MayFill self.old self.new (replicate ((8 - self.old.held % 8) % 8) false)) }
     {
         match self.push_bytes() {
             Ok(()) => {}

@@ -1,8 +1,8 @@
 //! Bits out of the bytes that a reader gives.
-ghost use Rattle.std.specs.Prelude.{◌≡◌, ℕ, ◌+◌, ◌*◌, ◌^◌, ◌<◌, ◌≤◌, ◌++◌, Err, IfNone, IfOk, IfSome, OnErr, OnOk, length};
+ghost use Rattle.std.specs.Prelude.{◌≡◌, ℕ, ◌+◌, ◌*◌, ◌^◌, ◌<◌, ◌≤◌, ◌++◌, Err, IsOk, IfNone, IfOk, IfSome, OnErr, OnOk, length};
 ghost use Rattle.std.specs.Io.KnownBytes.{IsAtEnd, Keeps};
 ghost use Rattle.bit_addressing.specs.Row.{binary};
-ghost use Rattle.bit_streams.specs.Streamed.{Loses, Passes, Stays, bits_left};
+ghost use Rattle.bit_streams.specs.Streamed.{Loses, Passes, Stays, bits_left, held_after};
 ghost use Rattle.bit_streams.specs.declared.source.SourceError.TheVariants as errors;
 
 use bit_addressing::BitOrder;
@@ -131,6 +131,7 @@ impl<R: Read, O: BitOrder> BitSource<R, O> {
         requires held { n ≤ self.old.held }
         ensures digits { Passes self.old.rest self.new.rest (binary n result) }
         ensures below { result < 2 ^ n }
+        ensures held { self.new.held + n ≡ self.old.held }
     {
         let left = self.held - n;
         let x = (self.pending >> left) as u64;
@@ -140,13 +141,16 @@ impl<R: Read, O: BitOrder> BitSource<R, O> {
     }
 
     /// Reads the number that the next `n` bits write in binary, the most significant digit first. After an error no bit is
-    /// lost: the same call can be made again. Requires that `n` is at most 64.
+    /// lost: the same call can be made again. Calls the reader, and so can fail, only if fewer than `n` bits are held.
+    /// Requires that `n` is at most 64.
     pub fn read(&mut self, n: u8) -> Result<u64, SourceError>
         requires { n ≤ 64 }
         ensures digits { IfOk result (λ x. Passes self.old.rest self.new.rest (binary n x)) }
         ensures below { IfOk result (λ x. x < 2 ^ n) }
+        ensures held { OnOk result (self.new.held ≡ held_after n self.old.held) }
         ensures kept { OnErr result (Stays self.old.rest self.new.rest) }
         ensures ended { result ≡ Err errors.Ended → IfSome self.old.rest (λ bits. length bits < n) }
+        ensures called { n ≤ self.old.held → IsOk result }
     {
         match self.fill(n) {
             Ok(()) => Ok(self.take(n)),
@@ -158,7 +162,8 @@ impl<R: Read, O: BitOrder> BitSource<R, O> {
     fn fill(&mut self, n: u8) -> Result<(), SourceError>
         requires { n ≤ 64 }
         ensures rest { Stays self.old.rest self.new.rest }
-        ensures held { OnOk result (n ≤ self.new.held) }
+        ensures held { OnOk result (self.new.held ≡ n + held_after n self.old.held) }
+        ensures none { n ≤ self.old.held → IsOk result }
         ensures ended { result ≡ Err errors.Ended → IfSome self.old.rest (λ bits. length bits < n) }
     {
         for _ in 0..8u8 {

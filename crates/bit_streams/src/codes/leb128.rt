@@ -13,7 +13,7 @@ use bit_addressing::{BitOrder, BitStore, GrowError};
 
 impl<T: BitStore, O: BitOrder> BitWriter<T, O> {
     /// Appends a number in LEB128, 1 to 10 bytes, each from its most significant bit on: seven digits, the lowest group
-    /// first, below a bit that says whether more follow.
+    /// first, below a bit that says whether more follow. A refusal keeps what was written before.
     ///
     /// ```text
     /// writer.write_leb128(300)?;       // appends the bytes 172, 2

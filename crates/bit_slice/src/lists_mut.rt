@@ -66,15 +66,7 @@ pub trait BitListMut: BitList {
         → Self.head s + Self.len s ≤ Self.Store.BITS * length ws
         → Self.list (rewritten s ws) ≡ list_in Self.Store.BitStore Self.Order.BitOrder ws (Self.head s) (Self.len s) };
 
-    ghost head_rewritten: { (s : Self) (ws : List Self.Store) → Self.head (rewritten s ws) ≡ Self.head s };
-
-    ghost len_rewritten: { (s : Self) (ws : List Self.Store) → Self.len (rewritten s ws) ≡ Self.len s };
-
-    ghost count_rewritten: { (s : Self) (ws : List Self.Store) → count (rewritten s ws) ≡ count s };
-
-    ghost capacity_rewritten: { (s : Self) (ws : List Self.Store) → capacity (rewritten s ws) ≡ capacity s };
-
-    ghost loan_rewritten: { (s : Self) (ws : List Self.Store) → loan (rewritten s ws) ≡ loan s };
+    ghost stays_rewritten: { (s : Self) (ws : List Self.Store) → Stays Self.head Self.len count capacity loan s (rewritten s ws) };
 
     /// Writes the bit at `i`, and no other bit. Takes no memory. Requires that `i` is below the length.
     ///
@@ -1216,13 +1208,11 @@ impl<'a, T: BitStore, O: BitOrder> BitListMut for BitSliceMut<'a, T, O> {
 
     ghost list_rewritten = { λ v ws e f. Prim.rw (refilled (length (words_of v)) (words_of v) ws e) refl };
 
-    ghost head_rewritten = { λ v ws. refl };
-
-    ghost len_rewritten = { λ v ws. refl };
-
-    ghost count_rewritten = { λ v ws. sym (length_refill (length (words_of v)) (words_of v) ws refl) };
-
-    ghost capacity_rewritten = { λ v ws. refl };
-
-    ghost loan_rewritten = { λ v ws. refl };
+    ghost stays_rewritten = { λ v ws. record {
+      head = refl;
+      len = refl;
+      size = sym (length_refill (length (words_of v)) (words_of v) ws refl);
+      capacity = refl;
+      same_words = refl;
+    } };
 }

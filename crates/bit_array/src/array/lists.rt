@@ -49,13 +49,11 @@ impl<A: BitViewSized, O: BitOrder> BitListMut for BitArray<A, O> {
     ghost list_rewritten = { λ a ws e _. Prim.rw (A.kept a ws e)
         (whole_shown A.Store.value O.place A.Store.BITS ws A.count e) };
 
-    ghost head_rewritten = { λ a ws. refl };
-
-    ghost len_rewritten = { λ a ws. refl };
-
-    ghost count_rewritten = { λ a ws. refl };
-
-    ghost capacity_rewritten = { λ a ws. refl };
-
-    ghost loan_rewritten = { λ a ws. refl };
+    ghost stays_rewritten = { λ a ws. record {
+      head = refl;
+      len = refl;
+      size = refl;
+      capacity = refl;
+      same_words = refl;
+    } };
 }

@@ -48,13 +48,11 @@ impl<T: BitStore, O: BitOrder> BitListMut for BitBox<T, O> {
 
     ghost list_rewritten = { λ b ws e f. kept_list T.value O.place T.BITS b.words b.head b.list ws e f };
 
-    ghost head_rewritten = { λ b ws. refl };
-
-    ghost len_rewritten = { λ b ws. kept_len T.value O.place T.BITS b.words b.head b.list ws };
-
-    ghost count_rewritten = { λ b ws. kept_count T.value O.place T.BITS b.words b.head b.list ws };
-
-    ghost capacity_rewritten = { λ b ws. refl };
-
-    ghost loan_rewritten = { λ b ws. refl };
+    ghost stays_rewritten = { λ b ws. record {
+      head = refl;
+      len = kept_len T.value O.place T.BITS b.words b.head b.list ws;
+      size = kept_count T.value O.place T.BITS b.words b.head b.list ws;
+      capacity = refl;
+      same_words = refl;
+    } };
 }

@@ -48,13 +48,11 @@ impl<T: BitStore, O: BitOrder> BitListMut for BitVec<T, O> {
 
     ghost list_rewritten = { λ v ws e f. kept_list T.value O.place T.BITS v.words v.head v.list ws e f };
 
-    ghost head_rewritten = { λ v ws. refl };
-
-    ghost len_rewritten = { λ v ws. kept_len T.value O.place T.BITS v.words v.head v.list ws };
-
-    ghost count_rewritten = { λ v ws. kept_count T.value O.place T.BITS v.words v.head v.list ws };
-
-    ghost capacity_rewritten = { λ v ws. refl };
-
-    ghost loan_rewritten = { λ v ws. refl };
+    ghost stays_rewritten = { λ v ws. record {
+      head = refl;
+      len = kept_len T.value O.place T.BITS v.words v.head v.list ws;
+      size = kept_count T.value O.place T.BITS v.words v.head v.list ws;
+      capacity = refl;
+      same_words = refl;
+    } };
 }

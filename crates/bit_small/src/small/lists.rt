@@ -48,13 +48,11 @@ impl<A: BitViewSized, O: BitOrder> BitListMut for SmallBits<A, O> {
 
     ghost list_rewritten = { λ s ws e _. Prim.rw (A.kept s.array ws e) refl };
 
-    ghost head_rewritten = { λ s ws. refl };
-
-    ghost len_rewritten = { λ s ws. refl };
-
-    ghost count_rewritten = { λ s ws. refl };
-
-    ghost capacity_rewritten = { λ s ws. refl };
-
-    ghost loan_rewritten = { λ s ws. refl };
+    ghost stays_rewritten = { λ s ws. record {
+      head = refl;
+      len = refl;
+      size = refl;
+      capacity = refl;
+      same_words = refl;
+    } };
 }

@@ -56,15 +56,13 @@ impl<T: BitStore, O: BitOrder> BitListMut for Presence<T, O> {
 
     ghost list_rewritten = { λ p ws e f. kept_list T.value O.place T.BITS p.fields.words p.fields.head p.fields.list ws e f };
 
-    ghost head_rewritten = { λ p ws. refl };
-
-    ghost len_rewritten = { λ p ws. kept_len T.value O.place T.BITS p.fields.words p.fields.head p.fields.list ws };
-
-    ghost count_rewritten = { λ p ws. kept_count T.value O.place T.BITS p.fields.words p.fields.head p.fields.list ws };
-
-    ghost capacity_rewritten = { λ p ws. refl };
-
-    ghost loan_rewritten = { λ p ws. refl };
+    ghost stays_rewritten = { λ p ws. record {
+      head = refl;
+      len = kept_len T.value O.place T.BITS p.fields.words p.fields.head p.fields.list ws;
+      size = kept_count T.value O.place T.BITS p.fields.words p.fields.head p.fields.list ws;
+      capacity = refl;
+      same_words = refl;
+    } };
 }
 
 /// The first field that is there.

@@ -157,3 +157,9 @@ returns-clause-bits g c =
 
 pub word_of_block-requires : goal.word_of_block-requires
 word_of_block-requires g c = grind (arith, common_steps)
+
+pub overflow_add-first : goal.overflow_add-first
+overflow_add-first g c = grind (arith, common_steps)
+
+pub overflow_add-first-2 : goal.overflow_add-first-2
+overflow_add-first-2 g c = grind (arith, common_steps)

@@ -1,3 +1,4 @@
+use Rattle.std.proofs.lemmas.Grind.{common_steps}
 use Rattle.std.proofs.Common.{◌≡◌, ℕ, ◌+◌, ◌-◌, ◌*◌, ◌^◌, ◌%◌, ◌≤◌, length, bit_or, sym, ◌∙◌, ap, subst, arith, lit<, mul_comm}
 use Rattle.std.proofs.Math.Nat.{mod-lt}
 use Rattle.std.proofs.lemmas.Nat.{or_lt}
@@ -36,3 +37,6 @@ returns g c =
     let read : IsRead ms (k * w) (count * w) (bit_or x (y * 2 ^ (apart * w) % 2 ^ 64)) = subst (λ n. IsRead ms (k * w) n (bit_or x (y * 2 ^ (apart * w) % 2 ^ 64))) all joined in
     subst (λ n. bit_or x (y * 2 ^ (apart * n) % 2 ^ 64) ≡ number_of (run_at ms (k * w) (count * w))) (sym c.BITS.ensures)
     (read_is ms (k * w) (count * w) (bit_or x (y * 2 ^ (apart * w) % 2 ^ 64)) read (omega (arith, c.requires.few)) (or_lt 64 x (y * 2 ^ (apart * w) % 2 ^ 64) c.words_joined-low.type_inv (mod-lt (y * 2 ^ (apart * w)) (lit< tt))) (omega (arith, size, room, turned, sum)))
+
+pub overflow_mul-result : goal.overflow_mul-result
+overflow_mul-result g c = grind (arith, common_steps)

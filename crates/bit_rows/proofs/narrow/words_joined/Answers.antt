@@ -1,3 +1,4 @@
+use Rattle.std.proofs.lemmas.Grind.{common_steps}
 use Rattle.std.proofs.Common.{◌≡◌, ◌+◌, ◌*◌, ◌^◌, ◌%◌, length, bit_or, sym, subst, arith, mul_comm}
 use Rattle.bit_addressing.specs.Typed.{row}
 use Rattle.bit_addressing.proofs.Chunks.{IsRead, read_next}
@@ -39,3 +40,9 @@ returns g c =
     let turned = mul_comm w (length words) in
     let last : c.loop-i.i ≡ c.args.count = omega (arith, c.loop-i-test.false, c.loop-i.auto.i-end) in
     read_is ms (k * w) (c.args.count * w) c.loop-i.bits (subst (λ n. IsRead ms (k * w) (n * w) c.loop-i.bits) last c.loop-i.invariant.read) c.requires.few (omega (arith, c.loop-i.auto.bits-fits)) (omega (arith, size, room, sum, turned))
+
+pub overflow_mul-bits : goal.overflow_mul-bits
+overflow_mul-bits g c = grind (arith, common_steps)
+
+pub overflow_shl-bits : goal.overflow_shl-bits
+overflow_shl-bits g c = grind (arith, common_steps)

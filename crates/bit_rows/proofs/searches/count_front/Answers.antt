@@ -1,3 +1,4 @@
+use Rattle.std.proofs.lemmas.Grind.{common_steps}
 use Rattle.std.proofs.Common.{◌≡◌, ℕ, ◌+◌, ◌*◌, ◌/◌, ◌%◌, ◌≤◌, map, slice_range, length, refl, sym, ◌∙◌, ap, arith, mul_comm}
 use Rattle.std.specs.Prelude.{count_ones}
 use Rattle.std.specs.List.{count_by}
@@ -62,3 +63,6 @@ overflow_add-result g c =
     let long : length zs ≡ w * length c.args.words.now = length_row g.T.BitStore.value g.O.BitOrder.place w c.args.words.now in
     let most = counted-le zs a (a + c.args.n) (c.count_words.result + count_ones c.read_chunk-rest.result) (omega arith) (omega (arith, c.requires.within)) (total g c) in
     omega (arith, most, c.requires.fits)
+
+pub count_words-requires-clause-within : goal.count_words-requires-clause-within
+count_words-requires-clause-within g c = grind (arith, common_steps)

@@ -1,3 +1,4 @@
+use Rattle.std.proofs.lemmas.Grind.{common_steps}
 use Rattle.std.proofs.Common.{◌≡◌, ℕ, ◌+◌, ◌-◌, ◌*◌, ◌/◌, ◌%◌, ◌^◌, ◌≤◌, ◌<◌, Bool, List, not, if◌then◌else◌, replicate, length, slice_range, bit_xor, w64, ◌∙◌, ap, subst, arith, rules}
 use Rattle.std.specs.Int.{trailing_zeros}
 use Rattle.std.proofs.Math.Nat.{mod-lt}
@@ -60,3 +61,6 @@ returns g c =
     first_after xs c.args.from c.min-near.result c.args.upto c.args.bit (omega arith) (omega arith)
     (passed xs c.args.from c.args.upto c.min-near.result c.read_chunk.result c.if-bit.others c.args.bit c.requires.ordered (omega arith) (omega arith) (omega arith) (omega arith) c.read_chunk.ensures others c.if-apart-ne0.false)
     c.in-Some.at c.in-Some.ensures
+
+pub overflow_add-result : goal.overflow_add-result
+overflow_add-result g c = grind (arith, common_steps)

@@ -1,3 +1,4 @@
+use Rattle.std.proofs.lemmas.Grind.{common_steps}
 use Rattle.std.proofs.Common.{◌≡◌, ℕ, ◌+◌, ◌-◌, ◌*◌, ◌<◌, ◌≤◌, length, ◌∙◌, ap, arith}
 use Rattle.bit_addressing.specs.Typed.{row}
 use Rattle.bit_addressing.proofs.Runs.{mul_mono}
@@ -57,3 +58,6 @@ loop-back-preserved g c =
 pub returns-clause-bits : goal.returns-clause-bits
 unfolding rotated_run
 returns-clause-bits g c = c.rotate_once.ensures.bits ∙ c.loop-back.invariant.result
+
+pub carry_down-requires-clause-full : goal.carry_down-requires-clause-full
+carry_down-requires-clause-full g c = grind (arith, common_steps)

@@ -24,3 +24,6 @@ returns-clause-list g c =
       subst (λ l. ResultsFrom (λ state k. goal.F-step g state (chunk_number size l k)) c.args.f 0 run.0 c.map_numbers.new.f) shown run.2,
       is ∙ ap (λ n. from_chunk_numbers size n run.0) c.len-len.ensures.value,
     )
+
+pub returns-clause-stays : goal.returns-clause-stays
+returns-clause-stays g c = g.met.Self.BitListMut.stays_rewritten c.args.self.now _

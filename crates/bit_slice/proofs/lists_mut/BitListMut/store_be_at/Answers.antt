@@ -8,3 +8,6 @@ returns-clause-written g c = search rules
 
 pub returns-clause-read_back : goal.returns-clause-read_back
 returns-clause-read_back g c fits = ap value (returns-clause-written g c) ∙ value_of_binary c.args.n c.args.number fits
+
+pub returns-clause-stays : goal.returns-clause-stays
+returns-clause-stays g c = g.met.Self.BitListMut.stays_rewritten c.args.self.now _

@@ -322,6 +322,61 @@ impl Index {
     }
 }
 
+// Ascending numbers by Elias and Fano: the low bits of each packed, and the rest as ones in a row, with the place of each
+// 64th one.
+struct Sorted {
+    len: usize,
+    width: usize,
+    low: Vec<u64>,
+    high: Vec<u64>,
+    places: Vec<u32>,
+}
+
+impl Sorted {
+    fn made(numbers: &[u64]) -> Sorted {
+        let len = numbers.len();
+        let past = numbers[len - 1] + 1;
+        let width = (63 - (past / len as u64).max(1).leading_zeros()) as usize;
+        let mut low = vec![0; len * width / 64 + 2];
+        let mut high = vec![0; (len + (past >> width) as usize) / 64 + 2];
+        let mut places = Vec::new();
+        for (k, number) in numbers.iter().enumerate() {
+            let (at, part) = (k * width, number & ((1 << width) - 1));
+            low[at / 64] |= part << at % 64;
+            if at % 64 + width > 64 {
+                low[at / 64 + 1] |= part >> (64 - at % 64);
+            }
+            let place = (number >> width) as usize + k;
+            high[place / 64] |= 1 << place % 64;
+            if k % 64 == 0 {
+                places.push(place as u32);
+            }
+        }
+        Sorted { len, width, low, high, places }
+    }
+
+    fn get(&self, k: usize) -> Option<u64> {
+        if k >= self.len {
+            return None;
+        }
+        let from = self.places[k / 64] as usize;
+        let (mut left, mut at) = (k % 64, from / 64);
+        let mut word = self.high[at] & (!0 << from % 64);
+        while word.count_ones() as usize <= left {
+            left -= word.count_ones() as usize;
+            at += 1;
+            word = self.high[at];
+        }
+        for _ in 0..left {
+            word &= word - 1;
+        }
+        let high = (at * 64 + word.trailing_zeros() as usize - k) as u64;
+        let (word, bit) = (k * self.width / 64, k * self.width % 64);
+        let low = self.low[word] >> bit | (self.low[word + 1] << 1) << (63 - bit);
+        Some(high << self.width | low & ((1 << self.width) - 1))
+    }
+}
+
 const LOOKUPS: usize = 65536;
 
 fn mixed(k: usize, most: usize) -> usize {
@@ -353,7 +408,8 @@ fn ranks(n: usize, r: usize) {
         last += mixed(k, 1000) as u64;
         numbers.push(last);
     }
-    timed("sorted_get", r, none, |_| lookups(|k| numbers[mixed(k, count)] as usize), |_, t| t);
+    let sorted = Sorted::made(&numbers);
+    timed("sorted_get", r, none, |_| lookups(|k| sorted.get(mixed(k, count)).unwrap_or(0) as usize), |_, t| t);
     timed("sorted_next", r, none, |_| lookups(|k| {
         let at = numbers.partition_point(|x| *x < mixed(k, count * 500) as u64);
         if at < count { at } else { 0 }

@@ -2,3 +2,4 @@ pub mod Records
 pub mod Iter
 pub mod Compared
 pub mod Examples
+pub mod Signed

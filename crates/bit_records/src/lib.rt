@@ -3,6 +3,7 @@
 
 mod iter;
 mod records;
+mod signed;
 
 pub use iter::Iter;
 pub use records::Records;

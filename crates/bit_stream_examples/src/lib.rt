@@ -5,6 +5,8 @@
 use std::process::Abort;
 
 #[cfg(test)]
+mod buffer;
+#[cfg(test)]
 mod bytes;
 #[cfg(test)]
 mod callers;

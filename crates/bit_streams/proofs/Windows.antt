@@ -191,7 +191,7 @@ list_split xs rows ds at n all shows size is =
     let back : ds ≡ drop at xs = is ∙ ap (slice_range xs at) all ∙ same_lists _ _ (search (rules, places)) (λ i d below. grind (arith, places)) in
     ap (λ l. l ++ ds) front ∙ ap (λ l. take at xs ++ l) back ∙ take-append-drop at xs
 
-slice_front : (xs : List Bool) (n : ℕ) → slice_range xs 0 n ≡ take n xs
+pub slice_front : (xs : List Bool) (n : ℕ) → slice_range xs 0 n ≡ take n xs
 slice_front xs n = same_lists _ _ (search (rules, places)) (λ i d below. grind (arith, places))
 
 -- a row cut to whole blocks below n, and the bits between these and n

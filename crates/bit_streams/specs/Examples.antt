@@ -1,9 +1,11 @@
 -- The definitions on small inputs.
-use Rattle.std.specs.Prelude.{◌≡◌, pos, negsuc, true, false, [], ◌∷◌, ◌++◌, refl}
-use Rattle.bit_addressing.specs.Row.{binary}
+use Rattle.std.specs.Prelude.{◌≡◌, pos, negsuc, Some, true, false, [], ◌∷◌, ◌++◌, refl}
+use Rattle.bit_addressing.specs.Row.{binary, row_of}
 use Rattle.bit_streams.specs.Codes.{delta, gamma, golomb, leb128, leb_bytes, rice, unary, zigzag}
 use Rattle.bit_slice.specs.Signed.{signed_of}
 use Rattle.bit_streams.specs.Streamed.{held_after}
+use Rattle.bit_streams.specs.Streams.{highest_first}
+use Rattle.bit_streams.specs.Buffers.{bits_ahead}
 
 unary_three : unary 3 ≡ false ∷ false ∷ false ∷ true ∷ []
 unary_three = refl
@@ -45,3 +47,7 @@ two_of_three = refl
 
 eleven_of_three : held_after 11 3 ≡ 0
 eleven_of_three = refl
+
+eight_ahead : bits_ahead highest_first (true ∷ []) (Some (5 ∷ [])) ≡ Some (true ∷ false ∷ false ∷ false ∷ false ∷ false ∷ true ∷ false ∷ true ∷ [])
+unfolding row_of
+eight_ahead = refl

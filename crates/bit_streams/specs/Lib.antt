@@ -6,3 +6,4 @@ pub mod Examples
 pub mod Formats
 pub mod Header
 pub mod Streamed
+pub mod Buffers

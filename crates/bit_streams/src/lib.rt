@@ -2,7 +2,9 @@
 #![tactic(auto)]
 
 mod blocks;
+mod buffer;
 mod codes;
+mod drain;
 mod fields;
 mod formats;
 mod items;
@@ -15,6 +17,7 @@ mod source;
 mod words;
 mod writer;
 
+pub use buffer::BitBuffer;
 pub use codes::CodeError;
 pub use codes::zigzag::{unzigzag, zigzag};
 pub use fields::{Fields, Number, Signed};

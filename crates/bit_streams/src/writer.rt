@@ -80,7 +80,8 @@ fn written_over<T: BitStore, O: BitOrder, U: BitStore, P: BitOrder>(
     (writer, done)
 }
 
-// The writer with the first `n` bits.
+// The writer with the first `n` bits. It takes the writer by value, so that a caller which goes back only where it is
+// refused keeps the words and the registers in registers of its own.
 #[cold]
 #[inline(never)]
 fn cut_back<T: BitStore, O: BitOrder>(writer: BitWriter<T, O>, n: usize) -> BitWriter<T, O>
@@ -88,7 +89,7 @@ fn cut_back<T: BitStore, O: BitOrder>(writer: BitWriter<T, O>, n: usize) -> BitW
     ensures capacity { result.capacity ≡ writer.capacity }
 {
     let mut writer = writer;
-    writer.truncate(n);
+    writer.cut(n);
     writer
 }
 
@@ -274,21 +275,11 @@ impl<T: BitStore, O: BitOrder> BitWriter<T, O> {
     // The writer itself: one with no bit stays. A call that is no part of its caller takes it by value, so that the words and
     // the registers need no place in memory where no such call is made.
     #[inline(always)]
-    fn moved_out(&mut self) -> BitWriter<T, O>
+    pub(crate) fn moved_out(&mut self) -> BitWriter<T, O>
         ensures { result ≡ self.old }
     {
         let empty = BitWriter::new(self.blocks.allocator());
         replace(self, empty)
-    }
-
-    // What `truncate` does, where a call that writes several fields is refused.
-    #[inline(always)]
-    pub(crate) fn go_back(&mut self, n: usize)
-        ensures list { self.new.list ≡ take n self.old.list }
-        ensures capacity { self.new.capacity ≡ self.old.capacity }
-    {
-        let writer = cut_back(self.moved_out(), n);
-        let _empty = replace(self, writer);
     }
 
     /// Appends `bit` until the length is a multiple of `multiple`: nothing where it is one already. Requires that
@@ -326,7 +317,17 @@ impl<T: BitStore, O: BitOrder> BitWriter<T, O> {
     /// writer.write(3, kind)?;
     /// writer.truncate(before);      // as before
     /// ```
+    #[inline(always)]
     pub fn truncate(&mut self, n: usize)
+        ensures list { self.new.list ≡ take n self.old.list }
+        ensures capacity { self.new.capacity ≡ self.old.capacity }
+    {
+        let writer = cut_back(self.moved_out(), n);
+        let _empty = replace(self, writer);
+    }
+
+    // What `truncate` does, in place.
+    fn cut(&mut self, n: usize)
         ensures list { self.new.list ≡ take n self.old.list }
         ensures capacity { self.new.capacity ≡ self.old.capacity }
     {

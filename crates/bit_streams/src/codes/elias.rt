@@ -28,14 +28,32 @@ impl<T: BitStore, O: BitOrder> BitWriter<T, O> {
     /// ```text
     /// writer.write_gamma(6)?;       // appends 00110
     /// ```
+    #[inline(always)]
     pub fn write_gamma(&mut self, x: u64) -> Result<(), GrowError>
         requires { 0 < x }
         ensures list { OnOk result (self.new.list ≡ self.old.list ++ gamma x) }
         ensures refusal { MayRefuse result (gamma x) self.old self.new }
         ensures capacity { self.old.capacity ≤ self.new.capacity }
     {
-        let before = self.len();
         let top = top_of(x);
+        if top < 32 {
+            return match self.write(2 * top + 1, x) {
+                Ok(()) => Ok(()),
+                Err(why) => Err(why),
+            };
+        }
+        self.write_long_gamma(top, x)
+    }
+
+    // Like `write_gamma`, in two parts: the zeros with the first digit, and the digits after it.
+    #[inline(never)]
+    fn write_long_gamma(&mut self, top: u8, x: u64) -> Result<(), GrowError>
+        requires { top ≡ top_place x }
+        ensures list { OnOk result (self.new.list ≡ self.old.list ++ gamma x) }
+        ensures refusal { MayRefuse result (gamma x) self.old self.new }
+        ensures capacity { self.old.capacity ≤ self.new.capacity }
+    {
+        let before = self.len();
         match self.write_unary(top as usize) {
             Ok(()) => {}
             Err(why) => return Err(why),
@@ -80,7 +98,29 @@ impl<T: BitStore, O: BitOrder> BitWriter<T, O> {
 impl<'a, T: BitStore, O: BitOrder> BitReader<'a, T, O> {
     /// Reads the number of a gamma code. `Ended` where the bits end inside the code, `TooLong` where it begins with 64 zeros
     /// or more before a one: then the reader stays where it is.
+    #[inline(always)]
     pub fn read_gamma(&mut self) -> Result<u64, CodeError>
+        ensures found { IfOk result (λ x. self.old.rest ≡ gamma x ++ self.new.rest) }
+        ensures some { IfOk result (λ x. 0 < x) }
+        ensures ended { result ≡ Err errors.Ended → GammaEnds self.old.rest }
+        ensures too_long { result ≡ Err errors.TooLong → GammaPasses self.old.rest }
+        ensures shortest { result ≢ Err errors.NotShortest }
+        ensures kept { OnErr result (self.new ≡ self.old) }
+        ensures back { (x : ℕ) → (more : List Bool) → 0 < x → x < 2 ^ 64 → self.old.rest ≡ gamma x ++ more
+            → (result ≡ Ok x) × (self.new.rest ≡ more) }
+    {
+        let block = self.block_ahead();
+        let zeros = block.leading_zeros() as u8;
+        if zeros < 32 {
+            self.pass(2 * zeros as usize + 1);
+            return Ok(block >> (63 - 2 * zeros));
+        }
+        self.read_long_gamma()
+    }
+
+    // Like `read_gamma`, in two parts.
+    #[inline(never)]
+    fn read_long_gamma(&mut self) -> Result<u64, CodeError>
         ensures found { IfOk result (λ x. self.old.rest ≡ gamma x ++ self.new.rest) }
         ensures some { IfOk result (λ x. 0 < x) }
         ensures ended { result ≡ Err errors.Ended → GammaEnds self.old.rest }

@@ -62,7 +62,7 @@ impl<T: BitStore, O: BitOrder> BitWriter<T, O> {
         match self.write_bits(value) {
             Ok(()) => Ok(()),
             Err(why) => {
-                self.go_back(before);
+                self.truncate(before);
                 Err(why)
             }
         }

@@ -1,0 +1,64 @@
+//! Whole bytes of a writer of bits, given to a writer of bytes.
+ghost use Rattle.std.specs.Prelude.{◌≡◌, ◌-◌, ◌<◌, ◌≤◌, OnOk, drop, length, take};
+ghost use Rattle.std.specs.Io.KnownBytes.{Appends};
+ghost use Rattle.bit_streams.specs.Buffers.{known_bits};
+ghost use Rattle.bit_streams.specs.Streamed.{Gains};
+
+use crate::buffer::{cut_front, no_memory};
+use crate::writer::BitWriter;
+use bit_addressing::{BitOrder, BitStore, GrowError};
+use std::io;
+use std::io::{ErrorKind, Write};
+use std::mem::replace;
+
+// Writes bytes until all are taken or a call fails, and returns the number of those that were taken.
+#[tactic(auto, using(crate::proofs::Buffers::given_none))]
+fn put_bytes<W: Write>(out: &mut W, bytes: &[u8]) -> (usize, io::Result<()>)
+    ensures few { result.0 ≤ length bytes.now }
+    ensures given { Appends (W.contents out.old) (W.contents out.new) (take result.0 bytes.now) }
+    ensures all { OnOk result.1 (result.0 ≡ length bytes.now) }
+{
+    let mut taken = 0;
+    while taken < bytes.len() {
+        match out.write(&bytes[taken..]) {
+            Ok(0) => return (taken, Err(io::Error::from(ErrorKind::WriteZero))),
+            Ok(n) => taken += n,
+            Err(why) => return (taken, Err(why)),
+        }
+    }
+    (taken, Ok(()))
+}
+
+impl<O: BitOrder> BitWriter<u8, O> {
+    /// Gives the whole bytes to `out`, and keeps the bits after them, fewer than 8. After an error it keeps all bits that
+    /// `out` has not taken: the same call can be made again. Calls `out` only if there is a whole byte, and takes memory
+    /// only if there is no room for the bits that wait in the registers. It does not flush `out`.
+    ///
+    /// ```text
+    /// of 11 bits: writer.drain_to(&mut file)?      // gives a byte, and keeps 3 bits
+    /// ```
+    pub fn drain_to<W: Write>(&mut self, out: &mut W) -> io::Result<()>
+        ensures given { Gains (known_bits O.place (W.contents out.old)) (known_bits O.place (W.contents out.new))
+            (take (length self.old.list - length self.new.list) self.old.list) }
+        ensures rest { self.new.list ≡ drop (length self.old.list - length self.new.list) self.old.list }
+        ensures shorter { length self.new.list ≤ length self.old.list }
+        ensures whole { OnOk result (length self.new.list < 8) }
+    {
+        match self.reserve(0) {
+            Ok(()) => {}
+            Err(_) => return Err(no_memory()),
+        }
+        match self.moved_out().finish() {
+            Ok(bits) => {
+                let mut bits = bits;
+                let whole = bits.len() / 8;
+                let (taken, done) = put_bytes(out, &bits.as_raw_slice()[..whole]);
+                cut_front(&mut bits, 8 * taken);
+                let _empty = replace(self, BitWriter::over(bits));
+                done
+            }
+            Err(GrowError::TooLong) => Err(no_memory()),
+            Err(GrowError::OutOfMemory) => Err(no_memory()),
+        }
+    }
+}

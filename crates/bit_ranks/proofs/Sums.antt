@@ -244,8 +244,3 @@ same_bit true true same = refl
 same_bit true false same = cc
 same_bit false true same = cc
 same_bit false false same = refl
-
--- the complement of the complement is the bit
-pub not_not : (b : Bool) → not (not b) ≡ b
-not_not true = refl
-not_not false = refl

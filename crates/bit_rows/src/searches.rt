@@ -47,15 +47,21 @@ fn count_front<T: BitStore, O: BitOrder>(words: &[T], first: usize, n: usize) ->
     ensures { result ≡ count_by (λ b. b) (run_at (row T.BitStore O.BitOrder words.now) (first * T.BITS) n) }
 {
     let width = T::BITS as usize;
-    if n <= width {
+    // The bits of one word are counted as they lie.
+    if n == width {
+        return word_number::<T, Lsb0>(words[first]).count_ones() as usize;
+    }
+    if n < width {
         return read_chunk::<T, O>(words, first * width, n as u8).count_ones() as usize;
     }
     if n <= 64 && goes_back::<T, O>() {
         return chunk_short::<T, O>(words, first, n as u8).count_ones() as usize;
     }
     let last = first + n / width;
+    // The words before the rest, so that the compiler still knows how few they may be.
+    let whole = count_words::<T, Lsb0>(words, first, last);
     let rest = read_chunk::<T, O>(words, last * width, (n % width) as u8);
-    count_words::<T, Lsb0>(words, first, last) + rest.count_ones() as usize
+    whole + rest.count_ones() as usize
 }
 
 // Like `count_bits`, of a run that begins anywhere. A whole word has as many bits set in each order, so the

@@ -281,8 +281,12 @@ pub trait BitListMut: BitList {
         flip_range_over::<Self::Store, Self::Order, R>(self.as_raw_mut_slice(), head, len, range);
     }
 
-    // Combines each bit at the indices of a range, by `F`, with the bit of a view for it, or with false past the
-    // view's end. Requires that the range lies in the length.
+    /// Combines each bit at the indices of a range, by `F`, with the bit of a view for it, or with false past the
+    /// view's end. Requires that the range lies in the length.
+    ///
+    /// ```text
+    /// of 01101001 and 01010101: bits.combine_range::<Xor, _, _, _>(..4, other) leaves 00111001
+    /// ```
     final fn combine_range<F: BitOperator, R: RangeExt, U: BitStore, P: BitOrder>(
         &mut self,
         range: R,
@@ -589,6 +593,10 @@ pub trait BitListMut: BitList {
     }
 
     /// Combines each bit, by `F`, with the bit at its index in a view, or with false past the view's end.
+    ///
+    /// ```text
+    /// of 01101001 and 01010101: bits.combine::<Xor, _, _>(other) leaves 00111100
+    /// ```
     #[tactic(auto, using(crate::proofs::Rules::item_of_combined))]
     final fn combine<F: BitOperator, U: BitStore, P: BitOrder>(&mut self, other: BitSlice<'_, U, P>)
         ensures list { Self.list self.new ≡ combined F.made (Self.list self.old) (list_of other.entry) }
@@ -1072,8 +1080,12 @@ pub trait BitListMut: BitList {
         shift_right_over::<Self::Store, Self::Order>(self.as_raw_mut_slice(), head, len, by);
     }
 
-    // Combines each bit at `dest + k`, by `F`, with bit `k` of a range, as if the range was read before any
-    // bit is written. Requires that the range lies in the length, and that its bits have room from `dest` on.
+    /// Combines each bit at `dest + k`, by `F`, with bit `k` of a range, as if the range was read before any
+    /// bit is written. Requires that the range lies in the length, and that its bits have room from `dest` on.
+    ///
+    /// ```text
+    /// of 01101001: bits.combine_within::<Xor, _>(..4, 4) leaves 01101111
+    /// ```
     final fn combine_within<F: BitOperator, R: RangeExt>(&mut self, range: R, dest: usize)
         requires lies { LiesIn (R.start_of range) (R.end_of range (Self.len self.old)) (Self.len self.old) }
         requires room { dest + (R.end_of range (Self.len self.old) - R.start_of range) ≤ Self.len self.old }

@@ -301,6 +301,7 @@ impl<'a, T: BitStore, O: BitOrder> BitSlice<'a, T, O> {
     /// ```text
     /// of 01101001: bits.count_ones() == 4
     /// ```
+    #[inline(always)]
     pub fn count_ones(self) -> usize
         ensures value { result ≡ count_by (λ b. b) (list_of self.entry) }
         ensures few { result ≤ len_of self.entry }

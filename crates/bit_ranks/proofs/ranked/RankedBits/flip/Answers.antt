@@ -1,7 +1,8 @@
 use Rattle.std.proofs.Common.{◌<◌, Bool, List, false, not, get_or, length, subst, sym, ap, ◌∙◌, arith}
 use Rattle.bit_slice.specs.BitSlice.{list_of}
 use Rattle.bit_ranks.specs.Sums.{IsTree}
-use Rattle.bit_ranks.proofs.Sums.{flipped_back, not_not}
+use Rattle.bit_slice.proofs.BitRuns.{not_not}
+use Rattle.bit_ranks.proofs.Sums.{flipped_back}
 use Rattle.bit_ranks.proofs.ranked.RankedBits.flip.Goals as goal
 
 pub recount-requires-clause-tree : goal.recount-requires-clause-tree

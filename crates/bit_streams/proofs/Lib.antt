@@ -14,3 +14,5 @@ pub mod Headers
 pub mod Lows
 pub mod Both
 pub mod Late
+pub mod Leading
+pub mod Ahead

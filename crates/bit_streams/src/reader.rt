@@ -367,7 +367,7 @@ impl<'a, T: BitStore, O: BitOrder> BitReader<'a, T, O> {
 
     // Passes bits by the index: the register keeps what it holds past them. Requires that they are left.
     #[inline(always)]
-    fn pass(&mut self, n: usize)
+    pub(crate) fn pass(&mut self, n: usize)
         requires { n ≤ length self.old.rest }
         ensures { Passed n self.old self.new }
     {

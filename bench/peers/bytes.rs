@@ -197,6 +197,7 @@ fn read_values(bytes: &[u8], count: usize) -> usize {
 fn streams(n: usize, r: usize) {
     let ones = |bytes: &[u8]| bytes.iter().map(|b| b.count_ones() as usize).sum();
     records::streams::<Writer>(n, r, ones, pack, unpack, decode, read_values);
+    records::by_bytes(n, r);
 }
 
 fn main() {

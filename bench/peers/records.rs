@@ -1,5 +1,6 @@
-//! The records, codes and tagged values that the peers pack and read: what bench/program/streams.rt.txt makes.
+//! The records, codes, tagged values and numbers that the peers pack and read: what bench/program/streams.rt.txt makes.
 use crate::timed::timed;
+use std::io::{ErrorKind, Read, Result, Write};
 
 /// A record whose fields take 3, 13, 1, 20 and 27 bits.
 #[derive(Clone, Copy)]
@@ -165,4 +166,146 @@ pub fn streams<W: Digits>(
     timed("values_write", r, || (), |_| write_values::<W>(&all), |_, made| ones(&made));
     let made = write_values::<W>(&all);
     timed("values_read", r, || (), |_| read_values(&made, n), |_, total| total);
+}
+
+/// Bits to a writer by a register of 64 bits, the first bit of each byte the highest.
+struct Sink<W: Write> {
+    inner: W,
+    pending: u64,
+    count: u32,
+}
+
+impl<W: Write> Sink<W> {
+    fn write(&mut self, n: u32, x: u64) -> Result<()> {
+        let count = self.count + n;
+        if count < 64 {
+            self.pending = self.pending << n | x;
+            self.count = count;
+            return Ok(());
+        }
+        let rest = count - 64;
+        let block = if self.count == 0 { x >> rest } else { self.pending << (64 - self.count) | x >> rest };
+        self.inner.write_all(&block.to_be_bytes())?;
+        self.pending = x & ((1 << rest) - 1);
+        self.count = rest;
+        Ok(())
+    }
+
+    fn finish(mut self) -> Result<W> {
+        if self.count > 0 {
+            let block = self.pending << (64 - self.count);
+            self.inner.write_all(&block.to_be_bytes()[..self.count.div_ceil(8) as usize])?;
+        }
+        self.inner.flush()?;
+        Ok(self.inner)
+    }
+}
+
+/// Bits of a reader by a register of 64 bits, the same.
+struct Source<R: Read> {
+    inner: R,
+    window: u64,
+    have: u32,
+}
+
+impl<R: Read> Source<R> {
+    fn fill(&mut self) -> Result<()> {
+        let mut bytes = [0; 8];
+        let room = (63 - self.have) as usize / 8;
+        let given = self.inner.read(&mut bytes[..room])?;
+        if given == 0 {
+            return Err(ErrorKind::UnexpectedEof.into());
+        }
+        self.window |= u64::from_be_bytes(bytes) >> self.have;
+        self.have += 8 * given as u32;
+        Ok(())
+    }
+
+    fn read(&mut self, n: u32) -> Result<u64> {
+        while self.have < n {
+            self.fill()?;
+        }
+        let x = self.window >> (64 - n);
+        self.window <<= n;
+        self.have -= n;
+        Ok(x)
+    }
+}
+
+#[inline(never)]
+fn sink_records(records: &[Record]) -> Result<Vec<u8>> {
+    let mut sink = Sink { inner: Vec::new(), pending: 0, count: 0 };
+    for it in records {
+        sink.write(3, it.kind as u64)?;
+        sink.write(13, it.port as u64)?;
+        sink.write(1, it.up as u64)?;
+        sink.write(20, it.size as u64)?;
+        sink.write(27, it.sum as u64)?;
+    }
+    sink.finish()
+}
+
+#[inline(never)]
+fn source_records(bytes: &[u8], records: &mut [Record]) -> Result<usize> {
+    let mut source = Source { inner: bytes, window: 0, have: 0 };
+    for record in records.iter_mut() {
+        let (kind, port, up) = (source.read(3)? as u32, source.read(13)? as u32, source.read(1)? == 1);
+        *record = Record { kind, port, up, size: source.read(20)? as u32, sum: source.read(27)? as u32 };
+    }
+    Ok(records.len())
+}
+
+fn numbers(count: usize) -> Vec<u64> {
+    let number = |x: u64| (x | 1 << 63) >> (64 - (7 * ((x >> 32) % 10 + 1)).min(64));
+    (0..count).map(mixed).map(number).collect()
+}
+
+#[inline(never)]
+fn write_numbers(numbers: &[u64]) -> Vec<u8> {
+    let mut bytes = Vec::new();
+    for x in numbers {
+        let mut left = *x;
+        while left >= 128 {
+            bytes.push(left as u8 | 128);
+            left >>= 7;
+        }
+        bytes.push(left as u8);
+    }
+    bytes
+}
+
+#[inline(never)]
+fn read_numbers(bytes: &[u8], count: usize) -> usize {
+    let (mut at, mut total) = (0, 0usize);
+    for _ in 0..count {
+        let (mut x, mut shift) = (0, 0);
+        loop {
+            let byte = bytes[at];
+            at += 1;
+            x |= (byte as u64 & 127) << shift;
+            shift += 7;
+            if byte < 128 {
+                break;
+            }
+        }
+        total = total.wrapping_mul(3).wrapping_add(x as usize);
+    }
+    total
+}
+
+/// The rows of sinks, sources and LEB128, all in bytes.
+pub fn by_bytes(n: usize, r: usize) {
+    let ones = |bytes: &[u8]| bytes.iter().map(|b| b.count_ones() as usize).sum::<usize>();
+    let all = records(n);
+    let packed = sink_records(&all).unwrap();
+    for name in ["sink_records", "sink_records_buffered"] {
+        timed(name, r, || (), |_| sink_records(&all).unwrap(), |_, made| ones(&made));
+    }
+    for name in ["source_records", "source_records_buffered"] {
+        timed(name, r, || empty_records(n), |made| source_records(&packed, made).unwrap(), |made, found| sum_of_records(made) + found);
+    }
+    let all = numbers(n);
+    let packed = write_numbers(&all);
+    timed("leb128_write", r, || (), |_| write_numbers(&all), |_, made| ones(&made));
+    timed("leb128_read", r, || (), |_| read_numbers(&packed, n), |_, total| total);
 }

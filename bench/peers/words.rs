@@ -667,6 +667,7 @@ fn streams(n: usize, r: usize) {
         |made, found| records::sum_of_records(made) + found,
     );
     records::streams::<Writer>(n, r, ones, pack, unpack, decode, read_values);
+    records::by_bytes(n, r);
 }
 
 fn masks(n: usize, r: usize) {

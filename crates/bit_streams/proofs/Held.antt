@@ -1,32 +1,48 @@
 -- Bits that are held between bytes and numbers.
-use Rattle.std.proofs.Common.{◌≡◌, ℕ, ◌+◌, ◌*◌, ◌/◌, ◌%◌, ◌^◌, ◌<◌, ◌≤◌, Bool, List, [], ◌∷◌, ◌++◌, append_assoc, length, Some, None, refl, sym, ◌∙◌, ap, arith}
+use Rattle.std.proofs.Common.{◌≡◌, ℕ, ◌+◌, ◌-◌, ◌*◌, ◌/◌, ◌%◌, ◌^◌, ◌<◌, ◌≤◌, Bool, List, [], ◌∷◌, ◌++◌, append_assoc, false, length, replicate, slice_range, take, Some, None, refl, sym, ◌∙◌, ap, arith}
 use Rattle.std.specs.Prelude.{Option, IfSome}
-use Rattle.std.specs.Io.KnownBytes.{Appends, Consumes, IsAtEnd}
-use Rattle.std.proofs.Math.Nat.{mod-eq_of_lt}
+use Rattle.std.specs.Io.KnownBytes.{Appends, IsAtEnd, Keeps}
+use Rattle.std.proofs.Math.Nat.{div-div-eq-div-mul, mod-eq_of_lt}
 use Rattle.std.proofs.Math.Pow.{pow_mono}
-use Rattle.std.proofs.lemmas.List.{length-append}
-use Rattle.std.proofs.lemmas.Nat.{pow_below}
+use Rattle.std.proofs.lemmas.List.{length-append, length-take-le, nil_from_length}
+use Rattle.std.proofs.lemmas.Nat.{pow-add, pow_below}
 use Rattle.bit_addressing.specs.Row.{binary, row_of}
-use Rattle.bit_addressing.proofs.Rows.{row_append}
+use Rattle.bit_addressing.proofs.Runs.{slices_joined}
+use Rattle.bit_addressing.proofs.Rows.{row_append, row_take}
 use Rattle.bit_rows.proofs.Binary.{length-binary, binary_parted}
-use Rattle.bit_streams.specs.Streamed.{Gains, Loses, Passes, Stays, bits_left, bits_made}
-use Rattle.bit_streams.proofs.Lists.{joined_below, joined_digits}
+use Rattle.bit_streams.specs.Streamed.{Adds, Gains, Loses, Passes, Stays, bits_left, bits_made}
+use Rattle.bit_streams.proofs.Lists.{joined_below, joined_digits, take_front}
+use Rattle.bit_streams.proofs.Padded.{digits_padded}
 
 module _ (place : ℕ → ℕ → ℕ) where
-  -- a byte was read
-  pub byte_lost : (old new : Option (List ℕ)) (bytes : List ℕ) (x : ℕ) → Consumes old new bytes → binary 8 x ≡ row_of place 8 bytes → Loses place old new x
-  byte_lost None new bytes x e is = tt
-  byte_lost (Some xs) None bytes x e is = e
-  byte_lost (Some xs) (Some ys) bytes x e is = ap (row_of place 8) e ∙ row_append place 8 bytes ys (omega arith) ∙ ap (λ l. l ++ row_of place 8 ys) (sym is)
+  -- bits of bytes are held after the bits that were held
+  pub more_taken : (old new : Option (List ℕ)) (held pending n x joined : ℕ) → binary (held + n) joined ≡ binary held pending ++ binary n x → Loses place old new (binary n x) → Stays (bits_left place held pending old) (bits_left place (held + n) joined new)
+  more_taken None new held pending n x joined is e = tt
+  more_taken (Some xs) None held pending n x joined is e = e
+  more_taken (Some xs) (Some ys) held pending n x joined is e =
+      ap (λ l. l ++ row_of place 8 ys) is ∙ append_assoc (binary held pending) (binary n x) (row_of place 8 ys) ∙ ap (λ l. binary held pending ++ l) (sym e)
 
-  -- it is held after the bits that were held
-  pub byte_held : (old new : Option (List ℕ)) (held pending x : ℕ) → x < 2 ^ 8 → Loses place old new x → Stays (bits_left place held pending old) (bits_left place (held + 8) (pending * 256 + x) new)
-  byte_held None new held pending x below e = tt
-  byte_held (Some xs) None held pending x below e = e
-  byte_held (Some xs) (Some ys) held pending x below e =
-      let low : pending * 256 + x ≡ pending * 2 ^ 8 + x % 2 ^ 8 = ap (λ k. pending * 256 + k) (sym (mod-eq_of_lt below)) in
-      ap (λ k. binary (held + 8) k ++ row_of place 8 ys) low ∙ ap (λ l. l ++ row_of place 8 ys) (joined_digits held 8 pending x) ∙ append_assoc (binary held pending) (binary 8 x) (row_of place 8 ys)
-      ∙ ap (λ l. binary held pending ++ l) (sym e)
+  -- a number of the bits that were held and of those of bytes
+  pub number_taken : (old new : Option (List ℕ)) (held pending bits x n number left rest : ℕ) → binary held pending ++ binary bits x ≡ binary n number ++ binary left rest → Loses place old new (binary bits x)
+      → Passes (bits_left place held pending old) (bits_left place left rest new) (binary n number)
+  number_taken None new held pending bits x n number left rest is e = tt
+  number_taken (Some xs) None held pending bits x n number left rest is e = e
+  number_taken (Some xs) (Some ys) held pending bits x n number left rest is e =
+      ap (λ l. binary held pending ++ l) e ∙ sym (append_assoc (binary held pending) (binary bits x) (row_of place 8 ys)) ∙ ap (λ l. l ++ row_of place 8 ys) is
+      ∙ append_assoc (binary n number) (binary left rest) (row_of place 8 ys)
+
+  -- no byte was taken
+  pub none_taken : (old new : Option (List ℕ)) (held pending n x : ℕ) → n ≡ 0 → Loses place old new (binary n x) → Stays (bits_left place held pending old) (bits_left place held pending new)
+  none_taken None new held pending n x none e = tt
+  none_taken (Some xs) None held pending n x none e = e
+  none_taken (Some xs) (Some ys) held pending n x none e =
+      ap (λ l. binary held pending ++ l) (sym (e ∙ ap (λ l. l ++ row_of place 8 ys) (nil_from_length (binary n x) (length-binary n x ∙ none))))
+
+  -- the bytes stay
+  pub kept_taken : (old new : Option (List ℕ)) (held pending : ℕ) → Keeps old new → Stays (bits_left place held pending old) (bits_left place held pending new)
+  kept_taken None new held pending e = tt
+  kept_taken (Some xs) None held pending e = e
+  kept_taken (Some xs) (Some ys) held pending e = ap (λ bs. binary held pending ++ row_of place 8 bs) e
 
   row_none : (held pending : ℕ) → length (binary held pending) + length (row_of place 8 []) ≡ held
   unfolding row_of
@@ -47,14 +63,41 @@ module _ (place : ℕ → ℕ → ℕ) where
 
   -- ---- a sink
 
-  -- the first byte that was held is in the writer
-  pub byte_put : (old new : Option (List ℕ)) (byte held pending left : ℕ) → held ≡ 8 + left → Appends old new (byte ∷ []) → row_of place 8 (byte ∷ []) ≡ binary 8 (pending / 2 ^ left) → Stays (bits_made place held pending old) (bits_made place left (pending % 2 ^ left) new)
-  byte_put None new byte held pending left is e bits = tt
-  byte_put (Some xs) None byte held pending left is e bits = e
-  byte_put (Some xs) (Some ys) byte held pending left is e bits =
-      ap (λ l. l ++ binary left (pending % 2 ^ left)) (ap (row_of place 8) e ∙ row_append place 8 xs (byte ∷ []) (omega arith) ∙ ap (λ l. row_of place 8 xs ++ l) bits)
-      ∙ append_assoc (row_of place 8 xs) (binary 8 (pending / 2 ^ left)) (binary left (pending % 2 ^ left))
-      ∙ ap (λ l. row_of place 8 xs ++ l) (sym (binary_parted 8 left pending) ∙ ap (λ k. binary k pending) (sym is))
+  -- a byte more of a block
+  pub row_more : (front : List ℕ) (word : ℕ) (b : List Bool) (n : ℕ) → row_of place 8 front ≡ slice_range b 0 n → row_of place 8 (word ∷ []) ≡ slice_range b n (n + 8) → n + 8 ≤ length b → row_of place 8 (front ++ word ∷ []) ≡ slice_range b 0 (n + 8)
+  row_more front word b n first next room =
+      row_append place 8 front (word ∷ []) (omega arith) ∙ ap (λ l. l ++ row_of place 8 (word ∷ [])) first ∙ ap (λ l. slice_range b 0 n ++ l) next ∙ slices_joined b 0 n (n + 8) (omega arith) (omega arith) room
+
+  -- the first n of the bytes that show a number have its highest digits
+  first_bytes : (bytes : List ℕ) (count n number : ℕ) → length bytes ≡ 8 → n ≤ count → count ≤ 8 → number < 2 ^ (8 * count) → row_of place 8 bytes ≡ binary 64 (number * 2 ^ (64 - 8 * count) % 2 ^ 64)
+      → row_of place 8 (take n (take count bytes)) ≡ binary (8 * n) (number / 2 ^ (8 * count - 8 * n))
+  first_bytes bytes count n number size within few small is =
+      let low = 8 * count - 8 * n in
+      let high = binary (8 * n) (number / 2 ^ low) in
+      let all : 8 * count ≡ 8 * n + low = omega arith in
+      let enough : n ≤ length (take count bytes) = (let e = length-take-le count bytes (omega arith) in omega arith) in
+      let digits = length-binary (8 * count) number in
+      let first = length-binary (8 * n) (number / 2 ^ low) in
+      row_take place 8 n (take count bytes) (omega arith) enough ∙ ap (take (8 * n)) (row_take place 8 count bytes (omega arith) (omega arith)
+      ∙ ap (take (8 * count)) (is ∙ digits_padded (8 * count) number (omega arith) small) ∙ take_front (8 * count) (binary (8 * count) number) (replicate (64 - 8 * count) false) digits
+      ∙ ap (λ k. binary k number) all ∙ binary_parted (8 * n) low number) ∙ take_front (8 * n) high (binary low (number % 2 ^ low)) first
+
+  -- a writer took them
+  pub bytes_put : (old new : Option (List ℕ)) (bytes : List ℕ) (count n number : ℕ) → length bytes ≡ 8 → n ≤ count → count ≤ 8 → number < 2 ^ (8 * count) → row_of place 8 bytes ≡ binary 64 (number * 2 ^ (64 - 8 * count) % 2 ^ 64)
+      → Appends old new (take n (take count bytes)) → Adds place old new (binary (8 * n) (number / 2 ^ (8 * count - 8 * n)))
+  bytes_put None new bytes count n number size within few small is e = tt
+  bytes_put (Some xs) None bytes count n number size within few small is e = e
+  bytes_put (Some xs) (Some ys) bytes count n number size within few small is e =
+      ap (row_of place 8) e ∙ row_append place 8 xs (take n (take count bytes)) (omega arith) ∙ ap (λ l. row_of place 8 xs ++ l) (first_bytes bytes count n number size within few small is)
+
+  -- the first bits that were held are in the writer
+  pub first_put : (old new : Option (List ℕ)) (held pending n left high : ℕ) → held ≡ n + left → high ≡ pending / 2 ^ left → Adds place old new (binary n high) → Stays (bits_made place held pending old) (bits_made place left (pending % 2 ^ left) new)
+  first_put None new held pending n left high is whole e = tt
+  first_put (Some xs) None held pending n left high is whole e = e
+  first_put (Some xs) (Some ys) held pending n left high is whole e =
+      ap (λ l. l ++ binary left (pending % 2 ^ left)) (e ∙ ap (λ k. row_of place 8 xs ++ binary n k) whole)
+      ∙ append_assoc (row_of place 8 xs) (binary n (pending / 2 ^ left)) (binary left (pending % 2 ^ left))
+      ∙ ap (λ l. row_of place 8 xs ++ l) (sym (binary_parted n left pending) ∙ ap (λ k. binary k pending) (sym is))
 
   -- more bits are held
   pub more_held : (bytes : Option (List ℕ)) (held pending n x : ℕ) → Gains (bits_made place held pending bytes) (bits_made place (held + n) (pending * 2 ^ n + x % 2 ^ n) bytes) (binary n x)
@@ -66,12 +109,29 @@ pub stays_same : (a : Option (List Bool)) → Stays a a
 stays_same None = tt
 stays_same (Some xs) = refl
 
+-- what stays twice stays
+pub stays_on : (a b c : Option (List Bool)) → Stays a b → Stays b c → Stays a c
+stays_on None b c e f = tt
+stays_on (Some xs) None c e f = absurd e
+stays_on (Some xs) (Some ys) None e f = f
+stays_on (Some xs) (Some ys) (Some zs) e f = f ∙ e
+
+-- too few bits are too few of what stayed
+pub too_few : (a b : Option (List Bool)) (k n : ℕ) → Stays a b → IfSome b (λ bits. length bits ≡ k) → k < n → IfSome a (λ bits. length bits < n)
+too_few None b k n e f less = tt
+too_few (Some xs) None k n e f less = absurd e
+too_few (Some xs) (Some ys) k n e f less = let size = ap length e in omega arith
+
 -- a passage after nothing was touched is the whole passage
 pub passes_on : (a b c : Option (List Bool)) (bits : List Bool) → Stays a b → Passes b c bits → Passes a c bits
 passes_on None b c bits e f = tt
 passes_on (Some xs) None c bits e f = absurd e
 passes_on (Some xs) (Some ys) None bits e f = f
 passes_on (Some xs) (Some ys) (Some zs) bits e f = sym e ∙ f
+
+-- a part of the highest digits of a number
+pub high_part : (pending rest more left : ℕ) → rest + more ≡ left → pending / 2 ^ rest / 2 ^ more ≡ pending / 2 ^ left
+high_part pending rest more left is = div-div-eq-div-mul pending (2 ^ rest) (2 ^ more) ∙ ap (λ k. pending / k) (sym (pow-add 2 rest more) ∙ ap (λ k. 2 ^ k) is)
 
 -- ---- numbers of 128 digits
 
@@ -86,11 +146,3 @@ wide_joined a b p x few all small =
     let most = pow_mono {i = a + b} {j = 128} all in
     let whole : p * 2 ^ b % 2 ^ 128 ≡ p * 2 ^ b = mod-eq_of_lt (omega arith) in
     ap (λ k. k + x % (1 * 2 ^ b % 2 ^ 128)) whole ∙ ap (λ k. p * 2 ^ b + k) (wide_rest b x few)
-
--- a byte after the held bits stays below their limit
-pub byte_below : (held pending x : ℕ) → pending < 2 ^ held → x < 2 ^ 8 → pending * 256 + x < 2 ^ (held + 8)
-byte_below held pending x small below =
-    let j = joined_below held 8 pending x small in
-    let low : x % 2 ^ 8 ≡ x = mod-eq_of_lt below in
-    let e : 2 ^ 8 ≡ 256 = refl in
-    omega arith

@@ -16,3 +16,5 @@ pub mod Both
 pub mod Late
 pub mod Tops
 pub mod Buffers
+pub mod Leading
+pub mod Ahead

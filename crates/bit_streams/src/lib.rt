@@ -14,6 +14,7 @@ mod register;
 mod signed;
 mod sink;
 mod source;
+mod taken;
 mod words;
 mod writer;
 

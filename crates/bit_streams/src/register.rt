@@ -131,6 +131,39 @@ pub(crate) fn filled(pending: u64, count: u8, high: u64) -> u64
     joined(pending, count, 64 - count, high)
 }
 
+// Like `joined`, also of 64 digits after none.
+#[inline(always)]
+fn joined_any(pending: u64, count: u8, n: u8, x: u64) -> u64
+    requires all { count + n ≤ 64 }
+    requires small { pending < 2 ^ count }
+    ensures digits { binary (count + n) result ≡ binary count pending ++ binary n x }
+    ensures below { result < 2 ^ (count + n) }
+{
+    if n == 64 {
+        return x;
+    }
+    joined(pending, count, n, x)
+}
+
+// `pending` of `count` digits with the first `n` of the `bits` digits of `x` after them, and the others of these.
+#[inline(always)]
+pub(crate) fn joined_parts(pending: u64, count: u8, n: u8, x: u64, bits: u8) -> (u64, u64)
+    requires all { count + n ≤ 64 }
+    requires some { 0 < n }
+    requires within { n ≤ bits }
+    requires few { bits ≤ 64 }
+    requires small { pending < 2 ^ count }
+    ensures digits { binary count pending ++ binary bits x ≡ binary (count + n) result.0 ++ binary (bits - n) result.1 }
+    ensures below { result.0 < 2 ^ (count + n) }
+    ensures rest { result.1 < 2 ^ (bits - n) }
+{
+    let left = bits - n;
+    (
+        joined_any(pending, count, n, x >> left),
+        low_digits(left, x),
+    )
+}
+
 // Whether index 0 of a word is its lowest place, where the order goes by shifts: then a number whose least significant digit
 // comes first lies in the words as it is. It is a hint for speed alone.
 #[inline(always)]
@@ -222,6 +255,24 @@ fn word_of_block<T: BitStore, O: BitOrder>(block: u64, i: u8) -> T
         ≡ slice_range (row_of O.place 64 (block ∷ [])) (i * T.BITS) (i * T.BITS + T.BITS) }
 {
     T::from_u64(O::unpack::<T>(block) >> (i * T::BITS))
+}
+
+// The bytes that show the number in this order, its most significant digit first.
+#[inline(always)]
+pub(crate) fn bytes_of<O: BitOrder>(number: u64) -> [u8; 8]
+    ensures { row_of O.place 8 result ≡ binary 64 number }
+{
+    let block = block_of::<O>(number);
+    [
+        word_of_block::<u8, O>(block, 0),
+        word_of_block::<u8, O>(block, 1),
+        word_of_block::<u8, O>(block, 2),
+        word_of_block::<u8, O>(block, 3),
+        word_of_block::<u8, O>(block, 4),
+        word_of_block::<u8, O>(block, 5),
+        word_of_block::<u8, O>(block, 6),
+        word_of_block::<u8, O>(block, 7),
+    ]
 }
 
 // Makes room for `more` words. Where that takes memory the words are moved out and back, so that the path that takes

@@ -38,6 +38,7 @@ gamma_digits x some below =
     let zeros : 2 * t + 1 - 1 - t ≡ t = omega arith in
     digits_from_top (2 * t + 1) t x (omega arith) top.1 high ∙ ap (λ k. unary k ++ binary t x) zeros
 
+-- a unary number is one longer than its zeros
 length-unary : (z : ℕ) → length (unary z) ≡ z + 1
 length-unary z = length-append (replicate z false) (true ∷ []) ∙ ap (λ k. k + 1) (length-replicate z false)
 

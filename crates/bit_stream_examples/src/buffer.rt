@@ -5,7 +5,7 @@ ghost use Rattle.bit_streams.specs.Streamed.{Passes, Stays};
 
 use super::{check, ok};
 use bit_addressing::{BitOrder, Lsb0, Msb0};
-use bit_streams::{BitWriter, BitBuffer};
+use bit_streams::{BitBuffer, BitWriter};
 use std::io;
 use std::io::{ErrorKind, Read, Write};
 use std::process::Abort;

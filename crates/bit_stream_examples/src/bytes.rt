@@ -94,6 +94,70 @@ fn a_read_that_fails_loses_nothing(rt: HostRuntime) {
 }
 
 #[test]
+fn a_buffered_read_that_fails_loses_nothing(rt: HostRuntime) {
+    let mut source = BitSource::<_, Msb0>::buffered(Halting { turn: 0 });
+    for _ in 0..3 {
+        match source.read(32) {
+            Err(SourceError::Failed(_)) => {}
+            _ => check(&rt, false),
+        }
+    }
+    check(&rt, read_is(&mut source, 32, 0xc3c3_c3c3));
+    check(&rt, source.held() == 0);
+}
+
+// Gives the bytes 1, 2, 3, .. up to 40, at most `each` of them a call.
+#[derive(Drop)]
+struct Slow {
+    last: u8,
+    each: usize,
+}
+
+impl Read for Slow {
+    fn read(&mut self, buf: &mut [u8]) -> io::Result<usize> {
+        let mut given = 0;
+        for byte in buf {
+            if given == self.each || self.last >= 40 {
+                return Ok(given);
+            }
+            self.last += 1;
+            *byte = self.last;
+            given += 1;
+        }
+        Ok(given)
+    }
+}
+
+fn slow_bytes_in_turn(rt: &impl Abort, mut source: BitSource<Slow, Msb0>) {
+    check(rt, read_is(&mut source, 24, 0x0001_0203));
+    check(rt, read_is(&mut source, 4, 0));
+    check(rt, read_is(&mut source, 64, 0x4050_6070_8090_a0b0));
+    check(rt, read_is(&mut source, 4, 0xc));
+}
+
+#[test]
+fn a_few_bytes_at_a_time(rt: HostRuntime) {
+    for each in 1..6 {
+        slow_bytes_in_turn(&rt, BitSource::new(Slow { last: 0, each }));
+        slow_bytes_in_turn(&rt, BitSource::buffered(Slow { last: 0, each }));
+    }
+}
+
+#[test]
+fn a_source_reads_ahead(rt: HostRuntime) {
+    let mut source = BitSource::<_, Msb0>::buffered(Slow { last: 0, each: 100 });
+    check(&rt, read_is(&mut source, 8, 1));
+    check(&rt, source.held() == 184);
+    for k in 2..41 {
+        check(&rt, read_is(&mut source, 8, k));
+    }
+    match source.read(1) {
+        Err(SourceError::Ended) => {}
+        _ => check(&rt, false),
+    }
+}
+
+#[test]
 fn bytes_are_written(rt: HostRuntime) {
     let mut sink = BitSink::<_, Msb0>::new(Vec::<u8>::new(rt.alloc()));
     io_ok(&rt, sink.write(3, 5));
@@ -160,4 +224,57 @@ fn a_write_that_fails_loses_nothing(rt: HostRuntime) {
     check(&rt, sink.finish().is_err());
     io_ok(&rt, sink.finish());
     check(&rt, sink.held() == 0);
+}
+
+#[test]
+fn a_buffered_write_that_fails_loses_nothing(rt: HostRuntime) {
+    let mut sink = BitSink::<_, Msb0>::buffered(Refusing { turn: 0, last: 0 });
+    io_ok(&rt, sink.write(24, 0x010203));
+    io_ok(&rt, sink.write(40, 0x0405060708));
+    check(&rt, sink.held() == 64);
+    check(&rt, sink.write(8, 9).is_err());
+    check(&rt, sink.held() == 56);
+    io_ok(&rt, sink.write(8, 9));
+    check(&rt, sink.held() == 64);
+}
+
+// Takes at most `each` bytes a call, and keeps the last eight as a number.
+#[derive(Drop)]
+struct Narrow {
+    each: usize,
+    last: u64,
+}
+
+impl Write for Narrow {
+    fn write(&mut self, buf: &[u8]) -> io::Result<usize> {
+        let mut taken = 0;
+        for byte in buf {
+            if taken == self.each {
+                return Ok(taken);
+            }
+            self.last = self.last << 8 | u64::from(*byte);
+            taken += 1;
+        }
+        Ok(taken)
+    }
+
+    fn flush(&mut self) -> io::Result<()> {
+        Ok(())
+    }
+}
+
+fn slow_bytes_are_written(rt: &impl Abort, mut sink: BitSink<Narrow, Msb0>) {
+    io_ok(rt, sink.write(60, 0x123_4567_89ab_cdef));
+    io_ok(rt, sink.write(28, 0x0fed_cba9));
+    io_ok(rt, sink.write(3, 5));
+    io_ok(rt, sink.finish());
+    check(rt, sink.into_inner().last == 0x9abc_deff_edcb_a9a0);
+}
+
+#[test]
+fn a_writer_that_takes_a_few_bytes(rt: HostRuntime) {
+    for each in 1..6 {
+        slow_bytes_are_written(&rt, BitSink::new(Narrow { each, last: 0 }));
+        slow_bytes_are_written(&rt, BitSink::buffered(Narrow { each, last: 0 }));
+    }
 }

@@ -85,6 +85,33 @@ fn codes_of_too_long_numbers(rt: HostRuntime) {
     check(&rt, reader.read_unary().is_none());
 }
 
+// The code of a number is `many` bytes of `byte` and a last one, by the definition of LEB128.
+fn leb128_is(rt: &(impl Abort + AllocGlobal), x: u64, many: usize, byte: u8, last: u8) {
+    let mut writer = BitWriter::<u8, Msb0>::new(rt.alloc());
+    ok(rt, writer.write_leb128(x));
+    let bits = ok(rt, writer.finish());
+    check(rt, bits.len() == 8 * many + 8);
+    let mut reader = BitReader::new(bits.as_bitslice());
+    for _ in 0..many {
+        check(rt, reader.read(8) == Some(u64::from(byte)));
+    }
+    check(rt, reader.read(8) == Some(u64::from(last)));
+    check(
+        rt,
+        BitReader::new(bits.as_bitslice()).read_leb128() == Ok(x),
+    );
+}
+
+#[test]
+fn leb128_at_each_length(rt: HostRuntime) {
+    for many in 1..10 {
+        let first = 1u64 << (7 * many);
+        leb128_is(&rt, first, many, 0x80, 1);
+        leb128_is(&rt, first - 1, many - 1, 0xff, 0x7f);
+    }
+    leb128_is(&rt, u64::MAX, 9, 0xff, 1);
+}
+
 #[test]
 fn leb128_with_a_byte_too_many(rt: HostRuntime) {
     let mut reader = BitReader::new(BitSlice::<u8, Msb0>::from_slice(&[0x80, 0x80, 0x00]));

@@ -31,6 +31,18 @@ fn five_digits(rt: HostRuntime) {
 }
 
 #[test]
+fn signed_numbers(rt: HostRuntime) {
+    let mut records = Records::<u8, Msb0>::new(rt.alloc(), 5).unwrap();
+    assert!(rt; records.width() == 5);
+    ok(&rt, records.push_signed(-2));
+    check(&rt, records.get_signed(0) == Some(-2));
+    check(&rt, records.get(0) == Some(30));
+    assert!(rt; records.len() == 1);
+    records.set_signed(0, 15);
+    check(&rt, records.get_signed(0) == Some(15));
+}
+
+#[test]
 fn three_digits(rt: HostRuntime) {
     let mut records = Records::<u8, Lsb0>::new(rt.alloc(), 3).unwrap();
     ok(&rt, records.push(5));

@@ -1,5 +1,5 @@
 //! Callers of records: what each proves stands in its clauses, and only the loop has a file, its invariant.
-ghost use Rattle.std.specs.Prelude.{◌≡◌, ℕ, ◌+◌, ◌-◌, ◌^◌, ◌<◌, ◌++◌, [], ◌∷◌, IfOk, IfSome, IsTrue, OnErr, OnOk, Some, length, slice_get, slice_index_or, take};
+ghost use Rattle.std.specs.Prelude.{◌≡◌, ℕ, ◌+◌, ◌-◌, ◌^◌, ◌<◌, ◌++◌, [], ◌∷◌, IfOk, IfSome, IsTrue, OnErr, OnOk, Some, length, negsuc, slice_get, slice_index_or, take};
 
 use bit_containers::{BitOrder, BitStore, GrowError};
 use bit_records::Records;
@@ -16,6 +16,17 @@ pub fn second_of_three<T: BitStore, O: BitOrder>(
     records.push(31)?;
     records.push(0)?;
     Ok(records.get(1))
+}
+
+pub fn least_signed<T: BitStore, O: BitOrder>(
+    records: &mut Records<T, O>,
+) -> Result<Option<i64>, GrowError>
+    requires none { records.old.list ≡ [] }
+    requires width { records.old.width ≡ 5 }
+    ensures { IfOk result (λ least. least ≡ Some (negsuc 15)) }
+{
+    records.push_signed(-16)?;
+    Ok(records.get_signed(0))
 }
 
 pub fn first_written<T: BitStore, O: BitOrder>(

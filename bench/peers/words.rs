@@ -576,12 +576,18 @@ impl records::Digits for Writer {
     }
 }
 
+/// A record's word as it is stored: its first bit is the highest, and is the lowest where the words' first bit is that.
+#[inline(always)]
+fn stored(word: u64) -> u64 {
+    if cfg!(lowest_first) { word.reverse_bits() } else { word }
+}
+
 #[inline(never)]
 fn pack(records: &[Record]) -> Vec<u64> {
     let mut words = Vec::with_capacity(records.len());
     for it in records {
         let head = (it.kind as u64) << 61 | (it.port as u64) << 48 | (it.up as u64) << 47;
-        words.push(head | (it.size as u64) << 27 | it.sum as u64);
+        words.push(stored(head | (it.size as u64) << 27 | it.sum as u64));
     }
     words
 }
@@ -589,6 +595,7 @@ fn pack(records: &[Record]) -> Vec<u64> {
 #[inline(never)]
 fn unpack(words: &[u64], records: &mut [Record]) -> usize {
     for (word, record) in words.iter().zip(records) {
+        let word = stored(*word);
         let (kind, port, up) = ((word >> 61) as u32, (word >> 48 & 0x1fff) as u32, word >> 47 & 1 == 1);
         *record = Record { kind, port, up, size: (word >> 27 & 0xfffff) as u32, sum: (word & 0x7ffffff) as u32 };
     }

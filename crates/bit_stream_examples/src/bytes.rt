@@ -115,16 +115,14 @@ struct Slow {
 
 impl Read for Slow {
     fn read(&mut self, buf: &mut [u8]) -> io::Result<usize> {
-        let mut given = 0;
-        for byte in buf {
-            if given == self.each || self.last >= 40 {
-                return Ok(given);
+        for k in 0..buf.len() {
+            if k == self.each || self.last >= 40 {
+                return Ok(k);
             }
             self.last += 1;
-            *byte = self.last;
-            given += 1;
+            buf[k] = self.last;
         }
-        Ok(given)
+        Ok(buf.len())
     }
 }
 
@@ -247,15 +245,13 @@ struct Narrow {
 
 impl Write for Narrow {
     fn write(&mut self, buf: &[u8]) -> io::Result<usize> {
-        let mut taken = 0;
-        for byte in buf {
-            if taken == self.each {
-                return Ok(taken);
+        for k in 0..buf.len() {
+            if k == self.each {
+                return Ok(k);
             }
-            self.last = self.last << 8 | u64::from(*byte);
-            taken += 1;
+            self.last = self.last << 8 | u64::from(buf[k]);
         }
-        Ok(taken)
+        Ok(buf.len())
     }
 
     fn flush(&mut self) -> io::Result<()> {

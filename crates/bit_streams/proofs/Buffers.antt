@@ -24,13 +24,6 @@ front_begun passed xs ys within front =
 pub front_on : (xs ys zs : List Bool) → take (length xs) ys ≡ xs → take (length ys) zs ≡ ys → length xs ≤ length ys → take (length xs) zs ≡ xs
 front_on xs ys zs first second longer = sym (take-take (length xs) (length ys) zs longer) ∙ ap (take (length xs)) second ∙ first
 
--- what stays stays on
-pub stays_on : (a b c : Option (List Bool)) → Stays a b → Stays b c → Stays a c
-stays_on None b c e f = tt
-stays_on (Some xs) None c e f = absurd e
-stays_on (Some xs) (Some ys) None e f = f
-stays_on (Some xs) (Some ys) (Some zs) e f = f ∙ e
-
 -- bytes that a writer took after others
 pub given_on : (a b c : Option (List ℕ)) (bytes : List ℕ) (t n : ℕ) → Appends a b (take t bytes) → Appends b c (take n (drop t bytes)) → Appends a c (take (t + n) bytes)
 given_on None b c bytes t n e f = tt

@@ -1,7 +1,7 @@
 -- Bits that are held between bytes and numbers.
 use Rattle.std.proofs.Common.{◌≡◌, ℕ, ◌+◌, ◌-◌, ◌*◌, ◌/◌, ◌%◌, ◌^◌, ◌<◌, ◌≤◌, Bool, List, [], ◌∷◌, ◌++◌, append_assoc, false, length, replicate, slice_range, take, Some, None, refl, sym, ◌∙◌, ap, arith}
 use Rattle.std.specs.Prelude.{Option, IfSome}
-use Rattle.std.specs.Io.KnownBytes.{Appends, IsAtEnd, Keeps}
+use Rattle.std.specs.Io.KnownBytes.{Appends, IsAtEnd}
 use Rattle.std.proofs.Math.Nat.{div-div-eq-div-mul, mod-eq_of_lt}
 use Rattle.std.proofs.Math.Pow.{pow_mono}
 use Rattle.std.proofs.lemmas.List.{length-append, length-take-le, nil_from_length}
@@ -22,27 +22,12 @@ module _ (place : ℕ → ℕ → ℕ) where
   more_taken (Some xs) (Some ys) held pending n x joined is e =
       ap (λ l. l ++ row_of place 8 ys) is ∙ append_assoc (binary held pending) (binary n x) (row_of place 8 ys) ∙ ap (λ l. binary held pending ++ l) (sym e)
 
-  -- a number of the bits that were held and of those of bytes
-  pub number_taken : (old new : Option (List ℕ)) (held pending bits x n number left rest : ℕ) → binary held pending ++ binary bits x ≡ binary n number ++ binary left rest → Loses place old new (binary bits x)
-      → Passes (bits_left place held pending old) (bits_left place left rest new) (binary n number)
-  number_taken None new held pending bits x n number left rest is e = tt
-  number_taken (Some xs) None held pending bits x n number left rest is e = e
-  number_taken (Some xs) (Some ys) held pending bits x n number left rest is e =
-      ap (λ l. binary held pending ++ l) e ∙ sym (append_assoc (binary held pending) (binary bits x) (row_of place 8 ys)) ∙ ap (λ l. l ++ row_of place 8 ys) is
-      ∙ append_assoc (binary n number) (binary left rest) (row_of place 8 ys)
-
   -- no byte was taken
   pub none_taken : (old new : Option (List ℕ)) (held pending n x : ℕ) → n ≡ 0 → Loses place old new (binary n x) → Stays (bits_left place held pending old) (bits_left place held pending new)
   none_taken None new held pending n x none e = tt
   none_taken (Some xs) None held pending n x none e = e
   none_taken (Some xs) (Some ys) held pending n x none e =
       ap (λ l. binary held pending ++ l) (sym (e ∙ ap (λ l. l ++ row_of place 8 ys) (nil_from_length (binary n x) (length-binary n x ∙ none))))
-
-  -- the bytes stay
-  pub kept_taken : (old new : Option (List ℕ)) (held pending : ℕ) → Keeps old new → Stays (bits_left place held pending old) (bits_left place held pending new)
-  kept_taken None new held pending e = tt
-  kept_taken (Some xs) None held pending e = e
-  kept_taken (Some xs) (Some ys) held pending e = ap (λ bs. binary held pending ++ row_of place 8 bs) e
 
   row_none : (held pending : ℕ) → length (binary held pending) + length (row_of place 8 []) ≡ held
   unfolding row_of

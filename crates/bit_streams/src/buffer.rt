@@ -147,7 +147,7 @@ impl<R: Read, O: BitOrder> BitBuffer<R, O> {
     /// Takes bytes from the reader until at least `n` bits are held, and returns whether they are: false only where the
     /// bytes have ended, and all bits that are left are held. Calls the reader only if fewer than `n` bits are held, and
     /// then takes memory. After an error no bit is lost: the same call can be made again.
-    #[tactic(auto, using(crate::proofs::Buffers::stays_on, crate::proofs::Buffers::front_on, crate::proofs::Held::stays_same))]
+    #[tactic(auto, using(crate::proofs::Held::stays_on, crate::proofs::Buffers::front_on, crate::proofs::Held::stays_same))]
     pub fn fill(&mut self, n: usize) -> io::Result<bool>
         ensures rest { Stays self.old.rest self.new.rest }
         ensures held { take (length self.old.held) self.new.held ≡ self.old.held }

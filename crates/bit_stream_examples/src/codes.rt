@@ -90,7 +90,7 @@ fn leb128_is(rt: &(impl Abort + AllocGlobal), x: u64, many: usize, byte: u8, las
     let mut writer = BitWriter::<u8, Msb0>::new(rt.alloc());
     ok(rt, writer.write_leb128(x));
     let bits = ok(rt, writer.finish());
-    check(rt, bits.len() == 8 * many + 8);
+    check(rt, bits.len() == many.saturating_mul(8).saturating_add(8));
     let mut reader = BitReader::new(bits.as_bitslice());
     for _ in 0..many {
         check(rt, reader.read(8) == Some(u64::from(byte)));

@@ -1,5 +1,5 @@
 //! Whole bytes of a writer of bits, given to a writer of bytes.
-ghost use Rattle.std.specs.Prelude.{◌≡◌, ◌-◌, ◌<◌, ◌≤◌, OnOk, drop, length, take};
+ghost use Rattle.std.specs.Prelude.{◌≡◌, ◌-◌, ◌<◌, ◌≤◌, IsOk, OnOk, drop, length, take};
 ghost use Rattle.std.specs.Io.KnownBytes.{Appends};
 ghost use Rattle.bit_streams.specs.Buffers.{known_bits};
 ghost use Rattle.bit_streams.specs.Streamed.{Gains};
@@ -31,8 +31,8 @@ fn put_bytes<W: Write>(out: &mut W, bytes: &[u8]) -> (usize, io::Result<()>)
 
 impl<O: BitOrder> BitWriter<u8, O> {
     /// Gives the whole bytes to `out`, and keeps the bits after them, fewer than 8. After an error it keeps all bits that
-    /// `out` has not taken: the same call can be made again. Calls `out` only if there is a whole byte, and takes memory
-    /// only if there is no room for the bits that wait in the registers. It does not flush `out`.
+    /// `out` has not taken: the same call can be made again. Calls `out`, and so can fail, only if there is a whole byte,
+    /// and then takes memory only if there is no room for the bits that wait in the registers. It does not flush `out`.
     ///
     /// ```text
     /// of 11 bits: writer.drain_to(&mut file)?      // gives a byte, and keeps 3 bits
@@ -43,7 +43,11 @@ impl<O: BitOrder> BitWriter<u8, O> {
         ensures rest { self.new.list ≡ drop (length self.old.list - length self.new.list) self.old.list }
         ensures shorter { length self.new.list ≤ length self.old.list }
         ensures whole { OnOk result (length self.new.list < 8) }
+        ensures called { length self.old.list < 8 → IsOk result }
     {
+        if self.len() < 8 {
+            return Ok(());
+        }
         match self.reserve(0) {
             Ok(()) => {}
             Err(_) => return Err(no_memory()),

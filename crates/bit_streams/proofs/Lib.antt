@@ -18,3 +18,4 @@ pub mod Tops
 pub mod Buffers
 pub mod Leading
 pub mod Ahead
+pub mod Longest

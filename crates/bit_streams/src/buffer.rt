@@ -119,6 +119,7 @@ impl<R: Read, O: BitOrder> BitBuffer<R, O> {
     }
 
     /// The number of bits that are held.
+    #[inline(always)]
     pub fn held(&self) -> usize
         ensures { result ≡ length self.now.held }
     {
@@ -126,6 +127,7 @@ impl<R: Read, O: BitOrder> BitBuffer<R, O> {
     }
 
     /// A reader of the bits that are held, at the first of them. What it reads stays held until `consume`.
+    #[inline(always)]
     pub fn reader(&self) -> BitReader<'_, u8, O>
         ensures rest { result.rest ≡ self.now.held }
         ensures position { result.position ≡ 0 }
@@ -134,6 +136,7 @@ impl<R: Read, O: BitOrder> BitBuffer<R, O> {
     }
 
     /// Passes the first `n` bits that are held. Requires that there are as many.
+    #[inline(always)]
     pub fn consume(&mut self, n: usize)
         requires { n ≤ length self.old.held }
         ensures rest { Passes self.old.rest self.new.rest (take n self.old.held) }
@@ -147,7 +150,7 @@ impl<R: Read, O: BitOrder> BitBuffer<R, O> {
     /// Takes bytes from the reader until at least `n` bits are held, and returns whether they are: false only where the
     /// bytes have ended, and all bits that are left are held. Calls the reader only if fewer than `n` bits are held, and
     /// then takes memory. After an error no bit is lost: the same call can be made again.
-    #[tactic(auto, using(crate::proofs::Held::stays_on, crate::proofs::Buffers::front_on, crate::proofs::Held::stays_same))]
+    #[inline(always)]
     pub fn fill(&mut self, n: usize) -> io::Result<bool>
         ensures rest { Stays self.old.rest self.new.rest }
         ensures held { take (length self.old.held) self.new.held ≡ self.old.held }
@@ -158,6 +161,19 @@ impl<R: Read, O: BitOrder> BitBuffer<R, O> {
         if self.held() >= n {
             return Ok(true);
         }
+        self.fill_on(n)
+    }
+
+    // What `fill` does where fewer bits are held. It is a function of its own, so that a call which finds them held makes
+    // no error's room.
+    #[inline(never)]
+    #[tactic(auto, using(crate::proofs::Held::stays_on, crate::proofs::Buffers::front_on, crate::proofs::Held::stays_same))]
+    fn fill_on(&mut self, n: usize) -> io::Result<bool>
+        ensures rest { Stays self.old.rest self.new.rest }
+        ensures held { take (length self.old.held) self.new.held ≡ self.old.held }
+        ensures enough { IfOk result (λ is_held. IsTrue is_held ↔ (n ≤ length self.new.held)) }
+        ensures ended { result ≡ Ok false → IfSome self.new.rest (λ bits. bits ≡ self.new.held) }
+    {
         self.drop_passed();
         while self.held() < n {
             match self.take_more() {

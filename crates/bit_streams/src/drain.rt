@@ -29,14 +29,33 @@ fn put_bytes<W: Write>(out: &mut W, bytes: &[u8]) -> (usize, io::Result<()>)
     (taken, Ok(()))
 }
 
+// What `drain_to` does with at least a byte of bits. It takes the writer by value, so that a caller which drains now and then
+// keeps the words and the registers in registers of its own.
+#[inline(never)]
+fn drained<O: BitOrder, W: Write>(
+    mut writer: BitWriter<u8, O>,
+    out: &mut W,
+) -> (BitWriter<u8, O>, io::Result<()>)
+    ensures given { Gains (known_bits O.place (W.contents out.old)) (known_bits O.place (W.contents out.new))
+        (take (length writer.list - length result.0.list) writer.list) }
+    ensures rest { result.0.list ≡ drop (length writer.list - length result.0.list) writer.list }
+    ensures shorter { length result.0.list ≤ length writer.list }
+    ensures whole { OnOk result.1 (length result.0.list < 8) }
+{
+    let done = writer.drain_whole(out);
+    (writer, done)
+}
+
 impl<O: BitOrder> BitWriter<u8, O> {
     /// Gives the whole bytes to `out`, and keeps the bits after them, fewer than 8. After an error it keeps all bits that
     /// `out` has not taken: the same call can be made again. Calls `out`, and so can fail, only if there is a whole byte,
-    /// and then takes memory only if there is no room for the bits that wait in the registers. It does not flush `out`.
+    /// and then takes memory only if there is no room for the bits that wait in the registers. It does not flush `out`. It
+    /// takes as long as some ten numbers do to be written, so it is best called for many bytes at once.
     ///
     /// ```text
     /// of 11 bits: writer.drain_to(&mut file)?      // gives a byte, and keeps 3 bits
     /// ```
+    #[inline(always)]
     pub fn drain_to<W: Write>(&mut self, out: &mut W) -> io::Result<()>
         ensures given { Gains (known_bits O.place (W.contents out.old)) (known_bits O.place (W.contents out.new))
             (take (length self.old.list - length self.new.list) self.old.list) }
@@ -48,6 +67,21 @@ impl<O: BitOrder> BitWriter<u8, O> {
         if self.len() < 8 {
             return Ok(());
         }
+        let (writer, done) = drained(self.moved_out(), out);
+        let _empty = replace(self, writer);
+        done
+    }
+
+    // What `drain_to` does where there is a whole byte. The writer is lent to it as one of its own, so that a caller which
+    // drains now and then keeps the words and the registers in registers.
+    #[inline(always)]
+    fn drain_whole<W: Write>(&mut self, out: &mut W) -> io::Result<()>
+        ensures given { Gains (known_bits O.place (W.contents out.old)) (known_bits O.place (W.contents out.new))
+            (take (length self.old.list - length self.new.list) self.old.list) }
+        ensures rest { self.new.list ≡ drop (length self.old.list - length self.new.list) self.old.list }
+        ensures shorter { length self.new.list ≤ length self.old.list }
+        ensures whole { OnOk result (length self.new.list < 8) }
+    {
         match self.reserve(0) {
             Ok(()) => {}
             Err(_) => return Err(no_memory()),

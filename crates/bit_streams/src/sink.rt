@@ -226,6 +226,21 @@ impl<W: Write, O: BitOrder> BitSink<W, O> {
             self.hold(n, x);
             return Ok(());
         }
+        self.write_on(n, x)
+    }
+
+    // What `write` does where the writer takes whole bytes first. All that is needed for that alone is in a function of its
+    // own: a result of io takes many steps to be made.
+    #[inline(always)]
+    fn write_on(&mut self, n: u8, x: u64) -> io::Result<()>
+        requires { n ≤ 64 }
+        ensures list { OnOk result (Gains self.old.list self.new.list (binary n x)) }
+        ensures held { OnOk result (self.new.held ≡ self.old.held % 8 + n) }
+        ensures kept { OnErr result (Stays self.old.list self.new.list) }
+        ensures whole { OnErr result (self.new.held % 8 ≡ self.old.held % 8) }
+        ensures called { self.old.held < 8 → IsOk result }
+        ensures buffered { self.new.buffered ≡ self.old.buffered }
+    {
         match self.push_bytes() {
             Ok(()) => {
                 self.hold(n, x);

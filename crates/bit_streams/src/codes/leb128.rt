@@ -1,5 +1,5 @@
 //! LEB128: seven binary digits in a byte, the lowest first.
-ghost use Rattle.std.specs.Prelude.{◌≡◌, ℕ, ◌+◌, ◌*◌, ◌^◌, ◌<◌, ◌≤◌, ◌++◌, Bool, List, Err, IfOk, OnErr, OnOk, Ok, length, take};
+ghost use Rattle.std.specs.Prelude.{◌≡◌, ℕ, ◌+◌, ◌*◌, ◌^◌, ◌<◌, ◌≤◌, ◌++◌, Bool, List, Err, IfOk, IfSome, None, OnErr, OnOk, Ok, length, take};
 ghost use Rattle.bit_addressing.specs.Row.{binary};
 ghost use Rattle.bit_streams.specs.Codes.{leb128, leb_bytes};
 ghost use Rattle.bit_streams.specs.Refusals.{LebEnds, LebPadded, LebPasses};
@@ -50,6 +50,24 @@ fn number_in(block: u64) -> (u64, u8)
         x = x + ((byte % 128) << (7 * i));
     }
     (0, 0)
+}
+
+// The 56 digits of the eight bytes that 64 bits are, where each of these says that more follow.
+#[inline(always)]
+fn marked_in(block: u64) -> Option<u64>
+    ensures code { IfSome result (λ x. (upper : ℕ) → 0 < upper
+        → leb_bytes 9 (upper * 2 ^ 56 + x) ≡ binary 64 block ++ leb_bytes 1 upper) }
+    ensures below { IfSome result (λ x. x < 2 ^ 56) }
+{
+    let mut x = 0;
+    for i in 0..8u8 {
+        let byte = (block >> (56 - 8 * i)) % 256;
+        if byte < 128 {
+            return None;
+        }
+        x += (byte % 128) << (7 * i);
+    }
+    Some(x)
 }
 
 impl<T: BitStore, O: BitOrder> BitWriter<T, O> {
@@ -179,12 +197,42 @@ impl<'a, T: BitStore, O: BitOrder> BitReader<'a, T, O> {
             → (result ≡ Ok x) × (self.new.rest ≡ more) }
     {
         let before = self.copied();
+        match self.read_longest() {
+            Some(x) => return Ok(x),
+            None => *self = before.copied(),
+        }
         match self.read_bytes(9) {
             Ok(x) => Ok(x),
             Err(why) => {
                 *self = before;
                 Err(why)
             }
+        }
+    }
+
+    // Reads a number in nine or ten bytes: eight at once, and one or two after them. Where none comes, the reader may be
+    // anywhere.
+    fn read_longest(&mut self) -> Option<u64>
+        ensures found { IfSome result (λ x. self.old.rest ≡ leb128 x ++ self.new.rest) }
+        ensures below { IfSome result (λ x. x < 2 ^ 64) }
+    {
+        match self.read(64) {
+            None => None,
+            Some(block) => match marked_in(block) {
+                None => None,
+                Some(low) => match self.read_bytes(1) {
+                    Err(_) => None,
+                    Ok(upper) => {
+                        if upper == 0 {
+                            return None;
+                        }
+                        if upper > 255 {
+                            return None;
+                        }
+                        Some((upper << 56) + low)
+                    }
+                },
+            },
         }
     }
 

@@ -4,7 +4,7 @@ use Rattle.bit_addressing.specs.Row.{row_of}
 use Rattle.bit_streams.specs.Buffers.{known_bits}
 use Rattle.bit_streams.specs.Streamed.{Gains}
 use Rattle.bit_streams.proofs.Buffers.{bytes_gained, front_given}
-use Rattle.bit_streams.proofs.drain.«BitWriter+u8+O».drain_to.Goals as goal
+use Rattle.bit_streams.proofs.drain.«BitWriter+u8+O».drain_whole.Goals as goal
 
 pub returns-in-Ok-finish-clause-given : goal.returns-in-Ok-finish-clause-given
 returns-in-Ok-finish-clause-given g c =

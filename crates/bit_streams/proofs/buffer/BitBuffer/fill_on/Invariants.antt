@@ -1,6 +1,6 @@
 use Rattle.std.proofs.Common.{◌≡◌, ◌≤◌, ◌-◌, length, take}
 use Rattle.bit_streams.specs.Streamed.{Stays}
-use Rattle.bit_streams.proofs.buffer.BitBuffer.fill.Given as goal
+use Rattle.bit_streams.proofs.buffer.BitBuffer.fill_on.Given as goal
 
 abbrev pub invariant-loop-self : goal.invariant-loop-self
 invariant-loop-self g l = record {

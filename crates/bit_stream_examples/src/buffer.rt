@@ -5,7 +5,8 @@ ghost use Rattle.bit_streams.specs.Streamed.{Passes, Stays};
 
 use super::{check, ok};
 use bit_addressing::{BitOrder, Lsb0, Msb0};
-use bit_streams::{BitBuffer, BitWriter};
+use bit_slice::BitSlice;
+use bit_streams::{BitBuffer, BitReader, BitWriter};
 use std::io;
 use std::io::{ErrorKind, Read, Write};
 use std::process::Abort;
@@ -157,4 +158,114 @@ fn a_drain_that_fails_loses_nothing(rt: HostRuntime) {
     check(&rt, writer.drain_to(&mut out).is_ok());
     check(&rt, writer.len() == 4);
     check(&rt, out.taken == 0x10_2030);
+}
+
+// Gives the bytes 1, 2, 3, .. 250 again and again, 1000 bytes at most by a call, and 40000 of them in all.
+#[derive(Drop)]
+struct Counting {
+    last: u8,
+    left: usize,
+}
+
+impl Read for Counting {
+    fn read(&mut self, buf: &mut [u8]) -> io::Result<usize> {
+        for k in 0..buf.len() {
+            if k == 1000 || self.left == 0 {
+                return Ok(k);
+            }
+            self.left -= 1;
+            self.last = self.last % 250 + 1;
+            buf[k] = self.last;
+        }
+        Ok(buf.len())
+    }
+}
+
+// Fills the buffer, also where memory is refused at first: then what was held stays, and the same call goes on.
+fn fill_again(rt: &impl Abort, source: &mut BitBuffer<Counting, Msb0>, n: usize) {
+    let before = source.held();
+    match source.fill(n) {
+        Ok(is_held) => check(rt, is_held),
+        Err(why) => {
+            check(rt, why.kind() == ErrorKind::OutOfMemory);
+            check(rt, source.held() >= before);
+            check(rt, is_filled(source, n));
+        }
+    }
+}
+
+// Every request for memory may be refused: no bit is lost.
+#[test]
+fn a_fill_that_is_refused_loses_nothing(rt: HostRuntime) {
+    let reader = Counting {
+        last: 0,
+        left: 40000,
+    };
+    let mut source = BitBuffer::<_, Msb0>::new(rt.alloc(), reader);
+    fill_again(&rt, &mut source, 100);
+    fill_again(&rt, &mut source, 100000);
+    pass(&rt, &mut source, 8000);
+    fill_again(&rt, &mut source, 300000);
+    check(&rt, counts_on(&mut source, 312000));
+}
+
+// Whether so many bits are held from byte 1001 on, and nothing after them.
+fn counts_on(source: &mut BitBuffer<Counting, Msb0>, n: usize) -> bool {
+    if !is_filled(source, n) {
+        return false;
+    }
+    let mut reader = source.reader();
+    let mut last = 0u64;
+    for _ in 0..n / 8 {
+        last = last % 250 + 1;
+        if reader.read(8) != Some(last) {
+            return false;
+        }
+    }
+    reader.remaining() == 0
+}
+
+// Appends a number, also where memory is refused at first.
+fn write_again(rt: &impl Abort, writer: &mut BitWriter<u8, Msb0>, x: u64) {
+    if writer.write(24, x).is_err() {
+        ok(rt, writer.write(24, x));
+    }
+}
+
+// Drains the writer, also where memory is refused at first, to the writer or to `out`: then it keeps what `out` hasn't taken.
+fn drain_again(rt: &impl Abort, writer: &mut BitWriter<u8, Msb0>, out: &mut Vec<u8>) {
+    let (before, given) = (writer.len(), out.len());
+    match writer.drain_to(out) {
+        Ok(()) => {}
+        Err(why) => {
+            check(rt, why.kind() == ErrorKind::OutOfMemory);
+            check(rt, writer.len() == before);
+            check(rt, out.len() == given);
+            check(rt, writer.drain_to(out).is_ok());
+        }
+    }
+    check(rt, writer.len() < 8);
+}
+
+// Every request for memory may be refused: no bit is lost.
+#[test]
+fn a_drain_that_is_refused_loses_nothing(rt: HostRuntime) {
+    let mut out = Vec::<u8>::new(rt.alloc());
+    let mut writer = BitWriter::<u8, Msb0>::new(rt.alloc());
+    ok(&rt, writer.write(4, 1));
+    for k in 0..200u64 {
+        write_again(&rt, &mut writer, k);
+        if k % 7 == 0 {
+            drain_again(&rt, &mut writer, &mut out);
+        }
+    }
+    drain_again(&rt, &mut writer, &mut out);
+    check(&rt, writer.len() == 4);
+    assert!(rt; out.len() == 600);
+    let mut reader = BitReader::new(BitSlice::<u8, Msb0>::from_slice(out.as_slice()));
+    check(&rt, reader.read(4) == Some(1));
+    for k in 0..199u64 {
+        check(&rt, reader.read(24) == Some(k));
+    }
+    check(&rt, reader.remaining() == 20);
 }

@@ -49,8 +49,9 @@ fn drained<O: BitOrder, W: Write>(
 impl<O: BitOrder> BitWriter<u8, O> {
     /// Gives the whole bytes to `out`, and keeps the bits after them, fewer than 8. After an error it keeps all bits that
     /// `out` has not taken: the same call can be made again. Calls `out`, and so can fail, only if there is a whole byte,
-    /// and then takes memory only if there is no room for the bits that wait in the registers. It does not flush `out`. It
-    /// takes as long as some ten numbers do to be written, so it is best called for many bytes at once.
+    /// and then takes memory only if there is no room for the bits that wait in the registers. It does not flush `out`. Each
+    /// call that gives bytes costs as much as many writes do: a writer is best drained when it holds some hundred numbers or
+    /// more.
     ///
     /// ```text
     /// of 11 bits: writer.drain_to(&mut file)?      // gives a byte, and keeps 3 bits

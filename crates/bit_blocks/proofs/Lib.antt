@@ -1,0 +1,12 @@
+pub mod Ascending
+pub mod Edits
+pub mod Forms
+pub mod Grouped
+pub mod Merging
+pub mod LeftOfRuns
+pub mod Stepping
+pub mod Summing
+pub mod Those
+pub mod Bits
+pub mod Counting
+pub mod Runs

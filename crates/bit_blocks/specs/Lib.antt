@@ -1,0 +1,9 @@
+pub mod Bits
+pub mod Block
+pub mod BlockLeft
+pub mod Form
+pub mod Numbers
+pub mod Operation
+pub mod RunPlaces
+pub mod Runs
+pub mod RunsLeft

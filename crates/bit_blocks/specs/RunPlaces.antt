@@ -1,0 +1,8 @@
+-- Where a number stands among runs.
+use Rattle.std.specs.Prelude.{ℕ, ◌<◌, ◌≤◌, List, length, slice_index_or}
+use Rattle.bit_blocks.specs.declared.ranged.Run.{Run}
+
+-- the first i runs begin at k or before it, and the others after it
+pub record IsBegunBefore (rs : List Run) (k i : ℕ) : Type 0 where
+  pub before : (j : ℕ) (d : Run) → j < i → (slice_index_or rs j d).first ≤ k
+  pub after : (j : ℕ) (d : Run) → i ≤ j → j < length rs → k < (slice_index_or rs j d).first

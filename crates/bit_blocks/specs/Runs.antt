@@ -1,0 +1,34 @@
+-- Runs of numbers that follow one another.
+use Rattle.std.specs.Prelude.{◌≡◌, ℕ, ◌+◌, ◌-◌, ◌<◌, ◌≤◌, Bool, false, ◌&&◌, ◌||◌, nat_le, List, [], ◌∷◌, ◌++◌, ⊤, refl}
+use Rattle.std.specs.List.{range_with_len}
+use Rattle.bit_blocks.specs.declared.ranged.Run.{Run}
+
+-- the numbers of a run
+abbrev pub numbers_of_run : Run → List ℕ
+numbers_of_run r = range_with_len r.first (r.last + 1 - r.first)
+
+-- the numbers of runs, one after another
+abbrev pub run_numbers : List Run → List ℕ
+run_numbers [] = []
+run_numbers (r ∷ rs) = numbers_of_run r ++ run_numbers rs
+
+-- no run ends before it begins or past 65535, the first begins at `from` or after it, and between two a number is left out
+abbrev pub AreRunsFrom : ℕ → List Run → Type 0
+AreRunsFrom from [] = ⊤
+AreRunsFrom from (r ∷ rs) = (from ≤ r.first) × (r.first ≤ r.last) × (r.last < 65536) × AreRunsFrom (r.last + 2) rs
+
+-- no run ends before it begins or past 65535, and between two a number is left out
+abbrev pub AreRuns : List Run → Type 0
+AreRuns rs = AreRunsFrom 0 rs
+
+-- whether a number is in a run
+abbrev pub is_in_run : Run → ℕ → Bool
+is_in_run r k = nat_le r.first k && nat_le k r.last
+
+-- whether a number is in one of the runs
+abbrev pub is_in_runs : List Run → ℕ → Bool
+is_in_runs [] k = false
+is_in_runs (r ∷ rs) k = is_in_run r k || is_in_runs rs k
+
+three_numbers : run_numbers (record { first = 2; last = 3 } ∷ record { first = 7; last = 7 } ∷ []) ≡ 2 ∷ 3 ∷ 7 ∷ []
+three_numbers = refl

@@ -1,0 +1,270 @@
+//! A set of numbers below 65536 that takes little memory.
+ghost use Rattle.std.specs.Prelude.{◌≡◌, ◌≤◌, ◌+◌, ◌-◌, ◌↔◌, [], IfOk, IsTrue, OnErr, OnOk, length, not, slice_get};
+ghost use Rattle.std.specs.Iterator.{YieldsFirst, YieldsLast};
+ghost use Rattle.std.specs.Iterator.Runs.{YieldsInOrder, YieldsInReverse};
+ghost use Rattle.std.specs.List.{range_with_len};
+ghost use Rattle.bit_slice.specs.Places.{ones_of};
+ghost use Rattle.bit_blocks.specs.BlockLeft.{block_left};
+ghost use Rattle.bit_blocks.specs.Numbers.{Ascends, Combines, Gains, Loses, count_below, count_where, has};
+ghost use Rattle.bit_blocks.specs.Operation.{made_by};
+ghost use Rattle.bit_blocks.specs.Form.{IsForm, numbers_of};
+ghost use Rattle.bit_blocks.specs.Runs.{AreRuns, run_numbers};
+
+use crate::form;
+use crate::form::{Form, LISTED};
+use crate::iter::BlockIter;
+use crate::operation::Operation;
+use crate::ranged::Run;
+use bit_addressing::Lsb0;
+use bit_containers::BitVec;
+use std::alloc::{AllocError, Global};
+use std::marker::Model;
+
+/// A set of numbers below 65536: a sorted list where they are few, a bit for each where they are many, and runs of
+/// numbers that follow one another after `optimize`, where these take the least memory.
+///
+/// In contracts a block is the ascending list of its numbers.
+#[derive(Drop)]
+pub struct Block {
+    form: Form,
+    // How many numbers there are.
+    count: usize,
+}
+
+impl Model for Block {
+    ghost use Rattle.std.specs.Prelude.{ℕ, List};
+    ghost use Rattle.std.specs.Coded.{coded_list, coded_ℕ};
+    ghost use Rattle.bit_blocks.specs.Block.{IsBlock};
+    ghost use Rattle.bit_blocks.specs.Form.{numbers_of};
+
+    ghost Value = { List ℕ };
+
+    ghost coded = { coded_list coded_ℕ };
+
+    ghost view = { λ b. numbers_of b.form };
+
+    ghost invariant = { λ b. IsBlock b.form b.count };
+}
+
+impl Block {
+    /// The empty set. Takes no memory.
+    pub fn new(alloc: Global) -> Self
+        ensures { result ≡ [] }
+    {
+        Block {
+            form: Form::Listed(Vec::new(alloc)),
+            count: 0,
+        }
+    }
+
+    /// The set of ascending numbers.
+    pub fn from_list(numbers: Vec<u16>) -> Result<Self, AllocError>
+        requires { Ascends numbers.items }
+        ensures numbers { IfOk result (λ b. b ≡ numbers.items) }
+    {
+        let form = form::of_list(numbers)?;
+        Ok(Block::of(form))
+    }
+
+    /// The numbers from `first` to `last`, as one run. Requires that `first` is at most `last`.
+    pub fn from_range(alloc: Global, first: u16, last: u16) -> Result<Self, AllocError>
+        requires { first ≤ last }
+        ensures { IfOk result (λ b. b ≡ range_with_len first (last + 1 - first)) }
+    {
+        let form = form::of_run(alloc, first, last)?;
+        Ok(Block::of(form))
+    }
+
+    /// The set of the indices of true bits. Requires 65536 bits.
+    pub fn from_bits(alloc: Global, bits: BitVec<u64, Lsb0>) -> Result<Self, AllocError>
+        requires { length bits.list ≡ 65536 }
+        ensures numbers { IfOk result (λ b. b ≡ ones_of bits.list) }
+    {
+        let form = form::form_of(alloc, bits)?;
+        Ok(Block::of(form))
+    }
+
+    /// The set of the numbers of runs. Requires that these are in order and apart. Takes no memory.
+    pub fn from_runs(runs: Vec<Run>) -> Self
+        requires { AreRuns runs.items }
+        ensures numbers { result ≡ run_numbers runs.items }
+    {
+        Block::of(Form::Ranged(runs))
+    }
+
+    // A block of this form.
+    #[tactic(auto, using(crate::proofs::Forms::ascends_form))]
+    fn of(form: Form) -> Self
+        requires { IsForm form }
+        ensures numbers { result ≡ numbers_of form }
+        ensures ascends { Ascends result }
+    {
+        let count = form::count(&form);
+        Block { form, count }
+    }
+
+    /// The count of numbers.
+    #[tactic(auto, using(crate::proofs::Forms::few_of_form, crate::proofs::Forms::ascends_form))]
+    pub fn len(&self) -> usize
+        ensures value { result ≡ length self.now }
+        ensures few { result ≤ 65536 }
+        ensures ascends { Ascends self.now }
+    {
+        self.count
+    }
+
+    /// Whether there is no number.
+    pub fn is_empty(&self) -> bool
+        ensures { IsTrue result ↔ (self.now ≡ []) }
+    {
+        self.len() == 0
+    }
+
+    /// Whether a number is in the set.
+    pub fn contains(&self, number: u16) -> bool
+        ensures { result ≡ has self.now number }
+    {
+        form::contains(&self.form, number)
+    }
+
+    /// The count of numbers below `number`.
+    pub fn rank(&self, number: u16) -> usize
+        ensures { result ≡ count_below self.now number }
+    {
+        form::rank(&self.form, number)
+    }
+
+    /// The `k`-th number, ascending, counted from 0. None exactly where there are at most `k`.
+    pub fn select(&self, k: usize) -> Option<u16>
+        ensures { result ≡ slice_get self.now k }
+    {
+        form::select(&self.form, k)
+    }
+
+    /// The least number. None exactly where there is none.
+    pub fn first(&self) -> Option<u16>
+        ensures { result ≡ slice_get self.now 0 }
+    {
+        self.select(0)
+    }
+
+    /// The greatest number. None exactly where there is none.
+    pub fn last(&self) -> Option<u16>
+        ensures { result ≡ slice_get self.now (length self.now - 1) }
+    {
+        self.select(self.len().saturating_sub(1))
+    }
+
+    /// Puts a number in, and returns whether it was not there. Where memory is refused, the set is as it was.
+    #[tactic(auto, using(crate::proofs::Forms::ascends_form))]
+    pub fn insert(&mut self, number: u16) -> Result<bool, AllocError>
+        ensures new { IfOk result (λ new. new ≡ not (has self.old number)) }
+        ensures gains { OnOk result (Gains self.old self.new number) }
+        ensures ascends { Ascends self.new }
+        ensures refused { OnErr result (self.new ≡ self.old) }
+    {
+        if self.contains(number) {
+            return Ok(false);
+        }
+        form::insert(&mut self.form, number)?;
+        self.count += 1;
+        Ok(true)
+    }
+
+    /// Takes a number out, and returns whether it was there. Where memory is refused, the set is as it was.
+    #[tactic(auto, using(crate::proofs::Forms::ascends_form))]
+    pub fn remove(&mut self, number: u16) -> Result<bool, AllocError>
+        ensures old { IfOk result (λ old. old ≡ has self.old number) }
+        ensures loses { OnOk result (Loses self.old self.new number) }
+        ensures ascends { Ascends self.new }
+        ensures refused { OnErr result (self.new ≡ self.old) }
+    {
+        if !self.contains(number) {
+            return Ok(false);
+        }
+        form::remove(&mut self.form, number, self.count > LISTED + 1)?;
+        self.count -= 1;
+        Ok(true)
+    }
+
+    /// What an operation makes of this set and another.
+    pub fn combined(
+        &self,
+        alloc: Global,
+        other: &Self,
+        operation: Operation,
+    ) -> Result<Self, AllocError>
+        ensures members { IfOk result (λ made. Combines (made_by operation) self.now other.now made) }
+        ensures ascends { IfOk result (λ made. Ascends made) }
+    {
+        let form = form::combined(alloc, &self.form, &other.form, operation)?;
+        Ok(Block::of(form))
+    }
+
+    /// The count of numbers that are in another set too. Takes no memory.
+    pub fn count_both(&self, other: &Self) -> usize
+        ensures { result ≡ count_where (has other.now) self.now }
+    {
+        form::count_both(&self.form, &other.form)
+    }
+
+    /// The numbers, ascending, from both ends.
+    pub fn iter(&self) -> BlockIter<'_>
+        ensures list { block_left result ≡ self.now }
+        ensures runs { YieldsInOrder (YieldsFirst block_left) block_left }
+        ensures runs_back { YieldsInReverse (YieldsLast block_left) block_left }
+    {
+        BlockIter {
+            left: form::left_of(&self.form),
+        }
+    }
+
+    /// The numbers, ascending, as a list.
+    pub fn to_list(&self, alloc: Global) -> Result<Vec<u16>, AllocError>
+        ensures { IfOk result (λ numbers. numbers.items ≡ self.now) }
+    {
+        form::list_of(alloc, &self.form)
+    }
+
+    /// The numbers as the indices of true bits, of 65536.
+    pub fn to_bits(&self, alloc: Global) -> Result<BitVec<u64, Lsb0>, AllocError>
+        ensures len { IfOk result (λ bits. length bits.list ≡ 65536) }
+        ensures head { IfOk result (λ bits. bits.head ≡ 0) }
+        ensures numbers { IfOk result (λ bits. ones_of bits.list ≡ self.now) }
+    {
+        let mut bits = form::bits_of(alloc, &self.form)?;
+        bits.force_align();
+        Ok(bits)
+    }
+
+    /// The numbers as runs: as many numbers as possible in each.
+    pub fn to_runs(&self, alloc: Global) -> Result<Vec<Run>, AllocError>
+        ensures runs { IfOk result (λ runs. AreRuns runs.items) }
+        ensures numbers { IfOk result (λ runs. run_numbers runs.items ≡ self.now) }
+    {
+        form::runs_of(alloc, &self.form)
+    }
+
+    /// Keeps the numbers in the form that takes the least memory: runs where they are fewer than half of the numbers, and
+    /// than 2048, and else a list or bits. Where memory is refused, they are kept as they were.
+    #[tactic(auto, using(crate::proofs::Forms::same_count))]
+    pub fn optimize(&mut self) -> Result<(), AllocError>
+        ensures { self.new ≡ self.old }
+    {
+        form::optimize(&mut self.form)
+    }
+}
+
+impl Clone for Block {
+    ghost use Rattle.std.specs.Prelude.{◌≡◌};
+
+    ghost is_clone = { λ block copy. copy ≡ block };
+
+    ghost is_infallible = { λ _. ⊥ };
+
+    /// A copy, in the same form.
+    fn clone(&self) -> Result<Self, AllocError> {
+        let form = form::copied(&self.form)?;
+        Ok(Block::of(form))
+    }
+}

@@ -1,0 +1,401 @@
+//! How the numbers of a block are kept.
+ghost use Rattle.std.specs.Prelude.{◌≡◌, ◌≤◌, ◌+◌, ◌-◌, IfOk, OnErr, OnOk, length, slice_get};
+ghost use Rattle.std.specs.List.{range_with_len};
+ghost use Rattle.bit_slice.specs.Places.{ones_of};
+ghost use Rattle.bit_blocks.specs.Bits.{AreBits};
+ghost use Rattle.bit_blocks.specs.BlockLeft.{form_left};
+ghost use Rattle.bit_blocks.specs.Form.{IsForm, numbers_of};
+ghost use Rattle.bit_blocks.specs.Numbers.{Ascends, Combines, Gains, Loses, count_below, count_where, has};
+ghost use Rattle.bit_blocks.specs.Operation.{made_by};
+ghost use Rattle.bit_blocks.specs.Runs.{AreRuns, numbers_of_run, run_numbers};
+
+use crate::iter::{Left, OnesLeft};
+use crate::mapped::Bits;
+use crate::operation::Operation;
+use crate::ranged::Run;
+use crate::runs_left::RunsLeft;
+use crate::{listed, mapped, ranged};
+use bit_containers::{BitList, BitListMut};
+use std::alloc::{AllocError, Global};
+
+// How many numbers a list may have that is not turned into bits: both take 8192 bytes then.
+pub(crate) const LISTED: usize = 4096;
+
+// A sorted list, a bit for each number, or runs.
+#[derive(Drop)]
+pub(crate) enum Form {
+    Listed(Vec<u16>),
+    Mapped(Bits),
+    Ranged(Vec<Run>),
+}
+
+// Ascending numbers as a list where they are few, and else as bits.
+pub(crate) fn of_list(numbers: Vec<u16>) -> Result<Form, AllocError>
+    requires { Ascends numbers.items }
+    ensures numbers { IfOk result (λ form. numbers_of form ≡ numbers.items) }
+    ensures form { IfOk result (λ form. IsForm form) }
+{
+    if numbers.len() <= LISTED {
+        return Ok(Form::Listed(numbers));
+    }
+    let bits = bits_of_list(*numbers.allocator(), &numbers)?;
+    Ok(Form::Mapped(bits))
+}
+
+// The count of numbers.
+pub(crate) fn count(form: &Form) -> usize
+    requires { IsForm form.now }
+    ensures { result ≡ length (numbers_of form.now) }
+{
+    match form {
+        Form::Listed(numbers) => numbers.len(),
+        Form::Mapped(bits) => mapped::count(bits),
+        Form::Ranged(runs) => ranged::count(runs),
+    }
+}
+
+// Whether `number` is there.
+pub(crate) fn contains(form: &Form, number: u16) -> bool
+    requires { IsForm form.now }
+    ensures { result ≡ has (numbers_of form.now) number }
+{
+    match form {
+        Form::Listed(numbers) => listed::contains(numbers, number),
+        Form::Mapped(bits) => mapped::contains(bits, number),
+        Form::Ranged(runs) => ranged::contains(runs, number),
+    }
+}
+
+// The count of numbers below `number`.
+pub(crate) fn rank(form: &Form, number: u16) -> usize
+    requires { IsForm form.now }
+    ensures { result ≡ count_below (numbers_of form.now) number }
+{
+    match form {
+        Form::Listed(numbers) => listed::place_of(numbers, number),
+        Form::Mapped(bits) => mapped::count_below(bits, number),
+        Form::Ranged(runs) => ranged::count_below(runs, number),
+    }
+}
+
+// The `k`-th number, counted from 0. None exactly where there are at most `k`.
+pub(crate) fn select(form: &Form, k: usize) -> Option<u16>
+    requires { IsForm form.now }
+    ensures { result ≡ slice_get (numbers_of form.now) k }
+{
+    match form {
+        Form::Listed(numbers) => numbers.get(k).copied(),
+        Form::Mapped(bits) => mapped::nth(bits, k),
+        Form::Ranged(runs) => ranged::nth(runs, k),
+    }
+}
+
+// The numbers as bits.
+pub(crate) fn bits_of(alloc: Global, form: &Form) -> Result<Bits, AllocError>
+    requires { IsForm form.now }
+    ensures size { IfOk result (λ bits. AreBits bits.list) }
+    ensures numbers { IfOk result (λ bits. ones_of bits.list ≡ numbers_of form.now) }
+{
+    match form {
+        Form::Listed(numbers) => bits_of_list(alloc, numbers),
+        Form::Mapped(bits) => mapped::copied(bits),
+        Form::Ranged(runs) => bits_of_runs(alloc, runs),
+    }
+}
+
+// Ascending numbers as bits.
+#[tactic(auto, using(crate::proofs::Bits::ones_put))]
+fn bits_of_list(alloc: Global, numbers: &[u16]) -> Result<Bits, AllocError>
+    requires { Ascends numbers.now }
+    ensures size { IfOk result (λ bits. AreBits bits.list) }
+    ensures numbers { IfOk result (λ bits. ones_of bits.list ≡ numbers.now) }
+{
+    let mut bits = mapped::empty(alloc)?;
+    mapped::put_list(&mut bits, numbers);
+    Ok(bits)
+}
+
+// The numbers of runs as bits.
+#[tactic(auto, using(crate::proofs::Bits::ones_put, crate::proofs::Runs::ascends_all))]
+fn bits_of_runs(alloc: Global, runs: &[Run]) -> Result<Bits, AllocError>
+    requires { AreRuns runs.now }
+    ensures size { IfOk result (λ bits. AreBits bits.list) }
+    ensures numbers { IfOk result (λ bits. ones_of bits.list ≡ run_numbers runs.now) }
+{
+    let mut bits = mapped::empty(alloc)?;
+    mapped::put_runs(&mut bits, runs);
+    Ok(bits)
+}
+
+// Bits as a list where that takes less, and else as they are.
+#[tactic(auto, using(crate::proofs::Bits::ascends_listed))]
+pub(crate) fn form_of(alloc: Global, bits: Bits) -> Result<Form, AllocError>
+    requires { AreBits bits.list }
+    ensures numbers { IfOk result (λ form. numbers_of form ≡ ones_of bits.list) }
+    ensures form { IfOk result (λ form. IsForm form) }
+{
+    if bits.count_ones() <= LISTED {
+        let numbers = mapped::list_of(alloc, &bits)?;
+        return Ok(Form::Listed(numbers));
+    }
+    Ok(Form::Mapped(bits))
+}
+
+// What an operation makes of two forms.
+pub(crate) fn combined(
+    alloc: Global,
+    left: &Form,
+    right: &Form,
+    operation: Operation,
+) -> Result<Form, AllocError>
+    requires left { IsForm left.now }
+    requires right { IsForm right.now }
+    ensures members { IfOk result (λ form. Combines (made_by operation) (numbers_of left.now) (numbers_of right.now) (numbers_of form)) }
+    ensures form { IfOk result (λ form. IsForm form) }
+{
+    if let (Form::Listed(numbers), Form::Listed(others)) = (left, right) {
+        if numbers.len() + others.len() <= LISTED {
+            let made = listed::combined(alloc, numbers, others, operation)?;
+            return Ok(Form::Listed(made));
+        }
+    }
+    combined_bits(alloc, left, right, operation)
+}
+
+// Like `combined`, by bits.
+fn combined_bits(
+    alloc: Global,
+    left: &Form,
+    right: &Form,
+    operation: Operation,
+) -> Result<Form, AllocError>
+    requires left { IsForm left.now }
+    requires right { IsForm right.now }
+    ensures members { IfOk result (λ form. Combines (made_by operation) (numbers_of left.now) (numbers_of right.now) (numbers_of form)) }
+    ensures form { IfOk result (λ form. IsForm form) }
+{
+    let mut bits = bits_of(alloc, left)?;
+    match right {
+        Form::Mapped(others) => mapped::combine(&mut bits, others, operation),
+        Form::Listed(_) | Form::Ranged(_) => {
+            let others = bits_of(alloc, right)?;
+            mapped::combine(&mut bits, &others, operation);
+        }
+    }
+    let form = form_of(alloc, bits)?;
+    Ok(form)
+}
+
+// The allocator of the vector that a form has.
+fn allocator(form: &Form) -> Global {
+    match form {
+        Form::Listed(numbers) => *numbers.allocator(),
+        Form::Mapped(bits) => bits.allocator(),
+        Form::Ranged(runs) => *runs.allocator(),
+    }
+}
+
+// Puts in a number that is not there. Where memory is refused, the numbers are as they were.
+pub(crate) fn insert(form: &mut Form, number: u16) -> Result<(), AllocError>
+    requires form { IsForm form.old }
+    ensures gains { OnOk result (Gains (numbers_of form.old) (numbers_of form.new) number) }
+    ensures refused { OnErr result (numbers_of form.new ≡ numbers_of form.old) }
+    ensures form { IsForm form.new }
+{
+    match form {
+        Form::Listed(numbers) => {
+            if numbers.len() < LISTED {
+                listed::insert(numbers, number)?;
+                return Ok(());
+            }
+        }
+        Form::Mapped(bits) => {
+            mapped::insert(bits, number);
+            return Ok(());
+        }
+        Form::Ranged(_) => {}
+    }
+    let alloc = allocator(form);
+    let mut bits = bits_of(alloc, form)?;
+    mapped::insert(&mut bits, number);
+    *form = form_of(alloc, bits)?;
+    Ok(())
+}
+
+// Takes a number out. `many` says whether more than `LISTED` numbers stay. Where memory is refused, the numbers are as
+// they were.
+pub(crate) fn remove(form: &mut Form, number: u16, many: bool) -> Result<(), AllocError>
+    requires form { IsForm form.old }
+    ensures loses { OnOk result (Loses (numbers_of form.old) (numbers_of form.new) number) }
+    ensures refused { OnErr result (numbers_of form.new ≡ numbers_of form.old) }
+    ensures form { IsForm form.new }
+{
+    match form {
+        Form::Listed(numbers) => {
+            listed::remove(numbers, number);
+            return Ok(());
+        }
+        Form::Mapped(bits) => {
+            if many {
+                mapped::remove(bits, number);
+                return Ok(());
+            }
+        }
+        Form::Ranged(_) => {}
+    }
+    let alloc = allocator(form);
+    let mut bits = bits_of(alloc, form)?;
+    mapped::remove(&mut bits, number);
+    *form = form_of(alloc, bits)?;
+    Ok(())
+}
+
+// The count of numbers that are in both of two forms.
+#[tactic(auto, using(crate::proofs::Counting::counted_swapped, crate::proofs::Forms::ascends_form))]
+pub(crate) fn count_both(left: &Form, right: &Form) -> usize
+    requires left { IsForm left.now }
+    requires right { IsForm right.now }
+    ensures { result ≡ count_where (has (numbers_of right.now)) (numbers_of left.now) }
+{
+    match (left, right) {
+        (Form::Listed(numbers), Form::Listed(others)) => listed::count_both(numbers, others),
+        (Form::Mapped(bits), Form::Mapped(others)) => mapped::count_both(bits, others),
+        (Form::Listed(numbers), _) => count_listed(numbers, right),
+        (Form::Ranged(runs), _) => count_ranged(runs, right),
+        (Form::Mapped(_), Form::Listed(numbers)) => count_listed(numbers, left),
+        (Form::Mapped(_), Form::Ranged(runs)) => count_ranged(runs, left),
+    }
+}
+
+// The count of numbers that are in a form too.
+fn count_listed(numbers: &[u16], form: &Form) -> usize
+    requires numbers { Ascends numbers.now }
+    requires form { IsForm form.now }
+    ensures { result ≡ count_where (has (numbers_of form.now)) numbers.now }
+{
+    let mut count = 0;
+    for number in numbers {
+        if contains(form, *number) {
+            count += 1;
+        }
+    }
+    count
+}
+
+// The count of numbers of runs that are in a form too.
+fn count_ranged(runs: &[Run], form: &Form) -> usize
+    requires runs { AreRuns runs.now }
+    requires form { IsForm form.now }
+    ensures { result ≡ count_where (has (numbers_of form.now)) (run_numbers runs.now) }
+{
+    let mut count = 0;
+    for run in runs {
+        count += count_in(form, *run);
+    }
+    count
+}
+
+// The count of numbers that are in a run.
+fn count_in(form: &Form, run: Run) -> usize
+    requires form { IsForm form.now }
+    requires run { run.first ≤ run.last }
+    ensures value { result ≡ count_where (has (numbers_of form.now)) (numbers_of_run run) }
+    ensures few { result ≤ run.last + 1 - run.first }
+{
+    let before = rank(form, run.first);
+    let upto = rank(form, run.last);
+    if contains(form, run.last) {
+        return upto + 1 - before;
+    }
+    upto - before
+}
+
+// One run.
+pub(crate) fn of_run(alloc: Global, first: u16, last: u16) -> Result<Form, AllocError>
+    requires { first ≤ last }
+    ensures numbers { IfOk result (λ form. numbers_of form ≡ range_with_len first (last + 1 - first)) }
+    ensures form { IfOk result (λ form. IsForm form) }
+{
+    let runs = ranged::one_run(alloc, first, last)?;
+    Ok(Form::Ranged(runs))
+}
+
+// The numbers as a list.
+pub(crate) fn list_of(alloc: Global, form: &Form) -> Result<Vec<u16>, AllocError>
+    requires { IsForm form.now }
+    ensures { IfOk result (λ numbers. numbers.items ≡ numbers_of form.now) }
+{
+    match form {
+        Form::Listed(numbers) => listed::copied(alloc, numbers),
+        Form::Mapped(bits) => mapped::list_of(alloc, bits),
+        Form::Ranged(runs) => ranged::list_of(alloc, runs),
+    }
+}
+
+// The numbers as runs.
+#[tactic(auto, using(crate::proofs::Forms::ascends_form))]
+pub(crate) fn runs_of(alloc: Global, form: &Form) -> Result<Vec<Run>, AllocError>
+    requires { IsForm form.now }
+    ensures runs { IfOk result (λ runs. AreRuns runs.items) }
+    ensures numbers { IfOk result (λ runs. run_numbers runs.items ≡ numbers_of form.now) }
+{
+    match form {
+        Form::Ranged(runs) => ranged::copied(alloc, runs),
+        Form::Listed(_) | Form::Mapped(_) => {
+            let numbers = list_of(alloc, form)?;
+            ranged::runs_of(alloc, &numbers)
+        }
+    }
+}
+
+// A copy.
+pub(crate) fn copied(form: &Form) -> Result<Form, AllocError>
+    requires { IsForm form.now }
+    ensures numbers { IfOk result (λ copy. numbers_of copy ≡ numbers_of form.now) }
+    ensures form { IfOk result (λ copy. IsForm copy) }
+{
+    match form {
+        Form::Listed(numbers) => {
+            let copy = listed::copied(*numbers.allocator(), numbers)?;
+            Ok(Form::Listed(copy))
+        }
+        Form::Mapped(bits) => {
+            let copy = mapped::copied(bits)?;
+            Ok(Form::Mapped(copy))
+        }
+        Form::Ranged(runs) => {
+            let copy = ranged::copied(*runs.allocator(), runs)?;
+            Ok(Form::Ranged(copy))
+        }
+    }
+}
+
+// Keeps the numbers in the form that takes the least memory.
+#[tactic(auto, using(crate::proofs::Forms::ascends_form))]
+pub(crate) fn optimize(form: &mut Form) -> Result<(), AllocError>
+    requires { IsForm form.old }
+    ensures same { numbers_of form.new ≡ numbers_of form.old }
+    ensures form { IsForm form.new }
+{
+    let alloc = allocator(form);
+    let numbers = list_of(alloc, form)?;
+    let runs = ranged::runs_of(alloc, &numbers)?;
+    if runs.len() < numbers.len() / 2 && runs.len() < LISTED / 2 {
+        *form = Form::Ranged(runs);
+        return Ok(());
+    }
+    *form = of_list(numbers)?;
+    Ok(())
+}
+
+// The numbers, one after another.
+pub(crate) fn left_of(form: &Form) -> Left<'_>
+    requires { IsForm form.now }
+    ensures { form_left result ≡ numbers_of form.now }
+{
+    match form {
+        Form::Listed(numbers) => Left::Listed(numbers.as_slice()),
+        Form::Mapped(bits) => Left::Mapped(OnesLeft::of(bits)),
+        Form::Ranged(runs) => Left::Ranged(RunsLeft::of(runs)),
+    }
+}

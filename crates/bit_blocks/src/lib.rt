@@ -1,0 +1,18 @@
+//! Sets of numbers below 65536, kept as a list, as bits or as runs, whichever is small.
+#![tactic(auto)]
+
+mod block;
+mod form;
+mod iter;
+mod keyed;
+pub mod listed;
+mod mapped;
+mod operation;
+mod ranged;
+mod runs_left;
+
+pub use block::Block;
+pub use iter::BlockIter;
+pub use keyed::Keyed;
+pub use operation::Operation;
+pub use ranged::Run;

@@ -1,0 +1,163 @@
+//! Ascending numbers in a slice: found, put in, taken out, combined and counted.
+ghost use Rattle.std.specs.Prelude.{◌≡◌, ◌++◌, ◌∷◌, [], if◌then◌else◌, ◌≤◌, IfOk, MatchResult, OnErr, OnOk, Some, length, not, slice_get, true, false, ◌<◌};
+ghost use Rattle.bit_blocks.specs.Operation.{made_by};
+ghost use Rattle.bit_blocks.specs.Numbers.{Ascends, Combines, Gains, Loses, count_below, count_where, has};
+
+use crate::operation::Operation;
+use std::alloc::{AllocError, Global};
+
+/// The count of numbers below `number`. Requires that the numbers ascend.
+pub fn place_of(numbers: &[u16], number: u16) -> usize
+    requires { Ascends numbers.now }
+    ensures value { result ≡ count_below numbers.now number }
+    ensures within { result ≤ length numbers.now }
+{
+    numbers.partition_point(|&other| other < number)
+}
+
+/// Where `number` stands, or in Err where it has its place. Requires that the numbers ascend.
+pub fn find(numbers: &[u16], number: u16) -> Result<usize, usize>
+    requires { Ascends numbers.now }
+    ensures place { MatchResult result (λ i. slice_get numbers.now i ≡ Some number) (λ i. i ≡ count_below numbers.now number) }
+    ensures inside { MatchResult result (λ i. i < length numbers.now) (λ i. i ≤ length numbers.now) }
+    ensures there { MatchResult result (λ i. has numbers.now number ≡ true) (λ i. has numbers.now number ≡ false) }
+{
+    let place = place_of(numbers, number);
+    if place == numbers.len() {
+        return Err(place);
+    }
+    if numbers[place] == number {
+        return Ok(place);
+    }
+    Err(place)
+}
+
+/// Whether `number` is one of the numbers. Requires that they ascend.
+pub fn contains(numbers: &[u16], number: u16) -> bool
+    requires { Ascends numbers.now }
+    ensures { result ≡ has numbers.now number }
+{
+    find(numbers, number).is_ok()
+}
+
+/// Puts `number` into ascending numbers, and returns whether it was not there. Where memory is refused, they are as they
+/// were. Requires that the numbers ascend.
+#[tactic(auto, using(crate::proofs::Edits::gains_present, crate::proofs::Edits::has_inserted, crate::proofs::Edits::ascends_inserted))]
+pub fn insert(numbers: &mut Vec<u16>, number: u16) -> Result<bool, AllocError>
+    requires { Ascends numbers.old.items }
+    ensures new { IfOk result (λ new. new ≡ not (has numbers.old.items number)) }
+    ensures gains { OnOk result (Gains numbers.old.items numbers.new.items number) }
+    ensures ascends { Ascends numbers.new.items }
+    ensures refused { OnErr result (numbers.new.items ≡ numbers.old.items) }
+{
+    match find(numbers, number) {
+        Ok(_) => Ok(false),
+        Err(place) => {
+            numbers.insert(place, number)?;
+            Ok(true)
+        },
+    }
+}
+
+/// Takes `number` out of ascending numbers, and returns whether it was there. Requires that the numbers ascend.
+#[tactic(auto, using(crate::proofs::Edits::loses_absent, crate::proofs::Edits::has_removed, crate::proofs::Edits::ascends_removed))]
+pub fn remove(numbers: &mut Vec<u16>, number: u16) -> bool
+    requires { Ascends numbers.old.items }
+    ensures old { result ≡ has numbers.old.items number }
+    ensures loses { Loses numbers.old.items numbers.new.items number }
+    ensures ascends { Ascends numbers.new.items }
+{
+    match find(numbers, number) {
+        Ok(place) => {
+            numbers.remove(place);
+            true
+        },
+        Err(_) => false,
+    }
+}
+
+// Appends numbers, where `keeps` says so.
+fn append_if(made: &mut Vec<u16>, keeps: bool, numbers: &[u16]) -> Result<(), AllocError>
+    ensures { OnOk result (made.new.items ≡ made.old.items ++ (if keeps then numbers.now else [])) }
+{
+    if keeps {
+        made.extend_from_slice(numbers)?;
+    }
+    Ok(())
+}
+
+// Appends a number, where `keeps` says so.
+fn push_if(made: &mut Vec<u16>, keeps: bool, number: u16) -> Result<(), AllocError>
+    ensures { OnOk result (made.new.items ≡ made.old.items ++ (if keeps then number ∷ [] else [])) }
+{
+    if keeps {
+        made.push(number)?;
+    }
+    Ok(())
+}
+
+/// What an operation makes of two lists of ascending numbers, which are read side by side. Requires that both ascend.
+pub fn combined(
+    alloc: Global,
+    left: &[u16],
+    right: &[u16],
+    operation: Operation,
+) -> Result<Vec<u16>, AllocError>
+    requires left { Ascends left.now }
+    requires right { Ascends right.now }
+    ensures members { IfOk result (λ made. Combines (made_by operation) left.now right.now made.items) }
+    ensures ascends { IfOk result (λ made. Ascends made.items) }
+{
+    let mut made = Vec::new(alloc);
+    let (mut i, mut j) = (0, 0);
+    while i < left.len() && j < right.len() {
+        let (x, y) = (left[i], right[j]);
+        if x < y {
+            push_if(&mut made, operation.keeps_left(), x)?;
+            i += 1;
+        } else if y < x {
+            push_if(&mut made, operation.keeps_right(), y)?;
+            j += 1;
+        } else {
+            push_if(&mut made, operation.keeps_both(), x)?;
+            i += 1;
+            j += 1;
+        }
+    }
+    append_if(&mut made, operation.keeps_left(), &left[i..])?;
+    append_if(&mut made, operation.keeps_right(), &right[j..])?;
+    Ok(made)
+}
+
+/// The count of numbers that are in both of two ascending lists, which are read side by side. Requires that both
+/// ascend.
+pub fn count_both(left: &[u16], right: &[u16]) -> usize
+    requires left { Ascends left.now }
+    requires right { Ascends right.now }
+    ensures { result ≡ count_where (has right.now) left.now }
+{
+    let mut count = 0;
+    let (mut i, mut j) = (0, 0);
+    while i < left.len() && j < right.len() {
+        let (x, y) = (left[i], right[j]);
+        if x < y {
+            i += 1;
+        } else if y < x {
+            j += 1;
+        } else {
+            count += 1;
+            i += 1;
+            j += 1;
+        }
+    }
+    count
+}
+
+// A copy.
+pub(crate) fn copied(alloc: Global, numbers: &[u16]) -> Result<Vec<u16>, AllocError>
+    ensures { IfOk result (λ copy. copy.items ≡ numbers.now) }
+{
+    let mut copy = Vec::with_capacity(alloc, numbers.len())?;
+    copy.extend_from_slice(numbers)?;
+    Ok(copy)
+}

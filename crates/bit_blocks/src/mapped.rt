@@ -1,0 +1,172 @@
+//! Numbers below 65536 as the true bits of a vector of that length.
+ghost use Rattle.std.specs.Prelude.{◌≡◌, ◌||◌, [], IfOk, false, length, slice_get};
+ghost use Rattle.bit_slice.specs.Places.{ones_of};
+ghost use Rattle.bit_blocks.specs.Bits.{AreBits};
+ghost use Rattle.bit_blocks.specs.Numbers.{Combines, Gains, Loses, count_below, count_where, has};
+ghost use Rattle.bit_blocks.specs.Operation.{made_by};
+ghost use Rattle.bit_blocks.specs.Runs.{AreRuns, run_numbers};
+
+use crate::iter::OnesLeft;
+use crate::operation::Operation;
+use crate::ranged::Run;
+use bit_addressing::{BitOrder, BitStore, Lsb0};
+use bit_containers::{And, BitList, BitListMut, BitOperator, BitVec, Or, Xor};
+use bit_slice::AndNot;
+use std::alloc::{AllocError, Global};
+
+/// The bits of a block: bit `k` says whether `k` is in it.
+pub(crate) type Bits = BitVec<u64, Lsb0>;
+
+// How many bits there are.
+pub(crate) const COUNT: usize = 65536;
+
+// No number.
+#[tactic(auto, using(crate::proofs::Bits::none_ones))]
+pub(crate) fn empty(alloc: Global) -> Result<Bits, AllocError>
+    ensures size { IfOk result (λ bits. AreBits bits.list) }
+    ensures none { IfOk result (λ bits. ones_of bits.list ≡ []) }
+{
+    let Ok(bits) = BitVec::repeat(alloc, false, COUNT) else {
+        return Err(AllocError);
+    };
+    Ok(bits)
+}
+
+// The count of numbers.
+#[tactic(auto, using(crate::proofs::Bits::ones_count))]
+pub(crate) fn count(bits: &Bits) -> usize
+    ensures { result ≡ length (ones_of bits.now.list) }
+{
+    bits.count_ones()
+}
+
+// Whether `number` is there.
+#[tactic(auto, using(crate::proofs::Bits::there_in, crate::proofs::Bits::past_in))]
+pub(crate) fn contains(bits: &Bits, number: u16) -> bool
+    requires { AreBits bits.now.list }
+    ensures { result ≡ has (ones_of bits.now.list) number }
+{
+    match bits.get(number as usize) {
+        None => false,
+        Some(bit) => bit,
+    }
+}
+
+// The count of numbers below `number`.
+#[tactic(auto, using(crate::proofs::Bits::ones_below))]
+pub(crate) fn count_below(bits: &Bits, number: u16) -> usize
+    requires { AreBits bits.now.list }
+    ensures { result ≡ count_below (ones_of bits.now.list) number }
+{
+    BitList::count_ones_in(bits, ..number as usize)
+}
+
+// The `k`-th number, counted from 0. None exactly where there are at most `k`.
+pub(crate) fn nth(bits: &Bits, k: usize) -> Option<u16>
+    requires { AreBits bits.now.list }
+    ensures { result ≡ slice_get (ones_of bits.now.list) k }
+{
+    match BitList::nth_one(bits, k) {
+        None => None,
+        Some(number) => Some(number as u16),
+    }
+}
+
+// Puts `number` in.
+#[tactic(auto, using(crate::proofs::Bits::ones_gain))]
+pub(crate) fn insert(bits: &mut Bits, number: u16)
+    requires { AreBits bits.old.list }
+    ensures size { AreBits bits.new.list }
+    ensures gains { Gains (ones_of bits.old.list) (ones_of bits.new.list) number }
+{
+    BitListMut::set(bits, number as usize, true);
+}
+
+// Takes `number` out.
+#[tactic(auto, using(crate::proofs::Bits::ones_lose))]
+pub(crate) fn remove(bits: &mut Bits, number: u16)
+    requires { AreBits bits.old.list }
+    ensures size { AreBits bits.new.list }
+    ensures loses { Loses (ones_of bits.old.list) (ones_of bits.new.list) number }
+{
+    BitListMut::set(bits, number as usize, false);
+}
+
+// Puts numbers in.
+pub(crate) fn put_list(bits: &mut Bits, numbers: &[u16])
+    requires { AreBits bits.old.list }
+    ensures size { AreBits bits.new.list }
+    ensures members { Combines (λ x y. x || y) (ones_of bits.old.list) numbers.now (ones_of bits.new.list) }
+{
+    for number in numbers {
+        BitListMut::set(bits, *number as usize, true);
+    }
+}
+
+// Puts the numbers of runs in.
+pub(crate) fn put_runs(bits: &mut Bits, runs: &[Run])
+    requires size { AreBits bits.old.list }
+    requires runs { AreRuns runs.now }
+    ensures size { AreBits bits.new.list }
+    ensures members { Combines (λ x y. x || y) (ones_of bits.old.list) (run_numbers runs.now) (ones_of bits.new.list) }
+{
+    for run in runs {
+        BitListMut::fill_range(bits, run.first as usize..run.last as usize + 1, true);
+    }
+}
+
+// Combines the numbers with others, by an operation.
+pub(crate) fn combine(bits: &mut Bits, other: &Bits, operation: Operation)
+    requires left { AreBits bits.old.list }
+    requires right { AreBits other.now.list }
+    ensures size { AreBits bits.new.list }
+    ensures members { Combines (made_by operation) (ones_of bits.old.list) (ones_of other.now.list) (ones_of bits.new.list) }
+{
+    match operation {
+        Operation::Union => combine_by::<Or>(bits, other),
+        Operation::Intersection => combine_by::<And>(bits, other),
+        Operation::Difference => combine_by::<AndNot>(bits, other),
+        Operation::SymmetricDifference => combine_by::<Xor>(bits, other),
+    }
+}
+
+// Like `combine`, by an operator that makes nothing of nothing.
+fn combine_by<F: BitOperator>(bits: &mut Bits, other: &Bits)
+    requires left { AreBits bits.old.list }
+    requires right { AreBits other.now.list }
+    requires none { F.made false false ≡ false }
+    ensures size { AreBits bits.new.list }
+    ensures members { Combines F.made (ones_of bits.old.list) (ones_of other.now.list) (ones_of bits.new.list) }
+{
+    BitListMut::combine::<F, _, _>(bits, other.as_bitslice());
+}
+
+// The numbers, ascending.
+pub(crate) fn list_of(alloc: Global, bits: &Bits) -> Result<Vec<u16>, AllocError>
+    requires { AreBits bits.now.list }
+    ensures { IfOk result (λ numbers. numbers.items ≡ ones_of bits.now.list) }
+{
+    let mut numbers = Vec::with_capacity(alloc, bits.count_ones())?;
+    let mut ones = OnesLeft::of(bits);
+    while let Some(number) = ones.pop_first() {
+        numbers.push(number)?;
+    }
+    Ok(numbers)
+}
+
+// A copy.
+pub(crate) fn copied(bits: &Bits) -> Result<Bits, AllocError>
+    ensures { IfOk result (λ copy. copy.list ≡ bits.now.list) }
+{
+    bits.clone()
+}
+
+// The count of numbers that are in both.
+#[tactic(auto, using(crate::proofs::Bits::ones_both))]
+pub(crate) fn count_both(bits: &Bits, others: &Bits) -> usize
+    requires left { AreBits bits.now.list }
+    requires right { AreBits others.now.list }
+    ensures { result ≡ count_where (has (ones_of others.now.list)) (ones_of bits.now.list) }
+{
+    bits.count_and(others.as_bitslice())
+}

@@ -1,0 +1,148 @@
+//! Runs of numbers in a slice.
+ghost use Rattle.std.specs.Prelude.{◌≡◌, ◌≤◌, ◌+◌, ◌-◌, IfOk, length, slice_get};
+ghost use Rattle.std.specs.List.{range_with_len};
+ghost use Rattle.bit_blocks.specs.Numbers.{Ascends, count_below, has};
+ghost use Rattle.bit_blocks.specs.Runs.{AreRuns, run_numbers};
+ghost use Rattle.bit_blocks.specs.RunPlaces.{IsBegunBefore};
+
+use crate::runs_left::RunsLeft;
+use std::alloc::{AllocError, Global};
+
+/// A run of numbers that follow one another.
+#[derive(Clone, Copy, Debug, PartialEq, Eq)]
+pub struct Run {
+    /// The first number.
+    pub first: u16,
+    /// The last number.
+    pub last: u16,
+}
+
+// The count of runs that begin at `number` or before it. Requires that they are in order and apart.
+pub(crate) fn place_of(runs: &[Run], number: u16) -> usize
+    requires { AreRuns runs.now }
+    ensures within { result ≤ length runs.now }
+    ensures split { IsBegunBefore runs.now number result }
+{
+    runs.partition_point(|run| run.first <= number)
+}
+
+// Whether `number` is in one of the runs. Requires that they are in order and apart.
+pub(crate) fn contains(runs: &[Run], number: u16) -> bool
+    requires { AreRuns runs.now }
+    ensures { result ≡ has (run_numbers runs.now) number }
+{
+    let after = place_of(runs, number);
+    if after == 0 {
+        return false;
+    }
+    number <= runs[after - 1].last
+}
+
+// The count of numbers of a run.
+fn size_of(run: Run) -> usize
+    requires { run.first ≤ run.last }
+    ensures { result ≡ run.last + 1 - run.first }
+{
+    (run.last - run.first) as usize + 1
+}
+
+// The count of numbers in runs. Requires that these are in order and apart.
+pub(crate) fn count(runs: &[Run]) -> usize
+    requires { AreRuns runs.now }
+    ensures { result ≡ length (run_numbers runs.now) }
+{
+    let mut count = 0;
+    for run in runs {
+        count += size_of(*run);
+    }
+    count
+}
+
+// The count of numbers in runs that are below `number`. Requires that the runs are in order and apart.
+pub(crate) fn count_below(runs: &[Run], number: u16) -> usize
+    requires { AreRuns runs.now }
+    ensures { result ≡ count_below (run_numbers runs.now) number }
+{
+    let mut count = 0;
+    for run in runs {
+        if number <= run.first {
+            return count;
+        }
+        count += (run.last as usize + 1).min(number as usize) - run.first as usize;
+    }
+    count
+}
+
+// The `k`-th number in runs, counted from 0. None exactly where there are at most `k`. Requires that the runs are in
+// order and apart.
+pub(crate) fn nth(runs: &[Run], k: usize) -> Option<u16>
+    requires { AreRuns runs.now }
+    ensures { result ≡ slice_get (run_numbers runs.now) k }
+{
+    let mut left = k;
+    for run in runs {
+        let size = size_of(*run);
+        if left < size {
+            return Some(run.first + left as u16);
+        }
+        left -= size;
+    }
+    None
+}
+
+// The runs of ascending numbers: as many as possible in each.
+pub(crate) fn runs_of(alloc: Global, numbers: &[u16]) -> Result<Vec<Run>, AllocError>
+    requires { Ascends numbers.now }
+    ensures runs { IfOk result (λ runs. AreRuns runs.items) }
+    ensures numbers { IfOk result (λ runs. run_numbers runs.items ≡ numbers.now) }
+{
+    let mut runs = Vec::new(alloc);
+    if numbers.len() == 0 {
+        return Ok(runs);
+    }
+    let (mut first, mut last) = (numbers[0], numbers[0]);
+    for i in 1..numbers.len() {
+        let number = numbers[i];
+        if number as usize != last as usize + 1 {
+            runs.push(Run { first, last })?;
+            first = number;
+        }
+        last = number;
+    }
+    runs.push(Run { first, last })?;
+    Ok(runs)
+}
+
+// One run.
+#[tactic(auto, using(crate::proofs::Runs::one_is_run, crate::proofs::Runs::one_has))]
+pub(crate) fn one_run(alloc: Global, first: u16, last: u16) -> Result<Vec<Run>, AllocError>
+    requires { first ≤ last }
+    ensures runs { IfOk result (λ runs. AreRuns runs.items) }
+    ensures numbers { IfOk result (λ runs. run_numbers runs.items ≡ range_with_len first (last + 1 - first)) }
+{
+    let mut runs = Vec::new(alloc);
+    runs.push(Run { first, last })?;
+    Ok(runs)
+}
+
+// A copy.
+pub(crate) fn copied(alloc: Global, runs: &[Run]) -> Result<Vec<Run>, AllocError>
+    ensures { IfOk result (λ copy. copy.items ≡ runs.now) }
+{
+    let mut copy = Vec::with_capacity(alloc, runs.len())?;
+    copy.extend_from_slice(runs)?;
+    Ok(copy)
+}
+
+// The numbers of runs. Requires that these are in order and apart.
+pub(crate) fn list_of(alloc: Global, runs: &[Run]) -> Result<Vec<u16>, AllocError>
+    requires { AreRuns runs.now }
+    ensures { IfOk result (λ numbers. numbers.items ≡ run_numbers runs.now) }
+{
+    let mut numbers = Vec::with_capacity(alloc, count(runs))?;
+    let mut left = RunsLeft::of(runs);
+    while let Some(number) = left.pop_first() {
+        numbers.push(number)?;
+    }
+    Ok(numbers)
+}

@@ -1,0 +1,16 @@
+pub mod Bytes
+pub mod Pieces
+pub mod Decoded
+pub mod Fields
+pub mod Coded
+pub mod Contents
+pub mod Whole
+pub mod Digits
+pub mod Grouping
+pub mod Mapping
+pub mod Flags
+pub mod Portable
+pub mod Rowed
+pub mod Faults
+pub mod Told
+pub mod Packed

@@ -1,0 +1,37 @@
+-- Blocks that have a form: their order, and how many bytes they take.
+use Rattle.std.proofs.Common.{ℕ, zero, suc, ◌+◌, ◌*◌, ◌<◌, ◌≤◌, List, [], ◌∷◌, length, All, arith}
+use Rattle.bit_blocks.specs.declared.ranged.Run.{Run}
+use Rattle.bit_blocks.specs.Runs.{AreRunsFrom}
+use Rattle.bit_portable.specs.declared.stored.Head.{Head}
+use Rattle.bit_portable.specs.declared.stored.Stored.{Stored}
+use Rattle.bit_portable.specs.Stored.{AreOrdered, IsPiece, piece_of, pieces_of, Content, Numbers, Words, Runs, Holds}
+
+-- the facts of each item but the first
+pub of_rest : {X : Type 0} (P : X → Type 0) (x : X) (xs : List X) → All P (x ∷ xs) → All P xs
+of_rest P x xs h k d inside = h (suc k) d (omega arith)
+
+-- two runs are two numbers apart, so there are few
+pub few_runs : (from : ℕ) (rs : List Run) → from ≤ 65537 → AreRunsFrom from rs → from + 2 * length rs ≤ 65537
+few_runs from [] low h = omega arith
+few_runs from (r ∷ rs) low h =
+    let first : from ≤ r.first = h.0 in
+    let ordered : r.first ≤ r.last = h.1 in
+    let most : r.last < 65536 = h.2 in
+    let rest = few_runs (r.last + 2) rs (omega arith) h.3 in
+    omega arith
+
+pub runs_ordered : (from : ℕ) (rs : List Run) → AreRunsFrom from rs → All (λ r. r.first ≤ r.last) rs
+runs_ordered from [] h k d inside = absurd (omega arith)
+runs_ordered from (r ∷ rs) h zero d inside = h.1
+runs_ordered from (r ∷ rs) h (suc k) d inside = runs_ordered (r.last + 2) rs h.3 k d (omega arith)
+
+pub is_ordered : (h : Head) (c : Content) → Holds h c → AreOrdered c
+is_ordered h (Numbers xs) holds = tt
+is_ordered h (Words ws) holds = tt
+is_ordered h (Runs rs) holds = let few = few_runs 0 rs (omega arith) holds.2 in (omega arith, runs_ordered 0 rs holds.2)
+
+-- the facts of blocks without where they lie in memory
+pub all_pieces : (bs : List Stored) → All IsPiece (pieces_of bs) → All (λ s. IsPiece (piece_of s)) bs
+all_pieces [] h k d inside = absurd (omega arith)
+all_pieces (b ∷ bs) h zero d inside = h 0 (piece_of b) (omega arith)
+all_pieces (b ∷ bs) h (suc k) d inside = all_pieces bs (of_rest IsPiece (piece_of b) (pieces_of bs) h) k d (omega arith)

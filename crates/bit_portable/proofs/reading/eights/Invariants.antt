@@ -1,0 +1,14 @@
+use Rattle.std.proofs.Common.{◌≡◌, ◌++◌, ◌≤◌, ◌+◌, ◌*◌, ◌/◌, length, vec_len, vec_capacity}
+use Rattle.bit_portable.specs.Reading.{eights}
+use Rattle.bit_portable.proofs.reading.eights.Given as goal
+
+abbrev pub invariant-loop-rest : goal.invariant-loop-rest
+invariant-loop-rest l = record {
+  so_far : l.numbers.items ++ eights l.rest ≡ eights l.bytes;
+  few : 8 * vec_len l.numbers + length l.rest ≤ length l.bytes;
+  memory : vec_capacity l.numbers ≡ length l.bytes / 8;
+  room : vec_len l.numbers + length l.rest / 8 ≤ vec_capacity l.numbers;
+}
+
+abbrev pub decreases-loop-rest : goal.decreases-loop-rest
+decreases-loop-rest l = length l.rest

@@ -1,0 +1,189 @@
+//! Sets of numbers as bytes, and bytes as sets of numbers.
+ghost use Rattle.std.specs.Prelude.{All, map, ◌≡◌, ◌≤◌, ◌<◌, Bool, List, Ok, IfErr, IfOk, false, length, true};
+ghost use Rattle.bit_blocks.specs.Numbers.{Ascends};
+ghost use Rattle.bit_portable.specs.Stored.{Holds, content_of, piece_of, pieces_of};
+ghost use Rattle.bit_portable.specs.Keyed.{all_numbered, numbered};
+ghost use Rattle.bit_portable.specs.Form.{heads_of};
+ghost use Rattle.bit_portable.specs.Portable.{AreBlocks, IsGood, numbered_of, IsFormOf, Numbered, any_runs, content_for, numbers_of, piece_for, pieces_for, portable, runs_of, runs_pay};
+ghost use Rattle.bit_portable.specs.Reading.{Fails, Gives, all_of};
+ghost use Rattle.bit_portable.specs.Faults.{FailsBy, Tells};
+
+use crate::bits::{bits_of, prove_words, words_of};
+use crate::fault::ReadError;
+use crate::reading::read_stored;
+use crate::stored::{Data, Head, Stored};
+use crate::writing::write_stored;
+use bit_blocks::{Block, Keyed, Run};
+use std::alloc::{AllocError, Global};
+
+// Whether so many runs take fewer bytes than so many numbers otherwise.
+fn runs_pay(count: usize, runs: usize) -> bool
+    requires count { count ≤ 65536 }
+    requires runs { runs ≤ 65536 }
+    ensures { result ≡ runs_pay count runs }
+{
+    if count <= 4096 {
+        4 * runs + 2 < 2 * count + 2
+    } else {
+        4 * runs + 2 < 8192
+    }
+}
+
+// The numbers of a block as a list or as bits.
+fn plain_data(alloc: Global, block: &Block) -> Result<Data, AllocError>
+    ensures { IfOk result (λ d. content_of d ≡ content_for false block.now) }
+{
+    if block.len() <= 4096 {
+        let numbers = block.to_list(alloc)?;
+        return Ok(Data::Numbers(numbers));
+    }
+    let bits = block.to_bits(alloc)?;
+    let words = words_of(bits);
+    prove_words(&words);
+    Ok(Data::Words(words))
+}
+
+// The runs of a block.
+fn runs_of(alloc: Global, block: &Block) -> Result<Vec<Run>, AllocError>
+    ensures runs { IfOk result (λ v. v.items ≡ runs_of block.now) }
+    ensures few { IfOk result (λ v. length v.items ≤ 65536) }
+{
+    let runs = block.to_runs(alloc)?;
+    Ok(runs)
+}
+
+// A block as it is stored without runs.
+fn stored_plain(alloc: Global, keyed: &Keyed) -> Result<Stored, AllocError>
+    ensures { IfOk result (λ s. piece_of s ≡ piece_for false (numbered keyed.now)) }
+{
+    let count = keyed.block.len();
+    let content = plain_data(alloc, &keyed.block)?;
+    let head = Head {
+        key: keyed.key,
+        count: count as u32,
+        as_runs: false,
+    };
+    Ok(Stored {
+        head,
+        data: content,
+    })
+}
+
+// A block as it is stored with runs where they take fewer bytes.
+fn stored_with_runs(alloc: Global, keyed: &Keyed) -> Result<Stored, AllocError>
+    ensures { IfOk result (λ s. piece_of s ≡ piece_for true (numbered keyed.now)) }
+{
+    let count = keyed.block.len();
+    let runs = runs_of(alloc, &keyed.block)?;
+    if !runs_pay(count, runs.len()) {
+        return stored_plain(alloc, keyed);
+    }
+    let head = Head {
+        key: keyed.key,
+        count: count as u32,
+        as_runs: true,
+    };
+    Ok(Stored {
+        head,
+        data: Data::Runs(runs),
+    })
+}
+
+// A block as it is stored.
+fn stored(alloc: Global, with_runs: bool, keyed: &Keyed) -> Result<Stored, AllocError>
+    ensures { IfOk result (λ s. piece_of s ≡ piece_for with_runs (numbered keyed.now)) }
+{
+    if with_runs {
+        stored_with_runs(alloc, keyed)
+    } else {
+        stored_plain(alloc, keyed)
+    }
+}
+
+// Blocks as they are stored.
+fn all_stored(alloc: Global, with_runs: bool, blocks: &[Keyed]) -> Result<Vec<Stored>, AllocError>
+    ensures { IfOk result (λ v. pieces_of v.items ≡ pieces_for with_runs (all_numbered blocks.now)) }
+{
+    let mut all = Vec::with_capacity(alloc, blocks.len())?;
+    for keyed in blocks {
+        let one = stored(alloc, with_runs, keyed)?;
+        all.push(one)?;
+    }
+    Ok(all)
+}
+
+// Whether a block is stored as runs.
+fn any_runs(blocks: &[Stored]) -> bool
+    ensures { result ≡ any_runs (pieces_of blocks.now) }
+{
+    for block in blocks {
+        if block.head.as_runs {
+            return true;
+        }
+    }
+    false
+}
+
+/// The bytes of the set that has these blocks: with runs where they take fewer bytes, or without runs.
+pub fn write(alloc: Global, blocks: &[Keyed], with_runs: bool) -> Result<Vec<u8>, AllocError>
+    requires { AreBlocks (all_numbered blocks.now) }
+    ensures { IfOk result (λ v. v.items ≡ portable with_runs (all_numbered blocks.now)) }
+{
+    let all = all_stored(alloc, with_runs, blocks)?;
+    let flagged = any_runs(&all);
+    let bytes = write_stored(alloc, flagged, &all)?;
+    Ok(bytes)
+}
+
+// The block of what is stored.
+fn block_of(alloc: Global, content: Data) -> Result<Block, AllocError>
+    requires { IsGood (content_of content) }
+    ensures { IfOk result (λ b. b ≡ numbers_of (content_of content)) }
+{
+    match content {
+        Data::Numbers(numbers) => Block::from_list(numbers),
+        Data::Words(words) => Block::from_bits(alloc, bits_of(words)),
+        Data::Runs(runs) => Ok(Block::from_runs(runs)),
+    }
+}
+
+// A block with its key.
+fn keyed_of(alloc: Global, stored: Stored) -> Result<Keyed, AllocError>
+    requires { IsGood (content_of stored.data) }
+    ensures { IfOk result (λ k. numbered k ≡ numbered_of (piece_of stored)) }
+{
+    let key = stored.head.key;
+    let block = block_of(alloc, stored.data)?;
+    Ok(Keyed { key, block })
+}
+
+// Blocks with their keys.
+fn all_keyed(alloc: Global, stored: Vec<Stored>) -> Result<Vec<Keyed>, AllocError>
+    requires { All (λ s. IsGood (content_of s.data)) stored.items }
+    ensures { IfOk result (λ v. all_numbered v.items ≡ map numbered_of (pieces_of stored.items)) }
+{
+    let mut blocks = Vec::with_capacity(alloc, stored.len())?;
+    for one in stored {
+        let keyed = keyed_of(alloc, one)?;
+        blocks.push(keyed)?;
+    }
+    Ok(blocks)
+}
+
+/// The blocks of the set that the bytes are a form of.
+///
+/// The bytes are a form of what is read, and the keys ascend and no block is empty. Blocks that the bytes are a form of
+/// are read, unless memory runs out, and so is what `write` made. A fault is the first that reading comes to, and tells
+/// something of the bytes: that no front of them is a form, or (`Trailing`) that one is.
+pub fn read(alloc: Global, bytes: &[u8]) -> Result<Vec<Keyed>, ReadError>
+    ensures found { IfOk result (λ v. IsFormOf bytes.now (all_numbered v.items)) }
+    ensures blocks { IfOk result (λ v. AreBlocks (all_numbered v.items)) }
+    ensures only { (bs : List Numbered) → IsFormOf bytes.now bs → Gives (λ v. all_numbered v.items) result (Ok bs) }
+    ensures back { (with_runs : Bool) (bs : List Numbered) → AreBlocks bs → bytes.now ≡ portable with_runs bs → Gives (λ v. all_numbered v.items) result (Ok bs) }
+    ensures exact { IfErr result (λ e. Fails e (all_of bytes.now)) }
+    ensures fault { FailsBy result (Tells bytes.now) }
+{
+    let stored = read_stored(alloc, bytes)?;
+    let blocks = all_keyed(alloc, stored)?;
+    Ok(blocks)
+}

@@ -1,0 +1,235 @@
+//! Blocks as bytes.
+
+ghost use Rattle.std.specs.Prelude.{◌≡◌, ◌+◌, ◌≤◌, ◌<◌, ◌-◌, ◌*◌, ◌/◌, ◌++◌, ◌^◌, length, map, drop, OnOk, IfOk, All, IsTrue};
+ghost use Rattle.std.specs.List.{flat_map};
+ghost use Rattle.bit_portable.specs.Stored.{AreOrdered, Holds, IsPiece, content_of, content_bytes, piece_of, pieces_of, two, eight, run_bytes, head_bytes};
+ghost use Rattle.bit_portable.specs.Form.{AreWritable, data_bytes, data_start, digits, flag_bytes, flags_for, form, offsets_for, start_bytes, four, heads_of, offset_bytes, run_flags};
+
+use crate::stored::{Data, Head, Stored};
+use bit_blocks::Run;
+use std::alloc::{AllocError, Global};
+
+// Four numbers as one whose bytes are theirs.
+fn packed(numbers: &[u16]) -> u64
+    requires { length numbers.now ≡ 4 }
+    ensures { eight result ≡ flat_map two numbers.now }
+{
+    let low = numbers[0] as u64 + 65536 * numbers[1] as u64;
+    let high = numbers[2] as u64 + 65536 * numbers[3] as u64;
+    low + 4294967296 * high
+}
+
+// Appends each number as two bytes, one after another.
+fn push_singly(out: &mut Vec<u8>, numbers: &[u16]) -> Result<(), AllocError>
+    ensures appended { OnOk result (out.new.items ≡ out.old.items ++ flat_map two numbers.now) }
+{
+    for &x in numbers {
+        out.extend_from_slice(&x.to_le_bytes())?;
+    }
+    Ok(())
+}
+
+// Appends each number as two bytes. Four are written at once, which takes a test of the capacity for each four.
+fn push_numbers(out: &mut Vec<u8>, numbers: &[u16]) -> Result<(), AllocError>
+    ensures appended { OnOk result (out.new.items ≡ out.old.items ++ flat_map two numbers.now) }
+{
+    let mut rest = numbers;
+    while rest.len() >= 4 {
+        let (front, after) = rest.split_at(4);
+        out.extend_from_slice(&packed(front).to_le_bytes())?;
+        rest = after;
+    }
+    push_singly(out, rest)
+}
+
+// Appends each word as eight bytes.
+fn push_words(out: &mut Vec<u8>, words: &[u64]) -> Result<(), AllocError>
+    ensures appended { OnOk result (out.new.items ≡ out.old.items ++ flat_map eight words.now) }
+{
+    for &word in words {
+        out.extend_from_slice(&word.to_le_bytes())?;
+    }
+    Ok(())
+}
+
+// Appends each run's first number, and how many more it has.
+fn push_runs(out: &mut Vec<u8>, runs: &[Run]) -> Result<(), AllocError>
+    requires { All (λ r. r.first ≤ r.last) runs.now }
+    ensures appended { OnOk result (out.new.items ≡ out.old.items ++ flat_map run_bytes runs.now) }
+{
+    for run in runs {
+        out.extend_from_slice(&run.first.to_le_bytes())?;
+        out.extend_from_slice(&(run.last - run.first).to_le_bytes())?;
+    }
+    Ok(())
+}
+
+// Appends what the header says of each block.
+fn push_heads(out: &mut Vec<u8>, blocks: &[Stored]) -> Result<(), AllocError>
+    requires { All (λ s. IsPiece (piece_of s)) blocks.now }
+    ensures appended { OnOk result (out.new.items ≡ out.old.items ++ flat_map head_bytes (heads_of (pieces_of blocks.now))) }
+{
+    for block in blocks {
+        out.extend_from_slice(&block.head.key.to_le_bytes())?;
+        out.extend_from_slice(&((block.head.count - 1) as u16).to_le_bytes())?;
+    }
+    Ok(())
+}
+
+// The byte of at most eight flags, one for each block, the lowest bit first.
+fn flag_byte(blocks: &[Stored]) -> u8
+    requires { length blocks.now ≤ 8 }
+    ensures value { result ≡ digits (run_flags (heads_of (pieces_of blocks.now))) }
+    ensures below { result < 2 ^ length blocks.now }
+{
+    match blocks {
+        [] => 0,
+        [block, rest @ ..] => (block.head.as_runs as u8) + 2 * flag_byte(rest),
+    }
+}
+
+// Appends the flags, one bit for each block.
+fn push_flags(out: &mut Vec<u8>, blocks: &[Stored]) -> Result<(), AllocError>
+    ensures appended { OnOk result (out.new.items ≡ out.old.items ++ flag_bytes ((length blocks.now + 7) / 8) (run_flags (heads_of (pieces_of blocks.now)))) }
+{
+    let mut rest = blocks;
+    while !rest.is_empty() {
+        let (part, after) = rest.split_at(8usize.min(rest.len()));
+        out.push(flag_byte(part))?;
+        rest = after;
+    }
+    Ok(())
+}
+
+// How many bytes the numbers of a block take.
+fn data_len(content: &Data) -> usize
+    requires { length (content_bytes (content_of content.now)) < 2 ^ 32 }
+    ensures { result ≡ length (content_bytes (content_of content.now)) }
+{
+    match content {
+        Data::Numbers(numbers) => 2 * numbers.len(),
+        Data::Words(words) => 8 * words.len(),
+        Data::Runs(runs) => 2 + 4 * runs.len(),
+    }
+}
+
+// Appends the numbers of a block.
+fn push_data(out: &mut Vec<u8>, content: &Data) -> Result<(), AllocError>
+    requires { AreOrdered (content_of content.now) }
+    ensures appended { OnOk result (out.new.items ≡ out.old.items ++ content_bytes (content_of content.now)) }
+{
+    match content {
+        Data::Numbers(numbers) => push_numbers(out, numbers),
+        Data::Words(words) => push_words(out, words),
+        Data::Runs(runs) => {
+            out.extend_from_slice(&(runs.len() as u16).to_le_bytes())?;
+            push_runs(out, runs)
+        }
+    }
+}
+
+// Appends the offset of each block, where the first is at `start`.
+fn push_offsets(out: &mut Vec<u8>, start: usize, blocks: &[Stored]) -> Result<(), AllocError>
+    requires { start + length (data_bytes (pieces_of blocks.now)) < 2 ^ 32 }
+    ensures appended { OnOk result (out.new.items ≡ out.old.items ++ offset_bytes start (pieces_of blocks.now)) }
+{
+    let mut at = start;
+    for block in blocks {
+        out.extend_from_slice(&(at as u32).to_le_bytes())?;
+        at += data_len(&block.data);
+    }
+    Ok(())
+}
+
+// Appends the numbers of each block.
+fn push_all(out: &mut Vec<u8>, blocks: &[Stored]) -> Result<(), AllocError>
+    requires { All (λ s. IsPiece (piece_of s)) blocks.now }
+    ensures appended { OnOk result (out.new.items ≡ out.old.items ++ data_bytes (pieces_of blocks.now)) }
+{
+    for block in blocks {
+        push_data(out, &block.data)?;
+    }
+    Ok(())
+}
+
+// Appends the beginning: whether there are flags, and how many blocks.
+fn push_start(out: &mut Vec<u8>, flagged: bool, count: usize) -> Result<(), AllocError>
+    requires most { count ≤ 65536 }
+    requires some { IsTrue flagged → 0 < count }
+    ensures appended { OnOk result (out.new.items ≡ out.old.items ++ start_bytes flagged count) }
+{
+    if flagged {
+        out.extend_from_slice(&12347u16.to_le_bytes())?;
+        out.extend_from_slice(&((count - 1) as u16).to_le_bytes())?;
+        Ok(())
+    } else {
+        out.extend_from_slice(&12346u32.to_le_bytes())?;
+        out.extend_from_slice(&(count as u32).to_le_bytes())?;
+        Ok(())
+    }
+}
+
+// Appends the flags, if there are to be any.
+fn push_flags_if(out: &mut Vec<u8>, flagged: bool, blocks: &[Stored]) -> Result<(), AllocError>
+    ensures appended { OnOk result (out.new.items ≡ out.old.items ++ flags_for flagged (heads_of (pieces_of blocks.now))) }
+{
+    if flagged {
+        push_flags(out, blocks)
+    } else {
+        Ok(())
+    }
+}
+
+// The place of the first block's data.
+fn data_start(flagged: bool, count: usize) -> usize
+    requires { count ≤ 65536 }
+    ensures { result ≡ data_start flagged count }
+{
+    if !flagged {
+        8 + 8 * count
+    } else if count >= 4 {
+        4 + (count + 7) / 8 + 4 * count + 4 * count
+    } else {
+        4 + (count + 7) / 8 + 4 * count
+    }
+}
+
+// Appends the offsets, if there are to be any.
+fn push_offsets_if(out: &mut Vec<u8>, flagged: bool, blocks: &[Stored]) -> Result<(), AllocError>
+    requires most { length blocks.now ≤ 65536 }
+    requires small { data_start flagged (length blocks.now) + length (data_bytes (pieces_of blocks.now)) < 2 ^ 32 }
+    ensures appended { OnOk result (out.new.items ≡ out.old.items ++ offsets_for flagged (pieces_of blocks.now)) }
+{
+    if !flagged || blocks.len() >= 4 {
+        push_offsets(out, data_start(flagged, blocks.len()), blocks)
+    } else {
+        Ok(())
+    }
+}
+
+// How many bytes the numbers of all blocks take.
+fn data_total(blocks: &[Stored]) -> usize
+    requires { length (data_bytes (pieces_of blocks.now)) < 2 ^ 32 }
+    ensures { result ≡ length (data_bytes (pieces_of blocks.now)) }
+{
+    let mut total = 0;
+    for block in blocks {
+        total += data_len(&block.data);
+    }
+    total
+}
+
+/// The bytes of blocks, with a flag for each block or without flags.
+pub fn write_stored(alloc: Global, flagged: bool, blocks: &[Stored]) -> Result<Vec<u8>, AllocError>
+    requires { AreWritable flagged (pieces_of blocks.now) }
+    ensures { IfOk result (λ v. v.items ≡ form flagged (flags_for flagged (heads_of (pieces_of blocks.now))) (pieces_of blocks.now)) }
+{
+    let total = data_start(flagged, blocks.len()) + data_total(blocks);
+    let mut out = Vec::with_capacity(alloc, total)?;
+    push_start(&mut out, flagged, blocks.len())?;
+    push_flags_if(&mut out, flagged, blocks)?;
+    push_heads(&mut out, blocks)?;
+    push_offsets_if(&mut out, flagged, blocks)?;
+    push_all(&mut out, blocks)?;
+    Ok(out)
+}

@@ -1,0 +1,176 @@
+-- Numbers of blocks counted, block by block.
+use Rattle.std.proofs.Common.{◌≡◌, ℕ, zero, suc, ◌+◌, ◌*◌, ◌/◌, ◌%◌, ◌^◌, ◌<◌, ◌≤◌, Bool, cond, List, [], ◌∷◌, ◌++◌, get_or, length, length-append, map, take, drop, refl, sym, ◌∙◌, ap, inl, inr, arith}
+use Rattle.std.specs.Prelude.{None, Some, slice_get}
+use Rattle.std.proofs.lemmas.Bool.{cases_eq, cases_lt, eq-eqb, ne_eqb}
+use Rattle.bit_blocks.specs.Numbers.{Ascends, AscendsIn, count_below, count_where, has}
+use Rattle.bit_blocks.proofs.Ascending.{below_append, counts_first, few_numbers, none_below, skips_first}
+use Rattle.bit_blocks.proofs.Counting.{count_append}
+use Rattle.bit_roaring.specs.Keyed.{AreKeyed, AreKeyedFrom, block_at, keyed_numbers, set_numbers}
+use Rattle.bit_roaring.specs.Places.{IsKeyPlace}
+use Rattle.bit_blocks.specs.declared.keyed.Keyed.{Keyed}
+use Rattle.bit_roaring.proofs.Keys.{ascends_set, has_set, no_block_before}
+
+length_map : (f : ℕ → ℕ) (xs : List ℕ) → length (map f xs) ≡ length xs
+length_map f [] = refl
+length_map f (x ∷ xs) = ap suc (length_map f xs)
+
+-- what is left from block i on: that block, and those after it
+pub from_block : (bs : List Keyed) (i : ℕ) (d : Keyed) → i < length bs → set_numbers (drop i bs) ≡ keyed_numbers (get_or bs i d) ++ set_numbers (drop (i + 1) bs)
+from_block bs i d inside = let e : i + 1 ≡ suc i = omega arith in next bs i inside ∙ ap (λ n. keyed_numbers (get_or bs i d) ++ set_numbers (drop n bs)) (sym e)
+  where
+    next : (l : List Keyed) (n : ℕ) → n < length l → set_numbers (drop n l) ≡ keyed_numbers (get_or l n d) ++ set_numbers (drop (suc n) l)
+    next [] n h = absurd (omega arith)
+    next (b ∷ l) zero h = refl
+    next (b ∷ l) (suc n) h = next l n (omega arith)
+
+pub from_end : (bs : List Keyed) (i : ℕ) → length bs ≤ i → set_numbers (drop i bs) ≡ []
+from_end [] zero past = refl
+from_end [] (suc i) past = refl
+from_end (b ∷ bs) zero past = absurd (omega arith)
+from_end (b ∷ bs) (suc i) past = from_end bs i (omega arith)
+
+pub keyed_length : (b : Keyed) → length (keyed_numbers b) ≡ length b.block
+keyed_length b = length_map (λ k. b.key * 65536 + k) b.block
+
+pub few_in_set : (bs : List Keyed) → AreKeyed bs → length (set_numbers bs) ≤ 2 ^ 32
+few_in_set bs h = let few = few_numbers 0 (2 ^ 32) (set_numbers bs) (omega arith) (ascends_set 0 bs h) in omega arith
+
+-- numbers were counted up to block i
+pub record CountedTo (bs : List Keyed) (i count rest whole : ℕ) : Type 0 where
+  pub within : i ≤ length bs
+  pub sum : count + rest ≡ whole
+
+pub counted_block : (bs : List Keyed) (i : ℕ) (d : Keyed) → i < length bs → length (set_numbers (drop i bs)) ≡ length (get_or bs i d).block + length (set_numbers (drop (i + 1) bs))
+counted_block bs i d inside =
+    ap length (from_block bs i d inside) ∙ length-append (keyed_numbers (get_or bs i d)) (set_numbers (drop (i + 1) bs)) ∙ ap (λ n. n + length (set_numbers (drop (i + 1) bs))) (keyed_length (get_or bs i d))
+
+-- one more block of a front
+pub front_more : (bs : List Keyed) (i : ℕ) (d : Keyed) → i < length bs → length (set_numbers (take (i + 1) bs)) ≡ length (set_numbers (take i bs)) + length (get_or bs i d).block
+front_more bs i d inside = let e : i + 1 ≡ suc i = omega arith in ap (λ n. length (set_numbers (take n bs))) e ∙ next bs i inside
+  where
+    next : (l : List Keyed) (n : ℕ) → n < length l → length (set_numbers (take (suc n) l)) ≡ length (set_numbers (take n l)) + length (get_or l n d).block
+    next [] n h = absurd (omega arith)
+    next (b ∷ l) zero h = let one = length-append (keyed_numbers b) [] in let size = keyed_length b in omega arith
+    next (b ∷ l) (suc n) h =
+        let rest = next l n (omega arith) in
+        let more = length-append (keyed_numbers b) (set_numbers (take (suc n) l)) in
+        let less = length-append (keyed_numbers b) (set_numbers (take n l)) in
+        omega arith
+
+pub front_few : (bs : List Keyed) (i : ℕ) → length (set_numbers (take i bs)) ≤ length (set_numbers bs)
+front_few [] zero = omega arith
+front_few [] (suc i) = omega arith
+front_few (b ∷ bs) zero = omega arith
+front_few (b ∷ bs) (suc i) =
+    let rest = front_few bs i in
+    let more = length-append (keyed_numbers b) (set_numbers bs) in
+    let less = length-append (keyed_numbers b) (set_numbers (take i bs)) in
+    omega arith
+
+-- ---- ranks
+
+-- numbers of one key that are below a number of the same key, of a greater one, and of a smaller one
+below_same : (a n : ℕ) (xs : List ℕ) → a ≡ n / 65536 → count_below (map (λ k. a * 65536 + k) xs) n ≡ count_below xs (n % 65536)
+below_same a n [] at = refl
+below_same a n (x ∷ xs) at = let rest = below_same a n xs at in elim (cases_lt x (n % 65536)) [
+  | inl low ↦ counts_first (a * 65536 + x) (map (λ k. a * 65536 + k) xs) n (omega arith) ∙ ap suc rest ∙ sym (counts_first x xs (n % 65536) low)
+  | inr high ↦ skips_first (a * 65536 + x) (map (λ k. a * 65536 + k) xs) n (omega arith) ∙ rest ∙ sym (skips_first x xs (n % 65536) high)
+]
+
+below_greater : (a from n : ℕ) (xs : List ℕ) → AscendsIn from 65536 xs → a < n / 65536 → count_below (map (λ k. a * 65536 + k) xs) n ≡ length xs
+below_greater a from n [] h less = refl
+below_greater a from n (x ∷ xs) h less = let small = h.1 in counts_first (a * 65536 + x) (map (λ k. a * 65536 + k) xs) n (omega arith) ∙ ap suc (below_greater a (x + 1) n xs h.2 less)
+
+-- the numbers below one: those of the blocks before its key, and those in its own block
+pub rank_parts : (from : ℕ) (bs : List Keyed) (n i : ℕ) → AreKeyedFrom from bs → i ≤ length bs → IsKeyPlace bs (n / 65536) i → count_below (set_numbers bs) n ≡ length (set_numbers (take i bs)) + count_below (block_at bs (n / 65536)) (n % 65536)
+rank_parts from [] n zero h within at = refl
+rank_parts from [] n (suc i) h within at = refl
+rank_parts from (b ∷ bs) n zero h within at =
+    let low = at.after 0 b (omega arith) (omega arith) in
+    let past = none_below ((b.key + 1) * 65536) (2 ^ 32) (set_numbers bs) n (ascends_set (b.key + 1) bs h.4) (omega arith) in
+    let parts = below_append (keyed_numbers b) (set_numbers bs) n in
+    elim (cases_eq b.key (n / 65536)) [
+      | inl same ↦ (
+          let here = below_same b.key n b.block same in
+          let block = ap (λ t. count_below (cond t b.block (block_at bs (n / 65536))) (n % 65536)) (eq-eqb b.key (n / 65536) same) in
+          omega arith)
+      | inr other ↦ (
+          let none = none_below (b.key * 65536) (2 ^ 32) (set_numbers (b ∷ bs)) n (ascends_set b.key (b ∷ bs) (omega arith, h.1, h.2, h.3, h.4)) (omega arith) in
+          let block = ap (λ t. count_below (cond t b.block (block_at bs (n / 65536))) (n % 65536)) (ne_eqb b.key (n / 65536) other) ∙ ap (λ l. count_below l (n % 65536)) (no_block_before (b.key + 1) bs (n / 65536) h.4 (omega arith)) in
+          omega arith)
+    ]
+rank_parts from (b ∷ bs) n (suc i) h within at =
+    let less = at.before 0 b (omega arith) in
+    let rest = rank_parts (b.key + 1) bs n i h.4 (omega arith) (record { before = λ j d l. at.before (suc j) d (omega arith); after = λ j d l m. at.after (suc j) d (omega arith) (omega arith) }) in
+    let parts = below_append (keyed_numbers b) (set_numbers bs) n in
+    let here = below_greater b.key 0 n b.block h.2 less in
+    let block = ap (λ t. count_below (cond t b.block (block_at bs (n / 65536))) (n % 65536)) (ne_eqb b.key (n / 65536) (λ e. omega arith)) in
+    let size = length-append (keyed_numbers b) (set_numbers (take i bs)) in
+    let own = keyed_length b in
+    omega arith
+
+-- ---- the k-th number
+
+pub no_item : (a : ℕ) (xs : List ℕ) (k : ℕ) → None ≡ slice_get xs k → None ≡ slice_get (map (λ j. a * 65536 + j) xs) k
+no_item a [] zero at = refl
+no_item a [] (suc k) at = refl
+no_item a (x ∷ xs) zero at = cc
+no_item a (x ∷ xs) (suc k) at = no_item a xs k at
+
+pub some_item : (a : ℕ) (xs : List ℕ) (k x : ℕ) → Some x ≡ slice_get xs k → Some (a * 65536 + x) ≡ slice_get (map (λ j. a * 65536 + j) xs) k
+some_item a [] zero x at = cc
+some_item a [] (suc k) x at = cc
+some_item a (y ∷ xs) zero x at = let e : x ≡ y = cc in ap (λ n. Some (a * 65536 + n)) e
+some_item a (y ∷ xs) (suc k) x at = some_item a xs k x at
+
+-- an item of two lists, one after the other
+item_front : (xs ys : List ℕ) (k : ℕ) → k < length xs → slice_get (xs ++ ys) k ≡ slice_get xs k
+item_front [] ys k low = absurd (omega arith)
+item_front (x ∷ xs) ys zero low = refl
+item_front (x ∷ xs) ys (suc k) low = item_front xs ys k (omega arith)
+
+item_back : (xs ys : List ℕ) (k n : ℕ) → k ≡ length xs + n → slice_get (xs ++ ys) k ≡ slice_get ys n
+item_back [] ys k n at = let e : k ≡ n = omega arith in ap (slice_get ys) e
+item_back (x ∷ xs) ys zero n at = absurd (omega arith)
+item_back (x ∷ xs) ys (suc k) n at = item_back xs ys k n (omega arith)
+
+pub nth_here : (bs : List Keyed) (i k : ℕ) (d : Keyed) → i < length bs → k < length (get_or bs i d).block → slice_get (keyed_numbers (get_or bs i d)) k ≡ slice_get (set_numbers (drop i bs)) k
+nth_here bs i k d inside low =
+    let size = keyed_length (get_or bs i d) in
+    sym (ap (λ l. slice_get l k) (from_block bs i d inside) ∙ item_front (keyed_numbers (get_or bs i d)) (set_numbers (drop (i + 1) bs)) k (omega arith))
+
+pub nth_later : (bs : List Keyed) (i k n : ℕ) (d : Keyed) → i < length bs → k ≡ length (get_or bs i d).block + n → slice_get (set_numbers (drop (i + 1) bs)) n ≡ slice_get (set_numbers (drop i bs)) k
+nth_later bs i k n d inside at =
+    let size = keyed_length (get_or bs i d) in
+    sym (ap (λ l. slice_get l k) (from_block bs i d inside) ∙ item_back (keyed_numbers (get_or bs i d)) (set_numbers (drop (i + 1) bs)) k n (omega arith))
+
+pub nth_end : (bs : List Keyed) (i k : ℕ) → length bs ≤ i → None ≡ slice_get (set_numbers (drop i bs)) k
+nth_end bs i k past = sym (ap (λ l. slice_get l k) (from_end bs i past) ∙ empty k)
+  where
+    empty : (n : ℕ) → slice_get {X = ℕ} [] n ≡ None
+    empty zero = refl
+    empty (suc n) = refl
+
+-- ---- numbers of a block that are in other blocks too
+
+pub count_keyed : (a from : ℕ) (xs : List ℕ) (bs : List Keyed) → AreKeyed bs → a < 65536 → AscendsIn from 65536 xs → count_where (has (set_numbers bs)) (map (λ k. a * 65536 + k) xs) ≡ count_where (has (block_at bs a)) xs
+count_keyed a from [] bs h small up = refl
+count_keyed a from (x ∷ xs) bs h small up =
+    let below = up.1 in
+    let key : (a * 65536 + x) / 65536 ≡ a = omega arith in
+    let low : (a * 65536 + x) % 65536 ≡ x = omega arith in
+    let here : has (set_numbers bs) (a * 65536 + x) ≡ has (block_at bs a) x = has_set 0 bs (a * 65536 + x) h ∙ ap (λ k. has (block_at bs k) ((a * 65536 + x) % 65536)) key ∙ ap (has (block_at bs a)) low in
+    ap (λ t. cond t 1 0 + count_where (has (set_numbers bs)) (map (λ k. a * 65536 + k) xs)) here ∙ ap (λ n. cond (has (block_at bs a) x) 1 0 + n) (count_keyed a (x + 1) xs bs h small up.2)
+
+pub count_absent : (a : ℕ) (xs : List ℕ) (bs : List Keyed) → AreKeyed bs → a < 65536 → Ascends xs → block_at bs a ≡ [] → 0 ≡ count_where (has (set_numbers bs)) (map (λ k. a * 65536 + k) xs)
+count_absent a xs bs h small up none = sym (count_keyed a 0 xs bs h small up ∙ ap (λ l. count_where (has l) xs) none ∙ nothing xs)
+  where
+    nothing : (l : List ℕ) → count_where (has []) l ≡ 0
+    nothing [] = refl
+    nothing (x ∷ l) = let rest = nothing l in omega arith
+
+pub count_present : (a n : ℕ) (xs ys : List ℕ) (bs : List Keyed) → AreKeyed bs → a < 65536 → Ascends xs → ys ≡ block_at bs a → n ≡ count_where (has ys) xs → n ≡ count_where (has (set_numbers bs)) (map (λ k. a * 65536 + k) xs)
+count_present a n xs ys bs h small up is count = count ∙ ap (λ l. count_where (has l) xs) is ∙ sym (count_keyed a 0 xs bs h small up)
+
+pub both_block : (p : ℕ → Bool) (bs : List Keyed) (i : ℕ) (d : Keyed) → i < length bs → count_where p (set_numbers (drop i bs)) ≡ count_where p (keyed_numbers (get_or bs i d)) + count_where p (set_numbers (drop (i + 1) bs))
+both_block p bs i d inside = ap (count_where p) (from_block bs i d inside) ∙ count_append p (keyed_numbers (get_or bs i d)) (set_numbers (drop (i + 1) bs))

@@ -1,0 +1,168 @@
+-- Blocks that an operation makes, one key after another.
+use Rattle.std.proofs.Common.{◌≡◌, ℕ, zero, suc, ◌+◌, ◌<◌, ◌≤◌, Bool, true, false, cond, ◌||◌, nat_eq, List, [], ◌∷◌, ◌++◌, get_or, length, take, refl, sym, ◌∙◌, ap, inl, inr, arith}
+use Rattle.std.specs.Prelude.{◌↔◌, All}
+use Rattle.std.proofs.lemmas.Bool.{cases_Bool, cases_eq, eq-eqb, ne_eqb, or_parts}
+use Rattle.bit_blocks.specs.Numbers.{Ascends, AscendsIn, Combines, has}
+use Rattle.bit_blocks.specs.Operation.{made_by}
+use Rattle.bit_blocks.specs.declared.operation.Operation.{Operation}
+use Rattle.bit_blocks.specs.declared.operation.Operation.TheVariants.{Union}
+use Rattle.bit_blocks.proofs.Ascending.{later}
+use Rattle.bit_blocks.proofs.Merging.{made_none}
+use Rattle.bit_roaring.specs.Changes.{CombinesKeyed, Replaces}
+use Rattle.bit_roaring.specs.Keyed.{AreKeyed, AreKeyedFrom, block_at, keys_of}
+use Rattle.bit_blocks.specs.declared.keyed.Keyed.{Keyed}
+use Rattle.bit_roaring.proofs.Keys.{keyed}
+
+-- ---- keys
+
+pub keys_ascend_in : (from : ℕ) (bs : List Keyed) → AreKeyedFrom from bs → AscendsIn from 65536 (keys_of bs)
+keys_ascend_in from [] h = tt
+keys_ascend_in from (b ∷ bs) h = (h.0, h.1, keys_ascend_in (b.key + 1) bs h.4)
+
+-- a key that is not among those of blocks has none
+pub no_key : (bs : List Keyed) (key : ℕ) → has (keys_of bs) key ≡ false → block_at bs key ≡ []
+no_key [] key out = refl
+no_key (b ∷ bs) key out =
+    let parts = or_parts (nat_eq b.key key) (has (keys_of bs) key) out in
+    ap (λ t. cond t b.block (block_at bs key)) parts.0 ∙ no_key bs key parts.1
+
+-- one more key that is read
+pub keys_more : (bs : List Keyed) (i : ℕ) (d : Keyed) → i < length bs → keys_of (take (i + 1) bs) ≡ keys_of (take i bs) ++ (get_or bs i d).key ∷ []
+keys_more bs i d inside = let e : i + 1 ≡ suc i = omega arith in ap (λ n. keys_of (take n bs)) e ∙ next bs i inside
+  where
+    next : (l : List Keyed) (n : ℕ) → n < length l → keys_of (take (suc n) l) ≡ keys_of (take n l) ++ (get_or l n d).key ∷ []
+    next [] n h = absurd (omega arith)
+    next (b ∷ l) zero h = refl
+    next (b ∷ l) (suc n) h = ap (λ m. b.key ∷ m) (next l n (omega arith))
+
+pub keys_whole : (bs : List Keyed) (i : ℕ) → length bs ≤ i → keys_of (take i bs) ≡ keys_of bs
+keys_whole [] zero past = refl
+keys_whole [] (suc i) past = refl
+keys_whole (b ∷ bs) zero past = absurd (omega arith)
+keys_whole (b ∷ bs) (suc i) past = ap (λ l. b.key ∷ l) (keys_whole bs i (omega arith))
+
+-- a key of neither list
+pub no_keys : (xs ys zs : List ℕ) (key : ℕ) → Combines (made_by Union) xs ys zs → has zs key ≡ false → (has xs key ≡ false) × (has ys key ≡ false)
+no_keys xs ys zs key both out = or_parts (has xs key) (has ys key) (sym (both key) ∙ out)
+
+-- ---- a block at the end
+
+-- a list that is not told to be empty
+pub not_empty : (xs : List ℕ) (told : Bool) → (told ≡ true) ↔ (xs ≡ []) → told ≡ false → 0 < length xs
+not_empty [] told empty out = absurd (let e : true ≡ false = sym (empty.1 refl) ∙ out in cc)
+not_empty (x ∷ xs) told empty out = omega arith
+
+pub pushed_keyed : (from : ℕ) (bs : List Keyed) (key : ℕ) (block : List ℕ) → AreKeyedFrom from bs → All (λ b. b.key < key) bs → from ≤ key → key < 65536 → Ascends block → 0 < length block → AreKeyedFrom from (bs ++ keyed key block ∷ [])
+pushed_keyed from [] key block h below low small up some = (low, small, up, some, tt)
+pushed_keyed from (b ∷ bs) key block h below low small up some =
+    let first = below 0 b (omega arith) in
+    (h.0, h.1, h.2, h.3, pushed_keyed (b.key + 1) bs key block h.4 (λ k d l. below (suc k) d (omega arith)) (omega arith) small up some)
+
+pub pushed_below : (bs : List Keyed) (key : ℕ) (block : List ℕ) → All (λ b. b.key < key) bs → All (λ b. b.key < key + 1) (bs ++ keyed key block ∷ [])
+pushed_below [] key block below zero d inside = omega arith
+pushed_below [] key block below (suc k) d inside = absurd (omega arith)
+pushed_below (b ∷ bs) key block below zero d inside = let first = below 0 b (omega arith) in omega arith
+pushed_below (b ∷ bs) key block below (suc k) d inside = pushed_below bs key block (λ j e l. below (suc j) e (omega arith)) k d (omega arith)
+
+pub pushed_replaces : (bs : List Keyed) (key : ℕ) (block : List ℕ) → All (λ b. b.key < key) bs → Replaces bs (bs ++ keyed key block ∷ []) key block
+pushed_replaces [] key block below k = refl
+pushed_replaces (b ∷ bs) key block below k =
+    let first = below 0 b (omega arith) in
+    elim (cases_eq b.key k) [
+      | inl same ↦ (
+          let apart : nat_eq key k ≡ false = ne_eqb key k (λ e. omega arith) in
+          ap (λ t. cond t b.block (block_at (bs ++ keyed key block ∷ []) k)) (eq-eqb b.key k same)
+          ∙ sym (ap (λ t. cond t block (block_at (b ∷ bs) k)) apart ∙ ap (λ t. cond t b.block (block_at bs k)) (eq-eqb b.key k same)))
+      | inr other ↦ ap (λ t. cond t b.block (block_at (bs ++ keyed key block ∷ []) k)) (ne_eqb b.key k other) ∙ pushed_replaces bs key block (λ j d l. below (suc j) d (omega arith)) k
+          ∙ sym (ap (λ l. cond (nat_eq key k) block l) (ap (λ t. cond t b.block (block_at bs k)) (ne_eqb b.key k other)))
+    ]
+
+none_past : (bs : List Keyed) (key : ℕ) → All (λ b. b.key < key) bs → block_at bs key ≡ []
+none_past [] key below = refl
+none_past (b ∷ bs) key below =
+    let first = below 0 b (omega arith) in
+    ap (λ t. cond t b.block (block_at bs key)) (ne_eqb b.key key (λ e. omega arith)) ∙ none_past bs key (λ j d l. below (suc j) d (omega arith))
+
+-- no block where there is no number
+pub skipped_replaces : (bs : List Keyed) (key : ℕ) (block : List ℕ) → block ≡ [] → All (λ b. b.key < key) bs → Replaces bs bs key block
+skipped_replaces bs key block none below k = elim (cases_eq key k) [
+  | inl same ↦ ap (block_at bs) (sym same) ∙ none_past bs key below ∙ sym none ∙ sym (ap (λ t. cond t block (block_at bs k)) (eq-eqb key k same))
+  | inr other ↦ sym (ap (λ t. cond t block (block_at bs k)) (ne_eqb key k other))
+]
+
+pub skipped_below : (bs : List Keyed) (key : ℕ) → All (λ b. b.key < key) bs → All (λ b. b.key < key + 1) bs
+skipped_below bs key below k d inside = let low = below k d inside in omega arith
+
+-- ---- blocks made of those of two lists, one key after another
+
+-- the blocks with the first i keys were made
+pub record MadeTo (op : Operation) (xs ys : List Keyed) (keys : List ℕ) (made : List Keyed) (i : ℕ) : Type 0 where
+  pub keyed : AreKeyed made
+  pub below : (j : ℕ) → i ≤ j → j < length keys → All (λ b. b.key < get_or keys j 0) made
+  pub done : (k : ℕ) → has (take i keys) k ≡ true → Combines (made_by op) (block_at xs k) (block_at ys k) (block_at made k)
+  pub none : (k : ℕ) → has (take i keys) k ≡ false → block_at made k ≡ []
+
+pub none_made : (op : Operation) (xs ys : List Keyed) (keys : List ℕ) → MadeTo op xs ys keys [] 0
+none_made op xs ys keys = record {
+  keyed = tt;
+  below = λ j low high k d inside. absurd (omega arith);
+  done = λ k here. let e : true ≡ false = sym here ∙ nothing keys k in cc;
+  none = λ k out. refl;
+}
+  where
+    nothing : (l : List ℕ) (k : ℕ) → has (take 0 l) k ≡ false
+    nothing [] k = refl
+    nothing (x ∷ l) k = refl
+
+or_last : (a b : Bool) → (a || b) ≡ (b || a)
+or_last true true = refl
+or_last true false = refl
+or_last false true = refl
+or_last false false = refl
+
+or_group : (a b c : Bool) → (a || (b || c)) ≡ ((a || b) || c)
+or_group true b c = refl
+or_group false b c = refl
+
+has_taken : (xs : List ℕ) (i k : ℕ) → i < length xs → has (take (i + 1) xs) k ≡ (has (take i xs) k || nat_eq (get_or xs i 0) k)
+has_taken xs i k inside = let e : i + 1 ≡ suc i = omega arith in ap (λ n. has (take n xs) k) e ∙ next xs i inside
+  where
+    next : (l : List ℕ) (n : ℕ) → n < length l → has (take (suc n) l) k ≡ (has (take n l) k || nat_eq (get_or l n 0) k)
+    next [] n h = absurd (omega arith)
+    next (x ∷ l) zero h = or_last (nat_eq x k) false
+    next (x ∷ l) (suc n) h = ap (λ b. nat_eq x k || b) (next l n (omega arith)) ∙ or_group (nat_eq x k) (has (take n l) k) (nat_eq (get_or l n 0) k)
+
+pub one_made : (op : Operation) (xs ys : List Keyed) (keys : List ℕ) (made new : List Keyed) (i key : ℕ) (block : List ℕ) → Ascends keys → i < length keys → get_or keys i 0 ≡ key
+    → MadeTo op xs ys keys made i → Combines (made_by op) (block_at xs key) (block_at ys key) block
+    → AreKeyed new → All (λ b. b.key < key + 1) new → Replaces made new key block → MadeTo op xs ys keys new (i + 1)
+one_made op xs ys keys made new i key block h inside at r combines up below replaces = record {
+  keyed = up;
+  below = λ j low high k d l. let more = later 0 65536 keys i j 0 h (omega arith) high in let last = below k d l in omega arith;
+  done = λ k here. elim (cases_eq key k) [
+    | inl same ↦ (λ n. ap (λ l. has l n) (replaces k ∙ ap (λ t. cond t block (block_at made k)) (eq-eqb key k same)) ∙ combines n ∙ ap (λ m. made_by op (has (block_at xs m) n) (has (block_at ys m) n)) same)
+    | inr other ↦ (
+        let old : has (take i keys) k ≡ true = sym (or_back (has (take i keys) k) (ne_eqb key k other)) ∙ sym (ap (λ m. has (take i keys) k || nat_eq m k) at) ∙ sym (has_taken keys i k inside) ∙ here in
+        λ n. ap (λ l. has l n) (replaces k ∙ ap (λ t. cond t block (block_at made k)) (ne_eqb key k other)) ∙ r.done k old n)
+  ];
+  none = λ k out.
+      let parts = or_parts (has (take i keys) k) (nat_eq (get_or keys i 0) k) (sym (has_taken keys i k inside) ∙ out) in
+      let apart : nat_eq key k ≡ false = ap (λ m. nat_eq m k) (sym at) ∙ parts.1 in
+      replaces k ∙ ap (λ t. cond t block (block_at made k)) apart ∙ r.none k parts.0;
+}
+  where
+    or_back : (b : Bool) → {c : Bool} → c ≡ false → (b || c) ≡ b
+    or_back true {c} e = refl
+    or_back false {c} e = e
+
+take_all : (xs : List ℕ) (i : ℕ) → length xs ≤ i → take i xs ≡ xs
+take_all [] zero past = refl
+take_all [] (suc i) past = refl
+take_all (x ∷ xs) zero past = absurd (omega arith)
+take_all (x ∷ xs) (suc i) past = ap (λ l. x ∷ l) (take_all xs i (omega arith))
+
+pub all_made : (op : Operation) (xs ys : List Keyed) (keys : List ℕ) (made : List Keyed) (i : ℕ) → length keys ≤ i → MadeTo op xs ys keys made i
+    → ((k : ℕ) → has keys k ≡ false → block_at xs k ≡ []) → ((k : ℕ) → has keys k ≡ false → block_at ys k ≡ []) → CombinesKeyed (made_by op) xs ys made
+all_made op xs ys keys made i past r left right k = elim (cases_Bool (has keys k)) [
+  | inl here ↦ r.done k (ap (λ l. has l k) (take_all keys i past) ∙ here)
+  | inr out ↦ (λ n. ap (λ l. has l n) (r.none k (ap (λ l. has l k) (take_all keys i past) ∙ out)) ∙ sym (ap (λ l. made_by op (has l n) (has (block_at ys k) n)) (left k out) ∙ ap (λ l. made_by op false (has l n)) (right k out) ∙ made_none op))
+]

@@ -1,0 +1,25 @@
+-- What changes of blocks do.
+use Rattle.std.specs.Prelude.{◌≡◌, ℕ, Bool, nat_eq, if◌then◌else◌, List}
+use Rattle.bit_blocks.specs.Numbers.{Combines, Gains, Loses}
+use Rattle.bit_roaring.specs.Keyed.{block_at}
+use Rattle.bit_blocks.specs.declared.keyed.Keyed.{Keyed}
+
+-- a key has a block, and each other key the block that it had
+abbrev pub Replaces : List Keyed → List Keyed → ℕ → List ℕ → Type 0
+Replaces old new key block = (k : ℕ) → block_at new k ≡ (if nat_eq key k then block else block_at old k)
+
+-- the block with a key gained a number
+pub record GainsAt (old new : List Keyed) (key low : ℕ) : Type 0 where
+  pub block : List ℕ
+  pub replaces : Replaces old new key block
+  pub gains : Gains (block_at old key) block low
+
+-- the block with a key lost a number
+pub record LosesAt (old new : List Keyed) (key low : ℕ) : Type 0 where
+  pub block : List ℕ
+  pub replaces : Replaces old new key block
+  pub loses : Loses (block_at old key) block low
+
+-- the block with each key has what f makes of those of two lists of blocks
+abbrev pub CombinesKeyed : (Bool → Bool → Bool) → List Keyed → List Keyed → List Keyed → Type 0
+CombinesKeyed f xs ys zs = (key : ℕ) → Combines f (block_at xs key) (block_at ys key) (block_at zs key)

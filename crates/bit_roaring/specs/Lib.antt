@@ -1,0 +1,5 @@
+pub mod Bytes
+pub mod Changes
+pub mod Keyed
+pub mod Places
+pub mod SetLeft

@@ -1,0 +1,304 @@
+//! Blocks with their keys.
+ghost use Rattle.std.specs.Prelude.{◌≡◌, ◌≤◌, ◌<◌, ◌+◌, ℕ, [], All, false, IfOk, MatchOption, MatchResult, OnErr, OnOk, length, not, slice_get, take};
+ghost use Rattle.bit_roaring.specs.Keyed.{AreKeyed, block_at, keyed_numbers, keys_of, set_numbers};
+ghost use Rattle.bit_blocks.specs.Numbers.{Ascends, Combines, count_below, count_where, has};
+ghost use Rattle.bit_blocks.specs.Operation.{made_by};
+ghost use Rattle.bit_roaring.specs.Changes.{CombinesKeyed, GainsAt, LosesAt, Replaces};
+ghost use Rattle.bit_roaring.specs.Places.{IsAbsent, IsKeyPlace, IsThere};
+
+use bit_blocks::{Block, Keyed, Operation, listed};
+use std::alloc::{AllocError, Global};
+
+// Where the block with a key stands, or in Err where it has its place.
+pub(crate) fn find(blocks: &[Keyed], key: u16) -> Result<usize, usize>
+    requires { AreKeyed blocks.now }
+    ensures { MatchResult result (IsThere blocks.now key) (IsAbsent blocks.now key) }
+{
+    let place = place_of(blocks, key);
+    if place == blocks.len() {
+        return Err(place);
+    }
+    if blocks[place].key == key {
+        return Ok(place);
+    }
+    Err(place)
+}
+
+// The block with a key, if there is one.
+pub(crate) fn get(blocks: &[Keyed], key: u16) -> Option<&Block>
+    requires { AreKeyed blocks.now }
+    ensures { MatchOption result (block_at blocks.now key ≡ []) (λ block. block.now ≡ block_at blocks.now key) }
+{
+    match find(blocks, key) {
+        Ok(place) => Some(&blocks[place].block),
+        Err(_) => None,
+    }
+}
+
+// Whether a number is in one of the blocks.
+#[tactic(auto, using(crate::proofs::Sets::found_in_block, crate::proofs::Sets::absent_in_set))]
+pub(crate) fn contains(blocks: &[Keyed], number: u32) -> bool
+    requires { AreKeyed blocks.now }
+    ensures { result ≡ has (set_numbers blocks.now) number }
+{
+    match get(blocks, (number / 65536) as u16) {
+        None => false,
+        Some(block) => block.contains((number % 65536) as u16),
+    }
+}
+
+// The count of blocks with a key below `key`.
+pub(crate) fn place_of(blocks: &[Keyed], key: u16) -> usize
+    requires { AreKeyed blocks.now }
+    ensures within { result ≤ length blocks.now }
+    ensures place { IsKeyPlace blocks.now key result }
+{
+    blocks.partition_point(|keyed| keyed.key < key)
+}
+
+// Puts a number into the block with a key, and returns whether it was not there. Where memory is refused, the blocks
+// are as they were.
+pub(crate) fn insert(blocks: &mut Vec<Keyed>, key: u16, low: u16) -> Result<bool, AllocError>
+    requires { AreKeyed blocks.old.items }
+    ensures keyed { AreKeyed blocks.new.items }
+    ensures new { IfOk result (λ new. new ≡ not (has (block_at blocks.old.items key) low)) }
+    ensures gains { OnOk result (GainsAt blocks.old.items blocks.new.items key low) }
+    ensures refused { OnErr result (blocks.new.items ≡ blocks.old.items) }
+{
+    match find(blocks, key) {
+        Ok(place) => insert_at(blocks, place, key, low),
+        Err(place) => {
+            let mut block = Block::new(*blocks.allocator());
+            block.insert(low)?;
+            blocks.insert(place, Keyed { key, block })?;
+            Ok(true)
+        }
+    }
+}
+
+// Like `insert`, where the block stands at `place`.
+fn insert_at(blocks: &mut Vec<Keyed>, place: usize, key: u16, low: u16) -> Result<bool, AllocError>
+    requires keyed { AreKeyed blocks.old.items }
+    requires there { IsThere blocks.old.items key place }
+    ensures keyed { AreKeyed blocks.new.items }
+    ensures new { IfOk result (λ new. new ≡ not (has (block_at blocks.old.items key) low)) }
+    ensures gains { OnOk result (GainsAt blocks.old.items blocks.new.items key low) }
+    ensures refused { OnErr result (blocks.new.items ≡ blocks.old.items) }
+{
+    let keyed = &mut blocks[place];
+    let new = keyed.block.insert(low)?;
+    Ok(new)
+}
+
+// Takes a number out of the block with a key, and returns whether it was there. Where memory is refused, the blocks are
+// as they were.
+pub(crate) fn remove(blocks: &mut Vec<Keyed>, key: u16, low: u16) -> Result<bool, AllocError>
+    requires { AreKeyed blocks.old.items }
+    ensures keyed { AreKeyed blocks.new.items }
+    ensures old { IfOk result (λ old. old ≡ has (block_at blocks.old.items key) low) }
+    ensures loses { OnOk result (LosesAt blocks.old.items blocks.new.items key low) }
+    ensures refused { OnErr result (blocks.new.items ≡ blocks.old.items) }
+{
+    let Ok(place) = find(blocks, key) else {
+        return Ok(false);
+    };
+    if blocks[place].block.len() > 1 {
+        return remove_at(blocks, place, key, low);
+    }
+    if !blocks[place].block.contains(low) {
+        return Ok(false);
+    }
+    let _last = blocks.remove(place);
+    Ok(true)
+}
+
+// Like `remove`, where the block stands at `place` and has other numbers.
+fn remove_at(blocks: &mut Vec<Keyed>, place: usize, key: u16, low: u16) -> Result<bool, AllocError>
+    requires keyed { AreKeyed blocks.old.items }
+    requires there { IsThere blocks.old.items key place }
+    requires others { 1 < length (block_at blocks.old.items key) }
+    ensures keyed { AreKeyed blocks.new.items }
+    ensures old { IfOk result (λ old. old ≡ has (block_at blocks.old.items key) low) }
+    ensures loses { OnOk result (LosesAt blocks.old.items blocks.new.items key low) }
+    ensures refused { OnErr result (blocks.new.items ≡ blocks.old.items) }
+{
+    let keyed = &mut blocks[place];
+    let old = keyed.block.remove(low)?;
+    Ok(old)
+}
+
+// The keys of blocks.
+#[tactic(auto, using(crate::proofs::Made::keys_more, crate::proofs::Made::keys_whole))]
+fn keys_of(alloc: Global, blocks: &[Keyed]) -> Result<Vec<u16>, AllocError>
+    ensures { IfOk result (λ keys. keys.items ≡ keys_of blocks.now) }
+{
+    let mut keys = Vec::with_capacity(alloc, blocks.len())?;
+    for keyed in blocks {
+        keys.push(keyed.key)?;
+    }
+    Ok(keys)
+}
+
+// The keys that either of two lists of blocks has.
+#[tactic(auto, using(crate::proofs::Made::keys_ascend_in, crate::proofs::Made::no_key, crate::proofs::Made::no_keys))]
+fn all_keys(alloc: Global, left: &[Keyed], right: &[Keyed]) -> Result<Vec<u16>, AllocError>
+    requires left { AreKeyed left.now }
+    requires right { AreKeyed right.now }
+    ensures ascends { IfOk result (λ keys. Ascends keys.items) }
+    ensures left { IfOk result (λ keys. (k : ℕ) → has keys.items k ≡ false → block_at left.now k ≡ []) }
+    ensures right { IfOk result (λ keys. (k : ℕ) → has keys.items k ≡ false → block_at right.now k ≡ []) }
+{
+    let keys = keys_of(alloc, left)?;
+    let others = keys_of(alloc, right)?;
+    listed::combined(alloc, &keys, &others, Operation::Union)
+}
+
+// The numbers of the block with a key that an operation makes of those of two lists of blocks.
+fn combined_at(
+    alloc: Global,
+    left: &[Keyed],
+    right: &[Keyed],
+    key: u16,
+    operation: Operation,
+) -> Result<Block, AllocError>
+    requires left { AreKeyed left.now }
+    requires right { AreKeyed right.now }
+    ensures members { IfOk result (λ block. Combines (made_by operation) (block_at left.now key) (block_at right.now key) block) }
+    ensures ascends { IfOk result (λ block. Ascends block) }
+{
+    let empty = Block::new(alloc);
+    let numbers = get(left, key).unwrap_or(&empty);
+    let others = get(right, key).unwrap_or(&empty);
+    numbers.combined(alloc, others, operation)
+}
+
+// What an operation makes of two lists of blocks.
+pub(crate) fn combined(
+    alloc: Global,
+    left: &[Keyed],
+    right: &[Keyed],
+    operation: Operation,
+) -> Result<Vec<Keyed>, AllocError>
+    requires left { AreKeyed left.now }
+    requires right { AreKeyed right.now }
+    ensures keyed { IfOk result (λ made. AreKeyed made.items) }
+    ensures members { IfOk result (λ made. CombinesKeyed (made_by operation) left.now right.now made.items) }
+{
+    let keys = all_keys(alloc, left, right)?;
+    let mut made = Vec::new(alloc);
+    for key in &keys {
+        let block = combined_at(alloc, left, right, *key, operation)?;
+        push_some(&mut made, *key, block)?;
+    }
+    Ok(made)
+}
+
+// Appends a block, where it has a number. Requires that its key is past those of the others.
+#[tactic(auto, using(crate::proofs::Made::pushed_keyed, crate::proofs::Made::pushed_below, crate::proofs::Made::pushed_replaces, crate::proofs::Made::skipped_replaces, crate::proofs::Made::skipped_below))]
+fn push_some(blocks: &mut Vec<Keyed>, key: u16, block: Block) -> Result<(), AllocError>
+    requires keyed { AreKeyed blocks.old.items }
+    requires past { All (λ keyed. keyed.key < key) blocks.old.items }
+    requires ascends { Ascends block }
+    ensures keyed { OnOk result (AreKeyed blocks.new.items) }
+    ensures below { OnOk result (All (λ keyed. keyed.key < key + 1) blocks.new.items) }
+    ensures replaces { OnOk result (Replaces blocks.old.items blocks.new.items key block) }
+{
+    if !block.is_empty() {
+        blocks.push(Keyed { key, block })?;
+    }
+    Ok(())
+}
+
+// The count of numbers.
+pub(crate) fn count(blocks: &[Keyed]) -> u64
+    requires { AreKeyed blocks.now }
+    ensures { result ≡ length (set_numbers blocks.now) }
+{
+    let mut count = 0;
+    for keyed in blocks {
+        count += keyed.block.len() as u64;
+    }
+    count
+}
+
+// The count of numbers below `number`.
+pub(crate) fn rank(blocks: &[Keyed], number: u32) -> u64
+    requires { AreKeyed blocks.now }
+    ensures { result ≡ count_below (set_numbers blocks.now) number }
+{
+    let key = (number / 65536) as u16;
+    let place = place_of(blocks, key);
+    let before = count_front(blocks, place);
+    match get(blocks, key) {
+        None => before,
+        Some(block) => before + block.rank((number % 65536) as u16) as u64,
+    }
+}
+
+// The count of numbers of the first `n` blocks.
+fn count_front(blocks: &[Keyed], n: usize) -> u64
+    requires keyed { AreKeyed blocks.now }
+    requires within { n ≤ length blocks.now }
+    ensures { result ≡ length (set_numbers (take n blocks.now)) }
+{
+    let mut count = 0;
+    for i in 0..n {
+        count += blocks[i].block.len() as u64;
+    }
+    count
+}
+
+// The `k`-th number, counted from 0. None exactly where there are at most `k`.
+pub(crate) fn select(blocks: &[Keyed], k: u64) -> Option<u32>
+    requires { AreKeyed blocks.now }
+    ensures { result ≡ slice_get (set_numbers blocks.now) k }
+{
+    let mut left = k;
+    for keyed in blocks {
+        let size = keyed.block.len() as u64;
+        if left < size {
+            return nth_of(keyed, left as usize);
+        }
+        left -= size;
+    }
+    None
+}
+
+// The `k`-th number of a block with its key.
+fn nth_of(keyed: &Keyed, k: usize) -> Option<u32>
+    requires key { keyed.now.key < 65536 }
+    requires ascends { Ascends keyed.now.block }
+    ensures { result ≡ slice_get (keyed_numbers keyed.now) k }
+{
+    match keyed.block.select(k) {
+        None => None,
+        Some(low) => Some(keyed.key as u32 * 65536 + low as u32),
+    }
+}
+
+// The count of numbers that are in other blocks too.
+pub(crate) fn count_both(blocks: &[Keyed], others: &[Keyed]) -> u64
+    requires left { AreKeyed blocks.now }
+    requires right { AreKeyed others.now }
+    ensures { result ≡ count_where (has (set_numbers others.now)) (set_numbers blocks.now) }
+{
+    let mut count = 0;
+    for keyed in blocks {
+        count += count_at(keyed, others);
+    }
+    count
+}
+
+// The count of numbers of a block that are in other blocks too.
+fn count_at(keyed: &Keyed, others: &[Keyed]) -> u64
+    requires key { keyed.now.key < 65536 }
+    requires ascends { Ascends keyed.now.block }
+    requires right { AreKeyed others.now }
+    ensures value { result ≡ count_where (has (set_numbers others.now)) (keyed_numbers keyed.now) }
+    ensures few { result ≤ length keyed.now.block }
+{
+    match get(others, keyed.key) {
+        None => 0,
+        Some(other) => keyed.block.count_both(other) as u64,
+    }
+}

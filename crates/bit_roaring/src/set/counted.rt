@@ -1,0 +1,54 @@
+//! Two sets compared and counted, without a copy.
+ghost use Rattle.std.specs.Prelude.{◌≡◌, ◌≤◌, ◌+◌, ◌^◌, ◌↔◌, ℕ, IsTrue, false, length, not, true};
+ghost use Rattle.bit_blocks.specs.Numbers.{count_where, has};
+
+use crate::keyed;
+use crate::set::RoaringSet;
+
+impl RoaringSet {
+    /// The count of numbers in both sets. Takes no memory.
+    pub fn count_intersection(&self, other: &Self) -> u64
+        ensures { result ≡ count_where (has other.now) self.now }
+    {
+        keyed::count_both(&self.blocks, &other.blocks)
+    }
+
+    /// The count of numbers in this set and not in the other. Takes no memory.
+    pub fn count_difference(&self, other: &Self) -> u64
+        ensures value { result ≡ count_where (λ k. not (has other.now k)) self.now }
+        ensures few { result ≤ length self.now }
+        ensures most { result ≤ 2 ^ 32 }
+    {
+        self.len() - self.count_intersection(other)
+    }
+
+    /// The count of numbers in either set. Takes no memory.
+    pub fn count_union(&self, other: &Self) -> u64
+        ensures { result ≡ count_where (λ k. not (has other.now k)) self.now + length other.now }
+    {
+        self.count_difference(other) + other.len()
+    }
+
+    /// The count of numbers in exactly one of the sets. Takes no memory.
+    pub fn count_symmetric_difference(&self, other: &Self) -> u64
+        ensures { result ≡ count_where (λ k. not (has other.now k)) self.now + count_where (λ k. not (has self.now k)) other.now }
+    {
+        self.count_difference(other) + other.count_difference(self)
+    }
+
+    /// Whether each number of this set is in the other. Takes no memory.
+    #[tactic(auto, using(crate::proofs::Sets::all_counted, crate::proofs::Sets::counts_all))]
+    pub fn is_subset(&self, other: &Self) -> bool
+        ensures { IsTrue result ↔ ((k : ℕ) → has self.now k ≡ true → has other.now k ≡ true) }
+    {
+        self.count_intersection(other) == self.len()
+    }
+
+    /// Whether no number is in both sets. Takes no memory.
+    #[tactic(auto, using(crate::proofs::Sets::none_counted, crate::proofs::Sets::counts_none))]
+    pub fn is_disjoint(&self, other: &Self) -> bool
+        ensures { IsTrue result ↔ ((k : ℕ) → has self.now k ≡ true → has other.now k ≡ false) }
+    {
+        self.count_intersection(other) == 0
+    }
+}

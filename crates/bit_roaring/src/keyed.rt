@@ -302,3 +302,26 @@ fn count_at(keyed: &Keyed, others: &[Keyed]) -> u64
         Some(other) => keyed.block.count_both(other) as u64,
     }
 }
+
+// A copy.
+pub(crate) fn copied(alloc: Global, blocks: &[Keyed]) -> Result<Vec<Keyed>, AllocError>
+    ensures { IfOk result (λ copy. copy.items ≡ blocks.now) }
+{
+    let mut copy = Vec::with_capacity(alloc, blocks.len())?;
+    for keyed in blocks {
+        let block = keyed.block.clone()?;
+        let key = keyed.key;
+        copy.push(Keyed { key, block })?;
+    }
+    Ok(copy)
+}
+
+// Keeps each block in the form that takes the least memory.
+pub(crate) fn optimize(blocks: &mut [Keyed]) -> Result<(), AllocError>
+    ensures { blocks.new ≡ blocks.old }
+{
+    for i in 0..blocks.len() {
+        blocks[i].block.optimize()?;
+    }
+    Ok(())
+}

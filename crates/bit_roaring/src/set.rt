@@ -137,10 +137,32 @@ impl RoaringSet {
         SetIter::of(&self.blocks)
     }
 
+    /// Keeps each block in the form that takes the least memory: runs, a list or bits. The set stays the same, also where
+    /// memory is refused.
+    pub fn optimize(&mut self) -> Result<(), AllocError>
+        ensures { self.new ≡ self.old }
+    {
+        keyed::optimize(&mut self.blocks)
+    }
+
     /// Takes all numbers out. Takes no memory.
     pub fn clear(&mut self)
         ensures { self.new ≡ [] }
     {
         self.blocks.clear();
+    }
+}
+
+impl Clone for RoaringSet {
+    ghost use Rattle.std.specs.Prelude.{◌≡◌};
+
+    ghost is_clone = { λ set copy. copy ≡ set };
+
+    ghost is_infallible = { λ _. ⊥ };
+
+    /// A copy, its blocks in the same forms.
+    fn clone(&self) -> Result<Self, AllocError> {
+        let blocks = keyed::copied(*self.blocks.allocator(), &self.blocks)?;
+        Ok(RoaringSet { blocks })
     }
 }

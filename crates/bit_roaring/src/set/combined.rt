@@ -56,4 +56,37 @@ impl RoaringSet {
         *self = self.combined(other, operation)?;
         Ok(())
     }
+
+    /// Puts in the numbers of another set. Where memory is refused, the set is as it was.
+    pub fn union_with(&mut self, other: &Self) -> Result<(), AllocError>
+        ensures members { OnOk result (Combines (made_by operations.Union) self.old other.now self.new) }
+        ensures refused { OnErr result (self.new ≡ self.old) }
+    {
+        self.combine_with(other, Operation::Union)
+    }
+
+    /// Takes out the numbers that are not in another set. Where memory is refused, the set is as it was.
+    pub fn intersect_with(&mut self, other: &Self) -> Result<(), AllocError>
+        ensures members { OnOk result (Combines (made_by operations.Intersection) self.old other.now self.new) }
+        ensures refused { OnErr result (self.new ≡ self.old) }
+    {
+        self.combine_with(other, Operation::Intersection)
+    }
+
+    /// Takes out the numbers of another set. Where memory is refused, the set is as it was.
+    pub fn difference_with(&mut self, other: &Self) -> Result<(), AllocError>
+        ensures members { OnOk result (Combines (made_by operations.Difference) self.old other.now self.new) }
+        ensures refused { OnErr result (self.new ≡ self.old) }
+    {
+        self.combine_with(other, Operation::Difference)
+    }
+
+    /// Puts in the numbers of another set that are not there, and takes out those that are. Where memory is refused,
+    /// the set is as it was.
+    pub fn symmetric_difference_with(&mut self, other: &Self) -> Result<(), AllocError>
+        ensures members { OnOk result (Combines (made_by operations.SymmetricDifference) self.old other.now self.new) }
+        ensures refused { OnErr result (self.new ≡ self.old) }
+    {
+        self.combine_with(other, Operation::SymmetricDifference)
+    }
 }

@@ -41,7 +41,7 @@ word_of xs j = digits (map (has xs) (range_with_len (64 * j) 64))
 unfoldable pub words_of : List ℕ → List ℕ
 words_of xs = map (word_of xs) (range_with_len 0 1024)
 
--- whether so many runs take fewer bytes than so many numbers otherwise
+-- whether this many runs take fewer bytes than the numbers take as a list or as bits
 abbrev pub runs_pay : ℕ → ℕ → Bool
 runs_pay count runs = if nat_le count 4096 then nat_lt (4 * runs + 2) (2 * count + 2) else nat_lt (4 * runs + 2) 8192
 

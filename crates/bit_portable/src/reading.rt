@@ -249,7 +249,7 @@ fn words_at(alloc: Global, count: u32, bytes: &[u8]) -> Result<(Data, &[u8]), Re
     Ok((Data::Words(words), rest))
 }
 
-// `count` numbers in so many runs.
+// The given number of runs, which have `count` numbers.
 #[tactic(auto, unfolding(crate::specs::Reading::counted_runs_at))]
 fn counted_runs_at(
     alloc: Global,

@@ -16,7 +16,7 @@ use crate::writing::write_stored;
 use bit_blocks::{Block, Keyed, Run};
 use std::alloc::{AllocError, Global};
 
-// Whether so many runs take fewer bytes than so many numbers otherwise.
+// Whether `runs` runs take fewer bytes than `count` numbers as a list or as bits.
 fn runs_pay(count: usize, runs: usize) -> bool
     requires count { count ≤ 65536 }
     requires runs { runs ≤ 65536 }

@@ -51,7 +51,7 @@ fn take(rt: &impl Abort, block: &mut Block, truths: &mut Vec<bool>, turn: u16) {
     note(rt, truths, number_at(turn), false);
 }
 
-// That a block has so many numbers, and those that are noted.
+// Checks that a block has `count` numbers, and that these are the noted ones.
 fn stands_at(rt: &impl Abort, block: &Block, truths: &[bool], count: usize) {
     check(rt, truths.len() == 65536);
     check(rt, block.len() == count);

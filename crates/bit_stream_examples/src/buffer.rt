@@ -209,7 +209,7 @@ fn a_fill_that_is_refused_loses_nothing(rt: HostRuntime) {
     check(&rt, counts_on(&mut source, 312000));
 }
 
-// Whether so many bits are held from byte 1001 on, and nothing after them.
+// Whether `n` bits are held, those of the bytes from the 1001st on, and nothing after them.
 fn counts_on(source: &mut BitBuffer<Counting, Msb0>, n: usize) -> bool {
     if !is_filled(source, n) {
         return false;

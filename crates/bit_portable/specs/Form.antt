@@ -41,6 +41,7 @@ abbrev pub offset_bytes : ℕ → List Piece → List ℕ
 offset_bytes at [] = []
 offset_bytes at (p ∷ ps) = four at ++ offset_bytes (at + length (content_bytes p.content)) ps
 
+-- what the header says of each block
 abbrev pub heads_of : List Piece → List Head
 heads_of ps = map (λ p. p.head) ps
 

@@ -53,6 +53,7 @@ content_for as_runs xs = if as_runs then Runs (runs_of xs) else if nat_le (lengt
 abbrev pub stored_as_runs : Bool → Numbered → Bool
 stored_as_runs with_runs b = with_runs && runs_pay (length b.numbers) (length (runs_of b.numbers))
 
+-- what the header says of a block
 abbrev pub head_for : Bool → Numbered → Head
 head_for with_runs b = record { key = b.key; count = length b.numbers; as_runs = stored_as_runs with_runs b }
 
@@ -60,6 +61,7 @@ head_for with_runs b = record { key = b.key; count = length b.numbers; as_runs =
 abbrev pub piece_for : Bool → Numbered → Piece
 piece_for with_runs b = record { head = head_for with_runs b; content = content_for (stored_as_runs with_runs b) b.numbers }
 
+-- blocks as they are stored
 abbrev pub pieces_for : Bool → List Numbered → List Piece
 pieces_for with_runs bs = map (piece_for with_runs) bs
 
@@ -84,6 +86,7 @@ abbrev pub AreBlocksFrom : ℕ → List Numbered → Type 0
 AreBlocksFrom from [] = ⊤
 AreBlocksFrom from (b ∷ bs) = (from ≤ b.key) × (b.key < 65536) × (0 < length b.numbers) × Ascends b.numbers × AreBlocksFrom (b.key + 1) bs
 
+-- blocks of a set
 abbrev pub AreBlocks : List Numbered → Type 0
 AreBlocks bs = AreBlocksFrom 0 bs
 

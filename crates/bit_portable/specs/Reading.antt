@@ -35,11 +35,12 @@ bytes_at n bytes = if nat_lt (length bytes) n then Err faults.Short else Ok (tak
 abbrev pub number_at : Width → List ℕ → Result (ℕ × List ℕ) Fault
 number_at w bytes = if nat_lt (length bytes) (byte_len w) then Err faults.Short else Ok (from_le_bytes w (take (byte_len w) bytes), drop (byte_len w) bytes)
 
--- the numbers that bytes hold, of two bytes and of eight
+-- the numbers that bytes hold, of two bytes each
 abbrev pub twos : List ℕ → List ℕ
 twos (a ∷ b ∷ rest) = from_le_bytes w16 (a ∷ b ∷ []) ∷ twos rest
 twos _ = []
 
+-- the numbers that bytes hold, of eight bytes each
 abbrev pub eights : List ℕ → List ℕ
 eights (a ∷ b ∷ c ∷ d ∷ e ∷ f ∷ g ∷ h ∷ rest) = from_le_bytes w64 (a ∷ b ∷ c ∷ d ∷ e ∷ f ∷ g ∷ h ∷ []) ∷ eights rest
 eights _ = []
@@ -112,22 +113,24 @@ abbrev pub pieces_in : Bool → ℕ → List ℕ → ℕ → List Head → List 
 pieces_in checked total offsets k [] bytes = Ok ([], bytes)
 pieces_in checked total offsets k (h ∷ hs) bytes = piece_at checked total offsets k h bytes >>= λ p. pieces_in checked total offsets (k + 1) hs p.1 >>= λ ps. Ok (p.0 ∷ ps.0, ps.1)
 
--- whether there are flags, and how many blocks
+-- the start of bytes without flags, after their first number: how many blocks
 unfoldable pub plain_start_at : List ℕ → Result (Start × List ℕ) Fault
 plain_start_at bytes = do
   n ← number_at w32 bytes
   if nat_lt 65536 n.0 then Err faults.TooMany else Ok (record { flagged = false; count = n.0 }, n.1)
 
+-- whether there are flags, and how many blocks
 unfoldable pub start_at : List ℕ → Result (Start × List ℕ) Fault
 start_at bytes = do
   a ← number_at w16 bytes
   b ← number_at w16 a.1
   if nat_eq a.0 12347 then Ok (record { flagged = true; count = b.0 + 1 }, b.1) else if nat_eq a.0 12346 && nat_eq b.0 0 then plain_start_at b.1 else Err faults.Cookie
 
--- how many bytes the flags take, and the offsets
+-- how many bytes the flags take
 abbrev pub flags_len : Start → ℕ
 flags_len s = if s.flagged then (s.count + 7) / 8 else 0
 
+-- how many bytes the offsets take
 abbrev pub offsets_len : Start → ℕ
 offsets_len s = if has_offsets s.flagged s.count then 4 * s.count else 0
 

@@ -22,21 +22,25 @@ pub record Piece : Type 0 where
   pub head : Head
   pub content : Content
 
+-- what a value of `Data` stores
 abbrev pub content_of : Data → Content
 content_of (data_of.Numbers v) = Numbers v.items
 content_of (data_of.Words v) = Words v.items
 content_of (data_of.Runs v) = Runs v.items
 
+-- the block that a value of `Stored` is
 abbrev pub piece_of : Stored → Piece
 piece_of s = record { head = s.head; content = content_of s.data }
 
+-- the same of several
 abbrev pub pieces_of : List Stored → List Piece
 pieces_of blocks = map piece_of blocks
 
--- a number below 2 ^ 16 and one below 2 ^ 64 as bytes, the lowest byte first
+-- a number below 2 ^ 16 as bytes, the lowest byte first
 abbrev pub two : ℕ → List ℕ
 two n = to_le_bytes w16 n
 
+-- a number below 2 ^ 64 as bytes, the lowest byte first
 abbrev pub eight : ℕ → List ℕ
 eight n = to_le_bytes w64 n
 

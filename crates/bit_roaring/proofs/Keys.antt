@@ -86,7 +86,7 @@ keys_ascend from (b ∷ bs) h zero (suc j) d before inside = let rest = keyed_at
 keys_ascend from (b ∷ bs) h (suc i) zero d before inside = absurd (omega arith)
 keys_ascend from (b ∷ bs) h (suc i) (suc j) d before inside = keys_ascend (b.key + 1) bs h.4 i j d (omega arith) (omega arith)
 
-later_place : (b : Keyed) (bs : List Keyed) (key i : ℕ) → IsKeyPlace (b ∷ bs) key (suc i) → IsKeyPlace bs key i
+pub later_place : (b : Keyed) (bs : List Keyed) (key i : ℕ) → IsKeyPlace (b ∷ bs) key (suc i) → IsKeyPlace bs key i
 later_place b bs key i at = record { before = λ j d l. at.before (suc j) d (omega arith); after = λ j d l m. at.after (suc j) d (omega arith) (omega arith) }
 
 -- the block where a key has its place
@@ -116,6 +116,17 @@ pub keyed_here : (from : ℕ) (bs : List Keyed) (i : ℕ) (d : Keyed) → AreKey
 keyed_here from [] i d h inside = absurd (omega arith)
 keyed_here from (b ∷ bs) zero d h inside = (h.1, h.2, h.3)
 keyed_here from (b ∷ bs) (suc i) d h inside = keyed_here (b.key + 1) bs i d h.4 (omega arith)
+
+-- the numbers of a block ascend
+pub block_ascends : (bs : List Keyed) (key : ℕ) → AreKeyed bs → Ascends (block_at bs key)
+block_ascends bs key h = at 0 bs h
+  where
+    at : (from : ℕ) (l : List Keyed) → AreKeyedFrom from l → Ascends (block_at l key)
+    at from [] g = tt
+    at from (b ∷ l) g = elim (cases_eq b.key key) [
+      | inl same ↦ subst Ascends (sym (ap (λ t. cond t b.block (block_at l key)) (eq-eqb b.key key same))) g.2
+      | inr other ↦ subst Ascends (sym (ap (λ t. cond t b.block (block_at l key)) (ne_eqb b.key key other))) (at (b.key + 1) l g.4)
+    ]
 
 -- ---- blocks that change
 
@@ -181,7 +192,7 @@ block_inserted from (b ∷ bs) (suc i) key block h within at k =
           ∙ sym (ap (λ l. cond (nat_eq key k) block l) (ap (λ t. cond t b.block (block_at bs k)) (ne_eqb b.key k other))))
     ]
 
-keyed_earlier : (from least : ℕ) (bs : List Keyed) → least ≤ from → AreKeyedFrom from bs → AreKeyedFrom least bs
+pub keyed_earlier : (from least : ℕ) (bs : List Keyed) → least ≤ from → AreKeyedFrom from bs → AreKeyedFrom least bs
 keyed_earlier from least [] low h = tt
 keyed_earlier from least (b ∷ bs) low h = let first = h.0 in (omega arith, h.1, h.2, h.3, h.4)
 

@@ -1,11 +1,11 @@
 -- Blocks that an operation makes, one key after another.
-use Rattle.std.proofs.Common.{◌≡◌, ℕ, zero, suc, ◌+◌, ◌<◌, ◌≤◌, Bool, true, false, cond, ◌||◌, nat_eq, List, [], ◌∷◌, ◌++◌, get_or, length, take, refl, sym, ◌∙◌, ap, inl, inr, arith}
+use Rattle.std.proofs.Common.{◌≡◌, ℕ, zero, suc, ◌+◌, ◌<◌, ◌≤◌, Bool, true, false, cond, ◌||◌, nat_eq, List, [], ◌∷◌, ◌++◌, get_or, length, take, refl, sym, ◌∙◌, ap, subst, inl, inr, arith}
 use Rattle.std.specs.Prelude.{◌↔◌, All}
 use Rattle.std.proofs.lemmas.Bool.{cases_Bool, cases_eq, eq-eqb, ne_eqb, or_parts}
 use Rattle.bit_blocks.specs.Numbers.{Ascends, AscendsIn, Combines, has}
 use Rattle.bit_blocks.specs.Operation.{made_by}
 use Rattle.bit_blocks.specs.declared.operation.Operation.{Operation}
-use Rattle.bit_blocks.specs.declared.operation.Operation.TheVariants.{Union}
+use Rattle.bit_blocks.specs.declared.operation.Operation.TheVariants.{Union, Intersection, Difference, SymmetricDifference}
 use Rattle.bit_blocks.proofs.Ascending.{later}
 use Rattle.bit_blocks.proofs.Merging.{made_none}
 use Rattle.bit_roaring.specs.Changes.{CombinesKeyed, Replaces}
@@ -166,3 +166,52 @@ all_made op xs ys keys made i past r left right k = elim (cases_Bool (has keys k
   | inl here ↦ r.done k (ap (λ l. has l k) (take_all keys i past) ∙ here)
   | inr out ↦ (λ n. ap (λ l. has l n) (r.none k (ap (λ l. has l k) (take_all keys i past) ∙ out)) ∙ sym (ap (λ l. made_by op (has l n) (has (block_at ys k) n)) (left k out) ∙ ap (λ l. made_by op false (has l n)) (right k out) ∙ made_none op))
 ]
+
+-- ---- a block that is in one of two lists alone
+
+keeps_one : (op : Operation) (b : Bool) → made_by op b false ≡ cond (made_by op true false) b false
+keeps_one Union true = refl
+keeps_one Union false = refl
+keeps_one Intersection true = refl
+keeps_one Intersection false = refl
+keeps_one Difference true = refl
+keeps_one Difference false = refl
+keeps_one SymmetricDifference true = refl
+keeps_one SymmetricDifference false = refl
+
+keeps_other : (op : Operation) (b : Bool) → made_by op false b ≡ cond (made_by op false true) b false
+keeps_other Union true = refl
+keeps_other Union false = refl
+keeps_other Intersection true = refl
+keeps_other Intersection false = refl
+keeps_other Difference true = refl
+keeps_other Difference false = refl
+keeps_other SymmetricDifference true = refl
+keeps_other SymmetricDifference false = refl
+
+has_kept : (t : Bool) (xs : List ℕ) (k : ℕ) → has (cond t xs []) k ≡ cond t (has xs k) false
+has_kept true xs k = refl
+has_kept false xs k = refl
+
+-- what is made of a block of the left list alone
+pub combined_left : (op : Operation) (xs ys zs : List ℕ) (keeps : Bool) → keeps ≡ made_by op true false → ys ≡ [] → zs ≡ (cond keeps xs []) → Combines (made_by op) xs ys zs
+combined_left op xs ys zs keeps told none is k =
+    ap (λ l. has l k) is ∙ has_kept keeps xs k ∙ ap (λ t. cond t (has xs k) false) told ∙ sym (ap (λ l. made_by op (has xs k) (has l k)) none ∙ keeps_one op (has xs k))
+
+-- of the right list alone
+pub combined_right : (op : Operation) (xs ys zs : List ℕ) (keeps : Bool) → keeps ≡ made_by op false true → xs ≡ [] → zs ≡ (cond keeps ys []) → Combines (made_by op) xs ys zs
+combined_right op xs ys zs keeps told none is k =
+    ap (λ l. has l k) is ∙ has_kept keeps ys k ∙ ap (λ t. cond t (has ys k) false) told ∙ sym (ap (λ l. made_by op (has l k) (has ys k)) none ∙ keeps_other op (has ys k))
+
+-- and of none
+pub combined_none : (op : Operation) (xs ys zs : List ℕ) → xs ≡ [] → ys ≡ [] → zs ≡ [] → Combines (made_by op) xs ys zs
+combined_none op xs ys zs none nor is k = ap (λ l. has l k) is ∙ sym (ap (λ l. made_by op (has l k) (has ys k)) none ∙ ap (λ l. made_by op false (has l k)) nor ∙ keeps_one op false ∙ nothing (made_by op true false))
+  where
+    nothing : (t : Bool) → cond t false false ≡ false
+    nothing true = refl
+    nothing false = refl
+
+-- a block that was kept ascends, or is none
+pub kept_ascends : (keeps : Bool) (xs zs : List ℕ) → Ascends xs → zs ≡ (cond keeps xs []) → Ascends zs
+kept_ascends true xs zs up is = subst Ascends (sym is) up
+kept_ascends false xs zs up is = subst Ascends (sym is) tt

@@ -1,14 +1,15 @@
 -- The numbers of a set, by the block with each key.
-use Rattle.std.proofs.Common.{◌≡◌, ℕ, zero, suc, ◌+◌, ◌-◌, ◌/◌, ◌%◌, ◌^◌, ◌<◌, ◌≤◌, Bool, true, false, cond, not, ◌&&◌, ◌||◌, nat_eq, List, [], ◌∷◌, get_or, insert, length, set, refl, sym, ◌∙◌, ap, subst, inl, inr, arith}
-use Rattle.std.proofs.Math.Bool.{and-true}
-use Rattle.std.proofs.lemmas.Bool.{cases_Bool, cases_eq, eq-eqb, ne_eqb}
+use Rattle.std.proofs.Common.{◌≡◌, ℕ, zero, suc, ◌+◌, ◌-◌, ◌/◌, ◌%◌, ◌^◌, ◌<◌, ◌≤◌, Bool, true, false, cond, not, ◌&&◌, ◌||◌, nat_eq, List, [], ◌∷◌, ◌++◌, get_or, insert, length, set, refl, sym, ◌∙◌, ap, subst, inl, inr, arith}
+use Rattle.std.proofs.Math.Bool.{and-true, or-false}
+use Rattle.std.proofs.lemmas.Bool.{cases_Bool, cases_eq, cases_lt, eq-eqb, ne_eqb}
 use Rattle.bit_blocks.specs.Numbers.{Ascends, AscendsIn, Combines, Gains, Loses, count_where, has}
-use Rattle.bit_roaring.specs.Changes.{CombinesKeyed, GainsAt, LosesAt, Replaces}
+use Rattle.bit_roaring.specs.Changes.{CombinesKeyed, GainsAt, HasTaken, LosesAt, Replaces}
 use Rattle.bit_roaring.specs.Keyed.{AreKeyed, block_at, set_numbers}
 use Rattle.bit_blocks.specs.declared.keyed.Keyed.{Keyed}
 use Rattle.bit_roaring.proofs.Keys.{ascends_set, block_inserted, block_removed, block_set, has_set, keyed, keyed_here, keyed_inserted, keyed_set}
+use Rattle.bit_blocks.proofs.Ascending.{above_all, ascends_earlier}
 use Rattle.bit_blocks.proofs.Counting.{count_most, counts_here, counts_not}
-use Rattle.bit_blocks.proofs.Edits.{loses_absent}
+use Rattle.bit_blocks.proofs.Edits.{has_append, loses_absent}
 use Rattle.bit_blocks.specs.Operation.{made_by}
 use Rattle.bit_blocks.specs.declared.operation.Operation.{Operation}
 use Rattle.bit_roaring.specs.Places.{IsAbsent, IsThere}
@@ -214,3 +215,66 @@ pub counts_none : (p : ℕ → Bool) (xs : List ℕ) → ((k : ℕ) → has xs k
 counts_none p [] none = refl
 counts_none p (x ∷ xs) none =
     counts_not p x xs (none x (ap (λ b. b || has xs x) (eq-eqb x x refl))) ∙ counts_none p xs (λ k here. none k (ap (λ b. nat_eq x k || b) here ∙ or_true (nat_eq x k)))
+
+-- ---- sets of which one lies in the other
+
+at_first : (x : ℕ) (xs : List ℕ) → has (x ∷ xs) x ≡ true
+at_first x xs = ap (λ t. t || has xs x) (eq-eqb x x refl)
+
+not_before : (from upto : ℕ) (xs : List ℕ) (k : ℕ) → AscendsIn from upto xs → has xs k ≡ true → from ≤ k
+not_before from upto xs k up here = elim (cases_lt k from) [
+  | inl low ↦ absurd (let e : false ≡ true = sym (above_all from upto xs k up low) ∙ here in cc)
+  | inr least ↦ least
+]
+
+-- numbers that are in a list, and not its first one, are in the rest
+in_rest : (y : ℕ) (ys : List ℕ) (k : ℕ) → y < k → has (y ∷ ys) k ≡ true → has ys k ≡ true
+in_rest y ys k past here = sym (ap (λ t. t || has ys k) (ne_eqb y k (λ e. omega arith))) ∙ here
+
+later_in : (x : ℕ) (xs : List ℕ) (k : ℕ) → has xs k ≡ true → has (x ∷ xs) k ≡ true
+later_in x xs k here = ap (λ t. nat_eq x k || t) here ∙ or_true (nat_eq x k)
+
+-- a list whose numbers are all in another has no more of them
+pub subset_short : (from upto : ℕ) (xs ys : List ℕ) → AscendsIn from upto xs → AscendsIn from upto ys → ((k : ℕ) → has xs k ≡ true → has ys k ≡ true) → length xs ≤ length ys
+subset_short from upto [] ys h g all = omega arith
+subset_short from upto (x ∷ xs) [] h g all = absurd (let e : false ≡ true = all x (at_first x xs) in cc)
+subset_short from upto (x ∷ xs) (y ∷ ys) h g all =
+    let first = not_before y upto (y ∷ ys) x (omega arith, g.1, g.2) (all x (at_first x xs)) in
+    let rest = subset_short (y + 1) upto xs ys (ascends_earlier (x + 1) (y + 1) upto xs (omega arith) h.2) g.2 (λ k here. in_rest y ys k (let past = not_before (x + 1) upto xs k h.2 here in omega arith) (all k (later_in x xs k here))) in
+    omega arith
+
+-- and with as many it is the same
+pub subset_same : (from upto : ℕ) (xs ys : List ℕ) → AscendsIn from upto xs → AscendsIn from upto ys → ((k : ℕ) → has xs k ≡ true → has ys k ≡ true) → length xs ≡ length ys → xs ≡ ys
+subset_same from upto [] [] h g all size = refl
+subset_same from upto [] (y ∷ ys) h g all size = absurd (omega arith)
+subset_same from upto (x ∷ xs) [] h g all size = absurd (omega arith)
+subset_same from upto (x ∷ xs) (y ∷ ys) h g all size =
+    let first = not_before y upto (y ∷ ys) x (omega arith, g.1, g.2) (all x (at_first x xs)) in
+    let rest = subset_same (y + 1) upto xs ys (ascends_earlier (x + 1) (y + 1) upto xs (omega arith) h.2) g.2 (λ k here. in_rest y ys k (let past = not_before (x + 1) upto xs k h.2 here in omega arith) (all k (later_in x xs k here))) (omega arith) in
+    elim (cases_lt y x) [
+      | inl less ↦ absurd (
+          let short = subset_short (y + 1) upto (x ∷ xs) ys (omega arith, h.1, h.2) g.2 (λ k here. in_rest y ys k (let past = not_before x upto (x ∷ xs) k (omega arith, h.1, h.2) here in omega arith) (all k here)) in
+          omega arith)
+      | inr not_less ↦ (let same : x ≡ y = omega arith in cc (same, rest))
+    ]
+
+-- ---- numbers that are put in, one after another
+
+pub taken_none : (old : List ℕ) → HasTaken old [] old
+taken_none old k = sym (or-false (has old k))
+
+pub taken_more : (old now new numbers : List ℕ) (n : ℕ) → HasTaken old numbers now → Gains now new n → HasTaken old (numbers ++ n ∷ []) new
+taken_more old now new numbers n taken gains k =
+    gains k ∙ ap (λ t. nat_eq n k || t) (taken k) ∙ last (nat_eq n k) (has old k) (has numbers k) ∙ ap (λ t. has old k || t) (sym (has_append numbers (n ∷ []) k ∙ ap (λ t. has numbers k || t) (or-false (nat_eq n k))))
+  where
+    last : (a b c : Bool) → (a || (b || c)) ≡ (b || (c || a))
+    last true true c = refl
+    last true false true = refl
+    last true false false = refl
+    last false true c = refl
+    last false false true = refl
+    last false false false = refl
+
+-- numbers that are put into the empty set are its numbers
+pub taken_new : (old new numbers : List ℕ) → old ≡ [] → HasTaken old numbers new → (k : ℕ) → has new k ≡ has numbers k
+taken_new old new numbers none taken k = taken k ∙ ap (λ l. has l k || has numbers k) none

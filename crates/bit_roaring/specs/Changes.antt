@@ -1,6 +1,6 @@
 -- What changes of blocks do.
-use Rattle.std.specs.Prelude.{◌≡◌, ℕ, Bool, nat_eq, if◌then◌else◌, List}
-use Rattle.bit_blocks.specs.Numbers.{Combines, Gains, Loses}
+use Rattle.std.specs.Prelude.{◌≡◌, ℕ, ◌^◌, Bool, ◌||◌, nat_eq, if◌then◌else◌, List}
+use Rattle.bit_blocks.specs.Numbers.{AscendsIn, Combines, Gains, Loses, has}
 use Rattle.bit_roaring.specs.Keyed.{block_at}
 use Rattle.bit_blocks.specs.declared.keyed.Keyed.{Keyed}
 
@@ -23,3 +23,11 @@ pub record LosesAt (old new : List Keyed) (key low : ℕ) : Type 0 where
 -- the block with each key has what f makes of those of two lists of blocks
 abbrev pub CombinesKeyed : (Bool → Bool → Bool) → List Keyed → List Keyed → List Keyed → Type 0
 CombinesKeyed f xs ys zs = (key : ℕ) → Combines f (block_at xs key) (block_at ys key) (block_at zs key)
+
+-- numbers were put into a set, in whatever order
+abbrev pub HasTaken : List ℕ → List ℕ → List ℕ → Type 0
+HasTaken old numbers new = Combines (λ x y. x || y) old numbers new
+
+-- a set has exactly these numbers, in whatever order they stand
+abbrev pub IsSetOf : List ℕ → List ℕ → Type 0
+IsSetOf numbers set = AscendsIn 0 (2 ^ 32) set × ((k : ℕ) → has set k ≡ has numbers k)

@@ -1,10 +1,12 @@
 //! Blocks with their keys.
-ghost use Rattle.std.specs.Prelude.{◌≡◌, ◌≤◌, ◌<◌, ◌+◌, ℕ, [], All, false, IfOk, MatchOption, MatchResult, OnErr, OnOk, length, not, slice_get, take};
+ghost use Rattle.std.specs.Prelude.{◌≡◌, ◌≤◌, ◌<◌, ◌+◌, ℕ, [], if◌then◌else◌, All, false, IfOk, MatchOption, MatchResult, OnErr, OnOk, length, not, slice_get, take};
 ghost use Rattle.bit_roaring.specs.Keyed.{AreKeyed, block_at, keyed_numbers, keys_of, set_numbers};
 ghost use Rattle.bit_blocks.specs.Numbers.{Ascends, Combines, count_below, count_where, has};
 ghost use Rattle.bit_blocks.specs.Operation.{made_by};
 ghost use Rattle.bit_roaring.specs.Changes.{CombinesKeyed, GainsAt, LosesAt, Replaces};
 ghost use Rattle.bit_roaring.specs.Places.{IsAbsent, IsKeyPlace, IsThere};
+
+pub(crate) mod ranges;
 
 use bit_blocks::{Block, Keyed, Operation, listed};
 use std::alloc::{AllocError, Global};
@@ -153,7 +155,18 @@ fn all_keys(alloc: Global, left: &[Keyed], right: &[Keyed]) -> Result<Vec<u16>, 
     listed::combined(alloc, &keys, &others, Operation::Union)
 }
 
+// A copy of a block where `keeps` says so, and else no number.
+fn kept(alloc: Global, block: &Block, keeps: bool) -> Result<Block, AllocError>
+    ensures { IfOk result (λ made. made ≡ (if keeps then block.now else [])) }
+{
+    if keeps {
+        return block.clone();
+    }
+    Ok(Block::new(alloc))
+}
+
 // The numbers of the block with a key that an operation makes of those of two lists of blocks.
+#[tactic(auto, using(crate::proofs::Made::combined_left, crate::proofs::Made::combined_right, crate::proofs::Made::combined_none, crate::proofs::Made::kept_ascends, crate::proofs::Keys::block_ascends))]
 fn combined_at(
     alloc: Global,
     left: &[Keyed],
@@ -166,10 +179,12 @@ fn combined_at(
     ensures members { IfOk result (λ block. Combines (made_by operation) (block_at left.now key) (block_at right.now key) block) }
     ensures ascends { IfOk result (λ block. Ascends block) }
 {
-    let empty = Block::new(alloc);
-    let numbers = get(left, key).unwrap_or(&empty);
-    let others = get(right, key).unwrap_or(&empty);
-    numbers.combined(alloc, others, operation)
+    match (get(left, key), get(right, key)) {
+        (Some(numbers), Some(others)) => numbers.combined(alloc, others, operation),
+        (Some(numbers), None) => kept(alloc, numbers, operation.keeps_left()),
+        (None, Some(others)) => kept(alloc, others, operation.keeps_right()),
+        (None, None) => Ok(Block::new(alloc)),
+    }
 }
 
 // What an operation makes of two lists of blocks.
@@ -195,7 +210,7 @@ pub(crate) fn combined(
 
 // Appends a block, where it has a number. Requires that its key is past those of the others.
 #[tactic(auto, using(crate::proofs::Made::pushed_keyed, crate::proofs::Made::pushed_below, crate::proofs::Made::pushed_replaces, crate::proofs::Made::skipped_replaces, crate::proofs::Made::skipped_below))]
-fn push_some(blocks: &mut Vec<Keyed>, key: u16, block: Block) -> Result<(), AllocError>
+pub(crate) fn push_some(blocks: &mut Vec<Keyed>, key: u16, block: Block) -> Result<(), AllocError>
     requires keyed { AreKeyed blocks.old.items }
     requires past { All (λ keyed. keyed.key < key) blocks.old.items }
     requires ascends { Ascends block }

@@ -1,14 +1,17 @@
 //! A set of numbers of 32 bits.
 ghost use Rattle.std.specs.Prelude.{◌≡◌, ◌≤◌, ◌<◌, ◌-◌, ◌↔◌, ◌^◌, ℕ, [], IfOk, IsTrue, OnErr, OnOk, false, length, not, slice_get, true};
-ghost use Rattle.std.specs.Iterator.{YieldsFirst};
-ghost use Rattle.std.specs.Iterator.Runs.{YieldsInOrder};
+ghost use Rattle.std.specs.Iterator.{YieldsFirst, YieldsLast};
+ghost use Rattle.std.specs.Iterator.Runs.{YieldsInOrder, YieldsInReverse};
 ghost use Rattle.bit_roaring.specs.SetLeft.{set_left};
 ghost use Rattle.bit_blocks.specs.Numbers.{AscendsIn, Combines, Gains, Loses, count_below, count_where, has};
 ghost use Rattle.bit_blocks.specs.Operation.{made_by};
 
 mod bytes;
+mod collect;
 mod combined;
 mod counted;
+mod ranges;
+mod traits;
 
 use crate::iter::SetIter;
 use crate::keyed;
@@ -57,6 +60,14 @@ impl RoaringSet {
         ensures ascends { AscendsIn 0 (2 ^ 32) self.now }
     {
         keyed::count(&self.blocks)
+    }
+
+    // The numbers ascend. Does nothing: a proof that has the set alone calls it.
+    #[tactic(auto, using(crate::proofs::Sets::set_ascends))]
+    fn prove_order(&self)
+        ensures { AscendsIn 0 (2 ^ 32) self.now }
+    {
+        let _ = &self.blocks;
     }
 
     /// Whether there is no number.
@@ -129,10 +140,11 @@ impl RoaringSet {
         )
     }
 
-    /// The numbers, ascending.
+    /// The numbers, ascending, from both ends.
     pub fn iter(&self) -> SetIter<'_>
         ensures list { set_left result ≡ self.now }
         ensures runs { YieldsInOrder (YieldsFirst set_left) set_left }
+        ensures runs_back { YieldsInReverse (YieldsLast set_left) set_left }
     {
         SetIter::of(&self.blocks)
     }
@@ -150,19 +162,5 @@ impl RoaringSet {
         ensures { self.new ≡ [] }
     {
         self.blocks.clear();
-    }
-}
-
-impl Clone for RoaringSet {
-    ghost use Rattle.std.specs.Prelude.{◌≡◌};
-
-    ghost is_clone = { λ set copy. copy ≡ set };
-
-    ghost is_infallible = { λ _. ⊥ };
-
-    /// A copy, its blocks in the same forms.
-    fn clone(&self) -> Result<Self, AllocError> {
-        let blocks = keyed::copied(*self.blocks.allocator(), &self.blocks)?;
-        Ok(RoaringSet { blocks })
     }
 }

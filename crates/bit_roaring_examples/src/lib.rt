@@ -5,13 +5,21 @@
 use std::process::Abort;
 
 #[cfg(test)]
+mod beside;
+#[cfg(test)]
 mod blocks;
 #[cfg(test)]
 mod combined;
 #[cfg(test)]
+mod compared;
+#[cfg(test)]
+mod cut;
+#[cfg(test)]
 mod grown;
 #[cfg(test)]
 mod listed;
+#[cfg(test)]
+mod ranges;
 #[cfg(test)]
 mod refused;
 #[cfg(test)]

@@ -145,7 +145,7 @@ fn bits_of_five_thousand(rt: HostRuntime) {
 }
 
 // Four blocks, of which all but the third are runs: flags 1101, and data at 37, 43, 49 and 53.
-const FOUR: [u8; 59] = [
+pub const FOUR: [u8; 59] = [
     59, 48, 3, 0, 11, 0, 0, 9, 0, 1, 0, 9, 0, 2, 0, 1, 0, 5, 0, 9, 0, 37, 0, 0, 0, 43, 0, 0, 0, 49,
     0, 0, 0, 53, 0, 0, 0, 1, 0, 0, 0, 9, 0, 1, 0, 0, 0, 9, 0, 3, 0, 7, 0, 1, 0, 100, 0, 9, 0,
 ];

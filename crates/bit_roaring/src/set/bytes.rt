@@ -1,8 +1,10 @@
 //! Sets as bytes, and bytes as sets: Roaring's portable format.
-ghost use Rattle.std.specs.Prelude.{◌≡◌, Bool, List, ℕ, IfErr, IfOk, Ok};
+ghost use Rattle.std.specs.Prelude.{◌≡◌, ◌^◌, Bool, List, ℕ, IfErr, IfOk, Ok};
+ghost use Rattle.bit_blocks.specs.Numbers.{AscendsIn};
 ghost use Rattle.bit_portable.specs.Faults.{FailsBy, Tells};
+ghost use Rattle.bit_portable.specs.Portable.{IsFormOf};
 ghost use Rattle.bit_portable.specs.Reading.{Fails, Gives, all_of};
-ghost use Rattle.bit_roaring.specs.Bytes.{AreNumbers, IsPortable};
+ghost use Rattle.bit_roaring.specs.Bytes.{blocks_of, set_bytes};
 
 use crate::set::RoaringSet;
 use bit_portable::{ReadError, read, write};
@@ -13,17 +15,19 @@ impl RoaringSet {
     /// sets have equal bytes.
     #[tactic(auto, using(crate::proofs::Bytes::are_blocks, crate::proofs::Bytes::set_written))]
     pub fn to_bytes(&self, with_runs: bool) -> Result<Vec<u8>, AllocError>
-        ensures { IfOk result (λ bytes. IsPortable with_runs self.now bytes.items) }
+        ensures { IfOk result (λ bytes. bytes.items ≡ set_bytes with_runs self.now) }
     {
         write(*self.blocks.allocator(), &self.blocks, with_runs)
     }
 
-    /// The set of which all bytes are a form, in Roaring's portable format. What `to_bytes` made is read back, unless
-    /// memory runs out.
-    #[tactic(auto, using(crate::proofs::Bytes::are_keyed, crate::proofs::Bytes::set_read))]
+    /// The set of which all bytes are a form, in Roaring's portable format. What `to_bytes` made is read back, and so is
+    /// each other form of a set, unless memory runs out. A fault is the first that reading comes to.
+    #[tactic(auto, using(crate::proofs::Bytes::are_keyed, crate::proofs::Bytes::set_read, crate::proofs::Sets::set_ascends))]
     pub fn from_bytes(alloc: Global, bytes: &[u8]) -> Result<Self, ReadError>
-        ensures found { IfOk result (λ set. AreNumbers bytes.now set) }
-        ensures back { (with_runs : Bool) (numbers : List ℕ) → IsPortable with_runs numbers bytes.now → Gives (λ set. set) result (Ok numbers) }
+        ensures found { IfOk result (λ set. IsFormOf bytes.now (blocks_of set)) }
+        ensures ascends { IfOk result (λ set. AscendsIn 0 (2 ^ 32) set) }
+        ensures only { (numbers : List ℕ) → AscendsIn 0 (2 ^ 32) numbers → IsFormOf bytes.now (blocks_of numbers) → Gives (λ set. set) result (Ok numbers) }
+        ensures back { (with_runs : Bool) (numbers : List ℕ) → AscendsIn 0 (2 ^ 32) numbers → bytes.now ≡ set_bytes with_runs numbers → Gives (λ set. set) result (Ok numbers) }
         ensures exact { IfErr result (λ e. Fails e (all_of bytes.now)) }
         ensures fault { FailsBy result (Tells bytes.now) }
     {

@@ -1,0 +1,103 @@
+// The works of sparse/ by CRoaring, and files in both directions. Arguments: a folder, how many numbers, repetitions.
+#include "timed.hpp"
+#include <cstdint>
+#include <cstdlib>
+#include <fstream>
+#include <iterator>
+#include <roaring/roaring.h>
+#include <string>
+
+static uint64_t mixed(uint64_t k) {
+  uint64_t x = (k + 1) * 0x9E3779B97F4A7C15;
+  x = (x ^ x >> 30) * 0xBF58476D1CE4E5B9;
+  x = (x ^ x >> 27) * 0x94D049BB133111EB;
+  return x ^ x >> 31;
+}
+
+static uint32_t number(uint64_t kind, uint64_t k) {
+  switch (kind) {
+  case 0: return mixed(k) >> 32;
+  case 1: return mixed(k) % 67108864;
+  case 2: return mixed(k) % 4194304;
+  default: return mixed(k / 100) % 67108864 + k % 100;
+  }
+}
+
+// A set that is freed where it ends.
+struct Set {
+  roaring_bitmap_t *bits;
+  explicit Set(roaring_bitmap_t *bits) : bits(bits) {}
+  Set(const Set &) = delete;
+  Set(Set &&other) : bits(other.bits) { other.bits = nullptr; }
+  ~Set() { if (bits) roaring_bitmap_free(bits); }
+  size_t len() const { return roaring_bitmap_get_cardinality(bits); }
+  Set copy() const { return Set(roaring_bitmap_copy(bits)); }
+};
+
+static Set made(uint64_t kind, uint64_t seed, uint64_t size) {
+  Set set(roaring_bitmap_create());
+  for (uint64_t k = 0; k < size; k++) roaring_bitmap_add(set.bits, number(kind, seed + k));
+  return set;
+}
+
+static size_t count_found(const Set &set, uint64_t kind, uint64_t size) {
+  size_t found = 0;
+  for (uint64_t k = 0; k < size; k++) found += roaring_bitmap_contains(set.bits, number(kind, k * 2));
+  return found;
+}
+
+static size_t sum(const Set &set) {
+  size_t total = 0;
+  roaring_uint32_iterator_t left;
+  roaring_init_iterator(set.bits, &left);
+  while (left.has_value) {
+    total += left.current_value;
+    roaring_advance_uint32_iterator(&left);
+  }
+  return total;
+}
+
+static std::vector<char> written(const Set &set) {
+  std::vector<char> bytes(roaring_bitmap_portable_size_in_bytes(set.bits));
+  roaring_bitmap_portable_serialize(set.bits, bytes.data());
+  return bytes;
+}
+
+static int none() { return 0; }
+
+static void run(const std::string &folder, uint64_t kind, const std::string &name, uint64_t size, size_t repetitions) {
+  auto work = [&](const char *what) { return name + "_" + what; };
+  auto len = [](auto &, Set &set) { return set.len(); };
+  auto count = [](auto &, size_t found) { return found; };
+  timed(work("made").c_str(), repetitions, none, [&](int) { return made(kind, 0, size); }, len);
+  Set a = made(kind, 0, size), b = made(kind, size / 2, size);
+  timed(work("optimized").c_str(), repetitions, [&] { return a.copy(); }, [](Set &set) { return roaring_bitmap_run_optimize(set.bits); }, [](Set &set, bool) { return set.len(); });
+  roaring_bitmap_run_optimize(a.bits);
+  roaring_bitmap_run_optimize(b.bits);
+  timed(work("contains").c_str(), repetitions, none, [&](int) { return count_found(a, kind, size); }, count);
+  timed(work("count_and").c_str(), repetitions, none, [&](int) { return (size_t)roaring_bitmap_and_cardinality(a.bits, b.bits); }, count);
+  timed(work("count_or").c_str(), repetitions, none, [&](int) { return (size_t)roaring_bitmap_or_cardinality(a.bits, b.bits); }, count);
+  timed(work("and").c_str(), repetitions, none, [&](int) { return Set(roaring_bitmap_and(a.bits, b.bits)); }, len);
+  timed(work("or").c_str(), repetitions, none, [&](int) { return Set(roaring_bitmap_or(a.bits, b.bits)); }, len);
+  timed(work("iterated").c_str(), repetitions, none, [&](int) { return sum(a); }, count);
+  timed(work("equal").c_str(), repetitions, [&] { return a.copy(); }, [&](Set &copy) { return (size_t)roaring_bitmap_equals(a.bits, copy.bits); }, count);
+  timed(work("written").c_str(), repetitions, none, [&](int) { return written(a); }, [](auto &, std::vector<char> &bytes) { return bytes.size(); });
+  auto bytes = written(a);
+  timed(work("read").c_str(), repetitions, none, [&](int) { return Set(roaring_bitmap_portable_deserialize_safe(bytes.data(), bytes.size())); }, len);
+  std::ofstream(folder + "/" + name + ".theirs", std::ios::binary).write(bytes.data(), bytes.size());
+  std::ifstream file(folder + "/" + name + ".ours", std::ios::binary);
+  if (!file) return;
+  std::vector<char> ours{std::istreambuf_iterator<char>(file), std::istreambuf_iterator<char>()};
+  Set back(roaring_bitmap_portable_deserialize_safe(ours.data(), ours.size()));
+  std::printf("%s_file 0 %d\n", name.c_str(), back.bits && roaring_bitmap_equals(back.bits, a.bits) && ours == bytes);
+}
+
+int main(int count, char **words) {
+  if (count < 2) return 0;
+  uint64_t size = count > 2 ? std::strtoull(words[2], nullptr, 10) : 1000000;
+  size_t repetitions = count > 3 ? std::strtoull(words[3], nullptr, 10) : 5;
+  run(words[1], 0, "wide", size, repetitions);
+  run(words[1], 1, "listed", size, repetitions);
+  run(words[1], 2, "dense", size, repetitions);
+  run(words[1], 3, "runs", size, repetitions);
+}

@@ -1,0 +1,109 @@
+//! Ranges of numbers: put into a set, taken out and counted.
+ghost use Rattle.std.specs.Prelude.{◌≡◌, ◌≤◌, ◌+◌, ◌^◌, OnErr, OnOk, length};
+ghost use Rattle.std.specs.Range.Bound.{end_index, start_index};
+ghost use Rattle.bit_blocks.specs.Numbers.{count_below};
+ghost use Rattle.bit_roaring.specs.Ranges.{GainsRange, LosesRange, numbers_within};
+
+use crate::keyed::ranges::change_range;
+use crate::set::RoaringSet;
+use bit_blocks::Operation;
+use std::alloc::AllocError;
+use std::ops::{Bound, RangeBounds};
+
+// The first number of a range, and the number after its last. A range without an end ends with the greatest number.
+fn ends_of<R: RangeBounds<u32>>(numbers: &R) -> (u64, u64)
+    requires { R.has_bounds numbers.now }
+    ensures start { result.0 ≡ start_index (R.start_bound numbers.now) }
+    ensures end { result.1 ≡ end_index (R.end_bound numbers.now) (2 ^ 32) }
+    ensures start_small { result.0 ≤ 2 ^ 32 }
+    ensures end_small { result.1 ≤ 2 ^ 32 }
+{
+    let start = match numbers.start_bound() {
+        Bound::Included(start) => *start as u64,
+        Bound::Excluded(before) => *before as u64 + 1,
+        Bound::Unbounded => 0,
+    };
+    let end = match numbers.end_bound() {
+        Bound::Included(last) => *last as u64 + 1,
+        Bound::Excluded(end) => *end as u64,
+        Bound::Unbounded => 4294967296,
+    };
+    (start, end)
+}
+
+impl RoaringSet {
+    /// Puts all numbers of a range of any kind in, as runs. Only the blocks that have numbers of the range are made anew.
+    /// Where memory is refused, the set is as it was. Requires that the range was not iterated to its end.
+    ///
+    /// ```text
+    /// of 2, 3: set.insert_range(3..6)? leaves 2, 3, 4, 5
+    /// ```
+    pub fn insert_range<R: RangeBounds<u32>>(&mut self, numbers: R) -> Result<(), AllocError>
+        requires { R.has_bounds numbers }
+        ensures gains { OnOk result (GainsRange self.old self.new (start_index (R.start_bound numbers)) (end_index (R.end_bound numbers) (2 ^ 32))) }
+        ensures refused { OnErr result (self.new ≡ self.old) }
+    {
+        let (start, end) = ends_of(&numbers);
+        if start >= end {
+            return Ok(());
+        }
+        change_range(
+            &mut self.blocks,
+            start as u32,
+            (end - 1) as u32,
+            Operation::Union,
+        )
+    }
+
+    /// Takes all numbers of a range of any kind out. Only the blocks that have numbers of the range are made anew. Where
+    /// memory is refused, the set is as it was. Requires that the range was not iterated to its end.
+    ///
+    /// ```text
+    /// of 2, 3, 4, 7: set.remove_range(3..=4)? leaves 2, 7
+    /// ```
+    pub fn remove_range<R: RangeBounds<u32>>(&mut self, numbers: R) -> Result<(), AllocError>
+        requires { R.has_bounds numbers }
+        ensures loses { OnOk result (LosesRange self.old self.new (start_index (R.start_bound numbers)) (end_index (R.end_bound numbers) (2 ^ 32))) }
+        ensures refused { OnErr result (self.new ≡ self.old) }
+    {
+        let (start, end) = ends_of(&numbers);
+        if start >= end {
+            return Ok(());
+        }
+        change_range(
+            &mut self.blocks,
+            start as u32,
+            (end - 1) as u32,
+            Operation::Difference,
+        )
+    }
+
+    /// The count of numbers of a range of any kind that are in the set. Takes no memory. Requires that the range was not
+    /// iterated to its end.
+    ///
+    /// ```text
+    /// of 2, 3, 4, 7: set.count_in(3..8) == 3
+    /// of 2, 3, 4, 7: set.count_in(..=3) == 2
+    /// ```
+    pub fn count_in<R: RangeBounds<u32>>(&self, numbers: R) -> u64
+        requires { R.has_bounds numbers }
+        ensures { result ≡ length (numbers_within (start_index (R.start_bound numbers)) (end_index (R.end_bound numbers) (2 ^ 32)) self.now) }
+    {
+        let (start, end) = ends_of(&numbers);
+        if start >= end {
+            return 0;
+        }
+        self.count_before(end) - self.count_before(start)
+    }
+
+    // The count of numbers below `number`.
+    fn count_before(&self, number: u64) -> u64
+        requires { number ≤ 2 ^ 32 }
+        ensures { result ≡ count_below self.now number }
+    {
+        if number == 4294967296 {
+            return self.len();
+        }
+        self.rank(number as u32)
+    }
+}

@@ -1,0 +1,41 @@
+//! Functions over sets that prove with no file.
+ghost use Rattle.std.specs.Prelude.{◌≡◌, ◌↔◌, ◌-◌, ℕ, IfOk, IsTrue, OnOk, length, slice_get, true};
+ghost use Rattle.bit_blocks.specs.Numbers.{has};
+
+use bit_portable::ReadError;
+use bit_roaring::RoaringSet;
+use std::alloc::{AllocError, Global};
+
+/// A set that is written is read back.
+pub fn through_bytes(alloc: Global, set: &RoaringSet) -> Result<RoaringSet, ReadError>
+    ensures { IfOk result (λ copy. copy ≡ set.now) }
+{
+    let bytes = set.to_bytes(true)?;
+    RoaringSet::from_bytes(alloc, &bytes)
+}
+
+/// Each number of a range is there once the range was put in.
+pub fn filled(set: &mut RoaringSet, first: u32, last: u32, number: u32) -> Result<bool, AllocError>
+    requires first { first ≤ number }
+    requires last { number ≤ last }
+    ensures { IfOk result (λ there. there ≡ true) }
+{
+    set.insert_range(first..=last)?;
+    Ok(set.contains(number))
+}
+
+/// The first number from the back is the last one.
+pub fn greatest(set: &RoaringSet) -> Option<u32>
+    ensures { result ≡ slice_get set.now (length set.now - 1) }
+{
+    set.last()
+}
+
+/// Equal sets have the same bytes.
+pub fn same_bytes(a: &RoaringSet, b: &RoaringSet) -> Result<bool, AllocError>
+    ensures { (a.now ≡ b.now) → IfOk result (λ same. same ≡ true) }
+{
+    let left = a.to_bytes(true)?;
+    let right = b.to_bytes(true)?;
+    Ok(left.as_slice() == right.as_slice())
+}

@@ -5,7 +5,7 @@ ghost use Rattle.std.specs.Iterator.Runs.{YieldsInOrder, YieldsInReverse};
 ghost use Rattle.std.specs.List.{range_with_len};
 ghost use Rattle.bit_slice.specs.Places.{ones_of};
 ghost use Rattle.bit_blocks.specs.BlockLeft.{block_left};
-ghost use Rattle.bit_blocks.specs.Numbers.{Ascends, Combines, Gains, Loses, count_below, count_where, has};
+ghost use Rattle.bit_blocks.specs.Numbers.{Ascends, Combines, Gains, Loses, count_below, count_where, has, numbers_between};
 ghost use Rattle.bit_blocks.specs.Operation.{made_by};
 ghost use Rattle.bit_blocks.specs.Form.{IsForm, numbers_of};
 ghost use Rattle.bit_blocks.specs.Runs.{AreRuns, run_numbers};
@@ -216,6 +216,18 @@ impl Block {
     {
         BlockIter {
             left: form::left_of(&self.form),
+        }
+    }
+
+    /// The numbers from `first` to `last`, both included, ascending, from both ends. None where `first` is above `last`.
+    /// Takes no memory.
+    pub fn range(&self, first: u16, last: u16) -> BlockIter<'_>
+        ensures list { block_left result ≡ numbers_between first last self.now }
+        ensures runs { YieldsInOrder (YieldsFirst block_left) block_left }
+        ensures runs_back { YieldsInReverse (YieldsLast block_left) block_left }
+    {
+        BlockIter {
+            left: form::left_between(&self.form, first, last),
         }
     }
 

@@ -5,7 +5,7 @@ ghost use Rattle.bit_slice.specs.Places.{ones_of};
 ghost use Rattle.bit_blocks.specs.Bits.{AreBits};
 ghost use Rattle.bit_blocks.specs.BlockLeft.{form_left};
 ghost use Rattle.bit_blocks.specs.Form.{IsForm, numbers_of};
-ghost use Rattle.bit_blocks.specs.Numbers.{Ascends, Combines, Gains, Loses, count_below, count_where, has};
+ghost use Rattle.bit_blocks.specs.Numbers.{Ascends, Combines, Gains, Loses, count_below, count_where, has, numbers_between};
 ghost use Rattle.bit_blocks.specs.Operation.{made_by};
 ghost use Rattle.bit_blocks.specs.Runs.{AreRuns, numbers_of_run, run_numbers};
 
@@ -397,5 +397,21 @@ pub(crate) fn left_of(form: &Form) -> Left<'_>
         Form::Listed(numbers) => Left::Listed(numbers.as_slice()),
         Form::Mapped(bits) => Left::Mapped(OnesLeft::of(bits)),
         Form::Ranged(runs) => Left::Ranged(RunsLeft::of(runs)),
+    }
+}
+
+// The numbers from `first` to `last`, one after another.
+#[tactic(auto, using(crate::proofs::Between::none_between))]
+pub(crate) fn left_between(form: &Form, first: u16, last: u16) -> Left<'_>
+    requires { IsForm form.now }
+    ensures { form_left result ≡ numbers_between first last (numbers_of form.now) }
+{
+    if last < first {
+        return Left::Listed(&[]);
+    }
+    match form {
+        Form::Listed(numbers) => Left::Listed(listed::between(numbers, first, last)),
+        Form::Mapped(bits) => Left::Mapped(OnesLeft::between(bits, first, last)),
+        Form::Ranged(runs) => Left::Ranged(RunsLeft::between(runs, first, last)),
     }
 }

@@ -1,7 +1,7 @@
 //! Ascending numbers in a slice: found, put in, taken out, combined and counted.
-ghost use Rattle.std.specs.Prelude.{◌≡◌, ◌++◌, ◌∷◌, [], if◌then◌else◌, ◌≤◌, IfOk, MatchResult, OnErr, OnOk, Some, length, not, slice_get, true, false, ◌<◌};
+ghost use Rattle.std.specs.Prelude.{◌≡◌, ◌++◌, ◌∷◌, [], if◌then◌else◌, ◌≤◌, ◌+◌, IfOk, MatchResult, OnErr, OnOk, Some, length, not, slice_get, true, false, ◌<◌};
 ghost use Rattle.bit_blocks.specs.Operation.{made_by};
-ghost use Rattle.bit_blocks.specs.Numbers.{Ascends, Combines, Gains, Loses, count_below, count_where, has};
+ghost use Rattle.bit_blocks.specs.Numbers.{Ascends, Combines, Gains, Loses, count_below, count_where, has, numbers_between};
 
 use crate::operation::Operation;
 use std::alloc::{AllocError, Global};
@@ -13,6 +13,26 @@ pub fn place_of(numbers: &[u16], number: u16) -> usize
     ensures within { result ≤ length numbers.now }
 {
     numbers.partition_point(|&other| other < number)
+}
+
+// The count of numbers that are at most `number`.
+fn place_after(numbers: &[u16], number: u16) -> usize
+    requires { Ascends numbers.now }
+    ensures value { result ≡ count_below numbers.now (number + 1) }
+    ensures within { result ≤ length numbers.now }
+{
+    numbers.partition_point(|&other| other <= number)
+}
+
+// The numbers from `first` to `last`.
+pub(crate) fn between(numbers: &[u16], first: u16, last: u16) -> &[u16]
+    requires ascends { Ascends numbers.now }
+    requires ordered { first ≤ last }
+    ensures { result.now ≡ numbers_between first last numbers.now }
+{
+    let from = place_of(numbers, first);
+    let upto = place_after(numbers, last);
+    &numbers[from..upto]
 }
 
 /// Where `number` stands, or in Err where it has its place. Requires that the numbers ascend.

@@ -19,7 +19,7 @@ use Rattle.bit_blocks.proofs.Those.{ascends_those, has_those, those_empty, those
 use Rattle.bit_blocks.proofs.Counting.{count_those}
 
 -- the true items are those that pass the test of an item
-ones_those : (bits : List Bool) (n : ℕ) → length bits ≡ n → ones_of bits ≡ those (λ k. get_or bits k false) 0 n
+pub ones_those : (bits : List Bool) (n : ℕ) → length bits ≡ n → ones_of bits ≡ those (λ k. get_or bits k false) 0 n
 unfolding those
 ones_those bits n size = ap (λ m. filter (λ k. get_or bits k false) (range_with_len 0 m)) size
 

@@ -1,4 +1,6 @@
 pub mod Ascending
+pub mod Between
+pub mod Clipped
 pub mod Edits
 pub mod Forms
 pub mod Grouped

@@ -6,6 +6,7 @@ pub mod Forms
 pub mod Grouped
 pub mod Merging
 pub mod LeftOfRuns
+pub mod Ranges
 pub mod Stepping
 pub mod Summing
 pub mod Those

@@ -46,6 +46,14 @@ Gains old new number = (k : ℕ) → has new k ≡ (nat_eq number k || has old k
 abbrev pub Loses : List ℕ → List ℕ → ℕ → Type 0
 Loses old new number = (k : ℕ) → has new k ≡ (has old k && not (nat_eq number k))
 
+-- the numbers from `first` to `last` were put into a list
+abbrev pub GainsBetween : List ℕ → List ℕ → ℕ → ℕ → Type 0
+GainsBetween old new first last = (k : ℕ) → has new k ≡ (is_between first last k || has old k)
+
+-- the numbers from `first` to `last` were taken out of a list
+abbrev pub LosesBetween : List ℕ → List ℕ → ℕ → ℕ → Type 0
+LosesBetween old new first last = (k : ℕ) → has new k ≡ (has old k && not (is_between first last k))
+
 -- a number is in the third list where f says so of the two others
 abbrev pub Combines : (Bool → Bool → Bool) → List ℕ → List ℕ → List ℕ → Type 0
 Combines f xs ys zs = (k : ℕ) → has zs k ≡ f (has xs k) (has ys k)

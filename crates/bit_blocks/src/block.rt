@@ -5,7 +5,7 @@ ghost use Rattle.std.specs.Iterator.Runs.{YieldsInOrder, YieldsInReverse};
 ghost use Rattle.std.specs.List.{range_with_len};
 ghost use Rattle.bit_slice.specs.Places.{ones_of};
 ghost use Rattle.bit_blocks.specs.BlockLeft.{block_left};
-ghost use Rattle.bit_blocks.specs.Numbers.{Ascends, Combines, Gains, Loses, count_below, count_where, has, numbers_between};
+ghost use Rattle.bit_blocks.specs.Numbers.{Ascends, Combines, Gains, GainsBetween, Loses, LosesBetween, count_below, count_where, has, numbers_between};
 ghost use Rattle.bit_blocks.specs.Operation.{made_by};
 ghost use Rattle.bit_blocks.specs.Form.{IsForm, numbers_of};
 ghost use Rattle.bit_blocks.specs.Runs.{AreRuns, run_numbers};
@@ -185,6 +185,34 @@ impl Block {
         form::remove(&mut self.form, number, self.count > LISTED + 1)?;
         self.count -= 1;
         Ok(true)
+    }
+
+    /// Puts in the numbers from `first` to `last`, both included. Where memory is refused, the set is as it was. Requires
+    /// that `first` is at most `last`.
+    #[tactic(auto, using(crate::proofs::Forms::ascends_form, crate::proofs::Forms::same_count))]
+    pub fn insert_range(&mut self, first: u16, last: u16) -> Result<(), AllocError>
+        requires { first ≤ last }
+        ensures gains { OnOk result (GainsBetween self.old self.new first last) }
+        ensures ascends { Ascends self.new }
+        ensures refused { OnErr result (self.new ≡ self.old) }
+    {
+        form::insert_range(&mut self.form, first, last)?;
+        self.count = form::count(&self.form);
+        Ok(())
+    }
+
+    /// Takes out the numbers from `first` to `last`, both included. Where memory is refused, the set is as it was. Requires
+    /// that `first` is at most `last`.
+    #[tactic(auto, using(crate::proofs::Forms::ascends_form, crate::proofs::Forms::same_count))]
+    pub fn remove_range(&mut self, first: u16, last: u16) -> Result<(), AllocError>
+        requires { first ≤ last }
+        ensures loses { OnOk result (LosesBetween self.old self.new first last) }
+        ensures ascends { Ascends self.new }
+        ensures refused { OnErr result (self.new ≡ self.old) }
+    {
+        form::remove_range(&mut self.form, first, last)?;
+        self.count = form::count(&self.form);
+        Ok(())
     }
 
     /// What an operation makes of this set and another.

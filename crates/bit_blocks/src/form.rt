@@ -5,7 +5,7 @@ ghost use Rattle.bit_slice.specs.Places.{ones_of};
 ghost use Rattle.bit_blocks.specs.Bits.{AreBits};
 ghost use Rattle.bit_blocks.specs.BlockLeft.{form_left};
 ghost use Rattle.bit_blocks.specs.Form.{IsForm, numbers_of};
-ghost use Rattle.bit_blocks.specs.Numbers.{Ascends, Combines, Gains, Loses, count_below, count_where, has, numbers_between};
+ghost use Rattle.bit_blocks.specs.Numbers.{Ascends, Combines, Gains, GainsBetween, Loses, LosesBetween, count_below, count_where, has, numbers_between};
 ghost use Rattle.bit_blocks.specs.Operation.{made_by};
 ghost use Rattle.bit_blocks.specs.Runs.{AreRuns, numbers_of_run, run_numbers};
 
@@ -246,6 +246,64 @@ pub(crate) fn remove(form: &mut Form, number: u16, many: bool) -> Result<(), All
     let alloc = allocator(form);
     let mut bits = bits_of(alloc, form)?;
     mapped::remove(&mut bits, number);
+    *form = form_of(alloc, bits)?;
+    Ok(())
+}
+
+// Puts in the numbers from `first` to `last`. Where memory is refused, the numbers are as they were. All numbers are one
+// run.
+pub(crate) fn insert_range(form: &mut Form, first: u16, last: u16) -> Result<(), AllocError>
+    requires form { IsForm form.old }
+    requires ordered { first ≤ last }
+    ensures gains { OnOk result (GainsBetween (numbers_of form.old) (numbers_of form.new) first last) }
+    ensures refused { OnErr result (numbers_of form.new ≡ numbers_of form.old) }
+    ensures form { IsForm form.new }
+{
+    let alloc = allocator(form);
+    if first == 0 && last == u16::MAX {
+        *form = of_run(alloc, first, last)?;
+        return Ok(());
+    }
+    if let Form::Mapped(bits) = form {
+        mapped::insert_range(bits, first, last);
+        return Ok(());
+    }
+    let mut bits = bits_of(alloc, form)?;
+    mapped::insert_range(&mut bits, first, last);
+    *form = form_of(alloc, bits)?;
+    Ok(())
+}
+
+// Takes out the numbers from `first` to `last`. Where memory is refused, the numbers are as they were. Where no number
+// stays, no memory is taken.
+pub(crate) fn remove_range(form: &mut Form, first: u16, last: u16) -> Result<(), AllocError>
+    requires form { IsForm form.old }
+    requires ordered { first ≤ last }
+    ensures loses { OnOk result (LosesBetween (numbers_of form.old) (numbers_of form.new) first last) }
+    ensures refused { OnErr result (numbers_of form.new ≡ numbers_of form.old) }
+    ensures form { IsForm form.new }
+{
+    let alloc = allocator(form);
+    if first == 0 && last == u16::MAX {
+        *form = Form::Listed(Vec::new(alloc));
+        return Ok(());
+    }
+    let many = count(form) > LISTED + count_in(form, Run { first, last });
+    match form {
+        Form::Listed(numbers) => {
+            listed::remove_range(numbers, first, last);
+            return Ok(());
+        }
+        Form::Mapped(bits) => {
+            if many {
+                mapped::remove_range(bits, first, last);
+                return Ok(());
+            }
+        }
+        Form::Ranged(_) => {}
+    }
+    let mut bits = bits_of(alloc, form)?;
+    mapped::remove_range(&mut bits, first, last);
     *form = form_of(alloc, bits)?;
     Ok(())
 }

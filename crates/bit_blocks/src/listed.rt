@@ -1,7 +1,7 @@
 //! Ascending numbers in a slice: found, put in, taken out, combined and counted.
 ghost use Rattle.std.specs.Prelude.{◌≡◌, ◌++◌, ◌∷◌, [], if◌then◌else◌, ◌≤◌, ◌+◌, IfOk, MatchResult, OnErr, OnOk, Some, length, not, slice_get, true, false, ◌<◌};
 ghost use Rattle.bit_blocks.specs.Operation.{made_by};
-ghost use Rattle.bit_blocks.specs.Numbers.{Ascends, Combines, Gains, Loses, count_below, count_where, has, numbers_between};
+ghost use Rattle.bit_blocks.specs.Numbers.{Ascends, Combines, Gains, Loses, LosesBetween, count_below, count_where, has, numbers_between};
 
 use crate::operation::Operation;
 use std::alloc::{AllocError, Global};
@@ -94,6 +94,15 @@ pub fn remove(numbers: &mut Vec<u16>, number: u16) -> bool
         },
         Err(_) => false,
     }
+}
+
+// Takes out the numbers from `first` to `last`.
+pub(crate) fn remove_range(numbers: &mut Vec<u16>, first: u16, last: u16)
+    requires { Ascends numbers.old.items }
+    ensures loses { LosesBetween numbers.old.items numbers.new.items first last }
+    ensures ascends { Ascends numbers.new.items }
+{
+    numbers.retain(|number| *number < first || last < *number);
 }
 
 // Appends numbers, where `keeps` says so.

@@ -1,8 +1,8 @@
 //! Numbers below 65536 as the true bits of a vector of that length.
-ghost use Rattle.std.specs.Prelude.{◌≡◌, ◌||◌, [], IfOk, false, length, slice_get};
+ghost use Rattle.std.specs.Prelude.{◌≡◌, ◌≤◌, ◌||◌, [], IfOk, false, length, slice_get};
 ghost use Rattle.bit_slice.specs.Places.{ones_of};
 ghost use Rattle.bit_blocks.specs.Bits.{AreBits};
-ghost use Rattle.bit_blocks.specs.Numbers.{Combines, Gains, Loses, count_below, count_where, has};
+ghost use Rattle.bit_blocks.specs.Numbers.{Combines, Gains, GainsBetween, Loses, LosesBetween, count_below, count_where, has};
 ghost use Rattle.bit_blocks.specs.Operation.{made_by};
 ghost use Rattle.bit_blocks.specs.Runs.{AreRuns, run_numbers};
 
@@ -90,6 +90,28 @@ pub(crate) fn remove(bits: &mut Bits, number: u16)
     ensures loses { Loses (ones_of bits.old.list) (ones_of bits.new.list) number }
 {
     BitListMut::set(bits, number as usize, false);
+}
+
+// Puts in the numbers from `first` to `last`.
+#[tactic(auto, using(crate::proofs::Ranges::ones_filled))]
+pub(crate) fn insert_range(bits: &mut Bits, first: u16, last: u16)
+    requires size { AreBits bits.old.list }
+    requires ordered { first ≤ last }
+    ensures size { AreBits bits.new.list }
+    ensures gains { GainsBetween (ones_of bits.old.list) (ones_of bits.new.list) first last }
+{
+    BitListMut::fill_range(bits, first as usize..last as usize + 1, true);
+}
+
+// Takes out the numbers from `first` to `last`.
+#[tactic(auto, using(crate::proofs::Ranges::ones_cleared))]
+pub(crate) fn remove_range(bits: &mut Bits, first: u16, last: u16)
+    requires size { AreBits bits.old.list }
+    requires ordered { first ≤ last }
+    ensures size { AreBits bits.new.list }
+    ensures loses { LosesBetween (ones_of bits.old.list) (ones_of bits.new.list) first last }
+{
+    BitListMut::fill_range(bits, first as usize..last as usize + 1, false);
 }
 
 // Puts numbers in.

@@ -3,7 +3,9 @@ pub mod Between
 pub mod Clipped
 pub mod Edits
 pub mod Forms
+pub mod Edges
 pub mod Grouped
+pub mod Joined
 pub mod Merging
 pub mod LeftOfRuns
 pub mod Ranges

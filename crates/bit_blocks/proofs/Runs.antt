@@ -236,3 +236,13 @@ one_is_run rs first last is ordered most = subst AreRuns (sym is) (omega arith, 
 
 pub one_has : (rs : List Run) (first last : ℕ) → rs ≡ record { first = first; last = last } ∷ [] → run_numbers rs ≡ range_with_len first (last + 1 - first)
 one_has rs first last is = ap run_numbers is ∙ append-nil (range_with_len first (last + 1 - first))
+
+-- two runs are two numbers apart, so there are few
+pub few_runs : (from : ℕ) (rs : List Run) → from ≤ 65537 → AreRunsFrom from rs → from + 2 * length rs ≤ 65537
+few_runs from [] low h = omega arith
+few_runs from (r ∷ rs) low h =
+    let first : from ≤ r.first = h.0 in
+    let ordered : r.first ≤ r.last = h.1 in
+    let most : r.last < 65536 = h.2 in
+    let rest = few_runs (r.last + 2) rs (omega arith) h.3 in
+    omega arith

@@ -8,7 +8,7 @@ ghost use Rattle.bit_blocks.specs.BlockLeft.{block_left};
 ghost use Rattle.bit_blocks.specs.Numbers.{Ascends, Combines, Gains, GainsBetween, Loses, LosesBetween, count_below, count_where, has, numbers_between};
 ghost use Rattle.bit_blocks.specs.Operation.{made_by};
 ghost use Rattle.bit_blocks.specs.Form.{IsForm, numbers_of};
-ghost use Rattle.bit_blocks.specs.Runs.{AreRuns, run_numbers};
+ghost use Rattle.bit_blocks.specs.Runs.{AreRuns, run_numbers, runs_of};
 
 use crate::form;
 use crate::form::{Form, LISTED};
@@ -278,15 +278,26 @@ impl Block {
     }
 
     /// The numbers as runs: as many numbers as possible in each.
+    #[tactic(auto, using(crate::proofs::Joined::are_runs_of))]
     pub fn to_runs(&self, alloc: Global) -> Result<Vec<Run>, AllocError>
+        ensures exact { IfOk result (λ runs. runs.items ≡ runs_of self.now) }
         ensures runs { IfOk result (λ runs. AreRuns runs.items) }
         ensures numbers { IfOk result (λ runs. run_numbers runs.items ≡ self.now) }
     {
         form::runs_of(alloc, &self.form)
     }
 
+    /// The count of runs that `to_runs` makes. Takes no memory.
+    pub fn count_runs(&self) -> usize
+        ensures value { result ≡ length (runs_of self.now) }
+        ensures few { result ≤ 32768 }
+    {
+        form::count_runs(&self.form)
+    }
+
     /// Keeps the numbers in the form that takes the least memory: runs where they are fewer than half of the numbers, and
-    /// than 2048, and else a list or bits. Where memory is refused, they are kept as they were.
+    /// than 2048, and else a list or bits. Takes no memory where they are in that form. Where memory is refused, they are
+    /// kept as they were.
     #[tactic(auto, using(crate::proofs::Forms::same_count))]
     pub fn optimize(&mut self) -> Result<(), AllocError>
         ensures { self.new ≡ self.old }

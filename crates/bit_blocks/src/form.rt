@@ -7,7 +7,7 @@ ghost use Rattle.bit_blocks.specs.BlockLeft.{form_left};
 ghost use Rattle.bit_blocks.specs.Form.{IsForm, numbers_of};
 ghost use Rattle.bit_blocks.specs.Numbers.{Ascends, Combines, Gains, GainsBetween, Loses, LosesBetween, count_below, count_where, has, numbers_between};
 ghost use Rattle.bit_blocks.specs.Operation.{made_by};
-ghost use Rattle.bit_blocks.specs.Runs.{AreRuns, numbers_of_run, run_numbers};
+ghost use Rattle.bit_blocks.specs.Runs.{AreRuns, numbers_of_run, run_numbers, runs_of};
 
 use crate::iter::{Left, OnesLeft};
 use crate::mapped::Bits;
@@ -428,6 +428,20 @@ pub(crate) fn copied(form: &Form) -> Result<Form, AllocError>
     }
 }
 
+// The count of runs, where as many numbers as possible are in each.
+#[tactic(auto, using(crate::proofs::Joined::count_again, crate::proofs::Joined::few_runs_of, crate::proofs::Forms::ascends_form))]
+pub(crate) fn count_runs(form: &Form) -> usize
+    requires { IsForm form.now }
+    ensures value { result ≡ length (runs_of (numbers_of form.now)) }
+    ensures few { result ≤ 32768 }
+{
+    match form {
+        Form::Listed(numbers) => listed::count_runs(numbers),
+        Form::Mapped(bits) => mapped::count_runs(bits),
+        Form::Ranged(runs) => runs.len(),
+    }
+}
+
 // Keeps the numbers in the form that takes the least memory.
 #[tactic(auto, using(crate::proofs::Forms::ascends_form))]
 pub(crate) fn optimize(form: &mut Form) -> Result<(), AllocError>
@@ -435,13 +449,44 @@ pub(crate) fn optimize(form: &mut Form) -> Result<(), AllocError>
     ensures same { numbers_of form.new ≡ numbers_of form.old }
     ensures form { IsForm form.new }
 {
-    let alloc = allocator(form);
-    let numbers = list_of(alloc, form)?;
-    let runs = ranged::runs_of(alloc, &numbers)?;
-    if runs.len() < numbers.len() / 2 && runs.len() < LISTED / 2 {
-        *form = Form::Ranged(runs);
+    let (count, runs) = (count(form), count_runs(form));
+    if runs < count / 2 && runs < LISTED / 2 {
+        make_ranged(form)
+    } else {
+        make_plain(form, count <= LISTED)
+    }
+}
+
+// Keeps the numbers as runs.
+fn make_ranged(form: &mut Form) -> Result<(), AllocError>
+    requires { IsForm form.old }
+    ensures same { numbers_of form.new ≡ numbers_of form.old }
+    ensures form { IsForm form.new }
+{
+    if let Form::Ranged(_) = form {
         return Ok(());
     }
+    let runs = runs_of(allocator(form), form)?;
+    *form = Form::Ranged(runs);
+    Ok(())
+}
+
+// Keeps the numbers as a list where they are few, and else as bits.
+#[tactic(auto, using(crate::proofs::Forms::ascends_form))]
+fn make_plain(form: &mut Form, few: bool) -> Result<(), AllocError>
+    requires { IsForm form.old }
+    ensures same { numbers_of form.new ≡ numbers_of form.old }
+    ensures form { IsForm form.new }
+{
+    let kept = match form {
+        Form::Listed(_) => few,
+        Form::Mapped(_) => !few,
+        Form::Ranged(_) => false,
+    };
+    if kept {
+        return Ok(());
+    }
+    let numbers = list_of(allocator(form), form)?;
     *form = of_list(numbers)?;
     Ok(())
 }

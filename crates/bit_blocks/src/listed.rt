@@ -1,6 +1,7 @@
 //! Ascending numbers in a slice: found, put in, taken out, combined and counted.
 ghost use Rattle.std.specs.Prelude.{◌≡◌, ◌++◌, ◌∷◌, [], if◌then◌else◌, ◌≤◌, ◌+◌, IfOk, MatchResult, OnErr, OnOk, Some, length, not, slice_get, true, false, ◌<◌};
 ghost use Rattle.bit_blocks.specs.Operation.{made_by};
+ghost use Rattle.bit_blocks.specs.Runs.{runs_of};
 ghost use Rattle.bit_blocks.specs.Numbers.{Ascends, Combines, Gains, Loses, LosesBetween, count_below, count_where, has, numbers_between};
 
 use crate::operation::Operation;
@@ -189,4 +190,24 @@ pub(crate) fn copied(alloc: Global, numbers: &[u16]) -> Result<Vec<u16>, AllocEr
     let mut copy = Vec::with_capacity(alloc, numbers.len())?;
     copy.extend_from_slice(numbers)?;
     Ok(copy)
+}
+
+// The count of runs, where as many numbers as possible are in each.
+#[tactic(auto, using(crate::proofs::Joined::breaks_begun, crate::proofs::Joined::breaks_on, crate::proofs::Joined::breaks_new, crate::proofs::Joined::breaks_done))]
+pub(crate) fn count_runs(numbers: &[u16]) -> usize
+    ensures { result ≡ length (runs_of numbers.now) }
+{
+    if numbers.len() == 0 {
+        return 0;
+    }
+    let mut count = 1;
+    let mut last = numbers[0];
+    for i in 1..numbers.len() {
+        let number = numbers[i];
+        if number as usize != last as usize + 1 {
+            count += 1;
+        }
+        last = number;
+    }
+    count
 }

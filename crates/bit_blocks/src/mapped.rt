@@ -4,7 +4,7 @@ ghost use Rattle.bit_slice.specs.Places.{ones_of};
 ghost use Rattle.bit_blocks.specs.Bits.{AreBits};
 ghost use Rattle.bit_blocks.specs.Numbers.{Combines, Gains, GainsBetween, Loses, LosesBetween, count_below, count_where, has};
 ghost use Rattle.bit_blocks.specs.Operation.{made_by};
-ghost use Rattle.bit_blocks.specs.Runs.{AreRuns, run_numbers};
+ghost use Rattle.bit_blocks.specs.Runs.{AreRuns, run_numbers, runs_of};
 
 use crate::iter::OnesLeft;
 use crate::operation::Operation;
@@ -191,4 +191,14 @@ pub(crate) fn count_both(bits: &Bits, others: &Bits) -> usize
     ensures { result ≡ count_where (has (ones_of others.now.list)) (ones_of bits.now.list) }
 {
     bits.count_and(others.as_bitslice())
+}
+
+// The count of runs, where as many numbers as possible are in each: one for each number that does not follow another.
+pub(crate) fn count_runs(bits: &Bits) -> usize
+    requires { AreBits bits.now.list }
+    ensures { result ≡ length (runs_of (ones_of bits.now.list)) }
+{
+    let view = bits.as_bitslice();
+    let following = view.get_range(1..).count_and(view.get_range(..COUNT - 1));
+    bits.count_ones() - following
 }

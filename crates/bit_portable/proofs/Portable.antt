@@ -5,7 +5,7 @@ use Rattle.std.proofs.lemmas.Bool.{leb-true, leb-false, lt-leb}
 use Rattle.std.proofs.lemmas.List.Elements.{All-from_recursion, recursion_from_All}
 use Rattle.bit_blocks.specs.declared.ranged.Run.{Run}
 use Rattle.bit_blocks.specs.Numbers.{AscendsIn, Ascends, those}
-use Rattle.bit_blocks.specs.Runs.{AreRuns, run_numbers}
+use Rattle.bit_blocks.specs.Runs.{AreRuns, joined, run_numbers, runs_of}
 use Rattle.bit_blocks.proofs.Runs.{ascends_runs}
 use Rattle.bit_blocks.proofs.Those.{ascends_those}
 use Rattle.bit_portable.specs.declared.stored.Head.{Head}
@@ -16,11 +16,12 @@ use Rattle.bit_portable.specs.Reading.{Fails}
 use Rattle.bit_portable.proofs.Fields.{done, ok_is}
 use Rattle.bit_portable.specs.Stored.{Content, content_of, pieces_of, Numbers, Words, Runs, Holds, Piece, IsPiece, content_bytes, run_bytes, two, word_total}
 use Rattle.bit_portable.specs.Form.{AreWritable, IsForm, IsWritten, KeysFrom, OffsetsFit, data_bytes, data_start, flag_count, flags_for, form, heads_of}
-use Rattle.bit_portable.specs.Portable.{IsGood, AreBlocks, AreBlocksFrom, IsFormOf, Numbered, any_runs, content_for, head_for, joined, numbered_of, numbers_of, pieces_for, portable, runs_of, runs_pay, stored_as_runs, word_bit, words_of}
+use Rattle.bit_portable.specs.Portable.{IsGood, AreBlocks, AreBlocksFrom, IsFormOf, Numbered, any_runs, content_for, head_for, numbered_of, numbers_of, pieces_for, portable, runs_pay, stored_as_runs, word_bit, words_of}
 use Rattle.bit_portable.proofs.Bytes.{numbers_length, words_length, runs_length}
 use Rattle.bit_portable.proofs.Coded.{Wholes}
 use Rattle.bit_portable.proofs.Flags.{flags_for_are, flags_for_length}
-use Rattle.bit_portable.proofs.Grouping.{runs_again, runs_good, runs_numbers, total_numbers}
+use Rattle.bit_blocks.proofs.Joined.{runs_good, runs_numbers}
+use Rattle.bit_portable.proofs.Pieces.{total_numbers}
 use Rattle.bit_portable.proofs.Mapping.{words_again, words_count, words_fit, words_numbers, words_total}
 
 -- ---- one block
@@ -182,9 +183,6 @@ pub written_as : (flagged : Bool) (ps : List Piece) (with_runs : Bool) (bs : Lis
 unfolding portable
 written_as flagged ps with_runs bs out f e is =
     is ∙ ap (λ (b : Bool). form b (flags_for b (heads_of ps)) ps) f ∙ ap (λ (qs : List Piece). form (any_runs qs) (flags_for (any_runs qs) (heads_of qs)) qs) e
-
-pub content_of_runs : (xs : List ℕ) (rs : List Run) → AreRuns rs → run_numbers rs ≡ xs → rs ≡ runs_of xs
-content_of_runs xs rs good is = sym (runs_again 0 rs good) ∙ ap runs_of is
 
 pub content_of_words : (xs ws : List ℕ) → length ws ≡ 1024 → Wholes ws → those (word_bit ws) 0 65536 ≡ xs → ws ≡ words_of xs
 content_of_words xs ws len fits is = sym (words_again ws len fits) ∙ ap words_of is

@@ -228,12 +228,12 @@ content_good h (Numbers xs) holds = holds.3
 content_good h (Words ws) holds = holds.2
 content_good h (Runs rs) holds = holds.2
 
-stored_good : (ss : List Stored) → AllByRecursion IsPiece (pieces_of ss) → All (λ s. IsGood (content_of s.data)) ss
+stored_good : (ss : List Stored) → AllByRecursion IsPiece (pieces_of ss) → All (λ s. IsGood (content_of s.content)) ss
 stored_good [] pieces k d inside = absurd (omega arith)
-stored_good (s ∷ ss) pieces zero d inside = content_good s.head (content_of s.data) pieces.0.holds
+stored_good (s ∷ ss) pieces zero d inside = content_good s.head (content_of s.content) pieces.0.holds
 stored_good (s ∷ ss) pieces (suc k) d inside = stored_good ss pieces.1 k d (omega arith)
 
-pub written_good : (bytes : List ℕ) (ss : List Stored) → IsWritten bytes (pieces_of ss) → All (λ s. IsGood (content_of s.data)) ss
+pub written_good : (bytes : List ℕ) (ss : List Stored) → IsWritten bytes (pieces_of ss) → All (λ s. IsGood (content_of s.content)) ss
 written_good bytes ss written = stored_good ss written.2.pieces
 
 pub still_fails : {X Y : Type 0} (e : ReadError) (x : X) (y : Y) → Fails e (Ok x) → Fails e (Ok y)

@@ -55,10 +55,7 @@ fn stored_plain(alloc: Global, keyed: &Keyed) -> Result<Stored, AllocError>
         count: count as u32,
         as_runs: false,
     };
-    Ok(Stored {
-        head,
-        data: content,
-    })
+    Ok(Stored { head, content })
 }
 
 // A block as it is stored with runs where they take fewer bytes.
@@ -77,7 +74,7 @@ fn stored_with_runs(alloc: Global, keyed: &Keyed) -> Result<Stored, AllocError>
     };
     Ok(Stored {
         head,
-        data: Data::Runs(runs),
+        content: Data::Runs(runs),
     })
 }
 
@@ -141,17 +138,17 @@ fn block_of(alloc: Global, content: Data) -> Result<Block, AllocError>
 
 // A block with its key.
 fn keyed_of(alloc: Global, stored: Stored) -> Result<Keyed, AllocError>
-    requires { IsGood (content_of stored.data) }
+    requires { IsGood (content_of stored.content) }
     ensures { IfOk result (λ k. numbered k ≡ numbered_of (piece_of stored)) }
 {
     let key = stored.head.key;
-    let block = block_of(alloc, stored.data)?;
+    let block = block_of(alloc, stored.content)?;
     Ok(Keyed { key, block })
 }
 
 // Blocks with their keys.
 fn all_keyed(alloc: Global, stored: Vec<Stored>) -> Result<Vec<Keyed>, AllocError>
-    requires { All (λ s. IsGood (content_of s.data)) stored.items }
+    requires { All (λ s. IsGood (content_of s.content)) stored.items }
     ensures { IfOk result (λ v. all_numbered v.items ≡ map numbered_of (pieces_of stored.items)) }
 {
     let mut blocks = Vec::with_capacity(alloc, stored.len())?;

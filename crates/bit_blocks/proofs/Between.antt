@@ -1,7 +1,7 @@
 -- The numbers of a list that are in a range.
-use Rattle.std.proofs.Common.{◌≡◌, ℕ, zero, suc, ◌+◌, ◌-◌, ◌<◌, ◌≤◌, Bool, true, false, cond, ◌&&◌, leb, List, [], ◌∷◌, ◌++◌, append-nil, get_or, length, map, take, drop, refl, sym, ◌∙◌, ap, inl, inr, arith}
+use Rattle.std.proofs.Common.{◌≡◌, ℕ, zero, suc, ◌+◌, ◌-◌, ◌<◌, ◌≤◌, Bool, true, false, cond, ◌&&◌, leb, List, [], ◌∷◌, ◌++◌, append-nil, get_or, map, take, drop, refl, sym, ◌∙◌, ap, inl, inr, arith}
 use Rattle.std.specs.Prelude.{All, slice_range}
-use Rattle.std.specs.List.{filter, range_with_len}
+use Rattle.std.specs.List.{filter}
 use Rattle.std.proofs.Math.Bool.{and-false, and-true}
 use Rattle.std.proofs.lemmas.Bool.{cases_Bool, cases_lt, le-leb, lt-leb}
 use Rattle.std.proofs.lemmas.List.Elements.{filter-append}
@@ -9,7 +9,7 @@ use Rattle.bit_addressing.proofs.lists.Shown.{length-between}
 use Rattle.bit_slice.proofs.Found.{item_of_part}
 use Rattle.bit_slice.specs.Places.{ones_of}
 use Rattle.bit_blocks.specs.Bits.{AreBits}
-use Rattle.bit_blocks.specs.Numbers.{Ascends, AscendsIn, count_below, is_between, numbers_between, those}
+use Rattle.bit_blocks.specs.Numbers.{AscendsIn, count_below, is_between, numbers_between, those}
 use Rattle.bit_blocks.proofs.Ascending.{counts_first, none_below, skips_first}
 use Rattle.bit_blocks.proofs.Bits.{ones_those}
 use Rattle.bit_blocks.proofs.Stepping.{Small}

@@ -9,6 +9,7 @@ pub mod Joined
 pub mod Merging
 pub mod LeftOfRuns
 pub mod Ranges
+pub mod Scanned
 pub mod Stepping
 pub mod Summing
 pub mod Those

@@ -391,18 +391,15 @@ pub(crate) fn list_of(alloc: Global, form: &Form) -> Result<Vec<u16>, AllocError
 }
 
 // The numbers as runs.
-#[tactic(auto, using(crate::proofs::Forms::ascends_form))]
 pub(crate) fn runs_of(alloc: Global, form: &Form) -> Result<Vec<Run>, AllocError>
     requires { IsForm form.now }
     ensures runs { IfOk result (λ runs. AreRuns runs.items) }
     ensures numbers { IfOk result (λ runs. run_numbers runs.items ≡ numbers_of form.now) }
 {
     match form {
+        Form::Listed(numbers) => ranged::runs_of(alloc, numbers),
+        Form::Mapped(bits) => mapped::runs_of(alloc, bits),
         Form::Ranged(runs) => ranged::copied(alloc, runs),
-        Form::Listed(_) | Form::Mapped(_) => {
-            let numbers = list_of(alloc, form)?;
-            ranged::runs_of(alloc, &numbers)
-        }
     }
 }
 

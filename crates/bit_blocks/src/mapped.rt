@@ -1,5 +1,5 @@
 //! Numbers below 65536 as the true bits of a vector of that length.
-ghost use Rattle.std.specs.Prelude.{◌≡◌, ◌≤◌, ◌||◌, [], IfOk, false, length, slice_get};
+ghost use Rattle.std.specs.Prelude.{◌≡◌, ◌≤◌, ◌<◌, ◌||◌, ℕ, Some, true, [], IfOk, false, length, slice_get};
 ghost use Rattle.bit_slice.specs.Places.{ones_of};
 ghost use Rattle.bit_blocks.specs.Bits.{AreBits};
 ghost use Rattle.bit_blocks.specs.Numbers.{Combines, Gains, GainsBetween, Loses, LosesBetween, count_below, count_where, has};
@@ -201,4 +201,38 @@ pub(crate) fn count_runs(bits: &Bits) -> usize
     let view = bits.as_bitslice();
     let following = view.get_range(1..).count_and(view.get_range(..COUNT - 1));
     bits.count_ones() - following
+}
+
+// Where the run of true bits ends to which the one at `first` belongs: the index after its last bit.
+fn end_of_run(bits: &Bits, first: usize) -> usize
+    requires size { AreBits bits.now.list }
+    requires here { slice_get bits.now.list first ≡ Some true }
+    ensures more { first < result }
+    ensures within { result ≤ 65536 }
+    ensures ones { (j : ℕ) → first ≤ j → j < result → slice_get bits.now.list j ≡ Some true }
+    ensures ends { result < 65536 → slice_get bits.now.list result ≡ Some false }
+{
+    match BitList::next_zero(bits, first) {
+        None => COUNT,
+        Some(end) => end,
+    }
+}
+
+// The runs: as many numbers as possible in each.
+pub(crate) fn runs_of(alloc: Global, bits: &Bits) -> Result<Vec<Run>, AllocError>
+    requires { AreBits bits.now.list }
+    ensures runs { IfOk result (λ runs. AreRuns runs.items) }
+    ensures numbers { IfOk result (λ runs. run_numbers runs.items ≡ ones_of bits.now.list) }
+{
+    let mut runs = Vec::with_capacity(alloc, count_runs(bits))?;
+    let mut from = 0;
+    while let Some(first) = BitList::next_one(bits, from) {
+        from = end_of_run(bits, first);
+        let last = (from - 1) as u16;
+        runs.push(Run {
+            first: first as u16,
+            last,
+        })?;
+    }
+    Ok(runs)
 }

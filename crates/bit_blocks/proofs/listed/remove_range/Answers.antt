@@ -1,5 +1,4 @@
 use Rattle.std.proofs.Common.{ℕ, ◌||◌, nat_lt, sym, subst, rules}
-use Rattle.std.specs.List.{filter}
 use Rattle.std.proofs.lemmas.Fn.{filter_same}
 use Rattle.bit_blocks.specs.Numbers.{Ascends}
 use Rattle.bit_blocks.proofs.Ranges.{ascends_filter, loses_kept}

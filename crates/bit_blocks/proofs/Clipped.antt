@@ -139,11 +139,6 @@ before_run from (r ∷ rs) (suc n) d h inside =
     (ascends_range r.first (r.last + 1 - r.first) b (run_numbers (take n rs)) (omega arith)
     (ascends_earlier (r.last + 2) (r.first + (r.last + 1 - r.first)) b (run_numbers (take n rs)) (omega arith) (before_run (r.last + 2) rs n d h.3 (omega arith))))
 
--- no run
-pub none_clipped : (rs : List Run) (first last : ℕ) → length rs ≡ 0 → run_numbers rs ≡ numbers_between first last (run_numbers rs)
-none_clipped [] first last none = refl
-none_clipped (r ∷ rs) first last none = absurd (omega arith)
-
 -- one run that has numbers of a range
 pub one_clipped : (rs : List Run) (first last from upto : ℕ) (d : Run) → AreRuns rs → length rs ≡ 1 → from ≡ max (get_or rs 0 d).first first → upto ≡ min (get_or rs 0 d).last last + 1
     → range_with_len from (upto - from) ++ (run_numbers (take (length rs - 1) (drop 1 rs)) ++ range_with_len 0 0) ≡ numbers_between first last (run_numbers rs)

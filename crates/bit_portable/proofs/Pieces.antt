@@ -1,5 +1,5 @@
 -- Blocks that have a form: their order, and how many bytes they take.
-use Rattle.std.proofs.Common.{◌≡◌, ℕ, zero, suc, ◌+◌, ◌-◌, ◌*◌, ◌<◌, ◌≤◌, List, [], ◌∷◌, length, length-append, All, refl, arith}
+use Rattle.std.proofs.Common.{◌≡◌, ℕ, zero, suc, ◌+◌, ◌-◌, ◌≤◌, List, [], ◌∷◌, length, length-append, All, refl, arith}
 use Rattle.std.proofs.lemmas.List.FromFn.{length-range_with_len}
 use Rattle.bit_blocks.specs.declared.ranged.Run.{Run}
 use Rattle.bit_blocks.specs.Runs.{AreRunsFrom, numbers_of_run, run_numbers}

@@ -5,7 +5,7 @@ use Rattle.std.proofs.lemmas.Bool.{leb-true, leb-false, lt-leb}
 use Rattle.std.proofs.lemmas.List.Elements.{All-from_recursion, recursion_from_All}
 use Rattle.bit_blocks.specs.declared.ranged.Run.{Run}
 use Rattle.bit_blocks.specs.Numbers.{AscendsIn, Ascends, those}
-use Rattle.bit_blocks.specs.Runs.{AreRuns, joined, run_numbers, runs_of}
+use Rattle.bit_blocks.specs.Runs.{joined, runs_of}
 use Rattle.bit_blocks.proofs.Runs.{ascends_runs}
 use Rattle.bit_blocks.proofs.Those.{ascends_those}
 use Rattle.bit_portable.specs.declared.stored.Head.{Head}

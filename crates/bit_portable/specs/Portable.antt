@@ -1,7 +1,6 @@
 -- Sets of numbers in the format: how each block is stored, and the bytes of all.
 use Rattle.std.specs.Prelude.{◌≡◌, ℕ, ◌+◌, ◌*◌, ◌/◌, ◌%◌, ◌^◌, ◌<◌, ◌≤◌, Bool, true, false, ◌&&◌, ◌||◌, if◌then◌else◌, nat_eq, nat_le, nat_lt, List, [], ◌∷◌, length, map, slice_index, ⊤, refl}
 use Rattle.std.specs.List.{range_with_len}
-use Rattle.bit_blocks.specs.declared.ranged.Run.{Run}
 use Rattle.bit_blocks.specs.Numbers.{Ascends, has, those}
 use Rattle.bit_blocks.specs.Runs.{AreRuns, run_numbers, runs_of}
 use Rattle.bit_portable.specs.declared.stored.Head.{Head}

@@ -19,7 +19,7 @@ use Rattle.bit_blocks.proofs.Those.{ascends_those, has_those, those_empty, those
 use Rattle.bit_blocks.proofs.Counting.{count_those}
 
 -- the true items are those that pass the test of an item
-ones_those : (bits : List Bool) (n : ℕ) → length bits ≡ n → ones_of bits ≡ those (λ k. get_or bits k false) 0 n
+pub ones_those : (bits : List Bool) (n : ℕ) → length bits ≡ n → ones_of bits ≡ those (λ k. get_or bits k false) 0 n
 unfolding those
 ones_those bits n size = ap (λ m. filter (λ k. get_or bits k false) (range_with_len 0 m)) size
 
@@ -95,11 +95,11 @@ item_set (x ∷ xs) (suc i) b (suc k) inside = item_set xs i b k (omega arith) �
     same : (m n : ℕ) → nat_eq (suc m) (suc n) ≡ nat_eq m n
     same m n = elim (cases_eq m n) [ inl e ↦ eq-eqb (suc m) (suc n) (ap suc e) ∙ sym (eq-eqb m n e) | inr d ↦ ne_eqb (suc m) (suc n) (λ e. d (omega arith)) ∙ sym (ne_eqb m n d) ]
 
-when_true : (t b : Bool) → cond t true b ≡ (t || b)
+pub when_true : (t b : Bool) → cond t true b ≡ (t || b)
 when_true true b = refl
 when_true false b = refl
 
-when_false : (t b : Bool) → cond t false b ≡ (b && not t)
+pub when_false : (t b : Bool) → cond t false b ≡ (b && not t)
 when_false true true = refl
 when_false true false = refl
 when_false false true = refl
@@ -208,15 +208,15 @@ all_in old new xs i past r k = r.members k ∙ ap (λ l. get_or old k false || h
 
 -- ---- runs put in one after another
 
--- an item of a list in which a range became true
-item_filled : (xs : List Bool) (a n k : ℕ) → a + n ≤ length xs → get_or (put xs a (replicate n true)) k false ≡ ((leb a k && nat_lt k (a + n)) || get_or xs k false)
-item_filled xs a n k within = let size = length-replicate n true in elim (cases_lt k a) [
-  | inl low ↦ put_before xs (replicate n true) a k false (omega arith) low ∙ sym (ap (λ b. (b && nat_lt k (a + n)) || get_or xs k false) (lt-leb a k low))
+-- an item of a list in which a range was written
+pub item_filled : (xs : List Bool) (a n k : ℕ) (bit : Bool) → a + n ≤ length xs → get_or (put xs a (replicate n bit)) k false ≡ cond (leb a k && nat_lt k (a + n)) bit (get_or xs k false)
+item_filled xs a n k bit within = let size = length-replicate n bit in elim (cases_lt k a) [
+  | inl low ↦ put_before xs (replicate n bit) a k false (omega arith) low ∙ sym (ap (λ b. cond (b && nat_lt k (a + n)) bit (get_or xs k false)) (lt-leb a k low))
   | inr high ↦ elim (cases_lt k (a + n)) [
-    | inl inside ↦ put_inside xs (replicate n true) a k false (omega arith) high (omega arith) ∙ get_or-replicate n (k - a) true false (omega arith)
-        ∙ sym (ap (λ b. (b && nat_lt k (a + n)) || get_or xs k false) (le-leb a k high) ∙ ap (λ b. b || get_or xs k false) (lt-ltb k (a + n) inside))
-    | inr past ↦ put_after xs (replicate n true) a k false (omega arith) (omega arith)
-        ∙ sym (ap (λ b. (b && nat_lt k (a + n)) || get_or xs k false) (le-leb a k high) ∙ ap (λ b. b || get_or xs k false) (le-ltb k (a + n) past))
+    | inl inside ↦ put_inside xs (replicate n bit) a k false (omega arith) high (omega arith) ∙ get_or-replicate n (k - a) bit false (omega arith)
+        ∙ sym (ap (λ b. cond (b && nat_lt k (a + n)) bit (get_or xs k false)) (le-leb a k high) ∙ ap (λ b. cond b bit (get_or xs k false)) (lt-ltb k (a + n) inside))
+    | inr past ↦ put_after xs (replicate n bit) a k false (omega arith) (omega arith)
+        ∙ sym (ap (λ b. cond (b && nat_lt k (a + n)) bit (get_or xs k false)) (le-leb a k high) ∙ ap (λ b. cond b bit (get_or xs k false)) (le-ltb k (a + n) past))
   ]
 ]
 
@@ -241,7 +241,7 @@ no_runs_in old rs size = record { size = size; members = λ k. sym (ap (λ b. ge
     first (x ∷ l) k = refl
 
 -- whether a number is in a run, by the end of its range
-in_range : (r : Run) (k a n : ℕ) → a ≡ r.first → a + n ≡ r.last + 1 → (leb a k && nat_lt k (a + n)) ≡ is_in_run r k
+pub in_range : (r : Run) (k a n : ℕ) → a ≡ r.first → a + n ≡ r.last + 1 → (leb a k && nat_lt k (a + n)) ≡ is_in_run r k
 in_range r k a n first end = ap (λ m. leb m k && nat_lt k (a + n)) first ∙ ap (λ b. leb r.first k && b) (elim (cases_lt r.last k) [
   | inl past ↦ le-ltb k (a + n) (omega arith) ∙ sym (lt-leb k r.last past)
   | inr within ↦ lt-ltb k (a + n) (omega arith) ∙ sym (le-leb k r.last within)
@@ -256,7 +256,8 @@ one_run_in old bits new rs i a n d inside first end most r is =
     record {
       size = ap length is ∙ length_put bits (replicate n true) a (omega arith) ∙ r.size;
       members = λ k.
-          ap (λ l. get_or l k false) is ∙ item_filled bits a n k (omega arith) ∙ ap (λ b. b || get_or bits k false) (in_range run k a n first end)
+          ap (λ l. get_or l k false) is ∙ item_filled bits a n k true (omega arith) ∙ when_true (leb a k && nat_lt k (a + n)) (get_or bits k false)
+          ∙ ap (λ b. b || get_or bits k false) (in_range run k a n first end)
           ∙ ap (λ b. is_in_run run k || b) (r.members k)
           ∙ or_back (is_in_run run k) (get_or old k false) (is_in_runs (take i rs) k)
           ∙ sym (ap (λ b. get_or old k false || b) (in_taken rs i k d inside));

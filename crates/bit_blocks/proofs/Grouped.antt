@@ -78,7 +78,7 @@ grouped_other xs made new i first last inside g other is = record {
       ∙ ap (λ l. made ++ l) (sym (ap (grouped first last) (rest_begins xs i inside) ∙ grouped_new first last (get_or xs i 0) (drop (i + 1) xs) other)) ∙ g.all;
 }
 
-drop_end : (l : List ℕ) (n : ℕ) → length l ≤ n → drop n l ≡ []
+pub drop_end : (l : List ℕ) (n : ℕ) → length l ≤ n → drop n l ≡ []
 drop_end [] zero e = refl
 drop_end [] (suc n) e = refl
 drop_end (x ∷ l) zero e = absurd (omega arith)

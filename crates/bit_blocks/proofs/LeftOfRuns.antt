@@ -6,7 +6,7 @@ use Rattle.bit_blocks.specs.Runs.{numbers_of_run, run_numbers}
 use Rattle.bit_blocks.specs.declared.ranged.Run.{Run}
 use Rattle.bit_blocks.proofs.Grouped.{range_more}
 
-no_range : (a b : ℕ) → b ≤ a → range_with_len a (b - a) ≡ []
+pub no_range : (a b : ℕ) → b ≤ a → range_with_len a (b - a) ≡ []
 no_range a b h = let z : b - a ≡ 0 = omega arith in ap (range_with_len a) z
 
 first_of_range : (a n m : ℕ) → n ≡ suc m → range_with_len a n ≡ a ∷ range_with_len (a + 1) m
@@ -36,7 +36,7 @@ next_run from upto (r ∷ rs) back d none some ordered =
     ∙ ap (λ l. l ++ (run_numbers rs ++ back)) (first_of_range r.first (r.last + 1 - r.first) (r.last + 1 - (r.first + 1)) (omega arith))
     ∙ sym (ap (λ l. r.first ∷ (range_with_len (r.first + 1) (r.last + 1 - (r.first + 1)) ++ (run_numbers l ++ back))) (rest_of_runs (r ∷ rs)))
 
-last_run : (rs : List Run) (n : ℕ) (d : Run) → length rs ≡ suc n → run_numbers rs ≡ run_numbers (take n rs) ++ numbers_of_run (get_or rs n d)
+pub last_run : (rs : List Run) (n : ℕ) (d : Run) → length rs ≡ suc n → run_numbers rs ≡ run_numbers (take n rs) ++ numbers_of_run (get_or rs n d)
 last_run [] n d size = absurd (omega arith)
 last_run (r ∷ []) zero d size = append-nil (numbers_of_run r)
 last_run (r ∷ []) (suc n) d size = absurd (omega arith)

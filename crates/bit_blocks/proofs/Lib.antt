@@ -1,9 +1,15 @@
 pub mod Ascending
+pub mod Between
+pub mod Clipped
 pub mod Edits
 pub mod Forms
+pub mod Edges
 pub mod Grouped
+pub mod Joined
 pub mod Merging
 pub mod LeftOfRuns
+pub mod Ranges
+pub mod Scanned
 pub mod Stepping
 pub mod Summing
 pub mod Those

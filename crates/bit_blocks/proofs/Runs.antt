@@ -1,5 +1,5 @@
 -- Runs, and the numbers in them.
-use Rattle.std.proofs.Common.{append-nil, subst, ◌≡◌, ℕ, zero, suc, ◌+◌, ◌-◌, ◌<◌, ◌≤◌, false, ◌&&◌, ◌||◌, leb, nat_lt, List, [], ◌∷◌, ◌++◌, get_or, length, length-append, min, drop, refl, sym, ◌∙◌, ap, inl, inr, arith}
+use Rattle.std.proofs.Common.{append-nil, subst, ◌≡◌, ℕ, zero, suc, ◌+◌, ◌-◌, ◌*◌, ◌<◌, ◌≤◌, false, ◌&&◌, ◌||◌, leb, nat_lt, List, [], ◌∷◌, ◌++◌, get_or, length, length-append, min, drop, refl, sym, ◌∙◌, ap, inl, inr, arith}
 use Rattle.std.specs.Prelude.{All, None, Some, slice_get}
 use Rattle.std.specs.List.{range_with_len}
 use Rattle.std.specs.List.Sorted.{IsNonDecreasingBy}
@@ -45,7 +45,7 @@ has_runs from (r ∷ rs) k h =
     has_append (numbers_of_run r) (run_numbers rs) k ∙ ap (λ b. b || has (run_numbers rs) k) (has_run r k h.1) ∙ ap (λ b. is_in_run r k || b) (has_runs (r.last + 2) rs k h.3)
 
 -- numbers that ascend after a range
-ascends_range : (a n upto : ℕ) (ys : List ℕ) → a + n ≤ upto → AscendsIn (a + n) upto ys → AscendsIn a upto (range_with_len a n ++ ys)
+pub ascends_range : (a n upto : ℕ) (ys : List ℕ) → a + n ≤ upto → AscendsIn (a + n) upto ys → AscendsIn a upto (range_with_len a n ++ ys)
 ascends_range a zero upto ys within h = ascends_earlier (a + 0) a upto ys (omega arith) h
 ascends_range a (suc n) upto ys within h = (omega arith, omega arith, ascends_range (a + 1) n upto ys (omega arith) (ascends_earlier (a + suc n) (a + 1 + n) upto ys (omega arith) h))
 
@@ -66,7 +66,7 @@ runs_later from least [] low h = tt
 runs_later from least (r ∷ rs) low h = let first = h.0 in (omega arith, h.1, h.2, h.3)
 
 -- each run begins where the first one may, or later
-first_at_least : (from : ℕ) (rs : List Run) (i : ℕ) (d : Run) → AreRunsFrom from rs → i < length rs → from ≤ (get_or rs i d).first
+pub first_at_least : (from : ℕ) (rs : List Run) (i : ℕ) (d : Run) → AreRunsFrom from rs → i < length rs → from ≤ (get_or rs i d).first
 first_at_least from [] i d h inside = absurd (omega arith)
 first_at_least from (r ∷ rs) zero d h inside = h.0
 first_at_least from (r ∷ rs) (suc i) d h inside = let low = h.0 in let ordered = h.1 in let rest = first_at_least (r.last + 2) rs i d h.3 (omega arith) in omega arith
@@ -78,6 +78,23 @@ firsts_ascend from (r ∷ rs) h zero zero d before inside = omega arith
 firsts_ascend from (r ∷ rs) h zero (suc j) d before inside = let ordered = h.1 in let rest = first_at_least (r.last + 2) rs j d h.3 (omega arith) in omega arith
 firsts_ascend from (r ∷ rs) h (suc i) zero d before inside = absurd (omega arith)
 firsts_ascend from (r ∷ rs) h (suc i) (suc j) d before inside = firsts_ascend (r.last + 2) rs h.3 i j d (omega arith) (omega arith)
+
+-- a run does not end before it begins, nor past 65535
+pub run_ordered : (from : ℕ) (rs : List Run) (i : ℕ) (d : Run) → AreRunsFrom from rs → i < length rs → ((get_or rs i d).first ≤ (get_or rs i d).last) × ((get_or rs i d).last < 65536)
+run_ordered from [] i d h inside = absurd (omega arith)
+run_ordered from (r ∷ rs) zero d h inside = (h.1, h.2)
+run_ordered from (r ∷ rs) (suc i) d h inside = run_ordered (r.last + 2) rs i d h.3 (omega arith)
+
+-- runs end one after another
+pub lasts_ascend : (from : ℕ) (rs : List Run) → AreRunsFrom from rs → IsNonDecreasingBy (λ r. r.last) rs
+lasts_ascend from [] h i j d before inside = absurd (omega arith)
+lasts_ascend from (r ∷ rs) h zero zero d before inside = omega arith
+lasts_ascend from (r ∷ rs) h zero (suc j) d before inside =
+    let low = first_at_least (r.last + 2) rs j d h.3 (omega arith) in
+    let ordered = (run_ordered (r.last + 2) rs j d h.3 (omega arith)).0 in
+    omega arith
+lasts_ascend from (r ∷ rs) h (suc i) zero d before inside = absurd (omega arith)
+lasts_ascend from (r ∷ rs) h (suc i) (suc j) d before inside = lasts_ascend (r.last + 2) rs h.3 i j d (omega arith) (omega arith)
 
 -- a number before all runs is in none
 in_none : (from : ℕ) (rs : List Run) (k : ℕ) → AreRunsFrom from rs → k < from → is_in_runs rs k ≡ false
@@ -131,12 +148,6 @@ from_end [] zero past = refl
 from_end [] (suc i) past = refl
 from_end (r ∷ rs) zero past = absurd (omega arith)
 from_end (r ∷ rs) (suc i) past = from_end rs i (omega arith)
-
--- a run does not end before it begins, nor past 65535
-pub run_ordered : (from : ℕ) (rs : List Run) (i : ℕ) (d : Run) → AreRunsFrom from rs → i < length rs → ((get_or rs i d).first ≤ (get_or rs i d).last) × ((get_or rs i d).last < 65536)
-run_ordered from [] i d h inside = absurd (omega arith)
-run_ordered from (r ∷ rs) zero d h inside = (h.1, h.2)
-run_ordered from (r ∷ rs) (suc i) d h inside = run_ordered (r.last + 2) rs i d h.3 (omega arith)
 
 -- the runs from run i on
 pub runs_from : (from : ℕ) (rs : List Run) (i : ℕ) (d : Run) → AreRunsFrom from rs → i < length rs → AreRunsFrom (get_or rs i d).first (drop i rs)
@@ -225,3 +236,13 @@ one_is_run rs first last is ordered most = subst AreRuns (sym is) (omega arith, 
 
 pub one_has : (rs : List Run) (first last : ℕ) → rs ≡ record { first = first; last = last } ∷ [] → run_numbers rs ≡ range_with_len first (last + 1 - first)
 one_has rs first last is = ap run_numbers is ∙ append-nil (range_with_len first (last + 1 - first))
+
+-- two runs are two numbers apart, so there are few
+pub few_runs : (from : ℕ) (rs : List Run) → from ≤ 65537 → AreRunsFrom from rs → from + 2 * length rs ≤ 65537
+few_runs from [] low h = omega arith
+few_runs from (r ∷ rs) low h =
+    let first : from ≤ r.first = h.0 in
+    let ordered : r.first ≤ r.last = h.1 in
+    let most : r.last < 65536 = h.2 in
+    let rest = few_runs (r.last + 2) rs (omega arith) h.3 in
+    omega arith

@@ -6,3 +6,13 @@ use Rattle.bit_blocks.specs.declared.ranged.Run.{Run}
 pub record IsBegunBefore (rs : List Run) (k i : ℕ) : Type 0 where
   pub before : (j : ℕ) (d : Run) → j < i → (slice_index_or rs j d).first ≤ k
   pub after : (j : ℕ) (d : Run) → i ≤ j → j < length rs → k < (slice_index_or rs j d).first
+
+-- the first i runs end before k, and the others do not
+pub record IsEndedBefore (rs : List Run) (k i : ℕ) : Type 0 where
+  pub before : (j : ℕ) (d : Run) → j < i → (slice_index_or rs j d).last < k
+  pub after : (j : ℕ) (d : Run) → i ≤ j → j < length rs → k ≤ (slice_index_or rs j d).last
+
+-- each run has a number from `first` to `last`
+pub record EachMeets (rs : List Run) (first last : ℕ) : Type 0 where
+  pub begins : (j : ℕ) (d : Run) → j < length rs → (slice_index_or rs j d).first ≤ last
+  pub ends : (j : ℕ) (d : Run) → j < length rs → first ≤ (slice_index_or rs j d).last

@@ -1,5 +1,5 @@
 -- Runs of numbers that follow one another.
-use Rattle.std.specs.Prelude.{◌≡◌, ℕ, ◌+◌, ◌-◌, ◌<◌, ◌≤◌, Bool, false, ◌&&◌, ◌||◌, nat_le, List, [], ◌∷◌, ◌++◌, ⊤, refl}
+use Rattle.std.specs.Prelude.{◌≡◌, ℕ, ◌+◌, ◌-◌, ◌<◌, ◌≤◌, Bool, false, ◌&&◌, ◌||◌, if◌then◌else◌, nat_eq, nat_le, List, [], ◌∷◌, ◌++◌, ⊤, refl}
 use Rattle.std.specs.List.{range_with_len}
 use Rattle.bit_blocks.specs.declared.ranged.Run.{Run}
 
@@ -30,5 +30,18 @@ abbrev pub is_in_runs : List Run → ℕ → Bool
 is_in_runs [] k = false
 is_in_runs (r ∷ rs) k = is_in_run r k || is_in_runs rs k
 
+-- a number below some runs and these runs, in as few runs as there can be
+abbrev pub joined : ℕ → List Run → List Run
+joined x [] = record { first = x; last = x } ∷ []
+joined x (r ∷ rs) = if nat_eq r.first (x + 1) then record { first = x; last = r.last } ∷ rs else record { first = x; last = x } ∷ r ∷ rs
+
+-- ascending numbers in as few runs as there can be
+abbrev pub runs_of : List ℕ → List Run
+runs_of [] = []
+runs_of (x ∷ xs) = joined x (runs_of xs)
+
 three_numbers : run_numbers (record { first = 2; last = 3 } ∷ record { first = 7; last = 7 } ∷ []) ≡ 2 ∷ 3 ∷ 7 ∷ []
 three_numbers = refl
+
+three_runs : runs_of (2 ∷ 3 ∷ 5 ∷ 7 ∷ 8 ∷ 9 ∷ []) ≡ record { first = 2; last = 3 } ∷ record { first = 5; last = 5 } ∷ record { first = 7; last = 9 } ∷ []
+three_runs = refl

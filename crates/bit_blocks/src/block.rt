@@ -5,10 +5,10 @@ ghost use Rattle.std.specs.Iterator.Runs.{YieldsInOrder, YieldsInReverse};
 ghost use Rattle.std.specs.List.{range_with_len};
 ghost use Rattle.bit_slice.specs.Places.{ones_of};
 ghost use Rattle.bit_blocks.specs.BlockLeft.{block_left};
-ghost use Rattle.bit_blocks.specs.Numbers.{Ascends, Combines, Gains, Loses, count_below, count_where, has};
+ghost use Rattle.bit_blocks.specs.Numbers.{Ascends, Combines, Gains, GainsBetween, Loses, LosesBetween, count_below, count_where, has, numbers_between};
 ghost use Rattle.bit_blocks.specs.Operation.{made_by};
 ghost use Rattle.bit_blocks.specs.Form.{IsForm, numbers_of};
-ghost use Rattle.bit_blocks.specs.Runs.{AreRuns, run_numbers};
+ghost use Rattle.bit_blocks.specs.Runs.{AreRuns, run_numbers, runs_of};
 
 use crate::form;
 use crate::form::{Form, LISTED};
@@ -187,6 +187,34 @@ impl Block {
         Ok(true)
     }
 
+    /// Puts in the numbers from `first` to `last`, both included. Where memory is refused, the set is as it was. Requires
+    /// that `first` is at most `last`.
+    #[tactic(auto, using(crate::proofs::Forms::ascends_form, crate::proofs::Forms::same_count))]
+    pub fn insert_range(&mut self, first: u16, last: u16) -> Result<(), AllocError>
+        requires { first ≤ last }
+        ensures gains { OnOk result (GainsBetween self.old self.new first last) }
+        ensures ascends { Ascends self.new }
+        ensures refused { OnErr result (self.new ≡ self.old) }
+    {
+        form::insert_range(&mut self.form, first, last)?;
+        self.count = form::count(&self.form);
+        Ok(())
+    }
+
+    /// Takes out the numbers from `first` to `last`, both included. Where memory is refused, the set is as it was. Requires
+    /// that `first` is at most `last`.
+    #[tactic(auto, using(crate::proofs::Forms::ascends_form, crate::proofs::Forms::same_count))]
+    pub fn remove_range(&mut self, first: u16, last: u16) -> Result<(), AllocError>
+        requires { first ≤ last }
+        ensures loses { OnOk result (LosesBetween self.old self.new first last) }
+        ensures ascends { Ascends self.new }
+        ensures refused { OnErr result (self.new ≡ self.old) }
+    {
+        form::remove_range(&mut self.form, first, last)?;
+        self.count = form::count(&self.form);
+        Ok(())
+    }
+
     /// What an operation makes of this set and another.
     pub fn combined(
         &self,
@@ -219,6 +247,18 @@ impl Block {
         }
     }
 
+    /// The numbers from `first` to `last`, both included, ascending, from both ends. None where `first` is above `last`.
+    /// Takes no memory.
+    pub fn range(&self, first: u16, last: u16) -> BlockIter<'_>
+        ensures list { block_left result ≡ numbers_between first last self.now }
+        ensures runs { YieldsInOrder (YieldsFirst block_left) block_left }
+        ensures runs_back { YieldsInReverse (YieldsLast block_left) block_left }
+    {
+        BlockIter {
+            left: form::left_between(&self.form, first, last),
+        }
+    }
+
     /// The numbers, ascending, as a list.
     pub fn to_list(&self, alloc: Global) -> Result<Vec<u16>, AllocError>
         ensures { IfOk result (λ numbers. numbers.items ≡ self.now) }
@@ -238,15 +278,26 @@ impl Block {
     }
 
     /// The numbers as runs: as many numbers as possible in each.
+    #[tactic(auto, using(crate::proofs::Joined::are_runs_of))]
     pub fn to_runs(&self, alloc: Global) -> Result<Vec<Run>, AllocError>
+        ensures exact { IfOk result (λ runs. runs.items ≡ runs_of self.now) }
         ensures runs { IfOk result (λ runs. AreRuns runs.items) }
         ensures numbers { IfOk result (λ runs. run_numbers runs.items ≡ self.now) }
     {
         form::runs_of(alloc, &self.form)
     }
 
+    /// The count of runs that `to_runs` makes. Takes no memory.
+    pub fn count_runs(&self) -> usize
+        ensures value { result ≡ length (runs_of self.now) }
+        ensures few { result ≤ 32768 }
+    {
+        form::count_runs(&self.form)
+    }
+
     /// Keeps the numbers in the form that takes the least memory: runs where they are fewer than half of the numbers, and
-    /// than 2048, and else a list or bits. Where memory is refused, they are kept as they were.
+    /// than 2048, and else a list or bits. Takes no memory where they are in that form. Where memory is refused, they are
+    /// kept as they were.
     #[tactic(auto, using(crate::proofs::Forms::same_count))]
     pub fn optimize(&mut self) -> Result<(), AllocError>
         ensures { self.new ≡ self.old }

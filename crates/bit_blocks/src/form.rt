@@ -5,9 +5,9 @@ ghost use Rattle.bit_slice.specs.Places.{ones_of};
 ghost use Rattle.bit_blocks.specs.Bits.{AreBits};
 ghost use Rattle.bit_blocks.specs.BlockLeft.{form_left};
 ghost use Rattle.bit_blocks.specs.Form.{IsForm, numbers_of};
-ghost use Rattle.bit_blocks.specs.Numbers.{Ascends, Combines, Gains, Loses, count_below, count_where, has};
+ghost use Rattle.bit_blocks.specs.Numbers.{Ascends, Combines, Gains, GainsBetween, Loses, LosesBetween, count_below, count_where, has, numbers_between};
 ghost use Rattle.bit_blocks.specs.Operation.{made_by};
-ghost use Rattle.bit_blocks.specs.Runs.{AreRuns, numbers_of_run, run_numbers};
+ghost use Rattle.bit_blocks.specs.Runs.{AreRuns, numbers_of_run, run_numbers, runs_of};
 
 use crate::iter::{Left, OnesLeft};
 use crate::mapped::Bits;
@@ -250,6 +250,64 @@ pub(crate) fn remove(form: &mut Form, number: u16, many: bool) -> Result<(), All
     Ok(())
 }
 
+// Puts in the numbers from `first` to `last`. Where memory is refused, the numbers are as they were. All numbers are one
+// run.
+pub(crate) fn insert_range(form: &mut Form, first: u16, last: u16) -> Result<(), AllocError>
+    requires form { IsForm form.old }
+    requires ordered { first ≤ last }
+    ensures gains { OnOk result (GainsBetween (numbers_of form.old) (numbers_of form.new) first last) }
+    ensures refused { OnErr result (numbers_of form.new ≡ numbers_of form.old) }
+    ensures form { IsForm form.new }
+{
+    let alloc = allocator(form);
+    if first == 0 && last == u16::MAX {
+        *form = of_run(alloc, first, last)?;
+        return Ok(());
+    }
+    if let Form::Mapped(bits) = form {
+        mapped::insert_range(bits, first, last);
+        return Ok(());
+    }
+    let mut bits = bits_of(alloc, form)?;
+    mapped::insert_range(&mut bits, first, last);
+    *form = form_of(alloc, bits)?;
+    Ok(())
+}
+
+// Takes out the numbers from `first` to `last`. Where memory is refused, the numbers are as they were. Where no number
+// stays, no memory is taken.
+pub(crate) fn remove_range(form: &mut Form, first: u16, last: u16) -> Result<(), AllocError>
+    requires form { IsForm form.old }
+    requires ordered { first ≤ last }
+    ensures loses { OnOk result (LosesBetween (numbers_of form.old) (numbers_of form.new) first last) }
+    ensures refused { OnErr result (numbers_of form.new ≡ numbers_of form.old) }
+    ensures form { IsForm form.new }
+{
+    let alloc = allocator(form);
+    if first == 0 && last == u16::MAX {
+        *form = Form::Listed(Vec::new(alloc));
+        return Ok(());
+    }
+    let many = count(form) > LISTED + count_in(form, Run { first, last });
+    match form {
+        Form::Listed(numbers) => {
+            listed::remove_range(numbers, first, last);
+            return Ok(());
+        }
+        Form::Mapped(bits) => {
+            if many {
+                mapped::remove_range(bits, first, last);
+                return Ok(());
+            }
+        }
+        Form::Ranged(_) => {}
+    }
+    let mut bits = bits_of(alloc, form)?;
+    mapped::remove_range(&mut bits, first, last);
+    *form = form_of(alloc, bits)?;
+    Ok(())
+}
+
 // The count of numbers that are in both of two forms.
 #[tactic(auto, using(crate::proofs::Counting::counted_swapped, crate::proofs::Forms::ascends_form))]
 pub(crate) fn count_both(left: &Form, right: &Form) -> usize
@@ -333,18 +391,15 @@ pub(crate) fn list_of(alloc: Global, form: &Form) -> Result<Vec<u16>, AllocError
 }
 
 // The numbers as runs.
-#[tactic(auto, using(crate::proofs::Forms::ascends_form))]
 pub(crate) fn runs_of(alloc: Global, form: &Form) -> Result<Vec<Run>, AllocError>
     requires { IsForm form.now }
     ensures runs { IfOk result (λ runs. AreRuns runs.items) }
     ensures numbers { IfOk result (λ runs. run_numbers runs.items ≡ numbers_of form.now) }
 {
     match form {
+        Form::Listed(numbers) => ranged::runs_of(alloc, numbers),
+        Form::Mapped(bits) => mapped::runs_of(alloc, bits),
         Form::Ranged(runs) => ranged::copied(alloc, runs),
-        Form::Listed(_) | Form::Mapped(_) => {
-            let numbers = list_of(alloc, form)?;
-            ranged::runs_of(alloc, &numbers)
-        }
     }
 }
 
@@ -370,6 +425,20 @@ pub(crate) fn copied(form: &Form) -> Result<Form, AllocError>
     }
 }
 
+// The count of runs, where as many numbers as possible are in each.
+#[tactic(auto, using(crate::proofs::Joined::count_again, crate::proofs::Joined::few_runs_of, crate::proofs::Forms::ascends_form))]
+pub(crate) fn count_runs(form: &Form) -> usize
+    requires { IsForm form.now }
+    ensures value { result ≡ length (runs_of (numbers_of form.now)) }
+    ensures few { result ≤ 32768 }
+{
+    match form {
+        Form::Listed(numbers) => listed::count_runs(numbers),
+        Form::Mapped(bits) => mapped::count_runs(bits),
+        Form::Ranged(runs) => runs.len(),
+    }
+}
+
 // Keeps the numbers in the form that takes the least memory.
 #[tactic(auto, using(crate::proofs::Forms::ascends_form))]
 pub(crate) fn optimize(form: &mut Form) -> Result<(), AllocError>
@@ -377,13 +446,44 @@ pub(crate) fn optimize(form: &mut Form) -> Result<(), AllocError>
     ensures same { numbers_of form.new ≡ numbers_of form.old }
     ensures form { IsForm form.new }
 {
-    let alloc = allocator(form);
-    let numbers = list_of(alloc, form)?;
-    let runs = ranged::runs_of(alloc, &numbers)?;
-    if runs.len() < numbers.len() / 2 && runs.len() < LISTED / 2 {
-        *form = Form::Ranged(runs);
+    let (count, runs) = (count(form), count_runs(form));
+    if runs < count / 2 && runs < LISTED / 2 {
+        make_ranged(form)
+    } else {
+        make_plain(form, count <= LISTED)
+    }
+}
+
+// Keeps the numbers as runs.
+fn make_ranged(form: &mut Form) -> Result<(), AllocError>
+    requires { IsForm form.old }
+    ensures same { numbers_of form.new ≡ numbers_of form.old }
+    ensures form { IsForm form.new }
+{
+    if let Form::Ranged(_) = form {
         return Ok(());
     }
+    let runs = runs_of(allocator(form), form)?;
+    *form = Form::Ranged(runs);
+    Ok(())
+}
+
+// Keeps the numbers as a list where they are few, and else as bits.
+#[tactic(auto, using(crate::proofs::Forms::ascends_form))]
+fn make_plain(form: &mut Form, few: bool) -> Result<(), AllocError>
+    requires { IsForm form.old }
+    ensures same { numbers_of form.new ≡ numbers_of form.old }
+    ensures form { IsForm form.new }
+{
+    let kept = match form {
+        Form::Listed(_) => few,
+        Form::Mapped(_) => !few,
+        Form::Ranged(_) => false,
+    };
+    if kept {
+        return Ok(());
+    }
+    let numbers = list_of(allocator(form), form)?;
     *form = of_list(numbers)?;
     Ok(())
 }
@@ -397,5 +497,21 @@ pub(crate) fn left_of(form: &Form) -> Left<'_>
         Form::Listed(numbers) => Left::Listed(numbers.as_slice()),
         Form::Mapped(bits) => Left::Mapped(OnesLeft::of(bits)),
         Form::Ranged(runs) => Left::Ranged(RunsLeft::of(runs)),
+    }
+}
+
+// The numbers from `first` to `last`, one after another.
+#[tactic(auto, using(crate::proofs::Between::none_between))]
+pub(crate) fn left_between(form: &Form, first: u16, last: u16) -> Left<'_>
+    requires { IsForm form.now }
+    ensures { form_left result ≡ numbers_between first last (numbers_of form.now) }
+{
+    if last < first {
+        return Left::Listed(&[]);
+    }
+    match form {
+        Form::Listed(numbers) => Left::Listed(listed::between(numbers, first, last)),
+        Form::Mapped(bits) => Left::Mapped(OnesLeft::between(bits, first, last)),
+        Form::Ranged(runs) => Left::Ranged(RunsLeft::between(runs, first, last)),
     }
 }

@@ -1,8 +1,9 @@
 //! The numbers of a block, one after another.
-ghost use Rattle.std.specs.Prelude.{◌≡◌, ◌<◌, ◌+◌, ℕ, All};
+ghost use Rattle.std.specs.Prelude.{◌≡◌, ◌<◌, ◌≤◌, ◌+◌, ℕ, All};
 ghost use Rattle.bit_slice.specs.Indices.{ones_left};
 ghost use Rattle.bit_slice.specs.Places.{ones_of};
 ghost use Rattle.bit_blocks.specs.Bits.{AreBits};
+ghost use Rattle.bit_blocks.specs.Numbers.{numbers_between};
 
 use crate::mapped::Bits;
 use crate::runs_left::RunsLeft;
@@ -30,6 +31,19 @@ impl<'a> OnesLeft<'a> {
         OnesLeft {
             ones: BitList::iter_ones(bits),
             base: 0,
+        }
+    }
+
+    // The numbers of bits from `first` to `last`.
+    pub(crate) fn between(bits: &'a Bits, first: u16, last: u16) -> Self
+        requires size { AreBits bits.now.list }
+        requires ordered { first ≤ last }
+        ensures { based_left result ≡ numbers_between first last (ones_of bits.now.list) }
+    {
+        let part = first as usize..last as usize + 1;
+        OnesLeft {
+            ones: bits.as_bitslice().get_range(part).iter_ones(),
+            base: first as usize,
         }
     }
 

@@ -1,7 +1,8 @@
 //! Ascending numbers in a slice: found, put in, taken out, combined and counted.
-ghost use Rattle.std.specs.Prelude.{◌≡◌, ◌++◌, ◌∷◌, [], if◌then◌else◌, ◌≤◌, IfOk, MatchResult, OnErr, OnOk, Some, length, not, slice_get, true, false, ◌<◌};
+ghost use Rattle.std.specs.Prelude.{◌≡◌, ◌++◌, ◌∷◌, [], if◌then◌else◌, ◌≤◌, ◌+◌, IfOk, MatchResult, OnErr, OnOk, Some, length, not, slice_get, true, false, ◌<◌};
 ghost use Rattle.bit_blocks.specs.Operation.{made_by};
-ghost use Rattle.bit_blocks.specs.Numbers.{Ascends, Combines, Gains, Loses, count_below, count_where, has};
+ghost use Rattle.bit_blocks.specs.Runs.{runs_of};
+ghost use Rattle.bit_blocks.specs.Numbers.{Ascends, Combines, Gains, Loses, LosesBetween, count_below, count_where, has, numbers_between};
 
 use crate::operation::Operation;
 use std::alloc::{AllocError, Global};
@@ -13,6 +14,26 @@ pub fn place_of(numbers: &[u16], number: u16) -> usize
     ensures within { result ≤ length numbers.now }
 {
     numbers.partition_point(|&other| other < number)
+}
+
+// The count of numbers that are at most `number`.
+fn place_after(numbers: &[u16], number: u16) -> usize
+    requires { Ascends numbers.now }
+    ensures value { result ≡ count_below numbers.now (number + 1) }
+    ensures within { result ≤ length numbers.now }
+{
+    numbers.partition_point(|&other| other <= number)
+}
+
+// The numbers from `first` to `last`.
+pub(crate) fn between(numbers: &[u16], first: u16, last: u16) -> &[u16]
+    requires ascends { Ascends numbers.now }
+    requires ordered { first ≤ last }
+    ensures { result.now ≡ numbers_between first last numbers.now }
+{
+    let from = place_of(numbers, first);
+    let upto = place_after(numbers, last);
+    &numbers[from..upto]
 }
 
 /// Where `number` stands, or in Err where it has its place. Requires that the numbers ascend.
@@ -74,6 +95,15 @@ pub fn remove(numbers: &mut Vec<u16>, number: u16) -> bool
         },
         Err(_) => false,
     }
+}
+
+// Takes out the numbers from `first` to `last`.
+pub(crate) fn remove_range(numbers: &mut Vec<u16>, first: u16, last: u16)
+    requires { Ascends numbers.old.items }
+    ensures loses { LosesBetween numbers.old.items numbers.new.items first last }
+    ensures ascends { Ascends numbers.new.items }
+{
+    numbers.retain(|number| *number < first || last < *number);
 }
 
 // Appends numbers, where `keeps` says so.
@@ -160,4 +190,24 @@ pub(crate) fn copied(alloc: Global, numbers: &[u16]) -> Result<Vec<u16>, AllocEr
     let mut copy = Vec::with_capacity(alloc, numbers.len())?;
     copy.extend_from_slice(numbers)?;
     Ok(copy)
+}
+
+// The count of runs, where as many numbers as possible are in each.
+#[tactic(auto, using(crate::proofs::Joined::breaks_begun, crate::proofs::Joined::breaks_on, crate::proofs::Joined::breaks_new, crate::proofs::Joined::breaks_done))]
+pub(crate) fn count_runs(numbers: &[u16]) -> usize
+    ensures { result ≡ length (runs_of numbers.now) }
+{
+    if numbers.len() == 0 {
+        return 0;
+    }
+    let mut count = 1;
+    let mut last = numbers[0];
+    for i in 1..numbers.len() {
+        let number = numbers[i];
+        if number as usize != last as usize + 1 {
+            count += 1;
+        }
+        last = number;
+    }
+    count
 }

@@ -1,10 +1,10 @@
 //! Numbers below 65536 as the true bits of a vector of that length.
-ghost use Rattle.std.specs.Prelude.{◌≡◌, ◌||◌, [], IfOk, false, length, slice_get};
+ghost use Rattle.std.specs.Prelude.{◌≡◌, ◌≤◌, ◌<◌, ◌||◌, ℕ, Some, true, [], IfOk, false, length, slice_get};
 ghost use Rattle.bit_slice.specs.Places.{ones_of};
 ghost use Rattle.bit_blocks.specs.Bits.{AreBits};
-ghost use Rattle.bit_blocks.specs.Numbers.{Combines, Gains, Loses, count_below, count_where, has};
+ghost use Rattle.bit_blocks.specs.Numbers.{Combines, Gains, GainsBetween, Loses, LosesBetween, count_below, count_where, has};
 ghost use Rattle.bit_blocks.specs.Operation.{made_by};
-ghost use Rattle.bit_blocks.specs.Runs.{AreRuns, run_numbers};
+ghost use Rattle.bit_blocks.specs.Runs.{AreRuns, run_numbers, runs_of};
 
 use crate::iter::OnesLeft;
 use crate::operation::Operation;
@@ -92,6 +92,28 @@ pub(crate) fn remove(bits: &mut Bits, number: u16)
     BitListMut::set(bits, number as usize, false);
 }
 
+// Puts in the numbers from `first` to `last`.
+#[tactic(auto, using(crate::proofs::Ranges::ones_filled))]
+pub(crate) fn insert_range(bits: &mut Bits, first: u16, last: u16)
+    requires size { AreBits bits.old.list }
+    requires ordered { first ≤ last }
+    ensures size { AreBits bits.new.list }
+    ensures gains { GainsBetween (ones_of bits.old.list) (ones_of bits.new.list) first last }
+{
+    BitListMut::fill_range(bits, first as usize..last as usize + 1, true);
+}
+
+// Takes out the numbers from `first` to `last`.
+#[tactic(auto, using(crate::proofs::Ranges::ones_cleared))]
+pub(crate) fn remove_range(bits: &mut Bits, first: u16, last: u16)
+    requires size { AreBits bits.old.list }
+    requires ordered { first ≤ last }
+    ensures size { AreBits bits.new.list }
+    ensures loses { LosesBetween (ones_of bits.old.list) (ones_of bits.new.list) first last }
+{
+    BitListMut::fill_range(bits, first as usize..last as usize + 1, false);
+}
+
 // Puts numbers in.
 pub(crate) fn put_list(bits: &mut Bits, numbers: &[u16])
     requires { AreBits bits.old.list }
@@ -169,4 +191,48 @@ pub(crate) fn count_both(bits: &Bits, others: &Bits) -> usize
     ensures { result ≡ count_where (has (ones_of others.now.list)) (ones_of bits.now.list) }
 {
     bits.count_and(others.as_bitslice())
+}
+
+// The count of runs, where as many numbers as possible are in each: one for each number that does not follow another.
+pub(crate) fn count_runs(bits: &Bits) -> usize
+    requires { AreBits bits.now.list }
+    ensures { result ≡ length (runs_of (ones_of bits.now.list)) }
+{
+    let view = bits.as_bitslice();
+    let following = view.get_range(1..).count_and(view.get_range(..COUNT - 1));
+    bits.count_ones() - following
+}
+
+// Where the run of true bits ends to which the one at `first` belongs: the index after its last bit.
+fn end_of_run(bits: &Bits, first: usize) -> usize
+    requires size { AreBits bits.now.list }
+    requires here { slice_get bits.now.list first ≡ Some true }
+    ensures more { first < result }
+    ensures within { result ≤ 65536 }
+    ensures ones { (j : ℕ) → first ≤ j → j < result → slice_get bits.now.list j ≡ Some true }
+    ensures ends { result < 65536 → slice_get bits.now.list result ≡ Some false }
+{
+    match BitList::next_zero(bits, first) {
+        None => COUNT,
+        Some(end) => end,
+    }
+}
+
+// The runs: as many numbers as possible in each.
+pub(crate) fn runs_of(alloc: Global, bits: &Bits) -> Result<Vec<Run>, AllocError>
+    requires { AreBits bits.now.list }
+    ensures runs { IfOk result (λ runs. AreRuns runs.items) }
+    ensures numbers { IfOk result (λ runs. run_numbers runs.items ≡ ones_of bits.now.list) }
+{
+    let mut runs = Vec::with_capacity(alloc, count_runs(bits))?;
+    let mut from = 0;
+    while let Some(first) = BitList::next_one(bits, from) {
+        from = end_of_run(bits, first);
+        let last = (from - 1) as u16;
+        runs.push(Run {
+            first: first as u16,
+            last,
+        })?;
+    }
+    Ok(runs)
 }

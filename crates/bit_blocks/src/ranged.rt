@@ -3,7 +3,7 @@ ghost use Rattle.std.specs.Prelude.{◌≡◌, ◌≤◌, ◌+◌, ◌-◌, IfOk
 ghost use Rattle.std.specs.List.{range_with_len};
 ghost use Rattle.bit_blocks.specs.Numbers.{Ascends, count_below, has};
 ghost use Rattle.bit_blocks.specs.Runs.{AreRuns, run_numbers};
-ghost use Rattle.bit_blocks.specs.RunPlaces.{IsBegunBefore};
+ghost use Rattle.bit_blocks.specs.RunPlaces.{IsBegunBefore, IsEndedBefore};
 
 use crate::runs_left::RunsLeft;
 use std::alloc::{AllocError, Global};
@@ -24,6 +24,15 @@ pub(crate) fn place_of(runs: &[Run], number: u16) -> usize
     ensures split { IsBegunBefore runs.now number result }
 {
     runs.partition_point(|run| run.first <= number)
+}
+
+// The count of runs that end before `number`. Requires that they are in order and apart.
+pub(crate) fn ended_before(runs: &[Run], number: u16) -> usize
+    requires { AreRuns runs.now }
+    ensures within { result ≤ length runs.now }
+    ensures split { IsEndedBefore runs.now number result }
+{
+    runs.partition_point(|run| run.last < number)
 }
 
 // Whether `number` is in one of the runs. Requires that they are in order and apart.

@@ -1,7 +1,10 @@
 //! The numbers of runs, one after another.
 ghost use Rattle.std.specs.Prelude.{◌≡◌, ◌≤◌, All};
+ghost use Rattle.bit_blocks.specs.Numbers.{numbers_between};
+ghost use Rattle.bit_blocks.specs.RunPlaces.{EachMeets};
 ghost use Rattle.bit_blocks.specs.Runs.{AreRuns, run_numbers};
 
+use crate::ranged;
 use crate::ranged::Run;
 use std::iter::{DoubleEndedIterator, FusedIterator, Iterator};
 
@@ -36,6 +39,47 @@ impl<'a> RunsLeft<'a> {
             middle: runs,
             back_from: 0,
             back_upto: 0,
+        }
+    }
+
+    // The numbers of runs from `first` to `last`. Requires that the runs are in order and apart.
+    pub(crate) fn between(runs: &'a [Run], first: u16, last: u16) -> Self
+        requires runs { AreRuns runs.now }
+        requires ordered { first ≤ last }
+        ensures { runs_left result ≡ numbers_between first last (run_numbers runs.now) }
+    {
+        let from = ranged::ended_before(runs, first);
+        let upto = ranged::place_of(runs, last);
+        RunsLeft::clipped(&runs[from..upto], first, last)
+    }
+
+    // The same of runs that all have some of these numbers.
+    fn clipped(runs: &'a [Run], first: u16, last: u16) -> Self
+        requires runs { AreRuns runs.now }
+        requires ordered { first ≤ last }
+        requires meet { EachMeets runs.now first last }
+        ensures { runs_left result ≡ numbers_between first last (run_numbers runs.now) }
+    {
+        let count = runs.len();
+        if count == 0 {
+            return RunsLeft::of(runs);
+        }
+        let (front, back) = (runs[0], runs[count - 1]);
+        if count == 1 {
+            return RunsLeft {
+                from: front.first.max(first) as u32,
+                upto: front.last.min(last) as u32 + 1,
+                middle: &runs[1..],
+                back_from: 0,
+                back_upto: 0,
+            };
+        }
+        RunsLeft {
+            from: front.first.max(first) as u32,
+            upto: front.last as u32 + 1,
+            middle: &runs[1..count - 1],
+            back_from: back.first as u32,
+            back_upto: back.last.min(last) as u32 + 1,
         }
     }
 

@@ -55,7 +55,7 @@ no_byte_more front total [] none so_far = sym (append-nil front) ∙ so_far
 no_byte_more front total (b ∷ bs) none so_far = absurd (omega arith)
 
 -- the offset of the next block, and those after it
-pub offset_more : (front : List ℕ) (at : ℕ) (bs : List Stored) (i : ℕ) (b : Stored) (size : ℕ) (total : List ℕ) → i < length bs → b ≡ get_or bs i b → size ≡ length (content_bytes (content_of b.data))
+pub offset_more : (front : List ℕ) (at : ℕ) (bs : List Stored) (i : ℕ) (b : Stored) (size : ℕ) (total : List ℕ) → i < length bs → b ≡ get_or bs i b → size ≡ length (content_bytes (content_of b.content))
     → front ++ offset_bytes at (pieces_of (drop i bs)) ≡ total
     → (front ++ four at) ++ offset_bytes (at + size) (pieces_of (drop (i + 1) bs)) ≡ total
 offset_more front at bs i b size total inside is len so_far =
@@ -67,8 +67,8 @@ offset_more front at bs i b size total inside is len so_far =
 
 -- the bytes of the blocks that are left
 pub size_more : (bs : List Stored) (i : ℕ) (b : Stored) → i < length bs → b ≡ get_or bs i b
-    → length (flat_map (λ p. content_bytes p.content) (pieces_of (drop i bs))) ≡ length (content_bytes (content_of b.data)) + length (flat_map (λ p. content_bytes p.content) (pieces_of (drop (i + 1) bs)))
+    → length (flat_map (λ p. content_bytes p.content) (pieces_of (drop i bs))) ≡ length (content_bytes (content_of b.content)) + length (flat_map (λ p. content_bytes p.content) (pieces_of (drop (i + 1) bs)))
 size_more bs i b inside is =
     let parts : drop i bs ≡ b ∷ drop (i + 1) bs = rw (add-one, drop-cons bs i b) (ap (λ (x : Stored). x ∷ drop (suc i) bs) (sym is)) in
     ap (λ (xs : List Stored). length (flat_map (λ p. content_bytes p.content) (pieces_of xs))) parts
-    ∙ length-append (content_bytes (content_of b.data)) (flat_map (λ p. content_bytes p.content) (pieces_of (drop (i + 1) bs)))
+    ∙ length-append (content_bytes (content_of b.content)) (flat_map (λ p. content_bytes p.content) (pieces_of (drop (i + 1) bs)))

@@ -11,7 +11,7 @@ use Rattle.bit_portable.specs.declared.stored.Head.{Head}
 use Rattle.bit_portable.specs.Stored.{Content, Numbers, Words, Runs, Holds, two, eight, run_bytes, content_bytes, run_total, word_total}
 use Rattle.bit_portable.specs.Reading.{◌>>=◌, bytes_at, number_at, twos, eights, ascends, runs_in, numbers_at, words_at, counted_runs_at, runs_at, content_at}
 use Rattle.bit_portable.proofs.Bytes.{numbers_length, words_length, runs_length}
-use Rattle.bit_portable.proofs.Pieces.{few_runs}
+use Rattle.bit_blocks.proofs.Runs.{few_runs}
 use Rattle.bit_portable.proofs.Fields.{IsBytes, Takes, bind_ok, guard_ok, guarded_ok, chosen, ok_is, bytes_take, bytes_again, number_takes, number_again, wide16}
 use Rattle.bit_portable.proofs.Coded.{twos_take, twos_again, eights_take, eights_again, ascends_takes, ascends_again, ascending_halves, runs_take, runs_again}
 

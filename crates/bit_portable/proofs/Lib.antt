@@ -6,7 +6,6 @@ pub mod Coded
 pub mod Contents
 pub mod Whole
 pub mod Digits
-pub mod Grouping
 pub mod Mapping
 pub mod Flags
 pub mod Portable

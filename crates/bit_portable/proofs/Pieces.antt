@@ -1,24 +1,21 @@
 -- Blocks that have a form: their order, and how many bytes they take.
-use Rattle.std.proofs.Common.{ℕ, zero, suc, ◌+◌, ◌*◌, ◌<◌, ◌≤◌, List, [], ◌∷◌, length, All, arith}
+use Rattle.std.proofs.Common.{◌≡◌, ℕ, zero, suc, ◌+◌, ◌-◌, ◌≤◌, List, [], ◌∷◌, length, length-append, All, refl, arith}
+use Rattle.std.proofs.lemmas.List.FromFn.{length-range_with_len}
 use Rattle.bit_blocks.specs.declared.ranged.Run.{Run}
-use Rattle.bit_blocks.specs.Runs.{AreRunsFrom}
+use Rattle.bit_blocks.specs.Runs.{AreRunsFrom, numbers_of_run, run_numbers}
+use Rattle.bit_blocks.proofs.Runs.{few_runs}
 use Rattle.bit_portable.specs.declared.stored.Head.{Head}
 use Rattle.bit_portable.specs.declared.stored.Stored.{Stored}
-use Rattle.bit_portable.specs.Stored.{AreOrdered, IsPiece, piece_of, pieces_of, Content, Numbers, Words, Runs, Holds}
+use Rattle.bit_portable.specs.Stored.{AreOrdered, IsPiece, piece_of, pieces_of, Content, Numbers, Words, Runs, Holds, run_total}
 
 -- the facts of each item but the first
 pub of_rest : {X : Type 0} (P : X → Type 0) (x : X) (xs : List X) → All P (x ∷ xs) → All P xs
 of_rest P x xs h k d inside = h (suc k) d (omega arith)
 
--- two runs are two numbers apart, so there are few
-pub few_runs : (from : ℕ) (rs : List Run) → from ≤ 65537 → AreRunsFrom from rs → from + 2 * length rs ≤ 65537
-few_runs from [] low h = omega arith
-few_runs from (r ∷ rs) low h =
-    let first : from ≤ r.first = h.0 in
-    let ordered : r.first ≤ r.last = h.1 in
-    let most : r.last < 65536 = h.2 in
-    let rest = few_runs (r.last + 2) rs (omega arith) h.3 in
-    omega arith
+-- as many numbers as the runs say
+pub total_numbers : (rs : List Run) → run_total rs ≡ length (run_numbers rs)
+total_numbers [] = refl
+total_numbers (r ∷ rs) = let here = length-range_with_len r.first (r.last + 1 - r.first) in let rest = total_numbers rs in omega (arith, length-append (numbers_of_run r) (run_numbers rs))
 
 pub runs_ordered : (from : ℕ) (rs : List Run) → AreRunsFrom from rs → All (λ r. r.first ≤ r.last) rs
 runs_ordered from [] h k d inside = absurd (omega arith)

@@ -5,7 +5,7 @@ use Rattle.std.proofs.lemmas.Bool.{leb-true, leb-false, lt-leb}
 use Rattle.std.proofs.lemmas.List.Elements.{All-from_recursion, recursion_from_All}
 use Rattle.bit_blocks.specs.declared.ranged.Run.{Run}
 use Rattle.bit_blocks.specs.Numbers.{AscendsIn, Ascends, those}
-use Rattle.bit_blocks.specs.Runs.{AreRuns, run_numbers}
+use Rattle.bit_blocks.specs.Runs.{joined, runs_of}
 use Rattle.bit_blocks.proofs.Runs.{ascends_runs}
 use Rattle.bit_blocks.proofs.Those.{ascends_those}
 use Rattle.bit_portable.specs.declared.stored.Head.{Head}
@@ -16,11 +16,12 @@ use Rattle.bit_portable.specs.Reading.{Fails}
 use Rattle.bit_portable.proofs.Fields.{done, ok_is}
 use Rattle.bit_portable.specs.Stored.{Content, content_of, pieces_of, Numbers, Words, Runs, Holds, Piece, IsPiece, content_bytes, run_bytes, two, word_total}
 use Rattle.bit_portable.specs.Form.{AreWritable, IsForm, IsWritten, KeysFrom, OffsetsFit, data_bytes, data_start, flag_count, flags_for, form, heads_of}
-use Rattle.bit_portable.specs.Portable.{IsGood, AreBlocks, AreBlocksFrom, IsFormOf, Numbered, any_runs, content_for, head_for, joined, numbered_of, numbers_of, pieces_for, portable, runs_of, runs_pay, stored_as_runs, word_bit, words_of}
+use Rattle.bit_portable.specs.Portable.{IsGood, AreBlocks, AreBlocksFrom, IsFormOf, Numbered, any_runs, content_for, head_for, numbered_of, numbers_of, pieces_for, portable, runs_pay, stored_as_runs, word_bit, words_of}
 use Rattle.bit_portable.proofs.Bytes.{numbers_length, words_length, runs_length}
 use Rattle.bit_portable.proofs.Coded.{Wholes}
 use Rattle.bit_portable.proofs.Flags.{flags_for_are, flags_for_length}
-use Rattle.bit_portable.proofs.Grouping.{runs_again, runs_good, runs_numbers, total_numbers}
+use Rattle.bit_blocks.proofs.Joined.{runs_good, runs_numbers}
+use Rattle.bit_portable.proofs.Pieces.{total_numbers}
 use Rattle.bit_portable.proofs.Mapping.{words_again, words_count, words_fit, words_numbers, words_total}
 
 -- ---- one block
@@ -183,9 +184,6 @@ unfolding portable
 written_as flagged ps with_runs bs out f e is =
     is ∙ ap (λ (b : Bool). form b (flags_for b (heads_of ps)) ps) f ∙ ap (λ (qs : List Piece). form (any_runs qs) (flags_for (any_runs qs) (heads_of qs)) qs) e
 
-pub content_of_runs : (xs : List ℕ) (rs : List Run) → AreRuns rs → run_numbers rs ≡ xs → rs ≡ runs_of xs
-content_of_runs xs rs good is = sym (runs_again 0 rs good) ∙ ap runs_of is
-
 pub content_of_words : (xs ws : List ℕ) → length ws ≡ 1024 → Wholes ws → those (word_bit ws) 0 65536 ≡ xs → ws ≡ words_of xs
 content_of_words xs ws len fits is = sym (words_again ws len fits) ∙ ap words_of is
 
@@ -230,12 +228,12 @@ content_good h (Numbers xs) holds = holds.3
 content_good h (Words ws) holds = holds.2
 content_good h (Runs rs) holds = holds.2
 
-stored_good : (ss : List Stored) → AllByRecursion IsPiece (pieces_of ss) → All (λ s. IsGood (content_of s.data)) ss
+stored_good : (ss : List Stored) → AllByRecursion IsPiece (pieces_of ss) → All (λ s. IsGood (content_of s.content)) ss
 stored_good [] pieces k d inside = absurd (omega arith)
-stored_good (s ∷ ss) pieces zero d inside = content_good s.head (content_of s.data) pieces.0.holds
+stored_good (s ∷ ss) pieces zero d inside = content_good s.head (content_of s.content) pieces.0.holds
 stored_good (s ∷ ss) pieces (suc k) d inside = stored_good ss pieces.1 k d (omega arith)
 
-pub written_good : (bytes : List ℕ) (ss : List Stored) → IsWritten bytes (pieces_of ss) → All (λ s. IsGood (content_of s.data)) ss
+pub written_good : (bytes : List ℕ) (ss : List Stored) → IsWritten bytes (pieces_of ss) → All (λ s. IsGood (content_of s.content)) ss
 written_good bytes ss written = stored_good ss written.2.pieces
 
 pub still_fails : {X Y : Type 0} (e : ReadError) (x : X) (y : Y) → Fails e (Ok x) → Fails e (Ok y)

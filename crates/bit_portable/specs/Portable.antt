@@ -1,9 +1,8 @@
 -- Sets of numbers in the format: how each block is stored, and the bytes of all.
 use Rattle.std.specs.Prelude.{◌≡◌, ℕ, ◌+◌, ◌*◌, ◌/◌, ◌%◌, ◌^◌, ◌<◌, ◌≤◌, Bool, true, false, ◌&&◌, ◌||◌, if◌then◌else◌, nat_eq, nat_le, nat_lt, List, [], ◌∷◌, length, map, slice_index, ⊤, refl}
 use Rattle.std.specs.List.{range_with_len}
-use Rattle.bit_blocks.specs.declared.ranged.Run.{Run}
 use Rattle.bit_blocks.specs.Numbers.{Ascends, has, those}
-use Rattle.bit_blocks.specs.Runs.{AreRuns, run_numbers}
+use Rattle.bit_blocks.specs.Runs.{AreRuns, run_numbers, runs_of}
 use Rattle.bit_portable.specs.declared.stored.Head.{Head}
 use Rattle.bit_portable.specs.Stored.{Content, Numbers, Words, Runs, Piece}
 use Rattle.bit_portable.specs.Form.{digits, flags_for, form, heads_of, IsWritten}
@@ -22,16 +21,6 @@ abbrev pub numbers_of : Content → List ℕ
 numbers_of (Numbers xs) = xs
 numbers_of (Words ws) = those (word_bit ws) 0 65536
 numbers_of (Runs rs) = run_numbers rs
-
--- a number below some runs and these runs, in as few runs as there can be
-abbrev pub joined : ℕ → List Run → List Run
-joined x [] = record { first = x; last = x } ∷ []
-joined x (r ∷ rs) = if nat_eq r.first (x + 1) then record { first = x; last = r.last } ∷ rs else record { first = x; last = x } ∷ r ∷ rs
-
--- ascending numbers in as few runs as there can be
-abbrev pub runs_of : List ℕ → List Run
-runs_of [] = []
-runs_of (x ∷ xs) = joined x (runs_of xs)
 
 -- the word with a bit for each of the 64 numbers from 64 * j on
 abbrev pub word_of : List ℕ → ℕ → ℕ
@@ -116,9 +105,6 @@ blocks_with_runs : portable true (record { key = 0; numbers = 3 ∷ 7 ∷ [] } �
     ≡ 59 ∷ 48 ∷ 2 ∷ 0 ∷ 2 ∷ 0 ∷ 0 ∷ 1 ∷ 0 ∷ 1 ∷ 0 ∷ 9 ∷ 0 ∷ 2 ∷ 0 ∷ 0 ∷ 0 ∷ 3 ∷ 0 ∷ 7 ∷ 0 ∷ 1 ∷ 0 ∷ 0 ∷ 0 ∷ 9 ∷ 0 ∷ 5 ∷ 0 ∷ []
 unfolding portable ten
 blocks_with_runs = refl
-
-three_runs : runs_of (2 ∷ 3 ∷ 5 ∷ 7 ∷ 8 ∷ 9 ∷ []) ≡ record { first = 2; last = 3 } ∷ record { first = 5; last = 5 } ∷ record { first = 7; last = 9 } ∷ []
-three_runs = refl
 
 second_word : word_of (64 ∷ 67 ∷ 130 ∷ []) 1 ≡ 9
 second_word = refl

@@ -30,7 +30,7 @@ content_of (data_of.Runs v) = Runs v.items
 
 -- the block that a value of `Stored` is
 abbrev pub piece_of : Stored → Piece
-piece_of s = record { head = s.head; content = content_of s.data }
+piece_of s = record { head = s.head; content = content_of s.content }
 
 -- the same of several
 abbrev pub pieces_of : List Stored → List Piece

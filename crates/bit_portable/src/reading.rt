@@ -330,8 +330,8 @@ fn piece_at<'a>(
     if checked && !is_offset(offsets, k, total - bytes.len()) {
         return Err(ReadError::Fault(Fault::Offset));
     }
-    let (data, rest) = content_at(alloc, head, bytes)?;
-    Ok((Stored { head, data }, rest))
+    let (content, rest) = content_at(alloc, head, bytes)?;
+    Ok((Stored { head, content }, rest))
 }
 
 // The blocks, whose offsets are checked where there are any, among `total` bytes.

@@ -1,10 +1,11 @@
 //! Sets of numbers as bytes, and bytes as sets of numbers.
 ghost use Rattle.std.specs.Prelude.{All, map, ◌≡◌, ◌≤◌, ◌<◌, Bool, List, Ok, IfErr, IfOk, false, length, true};
 ghost use Rattle.bit_blocks.specs.Numbers.{Ascends};
+ghost use Rattle.bit_blocks.specs.Runs.{runs_of};
 ghost use Rattle.bit_portable.specs.Stored.{Holds, content_of, piece_of, pieces_of};
 ghost use Rattle.bit_portable.specs.Keyed.{all_numbered, numbered};
 ghost use Rattle.bit_portable.specs.Form.{heads_of};
-ghost use Rattle.bit_portable.specs.Portable.{AreBlocks, IsGood, numbered_of, IsFormOf, Numbered, any_runs, content_for, numbers_of, piece_for, pieces_for, portable, runs_of, runs_pay};
+ghost use Rattle.bit_portable.specs.Portable.{AreBlocks, IsGood, numbered_of, IsFormOf, Numbered, any_runs, content_for, numbers_of, piece_for, pieces_for, portable, runs_pay};
 ghost use Rattle.bit_portable.specs.Reading.{Fails, Gives, all_of};
 ghost use Rattle.bit_portable.specs.Faults.{FailsBy, Tells};
 
@@ -13,7 +14,7 @@ use crate::fault::ReadError;
 use crate::reading::read_stored;
 use crate::stored::{Data, Head, Stored};
 use crate::writing::write_stored;
-use bit_blocks::{Block, Keyed, Run};
+use bit_blocks::{Block, Keyed};
 use std::alloc::{AllocError, Global};
 
 // Whether `runs` runs take fewer bytes than `count` numbers as a list or as bits.
@@ -43,15 +44,6 @@ fn plain_data(alloc: Global, block: &Block) -> Result<Data, AllocError>
     Ok(Data::Words(words))
 }
 
-// The runs of a block.
-fn runs_of(alloc: Global, block: &Block) -> Result<Vec<Run>, AllocError>
-    ensures runs { IfOk result (λ v. v.items ≡ runs_of block.now) }
-    ensures few { IfOk result (λ v. length v.items ≤ 65536) }
-{
-    let runs = block.to_runs(alloc)?;
-    Ok(runs)
-}
-
 // A block as it is stored without runs.
 fn stored_plain(alloc: Global, keyed: &Keyed) -> Result<Stored, AllocError>
     ensures { IfOk result (λ s. piece_of s ≡ piece_for false (numbered keyed.now)) }
@@ -63,10 +55,7 @@ fn stored_plain(alloc: Global, keyed: &Keyed) -> Result<Stored, AllocError>
         count: count as u32,
         as_runs: false,
     };
-    Ok(Stored {
-        head,
-        data: content,
-    })
+    Ok(Stored { head, content })
 }
 
 // A block as it is stored with runs where they take fewer bytes.
@@ -74,10 +63,10 @@ fn stored_with_runs(alloc: Global, keyed: &Keyed) -> Result<Stored, AllocError>
     ensures { IfOk result (λ s. piece_of s ≡ piece_for true (numbered keyed.now)) }
 {
     let count = keyed.block.len();
-    let runs = runs_of(alloc, &keyed.block)?;
-    if !runs_pay(count, runs.len()) {
+    if !runs_pay(count, keyed.block.count_runs()) {
         return stored_plain(alloc, keyed);
     }
+    let runs = keyed.block.to_runs(alloc)?;
     let head = Head {
         key: keyed.key,
         count: count as u32,
@@ -85,7 +74,7 @@ fn stored_with_runs(alloc: Global, keyed: &Keyed) -> Result<Stored, AllocError>
     };
     Ok(Stored {
         head,
-        data: Data::Runs(runs),
+        content: Data::Runs(runs),
     })
 }
 
@@ -149,17 +138,17 @@ fn block_of(alloc: Global, content: Data) -> Result<Block, AllocError>
 
 // A block with its key.
 fn keyed_of(alloc: Global, stored: Stored) -> Result<Keyed, AllocError>
-    requires { IsGood (content_of stored.data) }
+    requires { IsGood (content_of stored.content) }
     ensures { IfOk result (λ k. numbered k ≡ numbered_of (piece_of stored)) }
 {
     let key = stored.head.key;
-    let block = block_of(alloc, stored.data)?;
+    let block = block_of(alloc, stored.content)?;
     Ok(Keyed { key, block })
 }
 
 // Blocks with their keys.
 fn all_keyed(alloc: Global, stored: Vec<Stored>) -> Result<Vec<Keyed>, AllocError>
-    requires { All (λ s. IsGood (content_of s.data)) stored.items }
+    requires { All (λ s. IsGood (content_of s.content)) stored.items }
     ensures { IfOk result (λ v. all_numbered v.items ≡ map numbered_of (pieces_of stored.items)) }
 {
     let mut blocks = Vec::with_capacity(alloc, stored.len())?;

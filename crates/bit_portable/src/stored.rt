@@ -30,5 +30,5 @@ pub struct Stored {
     /// What the header says of it.
     pub head: Head,
     /// Its numbers.
-    pub data: Data,
+    pub content: Data,
 }

@@ -136,7 +136,7 @@ fn push_offsets(out: &mut Vec<u8>, start: usize, blocks: &[Stored]) -> Result<()
     let mut at = start;
     for block in blocks {
         out.extend_from_slice(&(at as u32).to_le_bytes())?;
-        at += data_len(&block.data);
+        at += data_len(&block.content);
     }
     Ok(())
 }
@@ -147,7 +147,7 @@ fn push_all(out: &mut Vec<u8>, blocks: &[Stored]) -> Result<(), AllocError>
     ensures appended { OnOk result (out.new.items ≡ out.old.items ++ data_bytes (pieces_of blocks.now)) }
 {
     for block in blocks {
-        push_data(out, &block.data)?;
+        push_data(out, &block.content)?;
     }
     Ok(())
 }
@@ -214,7 +214,7 @@ fn data_total(blocks: &[Stored]) -> usize
 {
     let mut total = 0;
     for block in blocks {
-        total += data_len(&block.data);
+        total += data_len(&block.content);
     }
     total
 }

@@ -6,4 +6,4 @@ pub push_data-requires : goal.push_data-requires
 push_data-requires c =
     let b = c.block-item.result in
     let fine = c.requires c.loop-block.block-index b c.loop-block-test.true in
-    is_ordered b.head (content_of b.data) (rw c.block-item.is fine.holds)
+    is_ordered b.head (content_of b.content) (rw c.block-item.is fine.holds)

@@ -1,0 +1,95 @@
+-- Numbers of a range put into lists and bits, and taken out of them.
+use Rattle.std.proofs.Common.{◌≡◌, ℕ, ◌+◌, ◌-◌, ◌<◌, ◌≤◌, Bool, true, false, cond, not, ◌&&◌, ◌||◌, leb, nat_eq, nat_lt, List, [], ◌∷◌, get_or, replicate, refl, sym, ◌∙◌, ap, inl, inr, arith}
+use Rattle.std.specs.List.{filter, range_with_len}
+use Rattle.std.proofs.Math.Bool.{and-false}
+use Rattle.std.proofs.lemmas.Bool.{cases_Bool, cases_eq, cases_lt, eq-eqb, le-leb, le-ltb, lt-leb, lt-ltb, ne_eqb}
+use Rattle.bit_addressing.specs.Row.{put}
+use Rattle.bit_slice.specs.Places.{ones_of}
+use Rattle.bit_blocks.specs.Bits.{AreBits}
+use Rattle.bit_blocks.specs.Numbers.{Ascends, AscendsIn, GainsBetween, LosesBetween, has, is_between, numbers_between}
+use Rattle.bit_blocks.proofs.Ascending.{ascends_earlier, below_all}
+use Rattle.bit_blocks.proofs.Between.{after_range, in_between}
+use Rattle.bit_blocks.proofs.Bits.{has_ones, in_range, item_filled, when_false, when_true}
+use Rattle.bit_blocks.proofs.Runs.{has_range}
+
+-- the items of a range are those that a run of it has
+in_between_range : (first last a n k : ℕ) → a ≡ first → a + n ≡ last + 1 → (leb a k && nat_lt k (a + n)) ≡ is_between first last k
+in_between_range first last a n k begins ends = in_range (record { first = first; last = last }) k a n begins ends
+
+pub ones_filled : (xs ys : List Bool) (first last n : ℕ) → AreBits xs → AreBits ys → first ≤ last → last < 65536 → n ≡ last + 1 - first → ys ≡ put xs first (replicate n true) → GainsBetween (ones_of xs) (ones_of ys) first last
+ones_filled xs ys first last n size size_too ordered most count is k =
+    has_ones ys k size_too ∙ ap (λ l. get_or l k false) is ∙ item_filled xs first n k true (omega arith) ∙ when_true (leb first k && nat_lt k (first + n)) (get_or xs k false)
+    ∙ ap (λ b. b || get_or xs k false) (in_between_range first last first n k refl (omega arith)) ∙ ap (λ b. is_between first last k || b) (sym (has_ones xs k size))
+
+pub ones_cleared : (xs ys : List Bool) (first last n : ℕ) → AreBits xs → AreBits ys → first ≤ last → last < 65536 → n ≡ last + 1 - first → ys ≡ put xs first (replicate n false) → LosesBetween (ones_of xs) (ones_of ys) first last
+ones_cleared xs ys first last n size size_too ordered most count is k =
+    has_ones ys k size_too ∙ ap (λ l. get_or l k false) is ∙ item_filled xs first n k false (omega arith) ∙ when_false (leb first k && nat_lt k (first + n)) (get_or xs k false)
+    ∙ ap (λ b. get_or xs k false && not b) (in_between_range first last first n k refl (omega arith)) ∙ ap (λ b. b && not (is_between first last k)) (sym (has_ones xs k size))
+
+-- a number of a list that passes a test
+pub has_filter : (p : ℕ → Bool) (xs : List ℕ) (k : ℕ) → has (filter p xs) k ≡ (has xs k && p k)
+has_filter p [] k = refl
+has_filter p (x ∷ xs) k = let rest = has_filter p xs k in elim (cases_Bool (p x)) [
+  | inl here ↦ ap (λ b. has (cond b (x ∷ filter p xs) (filter p xs)) k) here ∙ elim (cases_eq x k) [
+    | inl same ↦ ap (λ b. b || has (filter p xs) k) (eq-eqb x k same) ∙ sym (ap (λ b. (b || has xs k) && p k) (eq-eqb x k same) ∙ ap p (sym same) ∙ here)
+    | inr other ↦ ap (λ b. b || has (filter p xs) k) (ne_eqb x k other) ∙ rest ∙ sym (ap (λ b. (b || has xs k) && p k) (ne_eqb x k other))
+  ]
+  | inr out ↦ ap (λ b. has (cond b (x ∷ filter p xs) (filter p xs)) k) out ∙ rest ∙ elim (cases_eq x k) [
+    | inl same ↦ (
+        let none : p k ≡ false = ap p (sym same) ∙ out in
+        ap (λ b. has xs k && b) none ∙ and-false (has xs k) ∙ sym (ap (λ b. (nat_eq x k || has xs k) && b) none ∙ and-false (nat_eq x k || has xs k)))
+    | inr other ↦ sym (ap (λ b. (b || has xs k) && p k) (ne_eqb x k other))
+  ]
+]
+
+-- what passes a test ascends still
+pub ascends_filter : (p : ℕ → Bool) (from upto : ℕ) (xs : List ℕ) → AscendsIn from upto xs → AscendsIn from upto (filter p xs)
+ascends_filter p from upto [] h = tt
+ascends_filter p from upto (x ∷ xs) h =
+    let low = h.0 in
+    let rest = ascends_filter p (x + 1) upto xs h.2 in
+    elim (p x) as (λ b. AscendsIn from upto (cond b (x ∷ filter p xs) (filter p xs))) [
+      | true ↦ (h.0, h.1, rest)
+      | false ↦ ascends_earlier (x + 1) from upto (filter p xs) (omega arith) rest
+    ]
+
+-- the numbers of a range are in the range
+pub has_between : (first last : ℕ) (xs : List ℕ) (k : ℕ) → has (numbers_between first last xs) k ≡ (has xs k && is_between first last k)
+has_between first last xs k = has_filter (λ j. is_between first last j) xs k
+
+-- and ascend
+pub ascends_between : (first last : ℕ) (xs : List ℕ) → Ascends xs → Ascends (numbers_between first last xs)
+ascends_between first last xs h = ascends_filter (λ j. is_between first last j) 0 65536 xs h
+
+-- a number outside of a range
+outside : (first last k : ℕ) → (nat_lt k first || nat_lt last k) ≡ not (is_between first last k)
+outside first last k = elim (cases_lt k first) [
+  | inl low ↦ ap (λ b. b || nat_lt last k) (lt-ltb k first low) ∙ sym (ap (λ b. not (b && leb k last)) (lt-leb first k low))
+  | inr high ↦ ap (λ b. b || nat_lt last k) (le-ltb k first high) ∙ elim (cases_lt last k) [
+    | inl past ↦ lt-ltb last k past ∙ sym (ap (λ b. not (b && leb k last)) (le-leb first k high) ∙ ap not (lt-leb k last past))
+    | inr within ↦ le-ltb last k within ∙ sym (ap (λ b. not (b && leb k last)) (le-leb first k high) ∙ ap not (le-leb k last within))
+  ]
+]
+
+-- a list without the numbers of a range
+pub loses_kept : (first last : ℕ) (xs ys : List ℕ) → ys ≡ filter (λ k. nat_lt k first || nat_lt last k) xs → LosesBetween xs ys first last
+loses_kept first last xs ys is k = ap (λ l. has l k) is ∙ has_filter (λ j. nat_lt j first || nat_lt last j) xs k ∙ ap (λ b. has xs k && b) (outside first last k)
+
+-- all numbers as one run
+pub all_gained : (xs ys : List ℕ) (first last : ℕ) → Ascends xs → first ≡ 0 → last ≡ 65535 → ys ≡ range_with_len first (last + 1 - first) → GainsBetween xs ys first last
+all_gained xs ys first last h low high is k =
+    let end : first + (last + 1 - first) ≡ last + 1 = omega arith in
+    let fits = in_between_range first last first (last + 1 - first) k refl end in
+    ap (λ l. has l k) is ∙ has_range first (last + 1 - first) k ∙ fits ∙ elim (cases_lt k 65536) [
+      | inl less ↦ (let here = in_between first last k (omega arith) (omega arith) in here ∙ sym (ap (λ b. b || has xs k) here))
+      | inr more ↦ (
+          let out = after_range first last k (omega arith) in
+          out ∙ sym (ap (λ b. b || has xs k) out ∙ below_all 0 65536 xs k h more))
+    ]
+
+-- no number stays without all of them
+pub all_lost : (xs ys : List ℕ) (first last : ℕ) → Ascends xs → first ≡ 0 → last ≡ 65535 → ys ≡ [] → LosesBetween xs ys first last
+all_lost xs ys first last h low high is k = ap (λ l. has l k) is ∙ sym (elim (cases_lt k 65536) [
+  | inl less ↦ ap (λ b. has xs k && not b) (in_between first last k (omega arith) (omega arith)) ∙ and-false (has xs k)
+  | inr more ↦ ap (λ b. b && not (is_between first last k)) (below_all 0 65536 xs k h more)
+])

@@ -8,6 +8,7 @@ pub mod Grouped
 pub mod Joined
 pub mod Merging
 pub mod LeftOfRuns
+pub mod Overlaps
 pub mod Ranges
 pub mod Scanned
 pub mod Stepping

@@ -30,7 +30,7 @@ has_range a (suc n) k = elim (cases_eq a k) [
 ]
 
 -- whether a number is in a run
-has_run : (r : Run) (k : ℕ) → r.first ≤ r.last → has (numbers_of_run r) k ≡ is_in_run r k
+pub has_run : (r : Run) (k : ℕ) → r.first ≤ r.last → has (numbers_of_run r) k ≡ is_in_run r k
 has_run r k ordered =
     let e : r.first + (r.last + 1 - r.first) ≡ suc r.last = omega arith in
     has_range r.first (r.last + 1 - r.first) k ∙ ap (λ n. leb r.first k && nat_lt k n) e ∙ ap (λ b. leb r.first k && b) (upto k r.last)
@@ -159,7 +159,7 @@ pub run_size : (r : Run) → length (numbers_of_run r) ≡ r.last + 1 - r.first
 run_size r = length-range_with_len r.first (r.last + 1 - r.first)
 
 -- the numbers of a range that are below k
-range_below : (a n k : ℕ) → count_below (range_with_len a n) k ≡ min n (k - a)
+pub range_below : (a n k : ℕ) → count_below (range_with_len a n) k ≡ min n (k - a)
 range_below a zero k = omega arith
 range_below a (suc n) k = let rest = range_below (a + 1) n k in elim (cases_lt a k) [
   | inl low ↦ (let e = counts_first a (range_with_len (a + 1) n) k low in omega arith)

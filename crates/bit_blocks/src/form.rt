@@ -318,6 +318,7 @@ pub(crate) fn count_both(left: &Form, right: &Form) -> usize
     match (left, right) {
         (Form::Listed(numbers), Form::Listed(others)) => listed::count_both(numbers, others),
         (Form::Mapped(bits), Form::Mapped(others)) => mapped::count_both(bits, others),
+        (Form::Ranged(runs), Form::Ranged(others)) => ranged::count_both(runs, others),
         (Form::Listed(numbers), _) => count_listed(numbers, right),
         (Form::Ranged(runs), _) => count_ranged(runs, right),
         (Form::Mapped(_), Form::Listed(numbers)) => count_listed(numbers, left),

@@ -1,7 +1,7 @@
 //! Runs of numbers in a slice.
 ghost use Rattle.std.specs.Prelude.{◌≡◌, ◌≤◌, ◌+◌, ◌-◌, IfOk, length, slice_get};
 ghost use Rattle.std.specs.List.{range_with_len};
-ghost use Rattle.bit_blocks.specs.Numbers.{Ascends, count_below, has};
+ghost use Rattle.bit_blocks.specs.Numbers.{Ascends, count_below, count_where, has};
 ghost use Rattle.bit_blocks.specs.Runs.{AreRuns, run_numbers};
 ghost use Rattle.bit_blocks.specs.RunPlaces.{IsBegunBefore, IsEndedBefore};
 
@@ -97,6 +97,29 @@ pub(crate) fn nth(runs: &[Run], k: usize) -> Option<u16>
         left -= size;
     }
     None
+}
+
+// The count of numbers that are in both of two lists of runs, which are read side by side. Requires that the runs of
+// each are in order and apart.
+pub(crate) fn count_both(left: &[Run], right: &[Run]) -> usize
+    requires left { AreRuns left.now }
+    requires right { AreRuns right.now }
+    ensures { result ≡ count_where (has (run_numbers right.now)) (run_numbers left.now) }
+{
+    let mut count = 0;
+    let (mut i, mut j) = (0, 0);
+    while i < left.len() && j < right.len() {
+        let (run, other) = (left[i], right[j]);
+        let first = run.first.max(other.first);
+        let end = run.last.min(other.last) as usize + 1;
+        count += end.saturating_sub(first as usize);
+        if run.last < other.last {
+            i += 1;
+        } else {
+            j += 1;
+        }
+    }
+    count
 }
 
 // The runs of ascending numbers: as many as possible in each.

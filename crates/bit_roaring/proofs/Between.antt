@@ -1,16 +1,16 @@
 -- Blocks before a key and from a key on, and the numbers of a range.
-use Rattle.std.proofs.Common.{◌≡◌, ℕ, zero, suc, ◌+◌, ◌-◌, ◌*◌, ◌/◌, ◌%◌, ◌<◌, ◌≤◌, Bool, true, false, cond, not, ◌&&◌, ◌||◌, nat_eq, nat_le, nat_lt, List, [], ◌∷◌, ◌++◌, append_assoc, append-nil, get_or, length, map, take, drop, slice_range, refl, sym, ◌∙◌, ap, subst, inl, inr, arith}
+use Rattle.std.proofs.Common.{◌≡◌, ℕ, zero, suc, ◌+◌, ◌-◌, ◌*◌, ◌/◌, ◌%◌, ◌<◌, ◌≤◌, Bool, true, false, not, ◌&&◌, ◌||◌, nat_le, nat_lt, List, [], ◌∷◌, ◌++◌, append_assoc, append-nil, length, map, take, drop, slice_range, refl, sym, ◌∙◌, ap, subst, inl, inr, arith}
 use Rattle.std.specs.List.{splice}
 use Rattle.std.proofs.Math.Bool.{and-false, or-false}
-use Rattle.std.proofs.lemmas.Bool.{cases_Bool, cases_eq, cases_lt, eq-eqb, le-leb, le-ltb, lt-leb, lt-ltb, ltb-false, ltb-true, ne_eqb}
-use Rattle.bit_blocks.specs.Numbers.{Ascends, AscendsIn, has}
+use Rattle.std.proofs.lemmas.Bool.{cases_lt, eq-eqb, le-leb, le-ltb, lt-leb, lt-ltb, ltb-false, ltb-true, ne_eqb}
+use Rattle.bit_blocks.specs.Numbers.{Ascends, has}
 use Rattle.bit_blocks.specs.Operation.{made_by}
 use Rattle.bit_blocks.specs.declared.keyed.Keyed.{Keyed}
 use Rattle.bit_blocks.specs.declared.operation.Operation.{Operation}
 use Rattle.bit_blocks.proofs.Edits.{has_append}
 use Rattle.bit_roaring.specs.Keyed.{AreKeyed, AreKeyedFrom, keyed_numbers, set_numbers}
 use Rattle.bit_roaring.specs.Places.{IsKeyPlace}
-use Rattle.bit_roaring.specs.Ranges.{ChangesPart, is_within}
+use Rattle.bit_roaring.specs.Ranges.{ArePart, ChangesPart, is_within}
 use Rattle.bit_roaring.proofs.Keys.{has_keyed, has_set, keyed_earlier, later_place, no_block_before}
 use Rattle.bit_roaring.proofs.Sets.{sets_combined}
 
@@ -153,6 +153,11 @@ part_keyed bs low high i j h less within inside at past =
 
 pub part_whole : (bs : List Keyed) (low high i j : ℕ) → AreKeyed bs → low ≤ high → i ≤ length bs → j ≤ length bs → IsKeyPlace bs low i → IsKeyPlace bs high j → AreKeyed (slice_range bs i j)
 part_whole bs low high i j h less within inside at past = keyed_earlier low 0 (slice_range bs i j) (omega arith) (part_keyed bs low high i j h less within inside at past)
+
+pub part_between : (bs : List Keyed) (low high i j : ℕ) → AreKeyed bs → low ≤ high → i ≤ j → j ≤ length bs → IsKeyPlace bs low i → IsKeyPlace bs high j → ArePart bs (slice_range bs i j) low high
+part_between bs low high i j h less ordered inside at past =
+    let within : i ≤ length bs = omega arith in
+    record { keyed = part_keyed bs low high i j h less within inside at past; has_those = λ n. part_has bs low high i j n h less within inside at past }
 
 -- ---- the numbers of a range
 

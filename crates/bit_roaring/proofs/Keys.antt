@@ -57,7 +57,7 @@ has_set from (b ∷ bs) n h =
           ∙ sym (ap (λ t. has (cond t b.block (block_at bs (n / 65536))) (n % 65536)) (ne_eqb b.key (n / 65536) other)))
     ]
 
-ascends_keyed : (a from low : ℕ) (xs ys : List ℕ) → low ≤ a * 65536 + from → a < 65536 → from ≤ 65536 → AscendsIn from 65536 xs → AscendsIn ((a + 1) * 65536) (2 ^ 32) ys → AscendsIn low (2 ^ 32) (map (λ k. a * 65536 + k) xs ++ ys)
+pub ascends_keyed : (a from low : ℕ) (xs ys : List ℕ) → low ≤ a * 65536 + from → a < 65536 → from ≤ 65536 → AscendsIn from 65536 xs → AscendsIn ((a + 1) * 65536) (2 ^ 32) ys → AscendsIn low (2 ^ 32) (map (λ k. a * 65536 + k) xs ++ ys)
 ascends_keyed a from low [] ys least small within h g = ascends_earlier ((a + 1) * 65536) low (2 ^ 32) ys (omega arith) g
 ascends_keyed a from low (x ∷ xs) ys least small within h g =
     let first = h.0 in

@@ -3,6 +3,7 @@ pub mod Bytes
 pub mod Counted
 pub mod Keys
 pub mod Made
+pub mod Parts
 pub mod Ranged
 pub mod SetLeft
 pub mod Sets

@@ -1,12 +1,12 @@
 -- The numbers of a range as blocks, and counted.
-use Rattle.std.proofs.Common.{◌≡◌, ℕ, zero, suc, ◌+◌, ◌-◌, ◌*◌, ◌/◌, ◌%◌, ◌^◌, ◌<◌, ◌≤◌, Bool, true, false, cond, ◌&&◌, ◌||◌, nat_eq, nat_le, nat_lt, List, [], ◌∷◌, length, min, refl, sym, ◌∙◌, ap, inl, inr, arith}
+use Rattle.std.proofs.Common.{◌≡◌, ℕ, zero, suc, ◌+◌, ◌-◌, ◌*◌, ◌/◌, ◌%◌, ◌<◌, ◌≤◌, Bool, false, cond, ◌&&◌, nat_lt, List, [], ◌∷◌, length, min, refl, sym, ◌∙◌, ap, inl, inr, arith}
 use Rattle.std.specs.Prelude.{All}
 use Rattle.std.specs.List.{filter, range_with_len}
 use Rattle.std.proofs.Math.Bool.{and-false}
-use Rattle.std.proofs.lemmas.Bool.{cases_eq, cases_lt, eq-eqb, le-leb, le-ltb, lt-leb, lt-ltb, ne_eqb}
+use Rattle.std.proofs.lemmas.Bool.{cases_eq, cases_lt, eq-eqb, le-ltb, lt-ltb, ne_eqb}
 use Rattle.bit_blocks.specs.Numbers.{Ascends, AscendsIn, count_below, has}
 use Rattle.bit_blocks.specs.declared.keyed.Keyed.{Keyed}
-use Rattle.bit_blocks.proofs.Ascending.{ascends_earlier, counts_first, few_numbers, skips_first}
+use Rattle.bit_blocks.proofs.Ascending.{counts_first, skips_first}
 use Rattle.bit_blocks.proofs.Runs.{has_range}
 use Rattle.bit_roaring.specs.Changes.{Replaces}
 use Rattle.bit_roaring.specs.Keyed.{AreKeyed, block_at, set_numbers}
@@ -118,9 +118,12 @@ within_count (x ∷ xs) a b h = let rest = within_count xs a b h in elim (cases_
 ]
 
 -- a range that ends where it begins, or before, has none
+pub none_within : (xs : List ℕ) (a b : ℕ) → b ≤ a → numbers_within a b xs ≡ []
+none_within [] a b h = refl
+none_within (x ∷ xs) a b h = ap (λ t. cond t (x ∷ filter (is_within a b) xs) (filter (is_within a b) xs)) (empty_range a b x h) ∙ none_within xs a b h
+
 pub within_none : (xs : List ℕ) (a b : ℕ) → b ≤ a → length (numbers_within a b xs) ≡ 0
-within_none [] a b h = refl
-within_none (x ∷ xs) a b h = ap (λ t. length (cond t (x ∷ filter (is_within a b) xs) (filter (is_within a b) xs))) (empty_range a b x h) ∙ within_none xs a b h
+within_none xs a b h = ap length (none_within xs a b h)
 
 -- all numbers are below their bound
 pub all_below : (from upto : ℕ) (xs : List ℕ) (k : ℕ) → AscendsIn from upto xs → upto ≤ k → count_below xs k ≡ length xs

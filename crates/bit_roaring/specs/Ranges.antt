@@ -6,7 +6,7 @@ use Rattle.bit_blocks.specs.Operation.{made_by}
 use Rattle.bit_blocks.specs.declared.keyed.Keyed.{Keyed}
 use Rattle.bit_blocks.specs.declared.operation.Operation.{Operation}
 use Rattle.bit_roaring.specs.Changes.{CombinesKeyed}
-use Rattle.bit_roaring.specs.Keyed.{AreKeyed, set_numbers}
+use Rattle.bit_roaring.specs.Keyed.{AreKeyed, AreKeyedFrom, set_numbers}
 use Rattle.bit_roaring.specs.Places.{IsKeyPlace}
 
 -- whether a number is at least a and below b
@@ -24,6 +24,11 @@ GainsRange old new a b = (k : ℕ) → has new k ≡ (has old k || is_within a b
 -- the numbers from a up to b were taken out of a list
 abbrev pub LosesRange : List ℕ → List ℕ → ℕ → ℕ → Type 0
 LosesRange old new a b = (k : ℕ) → has new k ≡ (has old k && not (is_within a b k))
+
+-- a part of blocks: those with a key from `low` up to `high`
+pub record ArePart (blocks part : List Keyed) (low high : ℕ) : Type 0 where
+  pub keyed : AreKeyedFrom low part
+  pub has_those : (n : ℕ) → has (set_numbers part) n ≡ (nat_lt (n / 65536) high && (not (nat_lt (n / 65536) low) && has (set_numbers blocks) n))
 
 -- the blocks from i up to j are those with the keys of the numbers from `first` to `last`, and an operation makes others of them and of these numbers
 pub record ChangesPart (op : Operation) (blocks made : List Keyed) (first last i j : ℕ) : Type 0 where

@@ -1,6 +1,7 @@
 //! The numbers of a set, one after another.
-ghost use Rattle.std.specs.Prelude.{◌≡◌, ◌≤◌, ◌<◌, All, length};
+ghost use Rattle.std.specs.Prelude.{◌≡◌, ◌≤◌, ◌<◌, ◌+◌, All, length};
 
+use crate::keyed::ranges::{blocks_between, part_at};
 use bit_blocks::{BlockIter, Keyed};
 use std::iter::{DoubleEndedIterator, FusedIterator, Iterator};
 
@@ -24,6 +25,7 @@ pub struct SetIter<'a> {
 impl<'a> SetIter<'a> {
     ghost use Rattle.std.specs.Iterator.{YieldsFirst, YieldsLast};
     ghost use Rattle.bit_roaring.specs.Keyed.{AreKeyed, set_numbers};
+    ghost use Rattle.bit_roaring.specs.Ranges.{numbers_within};
     ghost use Rattle.bit_roaring.specs.SetLeft.{set_left};
 
     // All numbers of blocks.
@@ -38,6 +40,32 @@ impl<'a> SetIter<'a> {
             blocks,
             ended: BlockIter::empty(),
             back_base: 0,
+        }
+    }
+
+    // The numbers of blocks from `first` to `last`. Requires that `first` is at most `last`.
+    pub(crate) fn between(blocks: &'a [Keyed], first: u32, last: u32) -> Self
+        requires keyed { AreKeyed blocks.now }
+        requires ordered { first ≤ last }
+        ensures { set_left result ≡ numbers_within first (last + 1) (set_numbers blocks.now) }
+    {
+        let (from, upto) = ((first / 65536) as u16, (last / 65536) as u16);
+        let (low, high) = ((first % 65536) as u16, (last % 65536) as u16);
+        if from == upto {
+            return SetIter {
+                begun: part_at(blocks, from, low, high),
+                base: from as u32 * 65536,
+                blocks: &[],
+                ended: BlockIter::empty(),
+                back_base: 0,
+            };
+        }
+        SetIter {
+            begun: part_at(blocks, from, low, 65535),
+            base: from as u32 * 65536,
+            blocks: blocks_between(blocks, from, upto),
+            ended: part_at(blocks, upto, 0, high),
+            back_base: upto as u32 * 65536,
         }
     }
 

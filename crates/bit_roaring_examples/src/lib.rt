@@ -7,7 +7,11 @@ use std::process::Abort;
 #[cfg(test)]
 mod beside;
 #[cfg(test)]
+mod block_ranges;
+#[cfg(test)]
 mod blocks;
+#[cfg(test)]
+mod callers;
 #[cfg(test)]
 mod combined;
 #[cfg(test)]

@@ -92,3 +92,42 @@ fn both_ends_meet(rt: HostRuntime) {
     check(&rt, left.next_back() == None);
     check(&rt, left.next() == None);
 }
+
+// Whether a set has exactly these numbers in a range of two ends, from the front and from the back.
+fn is_within(set: &RoaringSet, first: u32, last: u32, numbers: &[u32]) -> bool {
+    let mut left = set.range(first..=last);
+    for &number in numbers {
+        if left.next() != Some(number) {
+            return false;
+        }
+    }
+    let mut back = set.range(first..=last);
+    for &number in numbers.iter().rev() {
+        if back.next_back() != Some(number) {
+            return false;
+        }
+    }
+    left.next() == None && back.next_back() == None
+}
+
+#[test]
+fn numbers_within_a_range(rt: HostRuntime) {
+    let set = set_of(&rt, &[2, 3, 65535, 65536, 70000, 200000, 4294967295]);
+    check(&rt, is_within(&set, 3, 3, &[3]));
+    check(&rt, is_within(&set, 3, 65534, &[3]));
+    check(&rt, is_within(&set, 3, 65536, &[3, 65535, 65536]));
+    check(&rt, is_within(&set, 65536, 200000, &[65536, 70000, 200000]));
+    check(
+        &rt,
+        is_within(
+            &set,
+            0,
+            4294967295,
+            &[2, 3, 65535, 65536, 70000, 200000, 4294967295],
+        ),
+    );
+    check(&rt, is_within(&set, 200001, 4294967294, &[]));
+    check(&rt, set.range(70001..).next() == Some(200000));
+    check(&rt, set.range(..65535).next_back() == Some(3));
+    check(&rt, set.range(7..7).next() == None);
+}

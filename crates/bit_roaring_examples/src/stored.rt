@@ -16,7 +16,7 @@ fn a_stored_list_of_two(rt: HostRuntime) {
         Ok(numbers) => {
             let row = [Stored {
                 head,
-                data: Data::Numbers(numbers),
+                content: Data::Numbers(numbers),
             }];
             match write_stored(rt.alloc(), false, row.as_slice()) {
                 Ok(bytes) => check(&rt, bytes.as_slice() == expected.as_slice()),

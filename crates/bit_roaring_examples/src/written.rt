@@ -221,7 +221,7 @@ fn what_is_stored(rt: HostRuntime) {
         Ok(stored) => match stored.as_slice() {
             [one] => {
                 check(&rt, one.head == head);
-                match &one.data {
+                match &one.content {
                     Data::Runs(runs) => check(&rt, runs.len() == 1),
                     _ => check(&rt, false),
                 }

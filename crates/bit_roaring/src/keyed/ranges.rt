@@ -1,13 +1,14 @@
 //! Ranges of numbers in blocks with their keys.
 ghost use Rattle.std.specs.Prelude.{◌≡◌, ◌≤◌, ◌<◌, ◌+◌, ◌*◌, ◌/◌, ℕ, Bool, false, IfOk, OnErr, OnOk, length};
-ghost use Rattle.bit_blocks.specs.Numbers.{Ascends, has};
+ghost use Rattle.bit_blocks.specs.BlockLeft.{block_left};
+ghost use Rattle.bit_blocks.specs.Numbers.{Ascends, has, numbers_between};
 ghost use Rattle.bit_blocks.specs.Operation.{made_by};
-ghost use Rattle.bit_roaring.specs.Keyed.{AreKeyed, set_numbers};
+ghost use Rattle.bit_roaring.specs.Keyed.{AreKeyed, block_at, set_numbers};
 ghost use Rattle.bit_roaring.specs.Places.{IsKeyPlace};
-ghost use Rattle.bit_roaring.specs.Ranges.{ChangesPart, is_within};
+ghost use Rattle.bit_roaring.specs.Ranges.{ArePart, ChangesPart, is_within};
 
-use crate::keyed::{combined, place_of, push_some};
-use bit_blocks::{Block, Keyed, Operation};
+use crate::keyed::{combined, get, place_of, push_some};
+use bit_blocks::{Block, BlockIter, Keyed, Operation};
 use std::alloc::{AllocError, Global};
 
 // The numbers from `first` to `last` that have a key, as a block. Requires that there are some.
@@ -59,6 +60,28 @@ pub(crate) fn places_of(blocks: &[Keyed], low: u16, last: u16) -> (usize, usize)
     ensures upto { IsKeyPlace blocks.now (last + 1) result.1 }
 {
     (place_of(blocks, low), place_after(blocks, last))
+}
+
+// The numbers from `low` to `high` of the block with a key.
+pub(crate) fn part_at(blocks: &[Keyed], key: u16, low: u16, high: u16) -> BlockIter<'_>
+    requires { AreKeyed blocks.now }
+    ensures { block_left result ≡ numbers_between low high (block_at blocks.now key) }
+{
+    match get(blocks, key) {
+        None => BlockIter::empty(),
+        Some(block) => block.range(low, high),
+    }
+}
+
+// The blocks with keys between two. Requires that the first is less than the second.
+#[tactic(auto, using(crate::proofs::Between::part_between))]
+pub(crate) fn blocks_between(blocks: &[Keyed], from: u16, upto: u16) -> &[Keyed]
+    requires keyed { AreKeyed blocks.now }
+    requires ordered { from < upto }
+    ensures { ArePart blocks.now result.now (from + 1) upto }
+{
+    let (start, end) = places_of(blocks, from + 1, upto - 1);
+    &blocks[start..end]
 }
 
 // Blocks that are to be put in the place of others: of those from `from` up to `upto`.

@@ -1,9 +1,13 @@
-//! Ranges of numbers: put into a set, taken out and counted.
+//! Ranges of numbers: put into a set, taken out, counted and iterated over.
 ghost use Rattle.std.specs.Prelude.{◌≡◌, ◌≤◌, ◌+◌, ◌^◌, OnErr, OnOk, length};
+ghost use Rattle.std.specs.Iterator.{YieldsFirst, YieldsLast};
+ghost use Rattle.std.specs.Iterator.Runs.{YieldsInOrder, YieldsInReverse};
 ghost use Rattle.std.specs.Range.Bound.{end_index, start_index};
 ghost use Rattle.bit_blocks.specs.Numbers.{count_below};
 ghost use Rattle.bit_roaring.specs.Ranges.{GainsRange, LosesRange, numbers_within};
+ghost use Rattle.bit_roaring.specs.SetLeft.{set_left};
 
+use crate::iter::SetIter;
 use crate::keyed::ranges::change_range;
 use crate::set::RoaringSet;
 use bit_blocks::Operation;
@@ -94,6 +98,26 @@ impl RoaringSet {
             return 0;
         }
         self.count_before(end) - self.count_before(start)
+    }
+
+    /// The numbers of a range of any kind that are in the set, ascending, from both ends: `range(n..)` are those from `n`
+    /// on. Requires that the range was not iterated to its end.
+    ///
+    /// ```text
+    /// of 2, 3, 4, 7: set.range(3..8) gives 3, 4, 7
+    /// of 2, 3, 4, 7: set.range(4..) gives 4, 7
+    /// ```
+    pub fn range<R: RangeBounds<u32>>(&self, numbers: R) -> SetIter<'_>
+        requires { R.has_bounds numbers }
+        ensures list { set_left result ≡ numbers_within (start_index (R.start_bound numbers)) (end_index (R.end_bound numbers) (2 ^ 32)) self.now }
+        ensures runs { YieldsInOrder (YieldsFirst set_left) set_left }
+        ensures runs_back { YieldsInReverse (YieldsLast set_left) set_left }
+    {
+        let (start, end) = ends_of(&numbers);
+        if start >= end {
+            return SetIter::of(&[]);
+        }
+        SetIter::between(&self.blocks, start as u32, (end - 1) as u32)
     }
 
     // The count of numbers below `number`.

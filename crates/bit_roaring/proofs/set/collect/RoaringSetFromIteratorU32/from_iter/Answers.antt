@@ -1,4 +1,4 @@
-use Rattle.std.proofs.Common.{◌≡◌, ℕ, List}
+use Rattle.std.proofs.Common.{ℕ, List}
 use Rattle.std.proofs.iter.runs.Consumers.{total_runs}
 use Rattle.bit_roaring.specs.Changes.{IsSetOf}
 use Rattle.bit_roaring.proofs.Sets.{taken_new}

@@ -24,6 +24,30 @@ use std::marker::Model;
 /// numbers that follow one another after `optimize`, where these take the least memory.
 ///
 /// In contracts a block is the ascending list of its numbers.
+///
+/// ```rust
+/// use bit_blocks::{Block, Operation};
+///
+/// let mut evens = Block::new(rt.alloc());
+/// for half in 0..5000u16 {
+///     evens.insert(2 * half)?;
+/// }
+/// let tens = Block::from_range(rt.alloc(), 10, 19)?;
+/// let both = evens.combined(rt.alloc(), &tens, Operation::Intersection)?;
+/// println!(&rt; "{} numbers, {} of them below 100", evens.len(), evens.rank(100))?;
+/// for number in both.iter().rev() {
+///     println!(&rt; "{number}")?;
+/// }
+/// ```
+///
+/// ```text
+/// 5000 numbers, 50 of them below 100
+/// 18
+/// 16
+/// 14
+/// 12
+/// 10
+/// ```
 #[derive(Drop)]
 pub struct Block {
     form: Form,

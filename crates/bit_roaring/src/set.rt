@@ -24,6 +24,29 @@ use std::marker::Model;
 ///
 /// Its numbers lie in blocks of 65536, each a sorted list, a bit for each number, or, after `optimize`, runs. In
 /// contracts a set is the ascending list of its numbers.
+///
+/// ```rust
+/// use bit_roaring::RoaringSet;
+///
+/// let mut seen = RoaringSet::new(rt.alloc());
+/// seen.insert(4000000000)?;
+/// seen.insert_range(10..13)?;
+/// seen.remove(11)?;
+/// println!(&rt; "{seen:?}, below 20: {}", seen.count_in(..20))?;
+/// for number in seen.range(12..) {
+///     println!(&rt; "{number}, rank {}", seen.rank(number))?;
+/// }
+/// let bytes = seen.to_bytes(true)?;
+/// let read = RoaringSet::from_bytes(rt.alloc(), &bytes)?;
+/// println!(&rt; "{} bytes, the same set: {}", bytes.len(), read == seen)?;
+/// ```
+///
+/// ```text
+/// {10, 12, 4000000000}, below 20: 2
+/// 12, rank 1
+/// 4000000000, rank 2
+/// 30 bytes, the same set: true
+/// ```
 #[derive(Drop)]
 pub struct RoaringSet {
     blocks: Vec<Keyed>,

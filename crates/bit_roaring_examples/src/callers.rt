@@ -1,6 +1,5 @@
 //! Functions over sets that prove with no file.
-ghost use Rattle.std.specs.Prelude.{◌≡◌, ◌↔◌, ◌-◌, ℕ, IfOk, IsTrue, OnOk, length, slice_get, true};
-ghost use Rattle.bit_blocks.specs.Numbers.{has};
+ghost use Rattle.std.specs.Prelude.{◌≡◌, ◌≤◌, ◌-◌, IfOk, length, slice_get, true};
 
 use bit_portable::ReadError;
 use bit_roaring::RoaringSet;

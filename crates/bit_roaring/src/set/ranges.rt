@@ -100,8 +100,8 @@ impl RoaringSet {
         self.count_before(end) - self.count_before(start)
     }
 
-    /// The numbers of a range of any kind that are in the set, ascending, from both ends: `range(n..)` are those from `n`
-    /// on. Requires that the range was not iterated to its end.
+    /// The numbers of a range of any kind that are in the set, ascending, from both ends. Takes no memory. Requires that
+    /// the range was not iterated to its end.
     ///
     /// ```text
     /// of 2, 3, 4, 7: set.range(3..8) gives 3, 4, 7

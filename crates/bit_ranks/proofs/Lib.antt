@@ -1,3 +1,4 @@
+pub mod Blocks
 pub mod Numbered
 pub mod Parts
 pub mod Runs

@@ -2,6 +2,7 @@
 //! number.
 #![tactic(auto)]
 
+mod counts;
 mod ones;
 mod ranked;
 mod ranks;

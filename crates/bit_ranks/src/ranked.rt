@@ -11,6 +11,7 @@ ghost use Rattle.bit_ranks.specs.Sums.{IsTree, IsSummed, before_block};
 mod sums;
 mod traits;
 
+use crate::counts::ones_between;
 use crate::ranked::sums::{levels_for, of_kind, recount, summed, width};
 use crate::ranks::BLOCK;
 use bit_boxed::BitBox;
@@ -220,7 +221,7 @@ impl<T: BitStore, O: BitOrder> RankedBits<T, O> {
         ensures few { result ≤ i }
     {
         let block = i / BLOCK;
-        self.ones_to(block) + self.bits.get_range(block * BLOCK..i).count_ones()
+        self.ones_to(block) + ones_between(self.bits.as_bitslice(), block * BLOCK, i)
     }
 
     /// The number of zeros before index `i`. Otherwise like `rank1`.

@@ -9,6 +9,7 @@ ghost use Rattle.bit_ranks.specs.Ranks.{IsIndex};
 
 mod traits;
 
+use crate::counts::ones_between;
 use bit_boxed::BitBox;
 use bit_containers::{BitOrder, BitStore, BitVec, Lsb0};
 use bit_slice::BitSlice;
@@ -184,7 +185,7 @@ impl<T: BitStore, O: BitOrder> Ranks<T, O> {
         ensures few { result ≤ i }
     {
         let block = i / BLOCK;
-        self.ones_to(block) + self.bits.get_range(block * BLOCK..i).count_ones()
+        self.ones_to(block) + ones_between(self.bits.as_bitslice(), block * BLOCK, i)
     }
 
     /// The number of zeros before index `i`. Otherwise like `rank1`.

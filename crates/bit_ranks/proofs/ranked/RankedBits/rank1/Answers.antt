@@ -7,6 +7,6 @@ returns-clause-value g c =
     let xs = c.args.self.now.list in
     let i = c.args.i in
     let at = i / 512 * 512 in
-    let part = c.count_ones.ensures.value ∙ ap (count_by (λ b. b)) c.get_range.ensures.list ∙ ap (λ v. count_by (λ b. b) (slice_range v.list at i)) c.self.view_is in
+    let part = c.ones_between.ensures.value ∙ ap (λ l. count_by (λ b. b) (slice_range l at i)) c.as_bitslice.ensures.list ∙ ap (λ v. count_by (λ b. b) (slice_range v.list at i)) c.self.view_is in
     let before = c.ones_to.ensures.value in
     omega (arith, part, before, parted (λ b. b) xs at i (omega arith) c.requires)

@@ -16,21 +16,21 @@ fn evens(rt: &(impl Abort + AllocGlobal), end: u16) -> Block {
 // How many numbers a range has, from both ends in turn, and whether each is in the block and the range.
 fn count_of(rt: &(impl Abort + AllocGlobal), block: &Block, first: u16, last: u16) -> usize {
     let mut left = block.range(first, last);
-    let mut count = 0;
+    let mut count = 0usize;
     for _ in 0..65536 {
         if let Some(number) = left.next() {
             check(
                 rt,
                 block.contains(number) && first <= number && number <= last,
             );
-            count += 1;
+            count = count.wrapping_add(1);
         }
         if let Some(number) = left.next_back() {
             check(
                 rt,
                 block.contains(number) && first <= number && number <= last,
             );
-            count += 1;
+            count = count.wrapping_add(1);
         }
     }
     count

@@ -13,9 +13,10 @@ use std::alloc::{AllocError, Global};
 impl RoaringSet {
     /// The bytes of the set in Roaring's portable format: with runs where they take fewer bytes, or without runs. Equal
     /// sets have equal bytes.
-    #[tactic(auto, using(crate::proofs::Bytes::are_blocks, crate::proofs::Bytes::set_written))]
+    #[tactic(auto, using(crate::proofs::Bytes::are_blocks, crate::proofs::Bytes::set_written, crate::proofs::Sets::set_ascends))]
     pub fn to_bytes(&self, with_runs: bool) -> Result<Vec<u8>, AllocError>
-        ensures { IfOk result (λ bytes. bytes.items ≡ set_bytes with_runs self.now) }
+        ensures bytes { IfOk result (λ bytes. bytes.items ≡ set_bytes with_runs self.now) }
+        ensures ascends { AscendsIn 0 (2 ^ 32) self.now }
     {
         write(*self.blocks.allocator(), &self.blocks, with_runs)
     }

@@ -1,8 +1,9 @@
 //! A set of numbers below 65536 that takes little memory.
-ghost use Rattle.std.specs.Prelude.{◌≡◌, ◌≤◌, ◌+◌, ◌-◌, ◌↔◌, [], IfOk, IsTrue, OnErr, OnOk, length, not, slice_get};
+ghost use Rattle.std.specs.Prelude.{◌≡◌, ◌≤◌, ◌+◌, ◌-◌, ◌↔◌, [], IfOk, IfSome, IsTrue, OnErr, OnOk, length, not, slice_get};
 ghost use Rattle.std.specs.Iterator.{YieldsFirst, YieldsLast};
 ghost use Rattle.std.specs.Iterator.Runs.{YieldsInOrder, YieldsInReverse};
 ghost use Rattle.std.specs.List.{range_with_len};
+ghost use Rattle.bit_slice.specs.BitSlice.{len_of, list_of};
 ghost use Rattle.bit_slice.specs.Places.{ones_of};
 ghost use Rattle.bit_blocks.specs.BlockLeft.{block_left};
 ghost use Rattle.bit_blocks.specs.Numbers.{Ascends, Combines, Gains, GainsBetween, Loses, LosesBetween, count_below, count_where, has, numbers_between};
@@ -16,7 +17,7 @@ use crate::iter::BlockIter;
 use crate::operation::Operation;
 use crate::ranged::Run;
 use bit_addressing::Lsb0;
-use bit_containers::BitVec;
+use bit_containers::{BitSlice, BitVec};
 use std::alloc::{AllocError, Global};
 use std::marker::Model;
 
@@ -288,6 +289,23 @@ impl Block {
         ensures { IfOk result (λ numbers. numbers.items ≡ self.now) }
     {
         form::list_of(alloc, &self.form)
+    }
+
+    /// The numbers as they are kept, where they are kept as a list, and None where they are not. Takes no memory.
+    pub fn as_list(&self) -> Option<&[u16]>
+        ensures { IfSome result (λ numbers. numbers.now ≡ self.now) }
+    {
+        form::as_list(&self.form)
+    }
+
+    /// The numbers as the indices of true bits, of 65536, where they are kept so, and None where they are not. Takes no
+    /// memory.
+    pub fn as_bits(&self) -> Option<BitSlice<'_, u64, Lsb0>>
+        ensures len { IfSome result (λ bits. len_of bits ≡ 65536) }
+        ensures size { IfSome result (λ bits. length (list_of bits) ≡ 65536) }
+        ensures numbers { IfSome result (λ bits. ones_of (list_of bits) ≡ self.now) }
+    {
+        form::as_bits(&self.form)
     }
 
     /// The numbers as the indices of true bits, of 65536.

@@ -1,6 +1,7 @@
 //! How the numbers of a block are kept.
-ghost use Rattle.std.specs.Prelude.{◌≡◌, ◌≤◌, ◌+◌, ◌-◌, IfOk, OnErr, OnOk, length, slice_get};
+ghost use Rattle.std.specs.Prelude.{◌≡◌, ◌≤◌, ◌+◌, ◌-◌, IfOk, IfSome, OnErr, OnOk, length, slice_get};
 ghost use Rattle.std.specs.List.{range_with_len};
+ghost use Rattle.bit_slice.specs.BitSlice.{len_of, list_of};
 ghost use Rattle.bit_slice.specs.Places.{ones_of};
 ghost use Rattle.bit_blocks.specs.Bits.{AreBits};
 ghost use Rattle.bit_blocks.specs.BlockLeft.{form_left};
@@ -15,7 +16,8 @@ use crate::operation::Operation;
 use crate::ranged::Run;
 use crate::runs_left::RunsLeft;
 use crate::{listed, mapped, ranged};
-use bit_containers::{BitList, BitListMut};
+use bit_addressing::Lsb0;
+use bit_containers::{BitList, BitListMut, BitSlice};
 use std::alloc::{AllocError, Global};
 
 // How many numbers a list may have that is not turned into bits: both take 8192 bytes then.
@@ -388,6 +390,29 @@ pub(crate) fn list_of(alloc: Global, form: &Form) -> Result<Vec<u16>, AllocError
         Form::Listed(numbers) => listed::copied(alloc, numbers),
         Form::Mapped(bits) => mapped::list_of(alloc, bits),
         Form::Ranged(runs) => ranged::list_of(alloc, runs),
+    }
+}
+
+// The list, where that is the form.
+pub(crate) fn as_list(form: &Form) -> Option<&[u16]>
+    ensures { IfSome result (λ numbers. numbers.now ≡ numbers_of form.now) }
+{
+    match form {
+        Form::Listed(numbers) => Some(numbers.as_slice()),
+        Form::Mapped(_) | Form::Ranged(_) => None,
+    }
+}
+
+// The bits, where that is the form.
+pub(crate) fn as_bits(form: &Form) -> Option<BitSlice<'_, u64, Lsb0>>
+    requires { IsForm form.now }
+    ensures len { IfSome result (λ bits. len_of bits ≡ 65536) }
+    ensures size { IfSome result (λ bits. length (list_of bits) ≡ 65536) }
+    ensures numbers { IfSome result (λ bits. ones_of (list_of bits) ≡ numbers_of form.now) }
+{
+    match form {
+        Form::Mapped(bits) => Some(bits.as_bitslice()),
+        Form::Listed(_) | Form::Ranged(_) => None,
     }
 }
 

@@ -5,8 +5,8 @@ use Rattle.bit_blocks.specs.declared.ranged.Run.{Run}
 use Rattle.bit_blocks.specs.Runs.{AreRunsFrom, numbers_of_run, run_numbers}
 use Rattle.bit_blocks.proofs.Runs.{few_runs}
 use Rattle.bit_portable.specs.declared.stored.Head.{Head}
-use Rattle.bit_portable.specs.declared.stored.Stored.{Stored}
-use Rattle.bit_portable.specs.Stored.{AreOrdered, IsPiece, piece_of, pieces_of, Content, Numbers, Words, Runs, Holds, run_total}
+use Rattle.bit_portable.specs.declared.stored.Part.{Part}
+use Rattle.bit_portable.specs.Stored.{AreOrdered, IsPiece, piece_lent, pieces_lent, Content, Numbers, Words, Runs, Holds, run_total}
 
 -- the facts of each item but the first
 pub of_rest : {X : Type 0} (P : X → Type 0) (x : X) (xs : List X) → All P (x ∷ xs) → All P xs
@@ -28,7 +28,7 @@ is_ordered h (Words ws) holds = tt
 is_ordered h (Runs rs) holds = let few = few_runs 0 rs (omega arith) holds.2 in (omega arith, runs_ordered 0 rs holds.2)
 
 -- the facts of blocks without where they lie in memory
-pub all_pieces : (bs : List Stored) → All IsPiece (pieces_of bs) → All (λ s. IsPiece (piece_of s)) bs
+pub all_pieces : (bs : List Part) → All IsPiece (pieces_lent bs) → All (λ s. IsPiece (piece_lent s)) bs
 all_pieces [] h k d inside = absurd (omega arith)
-all_pieces (b ∷ bs) h zero d inside = h 0 (piece_of b) (omega arith)
-all_pieces (b ∷ bs) h (suc k) d inside = all_pieces bs (of_rest IsPiece (piece_of b) (pieces_of bs) h) k d (omega arith)
+all_pieces (b ∷ bs) h zero d inside = h 0 (piece_lent b) (omega arith)
+all_pieces (b ∷ bs) h (suc k) d inside = all_pieces bs (of_rest IsPiece (piece_lent b) (pieces_lent bs) h) k d (omega arith)

@@ -1,7 +1,7 @@
 -- The bytes of a set are a form of it, and blocks that are read are those of a set.
 use Rattle.std.proofs.Common.{◌≡◌, ℕ, zero, suc, ◌+◌, ◌*◌, ◌^◌, ◌<◌, ◌≤◌, Bool, true, false, ◌&&◌, cond, nat_eq, nat_le, nat_lt, List, [], ◌∷◌, length, map, All, Ok, refl, sym, ◌∙◌, ap, subst, arith, length-append}
 use Rattle.std.specs.List.{flat_map, AllByRecursion}
-use Rattle.std.proofs.lemmas.Bool.{leb-true, leb-false, lt-leb}
+use Rattle.std.proofs.lemmas.Bool.{leb-true, leb-false}
 use Rattle.std.proofs.lemmas.List.Elements.{All-from_recursion, recursion_from_All}
 use Rattle.bit_blocks.specs.declared.ranged.Run.{Run}
 use Rattle.bit_blocks.specs.Numbers.{AscendsIn, Ascends, those}
@@ -186,11 +186,6 @@ written_as flagged ps with_runs bs out f e is =
 
 pub content_of_words : (xs ws : List ℕ) → length ws ≡ 1024 → Wholes ws → those (word_bit ws) 0 65536 ≡ xs → ws ≡ words_of xs
 content_of_words xs ws len fits is = sym (words_again ws len fits) ∙ ap words_of is
-
-pub plain_words : (xs ws : List ℕ) → 4096 < length xs → ws ≡ words_of xs → Words ws ≡ content_for false xs
-plain_words xs ws many is =
-    let test : nat_le (length xs) 4096 ≡ false = lt-leb (length xs) 4096 many in
-    ap (λ (vs : List ℕ). Words vs) is ∙ sym (ap (λ (b : Bool). cond b (Numbers xs) (Words (words_of xs))) test)
 
 -- ---- what is read
 

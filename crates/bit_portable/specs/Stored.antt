@@ -10,6 +10,9 @@ use Rattle.bit_portable.specs.declared.stored.Head.{Head}
 use Rattle.bit_portable.specs.declared.stored.Data.{Data}
 use Rattle.bit_portable.specs.declared.stored.Data.TheVariants as data_of
 use Rattle.bit_portable.specs.declared.stored.Stored.{Stored}
+use Rattle.bit_portable.specs.declared.stored.Lent.{Lent}
+use Rattle.bit_portable.specs.declared.stored.Lent.TheVariants as lent_of
+use Rattle.bit_portable.specs.declared.stored.Part.{Part}
 
 -- the numbers of a block, without where they lie in memory
 pub data Content : Type 0 where
@@ -35,6 +38,21 @@ piece_of s = record { head = s.head; content = content_of s.content }
 -- the same of several
 abbrev pub pieces_of : List Stored → List Piece
 pieces_of blocks = map piece_of blocks
+
+-- what is written of a block's numbers
+abbrev pub content_lent : Lent → Content
+content_lent (lent_of.Stored d) = content_of d.now
+content_lent (lent_of.Numbers v) = Numbers v.now
+content_lent (lent_of.Words v) = Words v.now
+content_lent (lent_of.Made d) = content_of d
+
+-- the block that is written
+abbrev pub piece_lent : Part → Piece
+piece_lent p = record { head = p.head; content = content_lent p.content }
+
+-- the same of several
+abbrev pub pieces_lent : List Part → List Piece
+pieces_lent parts = map piece_lent parts
 
 -- a number below 2 ^ 16 as bytes, the lowest byte first
 abbrev pub two : ℕ → List ℕ

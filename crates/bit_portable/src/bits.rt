@@ -1,11 +1,12 @@
 //! The numbers of a block as words of bits.
 ghost use Rattle.std.specs.Prelude.{◌≡◌, ◌<◌, ◌^◌, ℕ, length, slice_index};
+ghost use Rattle.bit_slice.specs.BitSlice.{head_of, len_of, list_of};
 ghost use Rattle.bit_slice.specs.Places.{ones_of};
 ghost use Rattle.bit_blocks.specs.Numbers.{those};
 ghost use Rattle.bit_portable.specs.Portable.{word_bit};
 
 use bit_addressing::Lsb0;
-use bit_containers::BitVec;
+use bit_containers::{BitSlice, BitVec};
 
 // The words of 65536 bits.
 pub(crate) fn words_of(bits: BitVec<u64, Lsb0>) -> Vec<u64>
@@ -15,6 +16,17 @@ pub(crate) fn words_of(bits: BitVec<u64, Lsb0>) -> Vec<u64>
     ensures numbers { those (word_bit result.items) 0 65536 ≡ ones_of bits.list }
 {
     bits.into_vec()
+}
+
+// The words of 65536 bits that a block lends.
+pub(crate) fn words_lent(bits: BitSlice<'_, u64, Lsb0>) -> &[u64]
+    requires len { len_of bits ≡ 65536 }
+    requires size { length (list_of bits) ≡ 65536 }
+    requires head { head_of bits ≡ 0 }
+    ensures len { length result.now ≡ 1024 }
+    ensures numbers { those (word_bit result.now) 0 65536 ≡ ones_of (list_of bits.entry) }
+{
+    bits.as_raw_slice()
 }
 
 // Each word is below 2 ^ 64. Does nothing: a proof that has the words in a vector alone calls it.

@@ -2,18 +2,18 @@
 ghost use Rattle.std.specs.Prelude.{All, map, ◌≡◌, ◌≤◌, ◌<◌, Bool, List, Ok, IfErr, IfOk, false, length, true};
 ghost use Rattle.bit_blocks.specs.Numbers.{Ascends};
 ghost use Rattle.bit_blocks.specs.Runs.{runs_of};
-ghost use Rattle.bit_portable.specs.Stored.{Holds, content_of, piece_of, pieces_of};
+ghost use Rattle.bit_portable.specs.Stored.{Holds, Numbers, Words, content_lent, content_of, piece_lent, piece_of, pieces_lent, pieces_of};
 ghost use Rattle.bit_portable.specs.Keyed.{all_numbered, numbered};
 ghost use Rattle.bit_portable.specs.Form.{heads_of};
-ghost use Rattle.bit_portable.specs.Portable.{AreBlocks, IsGood, numbered_of, IsFormOf, Numbered, any_runs, content_for, numbers_of, piece_for, pieces_for, portable, runs_pay};
+ghost use Rattle.bit_portable.specs.Portable.{AreBlocks, IsGood, numbered_of, IsFormOf, Numbered, any_runs, content_for, numbers_of, piece_for, pieces_for, portable, runs_pay, words_of};
 ghost use Rattle.bit_portable.specs.Reading.{Fails, Gives, all_of};
 ghost use Rattle.bit_portable.specs.Faults.{FailsBy, Tells};
 
-use crate::bits::{bits_of, prove_words, words_of};
+use crate::bits::{bits_of, prove_words, words_lent, words_of};
 use crate::fault::ReadError;
 use crate::reading::read_stored;
-use crate::stored::{Data, Head, Stored};
-use crate::writing::write_stored;
+use crate::stored::{Data, Head, Lent, Part, Stored};
+use crate::writing::write_parts;
 use bit_blocks::{Block, Keyed};
 use std::alloc::{AllocError, Global};
 
@@ -30,41 +30,66 @@ fn runs_pay(count: usize, runs: usize) -> bool
     }
 }
 
-// The numbers of a block as a list or as bits.
-fn plain_data(alloc: Global, block: &Block) -> Result<Data, AllocError>
-    ensures { IfOk result (λ d. content_of d ≡ content_for false block.now) }
+// The numbers of a block as a list, lent where the block has one.
+fn lent_list<'a>(alloc: Global, block: &'a Block) -> Result<Lent<'a>, AllocError>
+    ensures { IfOk result (λ c. content_lent c ≡ Numbers block.now) }
 {
-    if block.len() <= 4096 {
-        let numbers = block.to_list(alloc)?;
-        return Ok(Data::Numbers(numbers));
+    if let Some(numbers) = block.as_list() {
+        return Ok(Lent::Numbers(numbers));
+    }
+    let numbers = block.to_list(alloc)?;
+    Ok(Lent::Made(Data::Numbers(numbers)))
+}
+
+// The numbers of a block as words of bits, lent where the block has these.
+fn lent_words<'a>(alloc: Global, block: &'a Block) -> Result<Lent<'a>, AllocError>
+    ensures { IfOk result (λ c. content_lent c ≡ Words (words_of block.now)) }
+{
+    if let Some(bits) = block.as_bits() {
+        if bits.head() == 0 {
+            let words = words_lent(bits);
+            prove_words(words);
+            return Ok(Lent::Words(words));
+        }
     }
     let bits = block.to_bits(alloc)?;
     let words = words_of(bits);
     prove_words(&words);
-    Ok(Data::Words(words))
+    Ok(Lent::Made(Data::Words(words)))
+}
+
+// The numbers of a block as a list or as bits.
+fn lent_plain<'a>(alloc: Global, block: &'a Block) -> Result<Lent<'a>, AllocError>
+    ensures { IfOk result (λ c. content_lent c ≡ content_for false block.now) }
+{
+    if block.len() <= 4096 {
+        lent_list(alloc, block)
+    } else {
+        lent_words(alloc, block)
+    }
 }
 
 // A block as it is stored without runs.
-fn stored_plain(alloc: Global, keyed: &Keyed) -> Result<Stored, AllocError>
-    ensures { IfOk result (λ s. piece_of s ≡ piece_for false (numbered keyed.now)) }
+fn plain_part<'a>(alloc: Global, keyed: &'a Keyed) -> Result<Part<'a>, AllocError>
+    ensures { IfOk result (λ s. piece_lent s ≡ piece_for false (numbered keyed.now)) }
 {
     let count = keyed.block.len();
-    let content = plain_data(alloc, &keyed.block)?;
+    let content = lent_plain(alloc, &keyed.block)?;
     let head = Head {
         key: keyed.key,
         count: count as u32,
         as_runs: false,
     };
-    Ok(Stored { head, content })
+    Ok(Part { head, content })
 }
 
 // A block as it is stored with runs where they take fewer bytes.
-fn stored_with_runs(alloc: Global, keyed: &Keyed) -> Result<Stored, AllocError>
-    ensures { IfOk result (λ s. piece_of s ≡ piece_for true (numbered keyed.now)) }
+fn part_with_runs<'a>(alloc: Global, keyed: &'a Keyed) -> Result<Part<'a>, AllocError>
+    ensures { IfOk result (λ s. piece_lent s ≡ piece_for true (numbered keyed.now)) }
 {
     let count = keyed.block.len();
     if !runs_pay(count, keyed.block.count_runs()) {
-        return stored_plain(alloc, keyed);
+        return plain_part(alloc, keyed);
     }
     let runs = keyed.block.to_runs(alloc)?;
     let head = Head {
@@ -72,38 +97,42 @@ fn stored_with_runs(alloc: Global, keyed: &Keyed) -> Result<Stored, AllocError>
         count: count as u32,
         as_runs: true,
     };
-    Ok(Stored {
+    Ok(Part {
         head,
-        content: Data::Runs(runs),
+        content: Lent::Made(Data::Runs(runs)),
     })
 }
 
 // A block as it is stored.
-fn stored(alloc: Global, with_runs: bool, keyed: &Keyed) -> Result<Stored, AllocError>
-    ensures { IfOk result (λ s. piece_of s ≡ piece_for with_runs (numbered keyed.now)) }
+fn part<'a>(alloc: Global, with_runs: bool, keyed: &'a Keyed) -> Result<Part<'a>, AllocError>
+    ensures { IfOk result (λ s. piece_lent s ≡ piece_for with_runs (numbered keyed.now)) }
 {
     if with_runs {
-        stored_with_runs(alloc, keyed)
+        part_with_runs(alloc, keyed)
     } else {
-        stored_plain(alloc, keyed)
+        plain_part(alloc, keyed)
     }
 }
 
 // Blocks as they are stored.
-fn all_stored(alloc: Global, with_runs: bool, blocks: &[Keyed]) -> Result<Vec<Stored>, AllocError>
-    ensures { IfOk result (λ v. pieces_of v.items ≡ pieces_for with_runs (all_numbered blocks.now)) }
+fn all_parts<'a>(
+    alloc: Global,
+    with_runs: bool,
+    blocks: &'a [Keyed],
+) -> Result<Vec<Part<'a>>, AllocError>
+    ensures { IfOk result (λ v. pieces_lent v.items ≡ pieces_for with_runs (all_numbered blocks.now)) }
 {
     let mut all = Vec::with_capacity(alloc, blocks.len())?;
     for keyed in blocks {
-        let one = stored(alloc, with_runs, keyed)?;
+        let one = part(alloc, with_runs, keyed)?;
         all.push(one)?;
     }
     Ok(all)
 }
 
 // Whether a block is stored as runs.
-fn any_runs(blocks: &[Stored]) -> bool
-    ensures { result ≡ any_runs (pieces_of blocks.now) }
+fn any_runs(blocks: &[Part<'_>]) -> bool
+    ensures { result ≡ any_runs (pieces_lent blocks.now) }
 {
     for block in blocks {
         if block.head.as_runs {
@@ -118,9 +147,9 @@ pub fn write(alloc: Global, blocks: &[Keyed], with_runs: bool) -> Result<Vec<u8>
     requires { AreBlocks (all_numbered blocks.now) }
     ensures { IfOk result (λ v. v.items ≡ portable with_runs (all_numbered blocks.now)) }
 {
-    let all = all_stored(alloc, with_runs, blocks)?;
+    let all = all_parts(alloc, with_runs, blocks)?;
     let flagged = any_runs(&all);
-    let bytes = write_stored(alloc, flagged, &all)?;
+    let bytes = write_parts(alloc, flagged, &all)?;
     Ok(bytes)
 }
 

@@ -32,3 +32,19 @@ pub struct Stored {
     /// Its numbers.
     pub content: Data,
 }
+
+// The numbers of a block as they are written. What was stored is lent, and so is what a block keeps in this form.
+#[derive(Drop)]
+pub(crate) enum Lent<'a> {
+    Stored(&'a Data),
+    Numbers(&'a [u16]),
+    Words(&'a [u64]),
+    Made(Data),
+}
+
+// A block as it is written.
+#[derive(Drop)]
+pub(crate) struct Part<'a> {
+    pub(crate) head: Head,
+    pub(crate) content: Lent<'a>,
+}

@@ -2,10 +2,10 @@
 
 ghost use Rattle.std.specs.Prelude.{◌≡◌, ◌+◌, ◌≤◌, ◌<◌, ◌-◌, ◌*◌, ◌/◌, ◌++◌, ◌^◌, length, map, drop, OnOk, IfOk, All, IsTrue};
 ghost use Rattle.std.specs.List.{flat_map};
-ghost use Rattle.bit_portable.specs.Stored.{AreOrdered, Holds, IsPiece, content_of, content_bytes, piece_of, pieces_of, two, eight, run_bytes, head_bytes};
+ghost use Rattle.bit_portable.specs.Stored.{AreOrdered, Holds, IsPiece, content_of, content_lent, content_bytes, piece_lent, pieces_lent, pieces_of, two, eight, run_bytes, head_bytes};
 ghost use Rattle.bit_portable.specs.Form.{AreWritable, data_bytes, data_start, digits, flag_bytes, flags_for, form, offsets_for, start_bytes, four, heads_of, offset_bytes, run_flags};
 
-use crate::stored::{Data, Head, Stored};
+use crate::stored::{Data, Head, Lent, Part, Stored};
 use bit_blocks::Run;
 use std::alloc::{AllocError, Global};
 
@@ -65,9 +65,9 @@ fn push_runs(out: &mut Vec<u8>, runs: &[Run]) -> Result<(), AllocError>
 }
 
 // Appends what the header says of each block.
-fn push_heads(out: &mut Vec<u8>, blocks: &[Stored]) -> Result<(), AllocError>
-    requires { All (λ s. IsPiece (piece_of s)) blocks.now }
-    ensures appended { OnOk result (out.new.items ≡ out.old.items ++ flat_map head_bytes (heads_of (pieces_of blocks.now))) }
+fn push_heads(out: &mut Vec<u8>, blocks: &[Part<'_>]) -> Result<(), AllocError>
+    requires { All (λ s. IsPiece (piece_lent s)) blocks.now }
+    ensures appended { OnOk result (out.new.items ≡ out.old.items ++ flat_map head_bytes (heads_of (pieces_lent blocks.now))) }
 {
     for block in blocks {
         out.extend_from_slice(&block.head.key.to_le_bytes())?;
@@ -77,9 +77,9 @@ fn push_heads(out: &mut Vec<u8>, blocks: &[Stored]) -> Result<(), AllocError>
 }
 
 // The byte of at most eight flags, one for each block, the lowest bit first.
-fn flag_byte(blocks: &[Stored]) -> u8
+fn flag_byte(blocks: &[Part<'_>]) -> u8
     requires { length blocks.now ≤ 8 }
-    ensures value { result ≡ digits (run_flags (heads_of (pieces_of blocks.now))) }
+    ensures value { result ≡ digits (run_flags (heads_of (pieces_lent blocks.now))) }
     ensures below { result < 2 ^ length blocks.now }
 {
     match blocks {
@@ -89,14 +89,14 @@ fn flag_byte(blocks: &[Stored]) -> u8
 }
 
 // Appends the flags, one bit for each block.
-fn push_flags(out: &mut Vec<u8>, blocks: &[Stored]) -> Result<(), AllocError>
-    ensures appended { OnOk result (out.new.items ≡ out.old.items ++ flag_bytes ((length blocks.now + 7) / 8) (run_flags (heads_of (pieces_of blocks.now)))) }
+fn push_flags(out: &mut Vec<u8>, blocks: &[Part<'_>]) -> Result<(), AllocError>
+    ensures appended { OnOk result (out.new.items ≡ out.old.items ++ flag_bytes ((length blocks.now + 7) / 8) (run_flags (heads_of (pieces_lent blocks.now)))) }
 {
-    let mut rest = blocks;
-    while !rest.is_empty() {
-        let (part, after) = rest.split_at(8usize.min(rest.len()));
-        out.push(flag_byte(part))?;
-        rest = after;
+    let mut from = 0;
+    while from < blocks.len() {
+        let count = 8usize.min(blocks.len() - from);
+        out.push(flag_byte(&blocks[from..from + count]))?;
+        from += count;
     }
     Ok(())
 }
@@ -128,26 +128,52 @@ fn push_data(out: &mut Vec<u8>, content: &Data) -> Result<(), AllocError>
     }
 }
 
+// How many bytes the numbers of a block take.
+fn lent_len(content: &Lent<'_>) -> usize
+    requires { length (content_bytes (content_lent content.now)) < 2 ^ 32 }
+    ensures { result ≡ length (content_bytes (content_lent content.now)) }
+{
+    match content {
+        Lent::Stored(content) => data_len(content),
+        Lent::Numbers(numbers) => 2 * numbers.len(),
+        Lent::Words(words) => 8 * words.len(),
+        Lent::Made(content) => data_len(content),
+    }
+}
+
+// Appends the numbers of a block.
+fn push_lent(out: &mut Vec<u8>, content: &Lent<'_>) -> Result<(), AllocError>
+    requires { AreOrdered (content_lent content.now) }
+    ensures appended { OnOk result (out.new.items ≡ out.old.items ++ content_bytes (content_lent content.now)) }
+{
+    match content {
+        Lent::Stored(content) => push_data(out, content),
+        Lent::Numbers(numbers) => push_numbers(out, numbers),
+        Lent::Words(words) => push_words(out, words),
+        Lent::Made(content) => push_data(out, content),
+    }
+}
+
 // Appends the offset of each block, where the first is at `start`.
-fn push_offsets(out: &mut Vec<u8>, start: usize, blocks: &[Stored]) -> Result<(), AllocError>
-    requires { start + length (data_bytes (pieces_of blocks.now)) < 2 ^ 32 }
-    ensures appended { OnOk result (out.new.items ≡ out.old.items ++ offset_bytes start (pieces_of blocks.now)) }
+fn push_offsets(out: &mut Vec<u8>, start: usize, blocks: &[Part<'_>]) -> Result<(), AllocError>
+    requires { start + length (data_bytes (pieces_lent blocks.now)) < 2 ^ 32 }
+    ensures appended { OnOk result (out.new.items ≡ out.old.items ++ offset_bytes start (pieces_lent blocks.now)) }
 {
     let mut at = start;
     for block in blocks {
         out.extend_from_slice(&(at as u32).to_le_bytes())?;
-        at += data_len(&block.content);
+        at += lent_len(&block.content);
     }
     Ok(())
 }
 
 // Appends the numbers of each block.
-fn push_all(out: &mut Vec<u8>, blocks: &[Stored]) -> Result<(), AllocError>
-    requires { All (λ s. IsPiece (piece_of s)) blocks.now }
-    ensures appended { OnOk result (out.new.items ≡ out.old.items ++ data_bytes (pieces_of blocks.now)) }
+fn push_all(out: &mut Vec<u8>, blocks: &[Part<'_>]) -> Result<(), AllocError>
+    requires { All (λ s. IsPiece (piece_lent s)) blocks.now }
+    ensures appended { OnOk result (out.new.items ≡ out.old.items ++ data_bytes (pieces_lent blocks.now)) }
 {
     for block in blocks {
-        push_data(out, &block.content)?;
+        push_lent(out, &block.content)?;
     }
     Ok(())
 }
@@ -170,8 +196,8 @@ fn push_start(out: &mut Vec<u8>, flagged: bool, count: usize) -> Result<(), Allo
 }
 
 // Appends the flags, if there are to be any.
-fn push_flags_if(out: &mut Vec<u8>, flagged: bool, blocks: &[Stored]) -> Result<(), AllocError>
-    ensures appended { OnOk result (out.new.items ≡ out.old.items ++ flags_for flagged (heads_of (pieces_of blocks.now))) }
+fn push_flags_if(out: &mut Vec<u8>, flagged: bool, blocks: &[Part<'_>]) -> Result<(), AllocError>
+    ensures appended { OnOk result (out.new.items ≡ out.old.items ++ flags_for flagged (heads_of (pieces_lent blocks.now))) }
 {
     if flagged {
         push_flags(out, blocks)
@@ -195,10 +221,10 @@ fn data_start(flagged: bool, count: usize) -> usize
 }
 
 // Appends the offsets, if there are to be any.
-fn push_offsets_if(out: &mut Vec<u8>, flagged: bool, blocks: &[Stored]) -> Result<(), AllocError>
+fn push_offsets_if(out: &mut Vec<u8>, flagged: bool, blocks: &[Part<'_>]) -> Result<(), AllocError>
     requires most { length blocks.now ≤ 65536 }
-    requires small { data_start flagged (length blocks.now) + length (data_bytes (pieces_of blocks.now)) < 2 ^ 32 }
-    ensures appended { OnOk result (out.new.items ≡ out.old.items ++ offsets_for flagged (pieces_of blocks.now)) }
+    requires small { data_start flagged (length blocks.now) + length (data_bytes (pieces_lent blocks.now)) < 2 ^ 32 }
+    ensures appended { OnOk result (out.new.items ≡ out.old.items ++ offsets_for flagged (pieces_lent blocks.now)) }
 {
     if !flagged || blocks.len() >= 4 {
         push_offsets(out, data_start(flagged, blocks.len()), blocks)
@@ -208,21 +234,25 @@ fn push_offsets_if(out: &mut Vec<u8>, flagged: bool, blocks: &[Stored]) -> Resul
 }
 
 // How many bytes the numbers of all blocks take.
-fn data_total(blocks: &[Stored]) -> usize
-    requires { length (data_bytes (pieces_of blocks.now)) < 2 ^ 32 }
-    ensures { result ≡ length (data_bytes (pieces_of blocks.now)) }
+fn data_total(blocks: &[Part<'_>]) -> usize
+    requires { length (data_bytes (pieces_lent blocks.now)) < 2 ^ 32 }
+    ensures { result ≡ length (data_bytes (pieces_lent blocks.now)) }
 {
     let mut total = 0;
     for block in blocks {
-        total += data_len(&block.content);
+        total += lent_len(&block.content);
     }
     total
 }
 
-/// The bytes of blocks, with a flag for each block or without flags.
-pub fn write_stored(alloc: Global, flagged: bool, blocks: &[Stored]) -> Result<Vec<u8>, AllocError>
-    requires { AreWritable flagged (pieces_of blocks.now) }
-    ensures { IfOk result (λ v. v.items ≡ form flagged (flags_for flagged (heads_of (pieces_of blocks.now))) (pieces_of blocks.now)) }
+// The bytes of blocks, with a flag for each block or without flags.
+pub(crate) fn write_parts(
+    alloc: Global,
+    flagged: bool,
+    blocks: &[Part<'_>],
+) -> Result<Vec<u8>, AllocError>
+    requires { AreWritable flagged (pieces_lent blocks.now) }
+    ensures { IfOk result (λ v. v.items ≡ form flagged (flags_for flagged (heads_of (pieces_lent blocks.now))) (pieces_lent blocks.now)) }
 {
     let total = data_start(flagged, blocks.len()) + data_total(blocks);
     let mut out = Vec::with_capacity(alloc, total)?;
@@ -232,4 +262,28 @@ pub fn write_stored(alloc: Global, flagged: bool, blocks: &[Stored]) -> Result<V
     push_offsets_if(&mut out, flagged, blocks)?;
     push_all(&mut out, blocks)?;
     Ok(out)
+}
+
+// What was stored, lent to be written.
+fn parts_of<'a>(alloc: Global, blocks: &'a [Stored]) -> Result<Vec<Part<'a>>, AllocError>
+    ensures { IfOk result (λ v. pieces_lent v.items ≡ pieces_of blocks.now) }
+{
+    let mut parts = Vec::with_capacity(alloc, blocks.len())?;
+    for block in blocks {
+        parts.push(Part {
+            head: block.head,
+            content: Lent::Stored(&block.content),
+        })?;
+    }
+    Ok(parts)
+}
+
+/// The bytes of blocks, with a flag for each block or without flags.
+pub fn write_stored(alloc: Global, flagged: bool, blocks: &[Stored]) -> Result<Vec<u8>, AllocError>
+    requires { AreWritable flagged (pieces_of blocks.now) }
+    ensures { IfOk result (λ v. v.items ≡ form flagged (flags_for flagged (heads_of (pieces_of blocks.now))) (pieces_of blocks.now)) }
+{
+    let parts = parts_of(alloc, blocks)?;
+    let bytes = write_parts(alloc, flagged, &parts)?;
+    Ok(bytes)
 }

@@ -1,7 +1,7 @@
 use Rattle.std.proofs.Common.{◌≡◌, ◌+◌, length, drop}
-use Rattle.bit_portable.specs.Stored.{pieces_of}
+use Rattle.bit_portable.specs.Stored.{pieces_lent}
 use Rattle.bit_portable.specs.Form.{data_bytes}
 use Rattle.bit_portable.proofs.writing.data_total.Given as goal
 
 abbrev pub invariant-loop-block : goal.invariant-loop-block
-invariant-loop-block l = l.total + length (data_bytes (pieces_of (drop l.block-index l.blocks))) ≡ length (data_bytes (pieces_of l.blocks))
+invariant-loop-block l = l.total + length (data_bytes (pieces_lent (drop l.block-index l.blocks))) ≡ length (data_bytes (pieces_lent l.blocks))

@@ -12,7 +12,7 @@ use Rattle.bit_blocks.proofs.Runs.{ascends_runs}
 -- the numbers of a form ascend
 pub ascends_form : (form : Form) → IsForm form → Ascends (numbers_of form)
 ascends_form (Listed numbers) h = h
-ascends_form (Mapped bits) h = ascends_ones bits.list h
+ascends_form (Mapped bits) h = ascends_ones bits.value.list h
 ascends_form (Ranged runs) h = ascends_runs 0 runs.items h
 
 -- and are at most 65536

@@ -10,11 +10,11 @@ use Rattle.bit_blocks.specs.declared.form.Form.TheVariants.{Listed, Mapped, Rang
 -- the numbers of a form
 abbrev pub numbers_of : Form → List ℕ
 numbers_of (Listed numbers) = numbers.items
-numbers_of (Mapped bits) = ones_of bits.list
+numbers_of (Mapped bits) = ones_of bits.value.list
 numbers_of (Ranged runs) = run_numbers runs.items
 
 -- what always holds of each form
 abbrev pub IsForm : Form → Type 0
 IsForm (Listed numbers) = Ascends numbers.items
-IsForm (Mapped bits) = AreBits bits.list
+IsForm (Mapped bits) = AreBits bits.value.list
 IsForm (Ranged runs) = AreRuns runs.items

@@ -338,8 +338,8 @@ impl Block {
     }
 
     /// Keeps the numbers in the form that takes the least memory: runs where they are fewer than half of the numbers, and
-    /// than 2048, and else a list or bits. Takes no memory where they are in that form. Where memory is refused, they are
-    /// kept as they were.
+    /// than 2048, and else a list, which gives back the room to spare, or bits. Takes no memory where they are in that
+    /// form. Where memory is refused, they are kept as they were.
     #[tactic(auto, using(crate::proofs::Forms::same_count))]
     pub fn optimize(&mut self) -> Result<(), AllocError>
         ensures { self.new ≡ self.old }

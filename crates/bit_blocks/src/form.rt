@@ -23,11 +23,11 @@ use std::alloc::{AllocError, Global};
 // How many numbers a list may have that is not turned into bits: both take 8192 bytes then.
 pub(crate) const LISTED: usize = 4096;
 
-// A sorted list, a bit for each number, or runs.
+// A sorted list, a bit for each number, or runs. The bits lie apart, so that a form takes no more room than a list does.
 #[derive(Drop)]
 pub(crate) enum Form {
     Listed(Vec<u16>),
-    Mapped(Bits),
+    Mapped(Box<Bits>),
     Ranged(Vec<Run>),
 }
 
@@ -40,8 +40,21 @@ pub(crate) fn of_list(numbers: Vec<u16>) -> Result<Form, AllocError>
     if numbers.len() <= LISTED {
         return Ok(Form::Listed(numbers));
     }
-    let bits = bits_of_list(*numbers.allocator(), &numbers)?;
-    Ok(Form::Mapped(bits))
+    let alloc = *numbers.allocator();
+    let bits = bits_of_list(alloc, &numbers)?;
+    mapped_form(alloc, bits)
+}
+
+// Bits as they are.
+fn mapped_form(alloc: Global, bits: Bits) -> Result<Form, AllocError>
+    requires { AreBits bits.list }
+    ensures numbers { IfOk result (λ form. numbers_of form ≡ ones_of bits.list) }
+    ensures form { IfOk result (λ form. IsForm form) }
+{
+    let Ok(apart) = Box::new(alloc, bits) else {
+        return Err(AllocError);
+    };
+    Ok(Form::Mapped(apart))
 }
 
 // The count of numbers.
@@ -140,7 +153,7 @@ pub(crate) fn form_of(alloc: Global, bits: Bits) -> Result<Form, AllocError>
         let numbers = mapped::list_of(alloc, &bits)?;
         return Ok(Form::Listed(numbers));
     }
-    Ok(Form::Mapped(bits))
+    mapped_form(alloc, bits)
 }
 
 // What an operation makes of two forms.
@@ -442,7 +455,7 @@ pub(crate) fn copied(form: &Form) -> Result<Form, AllocError>
         }
         Form::Mapped(bits) => {
             let copy = mapped::copied(bits)?;
-            Ok(Form::Mapped(copy))
+            mapped_form(bits.allocator(), copy)
         }
         Form::Ranged(runs) => {
             let copy = ranged::copied(*runs.allocator(), runs)?;
@@ -473,7 +486,7 @@ pub(crate) fn optimize(form: &mut Form) -> Result<(), AllocError>
     ensures form { IsForm form.new }
 {
     let (count, runs) = (count(form), count_runs(form));
-    if runs < count / 2 && runs < LISTED / 2 {
+    if runs < count - count / 2 && runs < LISTED / 2 {
         make_ranged(form)
     } else {
         make_plain(form, count <= LISTED)
@@ -494,20 +507,26 @@ fn make_ranged(form: &mut Form) -> Result<(), AllocError>
     Ok(())
 }
 
-// Keeps the numbers as a list where they are few, and else as bits.
+// Keeps the numbers as a list without room to spare where they are few, and else as bits.
 #[tactic(auto, using(crate::proofs::Forms::ascends_form))]
 fn make_plain(form: &mut Form, few: bool) -> Result<(), AllocError>
     requires { IsForm form.old }
     ensures same { numbers_of form.new ≡ numbers_of form.old }
     ensures form { IsForm form.new }
 {
-    let kept = match form {
-        Form::Listed(_) => few,
-        Form::Mapped(_) => !few,
-        Form::Ranged(_) => false,
-    };
-    if kept {
-        return Ok(());
+    match form {
+        Form::Listed(numbers) => {
+            if few {
+                numbers.shrink_to_fit();
+                return Ok(());
+            }
+        }
+        Form::Mapped(_) => {
+            if !few {
+                return Ok(());
+            }
+        }
+        Form::Ranged(_) => {}
     }
     let numbers = list_of(allocator(form), form)?;
     *form = of_list(numbers)?;

@@ -1,6 +1,7 @@
 -- Numbers of blocks counted, block by block.
-use Rattle.std.proofs.Common.{◌≡◌, ℕ, zero, suc, ◌+◌, ◌*◌, ◌/◌, ◌%◌, ◌^◌, ◌<◌, ◌≤◌, Bool, cond, List, [], ◌∷◌, ◌++◌, get_or, length, length-append, map, take, drop, refl, sym, ◌∙◌, ap, inl, inr, arith}
-use Rattle.std.specs.Prelude.{None, Some, slice_get}
+use Rattle.std.proofs.Common.{◌≡◌, ℕ, zero, suc, ◌+◌, ◌-◌, ◌*◌, ◌/◌, ◌%◌, ◌^◌, ◌<◌, ◌≤◌, Bool, cond, List, [], ◌∷◌, ◌++◌, get_or, length, length-append, map, take, drop, refl, sym, ◌∙◌, ap, inl, inr, arith}
+use Rattle.std.specs.Prelude.{None, Option, Some, slice_get}
+use Rattle.std.specs.Iterator.{YieldsLast}
 use Rattle.std.proofs.lemmas.Bool.{cases_eq, cases_lt, eq-eqb, ne_eqb}
 use Rattle.bit_blocks.specs.Numbers.{Ascends, AscendsIn, count_below, count_where, has}
 use Rattle.bit_blocks.proofs.Ascending.{below_append, counts_first, few_numbers, none_below, skips_first}
@@ -174,3 +175,37 @@ count_present a n xs ys bs h small up is count = count ∙ ap (λ l. count_where
 
 pub both_block : (p : ℕ → Bool) (bs : List Keyed) (i : ℕ) (d : Keyed) → i < length bs → count_where p (set_numbers (drop i bs)) ≡ count_where p (keyed_numbers (get_or bs i d)) + count_where p (set_numbers (drop (i + 1) bs))
 both_block p bs i d inside = ap (count_where p) (from_block bs i d inside) ∙ count_append p (keyed_numbers (get_or bs i d)) (set_numbers (drop (i + 1) bs))
+
+-- ---- sets without a number, and the last number
+
+pub no_blocks : (bs : List Keyed) → length bs ≡ 0 → set_numbers bs ≡ []
+no_blocks [] none = refl
+no_blocks (b ∷ bs) none = absurd (omega arith)
+
+pub no_numbers : (bs : List Keyed) → AreKeyed bs → set_numbers bs ≡ [] → length bs ≡ 0
+no_numbers [] h none = refl
+no_numbers (b ∷ bs) h none = absurd (
+    let some = h.3 in
+    let size = ap length none in
+    let parts = length-append (keyed_numbers b) (set_numbers bs) in
+    let own = keyed_length b in
+    omega arith)
+
+-- the last of numbers, and none of none
+pub last_item : (xs ys : List ℕ) (x : ℕ) → xs ≡ ys ++ x ∷ [] → Some x ≡ slice_get xs (length xs - 1)
+last_item xs ys x is =
+    let size : length xs ≡ length ys + 1 = ap length is ∙ length-append ys (x ∷ []) in
+    let at : length xs - 1 ≡ length ys = omega arith in
+    sym (ap (λ n. slice_get xs n) at ∙ ap (λ l. slice_get l (length ys)) is ∙ here ys)
+  where
+    here : (l : List ℕ) → slice_get (l ++ x ∷ []) (length l) ≡ Some x
+    here [] = refl
+    here (y ∷ l) = here l
+
+pub no_last : (xs : List ℕ) → xs ≡ [] → None ≡ slice_get xs (length xs - 1)
+no_last xs none = sym (ap (λ l. slice_get l (length l - 1)) none)
+
+-- what a step from the back gives
+pub last_of_left : {S : Type 0} (rest : S → List ℕ) (s t : S) (xs : List ℕ) (r : Option ℕ) → rest s ≡ xs → YieldsLast rest s r t → r ≡ slice_get xs (length xs - 1)
+last_of_left rest s t xs None is step = no_last xs (sym is ∙ step.0)
+last_of_left rest s t xs (Some x) is step = last_item xs (rest t) x (sym is ∙ step)

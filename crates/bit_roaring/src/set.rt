@@ -94,10 +94,11 @@ impl RoaringSet {
     }
 
     /// Whether there is no number.
+    #[tactic(auto, using(crate::proofs::Counted::no_blocks, crate::proofs::Counted::no_numbers))]
     pub fn is_empty(&self) -> bool
         ensures { IsTrue result ↔ (self.now ≡ []) }
     {
-        self.len() == 0
+        self.blocks.len() == 0
     }
 
     /// Whether a number is in the set.
@@ -132,7 +133,7 @@ impl RoaringSet {
     pub fn last(&self) -> Option<u32>
         ensures { result ≡ slice_get self.now (length self.now - 1) }
     {
-        self.select(self.len().saturating_sub(1))
+        self.iter().next_back()
     }
 
     /// Puts a number in, and returns whether it was not there. Where memory is refused, the set is as it was.

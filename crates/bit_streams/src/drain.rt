@@ -5,23 +5,25 @@ ghost use Rattle.bit_streams.specs.Buffers.{known_bits};
 ghost use Rattle.bit_streams.specs.Streamed.{Gains};
 
 use crate::buffer::{cut_front, no_memory};
+use crate::given::give_some;
 use crate::writer::BitWriter;
 use bit_addressing::{BitOrder, BitStore, GrowError};
 use std::io;
-use std::io::{ErrorKind, Write};
+use std::io::Write;
 use std::mem::replace;
 
-// Writes bytes until all are taken or a call fails, and returns the number of those that were taken.
+// Gives bytes until all are taken or a call fails, and returns the number of those that were taken. Calls the writer, and
+// so can fail, only if there is a byte.
 #[tactic(auto, using(crate::proofs::Buffers::given_none))]
-fn put_bytes<W: Write>(out: &mut W, bytes: &[u8]) -> (usize, io::Result<()>)
+fn give_all<W: Write>(out: &mut W, bytes: &[u8]) -> (usize, io::Result<()>)
     ensures few { result.0 ≤ length bytes.now }
     ensures given { Appends (W.contents out.old) (W.contents out.new) (take result.0 bytes.now) }
     ensures all { OnOk result.1 (result.0 ≡ length bytes.now) }
+    ensures called { length bytes.now ≡ 0 → IsOk result.1 }
 {
     let mut taken = 0;
     while taken < bytes.len() {
-        match out.write(&bytes[taken..]) {
-            Ok(0) => return (taken, Err(io::Error::from(ErrorKind::WriteZero))),
+        match give_some(out, &bytes[taken..]) {
             Ok(n) => taken += n,
             Err(why) => return (taken, Err(why)),
         }
@@ -91,7 +93,7 @@ impl<O: BitOrder> BitWriter<u8, O> {
             Ok(bits) => {
                 let mut bits = bits;
                 let whole = bits.len() / 8;
-                let (taken, done) = put_bytes(out, &bits.as_raw_slice()[..whole]);
+                let (taken, done) = give_all(out, &bits.as_raw_slice()[..whole]);
                 cut_front(&mut bits, 8 * taken);
                 let _empty = replace(self, BitWriter::over(bits));
                 done

@@ -7,6 +7,7 @@ mod codes;
 mod drain;
 mod fields;
 mod formats;
+mod given;
 mod items;
 mod least_first;
 mod reader;

@@ -4,10 +4,11 @@ ghost use Rattle.bit_addressing.specs.Row.{binary};
 ghost use Rattle.std.specs.Io.KnownBytes.{Keeps};
 ghost use Rattle.bit_streams.specs.Streamed.{Adds, Gains, MayFill, Stays, bits_made};
 
+use crate::given::give_some;
 use crate::register::{bytes_of, joined};
 use bit_addressing::BitOrder;
 use std::io;
-use std::io::{ErrorKind, Write};
+use std::io::Write;
 use std::marker::{Model, PhantomData};
 
 /// Writes bits as bytes to a writer, each byte by an order: by `Msb0` its most significant bit first, by `Lsb0` its least
@@ -56,9 +57,9 @@ impl<W: Write, O: BitOrder> Model for BitSink<W, O> {
     ghost invariant = { λ s. IsHeldBack s.held s.pending };
 }
 
-// Writes the first of the `count` bytes that show a number, by one call, and returns how many the writer took.
+// Gives the first of the `count` bytes that show a number, by one call, and returns how many the writer took.
 #[inline(always)]
-fn put_bytes<W: Write, O: BitOrder>(inner: &mut W, count: u8, number: u64) -> io::Result<u8>
+fn give_number<W: Write, O: BitOrder>(inner: &mut W, count: u8, number: u64) -> io::Result<u8>
     requires some { 0 < count }
     requires few { count ≤ 8 }
     requires small { number < 2 ^ (8 * count) }
@@ -69,8 +70,7 @@ fn put_bytes<W: Write, O: BitOrder>(inner: &mut W, count: u8, number: u64) -> io
     ensures failed { OnErr result (Keeps (W.contents inner.old) (W.contents inner.new)) }
 {
     let bytes = bytes_of::<O>(number << (64 - 8 * count));
-    match inner.write(&bytes[..count as usize]) {
-        Ok(0) => Err(io::Error::from(ErrorKind::WriteZero)),
+    match give_some(inner, &bytes[..count as usize]) {
         Ok(taken) => Ok(taken as u8),
         Err(why) => Err(why),
     }
@@ -162,7 +162,7 @@ impl<W: Write, O: BitOrder> BitSink<W, O> {
     {
         let rest = self.held % 8;
         let number = (self.pending >> rest) as u64;
-        match put_bytes::<W, O>(&mut self.inner, self.held / 8, number) {
+        match give_number::<W, O>(&mut self.inner, self.held / 8, number) {
             Ok(taken) => {
                 self.held -= 8 * taken;
                 self.pending %= 1 << self.held;

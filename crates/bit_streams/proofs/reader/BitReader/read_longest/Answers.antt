@@ -1,4 +1,4 @@
-use Rattle.std.proofs.Common.{◌≡◌, ◌+◌, ◌*◌, ◌%◌, ◌^◌, arith}
+use Rattle.std.proofs.Common.{arith}
 use Rattle.bit_streams.proofs.Longest.{longest_fits, longest_found}
 use Rattle.bit_streams.proofs.reader.BitReader.read_longest.Goals as goal
 

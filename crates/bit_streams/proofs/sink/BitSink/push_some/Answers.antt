@@ -5,8 +5,8 @@ use Rattle.bit_streams.proofs.Held.{first_put, high_part, wide_rest}
 use Rattle.bit_streams.proofs.Windows.{front_below}
 use Rattle.bit_streams.proofs.sink.BitSink.push_some.Goals as goal
 
-pub put_bytes-requires-clause-small : goal.put_bytes-requires-clause-small
-put_bytes-requires-clause-small g c =
+pub give_number-requires-clause-small : goal.give_number-requires-clause-small
+give_number-requires-clause-small g c =
     let i = c.self.inside in
     let rest : i.held - 8 * (i.held / 8) ≡ i.held % 8 = omega arith in
     subst (λ k. i.pending / 2 ^ k < 2 ^ (8 * (i.held / 8))) rest (front_below i.held (8 * (i.held / 8)) i.pending (omega arith) c.self.invariant.small)
@@ -29,7 +29,7 @@ returns-in-Ok-clause-list g c =
     let left = i.held - 8 * taken in
     let more = 8 * (i.held / 8) - 8 * taken in
     let few = c.self.invariant.few in
-    let new = g.W.Write.contents c.put_bytes.new.inner in
+    let new = g.W.Write.contents c.give_number.new.inner in
     let whole = high_part i.pending (i.held % 8) more left (omega (arith, within)) in
     subst (λ k. Stays c.args.self.now.list (bits_made place left k new)) (sym (wide_rest left i.pending (omega arith)))
     (subst (λ v. Stays v.list (bits_made place left (i.pending % 2 ^ left) new)) c.self.view_is

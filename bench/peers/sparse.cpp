@@ -6,6 +6,7 @@
 #include <iterator>
 #include <roaring/roaring.h>
 #include <string>
+#include <unistd.h>
 
 static uint64_t mixed(uint64_t k) {
   uint64_t x = (k + 1) * 0x9E3779B97F4A7C15;
@@ -63,6 +64,13 @@ static std::vector<char> written(const Set &set) {
   return bytes;
 }
 
+// Prints a line by itself, so that live.c can tell what is in use then.
+static void kept(const std::string &name, const Set &set) {
+  std::fflush(stdout);
+  std::string line = name + " 0 " + std::to_string(set.len()) + "\n";
+  if (write(1, line.data(), line.size()) < 0) std::abort();
+}
+
 static int none() { return 0; }
 
 static void run(const std::string &folder, uint64_t kind, const std::string &name, uint64_t size, size_t repetitions) {
@@ -70,9 +78,13 @@ static void run(const std::string &folder, uint64_t kind, const std::string &nam
   auto len = [](auto &, Set &set) { return set.len(); };
   auto count = [](auto &, size_t found) { return found; };
   timed(work("made").c_str(), repetitions, none, [&](int) { return made(kind, 0, size); }, len);
-  Set a = made(kind, 0, size), b = made(kind, size / 2, size);
+  Set a = made(kind, 0, size);
+  kept(name + "_kept_made", a);
   timed(work("optimized").c_str(), repetitions, [&] { return a.copy(); }, [](Set &set) { return roaring_bitmap_run_optimize(set.bits); }, [](Set &set, bool) { return set.len(); });
   roaring_bitmap_run_optimize(a.bits);
+  roaring_bitmap_shrink_to_fit(a.bits);
+  kept(name + "_kept_optimized", a);
+  Set b = made(kind, size / 2, size);
   roaring_bitmap_run_optimize(b.bits);
   timed(work("contains").c_str(), repetitions, none, [&](int) { return count_found(a, kind, size); }, count);
   timed(work("count_and").c_str(), repetitions, none, [&](int) { return (size_t)roaring_bitmap_and_cardinality(a.bits, b.bits); }, count);

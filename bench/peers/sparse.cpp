@@ -8,13 +8,6 @@
 #include <string>
 #include <unistd.h>
 
-static uint64_t mixed(uint64_t k) {
-  uint64_t x = (k + 1) * 0x9E3779B97F4A7C15;
-  x = (x ^ x >> 30) * 0xBF58476D1CE4E5B9;
-  x = (x ^ x >> 27) * 0x94D049BB133111EB;
-  return x ^ x >> 31;
-}
-
 static uint32_t number(uint64_t kind, uint64_t k) {
   switch (kind) {
   case 0: return mixed(k) >> 32;

@@ -1,13 +1,22 @@
-// The lists of the peers in C++, and their stopwatch.
+// The lists of the peers in C++, the numbers that they are made of, and their stopwatch.
 #pragma once
 #include <algorithm>
 #include <chrono>
+#include <cstdint>
 #include <cstdio>
 #include <vector>
 
 using Bits = std::vector<bool>;
 
 static size_t ones(const Bits &v) { return std::count(v.begin(), v.end(), true); }
+
+// Number k of the numbers that each program of the bench takes.
+[[maybe_unused]] static uint64_t mixed(uint64_t k) {
+  uint64_t x = (k + 1) * 0x9E3779B97F4A7C15;
+  x = (x ^ x >> 30) * 0xBF58476D1CE4E5B9;
+  x = (x ^ x >> 27) * 0x94D049BB133111EB;
+  return x ^ x >> 31;
+}
 
 // Runs the work a number of times, each on a value made anew, and prints the shortest time.
 template <class Make, class Work, class Check> void timed(const char *name, size_t repetitions, Make make, Work work, Check check) {

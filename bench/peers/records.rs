@@ -142,7 +142,7 @@ fn write_values<W: Digits>(values: &[Value]) -> Vec<W::Word> {
     writer.finish()
 }
 
-/// The rows of records, codes and values. By hand it is the same work at indices and one after another.
+/// The rows of records, codes and values. By hand it is the same work at indices, pushed and one after another.
 pub fn streams<W: Digits>(
     n: usize,
     r: usize,
@@ -158,6 +158,7 @@ pub fn streams<W: Digits>(
         timed(write, r, || (), |_| pack(&all), |_, made| ones(&made));
         timed(read, r, || empty_records(n), |made| unpack(&packed, made), |made, found| sum_of_records(made) + found);
     }
+    timed("push_records", r, || (), |_| pack(&all), |_, made| ones(&made));
     let (codes, table, all) = (codes(), found_by_look(), symbols(n));
     timed("codes_append", r, || (), |_| encode::<W>(&codes, &all), |_, made| ones(&made));
     let made = encode::<W>(&codes, &all);

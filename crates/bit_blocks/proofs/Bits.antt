@@ -3,7 +3,7 @@ use Rattle.std.proofs.Common.{◌≡◌, ℕ, zero, suc, ◌+◌, ◌-◌, ◌<�
 use Rattle.std.specs.Prelude.{count_by, slice_get, slice_range, None, Some}
 use Rattle.std.specs.List.{filter, range_with_len}
 use Rattle.std.proofs.lemmas.Bool.{cases_lt, cases_eq, eq-eqb, le-leb, le-ltb, lt-leb, lt-ltb, ne_eqb}
-use Rattle.std.proofs.lemmas.List.{get_or_past, get_or-replicate, length-replicate}
+use Rattle.std.proofs.lemmas.List.{ext_get_or, get_or_past, get_or-replicate, length-replicate}
 use Rattle.bit_addressing.specs.Row.{put}
 use Rattle.bit_slice.specs.Operators.{combined}
 use Rattle.bit_slice.specs.Places.{ones_of}
@@ -32,6 +32,10 @@ has_ones bits k size = ap (λ l. has l k) (ones_those bits 65536 size) ∙ elim 
   | inr high ↦ below_all 0 65536 (those (λ j. get_or bits j false) 0 65536) k (ascends_those (λ j. get_or bits j false) 0 65536 65536 (omega arith)) high
       ∙ sym (get_or_past bits k false (omega arith))
 ]
+
+-- lists of items with the same true ones are the same
+pub same_ones : (xs ys : List Bool) → AreBits xs → AreBits ys → ones_of xs ≡ ones_of ys → xs ≡ ys
+same_ones xs ys size other same = ext_get_or false xs ys (size ∙ sym other) (λ k inside. sym (has_ones xs k size) ∙ ap (λ l. has l k) same ∙ has_ones ys k other)
 
 -- numbers that are all below k are all counted
 all_below : (from upto : ℕ) (xs : List ℕ) (k : ℕ) → AscendsIn from upto xs → upto ≤ k → count_below xs k ≡ length xs

@@ -12,6 +12,7 @@ pub mod Overlaps
 pub mod Ranges
 pub mod Scanned
 pub mod Stepping
+pub mod Subsets
 pub mod Summing
 pub mod Those
 pub mod Bits

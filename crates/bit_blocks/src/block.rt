@@ -261,6 +261,13 @@ impl Block {
         form::count_both(&self.form, &other.form)
     }
 
+    /// Whether another set has the same numbers, in whatever form. Takes no memory.
+    pub fn has_same_numbers(&self, other: &Self) -> bool
+        ensures { IsTrue result ↔ (self.now ≡ other.now) }
+    {
+        form::are_same(&self.form, &other.form)
+    }
+
     /// The numbers, ascending, from both ends.
     pub fn iter(&self) -> BlockIter<'_>
         ensures list { block_left result ≡ self.now }

@@ -1,5 +1,5 @@
 //! How the numbers of a block are kept.
-ghost use Rattle.std.specs.Prelude.{◌≡◌, ◌≤◌, ◌+◌, ◌-◌, IfOk, IfSome, OnErr, OnOk, length, slice_get};
+ghost use Rattle.std.specs.Prelude.{◌≡◌, ◌≤◌, ◌+◌, ◌-◌, ◌↔◌, IfOk, IfSome, IsTrue, OnErr, OnOk, length, slice_get};
 ghost use Rattle.std.specs.List.{range_with_len};
 ghost use Rattle.bit_slice.specs.BitSlice.{len_of, list_of};
 ghost use Rattle.bit_slice.specs.Places.{ones_of};
@@ -18,6 +18,7 @@ use crate::runs_left::RunsLeft;
 use crate::{listed, mapped, ranged};
 use bit_addressing::Lsb0;
 use bit_containers::{BitList, BitListMut, BitSlice};
+use bit_rows::equal_words;
 use std::alloc::{AllocError, Global};
 
 // How many numbers a list may have that is not turned into bits: both take 8192 bytes then.
@@ -339,6 +340,29 @@ pub(crate) fn count_both(left: &Form, right: &Form) -> usize
         (Form::Mapped(_), Form::Listed(numbers)) => count_listed(numbers, left),
         (Form::Mapped(_), Form::Ranged(runs)) => count_ranged(runs, left),
     }
+}
+
+// Whether two forms have the same numbers.
+pub(crate) fn are_same(left: &Form, right: &Form) -> bool
+    requires left { IsForm left.now }
+    requires right { IsForm right.now }
+    ensures { IsTrue result ↔ (numbers_of left.now ≡ numbers_of right.now) }
+{
+    match (left, right) {
+        (Form::Listed(numbers), Form::Listed(others)) => equal_words::<u16>(numbers, others),
+        (Form::Mapped(bits), Form::Mapped(others)) => mapped::are_same(bits, others),
+        _ => are_counted_same(left, right),
+    }
+}
+
+// Like `are_same`, by the count of the numbers in common.
+fn are_counted_same(left: &Form, right: &Form) -> bool
+    requires left { IsForm left.now }
+    requires right { IsForm right.now }
+    ensures { IsTrue result ↔ (numbers_of left.now ≡ numbers_of right.now) }
+{
+    let numbers = count(left);
+    numbers == count(right) && numbers == count_both(left, right)
 }
 
 // The count of numbers that are in a form too.

@@ -1,5 +1,5 @@
 //! Numbers below 65536 as the true bits of a vector of that length.
-ghost use Rattle.std.specs.Prelude.{◌≡◌, ◌≤◌, ◌<◌, ◌||◌, ℕ, Some, true, [], IfOk, false, length, slice_get};
+ghost use Rattle.std.specs.Prelude.{◌≡◌, ◌≤◌, ◌<◌, ◌||◌, ◌↔◌, ℕ, Some, true, [], IfOk, IsTrue, false, length, slice_get};
 ghost use Rattle.bit_slice.specs.Places.{ones_of};
 ghost use Rattle.bit_blocks.specs.Bits.{AreBits};
 ghost use Rattle.bit_blocks.specs.Numbers.{Combines, Gains, GainsBetween, Loses, LosesBetween, count_below, count_where, has};
@@ -191,6 +191,16 @@ pub(crate) fn count_both(bits: &Bits, others: &Bits) -> usize
     ensures { result ≡ count_where (has (ones_of others.now.list)) (ones_of bits.now.list) }
 {
     bits.count_and(others.as_bitslice())
+}
+
+// Whether both have the same numbers.
+#[tactic(auto, using(crate::proofs::Bits::same_ones))]
+pub(crate) fn are_same(bits: &Bits, others: &Bits) -> bool
+    requires left { AreBits bits.now.list }
+    requires right { AreBits others.now.list }
+    ensures { IsTrue result ↔ (ones_of bits.now.list ≡ ones_of others.now.list) }
+{
+    bits == others
 }
 
 // The count of runs, where as many numbers as possible are in each: one for each number that does not follow another.

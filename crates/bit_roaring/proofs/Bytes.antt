@@ -1,5 +1,5 @@
 -- Ascending numbers as the blocks that are written and read.
-use Rattle.std.proofs.Common.{◌≡◌, ◌≢◌, ℕ, ◌+◌, ◌*◌, ◌/◌, ◌%◌, ◌^◌, ◌<◌, ◌≤◌, Bool, cond, List, [], ◌∷◌, ◌++◌, length, map, refl, sym, ◌∙◌, ap, subst, inl, inr, arith}
+use Rattle.std.proofs.Common.{◌≡◌, ◌≢◌, ℕ, suc, ◌+◌, ◌*◌, ◌/◌, ◌%◌, ◌^◌, ◌<◌, ◌≤◌, Bool, cond, List, [], ◌∷◌, ◌++◌, drop, get_or, length, map, refl, sym, ◌∙◌, ap, subst, inl, inr, arith}
 use Rattle.std.specs.Prelude.{Result, Ok, Err, ⊤}
 use Rattle.std.proofs.lemmas.Bool.{cases_eq, eq-eqb, ne_eqb}
 use Rattle.bit_blocks.specs.Numbers.{AscendsIn}
@@ -8,11 +8,12 @@ use Rattle.bit_blocks.proofs.Ascending.{ascends_earlier}
 use Rattle.bit_portable.specs.declared.fault.Fault.{Fault as FaultOf}
 use Rattle.bit_portable.specs.declared.fault.ReadError.{ReadError}
 use Rattle.bit_portable.specs.declared.fault.ReadError.TheVariants.{Memory, Fault}
-use Rattle.bit_portable.specs.Keyed.{all_numbered}
+use Rattle.bit_portable.specs.Keyed.{all_numbered, numbered}
 use Rattle.bit_portable.specs.Portable.{AreBlocks, AreBlocksFrom, IsFormOf, Numbered, portable}
 use Rattle.bit_portable.specs.Reading.{Fails}
 use Rattle.bit_roaring.specs.Bytes.{blocks_of, put_first, set_bytes}
 use Rattle.bit_roaring.specs.Keyed.{AreKeyed, AreKeyedFrom, set_numbers}
+use Rattle.bit_roaring.proofs.Keys.{keyed}
 
 -- ---- blocks of a set, as they are written
 
@@ -65,6 +66,20 @@ same_from from (b ∷ bs) h = one_block b.key 0 b.block (set_numbers bs) (all_nu
 -- the numbers of a set are in blocks as the set has them
 pub same_blocks : (bs : List Keyed) → AreKeyed bs → blocks_of (set_numbers bs) ≡ all_numbered bs
 same_blocks bs h = same_from 0 bs h
+
+-- blocks that have the same keys and numbers are the same
+unnumbered : (bs os : List Keyed) → all_numbered bs ≡ all_numbered os → bs ≡ os
+unnumbered [] [] e = refl
+unnumbered [] (o ∷ os) e = let none : 0 ≡ suc (length (all_numbered os)) = ap length e in absurd (omega arith)
+unnumbered (b ∷ bs) [] e = let none : suc (length (all_numbered bs)) ≡ 0 = ap length e in absurd (omega arith)
+unnumbered (b ∷ bs) (o ∷ os) e =
+    let first : numbered b ≡ numbered o = ap (λ l. get_or l 0 (numbered b)) e in
+    let rest = unnumbered bs os (ap (drop 1) e) in
+    ap (λ k. keyed k b.block ∷ bs) (ap (λ r. r.key) first) ∙ ap (λ l. keyed o.key l ∷ bs) (ap (λ r. r.numbers) first) ∙ ap (λ l. o ∷ l) rest
+
+-- sets that have the same numbers have the same blocks
+pub same_set : (bs os : List Keyed) → AreKeyed bs → AreKeyed os → set_numbers bs ≡ set_numbers os → bs ≡ os
+same_set bs os h g same = unnumbered bs os (sym (same_blocks bs h) ∙ ap blocks_of same ∙ same_blocks os g)
 
 -- what is written of a set
 pub set_written : (with_runs : Bool) (bs : List Keyed) (bytes : List ℕ) → AreKeyed bs → bytes ≡ portable with_runs (all_numbered bs) → bytes ≡ set_bytes with_runs (set_numbers bs)

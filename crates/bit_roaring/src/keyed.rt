@@ -1,5 +1,5 @@
 //! Blocks with their keys.
-ghost use Rattle.std.specs.Prelude.{◌≡◌, ◌≤◌, ◌<◌, ◌+◌, ℕ, [], if◌then◌else◌, All, false, IfOk, MatchOption, MatchResult, OnErr, OnOk, length, not, slice_get, take};
+ghost use Rattle.std.specs.Prelude.{◌≡◌, ◌≤◌, ◌<◌, ◌+◌, ◌↔◌, ℕ, [], if◌then◌else◌, All, false, IfOk, IsTrue, MatchOption, MatchResult, OnErr, OnOk, length, not, slice_get, take};
 ghost use Rattle.bit_roaring.specs.Keyed.{AreKeyed, block_at, keyed_numbers, keys_of, set_numbers};
 ghost use Rattle.bit_blocks.specs.Numbers.{Ascends, Combines, count_below, count_where, has};
 ghost use Rattle.bit_blocks.specs.Operation.{made_by};
@@ -316,6 +316,30 @@ fn count_at(keyed: &Keyed, others: &[Keyed]) -> u64
         None => 0,
         Some(other) => keyed.block.count_both(other) as u64,
     }
+}
+
+// Whether two lists of blocks have the same numbers.
+pub(crate) fn are_same(blocks: &[Keyed], others: &[Keyed]) -> bool
+    requires left { AreKeyed blocks.now }
+    requires right { AreKeyed others.now }
+    ensures { IsTrue result ↔ (set_numbers blocks.now ≡ set_numbers others.now) }
+{
+    if blocks.len() != others.len() {
+        return false;
+    }
+    for i in 0..blocks.len() {
+        if !is_same(&blocks[i], &others[i]) {
+            return false;
+        }
+    }
+    true
+}
+
+// Whether two blocks have the same key and the same numbers.
+fn is_same(keyed: &Keyed, other: &Keyed) -> bool
+    ensures { IsTrue result ↔ (keyed.now ≡ other.now) }
+{
+    keyed.key == other.key && keyed.block.has_same_numbers(&other.block)
 }
 
 // A copy.

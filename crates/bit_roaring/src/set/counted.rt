@@ -37,7 +37,7 @@ impl RoaringSet {
     }
 
     /// Whether each number of this set is in the other. Takes no memory.
-    #[tactic(auto, using(crate::proofs::Sets::all_counted, crate::proofs::Sets::counts_all))]
+    #[tactic(auto, using(bit_blocks::proofs::Subsets::all_counted, bit_blocks::proofs::Subsets::counts_all))]
     pub fn is_subset(&self, other: &Self) -> bool
         ensures { IsTrue result ↔ ((k : ℕ) → has self.now k ≡ true → has other.now k ≡ true) }
     {
@@ -45,7 +45,7 @@ impl RoaringSet {
     }
 
     /// Whether no number is in both sets. Takes no memory.
-    #[tactic(auto, using(crate::proofs::Sets::none_counted, crate::proofs::Sets::counts_none))]
+    #[tactic(auto, using(bit_blocks::proofs::Subsets::none_counted, bit_blocks::proofs::Subsets::counts_none))]
     pub fn is_disjoint(&self, other: &Self) -> bool
         ensures { IsTrue result ↔ ((k : ℕ) → has self.now k ≡ true → has other.now k ≡ false) }
     {

@@ -51,7 +51,7 @@ impl RoaringSet {
     fn has_same_numbers(&self, other: &Self) -> bool
         ensures { IsTrue result ↔ (self.now ≡ other.now) }
     {
-        self.len() == other.len() && self.is_subset(other)
+        keyed::are_same(&self.blocks, &other.blocks)
     }
 }
 

@@ -12,8 +12,9 @@ ghost use Rattle.bit_blocks.specs.Form.{IsForm, numbers_of};
 ghost use Rattle.bit_blocks.specs.Runs.{AreRuns, run_numbers, runs_of};
 
 use crate::form;
-use crate::form::{Form, LISTED};
+use crate::form::Form;
 use crate::iter::BlockIter;
+use crate::listed::LISTED;
 use crate::operation::Operation;
 use crate::ranged::Run;
 use bit_addressing::Lsb0;

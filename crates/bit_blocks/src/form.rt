@@ -11,6 +11,7 @@ ghost use Rattle.bit_blocks.specs.Operation.{made_by};
 ghost use Rattle.bit_blocks.specs.Runs.{AreRuns, numbers_of_run, run_numbers, runs_of};
 
 use crate::iter::{Left, OnesLeft};
+use crate::listed::LISTED;
 use crate::mapped::Bits;
 use crate::operation::Operation;
 use crate::ranged::Run;
@@ -19,9 +20,6 @@ use crate::{listed, mapped, ranged};
 use bit_addressing::Lsb0;
 use bit_containers::{BitList, BitListMut, BitSlice};
 use std::alloc::{AllocError, Global};
-
-// How many numbers a list may have that is not turned into bits: both take 8192 bytes then.
-pub(crate) const LISTED: usize = 4096;
 
 // A sorted list, a bit for each number, or runs. The bits lie apart, so that a form takes no more room than a list does.
 #[derive(Drop)]

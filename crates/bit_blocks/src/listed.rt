@@ -188,6 +188,7 @@ pub fn combined(
     requires right { Ascends right.now }
     ensures members { IfOk result (λ made. Combines (made_by operation) left.now right.now made.items) }
     ensures ascends { IfOk result (λ made. Ascends made.items) }
+    ensures few { IfOk result (λ made. length made.items ≤ length left.now + length right.now) }
 {
     let mut made = Vec::new(alloc);
     let (mut i, mut j) = (0, 0);

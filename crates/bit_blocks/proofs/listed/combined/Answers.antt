@@ -3,6 +3,7 @@ use Rattle.std.specs.Prelude.{◌⊎◌}
 use Rattle.bit_blocks.specs.Numbers.{those}
 use Rattle.bit_blocks.specs.Operation.{made_by}
 use Rattle.bit_blocks.proofs.Merging.{ReadTo, ascends_made, combines_those, kept, op_begun, op_both, op_left, op_made, op_right, to_end}
+use Rattle.bit_blocks.proofs.Sizes.{few_combined}
 use Rattle.bit_blocks.proofs.listed.combined.Goals as goal
 use Rattle.bit_blocks.proofs.listed.combined.Goals.{After-give_back, then-loop-i-test+else-j-right, else-loop-i-test}
 
@@ -51,3 +52,9 @@ returns-clause-members c = combines_those c.args.operation c.args.left.now c.arg
 
 pub returns-clause-ascends : goal.returns-clause-ascends
 returns-clause-ascends c = ascends_made c.args.operation c.args.left.now c.args.right.now c.give_back.new.numbers.items (c.give_back.ensures ∙ all_kept c)
+
+pub returns-clause-few : goal.returns-clause-few
+returns-clause-few c =
+    let made = c.give_back.ensures ∙ all_kept c in
+    few_combined c.args.operation c.args.left.now c.args.right.now c.give_back.new.numbers.items c.requires.left c.requires.right (ascends_made c.args.operation c.args.left.now c.args.right.now c.give_back.new.numbers.items made)
+    (combines_those c.args.operation c.args.left.now c.args.right.now c.give_back.new.numbers.items c.requires.left c.requires.right made)

@@ -1,18 +1,23 @@
--- What follows for the numbers of a form.
-use Rattle.std.proofs.Common.{◌≡◌, ℕ, ◌≤◌, length, sym, ◌∙◌, ap, arith}
+-- What follows for the numbers of a form, and which changes leave it a good one.
+use Rattle.std.proofs.Common.{◌≡◌, ℕ, ◌+◌, ◌<◌, ◌≤◌, Bool, List, length, sym, ◌∙◌, ap, arith}
+use Rattle.bit_slice.specs.Places.{ones_of}
+use Rattle.bit_blocks.specs.Bits.{AreBits}
 use Rattle.bit_blocks.specs.Block.{IsBlock}
-use Rattle.bit_blocks.specs.Form.{IsForm, numbers_of}
-use Rattle.bit_blocks.specs.Numbers.{Ascends}
+use Rattle.bit_blocks.specs.Form.{AreListed, AreMapped, IsForm, IsSmallest, is_ranged, numbers_of}
+use Rattle.bit_blocks.specs.Numbers.{Ascends, Gains, GainsBetween, Loses, LosesBetween, count_where, has}
+use Rattle.bit_blocks.specs.Runs.{numbers_of_run, runs_of, runs_pay}
 use Rattle.bit_blocks.specs.declared.form.Form.{Form}
 use Rattle.bit_blocks.specs.declared.form.Form.TheVariants.{Listed, Mapped, Ranged}
+use Rattle.bit_blocks.specs.declared.ranged.Run.{Run}
 use Rattle.bit_blocks.proofs.Ascending.{few_numbers}
 use Rattle.bit_blocks.proofs.Bits.{ascends_ones}
 use Rattle.bit_blocks.proofs.Runs.{ascends_runs}
+use Rattle.bit_blocks.proofs.Sizes.{few_cleared, no_fewer_filled, no_fewer_gained, no_more_cleared, no_more_lost, one_less_lost, one_more_gained}
 
 -- the numbers of a form ascend
 pub ascends_form : (form : Form) → IsForm form → Ascends (numbers_of form)
-ascends_form (Listed numbers) h = h
-ascends_form (Mapped bits) h = ascends_ones bits.value.list h
+ascends_form (Listed numbers) h = h.ascends
+ascends_form (Mapped bits) h = ascends_ones bits.value.list h.size
 ascends_form (Ranged runs) h = ascends_runs 0 runs.items h
 
 -- and are at most 65536
@@ -22,3 +27,43 @@ few_of_form form h = let few = few_numbers 0 65536 (numbers_of form) (omega arit
 -- forms of the same numbers have the same count
 pub same_count : (old new : Form) (count : ℕ) → IsBlock old count → IsForm new → numbers_of new ≡ numbers_of old → IsBlock new count
 same_count old new count was good same = record { good = good; size = was.size ∙ ap length (sym same) }
+
+-- ---- lists that stay lists, and bits that stay bits
+
+pub listed_gained : (xs ys : List ℕ) (n : ℕ) → Ascends xs → length xs < 4096 → n < 65536 → Ascends ys → Gains xs ys n → AreListed ys
+listed_gained xs ys n h room low g gains = let more = one_more_gained xs ys n h g low gains in record { ascends = g; few = omega arith }
+
+pub listed_lost : (xs ys : List ℕ) (n : ℕ) → AreListed xs → Ascends ys → Loses xs ys n → AreListed ys
+listed_lost xs ys n h g loses = let few = h.few in let less = no_more_lost xs ys n h.ascends g loses in record { ascends = g; few = omega arith }
+
+pub listed_cleared : (xs ys : List ℕ) (first last : ℕ) → AreListed xs → Ascends ys → LosesBetween xs ys first last → AreListed ys
+listed_cleared xs ys first last h g loses = let few = h.few in let less = no_more_cleared xs ys first last h.ascends g loses in record { ascends = g; few = omega arith }
+
+pub mapped_gained : (xs ys : List Bool) (n : ℕ) → AreMapped xs → AreBits ys → Gains (ones_of xs) (ones_of ys) n → AreMapped ys
+mapped_gained xs ys n h size gains =
+    let many = h.many in
+    let more = no_fewer_gained (ones_of xs) (ones_of ys) n (ascends_ones xs h.size) (ascends_ones ys size) gains in
+    record { size = size; many = omega arith }
+
+pub mapped_lost : (xs ys : List Bool) (n : ℕ) → AreMapped xs → 4097 < length (ones_of xs) → n < 65536 → AreBits ys → Loses (ones_of xs) (ones_of ys) n → AreMapped ys
+mapped_lost xs ys n h many low size loses =
+    let less = one_less_lost (ones_of xs) (ones_of ys) n (ascends_ones xs h.size) (ascends_ones ys size) low loses in
+    record { size = size; many = omega arith }
+
+pub mapped_filled : (xs ys : List Bool) (first last : ℕ) → AreMapped xs → AreBits ys → GainsBetween (ones_of xs) (ones_of ys) first last → AreMapped ys
+mapped_filled xs ys first last h size gains =
+    let many = h.many in
+    let more = no_fewer_filled (ones_of xs) (ones_of ys) first last (ascends_ones xs h.size) (ascends_ones ys size) gains in
+    record { size = size; many = omega arith }
+
+pub mapped_cleared : (xs ys : List Bool) (r : Run) → AreMapped xs → 4096 + count_where (has (ones_of xs)) (numbers_of_run r) < length (ones_of xs) → r.first ≤ r.last → r.last < 65536
+    → AreBits ys → LosesBetween (ones_of xs) (ones_of ys) r.first r.last → AreMapped ys
+mapped_cleared xs ys r h many ordered most size loses =
+    let less = few_cleared (ones_of xs) (ones_of ys) r (ascends_ones xs h.size) (ascends_ones ys size) ordered most loses in
+    record { size = size; many = omega arith }
+
+-- ---- the form that takes the fewest bytes
+
+-- a form that is runs where these take fewer bytes
+pub smallest_same : (old new : Form) (pays : Bool) → pays ≡ runs_pay (length (numbers_of old)) (length (runs_of (numbers_of old))) → numbers_of new ≡ numbers_of old → is_ranged new ≡ pays → IsSmallest new
+smallest_same old new pays is same ranged = ranged ∙ is ∙ ap (λ xs. runs_pay (length xs) (length (runs_of xs))) (sym same)

@@ -11,6 +11,7 @@ pub mod LeftOfRuns
 pub mod Overlaps
 pub mod Ranges
 pub mod Scanned
+pub mod Sizes
 pub mod Stepping
 pub mod Subsets
 pub mod Summing

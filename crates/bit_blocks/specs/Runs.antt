@@ -1,5 +1,5 @@
 -- Runs of numbers that follow one another.
-use Rattle.std.specs.Prelude.{◌≡◌, ℕ, ◌+◌, ◌-◌, ◌<◌, ◌≤◌, Bool, false, ◌&&◌, ◌||◌, if◌then◌else◌, nat_eq, nat_le, List, [], ◌∷◌, ◌++◌, ⊤, refl}
+use Rattle.std.specs.Prelude.{◌≡◌, ℕ, ◌+◌, ◌-◌, ◌*◌, ◌<◌, ◌≤◌, Bool, true, false, ◌&&◌, ◌||◌, if◌then◌else◌, nat_eq, nat_le, nat_lt, List, [], ◌∷◌, ◌++◌, ⊤, refl}
 use Rattle.std.specs.List.{range_with_len}
 use Rattle.bit_blocks.specs.declared.ranged.Run.{Run}
 
@@ -40,8 +40,26 @@ abbrev pub runs_of : List ℕ → List Run
 runs_of [] = []
 runs_of (x ∷ xs) = joined x (runs_of xs)
 
+-- whether this many runs take fewer bytes than the numbers take as a list or as bits, as the format counts them
+abbrev pub runs_pay : ℕ → ℕ → Bool
+runs_pay count runs = if nat_le count 4096 then nat_lt (4 * runs + 2) (2 * count + 2) else nat_lt (4 * runs + 2) 8192
+
 three_numbers : run_numbers (record { first = 2; last = 3 } ∷ record { first = 7; last = 7 } ∷ []) ≡ 2 ∷ 3 ∷ 7 ∷ []
 three_numbers = refl
 
 three_runs : runs_of (2 ∷ 3 ∷ 5 ∷ 7 ∷ 8 ∷ 9 ∷ []) ≡ record { first = 2; last = 3 } ∷ record { first = 5; last = 5 } ∷ record { first = 7; last = 9 } ∷ []
 three_runs = refl
+
+-- two runs take ten bytes, as a list of four numbers does
+four_in_two_runs : runs_pay 4 2 ≡ false
+four_in_two_runs = refl
+
+five_in_two_runs : runs_pay 5 2 ≡ true
+five_in_two_runs = refl
+
+-- 2047 runs take two bytes less than bits
+many_in_few_runs : runs_pay 60000 2047 ≡ true
+many_in_few_runs = refl
+
+many_in_many_runs : runs_pay 60000 2048 ≡ false
+many_in_many_runs = refl

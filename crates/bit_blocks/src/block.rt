@@ -1,5 +1,5 @@
 //! A set of numbers below 65536 that takes little memory.
-ghost use Rattle.std.specs.Prelude.{◌≡◌, ◌≤◌, ◌+◌, ◌-◌, ◌↔◌, [], IfOk, IfSome, IsTrue, OnErr, OnOk, length, not, slice_get};
+ghost use Rattle.std.specs.Prelude.{◌≡◌, ◌≤◌, ◌<◌, ◌+◌, ◌-◌, ◌↔◌, [], IfOk, IfSome, IsTrue, OnErr, OnOk, length, not, slice_get};
 ghost use Rattle.std.specs.Iterator.{YieldsFirst, YieldsLast};
 ghost use Rattle.std.specs.Iterator.Runs.{YieldsInOrder, YieldsInReverse};
 ghost use Rattle.std.specs.List.{range_with_len};
@@ -12,8 +12,9 @@ ghost use Rattle.bit_blocks.specs.Form.{IsForm, numbers_of};
 ghost use Rattle.bit_blocks.specs.Runs.{AreRuns, run_numbers, runs_of};
 
 use crate::form;
-use crate::form::{Form, LISTED};
+use crate::form::Form;
 use crate::iter::BlockIter;
+use crate::listed::LISTED;
 use crate::operation::Operation;
 use crate::ranged::Run;
 use bit_addressing::Lsb0;
@@ -298,19 +299,22 @@ impl Block {
         form::list_of(alloc, &self.form)
     }
 
-    /// The numbers as they are kept, where they are kept as a list, and None where they are not. Takes no memory.
+    /// The numbers as they are kept, where they are kept as a list, and None where they are not: a list has at most 4096.
+    /// Takes no memory.
     pub fn as_list(&self) -> Option<&[u16]>
-        ensures { IfSome result (λ numbers. numbers.now ≡ self.now) }
+        ensures numbers { IfSome result (λ numbers. numbers.now ≡ self.now) }
+        ensures few { IfSome result (λ numbers. length numbers.now ≤ 4096) }
     {
         form::as_list(&self.form)
     }
 
-    /// The numbers as the indices of true bits, of 65536, where they are kept so, and None where they are not. Takes no
-    /// memory.
+    /// The numbers as the indices of true bits, of 65536, where they are kept so, and None where they are not: more than
+    /// 4096 are. Takes no memory.
     pub fn as_bits(&self) -> Option<BitSlice<'_, u64, Lsb0>>
         ensures len { IfSome result (λ bits. len_of bits ≡ 65536) }
         ensures size { IfSome result (λ bits. length (list_of bits) ≡ 65536) }
         ensures numbers { IfSome result (λ bits. ones_of (list_of bits) ≡ self.now) }
+        ensures many { IfSome result (λ bits. 4096 < length self.now) }
     {
         form::as_bits(&self.form)
     }

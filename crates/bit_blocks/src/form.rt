@@ -1,16 +1,17 @@
 //! How the numbers of a block are kept.
-ghost use Rattle.std.specs.Prelude.{◌≡◌, ◌≤◌, ◌+◌, ◌-◌, ◌↔◌, IfOk, IfSome, IsTrue, OnErr, OnOk, length, slice_get};
+ghost use Rattle.std.specs.Prelude.{◌≡◌, ◌≤◌, ◌<◌, ◌+◌, ◌-◌, ◌↔◌, IfOk, IfSome, IsTrue, OnErr, OnOk, false, length, slice_get, true};
 ghost use Rattle.std.specs.List.{range_with_len};
 ghost use Rattle.bit_slice.specs.BitSlice.{len_of, list_of};
 ghost use Rattle.bit_slice.specs.Places.{ones_of};
 ghost use Rattle.bit_blocks.specs.Bits.{AreBits};
 ghost use Rattle.bit_blocks.specs.BlockLeft.{form_left};
-ghost use Rattle.bit_blocks.specs.Form.{IsForm, numbers_of};
+ghost use Rattle.bit_blocks.specs.Form.{IsForm, IsSmallest, is_ranged, numbers_of};
 ghost use Rattle.bit_blocks.specs.Numbers.{Ascends, Combines, Gains, GainsBetween, Loses, LosesBetween, count_below, count_where, has, numbers_between};
 ghost use Rattle.bit_blocks.specs.Operation.{made_by};
-ghost use Rattle.bit_blocks.specs.Runs.{AreRuns, numbers_of_run, run_numbers, runs_of};
+ghost use Rattle.bit_blocks.specs.Runs.{AreRuns, numbers_of_run, run_numbers, runs_of, runs_pay};
 
 use crate::iter::{Left, OnesLeft};
+use crate::listed::LISTED;
 use crate::mapped::Bits;
 use crate::operation::Operation;
 use crate::ranged::Run;
@@ -21,10 +22,8 @@ use bit_containers::{BitList, BitListMut, BitSlice};
 use bit_rows::equal_words;
 use std::alloc::{AllocError, Global};
 
-// How many numbers a list may have that is not turned into bits: both take 8192 bytes then.
-pub(crate) const LISTED: usize = 4096;
-
-// A sorted list, a bit for each number, or runs. The bits lie apart, so that a form takes no more room than a list does.
+// A sorted list of at most `LISTED` numbers, a bit for each number where there are more, or runs. The bits lie apart, so
+// that a form takes no more room than a list does.
 #[derive(Drop)]
 pub(crate) enum Form {
     Listed(Vec<u16>),
@@ -37,6 +36,7 @@ pub(crate) fn of_list(numbers: Vec<u16>) -> Result<Form, AllocError>
     requires { Ascends numbers.items }
     ensures numbers { IfOk result (λ form. numbers_of form ≡ numbers.items) }
     ensures form { IfOk result (λ form. IsForm form) }
+    ensures plain { IfOk result (λ form. is_ranged form ≡ false) }
 {
     if numbers.len() <= LISTED {
         return Ok(Form::Listed(numbers));
@@ -46,11 +46,13 @@ pub(crate) fn of_list(numbers: Vec<u16>) -> Result<Form, AllocError>
     mapped_form(alloc, bits)
 }
 
-// Bits as they are.
+// Bits of more numbers than a list may have, as they are.
 fn mapped_form(alloc: Global, bits: Bits) -> Result<Form, AllocError>
-    requires { AreBits bits.list }
+    requires size { AreBits bits.list }
+    requires many { 4096 < length (ones_of bits.list) }
     ensures numbers { IfOk result (λ form. numbers_of form ≡ ones_of bits.list) }
     ensures form { IfOk result (λ form. IsForm form) }
+    ensures plain { IfOk result (λ form. is_ranged form ≡ false) }
 {
     let Ok(apart) = Box::new(alloc, bits) else {
         return Err(AllocError);
@@ -150,7 +152,7 @@ pub(crate) fn form_of(alloc: Global, bits: Bits) -> Result<Form, AllocError>
     ensures numbers { IfOk result (λ form. numbers_of form ≡ ones_of bits.list) }
     ensures form { IfOk result (λ form. IsForm form) }
 {
-    if bits.count_ones() <= LISTED {
+    if mapped::count(&bits) <= LISTED {
         let numbers = mapped::list_of(alloc, &bits)?;
         return Ok(Form::Listed(numbers));
     }
@@ -220,7 +222,8 @@ pub(crate) fn insert(form: &mut Form, number: u16) -> Result<(), AllocError>
 {
     match form {
         Form::Listed(numbers) => {
-            if numbers.len() < LISTED {
+            let has_room = numbers.len() < LISTED;
+            if has_room {
                 listed::insert(numbers, number)?;
                 return Ok(());
             }
@@ -238,10 +241,11 @@ pub(crate) fn insert(form: &mut Form, number: u16) -> Result<(), AllocError>
     Ok(())
 }
 
-// Takes a number out. `many` says whether more than `LISTED` numbers stay. Where memory is refused, the numbers are as
+// Takes a number out. Where `many` says so, more than `LISTED` numbers stay. Where memory is refused, the numbers are as
 // they were.
 pub(crate) fn remove(form: &mut Form, number: u16, many: bool) -> Result<(), AllocError>
     requires form { IsForm form.old }
+    requires many { IsTrue many → 4097 < length (numbers_of form.old) }
     ensures loses { OnOk result (Loses (numbers_of form.old) (numbers_of form.new) number) }
     ensures refused { OnErr result (numbers_of form.new ≡ numbers_of form.old) }
     ensures form { IsForm form.new }
@@ -432,7 +436,9 @@ pub(crate) fn list_of(alloc: Global, form: &Form) -> Result<Vec<u16>, AllocError
 
 // The list, where that is the form.
 pub(crate) fn as_list(form: &Form) -> Option<&[u16]>
-    ensures { IfSome result (λ numbers. numbers.now ≡ numbers_of form.now) }
+    requires { IsForm form.now }
+    ensures numbers { IfSome result (λ numbers. numbers.now ≡ numbers_of form.now) }
+    ensures few { IfSome result (λ numbers. length numbers.now ≤ 4096) }
 {
     match form {
         Form::Listed(numbers) => Some(numbers.as_slice()),
@@ -446,6 +452,7 @@ pub(crate) fn as_bits(form: &Form) -> Option<BitSlice<'_, u64, Lsb0>>
     ensures len { IfSome result (λ bits. len_of bits ≡ 65536) }
     ensures size { IfSome result (λ bits. length (list_of bits) ≡ 65536) }
     ensures numbers { IfSome result (λ bits. ones_of (list_of bits) ≡ numbers_of form.now) }
+    ensures many { IfSome result (λ bits. 4096 < length (numbers_of form.now)) }
 {
     match form {
         Form::Mapped(bits) => Some(bits.as_bitslice()),
@@ -502,54 +509,64 @@ pub(crate) fn count_runs(form: &Form) -> usize
     }
 }
 
-// Keeps the numbers in the form that takes the least memory.
-#[tactic(auto, using(crate::proofs::Forms::ascends_form))]
-pub(crate) fn optimize(form: &mut Form) -> Result<(), AllocError>
-    requires { IsForm form.old }
-    ensures same { numbers_of form.new ≡ numbers_of form.old }
-    ensures form { IsForm form.new }
+// Whether `runs` runs take fewer bytes than `count` numbers as a list or as bits.
+fn runs_pay(count: usize, runs: usize) -> bool
+    requires runs { runs ≤ 32768 }
+    ensures { result ≡ runs_pay count runs }
 {
-    let (count, runs) = (count(form), count_runs(form));
-    if runs < count - count / 2 && runs < LISTED / 2 {
-        make_ranged(form)
+    if count <= LISTED {
+        2 * runs < count
     } else {
-        make_plain(form, count <= LISTED)
+        runs < LISTED / 2
     }
 }
 
-// Keeps the numbers as runs.
+// Keeps the numbers in the form that takes the fewest bytes. Where memory is refused, they are kept as they were.
+#[tactic(auto, using(crate::proofs::Forms::ascends_form, crate::proofs::Forms::smallest_same))]
+pub(crate) fn optimize(form: &mut Form) -> Result<(), AllocError>
+    requires { IsForm form.old }
+    ensures same { numbers_of form.new ≡ numbers_of form.old }
+    ensures smallest { OnOk result (IsSmallest form.new) }
+    ensures form { IsForm form.new }
+{
+    if runs_pay(count(form), count_runs(form)) {
+        make_ranged(form)
+    } else {
+        make_plain(form)
+    }
+}
+
+// Keeps the numbers as runs without room to spare.
 fn make_ranged(form: &mut Form) -> Result<(), AllocError>
     requires { IsForm form.old }
     ensures same { numbers_of form.new ≡ numbers_of form.old }
     ensures form { IsForm form.new }
+    ensures ranged { OnOk result (is_ranged form.new ≡ true) }
 {
-    if let Form::Ranged(_) = form {
+    if let Form::Ranged(runs) = form {
+        runs.shrink_to_fit();
         return Ok(());
     }
-    let runs = runs_of(allocator(form), form)?;
+    let mut runs = runs_of(allocator(form), form)?;
+    runs.shrink_to_fit();
     *form = Form::Ranged(runs);
     Ok(())
 }
 
 // Keeps the numbers as a list without room to spare where they are few, and else as bits.
 #[tactic(auto, using(crate::proofs::Forms::ascends_form))]
-fn make_plain(form: &mut Form, few: bool) -> Result<(), AllocError>
+fn make_plain(form: &mut Form) -> Result<(), AllocError>
     requires { IsForm form.old }
     ensures same { numbers_of form.new ≡ numbers_of form.old }
     ensures form { IsForm form.new }
+    ensures plain { OnOk result (is_ranged form.new ≡ false) }
 {
     match form {
         Form::Listed(numbers) => {
-            if few {
-                numbers.shrink_to_fit();
-                return Ok(());
-            }
+            numbers.shrink_to_fit();
+            return Ok(());
         }
-        Form::Mapped(_) => {
-            if !few {
-                return Ok(());
-            }
-        }
+        Form::Mapped(_) => return Ok(()),
         Form::Ranged(_) => {}
     }
     let numbers = list_of(allocator(form), form)?;

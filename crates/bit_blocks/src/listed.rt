@@ -1,11 +1,58 @@
 //! Ascending numbers in a slice: found, put in, taken out, combined and counted.
-ghost use Rattle.std.specs.Prelude.{◌≡◌, ◌++◌, ◌∷◌, [], if◌then◌else◌, ◌≤◌, ◌+◌, IfOk, MatchResult, OnErr, OnOk, Some, length, not, slice_get, true, false, ◌<◌};
+ghost use Rattle.std.specs.Prelude.{◌≡◌, ◌++◌, ◌∷◌, [], if◌then◌else◌, ◌≤◌, ◌+◌, ◌/◌, IfOk, MatchResult, OnErr, OnOk, Some, length, max, not, slice_get, true, false, vec_capacity, vec_len, ◌<◌};
 ghost use Rattle.bit_blocks.specs.Operation.{made_by};
 ghost use Rattle.bit_blocks.specs.Runs.{runs_of};
 ghost use Rattle.bit_blocks.specs.Numbers.{Ascends, Combines, Gains, Loses, LosesBetween, count_below, count_where, has, numbers_between};
 
 use crate::operation::Operation;
 use std::alloc::{AllocError, Global};
+
+// How many numbers a list may have that is not turned into bits: both take 8192 bytes then.
+pub(crate) const LISTED: usize = 4096;
+
+// For how many numbers more a list of `count` numbers makes room: as many again below 64, since small pieces of memory
+// are rounded up in any case, and a quarter from there on, which leaves a tenth unused on average and copies a number
+// some four times while a list grows. A list that becomes bits with its 4097th number has no use for more.
+fn room_beyond(count: usize) -> usize
+    ensures some { 0 < result }
+    ensures little { 64 ≤ count → result ≤ count / 4 }
+    ensures small { result ≤ max 4 count }
+    ensures most { count < 4096 → count + result ≤ 4096 }
+{
+    if count < 64 {
+        return count.max(4);
+    }
+    let quarter = count / 4;
+    if count < LISTED {
+        return quarter.min(LISTED - count);
+    }
+    quarter
+}
+
+// Makes room for one number more. Where memory is refused, the numbers are as they were.
+fn make_room(numbers: &mut Vec<u16>) -> Result<(), AllocError>
+    ensures same { numbers.new.items ≡ numbers.old.items }
+    ensures len { vec_len numbers.new ≡ vec_len numbers.old }
+    ensures room { OnOk result (vec_len numbers.new < vec_capacity numbers.new) }
+    ensures little { OnOk result (64 ≤ vec_len numbers.old → vec_capacity numbers.new ≤ max (vec_capacity numbers.old) (vec_len numbers.old + vec_len numbers.old / 4)) }
+    ensures most { OnOk result (vec_len numbers.old < 4096 → vec_capacity numbers.new ≤ max (vec_capacity numbers.old) 4096) }
+{
+    let count = numbers.len();
+    if count == numbers.capacity() {
+        numbers.reserve_exact(room_beyond(count))?;
+    }
+    Ok(())
+}
+
+// Gives back what a list has room for beyond the room that it would make.
+fn give_back(numbers: &mut Vec<u16>)
+    ensures { numbers.new.items ≡ numbers.old.items }
+{
+    let count = numbers.len();
+    if numbers.capacity() > count + room_beyond(count) {
+        numbers.shrink_to_fit();
+    }
+}
 
 /// The count of numbers below `number`. Requires that the numbers ascend.
 pub fn place_of(numbers: &[u16], number: u16) -> usize
@@ -61,8 +108,9 @@ pub fn contains(numbers: &[u16], number: u16) -> bool
     find(numbers, number).is_ok()
 }
 
-/// Puts `number` into ascending numbers, and returns whether it was not there. Where memory is refused, they are as they
-/// were. Requires that the numbers ascend.
+/// Puts `number` into ascending numbers, and returns whether it was not there. A list of 64 numbers or more that has no
+/// room makes room for a quarter more, and one of fewer than 4096 never for more than these. Where memory is refused, the
+/// numbers are as they were. Requires that they ascend.
 #[tactic(auto, using(crate::proofs::Edits::gains_present, crate::proofs::Edits::has_inserted, crate::proofs::Edits::ascends_inserted))]
 pub fn insert(numbers: &mut Vec<u16>, number: u16) -> Result<bool, AllocError>
     requires { Ascends numbers.old.items }
@@ -70,10 +118,13 @@ pub fn insert(numbers: &mut Vec<u16>, number: u16) -> Result<bool, AllocError>
     ensures gains { OnOk result (Gains numbers.old.items numbers.new.items number) }
     ensures ascends { Ascends numbers.new.items }
     ensures refused { OnErr result (numbers.new.items ≡ numbers.old.items) }
+    ensures little { OnOk result (64 ≤ vec_len numbers.old → vec_capacity numbers.new ≤ max (vec_capacity numbers.old) (vec_len numbers.old + vec_len numbers.old / 4)) }
+    ensures most { OnOk result (vec_len numbers.old < 4096 → vec_capacity numbers.new ≤ max (vec_capacity numbers.old) 4096) }
 {
     match find(numbers, number) {
         Ok(_) => Ok(false),
         Err(place) => {
+            make_room(numbers)?;
             numbers.insert(place, number)?;
             Ok(true)
         },
@@ -137,6 +188,7 @@ pub fn combined(
     requires right { Ascends right.now }
     ensures members { IfOk result (λ made. Combines (made_by operation) left.now right.now made.items) }
     ensures ascends { IfOk result (λ made. Ascends made.items) }
+    ensures few { IfOk result (λ made. length made.items ≤ length left.now + length right.now) }
 {
     let mut made = Vec::new(alloc);
     let (mut i, mut j) = (0, 0);
@@ -156,6 +208,7 @@ pub fn combined(
     }
     append_if(&mut made, operation.keeps_left(), &left[i..])?;
     append_if(&mut made, operation.keeps_right(), &right[j..])?;
+    give_back(&mut made);
     Ok(made)
 }
 

@@ -5,7 +5,7 @@ use Rattle.std.proofs.lemmas.Bool.{leb-true, leb-false}
 use Rattle.std.proofs.lemmas.List.Elements.{All-from_recursion, recursion_from_All}
 use Rattle.bit_blocks.specs.declared.ranged.Run.{Run}
 use Rattle.bit_blocks.specs.Numbers.{AscendsIn, Ascends, those}
-use Rattle.bit_blocks.specs.Runs.{joined, runs_of}
+use Rattle.bit_blocks.specs.Runs.{joined, runs_of, runs_pay}
 use Rattle.bit_blocks.proofs.Runs.{ascends_runs}
 use Rattle.bit_blocks.proofs.Those.{ascends_those}
 use Rattle.bit_portable.specs.declared.stored.Head.{Head}
@@ -16,7 +16,7 @@ use Rattle.bit_portable.specs.Reading.{Fails}
 use Rattle.bit_portable.proofs.Fields.{done, ok_is}
 use Rattle.bit_portable.specs.Stored.{Content, content_of, pieces_of, Numbers, Words, Runs, Holds, Piece, IsPiece, content_bytes, run_bytes, two, word_total}
 use Rattle.bit_portable.specs.Form.{AreWritable, IsForm, IsWritten, KeysFrom, OffsetsFit, data_bytes, data_start, flag_count, flags_for, form, heads_of}
-use Rattle.bit_portable.specs.Portable.{IsGood, AreBlocks, AreBlocksFrom, IsFormOf, Numbered, any_runs, content_for, head_for, numbered_of, numbers_of, pieces_for, portable, runs_pay, stored_as_runs, word_bit, words_of}
+use Rattle.bit_portable.specs.Portable.{IsGood, AreBlocks, AreBlocksFrom, IsFormOf, Numbered, any_runs, content_for, head_for, numbered_of, numbers_of, pieces_for, portable, stored_as_runs, word_bit, words_of}
 use Rattle.bit_portable.proofs.Bytes.{numbers_length, words_length, runs_length}
 use Rattle.bit_portable.proofs.Coded.{Wholes}
 use Rattle.bit_portable.proofs.Flags.{flags_for_are, flags_for_length}

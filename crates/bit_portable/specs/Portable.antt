@@ -1,8 +1,8 @@
 -- Sets of numbers in the format: how each block is stored, and the bytes of all.
-use Rattle.std.specs.Prelude.{◌≡◌, ℕ, ◌+◌, ◌*◌, ◌/◌, ◌%◌, ◌^◌, ◌<◌, ◌≤◌, Bool, true, false, ◌&&◌, ◌||◌, if◌then◌else◌, nat_eq, nat_le, nat_lt, List, [], ◌∷◌, length, map, slice_index, ⊤, refl}
+use Rattle.std.specs.Prelude.{◌≡◌, ℕ, ◌+◌, ◌*◌, ◌/◌, ◌%◌, ◌^◌, ◌<◌, ◌≤◌, Bool, true, false, ◌&&◌, ◌||◌, if◌then◌else◌, nat_eq, nat_le, List, [], ◌∷◌, length, map, slice_index, ⊤, refl}
 use Rattle.std.specs.List.{range_with_len}
 use Rattle.bit_blocks.specs.Numbers.{Ascends, has, those}
-use Rattle.bit_blocks.specs.Runs.{AreRuns, run_numbers, runs_of}
+use Rattle.bit_blocks.specs.Runs.{AreRuns, run_numbers, runs_of, runs_pay}
 use Rattle.bit_portable.specs.declared.stored.Head.{Head}
 use Rattle.bit_portable.specs.Stored.{Content, Numbers, Words, Runs, Piece}
 use Rattle.bit_portable.specs.Form.{digits, flags_for, form, heads_of, IsWritten}
@@ -29,10 +29,6 @@ word_of xs j = digits (map (has xs) (range_with_len (64 * j) 64))
 -- ascending numbers below 65536 as bits
 unfoldable pub words_of : List ℕ → List ℕ
 words_of xs = map (word_of xs) (range_with_len 0 1024)
-
--- whether this many runs take fewer bytes than the numbers take as a list or as bits
-abbrev pub runs_pay : ℕ → ℕ → Bool
-runs_pay count runs = if nat_le count 4096 then nat_lt (4 * runs + 2) (2 * count + 2) else nat_lt (4 * runs + 2) 8192
 
 -- ascending numbers as they are stored
 abbrev pub content_for : Bool → List ℕ → Content

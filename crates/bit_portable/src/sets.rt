@@ -1,11 +1,11 @@
 //! Sets of numbers as bytes, and bytes as sets of numbers.
 ghost use Rattle.std.specs.Prelude.{All, map, ◌≡◌, ◌≤◌, ◌<◌, Bool, List, Ok, IfErr, IfOk, false, length, true};
 ghost use Rattle.bit_blocks.specs.Numbers.{Ascends};
-ghost use Rattle.bit_blocks.specs.Runs.{runs_of};
+ghost use Rattle.bit_blocks.specs.Runs.{runs_of, runs_pay};
 ghost use Rattle.bit_portable.specs.Stored.{Holds, Numbers, Words, content_lent, content_of, piece_lent, piece_of, pieces_lent, pieces_of};
 ghost use Rattle.bit_portable.specs.Keyed.{all_numbered, numbered};
 ghost use Rattle.bit_portable.specs.Form.{heads_of};
-ghost use Rattle.bit_portable.specs.Portable.{AreBlocks, IsGood, numbered_of, IsFormOf, Numbered, any_runs, content_for, numbers_of, piece_for, pieces_for, portable, runs_pay, words_of};
+ghost use Rattle.bit_portable.specs.Portable.{AreBlocks, IsGood, numbered_of, IsFormOf, Numbered, any_runs, content_for, numbers_of, piece_for, pieces_for, portable, words_of};
 ghost use Rattle.bit_portable.specs.Reading.{Fails, Gives, all_of};
 ghost use Rattle.bit_portable.specs.Faults.{FailsBy, Tells};
 

@@ -1,5 +1,5 @@
-use Rattle.bit_blocks.specs.Form.{numbers_of}
-use Rattle.bit_blocks.proofs.Forms.{ascends_form}
+use Rattle.bit_blocks.specs.Form.{AreMapped, numbers_of}
+use Rattle.bit_blocks.proofs.Forms.{ascends_form, mapped_filled}
 use Rattle.bit_blocks.proofs.Ranges.{all_gained}
 use Rattle.bit_blocks.proofs.form.insert_range.Goals as goal
 
@@ -7,3 +7,9 @@ pub returns-then-last-eq65535-clause-gains : goal.returns-then-last-eq65535-clau
 returns-then-last-eq65535-clause-gains c =
     all_gained (numbers_of c.args.form.now) (numbers_of c.in_ok-form.field-0) c.args.first c.args.last (ascends_form c.args.form.now c.requires.form)
     c.if-first-eq0.true c.if-last-eq65535.true c.in_ok-form.ensures.numbers
+
+pub returns-in-Mapped-clause-form : goal.returns-in-Mapped-clause-form
+returns-in-Mapped-clause-form c =
+    let good : AreMapped c.in-Mapped.bits.value.list = rw c.in-Mapped.is at c.requires.form in
+    let gains = rw c.deref_mut.ensures.value at c.insert_range.ensures.gains in
+    mapped_filled c.in-Mapped.bits.value.list c.insert_range.new.bits.list c.args.first c.args.last good c.insert_range.ensures.size gains

@@ -3,8 +3,9 @@ use Rattle.std.specs.Prelude.{◌⊎◌}
 use Rattle.bit_blocks.specs.Numbers.{those}
 use Rattle.bit_blocks.specs.Operation.{made_by}
 use Rattle.bit_blocks.proofs.Merging.{ReadTo, ascends_made, combines_those, kept, op_begun, op_both, op_left, op_made, op_right, to_end}
+use Rattle.bit_blocks.proofs.Sizes.{few_combined}
 use Rattle.bit_blocks.proofs.listed.combined.Goals as goal
-use Rattle.bit_blocks.proofs.listed.combined.Goals.{then-loop-i-test+else-j-right, else-loop-i-test}
+use Rattle.bit_blocks.proofs.listed.combined.Goals.{After-give_back, then-loop-i-test+else-j-right, else-loop-i-test}
 
 pub loop-i-init : goal.loop-i-init
 loop-i-init c = subst (λ made. ReadTo c.args.operation c.args.left.now c.args.right.now made 0 0) (sym c.new-made.ensures.items) (op_begun c.args.operation c.args.left.now c.args.right.now c.requires.left c.requires.right)
@@ -27,7 +28,7 @@ loop-i-preserved c =
     c.loop-i-test.true c.if-j-right.true (omega arith)
     (c.in_ok-push_if-3.ensures ∙ ap (λ t. c.loop-i.made.items ++ cond t (get_or c.args.left.now c.loop-i.i 0 ∷ []) []) c.keeps_both.ensures)
 
-all_kept : (c : goal.In_ok-append_if-2) → c.append_if-2.new.made.items ≡ those (kept c.args.operation c.args.left.now c.args.right.now) 0 65536
+all_kept : (c : After-give_back) → c.append_if-2.new.made.items ≡ those (kept c.args.operation c.args.left.now c.args.right.now) 0 65536
 all_kept c =
     let left = c.args.left.now in
     let right = c.args.right.now in
@@ -47,7 +48,13 @@ all_kept c =
     ∙ ap (λ l. c.loop-i.made.items ++ cond (made_by c.args.operation true false) l []) (to_end left c.loop-i.i)))
 
 pub returns-clause-members : goal.returns-clause-members
-returns-clause-members c = combines_those c.args.operation c.args.left.now c.args.right.now c.append_if-2.new.made.items c.requires.left c.requires.right (all_kept c)
+returns-clause-members c = combines_those c.args.operation c.args.left.now c.args.right.now c.give_back.new.numbers.items c.requires.left c.requires.right (c.give_back.ensures ∙ all_kept c)
 
 pub returns-clause-ascends : goal.returns-clause-ascends
-returns-clause-ascends c = ascends_made c.args.operation c.args.left.now c.args.right.now c.append_if-2.new.made.items (all_kept c)
+returns-clause-ascends c = ascends_made c.args.operation c.args.left.now c.args.right.now c.give_back.new.numbers.items (c.give_back.ensures ∙ all_kept c)
+
+pub returns-clause-few : goal.returns-clause-few
+returns-clause-few c =
+    let made = c.give_back.ensures ∙ all_kept c in
+    few_combined c.args.operation c.args.left.now c.args.right.now c.give_back.new.numbers.items c.requires.left c.requires.right (ascends_made c.args.operation c.args.left.now c.args.right.now c.give_back.new.numbers.items made)
+    (combines_those c.args.operation c.args.left.now c.args.right.now c.give_back.new.numbers.items c.requires.left c.requires.right made)

@@ -1,0 +1,105 @@
+-- How many numbers a list has whose numbers are in others.
+use Rattle.std.proofs.Common.{◌≡◌, ℕ, zero, suc, ◌+◌, ◌<◌, ◌≤◌, Bool, true, false, not, ◌&&◌, ◌||◌, nat_eq, List, [], ◌∷◌, append-nil, length, refl, sym, ◌∙◌, ap, subst, inl, inr, arith}
+use Rattle.std.proofs.Math.Bool.{and-true, or-false, or-true}
+use Rattle.std.proofs.lemmas.Bool.{and_parts, cases_Bool}
+use Rattle.bit_blocks.specs.Numbers.{Ascends, Combines, Gains, GainsBetween, Loses, LosesBetween, count_where, has, is_between, those}
+use Rattle.bit_blocks.specs.Operation.{made_by}
+use Rattle.bit_blocks.specs.Runs.{numbers_of_run}
+use Rattle.bit_blocks.specs.declared.operation.Operation.{Operation}
+use Rattle.bit_blocks.specs.declared.ranged.Run.{Run}
+use Rattle.bit_blocks.proofs.Counting.{count_those}
+use Rattle.bit_blocks.proofs.Merging.{made_none}
+use Rattle.bit_blocks.proofs.Runs.{ascends_runs, has_run}
+use Rattle.bit_blocks.proofs.Those.{those_here, those_none, those_not_here, those_of}
+
+-- no fewer pass from one number earlier on
+more_those : (p : ℕ → Bool) (a n : ℕ) → length (those p (a + 1) n) ≤ length (those p a (suc n))
+more_those p a n = elim (cases_Bool (p a)) [
+  | inl here ↦ (let e = ap length (those_here p a n here) in omega arith)
+  | inr out ↦ (let e = ap length (those_not_here p a n out) in omega arith)
+]
+
+-- where each number that passes one test passes one of two others, no more pass it than pass those
+either_passes : (p q r : ℕ → Bool) (a n : ℕ) → ((k : ℕ) → p k ≡ true → (q k || r k) ≡ true) → length (those p a n) ≤ length (those q a n) + length (those r a n)
+either_passes p q r a zero pass = let e = ap length (those_none p a) in omega arith
+either_passes p q r a (suc n) pass =
+    let rest = either_passes p q r (a + 1) n pass in
+    let f = more_those q a n in
+    let g = more_those r a n in
+    elim (cases_Bool (p a)) [
+      | inr out ↦ (let e = ap length (those_not_here p a n out) in omega arith)
+      | inl here ↦ (let e = ap length (those_here p a n here) in elim (cases_Bool (q a)) [
+        | inl one ↦ (let h = ap length (those_here q a n one) in omega arith)
+        | inr other ↦ (let h = ap length (those_here r a n (sym (ap (λ b. b || r a) other) ∙ pass a here)) in omega arith)
+      ])
+    ]
+
+-- a list whose numbers are all in one of two others has no more than both
+pub few_in_either : (xs ys zs : List ℕ) → Ascends xs → Ascends ys → Ascends zs → ((k : ℕ) → has zs k ≡ true → (has xs k || has ys k) ≡ true) → length zs ≤ length xs + length ys
+few_in_either xs ys zs h g f within =
+    let x = ap length (those_of 0 65536 xs 65536 (omega arith) h) in
+    let y = ap length (those_of 0 65536 ys 65536 (omega arith) g) in
+    let z = ap length (those_of 0 65536 zs 65536 (omega arith) f) in
+    let most = either_passes (has zs) (has xs) (has ys) 0 65536 within in
+    omega arith
+
+-- and one whose numbers are all in another has no more than that
+pub few_within : (xs ys : List ℕ) → Ascends xs → Ascends ys → ((k : ℕ) → has xs k ≡ true → has ys k ≡ true) → length xs ≤ length ys
+few_within xs ys h g within = let most = few_in_either [] ys xs tt g h within in omega arith
+
+-- a number put in
+pub no_fewer_gained : (xs ys : List ℕ) (n : ℕ) → Ascends xs → Ascends ys → Gains xs ys n → length xs ≤ length ys
+no_fewer_gained xs ys n h g gains = few_within xs ys h g (λ k there. gains k ∙ ap (λ b. nat_eq n k || b) there ∙ or-true (nat_eq n k))
+
+pub one_more_gained : (xs ys : List ℕ) (n : ℕ) → Ascends xs → Ascends ys → n < 65536 → Gains xs ys n → length ys ≤ length xs + 1
+one_more_gained xs ys n h g low gains =
+    let most = few_in_either (n ∷ []) xs ys (omega arith, low, tt) h g (λ k there. ap (λ b. b || has xs k) (or-false (nat_eq n k)) ∙ sym (gains k) ∙ there) in
+    omega arith
+
+-- a number taken out
+pub no_more_lost : (xs ys : List ℕ) (n : ℕ) → Ascends xs → Ascends ys → Loses xs ys n → length ys ≤ length xs
+no_more_lost xs ys n h g loses = few_within ys xs g h (λ k there. (and_parts (has xs k) (not (nat_eq n k)) (sym (loses k) ∙ there)).0)
+
+pub one_less_lost : (xs ys : List ℕ) (n : ℕ) → Ascends xs → Ascends ys → n < 65536 → Loses xs ys n → length xs ≤ length ys + 1
+one_less_lost xs ys n h g low loses =
+    let most = few_in_either (n ∷ []) ys xs (omega arith, low, tt) g h (λ k there. elim (cases_Bool (nat_eq n k)) [
+      | inl same ↦ ap (λ b. (b || false) || has ys k) same
+      | inr other ↦ ap (λ b. (b || false) || has ys k) other ∙ loses k ∙ ap (λ b. has xs k && not b) other ∙ and-true (has xs k) ∙ there
+    ]) in
+    omega arith
+
+-- the numbers of a range put in
+pub no_fewer_filled : (xs ys : List ℕ) (first last : ℕ) → Ascends xs → Ascends ys → GainsBetween xs ys first last → length xs ≤ length ys
+no_fewer_filled xs ys first last h g gains =
+    few_within xs ys h g (λ k there. gains k ∙ ap (λ b. is_between first last k || b) there ∙ or-true (is_between first last k))
+
+-- the numbers of a range taken out
+pub no_more_cleared : (xs ys : List ℕ) (first last : ℕ) → Ascends xs → Ascends ys → LosesBetween xs ys first last → length ys ≤ length xs
+no_more_cleared xs ys first last h g loses =
+    few_within ys xs g h (λ k there. (and_parts (has xs k) (not (is_between first last k)) (sym (loses k) ∙ there)).0)
+
+run_ascends : (r : Run) → r.first ≤ r.last → r.last < 65536 → Ascends (numbers_of_run r)
+run_ascends r ordered most = subst Ascends (append-nil (numbers_of_run r)) (ascends_runs 0 (r ∷ []) (omega arith, ordered, most, tt))
+
+-- a list loses no more numbers than it has in the range
+pub few_cleared : (xs ys : List ℕ) (r : Run) → Ascends xs → Ascends ys → r.first ≤ r.last → r.last < 65536 → LosesBetween xs ys r.first r.last
+    → length xs ≤ length ys + count_where (has xs) (numbers_of_run r)
+few_cleared xs ys r h g ordered most loses =
+    let run = numbers_of_run r in
+    let x = ap length (those_of 0 65536 xs 65536 (omega arith) h) in
+    let y = ap length (those_of 0 65536 ys 65536 (omega arith) g) in
+    let z = ap (count_where (has xs)) (those_of 0 65536 run 65536 (omega arith) (run_ascends r ordered most)) ∙ count_those (has run) (has xs) 0 65536 in
+    let all = either_passes (has xs) (has ys) (λ k. has run k && has xs k) 0 65536 (λ k there. elim (cases_Bool (is_between r.first r.last k)) [
+      | inl inside ↦ ap (λ b. has ys k || (b && has xs k)) (has_run r k ordered ∙ inside) ∙ ap (λ b. has ys k || b) there ∙ or-true (has ys k)
+      | inr out ↦ ap (λ b. b || (has run k && has xs k)) (loses k ∙ ap (λ b. has xs k && not b) out ∙ and-true (has xs k) ∙ there)
+    ]) in
+    omega arith
+
+made_in_either : (op : Operation) (x y : Bool) → made_by op x y ≡ true → (x || y) ≡ true
+made_in_either op true y made = refl
+made_in_either op false true made = refl
+made_in_either op false false made = sym (made_none op) ∙ made
+
+-- an operation makes no more numbers than both lists have
+pub few_combined : (op : Operation) (xs ys zs : List ℕ) → Ascends xs → Ascends ys → Ascends zs → Combines (made_by op) xs ys zs → length zs ≤ length xs + length ys
+few_combined op xs ys zs h g f made = few_in_either xs ys zs h g f (λ k there. made_in_either op (has xs k) (has ys k) (sym (made k) ∙ there))

@@ -19,6 +19,8 @@ mod compared;
 #[cfg(test)]
 mod cut;
 #[cfg(test)]
+mod forms;
+#[cfg(test)]
 mod grown;
 #[cfg(test)]
 mod listed;

@@ -1,0 +1,94 @@
+//! How blocks keep their numbers: as a list, as bits or as runs.
+use crate::{check, ok};
+use bit_blocks::{Block, Operation};
+use std::alloc::Global;
+use std::process::Abort;
+
+// Whether a block is a list.
+fn is_list(block: &Block) -> bool {
+    block.as_list().is_some() && block.as_bits().is_none()
+}
+
+// Whether a block is bits.
+fn is_bits(block: &Block) -> bool {
+    block.as_list().is_none() && block.as_bits().is_some()
+}
+
+// Whether a block is runs.
+fn is_runs(block: &Block) -> bool {
+    block.as_list().is_none() && block.as_bits().is_none()
+}
+
+// Every second number, `count` of them.
+fn evens(rt: &impl Abort, alloc: Global, count: u16) -> Block {
+    let mut block = Block::new(alloc);
+    for half in 0..count {
+        check(rt, ok(rt, block.insert(half.wrapping_mul(2))));
+    }
+    block
+}
+
+#[test]
+fn one_number_makes_bits_and_a_list_again(rt: HostRuntime) {
+    let mut block = evens(&rt, rt.alloc(), 4096);
+    check(&rt, is_list(&block));
+    check(&rt, ok(&rt, block.insert(9001)));
+    check(&rt, is_bits(&block));
+    check(&rt, ok(&rt, block.remove(9001)));
+    check(&rt, is_list(&block));
+}
+
+#[test]
+fn a_range_makes_bits_and_a_list_again(rt: HostRuntime) {
+    let mut block = evens(&rt, rt.alloc(), 10);
+    ok(&rt, block.insert_range(1000, 5086));
+    check(&rt, is_bits(&block));
+    ok(&rt, block.remove_range(1000, 1000));
+    check(&rt, is_list(&block));
+    ok(&rt, block.insert_range(1000, 5999));
+    ok(&rt, block.remove_range(1000, 1099));
+    check(&rt, is_bits(&block));
+}
+
+#[test]
+fn a_range_is_runs_once_it_is_optimized(rt: HostRuntime) {
+    let mut block = Block::new(rt.alloc());
+    ok(&rt, block.insert_range(1000, 5999));
+    check(&rt, is_bits(&block));
+    ok(&rt, block.optimize());
+    check(&rt, is_runs(&block));
+    check(&rt, ok(&rt, block.remove(3000)));
+    check(&rt, is_bits(&block));
+}
+
+#[test]
+fn numbers_apart_are_no_runs(rt: HostRuntime) {
+    let mut block = evens(&rt, rt.alloc(), 4096);
+    ok(&rt, block.optimize());
+    check(&rt, is_list(&block));
+    check(&rt, ok(&rt, block.insert(9001)));
+    ok(&rt, block.optimize());
+    check(&rt, is_bits(&block));
+}
+
+#[test]
+fn runs_that_take_more_are_a_list_again(rt: HostRuntime) {
+    let mut block = ok(&rt, Block::from_range(rt.alloc(), 7, 8));
+    check(&rt, is_runs(&block));
+    ok(&rt, block.optimize());
+    check(&rt, is_list(&block));
+}
+
+#[test]
+fn an_operation_makes_a_list_or_bits(rt: HostRuntime) {
+    let left = evens(&rt, rt.alloc(), 4096);
+    let right = ok(&rt, Block::from_range(rt.alloc(), 1, 8191));
+    let both = ok(
+        &rt,
+        left.combined(rt.alloc(), &right, Operation::Intersection),
+    );
+    check(&rt, both.len() == 4095);
+    check(&rt, is_list(&both));
+    let either = ok(&rt, left.combined(rt.alloc(), &right, Operation::Union));
+    check(&rt, is_bits(&either));
+}

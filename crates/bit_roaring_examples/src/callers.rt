@@ -1,6 +1,7 @@
 //! Functions over sets that prove with no file.
 ghost use Rattle.std.specs.Prelude.{◌≡◌, ◌≤◌, ◌-◌, IfOk, length, slice_get, true};
 
+use bit_blocks::Block;
 use bit_portable::ReadError;
 use bit_roaring::RoaringSet;
 use std::alloc::{AllocError, Global};
@@ -37,4 +38,14 @@ pub fn same_bytes(a: &RoaringSet, b: &RoaringSet) -> Result<bool, AllocError>
     let left = a.to_bytes(true)?;
     let right = b.to_bytes(true)?;
     Ok(left.as_slice() == right.as_slice())
+}
+
+/// Blocks with the same numbers have as many below each number.
+pub fn same_rank(a: &Block, b: &Block, number: u16) -> bool
+    ensures { result ≡ true }
+{
+    if a.has_same_numbers(b) {
+        return a.rank(number) == b.rank(number);
+    }
+    true
 }

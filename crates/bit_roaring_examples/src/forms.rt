@@ -92,3 +92,23 @@ fn an_operation_makes_a_list_or_bits(rt: HostRuntime) {
     let either = ok(&rt, left.combined(rt.alloc(), &right, Operation::Union));
     check(&rt, is_bits(&either));
 }
+
+#[test]
+fn blocks_of_one_form_are_compared(rt: HostRuntime) {
+    let list = evens(&rt, rt.alloc(), 10);
+    check(&rt, list.has_same_numbers(&evens(&rt, rt.alloc(), 10)));
+    check(&rt, !list.has_same_numbers(&evens(&rt, rt.alloc(), 11)));
+    let bits = evens(&rt, rt.alloc(), 5000);
+    check(&rt, bits.has_same_numbers(&evens(&rt, rt.alloc(), 5000)));
+    check(&rt, !bits.has_same_numbers(&list));
+}
+
+#[test]
+fn runs_are_compared_with_a_list(rt: HostRuntime) {
+    let runs = ok(&rt, Block::from_range(rt.alloc(), 7, 8));
+    let mut list = ok(&rt, Block::from_range(rt.alloc(), 7, 8));
+    ok(&rt, list.optimize());
+    check(&rt, runs.has_same_numbers(&list));
+    check(&rt, ok(&rt, list.insert(9)));
+    check(&rt, !runs.has_same_numbers(&list));
+}

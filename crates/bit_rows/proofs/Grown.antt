@@ -65,6 +65,21 @@ odd_words w end count positive is odd =
     let all : w * count ≡ end / w * w + w = ap (λ m. w * m) (sym e) ∙ mul_comm w (end / w + 1) ∙ one_more_word (end / w) w in
     (omega arith, omega arith, d, e)
 
+-- the words for `n` bits more, which the last word has room for
+pub same_words : (w end n count : ℕ) → 0 < w → count ≡ words_for w end → end % w ≢ 0 → n ≤ w - end % w → words_for w (end + n) ≡ count
+same_words w end n count positive is odd fits =
+    let o = odd_words w end count positive is odd in
+    let low : end % w < w = mod-lt end positive in
+    let before : w * (end / w) ≡ end / w * w = mul_comm w (end / w) in
+    words_for_is w (end + n) (end / w) positive (omega arith) (omega arith) ∙ o.3
+
+-- and one word more, where it has not
+pub more_words : (w end n count : ℕ) → 0 < w → count ≡ words_for w end → end % w ≢ 0 → w - end % w < n → n ≤ w → words_for w (end + n) ≡ count + 1
+more_words w end n count positive is odd over fits =
+    let o = odd_words w end count positive is odd in
+    let low : end % w < w = mod-lt end positive in
+    words_for_is w (end + n) count positive (omega arith) (omega arith)
+
 -- a word with the bits after words that are full
 pub part_appended : (w : ℕ) (xs ys : List Bool) (end upto n : ℕ) → end ≡ length xs → length ys ≡ n → n ≤ w → length xs + w ≡ w * words_for w upto → xs ++ ys ++ replicate (w - n) false ≡ put (sized w xs upto) end ys
 part_appended w xs ys end upto n at size fits all =

@@ -9,6 +9,7 @@ pub mod Finds
 pub mod Wholes
 pub mod Combinations
 pub mod Paired
+pub mod Pushed
 pub mod Counts
 pub mod Grown
 pub mod Inserted

@@ -8,7 +8,7 @@ use Rattle.bit_addressing.proofs.Chunks.{IsRead}
 use Rattle.bit_addressing.proofs.Packs.{pack_fills}
 use Rattle.bit_addressing.proofs.Rows.{get_or-row_one, length-row_of}
 use Rattle.bit_addressing.proofs.Runs.{mul_mono, slices_joined}
-use Rattle.bit_addressing.proofs.Words.{has_shl_high, has_shl_low, has_shr_low}
+use Rattle.bit_addressing.proofs.Words.{has_shl_high, has_shl_low, has_shr_high, has_shr_low}
 use Rattle.bit_addressing.proofs.lists.Put.{put_joined}
 use Rattle.bit_addressing.proofs.lists.Shown.{get_or-run, length-between, length-run, shown_part}
 use Rattle.bit_addressing.proofs.lists.Sized.{right_sum}
@@ -97,6 +97,16 @@ digits_up turned x low n i within round h =
     let there : 64 - 1 - (i + (64 - n)) ≡ n - 1 - i = omega arith in
     has_shl_high 64 (turned / 2 ^ (64 - n)) low (low + i) (omega arith) (omega arith) ∙ ap (has_bit (turned / 2 ^ (64 - n))) back ∙ has_shr_low turned (64 - n) i
     ∙ round (i + (64 - n)) (omega arith) ∙ ap (has_bit x) there
+
+-- no bit is set after the digits that were moved down and turned round
+pub none_after_down : (turned x low n i : ℕ) → 0 < n → ((p : ℕ) → p < 64 → has_bit turned p ≡ has_bit (x * 2 ^ (64 - n) % 2 ^ 64 / 2 ^ low) (64 - 1 - p)) → low + n ≤ i → i < 64 → has_bit turned i ≡ false
+none_after_down turned x low n i some round after h =
+    round i h ∙ has_shr_low (x * 2 ^ (64 - n) % 2 ^ 64) low (64 - 1 - i) ∙ has_shl_low 64 x (64 - n) (64 - 1 - i + low) (omega arith) (omega arith)
+
+-- and none after those that were turned round and moved up
+pub none_after_up : (turned x low n i : ℕ) → 0 < n → low + n ≤ 64 → turned < 2 ^ 64 → low + n ≤ i → i < 64 → has_bit (turned / 2 ^ (64 - n) * 2 ^ low % 2 ^ 64) i ≡ false
+none_after_up turned x low n i some within fits after h =
+    has_shl_high 64 (turned / 2 ^ (64 - n)) low i (omega arith) h ∙ has_shr_high 64 turned (64 - n) (i - low) fits (omega arith)
 
 -- a block whose bits are a number's digits, moved up by `low`, holds the digits there
 pub digits_moved : (place : ℕ → ℕ → ℕ) (block made x low n : ℕ) → low + n ≤ 64 → ((i : ℕ) → i < n → has_bit made (low + i) ≡ has_bit x (n - 1 - i)) → ((i : ℕ) → i < 64 → has_bit block (place 64 i) ≡ has_bit made i) → slice_range (row_of place 64 (block ∷ [])) low (low + n) ≡ binary n x

@@ -1,7 +1,7 @@
 //! Runs of up to 64 bits as numbers, whatever the words and the order that they lie in.
 //!
 //! Calls between words of two types or orders go through these numbers, 64 bits at a time.
-ghost use Rattle.std.specs.Prelude.{◌≡◌, ℕ, true, ◌+◌, ◌-◌, ◌*◌, ◌/◌, ◌%◌, ◌^◌, ◌<◌, ◌≤◌, [], ◌∷◌, length};
+ghost use Rattle.std.specs.Prelude.{◌≡◌, ℕ, true, false, ◌+◌, ◌-◌, ◌*◌, ◌/◌, ◌%◌, ◌^◌, ◌<◌, ◌≤◌, [], ◌∷◌, length};
 ghost use Rattle.bit_addressing.specs.Binary.{value};
 ghost use Rattle.bit_addressing.specs.Bits.{has_bit};
 ghost use Rattle.bit_addressing.specs.Row.{binary, number_bits, number_of, put, row_of};
@@ -170,7 +170,12 @@ pub fn write_chunk<T: BitStore, O: BitOrder>(words: &mut [T], at: usize, n: u8, 
 // no other bit. Each word that the run touches is stored by itself, since to load a block right after narrower stores takes
 // longer. Requires that the run lies in the words, and the bits in the block.
 #[inline(always)]
-fn write_from_block<T: BitStore, O: BitOrder>(words: &mut [T], at: usize, n: u8, block: u64)
+pub(crate) fn write_from_block<T: BitStore, O: BitOrder>(
+    words: &mut [T],
+    at: usize,
+    n: u8,
+    block: u64,
+)
     requires some { 0 < n }
     requires block { at % T.BITS + n ≤ 64 }
     requires within { at + n ≤ T.BITS * length words.old }
@@ -247,13 +252,14 @@ fn highest_first<O: BitOrder>() -> bool {
     O::goes_by_shifts() && O::at(BitIdx::<u64>::new_unchecked(0)).into_inner() == 63
 }
 
-// A number of 64 bits that has `n` digits of another from place `low` on, the most significant first. Requires that
-// they lie in it.
+// A number of 64 bits that has `n` digits of another from place `low` on, the most significant first, and no set bit
+// after them. Requires that they lie in it.
 #[inline(always)]
-fn digits_from<O: BitOrder>(number: u64, n: u8, low: u8) -> u64
+pub(crate) fn digits_from<O: BitOrder>(number: u64, n: u8, low: u8) -> u64
     requires some { 0 < n }
     requires within { low + n ≤ 64 }
-    ensures { (i : ℕ) → i < n → has_bit result (low + i) ≡ has_bit number (n - 1 - i) }
+    ensures digits { (i : ℕ) → i < n → has_bit result (low + i) ≡ has_bit number (n - 1 - i) }
+    ensures rest { (i : ℕ) → low + n ≤ i → i < 64 → has_bit result i ≡ false }
 {
     if highest_first::<O>() {
         return (number << (64 - n) >> low).reverse();

@@ -1,9 +1,8 @@
 //! Words grown or cut to a number of bits.
 ghost use Rattle.std.specs.Prelude.{◌≡◌, ◌+◌, ◌-◌, ◌*◌, ◌%◌, ◌^◌, ◌<◌, ◌≤◌, ◌++◌, [], ◌∷◌, false, length, replicate, take, OnOk, OnErr, vec_capacity};
-ghost use Rattle.bit_addressing.specs.Row.{binary, number_bits, words_for, put, sized};
+ghost use Rattle.bit_addressing.specs.Row.{words_for, put, sized};
 ghost use Rattle.bit_addressing.specs.Typed.{row};
 
-use crate::vectors::write_chunk_in_vec;
 use bit_addressing::inner::{blend, in_word, repeated};
 use bit_addressing::{BitEnd, BitIdx, BitOrder, BitStore, elts};
 use std::alloc::AllocError;
@@ -135,6 +134,7 @@ pub fn append_run_in_vec<T: BitStore, O: BitOrder>(
 }
 
 /// Cuts the words to those for `bits` bits. Requires that they have room for them.
+#[inline(always)]
 pub fn cut_words_in_vec<T: BitStore, O: BitOrder>(words: &mut Vec<T>, bits: usize)
     requires { bits ≤ T.BITS * length words.old.items }
     ensures items { words.new.items ≡ take (words_for T.BITS bits) words.old.items }
@@ -148,10 +148,10 @@ pub fn cut_words_in_vec<T: BitStore, O: BitOrder>(words: &mut Vec<T>, bits: usiz
     words.truncate(count);
 }
 
-// Makes room for `more` words after those that are there. Allocates, and can fail, only where the capacity is too
-// small.
+/// Makes room for `more` words after those that are there. Allocates, and can fail, only where the capacity is too
+/// small: then the words are moved out and back, so that the path that takes no memory keeps them in registers.
 #[inline(always)]
-fn make_room<T: BitStore>(words: &mut Vec<T>, more: usize) -> Result<(), AllocError>
+pub fn make_room_in_vec<T: BitStore>(words: &mut Vec<T>, more: usize) -> Result<(), AllocError>
     ensures items { words.new.items ≡ words.old.items }
     ensures room { OnOk result (length words.new.items + more ≤ vec_capacity words.new) }
     ensures capacity { vec_capacity words.old ≤ vec_capacity words.new }
@@ -165,7 +165,7 @@ fn make_room<T: BitStore>(words: &mut Vec<T>, more: usize) -> Result<(), AllocEr
     grow_by(words, more)
 }
 
-// Like `make_room`, where the capacity may be too small. The words are handed over and handed back: a vector that is
+// Like `make_room_in_vec`, where the capacity may be too small. The words are handed over and handed back: a vector that is
 // lent to a call stays in memory wherever words are pushed (docs/SPEED.md, push).
 #[inline(always)]
 fn grow_by<T: BitStore>(words: &mut Vec<T>, more: usize) -> Result<(), AllocError>
@@ -196,7 +196,7 @@ fn grown_by<T: BitStore>(words: Vec<T>, more: usize) -> (Vec<T>, Result<(), Allo
 
 // Appends a word. Takes memory only where the capacity is full.
 #[inline(always)]
-fn push_word<T: BitStore>(words: &mut Vec<T>, word: T) -> Result<(), AllocError>
+pub(crate) fn push_word<T: BitStore>(words: &mut Vec<T>, word: T) -> Result<(), AllocError>
     ensures items { OnOk result (words.new.items ≡ words.old.items ++ word ∷ []) }
     ensures capacity { vec_capacity words.old ≤ vec_capacity words.new }
     ensures no_memory { length words.old.items < vec_capacity words.old
@@ -204,7 +204,7 @@ fn push_word<T: BitStore>(words: &mut Vec<T>, word: T) -> Result<(), AllocError>
     ensures full { OnErr result (vec_capacity words.old ≤ length words.old.items) }
     ensures unchanged { OnErr result (words.new.items ≡ words.old.items) }
 {
-    make_room(words, 1)?;
+    make_room_in_vec(words, 1)?;
     words.push_reserved(word);
     Ok(())
 }
@@ -220,7 +220,7 @@ fn push_words<T: BitStore>(words: &mut Vec<T>, more: usize, word: T) -> Result<(
     ensures full { OnErr result (vec_capacity words.old < length words.old.items + more) }
     ensures unchanged { OnErr result (words.new.items ≡ words.old.items) }
 {
-    make_room(words, more)?;
+    make_room_in_vec(words, more)?;
     let alloc = *words.allocator();
     let filled = with_words(replace(words, Vec::new(alloc)), more, word);
     let _empty = replace(words, filled);
@@ -271,132 +271,5 @@ pub fn push_bit_in_vec<T: BitStore, O: BitOrder>(
         let word = words[k];
         words[k] = word.with_bit(place, bit);
     }
-    Ok(())
-}
-
-// Appends a word whose first `n` indices have the lowest bits of a number, that of place 0 first, and whose other bits
-// are false. Takes memory only where the capacity is full.
-#[inline(always)]
-fn push_part<T: BitStore, O: BitOrder>(
-    words: &mut Vec<T>,
-    n: u8,
-    chunk: u64,
-) -> Result<(), AllocError>
-    requires some { 0 < n }
-    requires within { n ≤ T.BITS }
-    ensures bits { OnOk result (row T.BitStore O.BitOrder words.new.items
-        ≡ row T.BitStore O.BitOrder words.old.items ++ number_bits chunk n ++ replicate (T.BITS - n) false) }
-    ensures size { OnOk result (length words.new.items ≡ length words.old.items + 1) }
-    ensures capacity { vec_capacity words.old ≤ vec_capacity words.new }
-    ensures no_memory { length words.old.items < vec_capacity words.old
-        → vec_capacity words.new ≡ vec_capacity words.old }
-    ensures full { OnErr result (vec_capacity words.old ≤ length words.old.items) }
-    ensures unchanged { OnErr result (words.new.items ≡ words.old.items) }
-{
-    let bits = chunk & (u64::MAX >> (64 - n));
-    push_word(words, O::from_lsb0(T::from_u64(bits)))?;
-    Ok(())
-}
-
-// Writes the `n` lowest bits of a number at the indices of word `k` from `low` on, that of place 0 first.
-#[inline(always)]
-fn write_in_word<T: BitStore, O: BitOrder>(words: &mut Vec<T>, k: usize, low: u8, n: u8, chunk: u64)
-    requires word { k < length words.old.items }
-    requires some { 0 < n }
-    requires within { low + n ≤ T.BITS }
-    ensures bits { row T.BitStore O.BitOrder words.new.items
-        ≡ put (row T.BitStore O.BitOrder words.old.items) (k * T.BITS + low) (number_bits chunk n) }
-    ensures size { length words.new.items ≡ length words.old.items }
-    ensures capacity { vec_capacity words.new ≡ vec_capacity words.old }
-{
-    let new = O::from_lsb0(T::from_u64(chunk << low));
-    let mask = O::mask(
-        BitIdx::<T>::new_unchecked(low),
-        BitEnd::<T>::new_unchecked(low + n),
-    );
-    let old = words[k];
-    words[k] = blend(old, new, mask);
-}
-
-/// Appends the `n` lowest bits of a number after the first `end` bits, that of place 0 first: words are added only where
-/// those that are there have no room, and the other bits of a word that is added are false. Takes memory only where the
-/// capacity is too small. Requires that the words are those for `end` bits, and that `n` is at most 64. It is refused only where the
-/// capacity, in words, is too small.
-///
-/// ```text
-/// of the words 05 by u8 and Lsb0: push_chunk_in_vec(&mut words, 3, 6, 63)? leaves fd 01
-/// ```
-#[inline(always)]
-pub fn push_chunk_in_vec<T: BitStore, O: BitOrder>(
-    words: &mut Vec<T>,
-    end: usize,
-    n: u8,
-    chunk: u64,
-) -> Result<(), AllocError>
-    requires few { n ≤ 64 }
-    requires count { length words.old.items ≡ words_for T.BITS end }
-    requires fits { end + n < 2 ^ 64 }
-    ensures bits { OnOk result (row T.BitStore O.BitOrder words.new.items
-        ≡ put (sized T.BITS (row T.BitStore O.BitOrder words.old.items) (end + n)) end (number_bits chunk n)) }
-    ensures size { OnOk result (length words.new.items ≡ words_for T.BITS (end + n)) }
-    ensures room { OnOk result (end + n ≤ T.BITS * length words.new.items) }
-    ensures capacity { vec_capacity words.old ≤ vec_capacity words.new }
-    ensures no_memory { words_for T.BITS (end + n) ≤ vec_capacity words.old
-        → vec_capacity words.new ≡ vec_capacity words.old }
-    ensures full { OnErr result (vec_capacity words.old < words_for T.BITS (end + n)) }
-    ensures unchanged { OnErr result (words.new.items ≡ words.old.items) }
-{
-    if n == 0 {
-        return Ok(());
-    }
-    if T::BITS < 64 && n > T::BITS {
-        resize_words_in_vec::<T, O>(words, end + n as usize)?;
-        write_chunk_in_vec::<T, O>(words, end, n, chunk);
-        return Ok(());
-    }
-    let width = T::BITS as usize;
-    let low = (end % width) as u8;
-    if low == 0 {
-        push_part::<T, O>(words, n, chunk)?;
-        return Ok(());
-    }
-    let room = T::BITS - low;
-    if n <= room {
-        let k = words.len() - 1;
-        write_in_word::<T, O>(words, k, low, n, chunk);
-        return Ok(());
-    }
-    let k = words.len() - 1;
-    push_part::<T, O>(words, n - room, chunk >> room)?;
-    write_in_word::<T, O>(words, k, low, room, chunk);
-    Ok(())
-}
-
-/// Like `push_chunk_in_vec`, of a number in binary, the most significant of the `n` digits first; digits above the `n`
-/// lowest are left out.
-#[inline(always)]
-pub fn push_binary_in_vec<T: BitStore, O: BitOrder>(
-    words: &mut Vec<T>,
-    end: usize,
-    n: u8,
-    number: u64,
-) -> Result<(), AllocError>
-    requires few { n ≤ 64 }
-    requires count { length words.old.items ≡ words_for T.BITS end }
-    requires fits { end + n < 2 ^ 64 }
-    ensures bits { OnOk result (row T.BitStore O.BitOrder words.new.items
-        ≡ put (sized T.BITS (row T.BitStore O.BitOrder words.old.items) (end + n)) end (binary n number)) }
-    ensures size { OnOk result (length words.new.items ≡ words_for T.BITS (end + n)) }
-    ensures room { OnOk result (end + n ≤ T.BITS * length words.new.items) }
-    ensures capacity { vec_capacity words.old ≤ vec_capacity words.new }
-    ensures no_memory { words_for T.BITS (end + n) ≤ vec_capacity words.old
-        → vec_capacity words.new ≡ vec_capacity words.old }
-    ensures full { OnErr result (vec_capacity words.old < words_for T.BITS (end + n)) }
-    ensures unchanged { OnErr result (words.new.items ≡ words.old.items) }
-{
-    if n == 0 {
-        return Ok(());
-    }
-    push_chunk_in_vec::<T, O>(words, end, n, number.reverse() >> (64 - n))?;
     Ok(())
 }

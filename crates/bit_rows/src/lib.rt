@@ -13,6 +13,7 @@ mod equal;
 mod growth;
 mod narrow;
 mod pairs;
+mod pushes;
 mod searches;
 mod single;
 mod vectors;
@@ -22,10 +23,10 @@ pub use combined::{And, BitOperator, Or, Xor, combine_bits};
 pub use copies::copy_bits;
 pub use equal::equal_words;
 pub use growth::{
-    append_run_in_vec, cut_words_in_vec, push_binary_in_vec, push_bit_in_vec, push_chunk_in_vec,
-    resize_words_in_vec,
+    append_run_in_vec, cut_words_in_vec, make_room_in_vec, push_bit_in_vec, resize_words_in_vec,
 };
 pub use pairs::{count_blocks, false_blocks, read_pair};
+pub use pushes::{append_block_in_vec, push_binary_in_vec, push_chunk_in_vec};
 pub use searches::{count_bits, differ_at, find_bit};
 pub use single::{fill_bits, flip_words, prove_exact_words, read_bit, swap_bits, write_bit};
 pub use vectors::{

@@ -14,4 +14,4 @@ returns-clause-bits g c =
     let low : at % w ≡ at % c.BITS.result = ap (λ m. at % m) (sym c.BITS.ensures) in
     let fits : at % c.BITS.result + n ≤ 64 = subst (λ m. m + n ≤ 64) low c.requires.block in
     c.write_from_block.ensures.bits
-    ∙ ap (put old at) (ap (λ m. slice_range zs m (m + n)) low ∙ digits_moved g.O.BitOrder.place c.from_lsb0.result c.digits_from-digits.result c.args.number (at % c.BITS.result) n fits c.digits_from-digits.ensures c.from_lsb0.ensures)
+    ∙ ap (put old at) (ap (λ m. slice_range zs m (m + n)) low ∙ digits_moved g.O.BitOrder.place c.from_lsb0.result c.digits_from-digits.result c.args.number (at % c.BITS.result) n fits c.digits_from-digits.ensures.digits c.from_lsb0.ensures)

@@ -4,7 +4,7 @@ use Rattle.bit_addressing.specs.Typed.{row}
 use Rattle.bit_rows.proofs.Grown.{run_shifted}
 use Rattle.bit_addressing.proofs.Rows.{width_positive, width_small}
 use Rattle.bit_addressing.proofs.Typed.{row_mended}
-use Rattle.bit_rows.proofs.growth.write_in_word.Goals as goal
+use Rattle.bit_rows.proofs.pushes.write_in_word.Goals as goal
 
 pub returns-clause-bits : goal.returns-clause-bits
 returns-clause-bits g c =

@@ -4,7 +4,7 @@ use Rattle.bit_addressing.specs.Row.{row_of}
 use Rattle.bit_addressing.specs.Typed.{row}
 use Rattle.bit_rows.proofs.Grown.{part_word}
 use Rattle.bit_addressing.proofs.Rows.{row_append, width_positive, width_small}
-use Rattle.bit_rows.proofs.growth.push_part.Goals as goal
+use Rattle.bit_rows.proofs.pushes.push_part.Goals as goal
 
 pub returns-clause-bits : goal.returns-clause-bits
 returns-clause-bits g c =

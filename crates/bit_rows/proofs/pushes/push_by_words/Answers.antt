@@ -1,19 +1,18 @@
 use Rattle.std.proofs.Common.{◌≡◌, ◌≢◌, ℕ, ◌∙◌, ◌+◌, ◌-◌, ◌*◌, ◌/◌, ◌%◌, ◌^◌, ◌<◌, ◌≤◌, length, refl, sym, ap, arith}
-use Rattle.std.proofs.Common.{mul_comm}
 use Rattle.std.proofs.Math.Nat.{mod-lt}
 use Rattle.bit_addressing.specs.Row.{number_bits, put, sized, words_for}
 use Rattle.bit_addressing.specs.Typed.{row}
 use Rattle.bit_rows.proofs.Binary.{length-number_bits, number_bits_none}
-use Rattle.bit_rows.proofs.Grown.{full_words, number_bits_parted, odd_words, one_word_more, part_appended, part_over, words_for_is}
+use Rattle.bit_rows.proofs.Grown.{full_words, more_words, number_bits_parted, odd_words, one_word_more, part_appended, part_over, same_words, words_for_is}
 use Rattle.bit_addressing.proofs.Rows.{width_positive, width_small}
 use Rattle.bit_addressing.proofs.Typed.{length_row}
 use Rattle.bit_addressing.proofs.lists.Put.{put_none}
 use Rattle.bit_addressing.proofs.lists.Sized.{room, sized_same}
 use Rattle.std.proofs.lemmas.Result.{err_from_is_err_and}
-use Rattle.bit_rows.proofs.growth.push_chunk_in_vec.Goals as goal
-use Rattle.bit_rows.proofs.growth.push_chunk_in_vec.Goals.{After-push_part, After-push_part-2}
-use Rattle.bit_rows.proofs.growth.push_chunk_in_vec.Given.{Over}
-use Rattle.bit_rows.proofs.growth.push_chunk_in_vec.Goals.{else-BITS-lt64-via-then-BITS-lt64+else-n-BITS, else-BITS-lt64-via-else-BITS-lt64}
+use Rattle.bit_rows.proofs.pushes.push_by_words.Goals as goal
+use Rattle.bit_rows.proofs.pushes.push_by_words.Goals.{After-push_part, After-push_part-2}
+use Rattle.bit_rows.proofs.pushes.push_by_words.Given.{Over}
+use Rattle.bit_rows.proofs.pushes.push_by_words.Goals.{else-BITS-lt64-via-then-BITS-lt64+else-n-BITS, else-BITS-lt64-via-else-BITS-lt64}
 
 pub returns-then-n-eq0-clause-bits : goal.returns-then-n-eq0-clause-bits
 returns-then-n-eq0-clause-bits g c =
@@ -94,21 +93,6 @@ write_in_word-requires-clause-word g c =
     let w = g.T.BitStore.BITS in
     let odd : c.args.end % w ≢ 0 = λ e. c.if-low-eq0.false (ap (λ m. c.args.end % m) c.BITS-width.ensures ∙ e) in
     (last_word w c.args.end (length c.args.words.now.items) c.len-k.result (width_positive w g.met.T.BitStore.width) c.requires.count odd (c.len-k.ensures ∙ c.args.words.now.ok.0)).1
-
--- the words for `n` bits more, which the last word has room for
-same_words : (w end n count : ℕ) → 0 < w → count ≡ words_for w end → end % w ≢ 0 → n ≤ w - end % w → words_for w (end + n) ≡ count
-same_words w end n count positive is odd fits =
-    let o = odd_words w end count positive is odd in
-    let low : end % w < w = mod-lt end positive in
-    let before : w * (end / w) ≡ end / w * w = mul_comm w (end / w) in
-    words_for_is w (end + n) (end / w) positive (omega arith) (omega arith) ∙ o.3
-
--- and one word more, where it has not
-more_words : (w end n count : ℕ) → 0 < w → count ≡ words_for w end → end % w ≢ 0 → w - end % w < n → n ≤ w → words_for w (end + n) ≡ count + 1
-more_words w end n count positive is odd over fits =
-    let o = odd_words w end count positive is odd in
-    let low : end % w < w = mod-lt end positive in
-    words_for_is w (end + n) count positive (omega arith) (omega arith)
 
 pub returns-then-n-room-clause-size : goal.returns-then-n-room-clause-size
 returns-then-n-room-clause-size g c =

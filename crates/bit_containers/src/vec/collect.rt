@@ -106,7 +106,7 @@ impl<T: BitStore, O: BitOrder> BitVec<T, O> {
                 }
             }
         }
-        if let Err(why) = self.extend_from_number(shifted_down(number, got), got) {
+        if let Err(why) = self.push_le(got, shifted_down(number, got)) {
             self.truncate(len);
             return Err(why);
         }
@@ -169,7 +169,7 @@ impl<T: BitStore, O: BitOrder> BitVec<T, O> {
         if self.len() + got as usize == MAX_BITS {
             return Err(GrowError::TooLong);
         }
-        self.extend_from_number(number, got)?;
+        self.push_le(got, number)?;
         Ok((with_last(0, bit), 1, self.gathers()))
     }
 
@@ -246,7 +246,7 @@ impl<T: BitStore, O: BitOrder> BitVec<T, O> {
         ensures no_memory { length self.old.list + T.BITS ≤ self.old.capacity
             → self.new.capacity ≡ self.old.capacity }
     {
-        self.extend_from_number(O::to_lsb0(word).to_u64(), T::BITS)
+        self.push_le(T::BITS, O::to_lsb0(word).to_u64())
     }
 
     // Like `extend_words`.

@@ -1,16 +1,14 @@
 //! Growth by many bits at once.
 ghost use Rattle.std.specs.Prelude.{◌≡◌, ◌+◌, ◌-◌, ◌*◌, ◌^◌, ◌<◌, ◌≤◌, [], ◌++◌, length, take, replicate, slice_range, vec_capacity, OnOk, OnErr, IsOk};
 ghost use Rattle.bit_addressing.specs.Range.{LiesIn};
-ghost use Rattle.bit_addressing.specs.Row.{number_bits, put};
+ghost use Rattle.bit_addressing.specs.Row.{put};
 ghost use Rattle.bit_addressing.specs.Typed.{row};
 ghost use Rattle.bit_containers.specs.BitVec.{Grew, Shrank, IsClean, RefusesOnly};
 ghost use Rattle.bit_slice.specs.BitSlice.{len_of, list_of};
 
 use crate::vec::BitVec;
 use bit_addressing::{BitOrder, BitStore, GrowError, MAX_BITS, RangeExt};
-use bit_rows::{
-    append_run_in_vec, copy_bits_in_vec, move_bits_in_vec, push_chunk_in_vec, resize_words_in_vec,
-};
+use bit_rows::{append_run_in_vec, copy_bits_in_vec, move_bits_in_vec, resize_words_in_vec};
 use bit_slice::BitSlice;
 
 impl<T: BitStore, O: BitOrder> BitVec<T, O> {
@@ -186,28 +184,6 @@ impl<T: BitStore, O: BitOrder> BitVec<T, O> {
         let (end, len) = (self.head + self.len, self.len + more);
         resize_words_in_vec::<T, O>(&mut self.words, self.head + len)?;
         move_bits_in_vec::<T, O>(&mut self.words, self.head + range.start, end, more);
-        self.len = len;
-        Ok(())
-    }
-
-    // Appends the `n` lowest bits of a number, the one at place 0 first. It is refused like
-    // `extend_from_bitslice`. Requires that `n` is at most 64.
-    #[tactic(auto, using(bit_slice::proofs::Parts::shown_length))]
-    pub(crate) fn extend_from_number(&mut self, number: u64, n: u8) -> Result<(), GrowError>
-        requires { n ≤ 64 }
-        ensures list { OnOk result (self.new.list ≡ self.old.list ++ number_bits number n) }
-        ensures row { OnOk result (Grew T.BITS self.old self.new (number_bits number n)) }
-        ensures refusal { RefusesOnly result (length self.old.list + n) self.old self.new }
-        ensures capacity { self.old.capacity ≤ self.new.capacity }
-        ensures no_memory { length self.old.list + n ≤ self.old.capacity
-            → self.new.capacity ≡ self.old.capacity }
-    {
-        let more = n as usize;
-        if more > MAX_BITS - self.len {
-            return Err(GrowError::TooLong);
-        }
-        let (end, len) = (self.head + self.len, self.len + more);
-        push_chunk_in_vec::<T, O>(&mut self.words, end, n, number)?;
         self.len = len;
         Ok(())
     }

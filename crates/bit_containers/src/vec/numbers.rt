@@ -5,8 +5,7 @@ ghost use Rattle.bit_containers.specs.BitVec.{Grew, IsClean, RefusesOnly};
 
 use crate::vec::BitVec;
 use bit_addressing::{BitOrder, BitStore, GrowError, MAX_BITS};
-use bit_rows::push_binary_in_vec;
-use bit_slice::inner::reversed;
+use bit_rows::{push_binary_in_vec, push_chunk_in_vec};
 
 impl<T: BitStore, O: BitOrder> BitVec<T, O> {
     /// Appends the `n` lowest binary digits of a number, the most significant first. Returns `TooLong` exactly
@@ -45,6 +44,7 @@ impl<T: BitStore, O: BitOrder> BitVec<T, O> {
     /// of 01: bits.push_le(3, 6)? leaves 01011
     /// ```
     #[inline(always)]
+    #[tactic(auto, using(bit_slice::proofs::Parts::shown_length))]
     pub fn push_le(&mut self, n: u8, number: u64) -> Result<(), GrowError>
         requires { n ≤ 64 }
         ensures list { OnOk result (self.new.list ≡ self.old.list ++ number_bits number n) }
@@ -56,6 +56,13 @@ impl<T: BitStore, O: BitOrder> BitVec<T, O> {
         ensures no_memory { length self.old.list + n ≤ self.old.capacity
             → self.new.capacity ≡ self.old.capacity }
     {
-        self.push_be(n, reversed(n, number))
+        let more = n as usize;
+        if more > MAX_BITS - self.len {
+            return Err(GrowError::TooLong);
+        }
+        let (end, len) = (self.head + self.len, self.len + more);
+        push_chunk_in_vec::<T, O>(&mut self.words, end, n, number)?;
+        self.len = len;
+        Ok(())
     }
 }

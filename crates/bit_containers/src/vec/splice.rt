@@ -228,7 +228,7 @@ impl<T: BitStore, O: BitOrder> BitVec<T, O> {
             (number, got, room) = v.gather(number, got, room, bit)?;
         }
         v.prove_in_words();
-        v.extend_from_number(shifted_down(number, got), got)?;
+        v.push_le(got, shifted_down(number, got))?;
         Ok(v)
     }
 

@@ -76,12 +76,12 @@ returns-in-Err-clause-memory g c is =
       (omega arith, omega arith),
     )
 
-pub returns-in-Err-extend_from_number-clause-memory : goal.returns-in-Err-extend_from_number-clause-memory
-returns-in-Err-extend_from_number-clause-memory g c is =
+pub returns-in-Err-push_le-clause-memory : goal.returns-in-Err-push_le-clause-memory
+returns-in-Err-push_le-clause-memory g c is =
     let at = c.loop-bit in
     let size = gathers_length g.T.BitStore.BITS c.args.self.now at.self at.number at.got at.yielded at.invariant.joined in
-    let past = c.in-Err-extend_from_number.ensures.refusal.memory (search rules) in
-    let few = wanted_fits _ _ _ _ c.in-Err-extend_from_number.ensures.refusal (search rules) in
+    let past = c.in-Err-push_le.ensures.refusal.memory (search rules) in
+    let few = wanted_fits _ _ _ _ c.in-Err-push_le.ensures.refusal (search rules) in
     let kept = at.invariant.capacity in (
       c.into_iter-bit-iterator.result,
       at.yielded,
@@ -101,7 +101,7 @@ returns-clause-joined g c =
       at.yielded,
       c.into_iter-bit-iterator.ensures.into_iter_gives,
       (c.next.new.self, (at.bit-iterator, at.yielded_by, c.in-None.ensures.steps)),
-      gathers_all w c.args.self.now (width_positive w g.met.T.BitStore.width) c.prove_in_words.ensures.size at.self c.extend_from_number.new.self at.number at.got at.yielded at.invariant.joined list row,
+      gathers_all w c.args.self.now (width_positive w g.met.T.BitStore.width) c.prove_in_words.ensures.size at.self c.push_le.new.self at.number at.got at.yielded at.invariant.joined list row,
     )
 
 pub returns-clause-few : goal.returns-clause-few
@@ -112,8 +112,8 @@ returns-clause-few g c =
 pub returns-in-Err-clause-unchanged : goal.returns-in-Err-clause-unchanged
 returns-in-Err-clause-unchanged g c = grind (arith, common_steps)
 
-pub returns-in-Err-extend_from_number-clause-unchanged : goal.returns-in-Err-extend_from_number-clause-unchanged
-returns-in-Err-extend_from_number-clause-unchanged g c = grind (arith, common_steps)
+pub returns-in-Err-push_le-clause-unchanged : goal.returns-in-Err-push_le-clause-unchanged
+returns-in-Err-push_le-clause-unchanged g c = grind (arith, common_steps)
 
 pub returns-in-Err-clause-grown : goal.returns-in-Err-clause-grown
 returns-in-Err-clause-grown g c past =
@@ -128,8 +128,8 @@ returns-in-Err-clause-grown g c past =
       grown_more c.args.self.now.capacity at.self.capacity c.gather.new.self.capacity (length at.self.list + at.got) (length c.args.self.now.list + length (at.yielded ++ c.in-Some.bit ∷ [])) at.invariant.capacity c.gather.ensures.no_memory at.invariant.grown (omega (arith, size, more)) (omega (arith, past, c.truncate.ensures.row.capacity)),
     )
 
-pub returns-in-Err-extend_from_number-clause-grown : goal.returns-in-Err-extend_from_number-clause-grown
-returns-in-Err-extend_from_number-clause-grown g c past =
+pub returns-in-Err-push_le-clause-grown : goal.returns-in-Err-push_le-clause-grown
+returns-in-Err-push_le-clause-grown g c past =
     let at = c.loop-bit in
     let size = gathers_length g.T.BitStore.BITS c.args.self.now at.self at.number at.got at.yielded at.invariant.joined in (
       c.into_iter-bit-iterator.result,
@@ -137,7 +137,7 @@ returns-in-Err-extend_from_number-clause-grown g c past =
       at.bit-iterator,
       c.into_iter-bit-iterator.ensures.into_iter_gives,
       at.yielded_by,
-      grown_more c.args.self.now.capacity at.self.capacity c.extend_from_number.new.self.capacity (length at.self.list + at.got) (length c.args.self.now.list + length at.yielded) at.invariant.capacity c.extend_from_number.ensures.no_memory at.invariant.grown (omega (arith, size)) (omega (arith, past, c.truncate-in-Err-extend_from_number.ensures.row.capacity)),
+      grown_more c.args.self.now.capacity at.self.capacity c.push_le.new.self.capacity (length at.self.list + at.got) (length c.args.self.now.list + length at.yielded) at.invariant.capacity c.push_le.ensures.no_memory at.invariant.grown (omega (arith, size)) (omega (arith, past, c.truncate-in-Err-push_le.ensures.row.capacity)),
     )
 
 pub returns-clause-grown : goal.returns-clause-grown
@@ -149,5 +149,5 @@ returns-clause-grown g c past =
       at.bit-iterator,
       c.into_iter-bit-iterator.ensures.into_iter_gives,
       at.yielded_by,
-      grown_more c.args.self.now.capacity at.self.capacity c.extend_from_number.new.self.capacity (length at.self.list + at.got) (length c.args.self.now.list + length at.yielded) at.invariant.capacity c.extend_from_number.ensures.no_memory at.invariant.grown (omega (arith, size)) past,
+      grown_more c.args.self.now.capacity at.self.capacity c.push_le.new.self.capacity (length at.self.list + at.got) (length c.args.self.now.list + length at.yielded) at.invariant.capacity c.push_le.ensures.no_memory at.invariant.grown (omega (arith, size)) past,
     )

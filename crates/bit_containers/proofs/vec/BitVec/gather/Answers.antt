@@ -14,13 +14,13 @@ returns-clause-joined g c =
     let kept = number_bits c.args.number c.args.got in
     let all : c.args.got ≡ 64 = grind (arith, c.requires.full) in (
       kept,
-      c.in_ok-extend_from_number.ensures.list,
-      c.in_ok-extend_from_number.ensures.row,
+      c.in_ok-push_le.ensures.list,
+      c.in_ok-push_le.ensures.row,
       ap (λ l. kept ++ l) (c.with_last-2.ensures 0 (omega arith) ∙ ap (λ l. l ++ c.args.bit ∷ []) (highest_bits_none 0)) ∙ ap (λ l. l ++ c.args.bit ∷ []) (highest_bits_all c.args.number c.args.got all),
     )
 
 pub returns-clause-next : goal.returns-clause-next
 returns-clause-next g c =
-    let grown = c.in_ok-extend_from_number.ensures.row.len in
+    let grown = c.in_ok-push_le.ensures.row.len in
     let size = length-number_bits c.args.number c.args.got in
     (omega (arith), c.gathers.ensures.few, c.gathers.ensures.fits)

@@ -65,11 +65,11 @@ returns-in_err-number-clause-memory g c is =
       omega (arith, before, more, at.invariant.few, c.if-len-got.false, c.len.ensures.value),
     )
 
-pub returns-in_err-extend_from_number-clause-memory : goal.returns-in_err-extend_from_number-clause-memory
-returns-in_err-extend_from_number-clause-memory g c is =
+pub returns-in_err-push_le-clause-memory : goal.returns-in_err-push_le-clause-memory
+returns-in_err-push_le-clause-memory g c is =
     let at = c.loop-bit in
     let all = pulled_length at.v.list at.number at.got at.yielded at.invariant.list in
-    let past = c.in_err-extend_from_number.ensures.refusal.memory (search rules) in
+    let past = c.in_err-push_le.ensures.refusal.memory (search rules) in
     let first : c.into_iter-bit-iterator.result ≡ c.args.iter = search rules in (
       at.yielded,
       at.bit-iterator,
@@ -82,5 +82,5 @@ pub returns-clause-few : goal.returns-clause-few
 returns-clause-few g c =
     let at = c.loop-bit in
     let all = pulled_length at.v.list at.number at.got at.yielded at.invariant.list in
-    let list = ap length (rw c.shifted_down.ensures at c.in_ok-extend_from_number.ensures.list ∙ at.invariant.list) in
+    let list = ap length (rw c.shifted_down.ensures at c.in_ok-push_le.ensures.list ∙ at.invariant.list) in
     omega (arith, all, list, at.invariant.few)

@@ -8,8 +8,9 @@ use Rattle.bit_addressing.proofs.Rows.{width_positive}
 use Rattle.bit_containers.proofs.Vectors.{kept, shown, no_room_for, refilled, same_room}
 use Rattle.bit_rows.proofs.Binary.{length-number_bits}
 use Rattle.bit_containers.proofs.Growing.{grew_by}
+use Rattle.bit_containers.proofs.Clean.{clean_grown}
 use Rattle.bit_containers.proofs.Elements.{exactly, more_room}
-use Rattle.bit_containers.proofs.vec.BitVec.extend_from_number.Goals as goal
+use Rattle.bit_containers.proofs.vec.BitVec.push_le.Goals as goal
 
 pub returns-in_err-push_chunk_in_vec-clause-refusal : goal.returns-in_err-push_chunk_in_vec-clause-refusal
 returns-in_err-push_chunk_in_vec-clause-refusal g c =
@@ -49,6 +50,14 @@ returns-clause-row g c =
     ∙ ap (λ v. put (sized w v.row (v.head + i.len + n)) (v.head + i.len) bits) c.self.view_is
     ∙ ap (λ m. put (sized w now.row (now.head + m + n)) (now.head + m) bits) len
     ∙ ap (λ m. put (sized w now.row (now.head + length now.list + m)) (now.head + length now.list) bits) (sym (length-number_bits c.args.number n)))
+
+pub returns-clause-clean : goal.returns-clause-clean
+returns-clause-clean g c =
+    let w = g.T.BitStore.BITS in
+    clean_grown w c.args.self.now _ (number_bits c.args.number c.args.n) (width_positive w g.met.T.BitStore.width) (returns-clause-row g c).head (returns-clause-list g c) (returns-clause-row g c).row
+
+pub returns-clause-len : goal.returns-clause-len
+returns-clause-len g c = let digits = length-number_bits c.args.number c.args.n in omega (arith, (returns-clause-row g c).len)
 
 pub invariant_of-self : goal.invariant_of-self
 invariant_of-self g c =

@@ -179,13 +179,6 @@ pub record AreIn (old new : List Bool) (xs : List ℕ) (i : ℕ) : Type 0 where
   pub size : AreBits new
   pub members : (k : ℕ) → get_or new k false ≡ (get_or old k false || has (take i xs) k)
 
-pub none_in : (old : List Bool) (xs : List ℕ) → AreBits old → AreIn old old xs 0
-none_in old xs size = record { size = size; members = λ k. sym (ap (λ b. get_or old k false || b) (first xs k) ∙ or_last (get_or old k false) false) }
-  where
-    first : (l : List ℕ) (k : ℕ) → has (take 0 l) k ≡ false
-    first [] k = refl
-    first (x ∷ l) k = refl
-
 pub one_in : (old bits new : List Bool) (xs : List ℕ) (i n : ℕ) → i < length xs → get_or xs i 0 ≡ n → n < 65536 → AreIn old bits xs i → new ≡ set bits n true → AreIn old new xs (i + 1)
 one_in old bits new xs i n inside at low r is = record {
   size = ap length is ∙ length_set bits n true ∙ r.size;
@@ -236,13 +229,6 @@ in_taken rs i k d inside = let e : i + 1 ≡ suc i = omega arith in ap (λ n. is
 pub record RunsAreIn (old new : List Bool) (rs : List Run) (i : ℕ) : Type 0 where
   pub size : AreBits new
   pub members : (k : ℕ) → get_or new k false ≡ (get_or old k false || is_in_runs (take i rs) k)
-
-pub no_runs_in : (old : List Bool) (rs : List Run) → AreBits old → RunsAreIn old old rs 0
-no_runs_in old rs size = record { size = size; members = λ k. sym (ap (λ b. get_or old k false || b) (first rs k) ∙ or_last (get_or old k false) false) }
-  where
-    first : (l : List Run) (k : ℕ) → is_in_runs (take 0 l) k ≡ false
-    first [] k = refl
-    first (x ∷ l) k = refl
 
 -- whether a number is in a run, by the end of its range
 pub in_range : (r : Run) (k a n : ℕ) → a ≡ r.first → a + n ≡ r.last + 1 → (leb a k && nat_lt k (a + n)) ≡ is_in_run r k

@@ -1,5 +1,6 @@
 -- Numbers of one list that are counted by another.
 use Rattle.std.proofs.Common.{◌≡◌, ℕ, zero, suc, ◌+◌, ◌-◌, ◌<◌, ◌≤◌, Bool, true, false, cond, ◌&&◌, ◌||◌, nat_eq, List, [], ◌∷◌, ◌++◌, get_or, length, take, drop, refl, sym, ◌∙◌, ap, inl, inr, arith}
+use Rattle.std.proofs.Math.Bool.{or-true}
 use Rattle.std.specs.Prelude.{◌⊎◌}
 use Rattle.std.proofs.Common.{length-drop}
 use Rattle.std.proofs.lemmas.List.{get_or_past}
@@ -53,11 +54,7 @@ pub count_same : (p q : ℕ → Bool) (xs : List ℕ) → ((k : ℕ) → has xs 
 count_same p q [] same = refl
 count_same p q (x ∷ xs) same =
     ap (λ b. cond b 1 0 + count_where p xs) (same x (ap (λ b. b || has xs x) (eq-eqb x x refl)))
-    ∙ ap (λ n. cond (q x) 1 0 + n) (count_same p q xs (λ k l. same k (ap (λ b. nat_eq x k || b) l ∙ or_true (nat_eq x k))))
-  where
-    or_true : (b : Bool) → (b || true) ≡ true
-    or_true true = refl
-    or_true false = refl
+    ∙ ap (λ n. cond (q x) 1 0 + n) (count_same p q xs (λ k l. same k (ap (λ b. nat_eq x k || b) l ∙ or-true (nat_eq x k))))
 
 -- two lists are read to i and j, and as many numbers of both were found as the left one has before i
 pub record CountsTo (xs ys : List ℕ) (i j count : ℕ) : Type 0 where
@@ -160,10 +157,6 @@ counts_done xs ys i j count h g r end =
           ap (has ys) at ∙ between ys j (get_or xs (i + k) 0) g r.right (still_below ys j (next_at xs i) (get_or xs (i + k) 0) (omega arith) r.below) (omega arith))
     ]) in
     omega arith
-
-or_true : (b : Bool) → (b || true) ≡ true
-or_true true = refl
-or_true false = refl
 
 -- ---- numbers of a range that are in a list
 

@@ -64,20 +64,6 @@ rest_begins xs i inside = let e : i + 1 ≡ suc i = omega arith in next xs i ins
 pub record GroupedTo (xs : List ℕ) (made : List Run) (i first last : ℕ) : Type 0 where
   pub all : made ++ grouped first last (drop i xs) ≡ grouped (get_or xs 0 0) (get_or xs 0 0) (drop 1 xs)
 
-pub grouped_begun : (xs : List ℕ) → GroupedTo xs [] 1 (get_or xs 0 0) (get_or xs 0 0)
-grouped_begun xs = record { all = refl }
-
-pub grouped_next : (xs : List ℕ) (made : List Run) (i first last : ℕ) → i < length xs → GroupedTo xs made i first last → get_or xs i 0 ≡ last + 1 → GroupedTo xs made (i + 1) first (get_or xs i 0)
-grouped_next xs made i first last inside g next = record {
-  all = ap (λ l. made ++ l) (sym (ap (grouped first last) (rest_begins xs i inside) ∙ grouped_on first last (get_or xs i 0) (drop (i + 1) xs) next)) ∙ g.all;
-}
-
-pub grouped_other : (xs : List ℕ) (made new : List Run) (i first last : ℕ) → i < length xs → GroupedTo xs made i first last → (get_or xs i 0 ≡ last + 1 → ⊥) → new ≡ made ++ run first last ∷ [] → GroupedTo xs new (i + 1) (get_or xs i 0) (get_or xs i 0)
-grouped_other xs made new i first last inside g other is = record {
-  all = ap (λ l. l ++ grouped (get_or xs i 0) (get_or xs i 0) (drop (i + 1) xs)) is ∙ append_assoc made (run first last ∷ []) (grouped (get_or xs i 0) (get_or xs i 0) (drop (i + 1) xs))
-      ∙ ap (λ l. made ++ l) (sym (ap (grouped first last) (rest_begins xs i inside) ∙ grouped_new first last (get_or xs i 0) (drop (i + 1) xs) other)) ∙ g.all;
-}
-
 pub drop_end : (l : List ℕ) (n : ℕ) → length l ≤ n → drop n l ≡ []
 drop_end [] zero e = refl
 drop_end [] (suc n) e = refl

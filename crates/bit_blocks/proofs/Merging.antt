@@ -1,7 +1,7 @@
 -- Two ascending lists read side by side.
 use Rattle.std.proofs.Common.{◌≡◌, ℕ, zero, suc, ◌+◌, ◌-◌, ◌<◌, ◌≤◌, Bool, true, false, cond, ◌&&◌, ◌||◌, nat_eq, nat_lt, List, [], ◌∷◌, ◌++◌, append-nil, get_or, length, min, take, drop, refl, sym, ◌∙◌, ap, inl, inr, arith}
 use Rattle.std.specs.Prelude.{◌⊎◌}
-use Rattle.std.proofs.Math.Bool.{and-true as and_true, and-false as and_none}
+use Rattle.std.proofs.Math.Bool.{and-true as and_true, and-false as and_none, or-true}
 use Rattle.std.proofs.Common.{length-drop, subst}
 use Rattle.std.proofs.Math.Seq.{take-length}
 use Rattle.std.proofs.lemmas.Bool.{cases_lt, eq-eqb, le-ltb, ne_eqb}
@@ -55,23 +55,15 @@ between xs i k h within before next =
       | inl inside ↦ (
           let e = next_inside xs i inside in
           let apart : nat_eq (get_or xs i 0) k ≡ false = ne_eqb (get_or xs i 0) k (λ s. omega arith) in
-          ap (λ b. nat_lt i (length xs) && b) apart ∙ and_false (nat_lt i (length xs)))
+          ap (λ b. nat_lt i (length xs) && b) apart ∙ and_none (nat_lt i (length xs)))
       | inr past ↦ ap (λ b. b && nat_eq (get_or xs i 0) k) (le-ltb i (length xs) past)
     ]
-  where
-    and_false : (b : Bool) → (b && false) ≡ false
-    and_false true = refl
-    and_false false = refl
 
 -- the number at an index is in the list
 pub at_index : (xs : List ℕ) (i : ℕ) → i < length xs → has xs (get_or xs i 0) ≡ true
 at_index [] i inside = absurd (omega arith)
 at_index (x ∷ xs) zero inside = ap (λ b. b || has xs x) (eq-eqb x x refl)
-at_index (x ∷ xs) (suc i) inside = ap (λ b. nat_eq x (get_or xs i 0) || b) (at_index xs i (omega arith)) ∙ or_true (nat_eq x (get_or xs i 0))
-  where
-    or_true : (b : Bool) → (b || true) ≡ true
-    or_true true = refl
-    or_true false = refl
+at_index (x ∷ xs) (suc i) inside = ap (λ b. nat_eq x (get_or xs i 0) || b) (at_index xs i (omega arith)) ∙ or-true (nat_eq x (get_or xs i 0))
 
 -- of the numbers up to a greater bound, one more may pass
 pub one_more : (p : ℕ → Bool) (b c : ℕ) → b < c → ((k : ℕ) → b < k → k < c → p k ≡ false) → those p 0 c ≡ those p 0 b ++ cond (p b) (b ∷ []) []

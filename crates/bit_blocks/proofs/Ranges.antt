@@ -6,7 +6,7 @@ use Rattle.std.proofs.lemmas.Bool.{cases_Bool, cases_eq, cases_lt, eq-eqb, le-le
 use Rattle.bit_addressing.specs.Row.{put}
 use Rattle.bit_slice.specs.Places.{ones_of}
 use Rattle.bit_blocks.specs.Bits.{AreBits}
-use Rattle.bit_blocks.specs.Numbers.{Ascends, AscendsIn, GainsBetween, LosesBetween, has, is_between, numbers_between}
+use Rattle.bit_blocks.specs.Numbers.{Ascends, AscendsIn, GainsBetween, LosesBetween, has, is_between}
 use Rattle.bit_blocks.proofs.Ascending.{ascends_earlier, below_all}
 use Rattle.bit_blocks.proofs.Between.{after_range, in_between}
 use Rattle.bit_blocks.proofs.Bits.{has_ones, in_range, item_filled, when_false, when_true}
@@ -52,14 +52,6 @@ ascends_filter p from upto (x ∷ xs) h =
       | true ↦ (h.0, h.1, rest)
       | false ↦ ascends_earlier (x + 1) from upto (filter p xs) (omega arith) rest
     ]
-
--- the numbers of a range are in the range
-pub has_between : (first last : ℕ) (xs : List ℕ) (k : ℕ) → has (numbers_between first last xs) k ≡ (has xs k && is_between first last k)
-has_between first last xs k = has_filter (λ j. is_between first last j) xs k
-
--- and ascend
-pub ascends_between : (first last : ℕ) (xs : List ℕ) → Ascends xs → Ascends (numbers_between first last xs)
-ascends_between first last xs h = ascends_filter (λ j. is_between first last j) 0 65536 xs h
 
 -- a number outside of a range
 outside : (first last k : ℕ) → (nat_lt k first || nat_lt last k) ≡ not (is_between first last k)

@@ -1,13 +1,10 @@
 -- Lists of numbers of which one has all, or none, of another's.
-use Rattle.std.proofs.Common.{◌≡◌, ℕ, suc, ◌+◌, ◌<◌, ◌≤◌, Bool, true, false, not, ◌||◌, nat_eq, List, [], ◌∷◌, length, refl, sym, ◌∙◌, ap, subst, inl, inr, arith}
+use Rattle.std.proofs.Common.{◌≡◌, ℕ, suc, ◌+◌, ◌<◌, ◌≤◌, Bool, true, false, ◌||◌, nat_eq, List, [], ◌∷◌, length, refl, sym, ◌∙◌, ap, subst, inl, inr, arith}
+use Rattle.std.proofs.Math.Bool.{or-true}
 use Rattle.std.proofs.lemmas.Bool.{cases_Bool, cases_eq, cases_lt, eq-eqb, ne_eqb}
 use Rattle.bit_blocks.specs.Numbers.{Ascends, AscendsIn, count_where, has}
 use Rattle.bit_blocks.proofs.Ascending.{above_all, ascends_earlier}
 use Rattle.bit_blocks.proofs.Counting.{count_most, counts_here, counts_not}
-
-or_true : (b : Bool) → (b || true) ≡ true
-or_true true = refl
-or_true false = refl
 
 -- where as many are counted as there are, all pass
 pub all_counted : (p : ℕ → Bool) (xs : List ℕ) → count_where p xs ≡ length xs → (k : ℕ) → has xs k ≡ true → p k ≡ true
@@ -25,7 +22,7 @@ all_counted p (x ∷ xs) all k here = let most = count_most p xs in elim (cases_
 pub counts_all : (p : ℕ → Bool) (xs : List ℕ) → ((k : ℕ) → has xs k ≡ true → p k ≡ true) → count_where p xs ≡ length xs
 counts_all p [] all = refl
 counts_all p (x ∷ xs) all =
-    counts_here p x xs (all x (ap (λ b. b || has xs x) (eq-eqb x x refl))) ∙ ap suc (counts_all p xs (λ k here. all k (ap (λ b. nat_eq x k || b) here ∙ or_true (nat_eq x k))))
+    counts_here p x xs (all x (ap (λ b. b || has xs x) (eq-eqb x x refl))) ∙ ap suc (counts_all p xs (λ k here. all k (ap (λ b. nat_eq x k || b) here ∙ or-true (nat_eq x k))))
 
 pub none_counted : (p : ℕ → Bool) (xs : List ℕ) → count_where p xs ≡ 0 → (k : ℕ) → has xs k ≡ true → p k ≡ false
 none_counted p [] none k here = cc
@@ -42,7 +39,7 @@ none_counted p (x ∷ xs) none k here = elim (cases_Bool (p x)) [
 pub counts_none : (p : ℕ → Bool) (xs : List ℕ) → ((k : ℕ) → has xs k ≡ true → p k ≡ false) → count_where p xs ≡ 0
 counts_none p [] none = refl
 counts_none p (x ∷ xs) none =
-    counts_not p x xs (none x (ap (λ b. b || has xs x) (eq-eqb x x refl))) ∙ counts_none p xs (λ k here. none k (ap (λ b. nat_eq x k || b) here ∙ or_true (nat_eq x k)))
+    counts_not p x xs (none x (ap (λ b. b || has xs x) (eq-eqb x x refl))) ∙ counts_none p xs (λ k here. none k (ap (λ b. nat_eq x k || b) here ∙ or-true (nat_eq x k)))
 
 at_first : (x : ℕ) (xs : List ℕ) → has (x ∷ xs) x ≡ true
 at_first x xs = ap (λ t. t || has xs x) (eq-eqb x x refl)
@@ -58,7 +55,7 @@ in_rest : (y : ℕ) (ys : List ℕ) (k : ℕ) → y < k → has (y ∷ ys) k ≡
 in_rest y ys k past here = sym (ap (λ t. t || has ys k) (ne_eqb y k (λ e. omega arith))) ∙ here
 
 later_in : (x : ℕ) (xs : List ℕ) (k : ℕ) → has xs k ≡ true → has (x ∷ xs) k ≡ true
-later_in x xs k here = ap (λ t. nat_eq x k || t) here ∙ or_true (nat_eq x k)
+later_in x xs k here = ap (λ t. nat_eq x k || t) here ∙ or-true (nat_eq x k)
 
 -- a list whose numbers are all in another has no more of them
 pub subset_short : (from upto : ℕ) (xs ys : List ℕ) → AscendsIn from upto xs → AscendsIn from upto ys → ((k : ℕ) → has xs k ≡ true → has ys k ≡ true) → length xs ≤ length ys

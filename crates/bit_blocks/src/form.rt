@@ -509,13 +509,16 @@ pub(crate) fn count_runs(form: &Form) -> usize
     }
 }
 
-// Whether `runs` runs take fewer bytes than `count` numbers as a list or as bits.
-fn runs_pay(count: usize, runs: usize) -> bool
-    requires runs { runs ≤ 32768 }
+/// Whether `runs` runs take fewer bytes than `count` numbers as a list, or as bits where they are more than 4096.
+///
+/// ```text
+/// runs_pay(5, 2) == true
+/// ```
+pub fn runs_pay(count: usize, runs: usize) -> bool
     ensures { result ≡ runs_pay count runs }
 {
     if count <= LISTED {
-        2 * runs < count
+        runs < (count + 1) / 2
     } else {
         runs < LISTED / 2
     }

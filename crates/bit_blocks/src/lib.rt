@@ -12,6 +12,7 @@ mod ranged;
 mod runs_left;
 
 pub use block::Block;
+pub use form::runs_pay;
 pub use iter::BlockIter;
 pub use keyed::Keyed;
 pub use operation::Operation;

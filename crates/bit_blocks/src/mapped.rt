@@ -194,7 +194,6 @@ pub(crate) fn count_both(bits: &Bits, others: &Bits) -> usize
 }
 
 // Whether both have the same numbers.
-#[tactic(auto, using(crate::proofs::Bits::same_ones))]
 pub(crate) fn are_same(bits: &Bits, others: &Bits) -> bool
     requires left { AreBits bits.now.list }
     requires right { AreBits others.now.list }

@@ -21,9 +21,6 @@ Inner r = (f : Fault) → r ≡ Err f → IsInner f
 abbrev pub failed : {A : Type 0} → Fault → Result A Fault
 failed f = Err f
 
-pub err_is : {A : Type 0} (x : A) (f g : Fault) → failed {A = A} f ≡ failed g → f ≡ g
-err_is x f g e = cc
-
 inner_ok : {A : Type 0} (x : A) (f : Fault) → Ok x ≡ failed f → IsInner f
 inner_ok x f e = absurd cc
 

@@ -1,7 +1,6 @@
 //! Sets of numbers as bytes, and bytes as sets of numbers.
 ghost use Rattle.std.specs.Prelude.{All, map, ◌≡◌, ◌≤◌, ◌<◌, Bool, List, Ok, IfErr, IfOk, false, length, true};
 ghost use Rattle.bit_blocks.specs.Numbers.{Ascends};
-ghost use Rattle.bit_blocks.specs.Runs.{runs_of, runs_pay};
 ghost use Rattle.bit_portable.specs.Stored.{Holds, Numbers, Words, content_lent, content_of, piece_lent, piece_of, pieces_lent, pieces_of};
 ghost use Rattle.bit_portable.specs.Keyed.{all_numbered, numbered};
 ghost use Rattle.bit_portable.specs.Form.{heads_of};
@@ -14,21 +13,8 @@ use crate::fault::ReadError;
 use crate::reading::read_stored;
 use crate::stored::{Data, Head, Lent, Part, Stored};
 use crate::writing::write_parts;
-use bit_blocks::{Block, Keyed};
+use bit_blocks::{Block, Keyed, runs_pay};
 use std::alloc::{AllocError, Global};
-
-// Whether `runs` runs take fewer bytes than `count` numbers as a list or as bits.
-fn runs_pay(count: usize, runs: usize) -> bool
-    requires count { count ≤ 65536 }
-    requires runs { runs ≤ 65536 }
-    ensures { result ≡ runs_pay count runs }
-{
-    if count <= 4096 {
-        4 * runs + 2 < 2 * count + 2
-    } else {
-        4 * runs + 2 < 8192
-    }
-}
 
 // The numbers of a block as a list, lent where the block has one.
 fn lent_list<'a>(alloc: Global, block: &'a Block) -> Result<Lent<'a>, AllocError>

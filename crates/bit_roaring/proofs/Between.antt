@@ -1,7 +1,7 @@
 -- Blocks before a key and from a key on, and the numbers of a range.
 use Rattle.std.proofs.Common.{◌≡◌, ℕ, zero, suc, ◌+◌, ◌-◌, ◌*◌, ◌/◌, ◌%◌, ◌<◌, ◌≤◌, Bool, true, false, not, ◌&&◌, ◌||◌, nat_le, nat_lt, List, [], ◌∷◌, ◌++◌, append_assoc, append-nil, length, map, take, drop, slice_range, refl, sym, ◌∙◌, ap, subst, inl, inr, arith}
 use Rattle.std.specs.List.{splice}
-use Rattle.std.proofs.Math.Bool.{and-false, or-false}
+use Rattle.std.proofs.Math.Bool.{and-false, or-false, or-true}
 use Rattle.std.proofs.lemmas.Bool.{cases_lt, eq-eqb, le-leb, le-ltb, lt-leb, lt-ltb, ltb-false, ltb-true, ne_eqb}
 use Rattle.bit_blocks.specs.Numbers.{Ascends, has}
 use Rattle.bit_blocks.specs.Operation.{made_by}
@@ -122,10 +122,6 @@ keyed_from (b ∷ zs) key h at =
     let same = some.1 in
     (omega arith, h.1, h.2, h.3, h.4)
 
-or_true : (b : Bool) → (b || true) ≡ true
-or_true true = refl
-or_true false = refl
-
 -- blocks without a number from a key on, and then others
 pub keyed_then : (from key : ℕ) (zs ys : List Keyed) → AreKeyedFrom from zs → from ≤ key → AreKeyedFrom key ys → ((n : ℕ) → has (set_numbers zs) n ≡ true → n / 65536 < key) → AreKeyedFrom from (zs ++ ys)
 keyed_then from key [] ys h low g all = keyed_earlier key from ys low g
@@ -133,7 +129,7 @@ keyed_then from key (b ∷ zs) ys h low g all =
     let some = some_number b.key b.block (set_numbers zs) h.3 h.2 in
     let last = all some.0 some.2 in
     let same = some.1 in
-    (h.0, h.1, h.2, h.3, keyed_then (b.key + 1) key zs ys h.4 (omega arith) g (λ n here. all n (has_append (keyed_numbers b) (set_numbers zs) n ∙ ap (λ t. has (keyed_numbers b) n || t) here ∙ or_true (has (keyed_numbers b) n))))
+    (h.0, h.1, h.2, h.3, keyed_then (b.key + 1) key zs ys h.4 (omega arith) g (λ n here. all n (has_append (keyed_numbers b) (set_numbers zs) n ∙ ap (λ t. has (keyed_numbers b) n || t) here ∙ or-true (has (keyed_numbers b) n))))
 
 -- ---- the blocks between two keys
 

@@ -53,15 +53,6 @@ pub record RangeMadeTo (bs : List Keyed) (first last key : ℕ) : Type 0 where
   pub below : All (λ b. b.key < key) bs
   pub members : (n : ℕ) → has (set_numbers bs) n ≡ (nat_lt (n / 65536) key && is_within first (last + 1) n)
 
-pub range_begun : (first last key : ℕ) → key ≡ first / 65536 → RangeMadeTo [] first last key
-range_begun first last key at = record { keyed = tt; below = λ k d inside. absurd (omega arith); members = none }
-  where
-    none : (n : ℕ) → false ≡ (nat_lt (n / 65536) key && is_within first (last + 1) n)
-    none n = elim (cases_lt (n / 65536) key) [
-      | inl low ↦ sym (ap (λ t. nat_lt (n / 65536) key && t) (before_range first (last + 1) n (omega arith)) ∙ and-false (nat_lt (n / 65536) key))
-      | inr high ↦ sym (ap (λ t. t && is_within first (last + 1) n) (le-ltb (n / 65536) key high))
-    ]
-
 pub range_more : (bs new : List Keyed) (first last key : ℕ) (block : List ℕ) → RangeMadeTo bs first last key → ((x : ℕ) → x < 65536 → has block x ≡ is_within first (last + 1) (key * 65536 + x))
     → AreKeyed new → All (λ b. b.key < key + 1) new → Replaces bs new key block → RangeMadeTo new first last (key + 1)
 range_more bs new first last key block made part keyed below replaces = record { keyed = keyed; below = below; members = members }
@@ -85,12 +76,6 @@ range_more bs new first last key block made part keyed below replaces = record {
       where
         past : (key ≡ n / 65536 → ⊥) → key ≤ n / 65536 → key + 1 ≤ n / 65536
         past apart least = omega arith
-
-pub range_done : (bs : List Keyed) (first last key : ℕ) → RangeMadeTo bs first last key → last / 65536 < key → (n : ℕ) → has (set_numbers bs) n ≡ is_within first (last + 1) n
-range_done bs first last key made done n = made.members n ∙ elim (cases_lt (n / 65536) key) [
-  | inl low ↦ ap (λ t. t && is_within first (last + 1) n) (lt-ltb (n / 65536) key low)
-  | inr high ↦ ap (λ t. t && is_within first (last + 1) n) (le-ltb (n / 65536) key high) ∙ sym (past_range first (last + 1) n (omega arith))
-]
 
 -- ---- numbers of a range counted
 

@@ -1,6 +1,6 @@
 -- The numbers of a set, by the block with each key.
 use Rattle.std.proofs.Common.{◌≡◌, ℕ, zero, suc, ◌+◌, ◌-◌, ◌/◌, ◌%◌, ◌^◌, ◌<◌, ◌≤◌, Bool, true, false, cond, not, ◌&&◌, ◌||◌, nat_eq, List, [], ◌∷◌, ◌++◌, get_or, insert, length, set, refl, sym, ◌∙◌, ap, subst, inl, inr, arith}
-use Rattle.std.proofs.Math.Bool.{and-true, or-false}
+use Rattle.std.proofs.Math.Bool.{and-true, or-false, or-true}
 use Rattle.std.proofs.lemmas.Bool.{cases_Bool, cases_eq, cases_lt, eq-eqb, ne_eqb}
 use Rattle.bit_blocks.specs.Numbers.{Ascends, AscendsIn, Combines, Gains, Loses, count_where, has}
 use Rattle.bit_roaring.specs.Changes.{CombinesKeyed, GainsAt, HasTaken, LosesAt, Replaces}
@@ -71,10 +71,6 @@ set_same [] i b d inside is = absurd (omega arith)
 set_same (a ∷ bs) zero b d inside is = ap (λ c. c ∷ bs) is
 set_same (a ∷ bs) (suc i) b d inside is = ap (λ l. a ∷ l) (set_same bs i b d (omega arith) is)
 
-pub kept_there : (bs : List Keyed) (key i : ℕ) (at : Keyed) (block : List ℕ) → IsThere bs key i → at ≡ get_or bs i at → block ≡ at.block → set bs i (keyed at.key block) ≡ bs
-kept_there bs key i at block there is same =
-    set_same bs i (keyed at.key block) at there.inside (ap (λ l. keyed at.key l) same ∙ ap (λ b. keyed b.key b.block) is)
-
 pub keyed_there : (bs : List Keyed) (key i : ℕ) (at : Keyed) (block : List ℕ) → AreKeyed bs → IsThere bs key i → at ≡ get_or bs i at → Ascends block → 0 < length block → AreKeyed (set bs i (keyed at.key block))
 keyed_there bs key i at block h there is up some = keyed_set 0 bs i at.key block at h there.inside (ap (λ b. b.key) (sym is)) up some
 
@@ -137,10 +133,6 @@ loses_none bs key low out = record {
   loses = loses_absent (block_at bs key) low out;
 }
 
-or_true : (b : Bool) → (b || true) ≡ true
-or_true true = refl
-or_true false = refl
-
 -- a list with two numbers has one still where one was taken out
 pub others_stay : (bs : List Keyed) (key i low : ℕ) (at : Keyed) (new : List ℕ) → AreKeyed bs → IsThere bs key i → at ≡ get_or bs i at → 1 < length (block_at bs key) → Loses at.block new low → 0 < length new
 others_stay bs key i low at new h there is many loses =
@@ -151,7 +143,7 @@ others_stay bs key i low at new h there is many loses =
     two [] ys up some gone = absurd (omega arith)
     two (x ∷ []) ys up some gone = absurd (omega arith)
     two (x ∷ (y ∷ xs)) ys up some gone = let less = up.2.0 in elim (cases_eq low x) [
-      | inl same ↦ some_has ys y (gone y ∙ ap (λ b. (nat_eq x y || (b || has xs y)) && not (nat_eq low y)) (eq-eqb y y refl) ∙ ap (λ b. b && not (nat_eq low y)) (or_true (nat_eq x y)) ∙ ap not (ne_eqb low y (λ e. omega arith)))
+      | inl same ↦ some_has ys y (gone y ∙ ap (λ b. (nat_eq x y || (b || has xs y)) && not (nat_eq low y)) (eq-eqb y y refl) ∙ ap (λ b. b && not (nat_eq low y)) (or-true (nat_eq x y)) ∙ ap not (ne_eqb low y (λ e. omega arith)))
       | inr other ↦ some_has ys x (gone x ∙ ap (λ b. (b || has (y ∷ xs) x) && not (nat_eq low x)) (eq-eqb x x refl) ∙ ap not (ne_eqb low x other))
     ]
 

@@ -12,7 +12,7 @@ use Rattle.bit_addressing.specs.declared.length.TheConstants.{MAX_BITS}
 use Rattle.bit_addressing.specs.declared.errors.GrowError.{GrowError}
 use Rattle.bit_addressing.specs.declared.errors.GrowError.TheVariants.{TooLong, OutOfMemory}
 use Rattle.bit_streams.specs.Streams.{Passed, Reading, Writing, Refuses}
-use Rattle.bit_addressing.proofs.Runs.{mul_mono, slices_joined}
+use Rattle.bit_addressing.proofs.Runs.{mul_mono}
 use Rattle.bit_addressing.specs.Binary.{value}
 use Rattle.bit_addressing.specs.Row.{binary}
 use Rattle.bit_rows.proofs.Binary.{length-binary, value_of_binary, binary_low, binary_parted}
@@ -83,13 +83,6 @@ joined_fits a b p x low all small is =
 -- the part over all is the list
 pub slice_whole : (n : ℕ) (xs : List Bool) → length xs ≡ n → slice_range xs 0 n ≡ xs
 slice_whole n xs size = same_lists _ _ (search (rules, places)) (λ i e below. grind (arith, places))
-
--- one more word of a block
-pub one_more : (old now b word : List Bool) (i w : ℕ) → now ≡ old ++ slice_range b 0 (i * w) → word ≡ slice_range b (i * w) (i * w + w) → (i + 1) * w ≤ length b → now ++ word ≡ old ++ slice_range b 0 ((i + 1) * w)
-one_more old now b word i w so_far is room =
-    let next : i * w + w ≡ (i + 1) * w = omega arith in
-    ap (λ l. l ++ word) so_far ∙ append_assoc old (slice_range b 0 (i * w)) word
-    ∙ ap (λ l. old ++ l) (ap (λ l. slice_range b 0 (i * w) ++ l) is ∙ slices_joined b 0 (i * w) (i * w + w) (omega arith) (omega arith) (omega arith) ∙ ap (slice_range b 0) next)
 
 -- with no bits waiting a block is written as it is
 pub nothing_waits : (p x : ℕ) → binary 64 x ≡ binary 0 p ++ binary 64 x

@@ -5,9 +5,8 @@ ghost use Rattle.bit_addressing.specs.Row.{binary, number_bits, row_of};
 ghost use Rattle.bit_addressing.specs.Typed.{row};
 
 use bit_addressing::{BitIdx, BitOrder, BitStore};
-use bit_rows::{cut_words_in_vec, read_binary};
+use bit_rows::{append_block_in_vec, cut_words_in_vec, make_room_in_vec, read_binary};
 use std::alloc::AllocError;
-use std::mem::replace;
 
 // The number of one digit that a bit writes.
 #[inline(always)]
@@ -275,38 +274,6 @@ pub(crate) fn bytes_of<O: BitOrder>(number: u64) -> [u8; 8]
     ]
 }
 
-// Makes room for `more` words. Where that takes memory the words are moved out and back, so that the path that takes
-// none keeps them in registers.
-#[inline(always)]
-pub(crate) fn make_room<T: BitStore>(words: &mut Vec<T>, more: usize) -> Result<(), AllocError>
-    ensures items { words.new.items ≡ words.old.items }
-    ensures room { OnOk result (length words.new.items + more ≤ vec_capacity words.new) }
-    ensures capacity { vec_capacity words.old ≤ vec_capacity words.new }
-    ensures full { OnErr result (vec_capacity words.old < length words.old.items + more) }
-{
-    if more <= words.capacity() - words.len() {
-        return Ok(());
-    }
-    let alloc = *words.allocator();
-    let (grown, done) = grown_by(replace(words, Vec::new(alloc)), more);
-    let _empty = replace(words, grown);
-    done
-}
-
-// The words with room for `more` of them, or as they were.
-#[cold]
-#[inline(never)]
-fn grown_by<T: BitStore>(words: Vec<T>, more: usize) -> (Vec<T>, Result<(), AllocError>)
-    ensures items { result.0.items ≡ words.items }
-    ensures room { OnOk result.1 (length result.0.items + more ≤ vec_capacity result.0) }
-    ensures capacity { vec_capacity words ≤ vec_capacity result.0 }
-    ensures full { OnErr result.1 (vec_capacity words < length words.items + more) }
-{
-    let mut words = words;
-    let done = words.reserve(more);
-    (words, done)
-}
-
 // Appends a block of 64 bits as whole words.
 #[inline(always)]
 pub(crate) fn push_block<T: BitStore, O: BitOrder>(
@@ -320,11 +287,8 @@ pub(crate) fn push_block<T: BitStore, O: BitOrder>(
     ensures full { OnErr result (T.BITS * vec_capacity words.old < T.BITS * length words.old.items + 64) }
     ensures unchanged { OnErr result (words.new.items ≡ words.old.items) }
 {
-    let each = 64 / T::BITS;
-    make_room(words, each as usize)?;
-    for i in 0..each {
-        words.push_reserved(word_of_block::<T, O>(block, i));
-    }
+    make_room_in_vec(words, (64 / T::BITS) as usize)?;
+    append_block_in_vec::<T, O>(words, block);
     Ok(())
 }
 

@@ -6,8 +6,9 @@ ghost use Rattle.bit_addressing.specs.declared.length.TheConstants.{MAX_BITS};
 ghost use Rattle.bit_containers.specs.BitVec.{bits_in};
 ghost use Rattle.bit_streams.specs.Streams.{written_row};
 
-use crate::register::{block_of, block_of_le, cut_at, lowest_first, make_room, push_block};
+use crate::register::{block_of, block_of_le, cut_at, lowest_first, push_block};
 use bit_addressing::{BitOrder, BitStore, MAX_BITS, elts};
+use bit_rows::make_room_in_vec;
 use std::alloc::{AllocError, Global};
 use std::marker::{Model, PhantomData};
 
@@ -149,7 +150,7 @@ impl<T: BitStore, O: BitOrder> Words<T, O> {
         ensures capacity { self.old.capacity ≤ self.new.capacity }
         ensures full { OnErr result (self.old.capacity < length self.old.list + n) }
     {
-        match make_room(&mut self.words, elts::<T>(n)) {
+        match make_room_in_vec(&mut self.words, elts::<T>(n)) {
             Ok(()) => {}
             Err(why) => return Err(why),
         }
@@ -166,7 +167,7 @@ impl<T: BitStore, O: BitOrder> Words<T, O> {
         ensures unchanged { OnErr result (self.new.list ≡ self.old.list) }
     {
         if is_turned_later::<T, O>() {
-            match make_room(&mut self.words, 1) {
+            match make_room_in_vec(&mut self.words, 1) {
                 Ok(()) => {}
                 Err(why) => return Err(why),
             }

@@ -12,8 +12,8 @@ returns-clause-room g c =
     let w = g.T.BitStore.BITS in
     let all : length c.args.self.now.list ≡ w * length i.words.items = ap (λ v. length v.list) (sym c.self.view_is) ∙ length-written_row g.T.BitStore g.O.BitOrder i.late i.words.items in
     let fits = c.requires in
-    let same = ap length c.make_room.ensures.items in
-    let enough = room_made w (length i.words.items) c.elts.result (vec_capacity c.make_room.new.words) c.args.n c.elts.ensures.room (let h = c.in-Ok.ensures.room in omega arith) in
+    let same = ap length c.make_room_in_vec.ensures.items in
+    let enough = room_made w (length i.words.items) c.elts.result (vec_capacity c.make_room_in_vec.new.words) c.args.n c.elts.ensures.room (let h = c.in-Ok.ensures.room in omega arith) in
     omega arith
 
 pub returns-in-Err-clause-full : goal.returns-in-Err-clause-full

@@ -15,7 +15,7 @@ returns-then-is_turned_later-clause-list g c =
     let w = g.T.BitStore.BITS in
     let x = c.from_u64.result in
     let wide : w ≡ 64 = c.is_turned_later.ensures c.if-is_turned_later.true in
-    ap (written_row g.T.BitStore g.O.BitOrder (i.late + 1)) (c.push_reserved.ensures.items ∙ ap (λ l. l ++ x ∷ []) c.make_room.ensures.items)
+    ap (written_row g.T.BitStore g.O.BitOrder (i.late + 1)) (c.push_reserved.ensures.items ∙ ap (λ l. l ++ x ∷ []) c.make_room_in_vec.ensures.items)
     ∙ late_pushed g.T.BitStore g.O.BitOrder i.words.items i.late x (width_positive w g.met.T.BitStore.width) c.self.invariant
     ∙ ap (λ l. written_row g.T.BitStore g.O.BitOrder i.late i.words.items ++ l) (one_block w (g.T.BitStore.value x) c.args.number wide c.from_u64.ensures)
     ∙ ap (λ v. v.list ++ binary 64 c.args.number) c.self.view_is

@@ -1,5 +1,5 @@
 -- A list that is written bit by bit over one that is false.
-use Rattle.std.proofs.Common.{◌≡◌, ℕ, suc, ◌+◌, ◌-◌, ◌<◌, ◌≤◌, Bool, false, List, [], ◌∷◌, ◌++◌, length, replicate, set, get_or, take, refl, sym, ◌∙◌, ap, arith, rules, append_assoc}
+use Rattle.std.proofs.Common.{◌≡◌, ℕ, suc, ◌+◌, ◌-◌, ◌<◌, Bool, false, List, [], ◌∷◌, ◌++◌, length, replicate, set, get_or, take, sym, ◌∙◌, ap, arith, rules, append_assoc}
 use Rattle.std.proofs.lemmas.List.{take_more, set-append_right, length-take}
 
 -- one bit more is written, after which all is false

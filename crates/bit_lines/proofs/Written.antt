@@ -2,14 +2,14 @@
 use Rattle.std.proofs.Common.{◌≡◌, ℕ, ◌+◌, ◌-◌, ◌^◌, ◌<◌, List, [], ◌++◌, refl, ap, sym, subst, ◌∙◌, length, arith, Some, None, Option, append_assoc, append-nil, length-append}
 use Rattle.std.specs.Prelude.{flat_map, IfSome, IfOk, OnOk, Result, Ok, Err}
 use Rattle.std.proofs.lemmas.Grind.{flat_map-append}
-use Rattle.std.specs.Io.KnownBytes.{Appends, Consumes, Keeps, IsAtEnd}
+use Rattle.std.specs.Io.KnownBytes.{Appends, Consumes, IsAtEnd}
 use Rattle.bit_lines.specs.declared.replying.Ending.{Ending}
 use Rattle.bit_lines.specs.declared.replying.Ending.TheVariants.{Finished, BadCommand, TooLong, NoMemory, ReadFailed}
 use Rattle.bit_lines.specs.Script.{script_replies, script_ending, with_line_feed, ending_text, lines_of}
 use Rattle.bit_lines.specs.Progress.{Progress, replies_left, ending_left, IsEnd, Goes, Ends, Advances, Stops, StopsHere}
 use Rattle.bit_lines.specs.Served.{Sends, Concludes, IsGoing, IsOutcome, IsServed, IsTranscribed, IsShort, IsRead}
 use Rattle.bit_lines.proofs.Lines.{replies_alike}
-use Rattle.bit_lines.proofs.Going.{goes_nowhere, goes_same, goes_more, ends_more, end_later}
+use Rattle.bit_lines.proofs.Going.{goes_same, goes_more, ends_more, end_later}
 
 -- ---- known bytes
 

@@ -1,14 +1,13 @@
 -- The numbers of a set, by the block with each key.
 use Rattle.std.proofs.Common.{◌≡◌, ℕ, zero, suc, ◌+◌, ◌-◌, ◌/◌, ◌%◌, ◌^◌, ◌<◌, ◌≤◌, Bool, true, false, cond, not, ◌&&◌, ◌||◌, nat_eq, List, [], ◌∷◌, ◌++◌, get_or, insert, length, set, refl, sym, ◌∙◌, ap, subst, inl, inr, arith}
 use Rattle.std.proofs.Math.Bool.{and-true, or-false, or-true}
-use Rattle.std.proofs.lemmas.Bool.{cases_Bool, cases_eq, cases_lt, eq-eqb, ne_eqb}
+use Rattle.std.proofs.lemmas.Bool.{cases_Bool, cases_eq, eq-eqb, ne_eqb}
 use Rattle.bit_blocks.specs.Numbers.{Ascends, AscendsIn, Combines, Gains, Loses, count_where, has}
 use Rattle.bit_roaring.specs.Changes.{CombinesKeyed, GainsAt, HasTaken, LosesAt, Replaces}
 use Rattle.bit_roaring.specs.Keyed.{AreKeyed, block_at, set_numbers}
 use Rattle.bit_blocks.specs.declared.keyed.Keyed.{Keyed}
 use Rattle.bit_roaring.proofs.Keys.{ascends_set, block_inserted, block_removed, block_set, has_set, keyed, keyed_here, keyed_inserted, keyed_set}
-use Rattle.bit_blocks.proofs.Ascending.{above_all, ascends_earlier}
-use Rattle.bit_blocks.proofs.Counting.{count_most, counts_here, counts_not}
+use Rattle.bit_blocks.proofs.Counting.{counts_here, counts_not}
 use Rattle.bit_blocks.proofs.Edits.{has_append, loses_absent}
 use Rattle.bit_blocks.specs.Operation.{made_by}
 use Rattle.bit_blocks.specs.declared.operation.Operation.{Operation}

@@ -1,10 +1,9 @@
 -- Words that are appended, of which the first bits are those of a number.
-use Rattle.std.proofs.Common.{◌≡◌, ℕ, ◌+◌, ◌-◌, ◌*◌, ◌/◌, ◌%◌, ◌^◌, ◌<◌, ◌≤◌, Bool, true, false, ◌&&◌, eqb, List, [], ◌∷◌, ◌++◌, length, replicate, get_or, slice_range, bit_and, sym, ◌∙◌, ap, inl, inr, arith}
+use Rattle.std.proofs.Common.{◌≡◌, ℕ, ◌+◌, ◌-◌, ◌*◌, ◌/◌, ◌%◌, ◌^◌, ◌<◌, ◌≤◌, Bool, true, false, ◌&&◌, eqb, List, [], ◌∷◌, ◌++◌, length, replicate, slice_range, bit_and, sym, ◌∙◌, ap, inl, inr, arith}
 use Rattle.std.proofs.Common.{rules}
 use Rattle.std.proofs.Math.Bool.{and-true, and-false}
 use Rattle.std.proofs.lemmas.Bool.{cases_lt}
 use Rattle.std.proofs.lemmas.List.{ext_get_or, places, same_lists, length-append, length-replicate, get_or_append_left, get_or-append_right, get_or-replicate}
-use Rattle.std.proofs.lemmas.List.FromFn.{get_or-map-range_with_len}
 use Rattle.std.proofs.lemmas.Nat.Bits.{bit_at_ones, bit_at_ones_above, ones_shr}
 use Rattle.bit_addressing.specs.Bits.{has_bit}
 use Rattle.bit_addressing.specs.Order.{IsPermutation}
@@ -13,7 +12,7 @@ use Rattle.std.proofs.Common.{◌≢◌, mul_comm}
 use Rattle.std.proofs.Math.Nat.{div-add-mod, mod-lt}
 use Rattle.std.proofs.lemmas.Nat.{div-add-mod'}
 use Rattle.bit_addressing.specs.Row.{sized, words_for}
-use Rattle.bit_rows.proofs.Binary.{length-number_bits}
+use Rattle.bit_rows.proofs.Binary.{get_or-number_bits, length-number_bits}
 use Rattle.bit_addressing.proofs.Runs.{mul_mono, slice_repeated}
 use Rattle.bit_addressing.proofs.lists.Sized.{one_more_word, room, sized_more, words_even, words_for_le, words_odd}
 use Rattle.bit_addressing.proofs.Words.{has_and, has_shr_low, has_shl_high}
@@ -89,10 +88,6 @@ part_appended w xs ys end upto n at size fits all =
 pub part_over : (w : ℕ) (xs ys zs : List Bool) (end upto n : ℕ) → end + length ys ≡ length xs → length zs ≡ n → n ≤ w → length xs + w ≡ w * words_for w upto → put (xs ++ zs ++ replicate (w - n) false) end ys ≡ put (sized w xs upto) end (ys ++ zs)
 part_over w xs ys zs end upto n at size fits all =
     ap (λ m. put (xs ++ zs ++ replicate (w - m) false) end ys) (sym size) ∙ put_over xs ys zs end w at (omega arith) ∙ ap (λ r. put r end (ys ++ zs)) (sized_more w xs upto w all)
-
-get_or-number_bits : (x n i : ℕ) → i < n → get_or (number_bits x n) i false ≡ has_bit x i
-unfolding number_bits
-get_or-number_bits x n i h = get_or-map-range_with_len (has_bit x) 0 n i i false h (omega arith)
 
 -- the lowest bits of a number are its first, and then those of what is left when they are shifted out
 pub number_bits_parted : (x n m k : ℕ) → n + m ≡ k → number_bits x n ++ number_bits (x / 2 ^ n) m ≡ number_bits x k

@@ -170,12 +170,7 @@ pub fn write_chunk<T: BitStore, O: BitOrder>(words: &mut [T], at: usize, n: u8, 
 // no other bit. Each word that the run touches is stored by itself, since to load a block right after narrower stores takes
 // longer. Requires that the run lies in the words, and the bits in the block.
 #[inline(always)]
-pub(crate) fn write_from_block<T: BitStore, O: BitOrder>(
-    words: &mut [T],
-    at: usize,
-    n: u8,
-    block: u64,
-)
+fn write_from_block<T: BitStore, O: BitOrder>(words: &mut [T], at: usize, n: u8, block: u64)
     requires some { 0 < n }
     requires block { at % T.BITS + n ≤ 64 }
     requires within { at + n ≤ T.BITS * length words.old }

@@ -7,9 +7,9 @@ ghost use Rattle.bit_rows.specs.Runs.{run_at};
 
 use crate::chunks::{digits_from, word_number, word_of_block};
 use crate::growth::{cut_words_in_vec, push_word, resize_words_in_vec};
-use crate::vectors::{write_chunk_in_vec, write_from_block_in_vec};
-use bit_addressing::inner::blend;
-use bit_addressing::{BitEnd, BitIdx, BitOrder, BitStore};
+use crate::vectors::{write_chunk_in_vec, write_part_in_vec};
+use bit_addressing::inner::in_word;
+use bit_addressing::{BitIdx, BitOrder, BitStore};
 use std::alloc::AllocError;
 use std::mem::replace;
 
@@ -49,12 +49,7 @@ fn write_in_word<T: BitStore, O: BitOrder>(words: &mut Vec<T>, k: usize, low: u8
     ensures capacity { vec_capacity words.new ≡ vec_capacity words.old }
 {
     let new = O::from_lsb0(T::from_u64(chunk << low));
-    let mask = O::mask(
-        BitIdx::<T>::new_unchecked(low),
-        BitEnd::<T>::new_unchecked(low + n),
-    );
-    let old = words[k];
-    words[k] = blend(old, new, mask);
+    write_part_in_vec::<T, O>(words, k, low, low + n, new);
 }
 
 // Like `push_chunk_in_vec`: a number of at most one word's bits goes into one word or two, and a longer one into words that
@@ -164,21 +159,21 @@ fn moved_up<O: BitOrder>(block: u64, low: u8) -> u64
 }
 
 // Writes the first `n` bits of a block at the places from `at` on, and no other bit. Requires that `at` lies inside a word,
-// and that the run lies in the words and in the 64 bits from that word on.
+// and that the run ends in that word, which is there.
 #[inline(always)]
 fn write_front<T: BitStore, O: BitOrder>(words: &mut Vec<T>, at: usize, n: u8, block: u64)
     requires some { 0 < n }
     requires inside { 0 < at % T.BITS }
-    requires block { at % T.BITS + n ≤ 64 }
+    requires word { at % T.BITS + n ≤ T.BITS }
     requires within { at + n ≤ T.BITS * length words.old.items }
-    requires fits { at + n < 2 ^ 64 }
     ensures bits { row T.BitStore O.BitOrder words.new.items
         ≡ put (row T.BitStore O.BitOrder words.old.items) at (run_at (row_of O.place 64 (block ∷ [])) 0 n) }
     ensures size { length words.new.items ≡ length words.old.items }
     ensures capacity { vec_capacity words.new ≡ vec_capacity words.old }
 {
-    let moved = moved_up::<O>(block, (at % T::BITS as usize) as u8);
-    write_from_block_in_vec::<T, O>(words, at, n, moved);
+    let (k, low) = in_word::<T>(at);
+    let new = word_of_block::<T, O>(moved_up::<O>(block, low), 0);
+    write_part_in_vec::<T, O>(words, k, low, low + n, new);
 }
 
 // Appends the first `n` bits of a block of 64 bits, whose other bits are false. Where the capacity has room for a whole

@@ -49,6 +49,7 @@ pub fn swap_bits<T: BitStore, O: BitOrder>(words: &mut [T], i: usize, j: usize)
 }
 
 // Writes the bits of `new` at the indices `low..high` into word `k`.
+#[inline(always)]
 pub(crate) fn write_part<T: BitStore, O: BitOrder>(
     words: &mut [T],
     k: usize,

@@ -1,13 +1,12 @@
 //! The calls on words that lie in a vector, which keeps its capacity.
 ghost use Rattle.std.specs.Prelude.{◌≡◌, [], ◌∷◌, ◌+◌, ◌-◌, ◌*◌, ◌%◌, ◌^◌, ◌<◌, ◌≤◌, length, slice_range, set, vec_capacity};
-ghost use Rattle.bit_addressing.specs.Row.{filled, moved, number_bits, put, row_of, touched};
+ghost use Rattle.bit_addressing.specs.Row.{filled, moved, number_bits, put, touched};
 ghost use Rattle.bit_addressing.specs.declared.length.TheConstants.{MAX_BITS};
 ghost use Rattle.bit_addressing.specs.Typed.{row};
-ghost use Rattle.bit_rows.specs.Runs.{run_at};
 
-use crate::chunks::{write_chunk, write_from_block};
+use crate::chunks::write_chunk;
 use crate::copies::copy_bits;
-use crate::single::{fill_outside, write_bit};
+use crate::single::{fill_outside, write_bit, write_part};
 use bit_addressing::{BitEnd, BitIdx, BitOrder, BitStore, Meter, move_bits, move_bits_counted};
 
 /// Like `write_bit`, in the words of a vector.
@@ -196,22 +195,23 @@ pub fn write_chunk_in_vec<T: BitStore, O: BitOrder>(
     write_chunk::<T, O>(words.as_mut_slice(), at, n, chunk);
 }
 
-// Like `write_from_block`, in the words of a vector.
+// Like `write_part`, in the words of a vector.
 #[inline(always)]
-pub(crate) fn write_from_block_in_vec<T: BitStore, O: BitOrder>(
+pub(crate) fn write_part_in_vec<T: BitStore, O: BitOrder>(
     words: &mut Vec<T>,
-    at: usize,
-    n: u8,
-    block: u64,
+    k: usize,
+    low: u8,
+    high: u8,
+    new: T,
 )
-    requires some { 0 < n }
-    requires block { at % T.BITS + n ≤ 64 }
-    requires within { at + n ≤ T.BITS * length words.old.items }
-    requires fits { at + n < 2 ^ 64 }
+    requires word { k < length words.old.items }
+    requires some { low < high }
+    requires within { high ≤ T.BITS }
     ensures bits { row T.BitStore O.BitOrder words.new.items
-        ≡ put (row T.BitStore O.BitOrder words.old.items) at (run_at (row_of O.place 64 (block ∷ [])) (at % T.BITS) n) }
+        ≡ put (row T.BitStore O.BitOrder words.old.items) (k * T.BITS + low)
+        (slice_range (row T.BitStore O.BitOrder (new ∷ [])) low high) }
     ensures size { length words.new.items ≡ length words.old.items }
     ensures capacity { vec_capacity words.new ≡ vec_capacity words.old }
 {
-    write_from_block::<T, O>(words.as_mut_slice(), at, n, block);
+    write_part::<T, O>(words.as_mut_slice(), k, low as usize, high as usize, new);
 }

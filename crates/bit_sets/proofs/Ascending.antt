@@ -1,5 +1,5 @@
 -- The ascending list of a set's numbers, bit by bit.
-use Rattle.std.proofs.Common.{◌≡◌, ◌≢◌, ℕ, zero, suc, ◌+◌, ◌-◌, ◌<◌, ◌≤◌, Bool, true, false, cond, List, [], ◌∷◌, ◌++◌, append-nil, get_or, set, length, map, min, slice_range, refl, sym, ◌∙◌, ap, inl, inr, arith}
+use Rattle.std.proofs.Common.{◌≡◌, ◌≢◌, ℕ, zero, suc, ◌+◌, ◌-◌, ◌<◌, ◌≤◌, Bool, true, false, cond, List, [], ◌∷◌, ◌++◌, append-nil, get_or, set, length, min, refl, sym, ◌∙◌, ap, inl, inr, arith}
 use Rattle.std.specs.Prelude.{◌↔◌, IsTrue}
 use Rattle.std.specs.Cmp.{both_ways, unsigned_Decides}
 use Rattle.std.specs.Cmp.Lexicographic.{pointwise_decides}
@@ -7,9 +7,7 @@ use Rattle.std.specs.List.{filter, range_with_len}
 use Rattle.std.proofs.lemmas.Bool.{cases_lt, true≢false}
 use Rattle.std.proofs.lemmas.List.{get_or_past}
 use Rattle.std.proofs.lemmas.List.Elements.{filter-append}
-use Rattle.bit_addressing.proofs.lists.Shown.{length-between}
 use Rattle.bit_slice.specs.Places.{ones_of}
-use Rattle.bit_slice.proofs.Found.{item_of_part}
 use Rattle.bit_slice.proofs.Places.{places_empty, places_none, ranges_joined}
 use Rattle.bit_ranks.proofs.Parts.{from_index, ones_are}
 use Rattle.bit_sets.specs.Compared.{same_numbers}

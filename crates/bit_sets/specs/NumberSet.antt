@@ -1,5 +1,5 @@
 -- Sets of the numbers below a bound, as lists of truth values: item k says whether k is in the set.
-use Rattle.std.specs.Prelude.{◌≡◌, ◌≢◌, ℕ, ◌+◌, ◌%◌, ◌<◌, ◌≤◌, Bool, false, true, List, [], ◌∷◌, ◌++◌, Some, codes, length, slice_get, slice_index_or, refl}
+use Rattle.std.specs.Prelude.{◌≡◌, ◌≢◌, ℕ, ◌+◌, ◌%◌, ◌<◌, ◌≤◌, Bool, false, true, List, [], ◌∷◌, ◌++◌, Some, codes, slice_get, refl}
 use Rattle.std.specs.Fmt.{decimal, digits}
 use Rattle.std.specs.List.{flat_map}
 use Rattle.bit_slice.specs.Places.{ones_of, places_between}

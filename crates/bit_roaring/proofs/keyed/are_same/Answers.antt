@@ -1,6 +1,5 @@
-use Rattle.std.proofs.Common.{◌≡◌, ℕ, ◌<◌, [], get_or, length, sym, ◌∙◌, ap, subst, arith}
+use Rattle.std.proofs.Common.{◌<◌, [], get_or, length, sym, ◌∙◌, ap, arith}
 use Rattle.std.proofs.lemmas.List.{ext_get_or, get_or_default}
-use Rattle.bit_blocks.specs.declared.keyed.Keyed.{Keyed}
 use Rattle.bit_slice.proofs.Counting.{told_false, told_true}
 use Rattle.bit_roaring.specs.Keyed.{set_numbers}
 use Rattle.bit_roaring.proofs.Bytes.{same_set}

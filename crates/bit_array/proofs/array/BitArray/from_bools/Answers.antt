@@ -1,6 +1,5 @@
-use Rattle.std.proofs.Common.{◌≡◌, ℕ, ◌-◌, ◌*◌, ◌++◌, Bool, false, List, length, replicate, set, get_or, take, ◌∙◌, ap, arith}
+use Rattle.std.proofs.Common.{◌≡◌, ℕ, ◌-◌, ◌*◌, ◌++◌, false, length, replicate, set, get_or, take, ◌∙◌, ap, arith}
 use Rattle.std.proofs.lemmas.List.{length-append, length-replicate, take_all}
-use Rattle.bit_addressing.specs.Typed.{row}
 use Rattle.bit_array.proofs.Written.{one_bit_more}
 use Rattle.bit_array.proofs.array.BitArray.from_bools.Goals as goal
 

@@ -1,12 +1,12 @@
 -- Runs of true items, counted by the true items that follow another one.
-use Rattle.std.proofs.Common.{◌≡◌, ℕ, suc, ◌+◌, ◌-◌, ◌<◌, Bool, true, false, cond, ◌&&◌, nat_eq, List, [], ◌∷◌, count_by, get_or, length, take, drop, refl, sym, ◌∙◌, ap, arith}
+use Rattle.std.proofs.Common.{◌≡◌, ℕ, suc, ◌+◌, ◌-◌, ◌<◌, Bool, true, false, cond, ◌&&◌, nat_eq, List, [], ◌∷◌, count_by, get_or, length, replicate, take, refl, sym, ◌∙◌, ap, arith, rules}
 use Rattle.std.specs.Prelude.{slice_range}
 use Rattle.std.proofs.lemmas.Bool.{eq-eqb, ne_eqb}
-use Rattle.std.proofs.lemmas.List.{take_all, length-drop}
+use Rattle.std.proofs.lemmas.List.{places, same_lists}
 use Rattle.std.proofs.lemmas.List.Sums.{sum_by-cons}
+use Rattle.bit_addressing.specs.Row.{put}
 use Rattle.bit_slice.specs.Operators.{and_of}
 use Rattle.bit_slice.specs.Places.{ones_of}
-use Rattle.bit_blocks.specs.Bits.{AreBits}
 use Rattle.bit_blocks.specs.Numbers.{those}
 use Rattle.bit_blocks.specs.Runs.{runs_of}
 use Rattle.bit_blocks.proofs.Bits.{ones_those}
@@ -73,25 +73,14 @@ follow_counted before [] = refl
 follow_counted before (b ∷ bits) =
     sum_by-cons (λ t. cond {A = ℕ} t 1 0) (b && before) (and_of bits (take (length bits) (b ∷ bits))) ∙ ap (λ n. cond (b && before) 1 0 + n) (follow_counted b bits)
 
-follow_shifted : (bits : List Bool) → count_by (λ b. b) (and_of (drop 1 bits) (take (length bits - 1) bits)) ≡ follow false bits
-follow_shifted [] = refl
-follow_shifted (b ∷ bits) = let e : suc (length bits) - 1 ≡ length bits = omega arith in ap (λ n. count_by (λ t. t) (and_of bits (take n (b ∷ bits)))) e ∙ follow_counted b bits ∙ after b bits
-  where
-    after : (t : Bool) (l : List Bool) → follow t l ≡ follow false (t ∷ l)
-    after true l = omega arith
-    after false l = omega arith
+-- bits that are copied to the next index each, over bits that are false
+moved_on : (bits : List Bool) (n : ℕ) → length bits ≡ n → 0 < n → put (replicate n false) 1 (slice_range bits 0 (n - 1)) ≡ take (length bits) (false ∷ bits)
+unfolding put
+moved_on bits n size some = same_lists _ _ (search (rules, places)) (λ i b below. grind (arith, places))
 
 -- the runs of the numbers of bits, by the bits and the bits before them
-pub runs_by_shift : (bits back front : List Bool) → AreBits bits → back ≡ slice_range bits 1 65536 → front ≡ slice_range bits 0 65535 → length (runs_of (ones_of bits)) + count_by (λ b. b) (and_of back front) ≡ count_by (λ b. b) bits
-runs_by_shift bits back front size is_back is_front =
-    let n : length bits - 1 ≡ 65535 = omega arith in
-    let dropped = length-drop 1 bits in
-    let later : slice_range bits 1 65536 ≡ drop 1 bits = take_all 65535 (drop 1 bits) (omega arith) in
-    let earlier : slice_range bits 0 65535 ≡ take (length bits - 1) bits = ap (take 65535) (none_dropped bits) ∙ ap (λ m. take m bits) (sym n) in
-    ap (λ l. length (runs_of (ones_of bits)) + count_by (λ b. b) (and_of l front)) (is_back ∙ later) ∙ ap (λ l. length (runs_of (ones_of bits)) + count_by (λ b. b) (and_of (drop 1 bits) l)) (is_front ∙ earlier)
-    ∙ ap (λ n. length (runs_of (ones_of bits)) + n) (follow_shifted bits) ∙ ap (λ l. length (runs_of l) + follow false bits) (ones_from_start bits)
+pub runs_by_earlier : (bits earlier : List Bool) (n : ℕ) → length bits ≡ n → 0 < n → earlier ≡ put (replicate n false) 1 (slice_range bits 0 (n - 1)) → length (runs_of (ones_of bits)) + count_by (λ b. b) (and_of bits earlier) ≡ count_by (λ b. b) bits
+runs_by_earlier bits earlier n size some is =
+    ap (λ l. length (runs_of (ones_of bits)) + count_by (λ b. b) (and_of bits l)) (is ∙ moved_on bits n size some)
+    ∙ ap (λ k. length (runs_of (ones_of bits)) + k) (follow_counted false bits) ∙ ap (λ l. length (runs_of l) + follow false bits) (ones_from_start bits)
     ∙ runs_and_followers 0 bits ∙ sym (trues_counted bits)
-  where
-    none_dropped : (l : List Bool) → drop 0 l ≡ l
-    none_dropped [] = refl
-    none_dropped (x ∷ l) = refl

@@ -1,6 +1,7 @@
 pub mod Ascending
 pub mod Between
 pub mod Clipped
+pub mod Combined
 pub mod Edits
 pub mod Forms
 pub mod Edges

@@ -21,6 +21,10 @@ AreRunsFrom from (r ∷ rs) = (from ≤ r.first) × (r.first ≤ r.last) × (r.l
 abbrev pub AreRuns : List Run → Type 0
 AreRuns rs = AreRunsFrom 0 rs
 
+-- the run of the numbers from `first` on that are below `upto`, if there are any
+abbrev pub run_below : ℕ → ℕ → List Run
+run_below first upto = if nat_lt first upto then record { first = first; last = upto - 1 } ∷ [] else []
+
 -- whether a number is in a run
 abbrev pub is_in_run : Run → ℕ → Bool
 is_in_run r k = nat_le r.first k && nat_le k r.last

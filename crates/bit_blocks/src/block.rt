@@ -340,6 +340,15 @@ impl Block {
         form::runs_of(alloc, &self.form)
     }
 
+    /// The numbers as runs, where they are kept so, and None where they are not: as many numbers as possible in each.
+    /// Takes no memory.
+    #[tactic(auto, using(crate::proofs::Joined::are_runs_of))]
+    pub fn as_runs(&self) -> Option<&[Run]>
+        ensures { IfSome result (λ runs. runs.now ≡ runs_of self.now) }
+    {
+        form::as_runs(&self.form)
+    }
+
     /// The count of runs that `to_runs` makes. Takes no memory.
     pub fn count_runs(&self) -> usize
         ensures value { result ≡ length (runs_of self.now) }

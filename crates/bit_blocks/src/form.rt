@@ -16,7 +16,7 @@ use crate::mapped::Bits;
 use crate::operation::Operation;
 use crate::ranged::Run;
 use crate::runs_left::RunsLeft;
-use crate::{listed, mapped, ranged};
+use crate::{listed, mapped, ranged, stretches};
 use bit_addressing::Lsb0;
 use bit_containers::{BitList, BitListMut, BitSlice};
 use bit_rows::equal_words;
@@ -177,7 +177,31 @@ pub(crate) fn combined(
             return Ok(Form::Listed(made));
         }
     }
+    if let (Form::Ranged(runs), Form::Ranged(others)) = (left, right) {
+        return combined_runs(alloc, runs, others, operation);
+    }
     combined_bits(alloc, left, right, operation)
+}
+
+// Like `combined`, of two lists of runs. What is made is kept as runs where they take fewer bytes.
+fn combined_runs(
+    alloc: Global,
+    left: &[Run],
+    right: &[Run],
+    operation: Operation,
+) -> Result<Form, AllocError>
+    requires left { AreRuns left.now }
+    requires right { AreRuns right.now }
+    ensures members { IfOk result (λ form. Combines (made_by operation) (run_numbers left.now) (run_numbers right.now) (numbers_of form)) }
+    ensures form { IfOk result (λ form. IsForm form) }
+{
+    let runs = stretches::combined(alloc, left, right, operation)?;
+    let pays = runs_pay(ranged::count(&runs), runs.len());
+    let mut form = Form::Ranged(runs);
+    if !pays {
+        make_plain(&mut form)?;
+    }
+    Ok(form)
 }
 
 // Like `combined`, by bits.
@@ -355,6 +379,7 @@ pub(crate) fn are_same(left: &Form, right: &Form) -> bool
     match (left, right) {
         (Form::Listed(numbers), Form::Listed(others)) => equal_words::<u16>(numbers, others),
         (Form::Mapped(bits), Form::Mapped(others)) => mapped::are_same(bits, others),
+        (Form::Ranged(runs), Form::Ranged(others)) => ranged::are_same(runs, others),
         _ => are_counted_same(left, right),
     }
 }
@@ -457,6 +482,18 @@ pub(crate) fn as_bits(form: &Form) -> Option<BitSlice<'_, u64, Lsb0>>
     match form {
         Form::Mapped(bits) => Some(bits.as_bitslice()),
         Form::Listed(_) | Form::Ranged(_) => None,
+    }
+}
+
+// The runs, where that is the form.
+pub(crate) fn as_runs(form: &Form) -> Option<&[Run]>
+    requires { IsForm form.now }
+    ensures runs { IfSome result (λ runs. AreRuns runs.now) }
+    ensures numbers { IfSome result (λ runs. run_numbers runs.now ≡ numbers_of form.now) }
+{
+    match form {
+        Form::Ranged(runs) => Some(runs.as_slice()),
+        Form::Listed(_) | Form::Mapped(_) => None,
     }
 }
 

@@ -10,6 +10,7 @@ mod mapped;
 mod operation;
 mod ranged;
 mod runs_left;
+mod stretches;
 
 pub use block::Block;
 pub use form::runs_pay;

@@ -245,22 +245,24 @@ pub(crate) fn copied(alloc: Global, numbers: &[u16]) -> Result<Vec<u16>, AllocEr
     Ok(copy)
 }
 
-// The count of runs, where as many numbers as possible are in each.
+// The count of runs, where as many numbers as possible are in each. It is counted in 16 bits, as the compiler compares eight
+// numbers at a time then. Requires that there are fewer than 65536 numbers.
 #[tactic(auto, using(crate::proofs::Joined::breaks_begun, crate::proofs::Joined::breaks_on, crate::proofs::Joined::breaks_new, crate::proofs::Joined::breaks_done))]
 pub(crate) fn count_runs(numbers: &[u16]) -> usize
+    requires { length numbers.now < 65536 }
     ensures { result ≡ length (runs_of numbers.now) }
 {
     if numbers.len() == 0 {
         return 0;
     }
-    let mut count = 1;
+    let mut count: u16 = 1;
     let mut last = numbers[0];
     for i in 1..numbers.len() {
         let number = numbers[i];
-        if number as usize != last as usize + 1 {
+        if (number == 0) | (number.wrapping_sub(1) != last) {
             count += 1;
         }
         last = number;
     }
-    count
+    count as usize
 }

@@ -10,6 +10,7 @@ use crate::iter::OnesLeft;
 use crate::operation::Operation;
 use crate::ranged::Run;
 use bit_addressing::{BitOrder, BitStore, Lsb0};
+use bit_array::BitArray;
 use bit_containers::{And, BitList, BitListMut, BitOperator, BitVec, Or, Xor};
 use bit_slice::AndNot;
 use std::alloc::{AllocError, Global};
@@ -202,14 +203,15 @@ pub(crate) fn are_same(bits: &Bits, others: &Bits) -> bool
     bits == others
 }
 
-// The count of runs, where as many numbers as possible are in each: one for each number that does not follow another.
+// The count of runs, where as many numbers as possible are in each: one for each number that does not follow another. The
+// bits are copied to the next index each, since bits that lie alike are counted by whole words.
 pub(crate) fn count_runs(bits: &Bits) -> usize
     requires { AreBits bits.now.list }
     ensures { result ≡ length (runs_of (ones_of bits.now.list)) }
 {
-    let view = bits.as_bitslice();
-    let following = view.get_range(1..).count_and(view.get_range(..COUNT - 1));
-    bits.count_ones() - following
+    let mut earlier = BitArray::<[u64; 1024], Lsb0>::zero();
+    BitListMut::copy_into(&mut earlier, 1.., BitList::get_range(bits, ..COUNT - 1));
+    bits.count_ones() - bits.count_and(earlier.as_bitslice())
 }
 
 // Where the run of true bits ends to which the one at `first` belongs: the index after its last bit.

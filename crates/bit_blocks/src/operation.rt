@@ -51,4 +51,16 @@ impl Operation {
             Operation::SymmetricDifference => true,
         }
     }
+
+    // Whether a number is kept, by whether it is in the left set and in the right one.
+    pub(crate) fn keeps(self, in_left: bool, in_right: bool) -> bool
+        ensures { result ≡ made_by self in_left in_right }
+    {
+        match (in_left, in_right) {
+            (true, true) => self.keeps_both(),
+            (true, false) => self.keeps_left(),
+            (false, true) => self.keeps_right(),
+            (false, false) => false,
+        }
+    }
 }

@@ -1,5 +1,5 @@
 //! Runs of numbers in a slice.
-ghost use Rattle.std.specs.Prelude.{◌≡◌, ◌≤◌, ◌+◌, ◌-◌, IfOk, length, slice_get};
+ghost use Rattle.std.specs.Prelude.{◌≡◌, ◌≤◌, ◌+◌, ◌-◌, ◌↔◌, IfOk, IsTrue, length, slice_get};
 ghost use Rattle.std.specs.List.{range_with_len};
 ghost use Rattle.bit_blocks.specs.Numbers.{Ascends, count_below, count_where, has};
 ghost use Rattle.bit_blocks.specs.Runs.{AreRuns, run_numbers};
@@ -120,6 +120,15 @@ pub(crate) fn count_both(left: &[Run], right: &[Run]) -> usize
         }
     }
     count
+}
+
+// Whether two lists of runs have the same numbers. Requires that the runs of each are in order and apart.
+pub(crate) fn are_same(runs: &[Run], others: &[Run]) -> bool
+    requires left { AreRuns runs.now }
+    requires right { AreRuns others.now }
+    ensures { IsTrue result ↔ (run_numbers runs.now ≡ run_numbers others.now) }
+{
+    runs == others
 }
 
 // The runs of ascending numbers: as many as possible in each.

@@ -12,4 +12,3 @@ pub mod Portable
 pub mod Rowed
 pub mod Faults
 pub mod Told
-pub mod Packed

@@ -6,7 +6,7 @@ use Rattle.bit_blocks.specs.Runs.{AreRunsFrom, numbers_of_run, run_numbers}
 use Rattle.bit_blocks.proofs.Runs.{few_runs}
 use Rattle.bit_portable.specs.declared.stored.Head.{Head}
 use Rattle.bit_portable.specs.declared.stored.Part.{Part}
-use Rattle.bit_portable.specs.Stored.{AreOrdered, IsPiece, piece_lent, pieces_lent, Content, Numbers, Words, Runs, Holds, run_total}
+use Rattle.bit_portable.specs.Stored.{IsPiece, IsWritable, piece_lent, pieces_lent, Content, Numbers, Words, Runs, Holds, run_total}
 
 -- the facts of each item but the first
 pub of_rest : {X : Type 0} (P : X → Type 0) (x : X) (xs : List X) → All P (x ∷ xs) → All P xs
@@ -22,10 +22,10 @@ runs_ordered from [] h k d inside = absurd (omega arith)
 runs_ordered from (r ∷ rs) h zero d inside = h.1
 runs_ordered from (r ∷ rs) h (suc k) d inside = runs_ordered (r.last + 2) rs h.3 k d (omega arith)
 
-pub is_ordered : (h : Head) (c : Content) → Holds h c → AreOrdered c
-is_ordered h (Numbers xs) holds = tt
-is_ordered h (Words ws) holds = tt
-is_ordered h (Runs rs) holds = let few = few_runs 0 rs (omega arith) holds.2 in (omega arith, runs_ordered 0 rs holds.2)
+pub is_writable : (h : Head) (c : Content) → Holds h c → IsWritable c
+is_writable h (Numbers xs) holds = let few = holds.1 in let size = holds.2 in omega arith
+is_writable h (Words ws) holds = let size = holds.2 in omega arith
+is_writable h (Runs rs) holds = let few = few_runs 0 rs (omega arith) holds.2 in (omega arith, runs_ordered 0 rs holds.2)
 
 -- the facts of blocks without where they lie in memory
 pub all_pieces : (bs : List Part) → All IsPiece (pieces_lent bs) → All (λ s. IsPiece (piece_lent s)) bs

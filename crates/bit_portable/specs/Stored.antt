@@ -1,5 +1,5 @@
 -- Blocks as the format stores them, and the bytes of each.
-use Rattle.std.specs.Prelude.{◌≡◌, ℕ, ◌+◌, ◌-◌, ◌<◌, ◌≤◌, ◌^◌, true, false, List, [], ◌∷◌, ◌++◌, length, map, All, ⊤}
+use Rattle.std.specs.Prelude.{◌≡◌, ℕ, ◌+◌, ◌-◌, ◌<◌, ◌≤◌, ◌^◌, true, false, List, [], ◌∷◌, ◌++◌, length, map, All}
 use Rattle.std.specs.List.{flat_map}
 use Rattle.std.specs.Int.{w16, w64, to_le_bytes}
 use Rattle.std.specs.Int.RustNames.{count_ones}
@@ -44,6 +44,7 @@ abbrev pub content_lent : Lent → Content
 content_lent (lent_of.Stored d) = content_of d.now
 content_lent (lent_of.Numbers v) = Numbers v.now
 content_lent (lent_of.Words v) = Words v.now
+content_lent (lent_of.Runs v) = Runs v.now
 content_lent (lent_of.Made d) = content_of d
 
 -- the block that is written
@@ -92,11 +93,11 @@ Holds h (Numbers xs) = (h.as_runs ≡ false) × (h.count ≤ 4096) × (length xs
 Holds h (Words ws) = (h.as_runs ≡ false) × (4096 < h.count) × (length ws ≡ 1024) × (word_total ws ≡ h.count) × All (λ w. w < 2 ^ 64) ws
 Holds h (Runs rs) = (h.as_runs ≡ true) × (0 < length rs) × AreRuns rs × (run_total rs ≡ h.count)
 
--- runs have a first number that is not above the last, and no more than 65535 of them are written
-abbrev pub AreOrdered : Content → Type 0
-AreOrdered (Numbers xs) = ⊤
-AreOrdered (Words ws) = ⊤
-AreOrdered (Runs rs) = (length rs < 65536) × All (λ r. r.first ≤ r.last) rs
+-- what can be written of a block's numbers: fewer than 65536 numbers, words or runs, and no run's first number is above its last
+abbrev pub IsWritable : Content → Type 0
+IsWritable (Numbers xs) = length xs < 65536
+IsWritable (Words ws) = length ws < 65536
+IsWritable (Runs rs) = (length rs < 65536) × All (λ r. r.first ≤ r.last) rs
 
 -- a block that has a form
 pub record IsPiece (p : Piece) : Type 0 where

@@ -1,7 +1,8 @@
 //! Sets of numbers as bytes, and bytes as sets of numbers.
 ghost use Rattle.std.specs.Prelude.{All, map, ◌≡◌, ◌≤◌, ◌<◌, Bool, List, Ok, IfErr, IfOk, false, length, true};
 ghost use Rattle.bit_blocks.specs.Numbers.{Ascends};
-ghost use Rattle.bit_portable.specs.Stored.{Holds, Numbers, Words, content_lent, content_of, piece_lent, piece_of, pieces_lent, pieces_of};
+ghost use Rattle.bit_blocks.specs.Runs.{runs_of};
+ghost use Rattle.bit_portable.specs.Stored.{Holds, Numbers, Runs, Words, content_lent, content_of, piece_lent, piece_of, pieces_lent, pieces_of};
 ghost use Rattle.bit_portable.specs.Keyed.{all_numbered, numbered};
 ghost use Rattle.bit_portable.specs.Form.{heads_of};
 ghost use Rattle.bit_portable.specs.Portable.{AreBlocks, IsGood, numbered_of, IsFormOf, Numbered, any_runs, content_for, numbers_of, piece_for, pieces_for, portable, words_of};
@@ -69,6 +70,17 @@ fn plain_part<'a>(alloc: Global, keyed: &'a Keyed) -> Result<Part<'a>, AllocErro
     Ok(Part { head, content })
 }
 
+// The numbers of a block as runs, lent where the block has these.
+fn lent_runs<'a>(alloc: Global, block: &'a Block) -> Result<Lent<'a>, AllocError>
+    ensures { IfOk result (λ c. content_lent c ≡ Runs (runs_of block.now)) }
+{
+    if let Some(runs) = block.as_runs() {
+        return Ok(Lent::Runs(runs));
+    }
+    let runs = block.to_runs(alloc)?;
+    Ok(Lent::Made(Data::Runs(runs)))
+}
+
 // A block as it is stored with runs where they take fewer bytes.
 fn part_with_runs<'a>(alloc: Global, keyed: &'a Keyed) -> Result<Part<'a>, AllocError>
     ensures { IfOk result (λ s. piece_lent s ≡ piece_for true (numbered keyed.now)) }
@@ -77,16 +89,13 @@ fn part_with_runs<'a>(alloc: Global, keyed: &'a Keyed) -> Result<Part<'a>, Alloc
     if !runs_pay(count, keyed.block.count_runs()) {
         return plain_part(alloc, keyed);
     }
-    let runs = keyed.block.to_runs(alloc)?;
+    let content = lent_runs(alloc, &keyed.block)?;
     let head = Head {
         key: keyed.key,
         count: count as u32,
         as_runs: true,
     };
-    Ok(Part {
-        head,
-        content: Lent::Made(Data::Runs(runs)),
-    })
+    Ok(Part { head, content })
 }
 
 // A block as it is stored.

@@ -39,6 +39,7 @@ pub(crate) enum Lent<'a> {
     Stored(&'a Data),
     Numbers(&'a [u16]),
     Words(&'a [u64]),
+    Runs(&'a [Run]),
     Made(Data),
 }
 

@@ -1,59 +1,70 @@
 //! Blocks as bytes.
 
-ghost use Rattle.std.specs.Prelude.{◌≡◌, ◌+◌, ◌≤◌, ◌<◌, ◌-◌, ◌*◌, ◌/◌, ◌++◌, ◌^◌, length, map, drop, OnOk, IfOk, All, IsTrue};
+ghost use Rattle.std.specs.Prelude.{◌≡◌, ◌+◌, ◌≤◌, ◌<◌, ◌-◌, ◌*◌, ◌/◌, ◌++◌, ◌^◌, length, map, drop, OnOk, IfOk, All, IsTrue, vec_capacity};
 ghost use Rattle.std.specs.List.{flat_map};
-ghost use Rattle.bit_portable.specs.Stored.{AreOrdered, Holds, IsPiece, content_of, content_lent, content_bytes, piece_lent, pieces_lent, pieces_of, two, eight, run_bytes, head_bytes};
+ghost use Rattle.bit_portable.specs.Stored.{Holds, IsPiece, IsWritable, Runs, content_of, content_lent, content_bytes, piece_lent, pieces_lent, pieces_of, two, eight, run_bytes, head_bytes};
 ghost use Rattle.bit_portable.specs.Form.{AreWritable, data_bytes, data_start, digits, flag_bytes, flags_for, form, offsets_for, start_bytes, four, heads_of, offset_bytes, run_flags};
 
 use crate::stored::{Data, Head, Lent, Part, Stored};
 use bit_blocks::Run;
 use std::alloc::{AllocError, Global};
+use std::mem::replace;
 
-// Four numbers as one whose bytes are theirs.
-fn packed(numbers: &[u16]) -> u64
-    requires { length numbers.now ≡ 4 }
-    ensures { eight result ≡ flat_map two numbers.now }
+// Appends each number as two bytes. Requires that the capacity has room for them.
+fn with_numbers(bytes: Vec<u8>, numbers: &[u16]) -> Vec<u8>
+    requires { length bytes.items + 2 * length numbers.now ≤ vec_capacity bytes }
+    ensures { result.items ≡ bytes.items ++ flat_map two numbers.now }
 {
-    let low = numbers[0] as u64 + 65536 * numbers[1] as u64;
-    let high = numbers[2] as u64 + 65536 * numbers[3] as u64;
-    low + 4294967296 * high
+    let mut out = bytes;
+    for &number in numbers {
+        let [low, high] = number.to_le_bytes();
+        out.push_reserved(low);
+        out.push_reserved(high);
+    }
+    out
 }
 
-// Appends each number as two bytes, one after another.
-fn push_singly(out: &mut Vec<u8>, numbers: &[u16]) -> Result<(), AllocError>
+// Appends each number as two bytes. The vector is handed on by value, since the compiler copies many numbers at a time only
+// where nothing else can see how long it is.
+fn push_numbers(out: &mut Vec<u8>, numbers: &[u16]) -> Result<(), AllocError>
+    requires { length numbers.now < 65536 }
     ensures appended { OnOk result (out.new.items ≡ out.old.items ++ flat_map two numbers.now) }
 {
-    for &x in numbers {
-        out.extend_from_slice(&x.to_le_bytes())?;
-    }
+    out.reserve(2 * numbers.len())?;
+    let alloc = *out.allocator();
+    let all = with_numbers(replace(out, Vec::new(alloc)), numbers);
+    let _empty = replace(out, all);
     Ok(())
 }
 
-// Appends each number as two bytes. Four are written at once, which takes a test of the capacity for each four.
-fn push_numbers(out: &mut Vec<u8>, numbers: &[u16]) -> Result<(), AllocError>
-    ensures appended { OnOk result (out.new.items ≡ out.old.items ++ flat_map two numbers.now) }
+// Appends each word as eight bytes. Requires that the capacity has room for them.
+fn with_words(bytes: Vec<u8>, words: &[u64]) -> Vec<u8>
+    requires { length bytes.items + 8 * length words.now ≤ vec_capacity bytes }
+    ensures { result.items ≡ bytes.items ++ flat_map eight words.now }
 {
-    let mut rest = numbers;
-    while rest.len() >= 4 {
-        let (front, after) = rest.split_at(4);
-        out.extend_from_slice(&packed(front).to_le_bytes())?;
-        rest = after;
+    let mut out = bytes;
+    for &word in words {
+        for byte in word.to_le_bytes() {
+            out.push_reserved(byte);
+        }
     }
-    push_singly(out, rest)
+    out
 }
 
-// Appends each word as eight bytes.
+// Like `push_numbers`, of words as eight bytes each.
 fn push_words(out: &mut Vec<u8>, words: &[u64]) -> Result<(), AllocError>
+    requires { length words.now < 65536 }
     ensures appended { OnOk result (out.new.items ≡ out.old.items ++ flat_map eight words.now) }
 {
-    for &word in words {
-        out.extend_from_slice(&word.to_le_bytes())?;
-    }
+    out.reserve(8 * words.len())?;
+    let alloc = *out.allocator();
+    let all = with_words(replace(out, Vec::new(alloc)), words);
+    let _empty = replace(out, all);
     Ok(())
 }
 
 // Appends each run's first number, and how many more it has.
-fn push_runs(out: &mut Vec<u8>, runs: &[Run]) -> Result<(), AllocError>
+fn push_each_run(out: &mut Vec<u8>, runs: &[Run]) -> Result<(), AllocError>
     requires { All (λ r. r.first ≤ r.last) runs.now }
     ensures appended { OnOk result (out.new.items ≡ out.old.items ++ flat_map run_bytes runs.now) }
 {
@@ -62,6 +73,15 @@ fn push_runs(out: &mut Vec<u8>, runs: &[Run]) -> Result<(), AllocError>
         out.extend_from_slice(&(run.last - run.first).to_le_bytes())?;
     }
     Ok(())
+}
+
+// Appends how many runs there are, and each run.
+fn push_runs(out: &mut Vec<u8>, runs: &[Run]) -> Result<(), AllocError>
+    requires { IsWritable (Runs runs.now) }
+    ensures appended { OnOk result (out.new.items ≡ out.old.items ++ content_bytes (Runs runs.now)) }
+{
+    out.extend_from_slice(&(runs.len() as u16).to_le_bytes())?;
+    push_each_run(out, runs)
 }
 
 // Appends what the header says of each block.
@@ -115,16 +135,13 @@ fn data_len(content: &Data) -> usize
 
 // Appends the numbers of a block.
 fn push_data(out: &mut Vec<u8>, content: &Data) -> Result<(), AllocError>
-    requires { AreOrdered (content_of content.now) }
+    requires { IsWritable (content_of content.now) }
     ensures appended { OnOk result (out.new.items ≡ out.old.items ++ content_bytes (content_of content.now)) }
 {
     match content {
         Data::Numbers(numbers) => push_numbers(out, numbers),
         Data::Words(words) => push_words(out, words),
-        Data::Runs(runs) => {
-            out.extend_from_slice(&(runs.len() as u16).to_le_bytes())?;
-            push_runs(out, runs)
-        }
+        Data::Runs(runs) => push_runs(out, runs),
     }
 }
 
@@ -137,19 +154,21 @@ fn lent_len(content: &Lent<'_>) -> usize
         Lent::Stored(content) => data_len(content),
         Lent::Numbers(numbers) => 2 * numbers.len(),
         Lent::Words(words) => 8 * words.len(),
+        Lent::Runs(runs) => 2 + 4 * runs.len(),
         Lent::Made(content) => data_len(content),
     }
 }
 
 // Appends the numbers of a block.
 fn push_lent(out: &mut Vec<u8>, content: &Lent<'_>) -> Result<(), AllocError>
-    requires { AreOrdered (content_lent content.now) }
+    requires { IsWritable (content_lent content.now) }
     ensures appended { OnOk result (out.new.items ≡ out.old.items ++ content_bytes (content_lent content.now)) }
 {
     match content {
         Lent::Stored(content) => push_data(out, content),
         Lent::Numbers(numbers) => push_numbers(out, numbers),
         Lent::Words(words) => push_words(out, words),
+        Lent::Runs(runs) => push_runs(out, runs),
         Lent::Made(content) => push_data(out, content),
     }
 }

@@ -16,7 +16,7 @@ fn is_bits(block: &Block) -> bool {
 
 // Whether a block is runs.
 fn is_runs(block: &Block) -> bool {
-    block.as_list().is_none() && block.as_bits().is_none()
+    block.as_runs().is_some()
 }
 
 // Every second number, `count` of them.
@@ -94,6 +94,28 @@ fn an_operation_makes_a_list_or_bits(rt: HostRuntime) {
 }
 
 #[test]
+fn runs_make_runs_where_they_pay(rt: HostRuntime) {
+    let low = ok(&rt, Block::from_range(rt.alloc(), 10, 19));
+    let high = ok(&rt, Block::from_range(rt.alloc(), 20, 29));
+    let far = ok(&rt, Block::from_range(rt.alloc(), 28, 39));
+    let union = ok(&rt, low.combined(rt.alloc(), &high, Operation::Union));
+    check(&rt, is_runs(&union));
+    check(&rt, union.count_runs() == 1);
+    let apart = ok(
+        &rt,
+        union.combined(rt.alloc(), &far, Operation::SymmetricDifference),
+    );
+    check(&rt, is_runs(&apart));
+    check(&rt, apart.count_runs() == 2);
+    let both = ok(
+        &rt,
+        union.combined(rt.alloc(), &far, Operation::Intersection),
+    );
+    check(&rt, is_list(&both));
+    check(&rt, both.len() == 2);
+}
+
+#[test]
 fn blocks_of_one_form_are_compared(rt: HostRuntime) {
     let list = evens(&rt, rt.alloc(), 10);
     check(&rt, list.has_same_numbers(&evens(&rt, rt.alloc(), 10)));
@@ -101,6 +123,11 @@ fn blocks_of_one_form_are_compared(rt: HostRuntime) {
     let bits = evens(&rt, rt.alloc(), 5000);
     check(&rt, bits.has_same_numbers(&evens(&rt, rt.alloc(), 5000)));
     check(&rt, !bits.has_same_numbers(&list));
+    let runs = ok(&rt, Block::from_range(rt.alloc(), 7, 90));
+    let same = ok(&rt, Block::from_range(rt.alloc(), 7, 90));
+    let longer = ok(&rt, Block::from_range(rt.alloc(), 7, 91));
+    check(&rt, runs.has_same_numbers(&same));
+    check(&rt, !runs.has_same_numbers(&longer));
 }
 
 #[test]

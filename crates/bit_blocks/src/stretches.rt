@@ -1,0 +1,97 @@
+//! Two lists of runs combined, a stretch at a time: the numbers up to the next one where a run of either begins or ends.
+ghost use Rattle.std.specs.Prelude.{◌≡◌, ◌≤◌, ◌<◌, ◌++◌, IfOk, OnOk, length};
+ghost use Rattle.bit_blocks.specs.Numbers.{Combines};
+ghost use Rattle.bit_blocks.specs.Operation.{made_by};
+ghost use Rattle.bit_blocks.specs.Runs.{AreRuns, run_below, run_numbers};
+ghost use Rattle.bit_blocks.specs.RunPlaces.{EndBefore, IsEndedBefore, IsStretch};
+
+use crate::operation::Operation;
+use crate::ranged::Run;
+use std::alloc::{AllocError, Global};
+
+// How many numbers there are.
+const COUNT: usize = 65536;
+
+// Whether the numbers from `at` on are in the runs, and the first one after them of which the opposite may be true, where
+// the runs before run `i` end before `at`, and the others do not.
+fn stretch(runs: &[Run], i: usize, at: usize) -> (bool, usize)
+    requires runs { AreRuns runs.now }
+    requires low { at < 65536 }
+    requires within { i ≤ length runs.now }
+    requires place { IsEndedBefore runs.now at i }
+    ensures { IsStretch runs.now at result.1 result.0 }
+{
+    if i == runs.len() {
+        return (false, COUNT);
+    }
+    let run = runs[i];
+    if run.first as usize <= at {
+        (true, run.last as usize + 1)
+    } else {
+        (false, run.first as usize)
+    }
+}
+
+// The count of runs that end before `upto`, where at least `i` do.
+fn advanced(runs: &[Run], i: usize, upto: usize) -> usize
+    requires runs { AreRuns runs.now }
+    requires within { i ≤ length runs.now }
+    requires before { EndBefore runs.now upto i }
+    ensures within { result ≤ length runs.now }
+    ensures place { IsEndedBefore runs.now upto result }
+{
+    let mut next = i;
+    while next < runs.len() && (runs[next].last as usize) < upto {
+        next += 1;
+    }
+    next
+}
+
+// Appends the run of the numbers from `first` on that are below `upto`, if there are any.
+fn push_run(made: &mut Vec<Run>, first: usize, upto: usize) -> Result<(), AllocError>
+    requires { upto ≤ 65536 }
+    ensures { OnOk result (made.new.items ≡ made.old.items ++ run_below first upto) }
+{
+    if first < upto {
+        made.push(Run {
+            first: first as u16,
+            last: (upto - 1) as u16,
+        })?;
+    }
+    Ok(())
+}
+
+// What an operation makes of two lists of runs. The run that was made last is kept apart, until a number after it is left
+// out.
+pub(crate) fn combined(
+    alloc: Global,
+    left: &[Run],
+    right: &[Run],
+    operation: Operation,
+) -> Result<Vec<Run>, AllocError>
+    requires left { AreRuns left.now }
+    requires right { AreRuns right.now }
+    ensures runs { IfOk result (λ made. AreRuns made.items) }
+    ensures members { IfOk result (λ made. Combines (made_by operation) (run_numbers left.now) (run_numbers right.now) (run_numbers made.items)) }
+{
+    let mut made = Vec::new(alloc);
+    let (mut i, mut j, mut at) = (0, 0, 0);
+    let (mut first, mut upto) = (0, 0);
+    while at < COUNT {
+        let (in_left, left_end) = stretch(left, i, at);
+        let (in_right, right_end) = stretch(right, j, at);
+        let end = left_end.min(right_end);
+        if operation.keeps(in_left, in_right) {
+            if at != upto {
+                push_run(&mut made, first, upto)?;
+                first = at;
+            }
+            upto = end;
+        }
+        i = advanced(left, i, end);
+        j = advanced(right, j, end);
+        at = end;
+    }
+    push_run(&mut made, first, upto)?;
+    Ok(made)
+}

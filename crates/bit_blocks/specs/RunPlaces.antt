@@ -23,7 +23,7 @@ pub record EachMeets (rs : List Run) (first last : ℕ) : Type 0 where
 abbrev pub EndBefore : List Run → ℕ → ℕ → Type 0
 EndBefore rs k i = (j : ℕ) (d : Run) → j < i → (slice_index_or rs j d).last < k
 
--- of the numbers from `at` on that are below `upto`, of which there is one, the runs have all or none, as `inside` says
+-- there are numbers from `at` on that are below `upto`, and the runs have all of them, or none, as `inside` says
 pub record IsStretch (rs : List Run) (at upto : ℕ) (inside : Bool) : Type 0 where
   pub some : at < upto
   pub most : upto ≤ 65536

@@ -245,8 +245,8 @@ pub(crate) fn copied(alloc: Global, numbers: &[u16]) -> Result<Vec<u16>, AllocEr
     Ok(copy)
 }
 
-// The count of runs, where as many numbers as possible are in each. It is counted in 16 bits, as the compiler compares eight
-// numbers at a time then. Requires that there are fewer than 65536 numbers.
+// The count of runs, where as many numbers as possible are in each. The count has 16 bits, so that the compiler compares eight
+// numbers at a time. Requires that there are fewer than 65536 numbers.
 #[tactic(auto, using(crate::proofs::Joined::breaks_begun, crate::proofs::Joined::breaks_on, crate::proofs::Joined::breaks_new, crate::proofs::Joined::breaks_done))]
 pub(crate) fn count_runs(numbers: &[u16]) -> usize
     requires { length numbers.now < 65536 }

@@ -203,8 +203,8 @@ pub(crate) fn are_same(bits: &Bits, others: &Bits) -> bool
     bits == others
 }
 
-// The count of runs, where as many numbers as possible are in each: one for each number that does not follow another. The
-// bits are copied to the next index each, since bits that lie alike are counted by whole words.
+// The count of runs, where as many numbers as possible are in each: one for each number that does not follow another. Each
+// bit is copied to the next index, since two lists of bits whose words begin alike are counted by whole words.
 pub(crate) fn count_runs(bits: &Bits) -> usize
     requires { AreBits bits.now.list }
     ensures { result ≡ length (runs_of (ones_of bits.now.list)) }

@@ -1,19 +1,18 @@
-//! Two lists of runs combined, a stretch at a time: the numbers up to the next one where a run of either begins or ends.
+//! Two lists of runs combined. They are read a stretch at a time, the numbers up to the next one where a run of either list
+//! begins or ends: each list has all of these, or none.
 ghost use Rattle.std.specs.Prelude.{◌≡◌, ◌≤◌, ◌<◌, ◌++◌, IfOk, OnOk, length};
 ghost use Rattle.bit_blocks.specs.Numbers.{Combines};
 ghost use Rattle.bit_blocks.specs.Operation.{made_by};
 ghost use Rattle.bit_blocks.specs.Runs.{AreRuns, run_below, run_numbers};
 ghost use Rattle.bit_blocks.specs.RunPlaces.{EndBefore, IsEndedBefore, IsStretch};
 
+use crate::mapped::COUNT;
 use crate::operation::Operation;
 use crate::ranged::Run;
 use std::alloc::{AllocError, Global};
 
-// How many numbers there are.
-const COUNT: usize = 65536;
-
-// Whether the numbers from `at` on are in the runs, and the first one after them of which the opposite may be true, where
-// the runs before run `i` end before `at`, and the others do not.
+// Whether `at` is in the runs, and a number above it: those in between are in the runs too, or none of them is. Requires that
+// `i` runs end before `at`.
 fn stretch(runs: &[Run], i: usize, at: usize) -> (bool, usize)
     requires runs { AreRuns runs.now }
     requires low { at < 65536 }
@@ -61,8 +60,8 @@ fn push_run(made: &mut Vec<Run>, first: usize, upto: usize) -> Result<(), AllocE
     Ok(())
 }
 
-// What an operation makes of two lists of runs. The run that was made last is kept apart, until a number after it is left
-// out.
+// What an operation makes of two lists of runs. The last run, of the numbers from `first` on that are below `upto`, is appended
+// once the next number that is kept does not follow it.
 pub(crate) fn combined(
     alloc: Global,
     left: &[Run],

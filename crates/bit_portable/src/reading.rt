@@ -98,7 +98,7 @@ fn eights(alloc: Global, bytes: &[u8]) -> Result<Vec<u64>, AllocError>
     Ok(numbers)
 }
 
-// Whether the numbers ascend. It goes through all of them, since the compiler compares eight at a time then.
+// Whether the numbers ascend. All of them are read, so that the compiler compares eight at a time.
 fn ascends(numbers: &[u16]) -> bool
     ensures { result ≡ ascends 0 numbers.now }
 {

@@ -24,8 +24,8 @@ fn with_numbers(bytes: Vec<u8>, numbers: &[u16]) -> Vec<u8>
     out
 }
 
-// Appends each number as two bytes. The vector is handed on by value, since the compiler copies many numbers at a time only
-// where nothing else can see how long it is.
+// Appends each number as two bytes. The vector is passed on by value: the compiler stores many numbers at once where no
+// reference to the vector is left.
 fn push_numbers(out: &mut Vec<u8>, numbers: &[u16]) -> Result<(), AllocError>
     requires { length numbers.now < 65536 }
     ensures appended { OnOk result (out.new.items ≡ out.old.items ++ flat_map two numbers.now) }

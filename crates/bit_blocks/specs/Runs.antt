@@ -51,6 +51,12 @@ runs_pay count runs = if nat_le count 4096 then nat_lt (4 * runs + 2) (2 * count
 three_numbers : run_numbers (record { first = 2; last = 3 } ∷ record { first = 7; last = 7 } ∷ []) ≡ 2 ∷ 3 ∷ 7 ∷ []
 three_numbers = refl
 
+two_below_seven : run_below 5 7 ≡ record { first = 5; last = 6 } ∷ []
+two_below_seven = refl
+
+none_below_seven : run_below 7 7 ≡ []
+none_below_seven = refl
+
 three_runs : runs_of (2 ∷ 3 ∷ 5 ∷ 7 ∷ 8 ∷ 9 ∷ []) ≡ record { first = 2; last = 3 } ∷ record { first = 5; last = 5 } ∷ record { first = 7; last = 9 } ∷ []
 three_runs = refl
 

@@ -19,7 +19,6 @@ use crate::runs_left::RunsLeft;
 use crate::{listed, mapped, ranged, stretches};
 use bit_addressing::Lsb0;
 use bit_containers::{BitList, BitListMut, BitSlice};
-use bit_rows::equal_words;
 use std::alloc::{AllocError, Global};
 
 // A sorted list of at most `LISTED` numbers, a bit for each number where there are more, or runs. The bits lie apart, so
@@ -377,7 +376,7 @@ pub(crate) fn are_same(left: &Form, right: &Form) -> bool
     ensures { IsTrue result ↔ (numbers_of left.now ≡ numbers_of right.now) }
 {
     match (left, right) {
-        (Form::Listed(numbers), Form::Listed(others)) => equal_words::<u16>(numbers, others),
+        (Form::Listed(numbers), Form::Listed(others)) => listed::are_same(numbers, others),
         (Form::Mapped(bits), Form::Mapped(others)) => mapped::are_same(bits, others),
         (Form::Ranged(runs), Form::Ranged(others)) => ranged::are_same(runs, others),
         _ => are_counted_same(left, right),

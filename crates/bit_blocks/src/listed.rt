@@ -1,5 +1,5 @@
 //! Ascending numbers in a slice: found, put in, taken out, combined and counted.
-ghost use Rattle.std.specs.Prelude.{◌≡◌, ◌++◌, ◌∷◌, [], if◌then◌else◌, ◌≤◌, ◌+◌, ◌/◌, IfOk, MatchResult, OnErr, OnOk, Some, length, max, not, slice_get, true, false, vec_capacity, vec_len, ◌<◌};
+ghost use Rattle.std.specs.Prelude.{◌≡◌, ◌↔◌, IsTrue, ◌++◌, ◌∷◌, [], if◌then◌else◌, ◌≤◌, ◌+◌, ◌/◌, IfOk, MatchResult, OnErr, OnOk, Some, length, max, not, slice_get, true, false, vec_capacity, vec_len, ◌<◌};
 ghost use Rattle.bit_blocks.specs.Operation.{made_by};
 ghost use Rattle.bit_blocks.specs.Runs.{runs_of};
 ghost use Rattle.bit_blocks.specs.Numbers.{Ascends, Combines, Gains, Loses, LosesBetween, count_below, count_where, has, numbers_between};
@@ -265,4 +265,18 @@ pub(crate) fn count_runs(numbers: &[u16]) -> usize
         last = number;
     }
     count as usize
+}
+
+// Whether both are the same numbers. All of them are compared, so that the compiler compares many at a time.
+pub(crate) fn are_same(numbers: &[u16], others: &[u16]) -> bool
+    ensures { IsTrue result ↔ (numbers.now ≡ others.now) }
+{
+    if numbers.len() != others.len() {
+        return false;
+    }
+    let mut is_same = true;
+    for i in 0..numbers.len() {
+        is_same &= numbers[i] == others[i];
+    }
+    is_same
 }

@@ -1,5 +1,6 @@
 // The works of sparse/ by CRoaring, and files in both directions. Arguments: a folder, how many numbers, repetitions.
 #include "timed.hpp"
+#include <algorithm>
 #include <cstdint>
 #include <cstdlib>
 #include <fstream>
@@ -33,6 +34,21 @@ static Set made(uint64_t kind, uint64_t seed, uint64_t size) {
   for (uint64_t k = 0; k < size; k++) roaring_bitmap_add(set.bits, number(kind, seed + k));
   return set;
 }
+
+// The numbers of a set that is made, in no order.
+static std::vector<uint32_t> listed(uint64_t kind, uint64_t seed, uint64_t size) {
+  std::vector<uint32_t> numbers;
+  for (uint64_t k = 0; k < size; k++) numbers.push_back(number(kind, seed + k));
+  return numbers;
+}
+
+static std::vector<uint32_t> sorted(uint64_t kind, uint64_t seed, uint64_t size) {
+  std::vector<uint32_t> numbers = listed(kind, seed, size);
+  std::sort(numbers.begin(), numbers.end());
+  return numbers;
+}
+
+static Set collected(const std::vector<uint32_t> &numbers) { return Set(roaring_bitmap_of_ptr(numbers.size(), numbers.data())); }
 
 static size_t count_found(const Set &set, uint64_t kind, uint64_t size) {
   size_t found = 0;
@@ -71,6 +87,8 @@ static void run(const std::string &folder, uint64_t kind, const std::string &nam
   auto len = [](auto &, Set &set) { return set.len(); };
   auto count = [](auto &, size_t found) { return found; };
   timed(work("made").c_str(), repetitions, none, [&](int) { return made(kind, 0, size); }, len);
+  timed(work("collected").c_str(), repetitions, [&] { return listed(kind, 0, size); }, [](std::vector<uint32_t> &numbers) { return collected(numbers); }, len);
+  timed(work("ascending").c_str(), repetitions, [&] { return sorted(kind, 0, size); }, [](std::vector<uint32_t> &numbers) { return collected(numbers); }, len);
   Set a = made(kind, 0, size);
   kept(name + "_kept_made", a);
   timed(work("optimized").c_str(), repetitions, [&] { return a.copy(); }, [](Set &set) { return roaring_bitmap_run_optimize(set.bits); }, [](Set &set, bool) { return set.len(); });

@@ -1,9 +1,11 @@
 pub mod Between
 pub mod Bytes
 pub mod Counted
+pub mod Cut
 pub mod Keys
 pub mod Made
 pub mod Parts
 pub mod Ranged
 pub mod SetLeft
 pub mod Sets
+pub mod Sorted

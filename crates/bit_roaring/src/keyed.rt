@@ -6,6 +6,7 @@ ghost use Rattle.bit_blocks.specs.Operation.{made_by};
 ghost use Rattle.bit_roaring.specs.Changes.{CombinesKeyed, GainsAt, LosesAt, Replaces};
 ghost use Rattle.bit_roaring.specs.Places.{IsAbsent, IsKeyPlace, IsThere};
 
+pub(crate) mod ascending;
 pub(crate) mod ranges;
 
 use bit_blocks::{Block, Keyed, Operation, listed};

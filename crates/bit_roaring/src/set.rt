@@ -76,6 +76,20 @@ impl RoaringSet {
         }
     }
 
+    /// The set of ascending numbers. Takes memory for their blocks alone, and no step for a number but to copy it.
+    /// `collect` takes numbers in whatever order.
+    ///
+    /// ```text
+    /// RoaringSet::from_ascending(alloc, &[2, 3, 70000])? holds 2, 3, 70000
+    /// ```
+    pub fn from_ascending(alloc: Global, numbers: &[u32]) -> Result<Self, AllocError>
+        requires { AscendsIn 0 (2 ^ 32) numbers.now }
+        ensures { IfOk result (λ set. set ≡ numbers.now) }
+    {
+        let blocks = keyed::ascending::of_ascending(alloc, numbers)?;
+        Ok(RoaringSet { blocks })
+    }
+
     /// The count of numbers.
     #[tactic(auto, using(crate::proofs::Sets::set_ascends))]
     pub fn len(&self) -> u64

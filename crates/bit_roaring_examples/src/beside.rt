@@ -45,6 +45,18 @@ fn set_of(rt: &(impl Abort + AllocGlobal), kind: Numbers, from: u32, upto: u32) 
     set
 }
 
+// The set of some numbers, from the last to the first.
+fn collected(rt: &(impl Abort + AllocGlobal), numbers: &[u32]) -> RoaringSet {
+    ok(
+        rt,
+        numbers
+            .iter()
+            .copied()
+            .rev()
+            .collect::<RoaringSet>(rt.alloc()),
+    )
+}
+
 // Whether a set has exactly these ascending numbers, by each of its calls.
 fn is_as(set: &RoaringSet, numbers: &[u32]) -> bool {
     let mut left = set.iter();
@@ -113,6 +125,7 @@ fn stands(rt: &(impl Abort + AllocGlobal), kind: Numbers) {
     let numbers = sorted(rt, kind, 0, 12000);
     let mut set = set_of(rt, kind, 0, 12000);
     check(rt, is_as(&set, &numbers));
+    check(rt, set == collected(rt, &numbers));
     let others = sorted(rt, kind, 6000, 18000);
     let other = set_of(rt, kind, 6000, 18000);
     are_combined(rt, &set, &other, &numbers, &others);

@@ -1,5 +1,6 @@
 //! Functions over sets that prove with no file.
-ghost use Rattle.std.specs.Prelude.{◌≡◌, ◌≤◌, ◌-◌, IfOk, length, slice_get, true};
+ghost use Rattle.std.specs.Prelude.{◌≡◌, ◌≤◌, ◌-◌, ◌^◌, IfOk, length, slice_get, true};
+ghost use Rattle.bit_blocks.specs.Numbers.{AscendsIn};
 
 use bit_blocks::Block;
 use bit_portable::ReadError;
@@ -38,6 +39,15 @@ pub fn same_bytes(a: &RoaringSet, b: &RoaringSet) -> Result<bool, AllocError>
     let left = a.to_bytes(true)?;
     let right = b.to_bytes(true)?;
     Ok(left.as_slice() == right.as_slice())
+}
+
+/// Of numbers that ascend, the k-th is the k-th of their set.
+pub fn kth(alloc: Global, numbers: &[u32], k: u64) -> Result<Option<u32>, AllocError>
+    requires { AscendsIn 0 (2 ^ 32) numbers.now }
+    ensures { IfOk result (λ number. number ≡ slice_get numbers.now k) }
+{
+    let set = RoaringSet::from_ascending(alloc, numbers)?;
+    Ok(set.select(k))
 }
 
 /// Blocks with the same numbers have as many below each number.

@@ -29,6 +29,22 @@ fn numbers_are_collected(rt: HostRuntime) {
 }
 
 #[test]
+fn more_numbers_are_collected_than_are_sorted_at_a_time(rt: HostRuntime) {
+    let numbers = (0..1100000u32).rev();
+    let set = ok(&rt, numbers.collect::<RoaringSet>(rt.alloc()));
+    check(&rt, set.len() == 1100000);
+    check(&rt, set.last() == Some(1099999));
+}
+
+#[test]
+fn ascending_numbers_are_a_set(rt: HostRuntime) {
+    let numbers = [1, 65535, 65536, 4294967295];
+    let set = ok(&rt, RoaringSet::from_ascending(rt.alloc(), &numbers));
+    check(&rt, set.len() == 4);
+    check(&rt, set == set_of(&rt, &numbers));
+}
+
+#[test]
 fn sets_are_equal_by_their_numbers(rt: HostRuntime) {
     let a = set_of(&rt, &[1, 2, 3, 65536]);
     let mut b = set_of(&rt, &[65536, 3, 2, 1]);

@@ -1,5 +1,5 @@
 //! The numbers that an iterator gives.
-ghost use Rattle.std.specs.Prelude.{◌≡◌, ◌^◌, ◌||◌, ℕ, List, IfOk, OnOk, ⊤};
+ghost use Rattle.std.specs.Prelude.{◌≡◌, ◌<◌, ◌^◌, ◌||◌, ℕ, List, [], IfOk, OnOk, slice_index, ⊤};
 ghost use Rattle.std.specs.Iterator.{DrainsIf, ExtendsWithItems, HoldsAlong, IsFinite, IsFiniteIterable};
 ghost use Rattle.bit_blocks.specs.Numbers.{AscendsIn, Combines, has};
 ghost use Rattle.bit_slice.specs.Pulls.{RunsThrough};
@@ -8,6 +8,9 @@ ghost use Rattle.bit_roaring.specs.Changes.{HasTaken, IsSetOf};
 use crate::set::RoaringSet;
 use std::alloc::{AllocError, Global};
 use std::iter::{Extend, FromIterator, IntoIterator};
+
+// How many numbers `from_iter` sorts at a time: 4 megabytes.
+const SORTED: usize = 1048576;
 
 impl Extend<u32> for RoaringSet {
     ghost extend_gives = { λ old numbers new. HasTaken old numbers new };
@@ -53,12 +56,48 @@ impl FromIterator<u32> for RoaringSet {
         ensures runs { IfOk result (λ s. RunsThrough I.into_iter_gives I.IntoIter.next_gives iter (λ numbers. IsSetOf numbers s)) }
     {
         let mut set = RoaringSet::new(alloc);
-        match Extend::extend(&mut set, iter) {
-            Ok(()) => {
-                set.prove_order();
-                Ok(set)
+        let mut some = Vec::new(alloc);
+        for number in iter {
+            if some.len() == SORTED {
+                set.take_all(&mut some)?;
             }
-            Err(refused) => Err(refused),
+            some.push(number)?;
         }
+        set.take_all(&mut some)?;
+        set.prove_order();
+        Ok(set)
     }
 }
+
+impl RoaringSet {
+    // The set of numbers in whatever order. Sorts them in place, and keeps one of each.
+    fn of_numbers(numbers: &mut Vec<u32>) -> Result<Self, AllocError>
+        ensures { IfOk result (λ set. (k : ℕ) → has set k ≡ has numbers.old.items k) }
+    {
+        numbers.sort_unstable();
+        prove_below(numbers);
+        numbers.dedup();
+        let set = RoaringSet::from_ascending(*numbers.allocator(), numbers)?;
+        Ok(set)
+    }
+
+    // Puts numbers in, in whatever order, and empties their vector.
+    fn take_all(&mut self, numbers: &mut Vec<u32>) -> Result<(), AllocError>
+        ensures taken { OnOk result (HasTaken self.old numbers.old.items self.new) }
+        ensures empty { OnOk result (numbers.new.items ≡ []) }
+    {
+        let others = RoaringSet::of_numbers(numbers)?;
+        if self.is_empty() {
+            *self = others;
+        } else {
+            self.union_with(&others)?;
+        }
+        numbers.clear();
+        Ok(())
+    }
+}
+
+// Each number is below 2 ^ 32. Does nothing: a proof that has the numbers in a vector alone calls it.
+fn prove_below(numbers: &[u32])
+    ensures { (k : ℕ) → slice_index numbers.now k < 2 ^ 32 }
+{}

@@ -76,8 +76,7 @@ impl RoaringSet {
         }
     }
 
-    /// The set of ascending numbers. Takes memory for their blocks alone, and no step for a number but to copy it.
-    /// `collect` takes numbers in whatever order.
+    /// The set of ascending numbers. Takes memory for its blocks alone. `collect` takes numbers in whatever order.
     ///
     /// ```text
     /// RoaringSet::from_ascending(alloc, &[2, 3, 70000])? holds 2, 3, 70000

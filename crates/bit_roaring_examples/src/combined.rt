@@ -137,28 +137,45 @@ fn what_operations_keep(rt: HostRuntime) {
     );
 }
 
-// That a block gives its numbers from the front, from the back, and from both ends by turns.
+// That a block gives its numbers from the front.
+fn give_first(rt: &impl Abort, block: &Block, list: &[u16]) {
+    let mut left = block.iter();
+    for &number in list {
+        check(rt, left.next() == Some(number));
+    }
+    check(rt, left.next() == None);
+}
+
+// That it gives them from the back.
+fn give_last(rt: &impl Abort, block: &Block, list: &[u16]) {
+    let mut left = block.iter();
+    for &number in list.iter().rev() {
+        check(rt, left.next_back() == Some(number));
+    }
+    check(rt, left.next_back() == None);
+}
+
+// That it gives them from both ends by turns.
+fn give_by_turns(rt: &impl Abort, block: &Block, list: &[u16]) {
+    let mut left = block.iter();
+    for (&low, &high) in list.iter().zip(list.iter().rev()).take(list.len() / 2) {
+        check(rt, left.next() == Some(low));
+        check(rt, left.next_back() == Some(high));
+    }
+    if list.len() % 2 == 1 {
+        check(rt, left.next() == list.get(list.len() / 2).copied());
+    }
+    check(rt, left.next() == None);
+    check(rt, left.next_back() == None);
+}
+
+// That a block gives its numbers in each way, and as a list.
 fn give(rt: &(impl Abort + AllocGlobal), numbers: Numbers) {
     let list = list_of(rt, numbers);
     let block = block_of(rt, numbers);
-    let mut front = block.iter();
-    let mut back = block.iter();
-    let mut both = block.iter();
-    for &number in list.as_slice() {
-        check(rt, front.next() == Some(number));
-    }
-    for &number in list.as_slice().iter().rev() {
-        check(rt, back.next_back() == Some(number));
-    }
-    for (&low, &high) in list.iter().zip(list.iter().rev()).take(list.len() / 2) {
-        check(rt, both.next() == Some(low));
-        check(rt, both.next_back() == Some(high));
-    }
-    if list.len() % 2 == 1 {
-        check(rt, both.next() == list.get(list.len() / 2).copied());
-    }
-    check(rt, [front.next(), back.next_back()] == [None, None]);
-    check(rt, [both.next(), both.next_back()] == [None, None]);
+    give_first(rt, &block, &list);
+    give_last(rt, &block, &list);
+    give_by_turns(rt, &block, &list);
     check(rt, ok(rt, block.to_list(rt.alloc())) == list);
 }
 

@@ -1,6 +1,7 @@
 -- Ascending numbers, cut where their blocks end.
 use Rattle.std.proofs.Common.{◌≡◌, ◌≢◌, ℕ, zero, suc, ◌+◌, ◌*◌, ◌/◌, ◌%◌, ◌^◌, ◌<◌, ◌≤◌, List, [], ◌∷◌, ◌++◌, append_assoc, append-nil, drop, get_or, length, map, take, refl, sym, ◌∙◌, ap, subst, arith}
 use Rattle.std.specs.Prelude.{All}
+use Rattle.std.proofs.lemmas.List.{take-append-drop}
 use Rattle.bit_blocks.specs.Numbers.{Ascends, AscendsIn}
 use Rattle.bit_blocks.specs.declared.keyed.Keyed.{Keyed}
 use Rattle.bit_blocks.proofs.Ascending.{later}
@@ -95,18 +96,6 @@ pub record CutTo (xs : List ℕ) (blocks : List Keyed) (from : ℕ) : Type 0 whe
   pub rest : AscendsIn (least * 65536) (2 ^ 32) (drop from xs)
   pub whole : set_numbers blocks ++ drop from xs ≡ xs
 
-pub none_cut : (xs : List ℕ) → AscendsIn 0 (2 ^ 32) xs → CutTo xs [] 0
-none_cut xs h = record { least = 0; keyed = tt; below = λ k d inside. absurd (omega arith); rest = h; whole = refl }
-
-pub all_cut : (xs : List ℕ) (blocks : List Keyed) (from : ℕ) → length xs ≤ from → CutTo xs blocks from → set_numbers blocks ≡ xs
-all_cut xs blocks from past c = sym (append-nil (set_numbers blocks)) ∙ ap (λ l. set_numbers blocks ++ l) (sym (nothing xs from past)) ∙ c.whole
-  where
-    nothing : (l : List ℕ) (n : ℕ) → length l ≤ n → drop n l ≡ []
-    nothing [] zero h = refl
-    nothing [] (suc n) h = refl
-    nothing (x ∷ l) zero h = absurd (omega arith)
-    nothing (x ∷ l) (suc n) h = nothing l n (omega arith)
-
 none_left : (n : ℕ) → drop {A = ℕ} n [] ≡ []
 none_left zero = refl
 none_left (suc n) = refl
@@ -115,11 +104,6 @@ drop_twice : (xs : List ℕ) (a n : ℕ) → drop n (drop a xs) ≡ drop (a + n)
 drop_twice xs zero n = let e : n ≡ 0 + n = omega arith in ap (λ m. drop m xs) e
 drop_twice [] (suc a) n = none_left n ∙ sym (none_left (suc a + n))
 drop_twice (x ∷ xs) (suc a) n = drop_twice xs a n ∙ (let e : suc (a + n) ≡ suc a + n = omega arith in ap (λ m. drop m (x ∷ xs)) e)
-
-split : (xs : List ℕ) (n : ℕ) → take n xs ++ drop n xs ≡ xs
-split xs zero = refl
-split [] (suc n) = refl
-split (x ∷ xs) (suc n) = ap (λ l. x ∷ l) (split xs n)
 
 -- a key is past those of the blocks before it
 key_within : (xs : List ℕ) (least key : ℕ) → AscendsIn (least * 65536) (2 ^ 32) xs → key ≡ get_or xs 0 0 / 65536 → 0 < length xs → (least ≤ key) × (key < 65536)
@@ -143,7 +127,7 @@ one_cut xs rest blocks from key n block is c first some cut up same = record {
   whole = ap (λ l. l ++ drop (from + n) xs) (set_append blocks (keyed key block ∷ []) ∙ ap (λ l. set_numbers blocks ++ l) (append-nil (keyed_numbers (keyed key block)) ∙ same))
       ∙ append_assoc (set_numbers blocks) (take n rest) (drop (from + n) xs)
       ∙ ap (λ l. set_numbers blocks ++ (take n rest ++ l)) (sym dropped)
-      ∙ ap (λ l. set_numbers blocks ++ l) (split rest n ∙ is)
+      ∙ ap (λ l. set_numbers blocks ++ l) (take-append-drop n rest ∙ is)
       ∙ c.whole;
 }
   where

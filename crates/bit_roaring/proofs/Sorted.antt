@@ -10,7 +10,7 @@ use Rattle.std.proofs.lemmas.List.{get_or_default}
 use Rattle.std.proofs.lemmas.List.Filters.{dedup_is}
 use Rattle.std.proofs.lemmas.List.Sums.{sum_by-cons}
 use Rattle.std.proofs.lemmas.List.Sorted.{IsNonDecreasingBy-from_sort, sum_by-IsPermutation}
-use Rattle.bit_blocks.specs.Numbers.{AscendsIn, Combines, has}
+use Rattle.bit_blocks.specs.Numbers.{AscendsIn, has}
 use Rattle.bit_blocks.proofs.Ascending.{ascends_earlier}
 use Rattle.bit_blocks.proofs.Edits.{has_append}
 use Rattle.bit_roaring.specs.Changes.{HasTaken}
@@ -105,10 +105,3 @@ wait_none old some new left numbers taken put none k =
 -- the set has all of them
 pub wait_done : (old some new numbers : List ℕ) → HasTaken old some numbers → HasTaken old some new → (k : ℕ) → has new k ≡ has numbers k
 wait_done old some new numbers taken put k = put k ∙ sym (taken k)
-
--- numbers that are put into the empty set, and into another
-pub taken_first : (old new numbers : List ℕ) → old ≡ [] → ((k : ℕ) → has new k ≡ has numbers k) → HasTaken old numbers new
-taken_first old new numbers none same k = same k ∙ ap (λ l. has l k || has numbers k) (sym none)
-
-pub taken_with : (old others new numbers : List ℕ) → ((k : ℕ) → has others k ≡ has numbers k) → Combines (λ x y. x || y) old others new → HasTaken old numbers new
-taken_with old others new numbers same put k = put k ∙ ap (λ b. has old k || b) (same k)

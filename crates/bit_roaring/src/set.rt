@@ -76,7 +76,8 @@ impl RoaringSet {
         }
     }
 
-    /// The set of ascending numbers. Takes memory for its blocks alone. `collect` takes numbers in whatever order.
+    /// The set of ascending numbers. Requires that each is greater than the one before it; `collect` takes numbers in
+    /// whatever order. Takes memory for its blocks alone.
     ///
     /// ```text
     /// RoaringSet::from_ascending(alloc, &[2, 3, 70000])? holds 2, 3, 70000

@@ -206,11 +206,11 @@ count_those p q a (suc n) = let rest = count_those p q (a + 1) n in elim (cases_
 ]
 
 -- as many of one list are in the other as of the other in the one
-pub count_swapped : (xs ys : List ℕ) → Ascends xs → Ascends ys → count_where (has ys) xs ≡ count_where (has xs) ys
-count_swapped xs ys h g =
-    ap (count_where (has ys)) (those_of 0 65536 xs 65536 (omega arith) h) ∙ count_those (has xs) (has ys) 0 65536
-    ∙ ap length (those_same (λ k. has xs k && has ys k) (λ k. has ys k && has xs k) 0 65536 (λ k low high. and_swap (has xs k) (has ys k)))
-    ∙ sym (ap (count_where (has xs)) (those_of 0 65536 ys 65536 (omega arith) g) ∙ count_those (has ys) (has xs) 0 65536)
+pub count_swapped : (upto : ℕ) (xs ys : List ℕ) → AscendsIn 0 upto xs → AscendsIn 0 upto ys → count_where (has ys) xs ≡ count_where (has xs) ys
+count_swapped upto xs ys h g =
+    ap (count_where (has ys)) (those_of 0 upto xs upto (omega arith) h) ∙ count_those (has xs) (has ys) 0 upto
+    ∙ ap length (those_same (λ k. has xs k && has ys k) (λ k. has ys k && has xs k) 0 upto (λ k low high. and_swap (has xs k) (has ys k)))
+    ∙ sym (ap (count_where (has xs)) (those_of 0 upto ys upto (omega arith) g) ∙ count_those (has ys) (has xs) 0 upto)
   where
     and_swap : (a b : Bool) → (a && b) ≡ (b && a)
     and_swap true true = refl
@@ -223,7 +223,7 @@ pub count_from : (p : ℕ → Bool) (xs : List ℕ) (i : ℕ) → i < length xs 
 count_from p xs i inside = ap (count_where p) (rest_begins xs i inside)
 
 pub counted_swapped : (n : ℕ) (xs ys : List ℕ) → Ascends xs → Ascends ys → n ≡ count_where (has xs) ys → n ≡ count_where (has ys) xs
-counted_swapped n xs ys h g count = count ∙ sym (count_swapped xs ys h g)
+counted_swapped n xs ys h g count = count ∙ sym (count_swapped 65536 xs ys h g)
 
 -- the numbers of a run that are in a list, by two places
 pub count_run : (xs : List ℕ) (first last : ℕ) → Ascends xs → first ≤ last → count_where (has xs) (range_with_len first (last + 1 - first)) + count_below xs first ≡ count_below xs last + cond {A = ℕ} (has xs last) 1 0

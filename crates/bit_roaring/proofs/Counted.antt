@@ -1,11 +1,12 @@
 -- Numbers of blocks counted, block by block.
-use Rattle.std.proofs.Common.{◌≡◌, ℕ, zero, suc, ◌+◌, ◌-◌, ◌*◌, ◌/◌, ◌%◌, ◌^◌, ◌<◌, ◌≤◌, Bool, cond, List, [], ◌∷◌, ◌++◌, get_or, length, length-append, map, take, drop, refl, sym, ◌∙◌, ap, inl, inr, arith}
-use Rattle.std.specs.Prelude.{None, Option, Some, slice_get}
+use Rattle.std.proofs.Common.{◌≡◌, ◌≢◌, ℕ, zero, suc, ◌+◌, ◌-◌, ◌*◌, ◌/◌, ◌%◌, ◌^◌, ◌<◌, ◌≤◌, Bool, true, false, cond, List, [], ◌∷◌, ◌++◌, get_or, length, length-append, map, take, drop, refl, sym, ◌∙◌, ap, inl, inr, arith}
+use Rattle.std.specs.Prelude.{◌↔◌, None, Option, Some, slice_get}
 use Rattle.std.specs.Iterator.{YieldsLast}
-use Rattle.std.proofs.lemmas.Bool.{cases_eq, cases_lt, eq-eqb, ne_eqb}
+use Rattle.std.proofs.lemmas.Bool.{cases_Bool, cases_eq, cases_lt, eq-eqb, ne_eqb}
 use Rattle.bit_blocks.specs.Numbers.{Ascends, AscendsIn, count_below, count_where, has}
 use Rattle.bit_blocks.proofs.Ascending.{below_append, counts_first, few_numbers, none_below, skips_first}
-use Rattle.bit_blocks.proofs.Counting.{count_append}
+use Rattle.bit_blocks.proofs.Counting.{count_append, count_most, count_swapped}
+use Rattle.bit_blocks.proofs.Subsets.{all_counted, counts_all, counts_none, none_counted}
 use Rattle.bit_roaring.specs.Keyed.{AreKeyed, AreKeyedFrom, block_at, keyed_numbers, set_numbers}
 use Rattle.bit_roaring.specs.Places.{IsKeyPlace}
 use Rattle.bit_blocks.specs.declared.keyed.Keyed.{Keyed}
@@ -209,3 +210,83 @@ no_last xs none = sym (ap (λ l. slice_get l (length l - 1)) none)
 pub last_of_left : {S : Type 0} (rest : S → List ℕ) (s t : S) (xs : List ℕ) (r : Option ℕ) → rest s ≡ xs → YieldsLast rest s r t → r ≡ slice_get xs (length xs - 1)
 last_of_left rest s t xs None is step = no_last xs (sym is ∙ step.0)
 last_of_left rest s t xs (Some x) is step = last_item xs (rest t) x (sym is ∙ step)
+
+-- ---- numbers that all pass a test, or none
+
+-- the numbers of both sets are as many in the one as in the other
+pub both_swapped : (n : ℕ) (bs cs : List Keyed) → AreKeyed bs → AreKeyed cs → n ≡ count_where (has (set_numbers bs)) (set_numbers cs) → n ≡ count_where (has (set_numbers cs)) (set_numbers bs)
+both_swapped n bs cs h g count = count ∙ sym (count_swapped (2 ^ 32) (set_numbers bs) (set_numbers cs) (ascends_set 0 bs h) (ascends_set 0 cs g))
+
+-- the numbers of the blocks before i pass
+pub record AllPass (p : ℕ → Bool) (bs : List Keyed) (i : ℕ) : Type 0 where
+  pub within : i ≤ length bs
+  pub sum : count_where p (set_numbers bs) + length (set_numbers (drop i bs)) ≡ count_where p (set_numbers (drop i bs)) + length (set_numbers bs)
+
+-- those of one block more do, or one does not
+module _ (p : ℕ → Bool) (bs : List Keyed) (i n : ℕ) (at : Keyed) (r : AllPass p bs i) (inside : i < length bs) (is : at ≡ get_or bs i at) (count : n ≡ count_where p (keyed_numbers at)) where
+  here : n ≡ count_where p (keyed_numbers (get_or bs i at))
+  here = count ∙ ap (λ b. count_where p (keyed_numbers b)) is
+
+  size : length at.block ≡ length (get_or bs i at).block
+  size = ap (λ b. length b.block) is
+
+  pub one_passes : n ≡ length at.block → AllPass p bs (i + 1)
+  one_passes all =
+      let more = both_block p bs i at inside in
+      let longer = counted_block bs i at inside in
+      let sum = r.sum in
+      record { within = omega arith; sum = omega (arith, here, size) }
+
+  pub one_fails : n ≢ length at.block → ((k : ℕ) → has (set_numbers bs) k ≡ true → p k ≡ true) → ⊥
+  one_fails less all =
+      let more = both_block p bs i at inside in
+      let longer = counted_block bs i at inside in
+      let sum = r.sum in
+      let whole = counts_all p (set_numbers bs) all in
+      let own = count_most p (keyed_numbers at) in
+      let long = keyed_length at in
+      let rest = count_most p (set_numbers (drop (i + 1) bs)) in
+      absurd (omega (arith, here, size, count, less))
+
+pub all_pass : (p : ℕ → Bool) (bs : List Keyed) (i : ℕ) → AllPass p bs i → length bs ≤ i → (k : ℕ) → has (set_numbers bs) k ≡ true → p k ≡ true
+all_pass p bs i r past =
+    let none = from_end bs i past in
+    let zero = ap length none in
+    let nothing = ap (count_where p) none in
+    all_counted p (set_numbers bs) (omega (arith, r.sum, zero, nothing))
+
+-- none of the numbers of the blocks before i pass
+pub record NonePass (p : ℕ → Bool) (bs : List Keyed) (i : ℕ) : Type 0 where
+  pub within : i ≤ length bs
+  pub sum : count_where p (set_numbers bs) ≡ count_where p (set_numbers (drop i bs))
+
+-- none of one block more does, or one does
+module _ (p : ℕ → Bool) (bs : List Keyed) (i n : ℕ) (at : Keyed) (r : NonePass p bs i) (inside : i < length bs) (is : at ≡ get_or bs i at) (count : n ≡ count_where p (keyed_numbers at)) where
+  counted : n ≡ count_where p (keyed_numbers (get_or bs i at))
+  counted = count ∙ ap (λ b. count_where p (keyed_numbers b)) is
+
+  pub none_passes : n ≡ 0 → NonePass p bs (i + 1)
+  none_passes none =
+      let more = both_block p bs i at inside in
+      let sum = r.sum in
+      record { within = omega arith; sum = omega (arith, counted) }
+
+  pub some_passes : n ≢ 0 → ((k : ℕ) → has (set_numbers bs) k ≡ true → p k ≡ false) → ⊥
+  some_passes some out =
+      let more = both_block p bs i at inside in
+      let sum = r.sum in
+      let whole = counts_none p (set_numbers bs) out in
+      absurd (omega (arith, counted, some))
+
+pub none_pass : (p : ℕ → Bool) (bs : List Keyed) (i : ℕ) → NonePass p bs i → length bs ≤ i → (k : ℕ) → has (set_numbers bs) k ≡ true → p k ≡ false
+none_pass p bs i r past = none_counted p (set_numbers bs) (r.sum ∙ ap (count_where p) (from_end bs i past))
+
+-- two lists have no number in common, whichever is looked at
+pub apart_swapped : (t : Bool) (xs ys : List ℕ) → (t ≡ true) ↔ ((k : ℕ) → has xs k ≡ true → has ys k ≡ false) → (t ≡ true) ↔ ((k : ℕ) → has ys k ≡ true → has xs k ≡ false)
+apart_swapped t xs ys told = (λ e. other xs ys (told.0 e), λ out. told.1 (other ys xs out))
+  where
+    other : (ms ns : List ℕ) → ((k : ℕ) → has ms k ≡ true → has ns k ≡ false) → (k : ℕ) → has ns k ≡ true → has ms k ≡ false
+    other ms ns out k here = elim (cases_Bool (has ms k)) [
+      | inl too ↦ absurd (let e : true ≡ false = sym here ∙ out k too in cc)
+      | inr none ↦ none
+    ]

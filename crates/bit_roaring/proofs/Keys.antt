@@ -221,6 +221,14 @@ block_removed from (b ∷ bs) (suc i) key d h inside at k =
           ∙ sym (ap (λ l. cond (nat_eq key k) [] l) (ap (λ t. cond t b.block (block_at bs k)) (ne_eqb b.key k other))))
     ]
 
+-- ---- a block that is read at its index
+
+pub item_key : (bs : List Keyed) (i : ℕ) (at : Keyed) → AreKeyed bs → i < length bs → at ≡ get_or bs i at → at.key < 65536
+item_key bs i at h inside is = subst (λ b. b.key < 65536) (sym is) (keyed_here 0 bs i at h inside).0
+
+pub item_ascends : (bs : List Keyed) (i : ℕ) (at : Keyed) → AreKeyed bs → i < length bs → at ≡ get_or bs i at → Ascends at.block
+item_ascends bs i at h inside is = subst (λ b. Ascends b.block) (sym is) (keyed_here 0 bs i at h inside).1
+
 -- ---- where a key is found
 
 item_inside : (bs : List Keyed) (i : ℕ) (d e : Keyed) → i < length bs → get_or bs i d ≡ get_or bs i e

@@ -1,12 +1,13 @@
 //! Blocks with their keys.
 ghost use Rattle.std.specs.Prelude.{◌≡◌, ◌≤◌, ◌<◌, ◌+◌, ◌↔◌, ℕ, [], if◌then◌else◌, All, false, IfOk, IsTrue, MatchOption, MatchResult, OnErr, OnOk, length, not, slice_get, take};
 ghost use Rattle.bit_roaring.specs.Keyed.{AreKeyed, block_at, keyed_numbers, keys_of, set_numbers};
-ghost use Rattle.bit_blocks.specs.Numbers.{Ascends, Combines, count_below, count_where, has};
+ghost use Rattle.bit_blocks.specs.Numbers.{Ascends, Combines, count_below, has};
 ghost use Rattle.bit_blocks.specs.Operation.{made_by};
 ghost use Rattle.bit_roaring.specs.Changes.{CombinesKeyed, GainsAt, LosesAt, Replaces};
 ghost use Rattle.bit_roaring.specs.Places.{IsAbsent, IsKeyPlace, IsThere};
 
 pub(crate) mod ascending;
+pub(crate) mod common;
 pub(crate) mod ranges;
 
 use bit_blocks::{Block, Keyed, Operation, listed};
@@ -289,33 +290,6 @@ fn nth_of(keyed: &Keyed, k: usize) -> Option<u32>
     match keyed.block.select(k) {
         None => None,
         Some(low) => Some(keyed.key as u32 * 65536 + low as u32),
-    }
-}
-
-// The count of numbers that are in other blocks too.
-pub(crate) fn count_both(blocks: &[Keyed], others: &[Keyed]) -> u64
-    requires left { AreKeyed blocks.now }
-    requires right { AreKeyed others.now }
-    ensures { result ≡ count_where (has (set_numbers others.now)) (set_numbers blocks.now) }
-{
-    let mut count = 0;
-    for keyed in blocks {
-        count += count_at(keyed, others);
-    }
-    count
-}
-
-// The count of numbers of a block that are in other blocks too.
-fn count_at(keyed: &Keyed, others: &[Keyed]) -> u64
-    requires key { keyed.now.key < 65536 }
-    requires ascends { Ascends keyed.now.block }
-    requires right { AreKeyed others.now }
-    ensures value { result ≡ count_where (has (set_numbers others.now)) (keyed_numbers keyed.now) }
-    ensures few { result ≤ length keyed.now.block }
-{
-    match get(others, keyed.key) {
-        None => 0,
-        Some(other) => keyed.block.count_both(other) as u64,
     }
 }
 

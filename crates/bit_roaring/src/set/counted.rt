@@ -2,7 +2,7 @@
 ghost use Rattle.std.specs.Prelude.{◌≡◌, ◌≤◌, ◌+◌, ◌^◌, ◌↔◌, ℕ, IsTrue, false, length, not, true};
 ghost use Rattle.bit_blocks.specs.Numbers.{count_where, has};
 
-use crate::keyed;
+use crate::keyed::common;
 use crate::set::RoaringSet;
 
 impl RoaringSet {
@@ -10,7 +10,7 @@ impl RoaringSet {
     pub fn count_intersection(&self, other: &Self) -> u64
         ensures { result ≡ count_where (has other.now) self.now }
     {
-        keyed::count_both(&self.blocks, &other.blocks)
+        common::count_both(&self.blocks, &other.blocks)
     }
 
     /// The count of numbers in this set and not in the other. Takes no memory.
@@ -36,19 +36,17 @@ impl RoaringSet {
         self.count_difference(other) + other.count_difference(self)
     }
 
-    /// Whether each number of this set is in the other. Takes no memory.
-    #[tactic(auto, using(bit_blocks::proofs::Subsets::all_counted, bit_blocks::proofs::Subsets::counts_all))]
+    /// Whether each number of this set is in the other. Stops at the first block with a number that is not. Takes no memory.
     pub fn is_subset(&self, other: &Self) -> bool
         ensures { IsTrue result ↔ ((k : ℕ) → has self.now k ≡ true → has other.now k ≡ true) }
     {
-        self.count_intersection(other) == self.len()
+        common::is_subset(&self.blocks, &other.blocks)
     }
 
-    /// Whether no number is in both sets. Takes no memory.
-    #[tactic(auto, using(bit_blocks::proofs::Subsets::none_counted, bit_blocks::proofs::Subsets::counts_none))]
+    /// Whether no number is in both sets. Stops at the first block with a number that is. Takes no memory.
     pub fn is_disjoint(&self, other: &Self) -> bool
         ensures { IsTrue result ↔ ((k : ℕ) → has self.now k ≡ true → has other.now k ≡ false) }
     {
-        self.count_intersection(other) == 0
+        common::are_disjoint(&self.blocks, &other.blocks)
     }
 }

@@ -4,13 +4,7 @@ use Rattle.bit_blocks.proofs.Counting.{count_most}
 use Rattle.bit_roaring.specs.Keyed.{keyed_numbers, set_numbers}
 use Rattle.bit_roaring.proofs.Counted.{both_block, few_in_set}
 use Rattle.bit_roaring.proofs.Keys.{keyed_here}
-use Rattle.bit_roaring.proofs.keyed.count_both.Goals as goal
-
-pub count_at-count-requires-clause-key : goal.count_at-count-requires-clause-key
-count_at-count-requires-clause-key c = subst (λ b. b.key < 65536) (sym c.keyed-item.is) (keyed_here 0 c.args.blocks.now c.loop-keyed.keyed-index c.keyed-item.result c.requires.left c.loop-keyed-test.true).0
-
-pub count_at-count-requires-clause-ascends : goal.count_at-count-requires-clause-ascends
-count_at-count-requires-clause-ascends c = subst (λ b. Ascends b.block) (sym c.keyed-item.is) (keyed_here 0 c.args.blocks.now c.loop-keyed.keyed-index c.keyed-item.result c.requires.left c.loop-keyed-test.true).1
+use Rattle.bit_roaring.proofs.keyed.common.count_in.Goals as goal
 
 pub overflow_add-count : goal.overflow_add-count
 overflow_add-count c =

@@ -2,7 +2,7 @@ use Rattle.std.proofs.Common.{arith}
 use Rattle.bit_blocks.specs.Numbers.{has}
 use Rattle.bit_blocks.proofs.Counting.{count_most}
 use Rattle.bit_roaring.proofs.Counted.{count_absent, count_present}
-use Rattle.bit_roaring.proofs.keyed.count_at.Goals as goal
+use Rattle.bit_roaring.proofs.keyed.common.count_at.Goals as goal
 
 pub returns-in-None-clause-value : goal.returns-in-None-clause-value
 returns-in-None-clause-value c = count_absent c.args.keyed.now.key c.args.keyed.now.block c.args.others.now c.requires.right c.requires.key c.requires.ascends c.in-None.ensures

@@ -1,5 +1,6 @@
 pub mod Between
 pub mod Bytes
+pub mod Changed
 pub mod Counted
 pub mod Cut
 pub mod Keys
@@ -9,3 +10,4 @@ pub mod Ranged
 pub mod SetLeft
 pub mod Sets
 pub mod Sorted
+pub mod Within

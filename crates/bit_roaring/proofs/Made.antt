@@ -161,15 +161,15 @@ take_all (x ∷ xs) zero past = absurd (omega arith)
 take_all (x ∷ xs) (suc i) past = ap (λ l. x ∷ l) (take_all xs i (omega arith))
 
 pub all_made : (op : Operation) (xs ys : List Keyed) (keys : List ℕ) (made : List Keyed) (i : ℕ) → length keys ≤ i → MadeTo op xs ys keys made i
-    → ((k : ℕ) → has keys k ≡ false → block_at xs k ≡ []) → ((k : ℕ) → has keys k ≡ false → block_at ys k ≡ []) → CombinesKeyed (made_by op) xs ys made
-all_made op xs ys keys made i past r left right k = elim (cases_Bool (has keys k)) [
+    → ((k : ℕ) → has keys k ≡ false → Combines (made_by op) (block_at xs k) (block_at ys k) []) → CombinesKeyed (made_by op) xs ys made
+all_made op xs ys keys made i past r others k = elim (cases_Bool (has keys k)) [
   | inl here ↦ r.done k (ap (λ l. has l k) (take_all keys i past) ∙ here)
-  | inr out ↦ (λ n. ap (λ l. has l n) (r.none k (ap (λ l. has l k) (take_all keys i past) ∙ out)) ∙ sym (ap (λ l. made_by op (has l n) (has (block_at ys k) n)) (left k out) ∙ ap (λ l. made_by op false (has l n)) (right k out) ∙ made_none op))
+  | inr out ↦ (λ n. ap (λ l. has l n) (r.none k (ap (λ l. has l k) (take_all keys i past) ∙ out)) ∙ others k out n)
 ]
 
 -- ---- a block that is in one of two lists alone
 
-keeps_one : (op : Operation) (b : Bool) → made_by op b false ≡ cond (made_by op true false) b false
+pub keeps_one : (op : Operation) (b : Bool) → made_by op b false ≡ cond (made_by op true false) b false
 keeps_one Union true = refl
 keeps_one Union false = refl
 keeps_one Intersection true = refl
@@ -210,6 +210,14 @@ combined_none op xs ys zs none nor is k = ap (λ l. has l k) is ∙ sym (ap (λ 
     nothing : (t : Bool) → cond t false false ≡ false
     nothing true = refl
     nothing false = refl
+
+-- nothing is made where the left list alone would give a block, and has none
+pub none_of_left : (op : Operation) (xs ys : List ℕ) → made_by op false true ≡ false → xs ≡ [] → Combines (made_by op) xs ys []
+none_of_left op xs ys alone none k = sym (ap (λ l. made_by op (has l k) (has ys k)) none ∙ keeps_other op (has ys k) ∙ ap (λ t. cond t (has ys k) false) alone)
+
+-- nor where the right one would
+pub none_of_right : (op : Operation) (xs ys : List ℕ) → made_by op true false ≡ false → ys ≡ [] → Combines (made_by op) xs ys []
+none_of_right op xs ys alone none k = sym (ap (λ l. made_by op (has xs k) (has l k)) none ∙ keeps_one op (has xs k) ∙ ap (λ t. cond t (has xs k) false) alone)
 
 -- a block that was kept ascends, or is none
 pub kept_ascends : (keeps : Bool) (xs zs : List ℕ) → Ascends xs → zs ≡ (cond keeps xs []) → Ascends zs

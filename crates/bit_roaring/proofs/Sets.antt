@@ -73,7 +73,7 @@ set_same (a ∷ bs) (suc i) b d inside is = ap (λ l. a ∷ l) (set_same bs i b 
 pub keyed_there : (bs : List Keyed) (key i : ℕ) (at : Keyed) (block : List ℕ) → AreKeyed bs → IsThere bs key i → at ≡ get_or bs i at → Ascends block → 0 < length block → AreKeyed (set bs i (keyed at.key block))
 keyed_there bs key i at block h there is up some = keyed_set 0 bs i at.key block at h there.inside (ap (λ b. b.key) (sym is)) up some
 
-replaced_there : (bs : List Keyed) (key i : ℕ) (at : Keyed) (block : List ℕ) → AreKeyed bs → IsThere bs key i → at ≡ get_or bs i at → Replaces bs (set bs i (keyed at.key block)) key block
+pub replaced_there : (bs : List Keyed) (key i : ℕ) (at : Keyed) (block : List ℕ) → AreKeyed bs → IsThere bs key i → at ≡ get_or bs i at → Replaces bs (set bs i (keyed at.key block)) key block
 replaced_there bs key i at block h there is =
     let same : at.key ≡ key = ap (λ b. b.key) is ∙ there.here at in
     λ k. block_set 0 bs i at.key block at h there.inside (ap (λ b. b.key) (sym is)) k ∙ ap (λ n. cond (nat_eq n k) block (block_at bs k)) same

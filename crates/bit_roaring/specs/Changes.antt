@@ -1,12 +1,16 @@
 -- What changes of blocks do.
 use Rattle.std.specs.Prelude.{◌≡◌, ℕ, ◌^◌, Bool, ◌||◌, nat_eq, if◌then◌else◌, List}
-use Rattle.bit_blocks.specs.Numbers.{AscendsIn, Combines, Gains, Loses, has}
-use Rattle.bit_roaring.specs.Keyed.{block_at}
+use Rattle.bit_blocks.specs.Numbers.{Ascends, AscendsIn, Combines, Gains, Loses, has}
+use Rattle.bit_roaring.specs.Keyed.{block_at, keys_of}
 use Rattle.bit_blocks.specs.declared.keyed.Keyed.{Keyed}
 
 -- a key has a block, and each other key the block that it had
 abbrev pub Replaces : List Keyed → List Keyed → ℕ → List ℕ → Type 0
 Replaces old new key block = (k : ℕ) → block_at new k ≡ (if nat_eq key k then block else block_at old k)
+
+-- each key of some blocks has the block that they have, and each other key the block that it had
+abbrev pub ReplacesAll : List Keyed → List Keyed → List Keyed → Type 0
+ReplacesAll old new made = (k : ℕ) → block_at new k ≡ (if has (keys_of made) k then block_at made k else block_at old k)
 
 -- the block with a key gained a number
 pub record GainsAt (old new : List Keyed) (key low : ℕ) : Type 0 where
@@ -23,6 +27,11 @@ pub record LosesAt (old new : List Keyed) (key low : ℕ) : Type 0 where
 -- the block with each key has what f makes of those of two lists of blocks
 abbrev pub CombinesKeyed : (Bool → Bool → Bool) → List Keyed → List Keyed → List Keyed → Type 0
 CombinesKeyed f xs ys zs = (key : ℕ) → Combines f (block_at xs key) (block_at ys key) (block_at zs key)
+
+-- a block has what f makes of the blocks with its key in two lists of blocks
+pub record IsMade (f : Bool → Bool → Bool) (xs ys : List Keyed) (b : Keyed) : Type 0 where
+  pub combines : Combines f (block_at xs b.key) (block_at ys b.key) b.block
+  pub ascends : Ascends b.block
 
 -- numbers were put into a set, in whatever order
 abbrev pub HasTaken : List ℕ → List ℕ → List ℕ → Type 0

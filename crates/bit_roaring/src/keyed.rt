@@ -7,6 +7,7 @@ ghost use Rattle.bit_roaring.specs.Changes.{CombinesKeyed, GainsAt, LosesAt, Rep
 ghost use Rattle.bit_roaring.specs.Places.{IsAbsent, IsKeyPlace, IsThere};
 
 pub(crate) mod ascending;
+pub(crate) mod changed;
 pub(crate) mod common;
 pub(crate) mod ranges;
 
@@ -157,6 +158,34 @@ fn all_keys(alloc: Global, left: &[Keyed], right: &[Keyed]) -> Result<Vec<u16>, 
     listed::combined(alloc, &keys, &others, Operation::Union)
 }
 
+// The keys of the blocks that an operation makes of two lists of blocks, and of some that it does not make.
+#[tactic(auto, using(crate::proofs::Made::keys_ascend_in, crate::proofs::Made::no_key, crate::proofs::Made::combined_none, crate::proofs::Made::none_of_left, crate::proofs::Made::none_of_right))]
+fn keys_for(
+    alloc: Global,
+    left: &[Keyed],
+    right: &[Keyed],
+    operation: Operation,
+) -> Result<Vec<u16>, AllocError>
+    requires left { AreKeyed left.now }
+    requires right { AreKeyed right.now }
+    ensures ascends { IfOk result (λ keys. Ascends keys.items) }
+    ensures all { IfOk result (λ keys. (k : ℕ) → has keys.items k ≡ false → Combines (made_by operation) (block_at left.now k) (block_at right.now k) []) }
+{
+    match (operation.keeps_left(), operation.keeps_right()) {
+        (true, true) => all_keys(alloc, left, right),
+        (true, false) => keys_of(alloc, left),
+        (false, true) => keys_of(alloc, right),
+        (false, false) => {
+            let fewer = if right.len() < left.len() {
+                right
+            } else {
+                left
+            };
+            keys_of(alloc, fewer)
+        }
+    }
+}
+
 // A copy of a block where `keeps` says so, and else no number.
 fn kept(alloc: Global, block: &Block, keeps: bool) -> Result<Block, AllocError>
     ensures { IfOk result (λ made. made ≡ (if keeps then block.now else [])) }
@@ -169,7 +198,7 @@ fn kept(alloc: Global, block: &Block, keeps: bool) -> Result<Block, AllocError>
 
 // The numbers of the block with a key that an operation makes of those of two lists of blocks.
 #[tactic(auto, using(crate::proofs::Made::combined_left, crate::proofs::Made::combined_right, crate::proofs::Made::combined_none, crate::proofs::Made::kept_ascends, crate::proofs::Keys::block_ascends))]
-fn combined_at(
+pub(crate) fn combined_at(
     alloc: Global,
     left: &[Keyed],
     right: &[Keyed],
@@ -201,7 +230,7 @@ pub(crate) fn combined(
     ensures keyed { IfOk result (λ made. AreKeyed made.items) }
     ensures members { IfOk result (λ made. CombinesKeyed (made_by operation) left.now right.now made.items) }
 {
-    let keys = all_keys(alloc, left, right)?;
+    let keys = keys_for(alloc, left, right, operation)?;
     let mut made = Vec::new(alloc);
     for key in &keys {
         let block = combined_at(alloc, left, right, *key, operation)?;

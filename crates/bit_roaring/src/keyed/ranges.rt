@@ -1,13 +1,13 @@
 //! Ranges of numbers in blocks with their keys.
-ghost use Rattle.std.specs.Prelude.{◌≡◌, ◌≤◌, ◌<◌, ◌+◌, ◌*◌, ◌/◌, ℕ, Bool, false, IfOk, OnErr, OnOk, length};
+ghost use Rattle.std.specs.Prelude.{◌≡◌, ◌≤◌, ◌<◌, ◌+◌, ◌*◌, ◌/◌, ℕ, Bool, false, IfOk, IfSome, OnErr, OnOk, length};
 ghost use Rattle.bit_blocks.specs.BlockLeft.{block_left};
 ghost use Rattle.bit_blocks.specs.Numbers.{Ascends, has, numbers_between};
 ghost use Rattle.bit_blocks.specs.Operation.{made_by};
 ghost use Rattle.bit_roaring.specs.Keyed.{AreKeyed, block_at, set_numbers};
-ghost use Rattle.bit_roaring.specs.Places.{IsKeyPlace};
-ghost use Rattle.bit_roaring.specs.Ranges.{ArePart, ChangesPart, is_within};
+ghost use Rattle.bit_roaring.specs.Places.{IsKeyPlace, IsThere};
+ghost use Rattle.bit_roaring.specs.Ranges.{ArePart, ChangesPart, GainsRange, LosesRange, is_within};
 
-use crate::keyed::{combined, get, place_of, push_some};
+use crate::keyed::{combined, find, get, place_of, push_some};
 use bit_blocks::{Block, BlockIter, Keyed, Operation};
 use std::alloc::{AllocError, Global};
 
@@ -112,10 +112,100 @@ fn part_made(
     Ok(Part { from, upto, made })
 }
 
+// Puts in the numbers from `first` to `last`: into their block, where one has the keys of all of them. Where memory is
+// refused, the blocks are as they were.
+pub(crate) fn insert_range(blocks: &mut Vec<Keyed>, first: u32, last: u32) -> Result<(), AllocError>
+    requires keyed { AreKeyed blocks.old.items }
+    requires ordered { first ≤ last }
+    ensures keyed { AreKeyed blocks.new.items }
+    ensures gains { OnOk result (GainsRange (set_numbers blocks.old.items) (set_numbers blocks.new.items) first (last + 1)) }
+    ensures refused { OnErr result (blocks.new.items ≡ blocks.old.items) }
+{
+    match place_of_all(blocks, first, last) {
+        Some(place) => insert_within(blocks, place, first, last),
+        None => change_range(blocks, first, last, Operation::Union),
+    }
+}
+
+// Takes out the numbers from `first` to `last`: out of their block, where one has the keys of all of them. Where memory is
+// refused, the blocks are as they were.
+pub(crate) fn remove_range(blocks: &mut Vec<Keyed>, first: u32, last: u32) -> Result<(), AllocError>
+    requires keyed { AreKeyed blocks.old.items }
+    requires ordered { first ≤ last }
+    ensures keyed { AreKeyed blocks.new.items }
+    ensures loses { OnOk result (LosesRange (set_numbers blocks.old.items) (set_numbers blocks.new.items) first (last + 1)) }
+    ensures refused { OnErr result (blocks.new.items ≡ blocks.old.items) }
+{
+    match place_of_all(blocks, first, last) {
+        Some(place) => remove_within(blocks, place, first, last),
+        None => change_range(blocks, first, last, Operation::Difference),
+    }
+}
+
+// Where the block stands that has the keys of all numbers from `first` to `last`, if there is one.
+fn place_of_all(blocks: &[Keyed], first: u32, last: u32) -> Option<usize>
+    requires { AreKeyed blocks.now }
+    ensures key { IfSome result (λ i. first / 65536 ≡ last / 65536) }
+    ensures there { IfSome result (λ i. IsThere blocks.now (first / 65536) i) }
+{
+    if first / 65536 != last / 65536 {
+        return None;
+    }
+    match find(blocks, (first / 65536) as u16) {
+        Ok(place) => Some(place),
+        Err(_) => None,
+    }
+}
+
+// Like `insert_range`, into the block at `place`.
+fn insert_within(
+    blocks: &mut Vec<Keyed>,
+    place: usize,
+    first: u32,
+    last: u32,
+) -> Result<(), AllocError>
+    requires keyed { AreKeyed blocks.old.items }
+    requires ordered { first ≤ last }
+    requires key { first / 65536 ≡ last / 65536 }
+    requires there { IsThere blocks.old.items (first / 65536) place }
+    ensures keyed { AreKeyed blocks.new.items }
+    ensures gains { OnOk result (GainsRange (set_numbers blocks.old.items) (set_numbers blocks.new.items) first (last + 1)) }
+    ensures refused { OnErr result (blocks.new.items ≡ blocks.old.items) }
+{
+    let keyed = &mut blocks[place];
+    let (low, high) = ((first % 65536) as u16, (last % 65536) as u16);
+    keyed.block.insert_range(low, high)?;
+    Ok(())
+}
+
+// Like `remove_range`, out of the block at `place`, which goes where it has no number left.
+fn remove_within(
+    blocks: &mut Vec<Keyed>,
+    place: usize,
+    first: u32,
+    last: u32,
+) -> Result<(), AllocError>
+    requires keyed { AreKeyed blocks.old.items }
+    requires ordered { first ≤ last }
+    requires key { first / 65536 ≡ last / 65536 }
+    requires there { IsThere blocks.old.items (first / 65536) place }
+    ensures keyed { AreKeyed blocks.new.items }
+    ensures loses { OnOk result (LosesRange (set_numbers blocks.old.items) (set_numbers blocks.new.items) first (last + 1)) }
+    ensures refused { OnErr result (blocks.new.items ≡ blocks.old.items) }
+{
+    let keyed = &mut blocks[place];
+    let (low, high) = ((first % 65536) as u16, (last % 65536) as u16);
+    keyed.block.remove_range(low, high)?;
+    if blocks[place].block.is_empty() {
+        let _gone = blocks.remove(place);
+    }
+    Ok(())
+}
+
 // Puts what an operation makes of the numbers and of those from `first` to `last` in their place. Blocks that have none
 // of these stay. Where memory is refused, the blocks are as they were. Requires that the operation keeps a number of the
 // left set alone, and makes nothing of nothing.
-pub(crate) fn change_range(
+fn change_range(
     blocks: &mut Vec<Keyed>,
     first: u32,
     last: u32,

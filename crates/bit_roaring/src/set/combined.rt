@@ -5,6 +5,7 @@ ghost use Rattle.bit_blocks.specs.Operation.{made_by};
 ghost use Rattle.bit_blocks.specs.declared.operation.Operation.TheVariants as operations;
 
 use crate::keyed;
+use crate::keyed::changed::{are_few, combine_few};
 use crate::set::RoaringSet;
 use bit_blocks::Operation;
 use std::alloc::AllocError;
@@ -49,10 +50,14 @@ impl RoaringSet {
     }
 
     /// Puts what an operation makes of this set and another in its place. Where memory is refused, the set is as it was.
+    #[tactic(auto, using(crate::proofs::Sets::sets_combined))]
     pub fn combine_with(&mut self, other: &Self, operation: Operation) -> Result<(), AllocError>
         ensures members { OnOk result (Combines (made_by operation) self.old other.now self.new) }
         ensures refused { OnErr result (self.new ≡ self.old) }
     {
+        if operation.keeps_left() && are_few(&self.blocks, &other.blocks) {
+            return combine_few(&mut self.blocks, &other.blocks, operation);
+        }
         *self = self.combined(other, operation)?;
         Ok(())
     }

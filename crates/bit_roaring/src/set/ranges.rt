@@ -8,9 +8,8 @@ ghost use Rattle.bit_roaring.specs.Ranges.{GainsRange, LosesRange, numbers_withi
 ghost use Rattle.bit_roaring.specs.SetLeft.{set_left};
 
 use crate::iter::SetIter;
-use crate::keyed::ranges::change_range;
+use crate::keyed::ranges;
 use crate::set::RoaringSet;
-use bit_blocks::Operation;
 use std::alloc::AllocError;
 use std::ops::{Bound, RangeBounds};
 
@@ -51,12 +50,7 @@ impl RoaringSet {
         if start >= end {
             return Ok(());
         }
-        change_range(
-            &mut self.blocks,
-            start as u32,
-            (end - 1) as u32,
-            Operation::Union,
-        )
+        ranges::insert_range(&mut self.blocks, start as u32, (end - 1) as u32)
     }
 
     /// Takes all numbers of a range of any kind out. Only the blocks that have numbers of the range are made anew. Where
@@ -74,12 +68,7 @@ impl RoaringSet {
         if start >= end {
             return Ok(());
         }
-        change_range(
-            &mut self.blocks,
-            start as u32,
-            (end - 1) as u32,
-            Operation::Difference,
-        )
+        ranges::remove_range(&mut self.blocks, start as u32, (end - 1) as u32)
     }
 
     /// The count of numbers of a range of any kind that are in the set. Takes no memory. Requires that the range was not

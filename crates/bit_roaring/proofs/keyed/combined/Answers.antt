@@ -14,5 +14,4 @@ pub returns-clause-members : goal.returns-clause-members
 returns-clause-members c =
     let keys = c.deref-key-items.result.now in
     let same = c.deref-key-items.ensures.value in
-    all_made c.args.operation c.args.left.now c.args.right.now keys c.loop-key.made.items c.loop-key.key-index c.loop-key-test.false c.loop-key.invariant
-    (λ k out. c.in_ok-keys.ensures.left k (subst (λ l. has l k ≡ false) same out)) (λ k out. c.in_ok-keys.ensures.right k (subst (λ l. has l k ≡ false) same out))
+    all_made c.args.operation c.args.left.now c.args.right.now keys c.loop-key.made.items c.loop-key.key-index c.loop-key-test.false c.loop-key.invariant (λ k out. c.in_ok-keys.ensures.all k (subst (λ l. has l k ≡ false) same out))

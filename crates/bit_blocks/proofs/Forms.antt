@@ -1,5 +1,5 @@
 -- What follows for the numbers of a form, and which changes leave it a good one.
-use Rattle.std.proofs.Common.{◌≡◌, ℕ, ◌+◌, ◌<◌, ◌≤◌, Bool, List, length, sym, ◌∙◌, ap, arith}
+use Rattle.std.proofs.Common.{◌≡◌, ℕ, ◌+◌, ◌-◌, ◌<◌, ◌≤◌, Bool, List, length, sym, ◌∙◌, ap, arith}
 use Rattle.bit_slice.specs.Places.{ones_of}
 use Rattle.bit_blocks.specs.Bits.{AreBits}
 use Rattle.bit_blocks.specs.Block.{IsBlock}
@@ -12,7 +12,7 @@ use Rattle.bit_blocks.specs.declared.ranged.Run.{Run}
 use Rattle.bit_blocks.proofs.Ascending.{few_numbers}
 use Rattle.bit_blocks.proofs.Bits.{ascends_ones}
 use Rattle.bit_blocks.proofs.Runs.{ascends_runs}
-use Rattle.bit_blocks.proofs.Sizes.{few_cleared, no_fewer_filled, no_fewer_gained, no_more_cleared, no_more_lost, one_less_lost, one_more_gained}
+use Rattle.bit_blocks.proofs.Sizes.{count_cleared, count_filled, no_fewer_filled, no_fewer_gained, no_more_cleared, no_more_lost, one_less_lost, one_more_gained}
 
 -- the numbers of a form ascend
 pub ascends_form : (form : Form) → IsForm form → Ascends (numbers_of form)
@@ -27,6 +27,37 @@ few_of_form form h = let few = few_numbers 0 65536 (numbers_of form) (omega arit
 -- forms of the same numbers have the same count
 pub same_count : (old new : Form) (count : ℕ) → IsBlock old count → IsForm new → numbers_of new ≡ numbers_of old → IsBlock new count
 same_count old new count was good same = record { good = good; size = was.size ∙ ap length (sym same) }
+
+-- a block has at most 65536 numbers
+pub few_of_block : (form : Form) (count : ℕ) → IsBlock form count → count ≤ 65536
+few_of_block form count was = let size = was.size in let few = few_of_form form was.good in omega arith
+
+-- the count after a range was put in, by how many of its numbers were there
+pub filled_count : (old new : Form) (count there next : ℕ) (r : Run) → IsBlock old count → IsForm new → r.first ≤ r.last → r.last < 65536 → there ≡ count_where (has (numbers_of old)) (numbers_of_run r)
+    → GainsBetween (numbers_of old) (numbers_of new) r.first r.last → next + there ≡ count + (r.last + 1 - r.first) → IsBlock new next
+filled_count old new count there next r was good ordered most is gains sum =
+    let size = was.size in
+    let all = count_filled (numbers_of old) (numbers_of new) r (ascends_form old was.good) (ascends_form new good) ordered most gains in
+    record { good = good; size = omega arith }
+
+-- the numbers that are left and those of a range that was taken out are all
+cleared_all : (old new : Form) (count gone : ℕ) (r : Run) → IsBlock old count → IsForm new → r.first ≤ r.last → r.last < 65536 → gone ≡ count_where (has (numbers_of old)) (numbers_of_run r)
+    → LosesBetween (numbers_of old) (numbers_of new) r.first r.last → length (numbers_of new) + gone ≡ count
+cleared_all old new count gone r was good ordered most is loses =
+    let size = was.size in
+    let all = count_cleared (numbers_of old) (numbers_of new) r (ascends_form old was.good) (ascends_form new good) ordered most loses in
+    omega arith
+
+pub few_cleared : (old new : Form) (count gone : ℕ) (r : Run) → IsBlock old count → IsForm new → r.first ≤ r.last → r.last < 65536 → gone ≡ count_where (has (numbers_of old)) (numbers_of_run r)
+    → LosesBetween (numbers_of old) (numbers_of new) r.first r.last → gone ≤ count
+few_cleared old new count gone r was good ordered most is loses = let all = cleared_all old new count gone r was good ordered most is loses in omega arith
+
+-- so this is the count after it was taken out
+pub cleared_count : (old new : Form) (count gone next : ℕ) (r : Run) → IsBlock old count → IsForm new → r.first ≤ r.last → r.last < 65536 → gone ≡ count_where (has (numbers_of old)) (numbers_of_run r)
+    → LosesBetween (numbers_of old) (numbers_of new) r.first r.last → next + gone ≡ count → IsBlock new next
+cleared_count old new count gone next r was good ordered most is loses sum =
+    let all = cleared_all old new count gone r was good ordered most is loses in
+    record { good = good; size = omega arith }
 
 -- ---- lists that stay lists, and bits that stay bits
 
@@ -59,7 +90,7 @@ mapped_filled xs ys first last h size gains =
 pub mapped_cleared : (xs ys : List Bool) (r : Run) → AreMapped xs → 4096 + count_where (has (ones_of xs)) (numbers_of_run r) < length (ones_of xs) → r.first ≤ r.last → r.last < 65536
     → AreBits ys → LosesBetween (ones_of xs) (ones_of ys) r.first r.last → AreMapped ys
 mapped_cleared xs ys r h many ordered most size loses =
-    let less = few_cleared (ones_of xs) (ones_of ys) r (ascends_ones xs h.size) (ascends_ones ys size) ordered most loses in
+    let less = count_cleared (ones_of xs) (ones_of ys) r (ascends_ones xs h.size) (ascends_ones ys size) ordered most loses in
     record { size = size; many = omega arith }
 
 -- ---- the form that takes the fewest bytes

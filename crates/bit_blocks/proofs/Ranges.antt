@@ -1,16 +1,19 @@
 -- Numbers of a range put into lists and bits, and taken out of them.
 use Rattle.std.proofs.Common.{◌≡◌, ℕ, ◌+◌, ◌-◌, ◌<◌, ◌≤◌, Bool, true, false, cond, not, ◌&&◌, ◌||◌, leb, nat_eq, nat_lt, List, [], ◌∷◌, get_or, replicate, refl, sym, ◌∙◌, ap, inl, inr, arith}
 use Rattle.std.specs.List.{filter, range_with_len}
-use Rattle.std.proofs.Math.Bool.{and-false}
+use Rattle.std.proofs.Math.Bool.{and-false, or-false, or_comm}
 use Rattle.std.proofs.lemmas.Bool.{cases_Bool, cases_eq, cases_lt, eq-eqb, le-leb, le-ltb, lt-leb, lt-ltb, ne_eqb}
 use Rattle.bit_addressing.specs.Row.{put}
 use Rattle.bit_slice.specs.Places.{ones_of}
 use Rattle.bit_blocks.specs.Bits.{AreBits}
-use Rattle.bit_blocks.specs.Numbers.{Ascends, AscendsIn, GainsBetween, LosesBetween, has, is_between}
+use Rattle.bit_blocks.specs.Numbers.{Ascends, AscendsIn, Combines, GainsBetween, LosesBetween, has, is_between}
+use Rattle.bit_blocks.specs.Operation.{made_by}
+use Rattle.bit_blocks.specs.Runs.{run_numbers}
+use Rattle.bit_blocks.specs.declared.operation.Operation.TheVariants.{Union, Difference}
 use Rattle.bit_blocks.proofs.Ascending.{ascends_earlier, below_all}
 use Rattle.bit_blocks.proofs.Between.{after_range, in_between}
 use Rattle.bit_blocks.proofs.Bits.{has_ones, in_range, item_filled, when_false, when_true}
-use Rattle.bit_blocks.proofs.Runs.{has_range}
+use Rattle.bit_blocks.proofs.Runs.{has_range, has_runs}
 
 -- the items of a range are those that a run of it has
 in_between_range : (first last a n k : ℕ) → a ≡ first → a + n ≡ last + 1 → (leb a k && nat_lt k (a + n)) ≡ is_between first last k
@@ -85,3 +88,18 @@ all_lost xs ys first last h low high is k = ap (λ l. has l k) is ∙ sym (elim 
   | inl less ↦ ap (λ b. has xs k && not b) (in_between first last k (omega arith) (omega arith)) ∙ and-false (has xs k)
   | inr more ↦ ap (λ b. b && not (is_between first last k)) (below_all 0 65536 xs k h more)
 ])
+
+-- ---- a range as a run
+
+-- whether a number is in the only run
+has_one_run : (first last k : ℕ) → first ≤ last → last < 65536 → has (run_numbers (record { first = first; last = last } ∷ [])) k ≡ is_between first last k
+has_one_run first last k ordered most =
+    has_runs 0 (record { first = first; last = last } ∷ []) k (omega arith, ordered, most, tt) ∙ or-false (is_between first last k)
+
+-- the numbers of one run put into others
+pub run_gained : (xs ys : List ℕ) (first last : ℕ) → first ≤ last → last < 65536 → Combines (made_by Union) xs (run_numbers (record { first = first; last = last } ∷ [])) ys → GainsBetween xs ys first last
+run_gained xs ys first last ordered most made k = made k ∙ ap (λ b. has xs k || b) (has_one_run first last k ordered most) ∙ or_comm (has xs k) (is_between first last k)
+
+-- and taken out of them
+pub run_lost : (xs ys : List ℕ) (first last : ℕ) → first ≤ last → last < 65536 → Combines (made_by Difference) xs (run_numbers (record { first = first; last = last } ∷ [])) ys → LosesBetween xs ys first last
+run_lost xs ys first last ordered most made k = made k ∙ ap (λ b. has xs k && not b) (has_one_run first last k ordered most)

@@ -295,6 +295,7 @@ pub(crate) fn remove(form: &mut Form, number: u16, many: bool) -> Result<(), All
 
 // Puts in the numbers from `first` to `last`. Where memory is refused, the numbers are as they were. All numbers are one
 // run.
+#[tactic(auto, using(crate::proofs::Ranges::run_gained))]
 pub(crate) fn insert_range(form: &mut Form, first: u16, last: u16) -> Result<(), AllocError>
     requires form { IsForm form.old }
     requires ordered { first ≤ last }
@@ -307,9 +308,17 @@ pub(crate) fn insert_range(form: &mut Form, first: u16, last: u16) -> Result<(),
         *form = of_run(alloc, first, last)?;
         return Ok(());
     }
-    if let Form::Mapped(bits) = form {
-        mapped::insert_range(bits, first, last);
-        return Ok(());
+    match form {
+        Form::Mapped(bits) => {
+            mapped::insert_range(bits, first, last);
+            return Ok(());
+        }
+        Form::Ranged(runs) => {
+            let made = combined_runs(alloc, runs, &[Run { first, last }], Operation::Union)?;
+            *form = made;
+            return Ok(());
+        }
+        Form::Listed(_) => {}
     }
     let mut bits = bits_of(alloc, form)?;
     mapped::insert_range(&mut bits, first, last);
@@ -317,11 +326,18 @@ pub(crate) fn insert_range(form: &mut Form, first: u16, last: u16) -> Result<(),
     Ok(())
 }
 
-// Takes out the numbers from `first` to `last`. Where memory is refused, the numbers are as they were. Where no number
-// stays, no memory is taken.
-pub(crate) fn remove_range(form: &mut Form, first: u16, last: u16) -> Result<(), AllocError>
+// Takes out the numbers from `first` to `last`. Where `many` says so, more than `LISTED` numbers stay. Where memory is
+// refused, the numbers are as they were. Where no number stays, no memory is taken.
+#[tactic(auto, using(crate::proofs::Ranges::run_lost))]
+pub(crate) fn remove_range(
+    form: &mut Form,
+    first: u16,
+    last: u16,
+    many: bool,
+) -> Result<(), AllocError>
     requires form { IsForm form.old }
     requires ordered { first ≤ last }
+    requires many { IsTrue many → 4096 + count_where (has (numbers_of form.old)) (range_with_len first (last + 1 - first)) < length (numbers_of form.old) }
     ensures loses { OnOk result (LosesBetween (numbers_of form.old) (numbers_of form.new) first last) }
     ensures refused { OnErr result (numbers_of form.new ≡ numbers_of form.old) }
     ensures form { IsForm form.new }
@@ -331,7 +347,6 @@ pub(crate) fn remove_range(form: &mut Form, first: u16, last: u16) -> Result<(),
         *form = Form::Listed(Vec::new(alloc));
         return Ok(());
     }
-    let many = count(form) > LISTED + count_in(form, Run { first, last });
     match form {
         Form::Listed(numbers) => {
             listed::remove_range(numbers, first, last);
@@ -343,7 +358,11 @@ pub(crate) fn remove_range(form: &mut Form, first: u16, last: u16) -> Result<(),
                 return Ok(());
             }
         }
-        Form::Ranged(_) => {}
+        Form::Ranged(runs) => {
+            let made = combined_runs(alloc, runs, &[Run { first, last }], Operation::Difference)?;
+            *form = made;
+            return Ok(());
+        }
     }
     let mut bits = bits_of(alloc, form)?;
     mapped::remove_range(&mut bits, first, last);
@@ -421,19 +440,19 @@ fn count_ranged(runs: &[Run], form: &Form) -> usize
     count
 }
 
-// The count of numbers that are in a run.
-fn count_in(form: &Form, run: Run) -> usize
+// The count of numbers of a run that are there.
+#[tactic(auto, using(crate::proofs::Counting::few_of_run, crate::proofs::Runs::numbers_of_one))]
+pub(crate) fn count_in(form: &Form, run: Run) -> usize
     requires form { IsForm form.now }
     requires run { run.first ≤ run.last }
     ensures value { result ≡ count_where (has (numbers_of form.now)) (numbers_of_run run) }
     ensures few { result ≤ run.last + 1 - run.first }
 {
-    let before = rank(form, run.first);
-    let upto = rank(form, run.last);
-    if contains(form, run.last) {
-        return upto + 1 - before;
+    match form {
+        Form::Listed(numbers) => listed::count_in(numbers, run),
+        Form::Mapped(bits) => mapped::count_in(bits, run),
+        Form::Ranged(runs) => ranged::count_both(&[run], runs),
     }
-    upto - before
 }
 
 // One run.

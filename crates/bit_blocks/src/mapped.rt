@@ -4,7 +4,7 @@ ghost use Rattle.bit_slice.specs.Places.{ones_of};
 ghost use Rattle.bit_blocks.specs.Bits.{AreBits};
 ghost use Rattle.bit_blocks.specs.Numbers.{Combines, Gains, GainsBetween, Loses, LosesBetween, count_below, count_where, has};
 ghost use Rattle.bit_blocks.specs.Operation.{made_by};
-ghost use Rattle.bit_blocks.specs.Runs.{AreRuns, run_numbers, runs_of};
+ghost use Rattle.bit_blocks.specs.Runs.{AreRuns, numbers_of_run, run_numbers, runs_of};
 
 use crate::iter::OnesLeft;
 use crate::operation::Operation;
@@ -60,6 +60,16 @@ pub(crate) fn count_below(bits: &Bits, number: u16) -> usize
     ensures { result ≡ count_below (ones_of bits.now.list) number }
 {
     BitList::count_ones_in(bits, ..number as usize)
+}
+
+// The count of numbers of a run that are there.
+#[tactic(auto, using(crate::proofs::Between::count_part))]
+pub(crate) fn count_in(bits: &Bits, run: Run) -> usize
+    requires size { AreBits bits.now.list }
+    requires ordered { run.first ≤ run.last }
+    ensures { result ≡ count_where (has (ones_of bits.now.list)) (numbers_of_run run) }
+{
+    BitList::count_ones_in(bits, run.first as usize..run.last as usize + 1)
 }
 
 // The `k`-th number, counted from 0. None exactly where there are at most `k`.

@@ -1,18 +1,21 @@
 -- What follows for the numbers of a form, and which changes leave it a good one.
-use Rattle.std.proofs.Common.{◌≡◌, ℕ, ◌+◌, ◌-◌, ◌<◌, ◌≤◌, Bool, List, length, sym, ◌∙◌, ap, arith}
+use Rattle.std.proofs.Common.{◌≡◌, ℕ, ◌+◌, ◌-◌, ◌<◌, ◌≤◌, Bool, true, false, List, length, sym, ◌∙◌, ap, inl, inr, arith}
+use Rattle.std.proofs.lemmas.Bool.{cases_Bool}
 use Rattle.bit_slice.specs.Places.{ones_of}
 use Rattle.bit_blocks.specs.Bits.{AreBits}
 use Rattle.bit_blocks.specs.Block.{IsBlock}
 use Rattle.bit_blocks.specs.Form.{AreListed, AreMapped, IsForm, IsSmallest, is_ranged, numbers_of}
-use Rattle.bit_blocks.specs.Numbers.{Ascends, Gains, GainsBetween, Loses, LosesBetween, count_where, has}
+use Rattle.bit_blocks.specs.Numbers.{Ascends, Combines, Gains, GainsBetween, Loses, LosesBetween, count_where, has}
+use Rattle.bit_blocks.specs.Operation.{made_by}
 use Rattle.bit_blocks.specs.Runs.{numbers_of_run, runs_of, runs_pay}
 use Rattle.bit_blocks.specs.declared.form.Form.{Form}
 use Rattle.bit_blocks.specs.declared.form.Form.TheVariants.{Listed, Mapped, Ranged}
+use Rattle.bit_blocks.specs.declared.operation.Operation.{Operation}
 use Rattle.bit_blocks.specs.declared.ranged.Run.{Run}
 use Rattle.bit_blocks.proofs.Ascending.{few_numbers}
 use Rattle.bit_blocks.proofs.Bits.{ascends_ones}
 use Rattle.bit_blocks.proofs.Runs.{ascends_runs}
-use Rattle.bit_blocks.proofs.Sizes.{count_cleared, count_filled, no_fewer_filled, no_fewer_gained, no_more_cleared, no_more_lost, one_less_lost, one_more_gained}
+use Rattle.bit_blocks.proofs.Sizes.{count_cleared, count_filled, few_combined, few_of_left, no_fewer_filled, no_fewer_gained, no_more_cleared, no_more_lost, one_less_lost, one_more_gained}
 
 -- the numbers of a form ascend
 pub ascends_form : (form : Form) → IsForm form → Ascends (numbers_of form)
@@ -69,6 +72,17 @@ listed_lost xs ys n h g loses = let few = h.few in let less = no_more_lost xs ys
 
 pub listed_cleared : (xs ys : List ℕ) (first last : ℕ) → AreListed xs → Ascends ys → LosesBetween xs ys first last → AreListed ys
 listed_cleared xs ys first last h g loses = let few = h.few in let less = no_more_cleared xs ys first last h.ascends g loses in record { ascends = g; few = omega arith }
+
+-- numbers of a list that are kept are a list
+pub listed_kept : (op : Operation) (xs ys zs : List ℕ) → AreListed xs → Ascends zs → made_by op false true ≡ false → Combines (made_by op) xs ys zs → AreListed zs
+listed_kept op xs ys zs h f drops made = let most = h.few in let few = few_of_left op xs ys zs h.ascends f drops made in record { ascends = f; few = omega arith }
+
+-- and so are those of two lists, where these are few or none of the right one alone is kept
+pub listed_merged : (op : Operation) (xs ys zs : List ℕ) → AreListed xs → AreListed ys → Ascends zs → (made_by op false true ≡ true → length xs + length ys ≤ 4096) → Combines (made_by op) xs ys zs → AreListed zs
+listed_merged op xs ys zs h g f few made = elim (cases_Bool (made_by op false true)) [
+  | inl keeps ↦ (let room = few keeps in let most = few_combined op xs ys zs h.ascends g.ascends f made in record { ascends = f; few = omega arith })
+  | inr drops ↦ listed_kept op xs ys zs h f drops made
+]
 
 pub mapped_gained : (xs ys : List Bool) (n : ℕ) → AreMapped xs → AreBits ys → Gains (ones_of xs) (ones_of ys) n → AreMapped ys
 mapped_gained xs ys n h size gains =

@@ -9,10 +9,12 @@ use Rattle.bit_blocks.specs.Bits.{AreBits}
 use Rattle.bit_blocks.specs.Numbers.{Ascends, AscendsIn, Combines, GainsBetween, LosesBetween, has, is_between}
 use Rattle.bit_blocks.specs.Operation.{made_by}
 use Rattle.bit_blocks.specs.Runs.{run_numbers}
+use Rattle.bit_blocks.specs.declared.operation.Operation.{Operation}
 use Rattle.bit_blocks.specs.declared.operation.Operation.TheVariants.{Union, Difference}
 use Rattle.bit_blocks.proofs.Ascending.{ascends_earlier, below_all}
 use Rattle.bit_blocks.proofs.Between.{after_range, in_between}
 use Rattle.bit_blocks.proofs.Bits.{has_ones, in_range, item_filled, when_false, when_true}
+use Rattle.bit_blocks.proofs.Merging.{made_none}
 use Rattle.bit_blocks.proofs.Runs.{has_range, has_runs}
 
 -- the items of a range are those that a run of it has
@@ -44,6 +46,15 @@ has_filter p (x ∷ xs) k = let rest = has_filter p xs k in elim (cases_Bool (p 
     | inr other ↦ sym (ap (λ b. (b || has xs k) && p k) (ne_eqb x k other))
   ]
 ]
+
+-- the numbers of the left list that an operation keeps are all where it keeps none of the right one alone
+pub combines_kept : (op : Operation) (xs ys zs : List ℕ) → made_by op false true ≡ false → zs ≡ filter (λ k. made_by op true (has ys k)) xs → Combines (made_by op) xs ys zs
+combines_kept op xs ys zs drops is k = ap (λ l. has l k) is ∙ has_filter (λ j. made_by op true (has ys j)) xs k ∙ by_test (has xs k) (has ys k)
+  where
+    by_test : (x y : Bool) → (x && made_by op true y) ≡ made_by op x y
+    by_test true y = refl
+    by_test false true = sym drops
+    by_test false false = sym (made_none op)
 
 -- what passes a test ascends still
 pub ascends_filter : (p : ℕ → Bool) (from upto : ℕ) (xs : List ℕ) → AscendsIn from upto xs → AscendsIn from upto (filter p xs)

@@ -160,3 +160,12 @@ made_in_either op false false made = sym (made_none op) ∙ made
 -- an operation makes no more numbers than both lists have
 pub few_combined : (op : Operation) (xs ys zs : List ℕ) → Ascends xs → Ascends ys → Ascends zs → Combines (made_by op) xs ys zs → length zs ≤ length xs + length ys
 few_combined op xs ys zs h g f made = few_in_either xs ys zs h g f (λ k there. made_in_either op (has xs k) (has ys k) (sym (made k) ∙ there))
+
+-- nor more than the left one where it keeps no number of the right one alone
+pub few_of_left : (op : Operation) (xs ys zs : List ℕ) → Ascends xs → Ascends zs → made_by op false true ≡ false → Combines (made_by op) xs ys zs → length zs ≤ length xs
+few_of_left op xs ys zs h f drops made = few_within zs xs f h (λ k there. only_left (has xs k) (has ys k) (sym (made k) ∙ there))
+  where
+    only_left : (x y : Bool) → made_by op x y ≡ true → x ≡ true
+    only_left true y kept = refl
+    only_left false true kept = sym drops ∙ kept
+    only_left false false kept = sym (made_none op) ∙ kept

@@ -46,7 +46,7 @@ fn make_room(numbers: &mut Vec<u16>) -> Result<(), AllocError>
 }
 
 // Gives back what a list has room for beyond the room that it would make.
-fn give_back(numbers: &mut Vec<u16>)
+pub(crate) fn give_back(numbers: &mut Vec<u16>)
     ensures { numbers.new.items ≡ numbers.old.items }
 {
     let count = numbers.len();

@@ -1,8 +1,8 @@
 //! Numbers below 65536 as the true bits of a vector of that length.
-ghost use Rattle.std.specs.Prelude.{◌≡◌, ◌≤◌, ◌<◌, ◌||◌, ◌↔◌, ℕ, Some, true, [], IfOk, IsTrue, false, length, slice_get};
+ghost use Rattle.std.specs.Prelude.{◌≡◌, ◌≤◌, ◌<◌, ◌||◌, ◌↔◌, ℕ, Bool, Some, true, [], IfOk, IsTrue, false, length, slice_get};
 ghost use Rattle.bit_slice.specs.Places.{ones_of};
 ghost use Rattle.bit_blocks.specs.Bits.{AreBits};
-ghost use Rattle.bit_blocks.specs.Numbers.{Combines, Gains, GainsBetween, Loses, LosesBetween, count_below, count_where, has};
+ghost use Rattle.bit_blocks.specs.Numbers.{Ascends, Combines, Gains, GainsBetween, Loses, LosesBetween, count_below, count_where, has};
 ghost use Rattle.bit_blocks.specs.Operation.{made_by};
 ghost use Rattle.bit_blocks.specs.Runs.{AreRuns, numbers_of_run, run_numbers, runs_of};
 
@@ -125,14 +125,18 @@ pub(crate) fn remove_range(bits: &mut Bits, first: u16, last: u16)
     BitListMut::fill_range(bits, first as usize..last as usize + 1, false);
 }
 
-// Puts numbers in.
-pub(crate) fn put_list(bits: &mut Bits, numbers: &[u16])
-    requires { AreBits bits.old.list }
+// Puts numbers in, takes them out or flips them, as an operation says. Requires that they ascend, and that the operation
+// leaves each other number as it is.
+pub(crate) fn change_list(bits: &mut Bits, numbers: &[u16], operation: Operation)
+    requires size { AreBits bits.old.list }
+    requires numbers { Ascends numbers.now }
+    requires keeps { (b : Bool) → made_by operation b false ≡ b }
     ensures size { AreBits bits.new.list }
-    ensures members { Combines (λ x y. x || y) (ones_of bits.old.list) numbers.now (ones_of bits.new.list) }
+    ensures members { Combines (made_by operation) (ones_of bits.old.list) numbers.now (ones_of bits.new.list) }
 {
     for number in numbers {
-        BitListMut::set(bits, *number as usize, true);
+        let bit = operation.keeps(contains(bits, *number), true);
+        BitListMut::set(bits, *number as usize, bit);
     }
 }
 

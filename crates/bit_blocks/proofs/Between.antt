@@ -1,17 +1,21 @@
 -- The numbers of a list that are in a range.
-use Rattle.std.proofs.Common.{◌≡◌, ℕ, zero, suc, ◌+◌, ◌-◌, ◌<◌, ◌≤◌, Bool, true, false, cond, ◌&&◌, leb, List, [], ◌∷◌, ◌++◌, append-nil, get_or, map, take, drop, refl, sym, ◌∙◌, ap, inl, inr, arith}
-use Rattle.std.specs.Prelude.{All, slice_range}
+use Rattle.std.proofs.Common.{◌≡◌, ℕ, zero, suc, ◌+◌, ◌-◌, ◌<◌, ◌≤◌, Bool, true, false, cond, ◌&&◌, leb, List, [], ◌∷◌, ◌++◌, append-nil, get_or, length, length-drop, length-take, map, take, drop, refl, sym, ◌∙◌, ap, inl, inr, arith}
+use Rattle.std.specs.Prelude.{All, count_by, slice_range}
 use Rattle.std.specs.List.{filter}
 use Rattle.std.proofs.Math.Bool.{and-false, and-true}
 use Rattle.std.proofs.lemmas.Bool.{cases_Bool, cases_lt, le-leb, lt-leb}
+use Rattle.std.proofs.lemmas.List.{length-map}
 use Rattle.std.proofs.lemmas.List.Elements.{filter-append}
 use Rattle.bit_addressing.proofs.lists.Shown.{length-between}
 use Rattle.bit_slice.proofs.Found.{item_of_part}
 use Rattle.bit_slice.specs.Places.{ones_of}
 use Rattle.bit_blocks.specs.Bits.{AreBits}
-use Rattle.bit_blocks.specs.Numbers.{AscendsIn, count_below, is_between, numbers_between, those}
-use Rattle.bit_blocks.proofs.Ascending.{counts_first, none_below, skips_first}
-use Rattle.bit_blocks.proofs.Bits.{ones_those}
+use Rattle.bit_blocks.specs.Numbers.{AscendsIn, count_below, count_where, has, is_between, numbers_between, those}
+use Rattle.bit_blocks.specs.Runs.{numbers_of_run}
+use Rattle.bit_blocks.specs.declared.ranged.Run.{Run}
+use Rattle.bit_blocks.proofs.Ascending.{counts_at_most, counts_first, none_below, skips_first}
+use Rattle.bit_blocks.proofs.Bits.{ascends_ones, ones_count, ones_those}
+use Rattle.bit_blocks.proofs.Counting.{count_run}
 use Rattle.bit_blocks.proofs.Stepping.{Small}
 use Rattle.bit_blocks.proofs.Those.{those_empty, those_here, those_joined, those_none, those_not_here, those_same}
 
@@ -155,6 +159,19 @@ part_between bits first last size ordered most =
     ∙ sym (ap (filter (λ k. is_between first last k)) (ones_those bits 65536 size) ∙ filter_those (λ k. get_or bits k false) (λ k. is_between first last k) 0 65536
     ∙ ap (those p 0) (sym whole) ∙ those_joined p 0 first (n + r) ∙ ap (λ l. l ++ those p (0 + first) (n + r)) front ∙ ap (λ a. those p a (n + r)) z
     ∙ those_joined p first n r ∙ ap (λ l. those p first n ++ l) back ∙ append-nil (those p first n))
+
+-- and as many as true items are in the part
+pub count_part : (bits : List Bool) (r : Run) → AreBits bits → r.first ≤ r.last → r.last < 65536 → count_by (λ b. b) (slice_range bits r.first (r.last + 1)) ≡ count_where (has (ones_of bits)) (numbers_of_run r)
+count_part bits r size ordered most =
+    let xs = ones_of bits in
+    let up = ascends_ones bits size in
+    let part = ones_of (slice_range bits r.first (r.last + 1)) in
+    let moved = length-map part (λ i. r.first + i) in
+    let same = ap length (part_between bits r.first r.last size ordered most ∙ between_places 0 65536 xs r.first r.last up ordered) in
+    let places : length (slice_range xs (count_below xs r.first) (count_below xs (r.last + 1))) ≡ count_below xs (r.last + 1) - count_below xs r.first =
+    simp (length-take, length-drop) (let most = counts_at_most xs (r.last + 1) in omega arith) in
+    let all = count_run xs r up ordered in
+    ones_count (slice_range bits r.first (r.last + 1)) ∙ (omega arith)
 
 -- and are small
 pub part_small : (xs : List ℕ) (first last n : ℕ) → All (λ i. i < n) xs → n ≡ last + 1 - first → last < 65536 → Small first xs

@@ -2,6 +2,7 @@
 use Rattle.std.proofs.Common.{◌≡◌, ℕ, zero, suc, ◌+◌, ◌-◌, ◌<◌, ◌≤◌, Bool, true, false, cond, not, ◌&&◌, ◌||◌, leb, nat_eq, nat_lt, List, [], ◌∷◌, ◌++◌, get_or, length, replicate, set, take, refl, sym, ◌∙◌, ap, subst, inl, inr, arith}
 use Rattle.std.specs.Prelude.{count_by, slice_get, slice_range, None, Some}
 use Rattle.std.specs.List.{filter, range_with_len}
+use Rattle.std.proofs.Math.Bool.{or-false, or-true}
 use Rattle.std.proofs.lemmas.Bool.{cases_lt, cases_eq, eq-eqb, le-leb, le-ltb, lt-leb, lt-ltb, ne_eqb}
 use Rattle.std.proofs.lemmas.List.{ext_get_or, get_or_past, get_or-replicate, length-replicate}
 use Rattle.bit_addressing.specs.Row.{put}
@@ -10,11 +11,13 @@ use Rattle.bit_slice.specs.Places.{ones_of}
 use Rattle.bit_slice.proofs.Places.{places_count, places_count_all, places_whole}
 use Rattle.bit_blocks.specs.Bits.{AreBits, BitsCombine, BitsGain, BitsLose}
 use Rattle.bit_blocks.specs.Numbers.{Ascends, AscendsIn, Combines, Gains, Loses, count_below, count_where, has, those}
+use Rattle.bit_blocks.specs.Operation.{made_by}
 use Rattle.bit_blocks.specs.Runs.{AreRuns, is_in_run, is_in_runs, run_numbers}
+use Rattle.bit_blocks.specs.declared.operation.Operation.{Operation}
 use Rattle.bit_blocks.specs.declared.ranged.Run.{Run}
 use Rattle.bit_blocks.proofs.Runs.{has_runs}
 use Rattle.bit_addressing.proofs.lists.Put.{length-put as length_put, put_before, put_after, put_inside}
-use Rattle.bit_blocks.proofs.Ascending.{below_all, below_append, counts_first, none_below, same_numbers}
+use Rattle.bit_blocks.proofs.Ascending.{at_least, below_all, below_append, counts_first, none_below, same_numbers}
 use Rattle.bit_blocks.proofs.Those.{ascends_those, has_those, those_empty, those_joined, those_same}
 use Rattle.bit_blocks.proofs.Counting.{count_those}
 
@@ -145,7 +148,7 @@ ones_both xs ys left right =
     item_combined (λ x y. x && y) xs ys k (omega arith) refl ∙ ap (λ b. get_or xs k false && b) (sym (has_ones ys k right))))
     ∙ sym (count_those (λ k. get_or xs k false) (has (ones_of ys)) 0 65536) ∙ ap (count_where (has (ones_of ys))) (sym (ones_those xs 65536 left))
 
--- ---- numbers put in one after another
+-- ---- numbers put in, taken out or flipped one after another
 
 or_back : (a b c : Bool) → (a || (b || c)) ≡ (b || (c || a))
 or_back true true c = refl
@@ -174,25 +177,51 @@ has_taken xs i k inside = let e : i + 1 ≡ suc i = omega arith in ap (λ n. has
     next (x ∷ l) zero h = or_last (nat_eq x k) false
     next (x ∷ l) (suc n) h = ap (λ b. nat_eq x k || b) (next l n (omega arith)) ∙ or_group (nat_eq x k) (has (take n l) k) (nat_eq (get_or l n 0) k)
 
--- the first i numbers of a list were put in
-pub record AreIn (old new : List Bool) (xs : List ℕ) (i : ℕ) : Type 0 where
-  pub size : AreBits new
-  pub members : (k : ℕ) → get_or new k false ≡ (get_or old k false || has (take i xs) k)
+-- a number that is read next is not among those that were read
+next_new : (from upto : ℕ) (xs : List ℕ) (i : ℕ) → AscendsIn from upto xs → i < length xs → has (take i xs) (get_or xs i 0) ≡ false
+next_new from upto [] i h inside = absurd (omega arith)
+next_new from upto (x ∷ xs) zero h inside = refl
+next_new from upto (x ∷ xs) (suc i) h inside =
+    let past = at_least (x + 1) upto xs i 0 h.2 (omega arith) in
+    ap (λ b. b || has (take i xs) (get_or xs i 0)) (ne_eqb x (get_or xs i 0) (λ e. omega arith)) ∙ next_new (x + 1) upto xs i h.2 (omega arith)
 
-pub one_in : (old bits new : List Bool) (xs : List ℕ) (i n : ℕ) → i < length xs → get_or xs i 0 ≡ n → n < 65536 → AreIn old bits xs i → new ≡ set bits n true → AreIn old new xs (i + 1)
-one_in old bits new xs i n inside at low r is = record {
-  size = ap length is ∙ length_set bits n true ∙ r.size;
-  members = λ k.
-      ap (λ l. get_or l k false) is ∙ bits_gain bits n r.size low k ∙ ap (λ b. nat_eq n k || b) (r.members k)
-      ∙ or_back (nat_eq n k) (get_or old k false) (has (take i xs) k)
-      ∙ sym (ap (λ b. get_or old k false || b) (has_taken xs i k inside ∙ ap (λ m. has (take i xs) k || nat_eq m k) at));
-}
+-- the first i numbers of a list were put in, taken out or flipped, as an operation says
+pub record AreChanged (op : Operation) (old new : List Bool) (xs : List ℕ) (i : ℕ) : Type 0 where
+  pub size : AreBits new
+  pub members : (k : ℕ) → get_or new k false ≡ made_by op (get_or old k false) (has (take i xs) k)
+
+pub none_changed : (op : Operation) (bits : List Bool) (xs : List ℕ) → ((b : Bool) → made_by op b false ≡ b) → AreBits bits → AreChanged op bits bits xs 0
+none_changed op bits xs keeps size = record { size = size; members = λ k. sym (ap (made_by op (get_or bits k false)) (none xs k) ∙ keeps (get_or bits k false)) }
   where
-    length_set : (l : List Bool) (i : ℕ) (b : Bool) → length (set l i b) ≡ length l
-    length_set [] zero b = refl
-    length_set [] (suc i) b = refl
-    length_set (x ∷ l) zero b = refl
-    length_set (x ∷ l) (suc i) b = ap suc (length_set l i b)
+    none : (l : List ℕ) (k : ℕ) → has (take 0 l) k ≡ false
+    none [] k = refl
+    none (x ∷ l) k = refl
+
+length_set : (l : List Bool) (i : ℕ) (b : Bool) → length (set l i b) ≡ length l
+length_set [] zero b = refl
+length_set [] (suc i) b = refl
+length_set (x ∷ l) zero b = refl
+length_set (x ∷ l) (suc i) b = ap suc (length_set l i b)
+
+pub one_changed : (op : Operation) (old bits new : List Bool) (xs : List ℕ) (i n : ℕ) (was bit : Bool) → ((b : Bool) → made_by op b false ≡ b) → Ascends xs → i < length xs → get_or xs i 0 ≡ n → n < 65536
+    → AreChanged op old bits xs i → was ≡ has (ones_of bits) n → bit ≡ made_by op was true → new ≡ set bits n bit → AreChanged op old new xs (i + 1)
+one_changed op old bits new xs i n was bit keeps h inside at low r old_bit new_bit is =
+    let size = r.size in
+    record {
+      size = ap length is ∙ length_set bits n bit ∙ size;
+      members = λ k.
+          let taken = has_taken xs i k inside ∙ ap (λ m. has (take i xs) k || nat_eq m k) at in
+          ap (λ l. get_or l k false) is ∙ item_set bits n bit k (omega arith) ∙ elim (cases_eq n k) [
+            | inl same ↦ (
+                let out : has (take i xs) k ≡ false = ap (has (take i xs)) (sym (at ∙ same)) ∙ next_new 0 65536 xs i h inside in
+                let was_in : was ≡ get_or old k false = old_bit ∙ has_ones bits n size ∙ ap (λ m. get_or bits m false) same ∙ r.members k ∙ ap (made_by op (get_or old k false)) out ∙ keeps (get_or old k false) in
+                let there : has (take (i + 1) xs) k ≡ true = taken ∙ ap (λ b. has (take i xs) k || b) (eq-eqb n k same) ∙ or-true (has (take i xs) k) in
+                ap (λ b. cond b bit (get_or bits k false)) (eq-eqb n k same) ∙ new_bit ∙ ap (λ b. made_by op b true) was_in ∙ sym (ap (made_by op (get_or old k false)) there))
+            | inr other ↦ (
+                let same : has (take (i + 1) xs) k ≡ has (take i xs) k = taken ∙ ap (λ b. has (take i xs) k || b) (ne_eqb n k other) ∙ or-false (has (take i xs) k) in
+                ap (λ b. cond b bit (get_or bits k false)) (ne_eqb n k other) ∙ r.members k ∙ sym (ap (made_by op (get_or old k false)) same))
+          ];
+    }
 
 take_all : (xs : List ℕ) (i : ℕ) → length xs ≤ i → take i xs ≡ xs
 take_all [] zero past = refl
@@ -200,8 +229,8 @@ take_all [] (suc i) past = refl
 take_all (x ∷ xs) zero past = absurd (omega arith)
 take_all (x ∷ xs) (suc i) past = ap (λ l. x ∷ l) (take_all xs i (omega arith))
 
-pub all_in : (old new : List Bool) (xs : List ℕ) (i : ℕ) → length xs ≤ i → AreIn old new xs i → BitsCombine (λ x y. x || y) old (has xs) new
-all_in old new xs i past r k = r.members k ∙ ap (λ l. get_or old k false || has l k) (take_all xs i past)
+pub all_changed : (op : Operation) (old new : List Bool) (xs : List ℕ) (i : ℕ) → length xs ≤ i → AreChanged op old new xs i → BitsCombine (made_by op) old (has xs) new
+all_changed op old new xs i past r k = r.members k ∙ ap (λ l. made_by op (get_or old k false) (has l k)) (take_all xs i past)
 
 -- ---- runs put in one after another
 

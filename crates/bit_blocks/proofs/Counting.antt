@@ -4,8 +4,11 @@ use Rattle.std.proofs.Math.Bool.{or-true}
 use Rattle.std.specs.Prelude.{◌⊎◌}
 use Rattle.std.proofs.Common.{length-drop}
 use Rattle.std.proofs.lemmas.List.{get_or_past}
+use Rattle.std.proofs.lemmas.List.FromFn.{length-range_with_len}
 use Rattle.std.proofs.lemmas.Bool.{cases_lt, cases_eq, cases_Bool, eq-eqb, ne_eqb}
 use Rattle.bit_blocks.specs.Numbers.{AscendsIn, Ascends, count_below, count_where, has, those}
+use Rattle.bit_blocks.specs.Runs.{numbers_of_run}
+use Rattle.bit_blocks.specs.declared.ranged.Run.{Run}
 use Rattle.std.specs.List.{range_with_len}
 use Rattle.bit_blocks.proofs.Ascending.{below_bound, counts_first, none_below, not_decreasing, skips_first}
 use Rattle.bit_blocks.proofs.Grouped.{rest_begins}
@@ -225,20 +228,10 @@ count_from p xs i inside = ap (count_where p) (rest_begins xs i inside)
 pub counted_swapped : (n : ℕ) (xs ys : List ℕ) → Ascends xs → Ascends ys → n ≡ count_where (has xs) ys → n ≡ count_where (has ys) xs
 counted_swapped n xs ys h g count = count ∙ sym (count_swapped 65536 xs ys h g)
 
--- the numbers of a run that are in a list, by two places
-pub count_run : (xs : List ℕ) (first last : ℕ) → Ascends xs → first ≤ last → count_where (has xs) (range_with_len first (last + 1 - first)) + count_below xs first ≡ count_below xs last + cond {A = ℕ} (has xs last) 1 0
-count_run xs first last h ordered =
-    let whole = count_range xs first (last + 1 - first) (last + 1) h (omega arith) in
-    let e : last + 1 ≡ suc last = omega arith in
-    let f = ap (count_below xs) e in
-    let next = below_next 0 65536 xs last h in
-    omega arith
+-- the numbers of a run that are in a list stand between two places
+pub count_run : (xs : List ℕ) (r : Run) → Ascends xs → r.first ≤ r.last → count_where (has xs) (numbers_of_run r) + count_below xs r.first ≡ count_below xs (r.last + 1)
+count_run xs r h ordered = count_range xs r.first (r.last + 1 - r.first) (r.last + 1) h (omega arith)
 
-pub run_before : (xs : List ℕ) (first last : ℕ) → Ascends xs → first ≤ last → count_below xs first ≤ count_below xs last
-run_before xs first last h ordered = let part = count_range xs first (last - first) last h (omega arith) in omega arith
-
-pub run_with_last : (xs : List ℕ) (first last : ℕ) → Ascends xs → first ≤ last → has xs last ≡ true → count_where (has xs) (range_with_len first (last + 1 - first)) + count_below xs first ≡ count_below xs last + 1
-run_with_last xs first last h ordered here = count_run xs first last h ordered ∙ ap (λ b. count_below xs last + cond {A = ℕ} b 1 0) here
-
-pub run_without_last : (xs : List ℕ) (first last : ℕ) → Ascends xs → first ≤ last → has xs last ≡ false → count_where (has xs) (range_with_len first (last + 1 - first)) + count_below xs first ≡ count_below xs last
-run_without_last xs first last h ordered out = let e = count_run xs first last h ordered ∙ ap (λ b. count_below xs last + cond {A = ℕ} b 1 0) out in omega arith
+-- and are no more than the run has
+pub few_of_run : (n : ℕ) (xs : List ℕ) (r : Run) → n ≡ count_where (has xs) (numbers_of_run r) → n ≤ r.last + 1 - r.first
+few_of_run n xs r is = let most = count_most (has xs) (numbers_of_run r) in let size = length-range_with_len r.first (r.last + 1 - r.first) in omega arith

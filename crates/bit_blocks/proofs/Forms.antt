@@ -1,18 +1,21 @@
 -- What follows for the numbers of a form, and which changes leave it a good one.
-use Rattle.std.proofs.Common.{◌≡◌, ℕ, ◌+◌, ◌<◌, ◌≤◌, Bool, List, length, sym, ◌∙◌, ap, arith}
+use Rattle.std.proofs.Common.{◌≡◌, ℕ, ◌+◌, ◌-◌, ◌<◌, ◌≤◌, Bool, true, false, List, length, sym, ◌∙◌, ap, inl, inr, arith}
+use Rattle.std.proofs.lemmas.Bool.{cases_Bool}
 use Rattle.bit_slice.specs.Places.{ones_of}
 use Rattle.bit_blocks.specs.Bits.{AreBits}
 use Rattle.bit_blocks.specs.Block.{IsBlock}
 use Rattle.bit_blocks.specs.Form.{AreListed, AreMapped, IsForm, IsSmallest, is_ranged, numbers_of}
-use Rattle.bit_blocks.specs.Numbers.{Ascends, Gains, GainsBetween, Loses, LosesBetween, count_where, has}
+use Rattle.bit_blocks.specs.Numbers.{Ascends, Combines, Gains, GainsBetween, Loses, LosesBetween, count_where, has}
+use Rattle.bit_blocks.specs.Operation.{made_by}
 use Rattle.bit_blocks.specs.Runs.{numbers_of_run, runs_of, runs_pay}
 use Rattle.bit_blocks.specs.declared.form.Form.{Form}
 use Rattle.bit_blocks.specs.declared.form.Form.TheVariants.{Listed, Mapped, Ranged}
+use Rattle.bit_blocks.specs.declared.operation.Operation.{Operation}
 use Rattle.bit_blocks.specs.declared.ranged.Run.{Run}
 use Rattle.bit_blocks.proofs.Ascending.{few_numbers}
 use Rattle.bit_blocks.proofs.Bits.{ascends_ones}
 use Rattle.bit_blocks.proofs.Runs.{ascends_runs}
-use Rattle.bit_blocks.proofs.Sizes.{few_cleared, no_fewer_filled, no_fewer_gained, no_more_cleared, no_more_lost, one_less_lost, one_more_gained}
+use Rattle.bit_blocks.proofs.Sizes.{count_cleared, count_filled, few_combined, few_of_left, no_fewer_filled, no_fewer_gained, no_more_cleared, no_more_lost, one_less_lost, one_more_gained}
 
 -- the numbers of a form ascend
 pub ascends_form : (form : Form) → IsForm form → Ascends (numbers_of form)
@@ -28,6 +31,37 @@ few_of_form form h = let few = few_numbers 0 65536 (numbers_of form) (omega arit
 pub same_count : (old new : Form) (count : ℕ) → IsBlock old count → IsForm new → numbers_of new ≡ numbers_of old → IsBlock new count
 same_count old new count was good same = record { good = good; size = was.size ∙ ap length (sym same) }
 
+-- a block has at most 65536 numbers
+pub few_of_block : (form : Form) (count : ℕ) → IsBlock form count → count ≤ 65536
+few_of_block form count was = let size = was.size in let few = few_of_form form was.good in omega arith
+
+-- the count after a range was put in, by how many of its numbers were there
+pub filled_count : (old new : Form) (count there next : ℕ) (r : Run) → IsBlock old count → IsForm new → r.first ≤ r.last → r.last < 65536 → there ≡ count_where (has (numbers_of old)) (numbers_of_run r)
+    → GainsBetween (numbers_of old) (numbers_of new) r.first r.last → next + there ≡ count + (r.last + 1 - r.first) → IsBlock new next
+filled_count old new count there next r was good ordered most is gains sum =
+    let size = was.size in
+    let all = count_filled (numbers_of old) (numbers_of new) r (ascends_form old was.good) (ascends_form new good) ordered most gains in
+    record { good = good; size = omega arith }
+
+-- the numbers that are left and those of a range that was taken out are all
+cleared_all : (old new : Form) (count gone : ℕ) (r : Run) → IsBlock old count → IsForm new → r.first ≤ r.last → r.last < 65536 → gone ≡ count_where (has (numbers_of old)) (numbers_of_run r)
+    → LosesBetween (numbers_of old) (numbers_of new) r.first r.last → length (numbers_of new) + gone ≡ count
+cleared_all old new count gone r was good ordered most is loses =
+    let size = was.size in
+    let all = count_cleared (numbers_of old) (numbers_of new) r (ascends_form old was.good) (ascends_form new good) ordered most loses in
+    omega arith
+
+pub few_cleared : (old new : Form) (count gone : ℕ) (r : Run) → IsBlock old count → IsForm new → r.first ≤ r.last → r.last < 65536 → gone ≡ count_where (has (numbers_of old)) (numbers_of_run r)
+    → LosesBetween (numbers_of old) (numbers_of new) r.first r.last → gone ≤ count
+few_cleared old new count gone r was good ordered most is loses = let all = cleared_all old new count gone r was good ordered most is loses in omega arith
+
+-- so this is the count after it was taken out
+pub cleared_count : (old new : Form) (count gone next : ℕ) (r : Run) → IsBlock old count → IsForm new → r.first ≤ r.last → r.last < 65536 → gone ≡ count_where (has (numbers_of old)) (numbers_of_run r)
+    → LosesBetween (numbers_of old) (numbers_of new) r.first r.last → next + gone ≡ count → IsBlock new next
+cleared_count old new count gone next r was good ordered most is loses sum =
+    let all = cleared_all old new count gone r was good ordered most is loses in
+    record { good = good; size = omega arith }
+
 -- ---- lists that stay lists, and bits that stay bits
 
 pub listed_gained : (xs ys : List ℕ) (n : ℕ) → Ascends xs → length xs < 4096 → n < 65536 → Ascends ys → Gains xs ys n → AreListed ys
@@ -38,6 +72,17 @@ listed_lost xs ys n h g loses = let few = h.few in let less = no_more_lost xs ys
 
 pub listed_cleared : (xs ys : List ℕ) (first last : ℕ) → AreListed xs → Ascends ys → LosesBetween xs ys first last → AreListed ys
 listed_cleared xs ys first last h g loses = let few = h.few in let less = no_more_cleared xs ys first last h.ascends g loses in record { ascends = g; few = omega arith }
+
+-- numbers of a list that are kept are a list
+pub listed_kept : (op : Operation) (xs ys zs : List ℕ) → AreListed xs → Ascends zs → made_by op false true ≡ false → Combines (made_by op) xs ys zs → AreListed zs
+listed_kept op xs ys zs h f drops made = let most = h.few in let few = few_of_left op xs ys zs h.ascends f drops made in record { ascends = f; few = omega arith }
+
+-- and so are those of two lists, where these are few or none of the right one alone is kept
+pub listed_merged : (op : Operation) (xs ys zs : List ℕ) → AreListed xs → AreListed ys → Ascends zs → (made_by op false true ≡ true → length xs + length ys ≤ 4096) → Combines (made_by op) xs ys zs → AreListed zs
+listed_merged op xs ys zs h g f few made = elim (cases_Bool (made_by op false true)) [
+  | inl keeps ↦ (let room = few keeps in let most = few_combined op xs ys zs h.ascends g.ascends f made in record { ascends = f; few = omega arith })
+  | inr drops ↦ listed_kept op xs ys zs h f drops made
+]
 
 pub mapped_gained : (xs ys : List Bool) (n : ℕ) → AreMapped xs → AreBits ys → Gains (ones_of xs) (ones_of ys) n → AreMapped ys
 mapped_gained xs ys n h size gains =
@@ -59,7 +104,7 @@ mapped_filled xs ys first last h size gains =
 pub mapped_cleared : (xs ys : List Bool) (r : Run) → AreMapped xs → 4096 + count_where (has (ones_of xs)) (numbers_of_run r) < length (ones_of xs) → r.first ≤ r.last → r.last < 65536
     → AreBits ys → LosesBetween (ones_of xs) (ones_of ys) r.first r.last → AreMapped ys
 mapped_cleared xs ys r h many ordered most size loses =
-    let less = few_cleared (ones_of xs) (ones_of ys) r (ascends_ones xs h.size) (ascends_ones ys size) ordered most loses in
+    let less = count_cleared (ones_of xs) (ones_of ys) r (ascends_ones xs h.size) (ascends_ones ys size) ordered most loses in
     record { size = size; many = omega arith }
 
 -- ---- the form that takes the fewest bytes

@@ -9,6 +9,7 @@ pub mod Grouped
 pub mod Joined
 pub mod Merging
 pub mod LeftOfRuns
+pub mod Operations
 pub mod Overlaps
 pub mod Ranges
 pub mod Scanned

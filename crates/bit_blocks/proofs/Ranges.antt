@@ -1,16 +1,21 @@
 -- Numbers of a range put into lists and bits, and taken out of them.
 use Rattle.std.proofs.Common.{◌≡◌, ℕ, ◌+◌, ◌-◌, ◌<◌, ◌≤◌, Bool, true, false, cond, not, ◌&&◌, ◌||◌, leb, nat_eq, nat_lt, List, [], ◌∷◌, get_or, replicate, refl, sym, ◌∙◌, ap, inl, inr, arith}
 use Rattle.std.specs.List.{filter, range_with_len}
-use Rattle.std.proofs.Math.Bool.{and-false}
+use Rattle.std.proofs.Math.Bool.{and-false, or-false, or_comm}
 use Rattle.std.proofs.lemmas.Bool.{cases_Bool, cases_eq, cases_lt, eq-eqb, le-leb, le-ltb, lt-leb, lt-ltb, ne_eqb}
 use Rattle.bit_addressing.specs.Row.{put}
 use Rattle.bit_slice.specs.Places.{ones_of}
 use Rattle.bit_blocks.specs.Bits.{AreBits}
-use Rattle.bit_blocks.specs.Numbers.{Ascends, AscendsIn, GainsBetween, LosesBetween, has, is_between}
+use Rattle.bit_blocks.specs.Numbers.{Ascends, AscendsIn, Combines, GainsBetween, LosesBetween, has, is_between}
+use Rattle.bit_blocks.specs.Operation.{made_by}
+use Rattle.bit_blocks.specs.Runs.{run_numbers}
+use Rattle.bit_blocks.specs.declared.operation.Operation.{Operation}
+use Rattle.bit_blocks.specs.declared.operation.Operation.TheVariants.{Union, Difference}
 use Rattle.bit_blocks.proofs.Ascending.{ascends_earlier, below_all}
 use Rattle.bit_blocks.proofs.Between.{after_range, in_between}
 use Rattle.bit_blocks.proofs.Bits.{has_ones, in_range, item_filled, when_false, when_true}
-use Rattle.bit_blocks.proofs.Runs.{has_range}
+use Rattle.bit_blocks.proofs.Merging.{made_none}
+use Rattle.bit_blocks.proofs.Runs.{has_range, has_runs}
 
 -- the items of a range are those that a run of it has
 in_between_range : (first last a n k : ℕ) → a ≡ first → a + n ≡ last + 1 → (leb a k && nat_lt k (a + n)) ≡ is_between first last k
@@ -41,6 +46,15 @@ has_filter p (x ∷ xs) k = let rest = has_filter p xs k in elim (cases_Bool (p 
     | inr other ↦ sym (ap (λ b. (b || has xs k) && p k) (ne_eqb x k other))
   ]
 ]
+
+-- the numbers of the left list that an operation keeps are all where it keeps none of the right one alone
+pub combines_kept : (op : Operation) (xs ys zs : List ℕ) → made_by op false true ≡ false → zs ≡ filter (λ k. made_by op true (has ys k)) xs → Combines (made_by op) xs ys zs
+combines_kept op xs ys zs drops is k = ap (λ l. has l k) is ∙ has_filter (λ j. made_by op true (has ys j)) xs k ∙ by_test (has xs k) (has ys k)
+  where
+    by_test : (x y : Bool) → (x && made_by op true y) ≡ made_by op x y
+    by_test true y = refl
+    by_test false true = sym drops
+    by_test false false = sym (made_none op)
 
 -- what passes a test ascends still
 pub ascends_filter : (p : ℕ → Bool) (from upto : ℕ) (xs : List ℕ) → AscendsIn from upto xs → AscendsIn from upto (filter p xs)
@@ -85,3 +99,18 @@ all_lost xs ys first last h low high is k = ap (λ l. has l k) is ∙ sym (elim 
   | inl less ↦ ap (λ b. has xs k && not b) (in_between first last k (omega arith) (omega arith)) ∙ and-false (has xs k)
   | inr more ↦ ap (λ b. b && not (is_between first last k)) (below_all 0 65536 xs k h more)
 ])
+
+-- ---- a range as a run
+
+-- whether a number is in the only run
+has_one_run : (first last k : ℕ) → first ≤ last → last < 65536 → has (run_numbers (record { first = first; last = last } ∷ [])) k ≡ is_between first last k
+has_one_run first last k ordered most =
+    has_runs 0 (record { first = first; last = last } ∷ []) k (omega arith, ordered, most, tt) ∙ or-false (is_between first last k)
+
+-- the numbers of one run put into others
+pub run_gained : (xs ys : List ℕ) (first last : ℕ) → first ≤ last → last < 65536 → Combines (made_by Union) xs (run_numbers (record { first = first; last = last } ∷ [])) ys → GainsBetween xs ys first last
+run_gained xs ys first last ordered most made k = made k ∙ ap (λ b. has xs k || b) (has_one_run first last k ordered most) ∙ or_comm (has xs k) (is_between first last k)
+
+-- and taken out of them
+pub run_lost : (xs ys : List ℕ) (first last : ℕ) → first ≤ last → last < 65536 → Combines (made_by Difference) xs (run_numbers (record { first = first; last = last } ∷ [])) ys → LosesBetween xs ys first last
+run_lost xs ys first last ordered most made k = made k ∙ ap (λ b. has xs k && not b) (has_one_run first last k ordered most)

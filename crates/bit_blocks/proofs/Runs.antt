@@ -234,8 +234,11 @@ ascends_all rs h = ascends_runs 0 rs h
 pub one_is_run : (rs : List Run) (first last : ℕ) → rs ≡ record { first = first; last = last } ∷ [] → first ≤ last → last < 65536 → AreRuns rs
 one_is_run rs first last is ordered most = subst AreRuns (sym is) (omega arith, ordered, most, tt)
 
+pub numbers_of_one : (r : Run) → run_numbers (r ∷ []) ≡ numbers_of_run r
+numbers_of_one r = append-nil (numbers_of_run r)
+
 pub one_has : (rs : List Run) (first last : ℕ) → rs ≡ record { first = first; last = last } ∷ [] → run_numbers rs ≡ range_with_len first (last + 1 - first)
-one_has rs first last is = ap run_numbers is ∙ append-nil (range_with_len first (last + 1 - first))
+one_has rs first last is = ap run_numbers is ∙ numbers_of_one (record { first = first; last = last })
 
 -- two runs are two numbers apart, so there are few
 pub few_runs : (from : ℕ) (rs : List Run) → from ≤ 65537 → AreRunsFrom from rs → from + 2 * length rs ≤ 65537

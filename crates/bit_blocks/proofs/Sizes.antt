@@ -1,5 +1,5 @@
 -- How many numbers a list has whose numbers are in others.
-use Rattle.std.proofs.Common.{◌≡◌, ℕ, zero, suc, ◌+◌, ◌<◌, ◌≤◌, Bool, true, false, not, ◌&&◌, ◌||◌, nat_eq, List, [], ◌∷◌, append-nil, length, refl, sym, ◌∙◌, ap, subst, inl, inr, arith}
+use Rattle.std.proofs.Common.{◌≡◌, ℕ, zero, suc, ◌+◌, ◌-◌, ◌<◌, ◌≤◌, Bool, true, false, cond, not, ◌&&◌, ◌||◌, nat_eq, List, [], ◌∷◌, append-nil, length, refl, sym, ◌∙◌, ap, subst, inl, inr, arith}
 use Rattle.std.proofs.Math.Bool.{and-true, or-false, or-true}
 use Rattle.std.proofs.lemmas.Bool.{and_parts, cases_Bool}
 use Rattle.bit_blocks.specs.Numbers.{Ascends, Combines, Gains, GainsBetween, Loses, LosesBetween, count_where, has, is_between, those}
@@ -9,8 +9,8 @@ use Rattle.bit_blocks.specs.declared.operation.Operation.{Operation}
 use Rattle.bit_blocks.specs.declared.ranged.Run.{Run}
 use Rattle.bit_blocks.proofs.Counting.{count_those}
 use Rattle.bit_blocks.proofs.Merging.{made_none}
-use Rattle.bit_blocks.proofs.Runs.{ascends_runs, has_run}
-use Rattle.bit_blocks.proofs.Those.{those_here, those_none, those_not_here, those_of}
+use Rattle.bit_blocks.proofs.Runs.{ascends_runs, has_run, run_size}
+use Rattle.bit_blocks.proofs.Those.{those_empty, those_here, those_none, those_not_here, those_of}
 
 -- no fewer pass from one number earlier on
 more_those : (p : ℕ → Bool) (a n : ℕ) → length (those p (a + 1) n) ≤ length (those p a (suc n))
@@ -81,19 +81,76 @@ no_more_cleared xs ys first last h g loses =
 run_ascends : (r : Run) → r.first ≤ r.last → r.last < 65536 → Ascends (numbers_of_run r)
 run_ascends r ordered most = subst Ascends (append-nil (numbers_of_run r)) (ascends_runs 0 (r ∷ []) (omega arith, ordered, most, tt))
 
--- a list loses no more numbers than it has in the range
-pub few_cleared : (xs ys : List ℕ) (r : Run) → Ascends xs → Ascends ys → r.first ≤ r.last → r.last < 65536 → LosesBetween xs ys r.first r.last
-    → length xs ≤ length ys + count_where (has xs) (numbers_of_run r)
-few_cleared xs ys r h g ordered most loses =
+-- how many numbers a test of one number counts
+abbrev one_if : Bool → ℕ
+one_if b = cond {A = ℕ} b 1 0
+
+those_size : (p : ℕ → Bool) (a n : ℕ) → length (those p a (suc n)) ≡ one_if (p a) + length (those p (a + 1) n)
+those_size p a n = elim (cases_Bool (p a)) [
+  | inl here ↦ (let e = ap length (those_here p a n here) in let f = ap one_if here in omega arith)
+  | inr out ↦ (let e = ap length (those_not_here p a n out) in let f = ap one_if out in omega arith)
+]
+
+-- where each number passes as many of two tests as of two others, as many numbers pass those as pass these
+same_sums : (p q r s : ℕ → Bool) (a n : ℕ) → ((k : ℕ) → one_if (p k) + one_if (q k) ≡ one_if (r k) + one_if (s k)) → length (those p a n) + length (those q a n) ≡ length (those r a n) + length (those s a n)
+same_sums p q r s a zero same =
+    let e = ap length (those_none p a) in
+    let f = ap length (those_none q a) in
+    let g = ap length (those_none r a) in
+    let h = ap length (those_none s a) in
+    omega arith
+same_sums p q r s a (suc n) same =
+    let rest = same_sums p q r s (a + 1) n same in
+    let here = same a in
+    let e = those_size p a n in
+    let f = those_size q a n in
+    let g = those_size r a n in
+    let h = those_size s a n in
+    omega arith
+
+-- how many numbers of a run are in a list
+run_counted : (xs : List ℕ) (r : Run) → r.first ≤ r.last → r.last < 65536 → count_where (has xs) (numbers_of_run r) ≡ length (those (λ k. has (numbers_of_run r) k && has xs k) 0 65536)
+run_counted xs r ordered most =
+    ap (count_where (has xs)) (those_of 0 65536 (numbers_of_run r) 65536 (omega arith) (run_ascends r ordered most)) ∙ count_those (has (numbers_of_run r)) (has xs) 0 65536
+
+-- a list gains the numbers of a range that it had not
+pub count_filled : (xs ys : List ℕ) (r : Run) → Ascends xs → Ascends ys → r.first ≤ r.last → r.last < 65536 → GainsBetween xs ys r.first r.last
+    → length ys + count_where (has xs) (numbers_of_run r) ≡ length xs + (r.last + 1 - r.first)
+count_filled xs ys r h g ordered most gains =
     let run = numbers_of_run r in
     let x = ap length (those_of 0 65536 xs 65536 (omega arith) h) in
     let y = ap length (those_of 0 65536 ys 65536 (omega arith) g) in
-    let z = ap (count_where (has xs)) (those_of 0 65536 run 65536 (omega arith) (run_ascends r ordered most)) ∙ count_those (has run) (has xs) 0 65536 in
-    let all = either_passes (has xs) (has ys) (λ k. has run k && has xs k) 0 65536 (λ k there. elim (cases_Bool (is_between r.first r.last k)) [
-      | inl inside ↦ ap (λ b. has ys k || (b && has xs k)) (has_run r k ordered ∙ inside) ∙ ap (λ b. has ys k || b) there ∙ or-true (has ys k)
-      | inr out ↦ ap (λ b. b || (has run k && has xs k)) (loses k ∙ ap (λ b. has xs k && not b) out ∙ and-true (has xs k) ∙ there)
-    ]) in
+    let z = ap length (those_of 0 65536 run 65536 (omega arith) (run_ascends r ordered most)) in
+    let size = run_size r in
+    let both = run_counted xs r ordered most in
+    let all = same_sums (has ys) (λ k. has run k && has xs k) (has xs) (has run) 0 65536 (λ k.
+    ap (λ b. one_if b + one_if (has run k && has xs k)) (gains k ∙ ap (λ b. b || has xs k) (sym (has_run r k ordered))) ∙ either_and_both (has run k) (has xs k)) in
     omega arith
+  where
+    either_and_both : (a b : Bool) → one_if (a || b) + one_if (a && b) ≡ one_if b + one_if a
+    either_and_both true true = refl
+    either_and_both true false = refl
+    either_and_both false true = refl
+    either_and_both false false = refl
+
+-- and loses those that it had
+pub count_cleared : (xs ys : List ℕ) (r : Run) → Ascends xs → Ascends ys → r.first ≤ r.last → r.last < 65536 → LosesBetween xs ys r.first r.last
+    → length ys + count_where (has xs) (numbers_of_run r) ≡ length xs
+count_cleared xs ys r h g ordered most loses =
+    let run = numbers_of_run r in
+    let x = ap length (those_of 0 65536 xs 65536 (omega arith) h) in
+    let y = ap length (those_of 0 65536 ys 65536 (omega arith) g) in
+    let none = ap length (those_empty (λ k. false) 0 65536 (λ k low high. refl)) in
+    let both = run_counted xs r ordered most in
+    let all = same_sums (has ys) (λ k. has run k && has xs k) (has xs) (λ k. false) 0 65536 (λ k.
+    ap (λ b. one_if b + one_if (has run k && has xs k)) (loses k ∙ ap (λ b. has xs k && not b) (sym (has_run r k ordered))) ∙ outside_and_both (has run k) (has xs k)) in
+    omega arith
+  where
+    outside_and_both : (a b : Bool) → one_if (b && not a) + one_if (a && b) ≡ one_if b + one_if false
+    outside_and_both true true = refl
+    outside_and_both true false = refl
+    outside_and_both false true = refl
+    outside_and_both false false = refl
 
 made_in_either : (op : Operation) (x y : Bool) → made_by op x y ≡ true → (x || y) ≡ true
 made_in_either op true y made = refl
@@ -103,3 +160,12 @@ made_in_either op false false made = sym (made_none op) ∙ made
 -- an operation makes no more numbers than both lists have
 pub few_combined : (op : Operation) (xs ys zs : List ℕ) → Ascends xs → Ascends ys → Ascends zs → Combines (made_by op) xs ys zs → length zs ≤ length xs + length ys
 few_combined op xs ys zs h g f made = few_in_either xs ys zs h g f (λ k there. made_in_either op (has xs k) (has ys k) (sym (made k) ∙ there))
+
+-- nor more than the left one where it keeps no number of the right one alone
+pub few_of_left : (op : Operation) (xs ys zs : List ℕ) → Ascends xs → Ascends zs → made_by op false true ≡ false → Combines (made_by op) xs ys zs → length zs ≤ length xs
+few_of_left op xs ys zs h f drops made = few_within zs xs f h (λ k there. only_left (has xs k) (has ys k) (sym (made k) ∙ there))
+  where
+    only_left : (x y : Bool) → made_by op x y ≡ true → x ≡ true
+    only_left true y kept = refl
+    only_left false true kept = sym drops ∙ kept
+    only_left false false kept = sym (made_none op) ∙ kept

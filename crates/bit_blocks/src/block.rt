@@ -215,15 +215,16 @@ impl Block {
 
     /// Puts in the numbers from `first` to `last`, both included. Where memory is refused, the set is as it was. Requires
     /// that `first` is at most `last`.
-    #[tactic(auto, using(crate::proofs::Forms::ascends_form, crate::proofs::Forms::same_count))]
+    #[tactic(auto, using(crate::proofs::Forms::ascends_form, crate::proofs::Forms::same_count, crate::proofs::Forms::few_of_block))]
     pub fn insert_range(&mut self, first: u16, last: u16) -> Result<(), AllocError>
         requires { first ≤ last }
         ensures gains { OnOk result (GainsBetween self.old self.new first last) }
         ensures ascends { Ascends self.new }
         ensures refused { OnErr result (self.new ≡ self.old) }
     {
+        let there = form::count_in(&self.form, Run { first, last });
         form::insert_range(&mut self.form, first, last)?;
-        self.count = form::count(&self.form);
+        self.count += (last - first) as usize + 1 - there;
         Ok(())
     }
 
@@ -236,8 +237,9 @@ impl Block {
         ensures ascends { Ascends self.new }
         ensures refused { OnErr result (self.new ≡ self.old) }
     {
-        form::remove_range(&mut self.form, first, last)?;
-        self.count = form::count(&self.form);
+        let gone = form::count_in(&self.form, Run { first, last });
+        form::remove_range(&mut self.form, first, last, self.count > LISTED + gone)?;
+        self.count -= gone;
         Ok(())
     }
 

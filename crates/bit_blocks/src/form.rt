@@ -1,11 +1,11 @@
 //! How the numbers of a block are kept.
-ghost use Rattle.std.specs.Prelude.{◌≡◌, ◌≤◌, ◌<◌, ◌+◌, ◌-◌, ◌↔◌, IfOk, IfSome, IsTrue, OnErr, OnOk, false, length, slice_get, true};
+ghost use Rattle.std.specs.Prelude.{◌≡◌, ◌≤◌, ◌<◌, ◌+◌, ◌-◌, ◌↔◌, Bool, IfOk, IfSome, IsTrue, OnErr, OnOk, false, length, slice_get, true};
 ghost use Rattle.std.specs.List.{range_with_len};
 ghost use Rattle.bit_slice.specs.BitSlice.{len_of, list_of};
 ghost use Rattle.bit_slice.specs.Places.{ones_of};
 ghost use Rattle.bit_blocks.specs.Bits.{AreBits};
 ghost use Rattle.bit_blocks.specs.BlockLeft.{form_left};
-ghost use Rattle.bit_blocks.specs.Form.{IsForm, IsSmallest, is_ranged, numbers_of};
+ghost use Rattle.bit_blocks.specs.Form.{AreListed, IsForm, IsSmallest, is_ranged, numbers_of};
 ghost use Rattle.bit_blocks.specs.Numbers.{Ascends, Combines, Gains, GainsBetween, Loses, LosesBetween, count_below, count_where, has, numbers_between};
 ghost use Rattle.bit_blocks.specs.Operation.{made_by};
 ghost use Rattle.bit_blocks.specs.Runs.{AreRuns, numbers_of_run, run_numbers, runs_of, runs_pay};
@@ -121,14 +121,14 @@ pub(crate) fn bits_of(alloc: Global, form: &Form) -> Result<Bits, AllocError>
 }
 
 // Ascending numbers as bits.
-#[tactic(auto, using(crate::proofs::Bits::ones_put))]
+#[tactic(auto, using(crate::proofs::Bits::ones_put, crate::proofs::Operations::keeps_left_alone))]
 fn bits_of_list(alloc: Global, numbers: &[u16]) -> Result<Bits, AllocError>
     requires { Ascends numbers.now }
     ensures size { IfOk result (λ bits. AreBits bits.list) }
     ensures numbers { IfOk result (λ bits. ones_of bits.list ≡ numbers.now) }
 {
     let mut bits = mapped::empty(alloc)?;
-    mapped::put_list(&mut bits, numbers);
+    mapped::change_list(&mut bits, numbers, Operation::Union);
     Ok(bits)
 }
 
@@ -158,6 +158,29 @@ pub(crate) fn form_of(alloc: Global, bits: Bits) -> Result<Form, AllocError>
     mapped_form(alloc, bits)
 }
 
+// How many times as long as another a list is whose numbers are not read one after another to find those of the other:
+// each of these is searched for.
+const LONGER: usize = 32;
+
+// Whether two lists of these lengths are read side by side: neither is `LONGER` times as long as the other.
+fn are_alike(left: usize, right: usize) -> bool {
+    right / LONGER < left && left / LONGER < right
+}
+
+// Whether two lists of these lengths are combined into a list by reading them side by side.
+fn are_merged(left: usize, right: usize, operation: Operation) -> bool
+    requires left { left ≤ 4096 }
+    requires right { right ≤ 4096 }
+    ensures few { IsTrue result → made_by operation false true ≡ true → left + right ≤ 4096 }
+{
+    match operation {
+        Operation::Intersection => are_alike(left, right),
+        Operation::Difference => right / LONGER < left,
+        Operation::Union => left + right <= LISTED,
+        Operation::SymmetricDifference => left + right <= LISTED,
+    }
+}
+
 // What an operation makes of two forms.
 pub(crate) fn combined(
     alloc: Global,
@@ -171,15 +194,95 @@ pub(crate) fn combined(
     ensures form { IfOk result (λ form. IsForm form) }
 {
     if let (Form::Listed(numbers), Form::Listed(others)) = (left, right) {
-        if numbers.len() + others.len() <= LISTED {
+        if are_merged(numbers.len(), others.len(), operation) {
             let made = listed::combined(alloc, numbers, others, operation)?;
             return Ok(Form::Listed(made));
         }
+        if others.len() < numbers.len() {
+            return combined_with_list(alloc, left, others, operation);
+        }
     }
-    if let (Form::Ranged(runs), Form::Ranged(others)) = (left, right) {
-        return combined_runs(alloc, runs, others, operation);
+    match (left, right) {
+        (Form::Ranged(runs), Form::Ranged(others)) => combined_runs(alloc, runs, others, operation),
+        (Form::Listed(numbers), _) => combined_list(alloc, numbers, right, operation),
+        (_, Form::Listed(numbers)) => combined_with_list(alloc, left, numbers, operation),
+        _ => combined_bits(alloc, left, right, operation),
     }
-    combined_bits(alloc, left, right, operation)
+}
+
+// Like `combined`, of a list and a form.
+#[tactic(auto, using(crate::proofs::Operations::swapped_by_right, crate::proofs::Operations::keeps_right_alone))]
+fn combined_list(
+    alloc: Global,
+    numbers: &[u16],
+    form: &Form,
+    operation: Operation,
+) -> Result<Form, AllocError>
+    requires numbers { AreListed numbers.now }
+    requires form { IsForm form.now }
+    ensures members { IfOk result (λ made. Combines (made_by operation) numbers.now (numbers_of form.now) (numbers_of made)) }
+    ensures form { IfOk result (λ made. IsForm made) }
+{
+    if operation.keeps_right() {
+        return changed_by_list(alloc, form, numbers, operation);
+    }
+    filtered_list(alloc, numbers, form, operation)
+}
+
+// Like `combined`, of a form and a list.
+#[tactic(auto, using(crate::proofs::Operations::swapped_by_left, crate::proofs::Operations::keeps_left_alone, crate::proofs::Operations::drops_right))]
+fn combined_with_list(
+    alloc: Global,
+    form: &Form,
+    numbers: &[u16],
+    operation: Operation,
+) -> Result<Form, AllocError>
+    requires form { IsForm form.now }
+    requires numbers { AreListed numbers.now }
+    ensures members { IfOk result (λ made. Combines (made_by operation) (numbers_of form.now) numbers.now (numbers_of made)) }
+    ensures form { IfOk result (λ made. IsForm made) }
+{
+    if operation.keeps_left() {
+        return changed_by_list(alloc, form, numbers, operation);
+    }
+    filtered_list(alloc, numbers, form, operation)
+}
+
+// Like `combined_list`, by an operation that keeps no number of the form alone: what is made has numbers of the list.
+fn filtered_list(
+    alloc: Global,
+    numbers: &[u16],
+    form: &Form,
+    operation: Operation,
+) -> Result<Form, AllocError>
+    requires numbers { AreListed numbers.now }
+    requires form { IsForm form.now }
+    requires drops { made_by operation false true ≡ false }
+    ensures members { IfOk result (λ made. Combines (made_by operation) numbers.now (numbers_of form.now) (numbers_of made)) }
+    ensures form { IfOk result (λ made. IsForm made) }
+{
+    let mut kept = listed::copied(alloc, numbers)?;
+    kept.retain(|number| operation.keeps(true, contains(form, *number)));
+    listed::give_back(&mut kept);
+    Ok(Form::Listed(kept))
+}
+
+// Like `combined_with_list`, by an operation that leaves each number that is not of the list as it is.
+fn changed_by_list(
+    alloc: Global,
+    form: &Form,
+    numbers: &[u16],
+    operation: Operation,
+) -> Result<Form, AllocError>
+    requires form { IsForm form.now }
+    requires numbers { AreListed numbers.now }
+    requires keeps { (b : Bool) → made_by operation b false ≡ b }
+    ensures members { IfOk result (λ made. Combines (made_by operation) (numbers_of form.now) numbers.now (numbers_of made)) }
+    ensures form { IfOk result (λ made. IsForm made) }
+{
+    let mut bits = bits_of(alloc, form)?;
+    mapped::change_list(&mut bits, numbers, operation);
+    form_of(alloc, bits)
 }
 
 // Like `combined`, of two lists of runs. What is made is kept as runs where they take fewer bytes.
@@ -295,6 +398,7 @@ pub(crate) fn remove(form: &mut Form, number: u16, many: bool) -> Result<(), All
 
 // Puts in the numbers from `first` to `last`. Where memory is refused, the numbers are as they were. All numbers are one
 // run.
+#[tactic(auto, using(crate::proofs::Ranges::run_gained))]
 pub(crate) fn insert_range(form: &mut Form, first: u16, last: u16) -> Result<(), AllocError>
     requires form { IsForm form.old }
     requires ordered { first ≤ last }
@@ -307,9 +411,17 @@ pub(crate) fn insert_range(form: &mut Form, first: u16, last: u16) -> Result<(),
         *form = of_run(alloc, first, last)?;
         return Ok(());
     }
-    if let Form::Mapped(bits) = form {
-        mapped::insert_range(bits, first, last);
-        return Ok(());
+    match form {
+        Form::Mapped(bits) => {
+            mapped::insert_range(bits, first, last);
+            return Ok(());
+        }
+        Form::Ranged(runs) => {
+            let made = combined_runs(alloc, runs, &[Run { first, last }], Operation::Union)?;
+            *form = made;
+            return Ok(());
+        }
+        Form::Listed(_) => {}
     }
     let mut bits = bits_of(alloc, form)?;
     mapped::insert_range(&mut bits, first, last);
@@ -317,11 +429,18 @@ pub(crate) fn insert_range(form: &mut Form, first: u16, last: u16) -> Result<(),
     Ok(())
 }
 
-// Takes out the numbers from `first` to `last`. Where memory is refused, the numbers are as they were. Where no number
-// stays, no memory is taken.
-pub(crate) fn remove_range(form: &mut Form, first: u16, last: u16) -> Result<(), AllocError>
+// Takes out the numbers from `first` to `last`. Where `many` says so, more than `LISTED` numbers stay. Where memory is
+// refused, the numbers are as they were. Where no number stays, no memory is taken.
+#[tactic(auto, using(crate::proofs::Ranges::run_lost))]
+pub(crate) fn remove_range(
+    form: &mut Form,
+    first: u16,
+    last: u16,
+    many: bool,
+) -> Result<(), AllocError>
     requires form { IsForm form.old }
     requires ordered { first ≤ last }
+    requires many { IsTrue many → 4096 + count_where (has (numbers_of form.old)) (range_with_len first (last + 1 - first)) < length (numbers_of form.old) }
     ensures loses { OnOk result (LosesBetween (numbers_of form.old) (numbers_of form.new) first last) }
     ensures refused { OnErr result (numbers_of form.new ≡ numbers_of form.old) }
     ensures form { IsForm form.new }
@@ -331,7 +450,6 @@ pub(crate) fn remove_range(form: &mut Form, first: u16, last: u16) -> Result<(),
         *form = Form::Listed(Vec::new(alloc));
         return Ok(());
     }
-    let many = count(form) > LISTED + count_in(form, Run { first, last });
     match form {
         Form::Listed(numbers) => {
             listed::remove_range(numbers, first, last);
@@ -343,7 +461,11 @@ pub(crate) fn remove_range(form: &mut Form, first: u16, last: u16) -> Result<(),
                 return Ok(());
             }
         }
-        Form::Ranged(_) => {}
+        Form::Ranged(runs) => {
+            let made = combined_runs(alloc, runs, &[Run { first, last }], Operation::Difference)?;
+            *form = made;
+            return Ok(());
+        }
     }
     let mut bits = bits_of(alloc, form)?;
     mapped::remove_range(&mut bits, first, last);
@@ -358,13 +480,20 @@ pub(crate) fn count_both(left: &Form, right: &Form) -> usize
     requires right { IsForm right.now }
     ensures { result ≡ count_where (has (numbers_of right.now)) (numbers_of left.now) }
 {
+    if let (Form::Listed(numbers), Form::Listed(others)) = (left, right) {
+        if are_alike(numbers.len(), others.len()) {
+            return listed::count_both(numbers, others);
+        }
+        if others.len() < numbers.len() {
+            return count_listed(others, left);
+        }
+    }
     match (left, right) {
-        (Form::Listed(numbers), Form::Listed(others)) => listed::count_both(numbers, others),
         (Form::Mapped(bits), Form::Mapped(others)) => mapped::count_both(bits, others),
         (Form::Ranged(runs), Form::Ranged(others)) => ranged::count_both(runs, others),
         (Form::Listed(numbers), _) => count_listed(numbers, right),
+        (_, Form::Listed(numbers)) => count_listed(numbers, left),
         (Form::Ranged(runs), _) => count_ranged(runs, right),
-        (Form::Mapped(_), Form::Listed(numbers)) => count_listed(numbers, left),
         (Form::Mapped(_), Form::Ranged(runs)) => count_ranged(runs, left),
     }
 }
@@ -421,19 +550,19 @@ fn count_ranged(runs: &[Run], form: &Form) -> usize
     count
 }
 
-// The count of numbers that are in a run.
-fn count_in(form: &Form, run: Run) -> usize
+// The count of numbers of a run that are there.
+#[tactic(auto, using(crate::proofs::Counting::few_of_run, crate::proofs::Runs::numbers_of_one))]
+pub(crate) fn count_in(form: &Form, run: Run) -> usize
     requires form { IsForm form.now }
     requires run { run.first ≤ run.last }
     ensures value { result ≡ count_where (has (numbers_of form.now)) (numbers_of_run run) }
     ensures few { result ≤ run.last + 1 - run.first }
 {
-    let before = rank(form, run.first);
-    let upto = rank(form, run.last);
-    if contains(form, run.last) {
-        return upto + 1 - before;
+    match form {
+        Form::Listed(numbers) => listed::count_in(numbers, run),
+        Form::Mapped(bits) => mapped::count_in(bits, run),
+        Form::Ranged(runs) => ranged::count_both(&[run], runs),
     }
-    upto - before
 }
 
 // One run.

@@ -1,10 +1,11 @@
 //! Ascending numbers in a slice: found, put in, taken out, combined and counted.
 ghost use Rattle.std.specs.Prelude.{◌≡◌, ◌↔◌, IsTrue, ◌++◌, ◌∷◌, [], if◌then◌else◌, ◌≤◌, ◌+◌, ◌/◌, IfOk, MatchResult, OnErr, OnOk, Some, length, max, not, slice_get, true, false, vec_capacity, vec_len, ◌<◌};
 ghost use Rattle.bit_blocks.specs.Operation.{made_by};
-ghost use Rattle.bit_blocks.specs.Runs.{runs_of};
+ghost use Rattle.bit_blocks.specs.Runs.{numbers_of_run, runs_of};
 ghost use Rattle.bit_blocks.specs.Numbers.{Ascends, Combines, Gains, Loses, LosesBetween, count_below, count_where, has, numbers_between};
 
 use crate::operation::Operation;
+use crate::ranged::Run;
 use std::alloc::{AllocError, Global};
 
 // How many numbers a list may have that is not turned into bits: both take 8192 bytes then.
@@ -45,7 +46,7 @@ fn make_room(numbers: &mut Vec<u16>) -> Result<(), AllocError>
 }
 
 // Gives back what a list has room for beyond the room that it would make.
-fn give_back(numbers: &mut Vec<u16>)
+pub(crate) fn give_back(numbers: &mut Vec<u16>)
     ensures { numbers.new.items ≡ numbers.old.items }
 {
     let count = numbers.len();
@@ -70,6 +71,16 @@ fn place_after(numbers: &[u16], number: u16) -> usize
     ensures within { result ≤ length numbers.now }
 {
     numbers.partition_point(|&other| other <= number)
+}
+
+// The count of numbers of a run that are there.
+#[tactic(auto, using(crate::proofs::Counting::count_run))]
+pub(crate) fn count_in(numbers: &[u16], run: Run) -> usize
+    requires ascends { Ascends numbers.now }
+    requires ordered { run.first ≤ run.last }
+    ensures { result ≡ count_where (has numbers.now) (numbers_of_run run) }
+{
+    place_after(numbers, run.last) - place_of(numbers, run.first)
 }
 
 // The numbers from `first` to `last`.

@@ -1,10 +1,10 @@
 //! Numbers below 65536 as the true bits of a vector of that length.
-ghost use Rattle.std.specs.Prelude.{◌≡◌, ◌≤◌, ◌<◌, ◌||◌, ◌↔◌, ℕ, Some, true, [], IfOk, IsTrue, false, length, slice_get};
+ghost use Rattle.std.specs.Prelude.{◌≡◌, ◌≤◌, ◌<◌, ◌||◌, ◌↔◌, ℕ, Bool, Some, true, [], IfOk, IsTrue, false, length, slice_get};
 ghost use Rattle.bit_slice.specs.Places.{ones_of};
 ghost use Rattle.bit_blocks.specs.Bits.{AreBits};
-ghost use Rattle.bit_blocks.specs.Numbers.{Combines, Gains, GainsBetween, Loses, LosesBetween, count_below, count_where, has};
+ghost use Rattle.bit_blocks.specs.Numbers.{Ascends, Combines, Gains, GainsBetween, Loses, LosesBetween, count_below, count_where, has};
 ghost use Rattle.bit_blocks.specs.Operation.{made_by};
-ghost use Rattle.bit_blocks.specs.Runs.{AreRuns, run_numbers, runs_of};
+ghost use Rattle.bit_blocks.specs.Runs.{AreRuns, numbers_of_run, run_numbers, runs_of};
 
 use crate::iter::OnesLeft;
 use crate::operation::Operation;
@@ -62,6 +62,16 @@ pub(crate) fn count_below(bits: &Bits, number: u16) -> usize
     BitList::count_ones_in(bits, ..number as usize)
 }
 
+// The count of numbers of a run that are there.
+#[tactic(auto, using(crate::proofs::Between::count_part))]
+pub(crate) fn count_in(bits: &Bits, run: Run) -> usize
+    requires size { AreBits bits.now.list }
+    requires ordered { run.first ≤ run.last }
+    ensures { result ≡ count_where (has (ones_of bits.now.list)) (numbers_of_run run) }
+{
+    BitList::count_ones_in(bits, run.first as usize..run.last as usize + 1)
+}
+
 // The `k`-th number, counted from 0. None exactly where there are at most `k`.
 pub(crate) fn nth(bits: &Bits, k: usize) -> Option<u16>
     requires { AreBits bits.now.list }
@@ -115,14 +125,18 @@ pub(crate) fn remove_range(bits: &mut Bits, first: u16, last: u16)
     BitListMut::fill_range(bits, first as usize..last as usize + 1, false);
 }
 
-// Puts numbers in.
-pub(crate) fn put_list(bits: &mut Bits, numbers: &[u16])
-    requires { AreBits bits.old.list }
+// Puts numbers in, takes them out or flips them, as an operation says. Requires that they ascend, and that the operation
+// leaves each other number as it is.
+pub(crate) fn change_list(bits: &mut Bits, numbers: &[u16], operation: Operation)
+    requires size { AreBits bits.old.list }
+    requires numbers { Ascends numbers.now }
+    requires keeps { (b : Bool) → made_by operation b false ≡ b }
     ensures size { AreBits bits.new.list }
-    ensures members { Combines (λ x y. x || y) (ones_of bits.old.list) numbers.now (ones_of bits.new.list) }
+    ensures members { Combines (made_by operation) (ones_of bits.old.list) numbers.now (ones_of bits.new.list) }
 {
     for number in numbers {
-        BitListMut::set(bits, *number as usize, true);
+        let bit = operation.keeps(contains(bits, *number), true);
+        BitListMut::set(bits, *number as usize, bit);
     }
 }
 

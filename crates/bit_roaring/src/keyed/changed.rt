@@ -6,38 +6,70 @@ ghost use Rattle.bit_roaring.specs.Changes.{CombinesKeyed, IsMade, Replaces, Rep
 ghost use Rattle.bit_roaring.specs.Keyed.{AreKeyed, keys_of};
 ghost use Rattle.bit_roaring.specs.Places.{IsAbsent, IsThere};
 
-use crate::keyed::{combined_at, find};
+use crate::keyed::{combined_at, find, get};
 use bit_blocks::{Block, Keyed, Operation};
 use std::alloc::{AllocError, Global};
 
-// How many blocks are put among others where they stand. Each one with a new key moves the blocks after it, which is
-// dear where there are more of both.
-const FEW: usize = 64;
+// How many blocks may come or go where the others stand: each one moves all blocks after it.
+const FEW: usize = 128;
 
-const SHORT: usize = 1024;
-
-// Whether `others` are so few that `combine_few` is faster than a new list of blocks.
-pub(crate) fn are_few(blocks: &[Keyed], others: &[Keyed]) -> bool {
-    others.len() <= FEW || others.len() <= SHORT && blocks.len() <= SHORT
-}
-
-// Puts what an operation makes of the blocks and of a few others in their place. Blocks with other keys stay. Where memory
-// is refused, the blocks are as they were. Requires that the operation keeps a number of the left list alone.
+// Puts what an operation makes of the blocks and of others in their place, and returns whether it did so: it does where
+// there are no more of the others, and few blocks come or go. Blocks with keys that none of the others has stay. Where
+// memory is refused, the blocks are as they were. Requires that the operation keeps a number of the left list alone.
 #[tactic(auto, using(crate::proofs::Changed::few_combined, crate::proofs::Changed::made_ascend))]
 pub(crate) fn combine_few(
     blocks: &mut Vec<Keyed>,
     others: &[Keyed],
     operation: Operation,
-) -> Result<(), AllocError>
+) -> Result<bool, AllocError>
     requires left { AreKeyed blocks.old.items }
     requires right { AreKeyed others.now }
     requires keeps { made_by operation true false ≡ true }
     ensures keyed { AreKeyed blocks.new.items }
-    ensures members { OnOk result (CombinesKeyed (made_by operation) blocks.old.items others.now blocks.new.items) }
+    ensures members { IfOk result (λ done. done ≡ true → CombinesKeyed (made_by operation) blocks.old.items others.now blocks.new.items) }
+    ensures stays { IfOk result (λ done. done ≡ false → blocks.new.items ≡ blocks.old.items) }
     ensures refused { OnErr result (blocks.new.items ≡ blocks.old.items) }
 {
+    let few = others.len() <= blocks.len() && has_few_new(blocks, others, operation);
+    if !few {
+        return Ok(false);
+    }
     let made = made_each(*blocks.allocator(), blocks, others, operation)?;
-    replace_all(blocks, made)
+    if !has_few_empty(&made) {
+        return Ok(false);
+    }
+    replace_all(blocks, made)?;
+    Ok(true)
+}
+
+// Whether an operation makes few blocks with keys of the others alone.
+fn has_few_new(blocks: &[Keyed], others: &[Keyed], operation: Operation) -> bool
+    requires { AreKeyed blocks.now }
+{
+    let mut count = 0usize;
+    for keyed in others {
+        if operation.keeps_right() && get(blocks, keyed.key).is_none() {
+            count = count.saturating_add(1);
+        }
+        if count > FEW {
+            return false;
+        }
+    }
+    true
+}
+
+// Whether few of the blocks have no number.
+fn has_few_empty(blocks: &[Keyed]) -> bool {
+    let mut count = 0usize;
+    for keyed in blocks {
+        if keyed.block.is_empty() {
+            count = count.saturating_add(1);
+        }
+        if count > FEW {
+            return false;
+        }
+    }
+    true
 }
 
 // What an operation makes of each of the right blocks and the left one with its key, which may be no number.

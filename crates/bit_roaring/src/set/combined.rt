@@ -5,7 +5,7 @@ ghost use Rattle.bit_blocks.specs.Operation.{made_by};
 ghost use Rattle.bit_blocks.specs.declared.operation.Operation.TheVariants as operations;
 
 use crate::keyed;
-use crate::keyed::changed::{are_few, combine_few};
+use crate::keyed::changed::combine_few;
 use crate::set::RoaringSet;
 use bit_blocks::Operation;
 use std::alloc::AllocError;
@@ -55,8 +55,11 @@ impl RoaringSet {
         ensures members { OnOk result (Combines (made_by operation) self.old other.now self.new) }
         ensures refused { OnErr result (self.new ≡ self.old) }
     {
-        if operation.keeps_left() && are_few(&self.blocks, &other.blocks) {
-            return combine_few(&mut self.blocks, &other.blocks, operation);
+        if operation.keeps_left() {
+            let done = combine_few(&mut self.blocks, &other.blocks, operation)?;
+            if done {
+                return Ok(());
+            }
         }
         *self = self.combined(other, operation)?;
         Ok(())

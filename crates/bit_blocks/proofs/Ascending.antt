@@ -1,5 +1,5 @@
 -- Ascending lists of numbers: where a number has its place.
-use Rattle.std.proofs.Common.{◌≡◌, ℕ, zero, suc, ◌+◌, ◌<◌, ◌≤◌, true, false, cond, ◌&&◌, ◌||◌, nat_eq, nat_lt, List, [], ◌∷◌, ◌++◌, get_or, length, refl, sym, ◌∙◌, ap, inl, inr, arith}
+use Rattle.std.proofs.Common.{◌≡◌, ℕ, zero, suc, ◌+◌, ◌<◌, ◌≤◌, true, false, cond, ◌&&◌, ◌||◌, nat_eq, nat_lt, List, [], ◌∷◌, ◌++◌, drop, get_or, length, take, refl, sym, ◌∙◌, ap, subst, inl, inr, arith}
 use Rattle.std.specs.List.Sorted.{IsNonDecreasingBy}
 use Rattle.std.proofs.Math.Bool.{or-false}
 use Rattle.std.proofs.Math.Dec.{leb-suc-suc}
@@ -139,3 +139,23 @@ below_append (x ∷ xs) ys k = let rest = below_append xs ys k in elim (cases_lt
   | inl low ↦ (let a = counts_first x (xs ++ ys) k low in let b = counts_first x xs k low in omega arith)
   | inr high ↦ (let a = skips_first x (xs ++ ys) k high in let b = skips_first x xs k high in omega arith)
 ]
+
+-- the numbers of a list that are below k ascend up to it, and the others from it on
+pub ascends_front : (from upto : ℕ) (xs : List ℕ) (k : ℕ) → AscendsIn from upto xs → AscendsIn from k (take (count_below xs k) xs)
+ascends_front from upto [] k h = tt
+ascends_front from upto (x ∷ xs) k h = elim (cases_lt x k) [
+  | inl low ↦ subst (λ n. AscendsIn from k (take n (x ∷ xs))) (sym (counts_first x xs k low)) (h.0, low, ascends_front (x + 1) upto xs k h.2)
+  | inr high ↦ subst (λ n. AscendsIn from k (take n (x ∷ xs))) (sym (skips_first x xs k high ∙ none_below (x + 1) upto xs k h.2 (omega arith))) tt
+]
+
+pub ascends_back : (from upto : ℕ) (xs : List ℕ) (k : ℕ) → AscendsIn from upto xs → AscendsIn k upto (drop (count_below xs k) xs)
+ascends_back from upto [] k h = tt
+ascends_back from upto (x ∷ xs) k h = elim (cases_lt x k) [
+  | inl low ↦ subst (λ n. AscendsIn k upto (drop n (x ∷ xs))) (sym (counts_first x xs k low)) (ascends_back (x + 1) upto xs k h.2)
+  | inr high ↦ subst (λ n. AscendsIn k upto (drop n (x ∷ xs))) (sym (skips_first x xs k high ∙ none_below (x + 1) upto xs k h.2 (omega arith))) (high, h.1, h.2)
+]
+
+-- two lists, one after the other
+pub ascends_append : (from mid upto : ℕ) (xs ys : List ℕ) → from ≤ mid → mid ≤ upto → AscendsIn from mid xs → AscendsIn mid upto ys → AscendsIn from upto (xs ++ ys)
+ascends_append from mid upto [] ys low high h g = ascends_earlier mid from upto ys low g
+ascends_append from mid upto (x ∷ xs) ys low high h g = let below = h.1 in (h.0, omega arith, ascends_append (x + 1) mid upto xs ys (omega arith) high h.2 g)

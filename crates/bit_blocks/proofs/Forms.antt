@@ -67,6 +67,9 @@ cleared_count old new count gone next r was good ordered most is loses sum =
 pub listed_gained : (xs ys : List ℕ) (n : ℕ) → Ascends xs → length xs < 4096 → n < 65536 → Ascends ys → Gains xs ys n → AreListed ys
 listed_gained xs ys n h room low g gains = let more = one_more_gained xs ys n h g low gains in record { ascends = g; few = omega arith }
 
+pub listed_filled : (xs ys : List ℕ) (n : ℕ) → length xs + n ≤ 4096 → Ascends ys → length ys ≤ length xs + n → AreListed ys
+listed_filled xs ys n room g few = record { ascends = g; few = omega arith }
+
 pub listed_lost : (xs ys : List ℕ) (n : ℕ) → AreListed xs → Ascends ys → Loses xs ys n → AreListed ys
 listed_lost xs ys n h g loses = let few = h.few in let less = no_more_lost xs ys n h.ascends g loses in record { ascends = g; few = omega arith }
 

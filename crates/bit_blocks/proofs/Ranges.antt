@@ -1,21 +1,24 @@
 -- Numbers of a range put into lists and bits, and taken out of them.
-use Rattle.std.proofs.Common.{◌≡◌, ℕ, ◌+◌, ◌-◌, ◌<◌, ◌≤◌, Bool, true, false, cond, not, ◌&&◌, ◌||◌, leb, nat_eq, nat_lt, List, [], ◌∷◌, get_or, replicate, refl, sym, ◌∙◌, ap, inl, inr, arith}
+use Rattle.std.proofs.Common.{◌≡◌, ℕ, ◌+◌, ◌-◌, ◌<◌, ◌≤◌, Bool, true, false, cond, not, ◌&&◌, ◌||◌, leb, nat_eq, nat_lt, List, [], ◌∷◌, ◌++◌, append_assoc, drop, get_or, length, length-append, length-drop, length-take, replicate, take, refl, sym, ◌∙◌, ap, subst, inl, inr, arith}
 use Rattle.std.specs.List.{filter, range_with_len}
-use Rattle.std.proofs.Math.Bool.{and-false, or-false, or_comm}
+use Rattle.std.proofs.Math.Bool.{and-false, or-false, or-true, or_comm}
 use Rattle.std.proofs.lemmas.Bool.{cases_Bool, cases_eq, cases_lt, eq-eqb, le-leb, le-ltb, lt-leb, lt-ltb, ne_eqb}
+use Rattle.std.proofs.lemmas.List.{take-append-drop}
+use Rattle.std.proofs.lemmas.List.FromFn.{length-range_with_len}
 use Rattle.bit_addressing.specs.Row.{put}
 use Rattle.bit_slice.specs.Places.{ones_of}
 use Rattle.bit_blocks.specs.Bits.{AreBits}
-use Rattle.bit_blocks.specs.Numbers.{Ascends, AscendsIn, Combines, GainsBetween, LosesBetween, has, is_between}
+use Rattle.bit_blocks.specs.Numbers.{Ascends, AscendsIn, Combines, GainsBetween, LosesBetween, count_below, has, is_between}
 use Rattle.bit_blocks.specs.Operation.{made_by}
 use Rattle.bit_blocks.specs.Runs.{run_numbers}
 use Rattle.bit_blocks.specs.declared.operation.Operation.{Operation}
 use Rattle.bit_blocks.specs.declared.operation.Operation.TheVariants.{Union, Difference}
-use Rattle.bit_blocks.proofs.Ascending.{ascends_earlier, below_all}
-use Rattle.bit_blocks.proofs.Between.{after_range, in_between}
+use Rattle.bit_blocks.proofs.Ascending.{above_all, ascends_append, ascends_back, ascends_earlier, ascends_front, below_all, counts_at_most}
+use Rattle.bit_blocks.proofs.Between.{after_range, before_range, below_up, in_between}
 use Rattle.bit_blocks.proofs.Bits.{has_ones, in_range, item_filled, when_false, when_true}
-use Rattle.bit_blocks.proofs.Merging.{made_none}
-use Rattle.bit_blocks.proofs.Runs.{has_range, has_runs}
+use Rattle.bit_blocks.proofs.Edits.{has_append}
+use Rattle.bit_blocks.proofs.Merging.{made_none, to_end}
+use Rattle.bit_blocks.proofs.Runs.{ascends_range, has_range, has_runs}
 
 -- the items of a range are those that a run of it has
 in_between_range : (first last a n k : ℕ) → a ≡ first → a + n ≡ last + 1 → (leb a k && nat_lt k (a + n)) ≡ is_between first last k
@@ -114,3 +117,69 @@ run_gained xs ys first last ordered most made k = made k ∙ ap (λ b. has xs k 
 -- and taken out of them
 pub run_lost : (xs ys : List ℕ) (first last : ℕ) → first ≤ last → last < 65536 → Combines (made_by Difference) xs (run_numbers (record { first = first; last = last } ∷ [])) ys → LosesBetween xs ys first last
 run_lost xs ys first last ordered most made k = made k ∙ ap (λ b. has xs k && not b) (has_one_run first last k ordered most)
+
+-- ---- a range in the place of the numbers of a list that are in it
+
+-- a list with a range in their place
+abbrev pub with_range : List ℕ → ℕ → ℕ → List ℕ
+with_range xs first last = (take (count_below xs first) xs ++ range_with_len first (last + 1 - first)) ++ drop (count_below xs (last + 1)) xs
+
+-- it is made of three parts
+pub with_range_made : (xs one two three : List ℕ) (first last a b : ℕ) → a ≡ count_below xs first → b ≡ count_below xs (last + 1) → one ≡ take a xs → two ≡ one ++ range_with_len first (last + 1 - first)
+    → three ≡ two ++ take (length xs - b) (drop b xs) → three ≡ with_range xs first last
+with_range_made xs one two three first last a b begins ends front more back =
+    let run = range_with_len first (last + 1 - first) in
+    back ∙ ap (λ l. l ++ take (length xs - b) (drop b xs)) (more ∙ ap (λ l. l ++ run) (front ∙ ap (λ m. take m xs) begins))
+    ∙ ap (λ l. (take (count_below xs first) xs ++ run) ++ l) (to_end xs b ∙ ap (λ m. drop m xs) ends)
+
+has_parts : (xs : List ℕ) (n k : ℕ) → has xs k ≡ (has (take n xs) k || has (drop n xs) k)
+has_parts xs n k = ap (λ l. has l k) (sym (take-append-drop n xs)) ∙ has_append (take n xs) (drop n xs) k
+
+pub range_put : (xs ys : List ℕ) (first last : ℕ) → Ascends xs → first ≤ last → last < 65536 → ys ≡ with_range xs first last → GainsBetween xs ys first last
+range_put xs ys first last h ordered most is k =
+    let a = count_below xs first in
+    let b = count_below xs (last + 1) in
+    let run = range_with_len first (last + 1 - first) in
+    let in_run = has_range first (last + 1 - first) k ∙ in_between_range first last first (last + 1 - first) k refl (omega arith) in
+    ap (λ l. has l k) is ∙ has_append (take a xs ++ run) (drop b xs) k ∙ ap (λ t. t || has (drop b xs) k) (has_append (take a xs) run k ∙ ap (λ t. has (take a xs) k || t) in_run) ∙ elim (cases_lt k first) [
+      | inl low ↦ (
+          let out = before_range first last k low in
+          let none = above_all (last + 1) 65536 (drop b xs) k (ascends_back 0 65536 xs (last + 1) h) (omega arith) in
+          let rest = above_all first 65536 (drop a xs) k (ascends_back 0 65536 xs first h) low in
+          ap (λ t. (has (take a xs) k || t) || has (drop b xs) k) out ∙ ap (λ t. (has (take a xs) k || false) || t) none ∙ or-false (has (take a xs) k || false)
+          ∙ sym (ap (λ t. t || has xs k) out ∙ has_parts xs a k ∙ ap (λ t. has (take a xs) k || t) rest))
+      | inr high ↦ elim (cases_lt last k) [
+        | inl past ↦ (
+            let out = after_range first last k past in
+            let none = below_all 0 first (take a xs) k (ascends_front 0 65536 xs first h) high in
+            let rest = below_all 0 (last + 1) (take b xs) k (ascends_front 0 65536 xs (last + 1) h) (omega arith) in
+            ap (λ t. (t || is_between first last k) || has (drop b xs) k) none ∙ ap (λ t. t || has (drop b xs) k) out
+            ∙ sym (ap (λ t. t || has xs k) out ∙ has_parts xs b k ∙ ap (λ t. t || has (drop b xs) k) rest))
+        | inr within ↦ (
+            let here = in_between first last k high within in
+            ap (λ t. (has (take a xs) k || t) || has (drop b xs) k) here ∙ ap (λ t. t || has (drop b xs) k) (or-true (has (take a xs) k)) ∙ sym (ap (λ t. t || has xs k) here))
+      ]
+    ]
+
+pub range_ascends : (xs ys : List ℕ) (first last : ℕ) → Ascends xs → first ≤ last → last < 65536 → ys ≡ with_range xs first last → Ascends ys
+range_ascends xs ys first last h ordered most is =
+    let run = range_with_len first (last + 1 - first) in
+    let rest = drop (count_below xs (last + 1)) xs in
+    let end : last + 1 ≡ first + (last + 1 - first) = omega arith in
+    let back = subst (λ n. AscendsIn n 65536 rest) end (ascends_back 0 65536 xs (last + 1) h) in
+    subst Ascends (sym (is ∙ append_assoc (take (count_below xs first) xs) run rest))
+    (ascends_append 0 first 65536 (take (count_below xs first) xs) (run ++ rest) (omega arith) (omega arith) (ascends_front 0 65536 xs first h) (ascends_range first (last + 1 - first) 65536 rest (omega arith) back))
+
+pub range_size : (xs ys : List ℕ) (first last : ℕ) → first ≤ last → ys ≡ with_range xs first last → length ys ≤ length xs + (last + 1 - first)
+range_size xs ys first last ordered is =
+    let a = count_below xs first in
+    let b = count_below xs (last + 1) in
+    let run = range_with_len first (last + 1 - first) in
+    let low = below_up xs first (last + 1) (omega arith) in
+    let most = counts_at_most xs (last + 1) in
+    let parts = ap length is ∙ length-append (take a xs ++ run) (drop b xs) in
+    let front = length-append (take a xs) run in
+    let size = length-range_with_len first (last + 1 - first) in
+    let taken = length-take a xs in
+    let dropped = length-drop b xs in
+    omega arith

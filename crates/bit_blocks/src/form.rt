@@ -421,7 +421,14 @@ pub(crate) fn insert_range(form: &mut Form, first: u16, last: u16) -> Result<(),
             *form = made;
             return Ok(());
         }
-        Form::Listed(_) => {}
+        Form::Listed(numbers) => {
+            let more = (last - first) as usize + 1;
+            let has_room = numbers.len() + more <= LISTED;
+            if has_room {
+                listed::insert_range(numbers, first, last)?;
+                return Ok(());
+            }
+        }
     }
     let mut bits = bits_of(alloc, form)?;
     mapped::insert_range(&mut bits, first, last);

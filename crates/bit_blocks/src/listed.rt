@@ -1,8 +1,9 @@
 //! Ascending numbers in a slice: found, put in, taken out, combined and counted.
-ghost use Rattle.std.specs.Prelude.{◌≡◌, ◌↔◌, IsTrue, ◌++◌, ◌∷◌, [], if◌then◌else◌, ◌≤◌, ◌+◌, ◌/◌, IfOk, MatchResult, OnErr, OnOk, Some, length, max, not, slice_get, true, false, vec_capacity, vec_len, ◌<◌};
+ghost use Rattle.std.specs.Prelude.{◌≡◌, ◌↔◌, IsTrue, ◌++◌, ◌∷◌, [], if◌then◌else◌, ◌≤◌, ◌+◌, ◌-◌, ◌/◌, IfOk, MatchResult, OnErr, OnOk, Some, length, max, not, slice_get, true, false, vec_capacity, vec_len, ◌<◌};
+ghost use Rattle.std.specs.List.{range_with_len};
 ghost use Rattle.bit_blocks.specs.Operation.{made_by};
 ghost use Rattle.bit_blocks.specs.Runs.{numbers_of_run, runs_of};
-ghost use Rattle.bit_blocks.specs.Numbers.{Ascends, Combines, Gains, Loses, LosesBetween, count_below, count_where, has, numbers_between};
+ghost use Rattle.bit_blocks.specs.Numbers.{Ascends, Combines, Gains, GainsBetween, Loses, LosesBetween, count_below, count_where, has, numbers_between};
 
 use crate::operation::Operation;
 use crate::ranged::Run;
@@ -157,6 +158,37 @@ pub fn remove(numbers: &mut Vec<u16>, number: u16) -> bool
         },
         Err(_) => false,
     }
+}
+
+// Appends the numbers from `first` to `last`.
+fn push_range(made: &mut Vec<u16>, first: u16, last: u16) -> Result<(), AllocError>
+    requires { first ≤ last }
+    ensures { OnOk result (made.new.items ≡ made.old.items ++ range_with_len first (last + 1 - first)) }
+{
+    for number in first as usize..last as usize + 1 {
+        made.push(number as u16)?;
+    }
+    Ok(())
+}
+
+// Puts in the numbers from `first` to `last`. Where memory is refused, the numbers are as they were.
+pub(crate) fn insert_range(numbers: &mut Vec<u16>, first: u16, last: u16) -> Result<(), AllocError>
+    requires ascends { Ascends numbers.old.items }
+    requires ordered { first ≤ last }
+    ensures gains { OnOk result (GainsBetween numbers.old.items numbers.new.items first last) }
+    ensures ascends { Ascends numbers.new.items }
+    ensures few { length numbers.new.items ≤ length numbers.old.items + (last + 1 - first) }
+    ensures refused { OnErr result (numbers.new.items ≡ numbers.old.items) }
+{
+    let from = place_of(numbers, first);
+    let upto = place_after(numbers, last);
+    let count = from + (last - first) as usize + 1 + (numbers.len() - upto);
+    let mut made = Vec::with_capacity(*numbers.allocator(), count)?;
+    made.extend_from_slice(&numbers[..from])?;
+    push_range(&mut made, first, last)?;
+    made.extend_from_slice(&numbers[upto..])?;
+    *numbers = made;
+    Ok(())
 }
 
 // Takes out the numbers from `first` to `last`.

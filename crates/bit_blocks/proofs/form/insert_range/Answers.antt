@@ -1,5 +1,6 @@
+use Rattle.std.proofs.Common.{◌+◌, ◌-◌, arith}
 use Rattle.bit_blocks.specs.Form.{AreMapped, numbers_of}
-use Rattle.bit_blocks.proofs.Forms.{ascends_form, mapped_filled}
+use Rattle.bit_blocks.proofs.Forms.{ascends_form, listed_filled, mapped_filled}
 use Rattle.bit_blocks.proofs.Ranges.{all_gained}
 use Rattle.bit_blocks.proofs.form.insert_range.Goals as goal
 
@@ -13,3 +14,10 @@ returns-in-Mapped-clause-form c =
     let good : AreMapped c.in-Mapped.bits.value.list = rw c.in-Mapped.is at c.requires.form in
     let gains = rw c.deref_mut.ensures.value at c.insert_range.ensures.gains in
     mapped_filled c.in-Mapped.bits.value.list c.insert_range.new.bits.list c.args.first c.args.last good c.insert_range.ensures.size gains
+
+pub returns-then-has_room-clause-form : goal.returns-then-has_room-clause-form
+returns-then-has_room-clause-form c =
+    let numbers = c.in-Listed.numbers in
+    let room = c.if-has_room.true in
+    let ordered = c.requires.ordered in
+    listed_filled numbers.items c.insert_range-then-has_room.new.numbers.items (c.args.last + 1 - c.args.first) (omega (arith, c.len.ensures, numbers.ok.0)) c.insert_range-then-has_room.ensures.ascends c.insert_range-then-has_room.ensures.few

@@ -169,7 +169,7 @@ or_group true b c = refl
 or_group false b c = refl
 
 -- one more number of a list that is read
-has_taken : (xs : List ℕ) (i k : ℕ) → i < length xs → has (take (i + 1) xs) k ≡ (has (take i xs) k || nat_eq (get_or xs i 0) k)
+pub has_taken : (xs : List ℕ) (i k : ℕ) → i < length xs → has (take (i + 1) xs) k ≡ (has (take i xs) k || nat_eq (get_or xs i 0) k)
 has_taken xs i k inside = let e : i + 1 ≡ suc i = omega arith in ap (λ n. has (take n xs) k) e ∙ next xs i inside
   where
     next : (l : List ℕ) (n : ℕ) → n < length l → has (take (suc n) l) k ≡ (has (take n l) k || nat_eq (get_or l n 0) k)
@@ -178,7 +178,7 @@ has_taken xs i k inside = let e : i + 1 ≡ suc i = omega arith in ap (λ n. has
     next (x ∷ l) (suc n) h = ap (λ b. nat_eq x k || b) (next l n (omega arith)) ∙ or_group (nat_eq x k) (has (take n l) k) (nat_eq (get_or l n 0) k)
 
 -- a number that is read next is not among those that were read
-next_new : (from upto : ℕ) (xs : List ℕ) (i : ℕ) → AscendsIn from upto xs → i < length xs → has (take i xs) (get_or xs i 0) ≡ false
+pub next_new : (from upto : ℕ) (xs : List ℕ) (i : ℕ) → AscendsIn from upto xs → i < length xs → has (take i xs) (get_or xs i 0) ≡ false
 next_new from upto [] i h inside = absurd (omega arith)
 next_new from upto (x ∷ xs) zero h inside = refl
 next_new from upto (x ∷ xs) (suc i) h inside =
@@ -223,7 +223,7 @@ one_changed op old bits new xs i n was bit keeps h inside at low r old_bit new_b
           ];
     }
 
-take_all : (xs : List ℕ) (i : ℕ) → length xs ≤ i → take i xs ≡ xs
+pub take_all : (xs : List ℕ) (i : ℕ) → length xs ≤ i → take i xs ≡ xs
 take_all [] zero past = refl
 take_all [] (suc i) past = refl
 take_all (x ∷ xs) zero past = absurd (omega arith)

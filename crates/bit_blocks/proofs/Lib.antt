@@ -1,5 +1,6 @@
 pub mod Ascending
 pub mod Between
+pub mod Changes
 pub mod Clipped
 pub mod Combined
 pub mod Edits

@@ -195,7 +195,7 @@ pub(crate) fn combined(
 {
     if let (Form::Listed(numbers), Form::Listed(others)) = (left, right) {
         if are_merged(numbers.len(), others.len(), operation) {
-            let made = listed::combined(alloc, numbers, others, operation)?;
+            let made = combined_lists(alloc, numbers, others, operation)?;
             return Ok(Form::Listed(made));
         }
         if others.len() < numbers.len() {
@@ -208,6 +208,30 @@ pub(crate) fn combined(
         (_, Form::Listed(numbers)) => combined_with_list(alloc, left, numbers, operation),
         _ => combined_bits(alloc, left, right, operation),
     }
+}
+
+// Like `combined`, of two lists, as a list. The numbers of one that is much shorter are looked for in a copy of the other,
+// where the operation leaves the numbers of this one alone as they are.
+#[tactic(auto, using(crate::proofs::Operations::swapped_by_right, crate::proofs::Operations::keeps_left_alone, crate::proofs::Operations::keeps_right_alone))]
+fn combined_lists(
+    alloc: Global,
+    left: &[u16],
+    right: &[u16],
+    operation: Operation,
+) -> Result<Vec<u16>, AllocError>
+    requires left { Ascends left.now }
+    requires right { Ascends right.now }
+    ensures members { IfOk result (λ made. Combines (made_by operation) left.now right.now made.items) }
+    ensures ascends { IfOk result (λ made. Ascends made.items) }
+    ensures few { IfOk result (λ made. length made.items ≤ length left.now + length right.now) }
+{
+    if operation.keeps_left() && right.len() < left.len() / LONGER {
+        return listed::changed(alloc, left, right, operation);
+    }
+    if operation.keeps_right() && left.len() < right.len() / LONGER {
+        return listed::changed(alloc, right, left, operation);
+    }
+    listed::combined(alloc, left, right, operation)
 }
 
 // Like `combined`, of a list and a form.

@@ -1,7 +1,7 @@
 //! Ascending numbers in a slice: found, put in, taken out, combined and counted.
-ghost use Rattle.std.specs.Prelude.{◌≡◌, ◌↔◌, IsTrue, ◌++◌, ◌∷◌, [], if◌then◌else◌, ◌≤◌, ◌+◌, ◌-◌, ◌/◌, IfOk, MatchResult, OnErr, OnOk, Some, length, max, not, slice_get, true, false, vec_capacity, vec_len, ◌<◌};
+ghost use Rattle.std.specs.Prelude.{◌≡◌, ◌↔◌, Bool, IsTrue, ◌++◌, ◌∷◌, [], if◌then◌else◌, ◌≤◌, ◌+◌, ◌-◌, ◌/◌, IfOk, MatchResult, OnErr, OnOk, Some, length, max, not, slice_get, true, false, vec_capacity, vec_len, ◌<◌};
 ghost use Rattle.std.specs.List.{range_with_len};
-ghost use Rattle.bit_blocks.specs.Operation.{made_by};
+ghost use Rattle.bit_blocks.specs.Operation.{ChangesAt, made_by};
 ghost use Rattle.bit_blocks.specs.Runs.{numbers_of_run, runs_of};
 ghost use Rattle.bit_blocks.specs.Numbers.{Ascends, Combines, Gains, GainsBetween, Loses, LosesBetween, count_below, count_where, has, numbers_between};
 
@@ -253,6 +253,47 @@ pub fn combined(
     append_if(&mut made, operation.keeps_right(), &right[j..])?;
     give_back(&mut made);
     Ok(made)
+}
+
+// Like `combined`, where the right list is short: each of its numbers is looked for in a copy of the left one. Requires
+// that the operation leaves each number that is not in the right list as it is.
+#[tactic(auto, using(crate::proofs::Changes::list_unchanged, crate::proofs::Changes::all_changes))]
+pub(crate) fn changed(
+    alloc: Global,
+    left: &[u16],
+    right: &[u16],
+    operation: Operation,
+) -> Result<Vec<u16>, AllocError>
+    requires left { Ascends left.now }
+    requires right { Ascends right.now }
+    requires keeps { (b : Bool) → made_by operation b false ≡ b }
+    ensures members { IfOk result (λ made. Combines (made_by operation) left.now right.now made.items) }
+    ensures ascends { IfOk result (λ made. Ascends made.items) }
+    ensures few { IfOk result (λ made. length made.items ≤ length left.now + length right.now) }
+{
+    let mut made = copied(alloc, left)?;
+    for number in right {
+        change(&mut made, *number, operation)?;
+    }
+    give_back(&mut made);
+    Ok(made)
+}
+
+// Puts a number in or takes it out, as an operation says of a number of the right list.
+#[tactic(auto, using(crate::proofs::Changes::change_none, crate::proofs::Changes::change_out, crate::proofs::Changes::change_in))]
+fn change(numbers: &mut Vec<u16>, number: u16, operation: Operation) -> Result<(), AllocError>
+    requires { Ascends numbers.old.items }
+    ensures changes { OnOk result (ChangesAt operation numbers.old.items numbers.new.items number) }
+    ensures ascends { Ascends numbers.new.items }
+{
+    if contains(numbers, number) {
+        if !operation.keeps_both() {
+            remove(numbers, number);
+        }
+    } else if operation.keeps_right() {
+        insert(numbers, number)?;
+    }
+    Ok(())
 }
 
 /// The count of numbers that are in both of two ascending lists, which are read side by side. Requires that both

@@ -67,6 +67,30 @@ static size_t sum(const Set &set) {
   return total;
 }
 
+static uint32_t last_of(uint32_t first, uint32_t more) { return first > UINT32_MAX - more ? UINT32_MAX : first + more; }
+
+static Set ranges_put(uint64_t kind, uint64_t count) {
+  Set set(roaring_bitmap_create());
+  for (uint64_t k = 0; k < count; k++) {
+    uint32_t first = number(kind, k * 100);
+    roaring_bitmap_add_range_closed(set.bits, first, last_of(first, 99));
+  }
+  return set;
+}
+
+static size_t ranges_taken(Set &set, uint64_t kind, uint64_t count) {
+  for (uint64_t k = 0; k < count; k++) {
+    uint32_t first = number(kind, k * 100);
+    roaring_bitmap_remove_range_closed(set.bits, first, last_of(first, 9));
+  }
+  return set.len();
+}
+
+static size_t taken(Set &set, uint64_t kind, uint64_t size) {
+  for (uint64_t k = 0; k < size; k++) roaring_bitmap_remove(set.bits, number(kind, k));
+  return set.len();
+}
+
 static std::vector<char> written(const Set &set) {
   std::vector<char> bytes(roaring_bitmap_portable_size_in_bytes(set.bits));
   roaring_bitmap_portable_serialize(set.bits, bytes.data());
@@ -104,6 +128,18 @@ static void run(const std::string &folder, uint64_t kind, const std::string &nam
   timed(work("or").c_str(), repetitions, none, [&](int) { return Set(roaring_bitmap_or(a.bits, b.bits)); }, len);
   timed(work("iterated").c_str(), repetitions, none, [&](int) { return sum(a); }, count);
   timed(work("equal").c_str(), repetitions, [&] { return a.copy(); }, [&](Set &copy) { return (size_t)roaring_bitmap_equals(a.bits, copy.bits); }, count);
+  auto copied = [&] { return a.copy(); };
+  Set few = made(kind, size * 10, 1000);
+  Set some = made(kind, 0, size / 50);
+  timed(work("few_put").c_str(), repetitions, copied, [&](Set &set) { for (int k = 0; k < 10; k++) roaring_bitmap_or_inplace(set.bits, few.bits); return set.len(); }, count);
+  timed(work("few_taken").c_str(), repetitions, copied, [&](Set &set) { for (int k = 0; k < 10; k++) roaring_bitmap_andnot_inplace(set.bits, few.bits); return set.len(); }, count);
+  timed(work("few_and").c_str(), repetitions, none, [&](int) { return Set(roaring_bitmap_and(few.bits, a.bits)); }, len);
+  timed(work("few_count").c_str(), repetitions, none, [&](int) { return (size_t)roaring_bitmap_and_cardinality(a.bits, few.bits); }, count);
+  timed(work("some_or").c_str(), repetitions, none, [&](int) { return Set(roaring_bitmap_or(some.bits, a.bits)); }, len);
+  timed(work("some_subset").c_str(), repetitions, none, [&](int) { return (size_t)roaring_bitmap_is_subset(some.bits, a.bits); }, count);
+  timed(work("ranges_put").c_str(), repetitions, none, [&](int) { return ranges_put(kind, size / 100); }, len);
+  timed(work("ranges_taken").c_str(), repetitions, copied, [&](Set &set) { return ranges_taken(set, kind, size / 100); }, count);
+  timed(work("taken").c_str(), repetitions, copied, [&](Set &set) { return taken(set, kind, size / 2); }, count);
   timed(work("written").c_str(), repetitions, none, [&](int) { return written(a); }, [](auto &, std::vector<char> &bytes) { return bytes.size(); });
   auto bytes = written(a);
   timed(work("read").c_str(), repetitions, none, [&](int) { return Set(roaring_bitmap_portable_deserialize_safe(bytes.data(), bytes.size())); }, len);

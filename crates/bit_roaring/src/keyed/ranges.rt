@@ -1,10 +1,10 @@
 //! Ranges of numbers in blocks with their keys.
-ghost use Rattle.std.specs.Prelude.{◌≡◌, ◌≤◌, ◌<◌, ◌+◌, ◌*◌, ◌/◌, ℕ, Bool, false, IfOk, IfSome, OnErr, OnOk, length};
+ghost use Rattle.std.specs.Prelude.{◌≡◌, ◌≤◌, ◌<◌, ◌+◌, ◌*◌, ◌/◌, ℕ, Bool, false, IfOk, OnErr, OnOk, length};
 ghost use Rattle.bit_blocks.specs.BlockLeft.{block_left};
 ghost use Rattle.bit_blocks.specs.Numbers.{Ascends, has, numbers_between};
 ghost use Rattle.bit_blocks.specs.Operation.{made_by};
 ghost use Rattle.bit_roaring.specs.Keyed.{AreKeyed, block_at, set_numbers};
-ghost use Rattle.bit_roaring.specs.Places.{IsKeyPlace, IsThere};
+ghost use Rattle.bit_roaring.specs.Places.{IsAbsent, IsKeyPlace, IsThere};
 ghost use Rattle.bit_roaring.specs.Ranges.{ArePart, ChangesPart, GainsRange, LosesRange, is_within};
 
 use crate::keyed::{combined, find, get, place_of, push_some};
@@ -112,7 +112,7 @@ fn part_made(
     Ok(Part { from, upto, made })
 }
 
-// Puts in the numbers from `first` to `last`: into their block, where one has the keys of all of them. Where memory is
+// Puts in the numbers from `first` to `last`: into one block, where they have one key. Where memory is
 // refused, the blocks are as they were.
 pub(crate) fn insert_range(blocks: &mut Vec<Keyed>, first: u32, last: u32) -> Result<(), AllocError>
     requires keyed { AreKeyed blocks.old.items }
@@ -121,14 +121,18 @@ pub(crate) fn insert_range(blocks: &mut Vec<Keyed>, first: u32, last: u32) -> Re
     ensures gains { OnOk result (GainsRange (set_numbers blocks.old.items) (set_numbers blocks.new.items) first (last + 1)) }
     ensures refused { OnErr result (blocks.new.items ≡ blocks.old.items) }
 {
-    match place_of_all(blocks, first, last) {
-        Some(place) => insert_within(blocks, place, first, last),
-        None => change_range(blocks, first, last, Operation::Union),
+    if first / 65536 != last / 65536 {
+        return change_range(blocks, first, last, Operation::Union);
+    }
+    match find(blocks, (first / 65536) as u16) {
+        Ok(place) => insert_within(blocks, place, first, last),
+        Err(place) => insert_block(blocks, place, first, last),
     }
 }
 
-// Takes out the numbers from `first` to `last`: out of their block, where one has the keys of all of them. Where memory is
+// Takes out the numbers from `first` to `last`: out of one block, where they have one key. Where memory is
 // refused, the blocks are as they were.
+#[tactic(auto, using(crate::proofs::Within::absent_loses))]
 pub(crate) fn remove_range(blocks: &mut Vec<Keyed>, first: u32, last: u32) -> Result<(), AllocError>
     requires keyed { AreKeyed blocks.old.items }
     requires ordered { first ≤ last }
@@ -136,24 +140,12 @@ pub(crate) fn remove_range(blocks: &mut Vec<Keyed>, first: u32, last: u32) -> Re
     ensures loses { OnOk result (LosesRange (set_numbers blocks.old.items) (set_numbers blocks.new.items) first (last + 1)) }
     ensures refused { OnErr result (blocks.new.items ≡ blocks.old.items) }
 {
-    match place_of_all(blocks, first, last) {
-        Some(place) => remove_within(blocks, place, first, last),
-        None => change_range(blocks, first, last, Operation::Difference),
-    }
-}
-
-// Where the block stands that has the keys of all numbers from `first` to `last`, if there is one.
-fn place_of_all(blocks: &[Keyed], first: u32, last: u32) -> Option<usize>
-    requires { AreKeyed blocks.now }
-    ensures key { IfSome result (λ i. first / 65536 ≡ last / 65536) }
-    ensures there { IfSome result (λ i. IsThere blocks.now (first / 65536) i) }
-{
     if first / 65536 != last / 65536 {
-        return None;
+        return change_range(blocks, first, last, Operation::Difference);
     }
     match find(blocks, (first / 65536) as u16) {
-        Ok(place) => Some(place),
-        Err(_) => None,
+        Ok(place) => remove_within(blocks, place, first, last),
+        Err(_) => Ok(()),
     }
 }
 
@@ -175,6 +167,28 @@ fn insert_within(
     let keyed = &mut blocks[place];
     let (low, high) = ((first % 65536) as u16, (last % 65536) as u16);
     keyed.block.insert_range(low, high)?;
+    Ok(())
+}
+
+// Like `insert_range`, as a new block, which has its place at `place`.
+fn insert_block(
+    blocks: &mut Vec<Keyed>,
+    place: usize,
+    first: u32,
+    last: u32,
+) -> Result<(), AllocError>
+    requires keyed { AreKeyed blocks.old.items }
+    requires ordered { first ≤ last }
+    requires key { first / 65536 ≡ last / 65536 }
+    requires absent { IsAbsent blocks.old.items (first / 65536) place }
+    ensures keyed { AreKeyed blocks.new.items }
+    ensures gains { OnOk result (GainsRange (set_numbers blocks.old.items) (set_numbers blocks.new.items) first (last + 1)) }
+    ensures refused { OnErr result (blocks.new.items ≡ blocks.old.items) }
+{
+    let (low, high) = ((first % 65536) as u16, (last % 65536) as u16);
+    let key = (first / 65536) as u16;
+    let block = Block::from_range(*blocks.allocator(), low, high)?;
+    blocks.insert(place, Keyed { key, block })?;
     Ok(())
 }
 

@@ -1,5 +1,5 @@
 //! How the numbers of a block are kept.
-ghost use Rattle.std.specs.Prelude.{◌≡◌, ◌≤◌, ◌<◌, ◌+◌, ◌-◌, ◌↔◌, Bool, IfOk, IfSome, IsTrue, OnErr, OnOk, false, length, slice_get, true};
+ghost use Rattle.std.specs.Prelude.{◌≡◌, ◌≤◌, ◌<◌, ◌+◌, ◌-◌, ◌/◌, ◌↔◌, Bool, IfOk, IfSome, IsTrue, OnErr, OnOk, false, length, slice_get, true};
 ghost use Rattle.std.specs.List.{range_with_len};
 ghost use Rattle.bit_slice.specs.BitSlice.{len_of, list_of};
 ghost use Rattle.bit_slice.specs.Places.{ones_of};
@@ -158,16 +158,19 @@ pub(crate) fn form_of(alloc: Global, bits: Bits) -> Result<Form, AllocError>
     mapped_form(alloc, bits)
 }
 
-// How many times as long as another a list is whose numbers are not read one after another to find those of the other:
-// each of these is searched for.
+// A list is read beside another unless one is this many times as long as the other. Then each number of the short list is
+// searched for in the long one, which takes fewer steps.
 const LONGER: usize = 32;
 
-// Whether two lists of these lengths are read side by side: neither is `LONGER` times as long as the other.
-fn are_alike(left: usize, right: usize) -> bool {
+// Whether neither of two lengths is `LONGER` times the other.
+fn are_alike(left: usize, right: usize) -> bool
+    ensures { IsTrue result ↔ ((right / 32 < left) × (left / 32 < right)) }
+{
     right / LONGER < left && left / LONGER < right
 }
 
-// Whether two lists of these lengths are combined into a list by reading them side by side.
+// Whether two lists of these lengths are read side by side to combine them. Where this would make a list of more than
+// `LISTED` numbers, it is false.
 fn are_merged(left: usize, right: usize, operation: Operation) -> bool
     requires left { left ≤ 4096 }
     requires right { right ≤ 4096 }
@@ -523,8 +526,8 @@ pub(crate) fn count_both(left: &Form, right: &Form) -> usize
         (Form::Mapped(bits), Form::Mapped(others)) => mapped::count_both(bits, others),
         (Form::Ranged(runs), Form::Ranged(others)) => ranged::count_both(runs, others),
         (Form::Listed(numbers), _) => count_listed(numbers, right),
-        (_, Form::Listed(numbers)) => count_listed(numbers, left),
         (Form::Ranged(runs), _) => count_ranged(runs, right),
+        (Form::Mapped(_), Form::Listed(numbers)) => count_listed(numbers, left),
         (Form::Mapped(_), Form::Ranged(runs)) => count_ranged(runs, left),
     }
 }

@@ -49,7 +49,8 @@ impl RoaringSet {
         self.combined(other, Operation::SymmetricDifference)
     }
 
-    /// Puts what an operation makes of this set and another in its place. Where memory is refused, the set is as it was.
+    /// Puts what an operation makes of this set and another in its place. Where memory is refused, the set is as it was. If
+    /// few blocks come or go, only those that the other set has numbers of are made anew.
     #[tactic(auto, using(crate::proofs::Sets::sets_combined))]
     pub fn combine_with(&mut self, other: &Self, operation: Operation) -> Result<(), AllocError>
         ensures members { OnOk result (Combines (made_by operation) self.old other.now self.new) }

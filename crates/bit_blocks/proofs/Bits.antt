@@ -203,9 +203,9 @@ length_set [] (suc i) b = refl
 length_set (x ∷ l) zero b = refl
 length_set (x ∷ l) (suc i) b = ap suc (length_set l i b)
 
-pub one_changed : (op : Operation) (old bits new : List Bool) (xs : List ℕ) (i n : ℕ) (was bit : Bool) → ((b : Bool) → made_by op b false ≡ b) → Ascends xs → i < length xs → get_or xs i 0 ≡ n → n < 65536
-    → AreChanged op old bits xs i → was ≡ has (ones_of bits) n → bit ≡ made_by op was true → new ≡ set bits n bit → AreChanged op old new xs (i + 1)
-one_changed op old bits new xs i n was bit keeps h inside at low r old_bit new_bit is =
+pub one_changed : (op : Operation) (old bits new : List Bool) (xs : List ℕ) (i n : ℕ) (bit : Bool) → ((b : Bool) → made_by op b false ≡ b) → Ascends xs → i < length xs → get_or xs i 0 ≡ n → n < 65536
+    → AreChanged op old bits xs i → bit ≡ made_by op (has (ones_of bits) n) true → new ≡ set bits n bit → AreChanged op old new xs (i + 1)
+one_changed op old bits new xs i n bit keeps h inside at low r new_bit is =
     let size = r.size in
     record {
       size = ap length is ∙ length_set bits n bit ∙ size;
@@ -214,9 +214,9 @@ one_changed op old bits new xs i n was bit keeps h inside at low r old_bit new_b
           ap (λ l. get_or l k false) is ∙ item_set bits n bit k (omega arith) ∙ elim (cases_eq n k) [
             | inl same ↦ (
                 let out : has (take i xs) k ≡ false = ap (has (take i xs)) (sym (at ∙ same)) ∙ next_new 0 65536 xs i h inside in
-                let was_in : was ≡ get_or old k false = old_bit ∙ has_ones bits n size ∙ ap (λ m. get_or bits m false) same ∙ r.members k ∙ ap (made_by op (get_or old k false)) out ∙ keeps (get_or old k false) in
+                let was : has (ones_of bits) n ≡ get_or old k false = has_ones bits n size ∙ ap (λ m. get_or bits m false) same ∙ r.members k ∙ ap (made_by op (get_or old k false)) out ∙ keeps (get_or old k false) in
                 let there : has (take (i + 1) xs) k ≡ true = taken ∙ ap (λ b. has (take i xs) k || b) (eq-eqb n k same) ∙ or-true (has (take i xs) k) in
-                ap (λ b. cond b bit (get_or bits k false)) (eq-eqb n k same) ∙ new_bit ∙ ap (λ b. made_by op b true) was_in ∙ sym (ap (made_by op (get_or old k false)) there))
+                ap (λ b. cond b bit (get_or bits k false)) (eq-eqb n k same) ∙ new_bit ∙ ap (λ b. made_by op b true) was ∙ sym (ap (made_by op (get_or old k false)) there))
             | inr other ↦ (
                 let same : has (take (i + 1) xs) k ≡ has (take i xs) k = taken ∙ ap (λ b. has (take i xs) k || b) (ne_eqb n k other) ∙ or-false (has (take i xs) k) in
                 ap (λ b. cond b bit (get_or bits k false)) (ne_eqb n k other) ∙ r.members k ∙ sym (ap (made_by op (get_or old k false)) same))

@@ -125,6 +125,19 @@ pub(crate) fn remove_range(bits: &mut Bits, first: u16, last: u16)
     BitListMut::fill_range(bits, first as usize..last as usize + 1, false);
 }
 
+// Whether an operation keeps a number of the right set, where the bits are the left one. A bit is read only where it counts.
+fn keeps_of_right(bits: &Bits, number: u16, operation: Operation) -> bool
+    requires { AreBits bits.now.list }
+    ensures { result ≡ made_by operation (has (ones_of bits.now.list) number) true }
+{
+    match operation {
+        Operation::Union => true,
+        Operation::Intersection => contains(bits, number),
+        Operation::Difference => false,
+        Operation::SymmetricDifference => !contains(bits, number),
+    }
+}
+
 // Puts numbers in, takes them out or flips them, as an operation says. Requires that they ascend, and that the operation
 // leaves each other number as it is.
 pub(crate) fn change_list(bits: &mut Bits, numbers: &[u16], operation: Operation)
@@ -135,7 +148,7 @@ pub(crate) fn change_list(bits: &mut Bits, numbers: &[u16], operation: Operation
     ensures members { Combines (made_by operation) (ones_of bits.old.list) numbers.now (ones_of bits.new.list) }
 {
     for number in numbers {
-        let bit = operation.keeps(contains(bits, *number), true);
+        let bit = keeps_of_right(bits, *number, operation);
         BitListMut::set(bits, *number as usize, bit);
     }
 }

@@ -8,8 +8,8 @@ loop-number-init c = none_changed c.args.operation c.args.bits.now.list c.args.n
 
 pub loop-number-preserved : goal.loop-number-preserved
 loop-number-preserved c =
-    one_changed c.args.operation c.args.bits.now.list c.loop-number.bits.list c.set.new.self.list c.args.numbers.now c.loop-number.number-index _ c.contains.result c.keeps-bit.result
-    c.requires.keeps c.requires.numbers c.loop-number-test.true refl (c.type_inv.numbers c.loop-number.number-index).fits c.loop-number.invariant c.contains.ensures c.keeps-bit.ensures c.set.ensures.list
+    one_changed c.args.operation c.args.bits.now.list c.loop-number.bits.list c.set.new.self.list c.args.numbers.now c.loop-number.number-index _ c.keeps_of_right-bit.result
+    c.requires.keeps c.requires.numbers c.loop-number-test.true refl (c.type_inv.numbers c.loop-number.number-index).fits c.loop-number.invariant c.keeps_of_right-bit.ensures c.set.ensures.list
 
 pub returns-clause-members : goal.returns-clause-members
 returns-clause-members c =

@@ -444,8 +444,7 @@ pub(crate) fn insert_range(form: &mut Form, first: u16, last: u16) -> Result<(),
             return Ok(());
         }
         Form::Ranged(runs) => {
-            let made = combined_runs(alloc, runs, &[Run { first, last }], Operation::Union)?;
-            *form = made;
+            *form = combined_runs(alloc, runs, &[Run { first, last }], Operation::Union)?;
             return Ok(());
         }
         Form::Listed(numbers) => {
@@ -496,8 +495,7 @@ pub(crate) fn remove_range(
             }
         }
         Form::Ranged(runs) => {
-            let made = combined_runs(alloc, runs, &[Run { first, last }], Operation::Difference)?;
-            *form = made;
+            *form = combined_runs(alloc, runs, &[Run { first, last }], Operation::Difference)?;
             return Ok(());
         }
     }

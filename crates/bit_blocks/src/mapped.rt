@@ -125,7 +125,8 @@ pub(crate) fn remove_range(bits: &mut Bits, first: u16, last: u16)
     BitListMut::fill_range(bits, first as usize..last as usize + 1, false);
 }
 
-// Whether an operation keeps a number of the right set, where the bits are the left one. A bit is read only where it counts.
+// Whether an operation keeps a number of the right set, where the bits are the left one. The number's bit is read only
+// where it decides.
 fn keeps_of_right(bits: &Bits, number: u16, operation: Operation) -> bool
     requires { AreBits bits.now.list }
     ensures { result ≡ made_by operation (has (ones_of bits.now.list) number) true }

@@ -7,7 +7,7 @@ use Rattle.bit_blocks.specs.Operation.{made_by}
 use Rattle.bit_blocks.specs.declared.operation.Operation.{Operation}
 use Rattle.bit_blocks.specs.declared.operation.Operation.TheVariants.{Union, Intersection, Difference, SymmetricDifference}
 use Rattle.bit_blocks.proofs.Ascending.{later}
-use Rattle.bit_blocks.proofs.Merging.{made_none}
+use Rattle.bit_blocks.proofs.Bits.{has_taken, take_all}
 use Rattle.bit_roaring.specs.Changes.{CombinesKeyed, Replaces}
 use Rattle.bit_roaring.specs.Keyed.{AreKeyed, AreKeyedFrom, block_at, keys_of}
 use Rattle.bit_blocks.specs.declared.keyed.Keyed.{Keyed}
@@ -114,24 +114,6 @@ none_made op xs ys keys = record {
     nothing [] k = refl
     nothing (x ∷ l) k = refl
 
-or_last : (a b : Bool) → (a || b) ≡ (b || a)
-or_last true true = refl
-or_last true false = refl
-or_last false true = refl
-or_last false false = refl
-
-or_group : (a b c : Bool) → (a || (b || c)) ≡ ((a || b) || c)
-or_group true b c = refl
-or_group false b c = refl
-
-has_taken : (xs : List ℕ) (i k : ℕ) → i < length xs → has (take (i + 1) xs) k ≡ (has (take i xs) k || nat_eq (get_or xs i 0) k)
-has_taken xs i k inside = let e : i + 1 ≡ suc i = omega arith in ap (λ n. has (take n xs) k) e ∙ next xs i inside
-  where
-    next : (l : List ℕ) (n : ℕ) → n < length l → has (take (suc n) l) k ≡ (has (take n l) k || nat_eq (get_or l n 0) k)
-    next [] n h = absurd (omega arith)
-    next (x ∷ l) zero h = or_last (nat_eq x k) false
-    next (x ∷ l) (suc n) h = ap (λ b. nat_eq x k || b) (next l n (omega arith)) ∙ or_group (nat_eq x k) (has (take n l) k) (nat_eq (get_or l n 0) k)
-
 pub one_made : (op : Operation) (xs ys : List Keyed) (keys : List ℕ) (made new : List Keyed) (i key : ℕ) (block : List ℕ) → Ascends keys → i < length keys → get_or keys i 0 ≡ key
     → MadeTo op xs ys keys made i → Combines (made_by op) (block_at xs key) (block_at ys key) block
     → AreKeyed new → All (λ b. b.key < key + 1) new → Replaces made new key block → MadeTo op xs ys keys new (i + 1)
@@ -153,12 +135,6 @@ one_made op xs ys keys made new i key block h inside at r combines up below repl
     or_back : (b : Bool) → {c : Bool} → c ≡ false → (b || c) ≡ b
     or_back true {c} e = refl
     or_back false {c} e = e
-
-take_all : (xs : List ℕ) (i : ℕ) → length xs ≤ i → take i xs ≡ xs
-take_all [] zero past = refl
-take_all [] (suc i) past = refl
-take_all (x ∷ xs) zero past = absurd (omega arith)
-take_all (x ∷ xs) (suc i) past = ap (λ l. x ∷ l) (take_all xs i (omega arith))
 
 pub all_made : (op : Operation) (xs ys : List Keyed) (keys : List ℕ) (made : List Keyed) (i : ℕ) → length keys ≤ i → MadeTo op xs ys keys made i
     → ((k : ℕ) → has keys k ≡ false → Combines (made_by op) (block_at xs k) (block_at ys k) []) → CombinesKeyed (made_by op) xs ys made

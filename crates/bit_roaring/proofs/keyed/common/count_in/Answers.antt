@@ -1,9 +1,8 @@
-use Rattle.std.proofs.Common.{◌<◌, sym, ap, subst, arith}
-use Rattle.bit_blocks.specs.Numbers.{Ascends, count_where, has}
+use Rattle.std.proofs.Common.{ap, arith}
+use Rattle.bit_blocks.specs.Numbers.{count_where, has}
 use Rattle.bit_blocks.proofs.Counting.{count_most}
 use Rattle.bit_roaring.specs.Keyed.{keyed_numbers, set_numbers}
 use Rattle.bit_roaring.proofs.Counted.{both_block, few_in_set}
-use Rattle.bit_roaring.proofs.Keys.{keyed_here}
 use Rattle.bit_roaring.proofs.keyed.common.count_in.Goals as goal
 
 pub overflow_add-count : goal.overflow_add-count

@@ -1,4 +1,4 @@
-use Rattle.std.proofs.Common.{◌≡◌, ◌<◌, ◌+◌, ◌/◌, ◌%◌, [], length, sym, ◌∙◌, ap, subst}
+use Rattle.std.proofs.Common.{◌≡◌, ◌<◌, ◌+◌, ◌/◌, ◌%◌, [], length, sym, ◌∙◌, subst}
 use Rattle.std.specs.Prelude.{remove}
 use Rattle.bit_blocks.specs.Numbers.{LosesBetween}
 use Rattle.bit_roaring.specs.Changes.{Replaces}

@@ -1,32 +1,118 @@
 -- Blocks that are changed where they stand.
-use Rattle.std.proofs.Common.{◌≡◌, ℕ, zero, suc, ◌+◌, ◌<◌, ◌≤◌, Bool, true, false, cond, ◌||◌, nat_eq, List, [], ◌∷◌, ◌++◌, append-nil, append_assoc, get_or, length, length-append, set, take, refl, sym, ◌∙◌, ap, subst, inl, inr, arith}
-use Rattle.std.specs.Prelude.{All, remove}
-use Rattle.std.proofs.lemmas.Bool.{cases_Bool, cases_eq, eq-eqb, ne_eqb}
-use Rattle.bit_blocks.specs.Numbers.{Ascends, Combines, has}
+use Rattle.std.proofs.Common.{◌≡◌, ◌⊎◌, ℕ, zero, suc, ◌+◌, ◌<◌, ◌≤◌, Bool, true, false, cond, ◌||◌, nat_eq, List, [], ◌∷◌, ◌++◌, append-nil, append_assoc, drop, get_or, length, length-append, set, take, refl, sym, ◌∙◌, ap, subst, inl, inr, arith}
+use Rattle.std.specs.Prelude.{All, Err, Ok, OnOk, Result, remove}
+use Rattle.std.proofs.Math.Bool.{or-false}
+use Rattle.std.proofs.lemmas.Bool.{cases_Bool, cases_eq, eq-eqb, ne_eqb, or_parts}
+use Rattle.std.proofs.lemmas.List.{drop_more, take_all, take_more}
+use Rattle.bit_blocks.specs.Numbers.{Ascends, AscendsIn, Combines, has}
+use Rattle.bit_blocks.proofs.Ascending.{ascends_append, ascends_further}
+use Rattle.bit_blocks.proofs.Edits.{has_append}
 use Rattle.bit_blocks.specs.Operation.{made_by}
 use Rattle.bit_blocks.specs.declared.keyed.Keyed.{Keyed}
 use Rattle.bit_blocks.specs.declared.operation.Operation.{Operation}
 use Rattle.bit_roaring.specs.Changes.{CombinesKeyed, IsMade, Replaces, ReplacesAll}
-use Rattle.bit_roaring.specs.Keyed.{AreKeyed, block_at, keys_of}
+use Rattle.bit_roaring.specs.Keyed.{AreKeyed, AreKeyedFrom, block_at, keys_of}
 use Rattle.bit_roaring.specs.Places.{IsAbsent}
 use Rattle.bit_roaring.proofs.Keys.{keyed}
-use Rattle.bit_roaring.proofs.Made.{keeps_one, keys_more, keys_whole, no_key}
+use Rattle.bit_roaring.proofs.Made.{keeps_one, keys_more, keys_whole, no_key, none_of_left}
+
+-- ---- keys of two lists of blocks
+
+pub has_pushed : (xs : List ℕ) (x k : ℕ) → has (xs ++ x ∷ []) k ≡ (has xs k || nat_eq x k)
+has_pushed xs x k = has_append xs (x ∷ []) k ∙ ap (λ t. has xs k || t) (or-false (nat_eq x k))
+
+nor_last : (b : Bool) → {c : Bool} → c ≡ false → (b || c) ≡ b
+nor_last b {c} e = ap (λ t. b || t) e ∙ or-false b
+
+-- the keys of the first i blocks that others have too
+pub record KeysIn (blocks others : List Keyed) (keys : List ℕ) (i : ℕ) : Type 0 where
+  pub bound : ℕ
+  pub small : bound ≤ 65536
+  pub ascends : AscendsIn 0 bound keys
+  pub rest : AreKeyedFrom bound (drop i blocks)
+  pub out : (k : ℕ) → has keys k ≡ false → has (keys_of (take i blocks)) k ≡ true → block_at others k ≡ []
+
+pub no_keys_in : (blocks others : List Keyed) → AreKeyed blocks → KeysIn blocks others [] 0
+no_keys_in blocks others h = record {
+  bound = 0;
+  small = omega arith;
+  ascends = tt;
+  rest = h;
+  out = λ k out here. let e : true ≡ false = sym here in cc;
+}
+
+-- the next block
+module _ (blocks others : List Keyed) (keys : List ℕ) (i : ℕ) (at : Keyed) (r : KeysIn blocks others keys i) (inside : i < length blocks) (is : at ≡ get_or blocks i at) where
+  left : AreKeyedFrom r.bound (at ∷ drop (i + 1) blocks)
+  left = subst (AreKeyedFrom r.bound) (drop_more blocks i at inside ∙ ap (λ b. b ∷ drop (i + 1) blocks) (sym is)) r.rest
+
+  more : (k : ℕ) → has (keys_of (take (i + 1) blocks)) k ≡ (has (keys_of (take i blocks)) k || nat_eq at.key k)
+  more k = ap (λ l. has l k) (keys_more blocks i at inside ∙ ap (λ b. keys_of (take i blocks) ++ b.key ∷ []) (sym is)) ∙ has_pushed (keys_of (take i blocks)) at.key k
+
+  pub key_found : KeysIn blocks others (keys ++ at.key ∷ []) (i + 1)
+  key_found = let first = left.0 in let small = left.1 in record {
+    bound = at.key + 1;
+    small = omega arith;
+    ascends = ascends_append 0 r.bound (at.key + 1) keys (at.key ∷ []) (omega arith) (omega arith) r.ascends (first, omega arith, tt);
+    rest = left.4;
+    out = λ k out here.
+        let parts = or_parts (has keys k) (nat_eq at.key k) (sym (has_pushed keys at.key k) ∙ out) in
+        r.out k parts.0 (sym (nor_last (has (keys_of (take i blocks)) k) parts.1) ∙ sym (more k) ∙ here);
+  }
+
+  pub key_skipped : block_at others at.key ≡ [] → KeysIn blocks others keys (i + 1)
+  key_skipped none = let first = left.0 in let small = left.1 in record {
+    bound = at.key + 1;
+    small = omega arith;
+    ascends = ascends_further 0 r.bound (at.key + 1) keys (omega arith) r.ascends;
+    rest = left.4;
+    out = λ k out here. elim (cases_eq at.key k) [
+      | inl same ↦ ap (block_at others) (sym same) ∙ none
+      | inr other ↦ r.out k out (sym (nor_last (has (keys_of (take i blocks)) k) (ne_eqb at.key k other)) ∙ sym (more k) ∙ here)
+    ];
+  }
+
+pub keys_ascend_up : (blocks others : List Keyed) (keys : List ℕ) (i : ℕ) → KeysIn blocks others keys i → Ascends keys
+keys_ascend_up blocks others keys i r = ascends_further 0 r.bound 65536 keys r.small r.ascends
+
+-- a key that is not among those in common has no block on one side
+pub one_has_none : (blocks others : List Keyed) (keys : List ℕ) (i : ℕ) → KeysIn blocks others keys i → length blocks ≤ i → (k : ℕ) → has keys k ≡ false → (block_at blocks k ≡ []) ⊎ (block_at others k ≡ [])
+one_has_none blocks others keys i r past k out = elim (cases_Bool (has (keys_of blocks) k)) [
+  | inl here ↦ inr (r.out k out (ap (λ l. has l k) (keys_whole blocks i past) ∙ here))
+  | inr absent ↦ inl (no_key blocks k absent)
+]
+
+-- ---- blocks that stay as they are
+
+same_kept : (t : Bool) → cond true t false ≡ t
+same_kept true = refl
+same_kept false = refl
+
+-- a block of the left list stays where the right one has none with its key
+pub stays_alone : (op : Operation) (xs ys : List ℕ) → made_by op true false ≡ true → ys ≡ [] → Combines (made_by op) xs ys xs
+stays_alone op xs ys keeps none n = sym (ap (λ l. made_by op (has xs n) (has l n)) none ∙ keeps_one op (has xs n) ∙ ap (λ t. cond t (has xs n) false) keeps ∙ same_kept (has xs n))
+
+pub stays_without_key : (op : Operation) (xs ys : List Keyed) → made_by op true false ≡ true → (k : ℕ) → has (keys_of ys) k ≡ false → Combines (made_by op) (block_at xs k) (block_at ys k) (block_at xs k)
+stays_without_key op xs ys keeps k out = stays_alone op (block_at xs k) (block_at ys k) keeps (no_key ys k out)
+
+-- and where an operation that keeps no number of the right list alone has none of the left one
+pub stays_unless_both : (op : Operation) (xs ys : List ℕ) → made_by op true false ≡ true → made_by op false true ≡ false → (xs ≡ []) ⊎ (ys ≡ []) → Combines (made_by op) xs ys xs
+stays_unless_both op xs ys keeps alone one = elim one [
+  | inl none ↦ subst (Combines (made_by op) xs ys) (sym none) (none_of_left op xs ys alone none)
+  | inr none ↦ stays_alone op xs ys keeps none
+]
 
 -- ---- blocks that are made
 
--- a block was made of each of the first i
-pub record EachMadeTo (f : Bool → Bool → Bool) (xs ys made : List Keyed) (i : ℕ) : Type 0 where
-  pub keys : keys_of made ≡ keys_of (take i ys)
+-- a block was made for each of the first i keys
+pub record EachMadeTo (f : Bool → Bool → Bool) (xs ys : List Keyed) (keys : List ℕ) (made : List Keyed) (i : ℕ) : Type 0 where
+  pub taken : keys_of made ≡ take i keys
   pub each : All (IsMade f xs ys) made
 
-pub none_made_each : (f : Bool → Bool → Bool) (xs ys : List Keyed) → EachMadeTo f xs ys [] 0
-none_made_each f xs ys = record { keys = nothing ys; each = λ k d inside. absurd (omega arith) }
-  where
-    nothing : (l : List Keyed) → [] ≡ keys_of (take 0 l)
-    nothing [] = refl
-    nothing (b ∷ l) = refl
+pub none_made_each : (f : Bool → Bool → Bool) (xs ys : List Keyed) (keys : List ℕ) → EachMadeTo f xs ys keys [] 0
+none_made_each f xs ys keys = record { taken = refl; each = λ k d inside. absurd (omega arith) }
 
-keys_appended : (bs : List Keyed) (b : Keyed) → keys_of (bs ++ b ∷ []) ≡ keys_of bs ++ b.key ∷ []
+pub keys_appended : (bs : List Keyed) (b : Keyed) → keys_of (bs ++ b ∷ []) ≡ keys_of bs ++ b.key ∷ []
 keys_appended [] b = refl
 keys_appended (a ∷ bs) b = ap (λ l. a.key ∷ l) (keys_appended bs b)
 
@@ -36,15 +122,15 @@ all_appended p [] b all h (suc k) d inside = absurd (omega arith)
 all_appended p (a ∷ bs) b all h zero d inside = all 0 a (omega arith)
 all_appended p (a ∷ bs) b all h (suc k) d inside = all_appended p bs b (λ j e l. all (suc j) e (omega arith)) h k d (omega arith)
 
-pub one_made_each : (f : Bool → Bool → Bool) (xs ys made : List Keyed) (i : ℕ) (at : Keyed) (block : List ℕ) → EachMadeTo f xs ys made i → i < length ys → at ≡ get_or ys i at
-    → Combines f (block_at xs at.key) (block_at ys at.key) block → Ascends block → EachMadeTo f xs ys (made ++ keyed at.key block ∷ []) (i + 1)
-one_made_each f xs ys made i at block r inside is combines up = record {
-  keys = keys_appended made (keyed at.key block) ∙ ap (λ l. l ++ at.key ∷ []) r.keys ∙ ap (λ b. keys_of (take i ys) ++ b.key ∷ []) is ∙ sym (keys_more ys i at inside);
-  each = all_appended (IsMade f xs ys) made (keyed at.key block) r.each (record { combines = combines; ascends = up });
+pub one_made_each : (f : Bool → Bool → Bool) (xs ys : List Keyed) (keys : List ℕ) (made : List Keyed) (i key : ℕ) (block : List ℕ) → EachMadeTo f xs ys keys made i → i < length keys → get_or keys i 0 ≡ key
+    → Combines f (block_at xs key) (block_at ys key) block → Ascends block → EachMadeTo f xs ys keys (made ++ keyed key block ∷ []) (i + 1)
+one_made_each f xs ys keys made i key block r inside is combines up = record {
+  taken = keys_appended made (keyed key block) ∙ ap (λ l. l ++ key ∷ []) r.taken ∙ ap (λ k. take i keys ++ k ∷ []) (sym is) ∙ sym (take_more keys i 0 inside);
+  each = all_appended (IsMade f xs ys) made (keyed key block) r.each (record { combines = combines; ascends = up });
 }
 
-pub each_key : (f : Bool → Bool → Bool) (xs ys made : List Keyed) (i : ℕ) → EachMadeTo f xs ys made i → length ys ≤ i → keys_of made ≡ keys_of ys
-each_key f xs ys made i r past = r.keys ∙ keys_whole ys i past
+pub each_key : (f : Bool → Bool → Bool) (xs ys : List Keyed) (keys : List ℕ) (made : List Keyed) (i : ℕ) → EachMadeTo f xs ys keys made i → length keys ≤ i → keys_of made ≡ keys
+each_key f xs ys keys made i r past = r.taken ∙ take_all i keys past
 
 -- ---- blocks that are put in the place of others, the last one first
 
@@ -99,26 +185,25 @@ module _ (old now whole front rest : List Keyed) (len room : ℕ) (b : Keyed) (r
 pub all_replaced : (old now whole front : List Keyed) (len room : ℕ) → ReplacedFrom old now whole front len room → front ≡ [] → ReplacesAll old now whole
 all_replaced old now whole front len room r none = subst (ReplacesAll old now) (sym (r.parts ∙ ap (λ l. l ++ r.gone) none)) r.replaces
 
--- blocks that were made of each of some others and put in their place are what the operation makes
-pub few_combined : (op : Operation) (old new others made : List Keyed) → made_by op true false ≡ true → keys_of made ≡ keys_of others → All (IsMade (made_by op) old others) made → ReplacesAll old new made → CombinesKeyed (made_by op) old others new
-few_combined op old new others made keeps keys each replaces k = elim (cases_Bool (has (keys_of made) k)) [
+-- blocks that were made for each key of a block that may change, and put in the place of others, are what the operation makes
+changed_combined : (op : Operation) (old new others made : List Keyed) (keys : List ℕ) → keys_of made ≡ keys → All (IsMade (made_by op) old others) made → ReplacesAll old new made
+    → ((k : ℕ) → has keys k ≡ false → Combines (made_by op) (block_at old k) (block_at others k) (block_at old k)) → CombinesKeyed (made_by op) old others new
+changed_combined op old new others made keys same each replaces stays k = elim (cases_Bool (has (keys_of made) k)) [
   | inl here ↦ (λ n. ap (λ l. has l n) (replaces k ∙ ap (λ t. cond t (block_at made k) (block_at old k)) here) ∙ found made each k here n)
-  | inr out ↦ (λ n.
-      let none = no_key others k (ap (λ l. has l k) (sym keys) ∙ out) in
-      ap (λ l. has l n) (replaces k ∙ ap (λ t. cond t (block_at made k) (block_at old k)) out)
-      ∙ sym (ap (λ l. made_by op (has (block_at old k) n) (has l n)) none ∙ keeps_one op (has (block_at old k) n) ∙ ap (λ t. cond t (has (block_at old k) n) false) keeps ∙ same (has (block_at old k) n)))
+  | inr out ↦ (λ n. ap (λ l. has l n) (replaces k ∙ ap (λ t. cond t (block_at made k) (block_at old k)) out) ∙ stays k (ap (λ l. has l k) (sym same) ∙ out) n)
 ]
   where
-    same : (t : Bool) → cond true t false ≡ t
-    same true = refl
-    same false = refl
-
     found : (bs : List Keyed) → All (IsMade (made_by op) old others) bs → (j : ℕ) → has (keys_of bs) j ≡ true → Combines (made_by op) (block_at old j) (block_at others j) (block_at bs j)
     found [] all j here = cc
     found (b ∷ bs) all j here = elim (cases_eq b.key j) [
       | inl is ↦ (λ n. ap (λ t. has (cond t b.block (block_at bs j)) n) (eq-eqb b.key j is) ∙ (all 0 b (omega arith)).combines n ∙ ap (λ m. made_by op (has (block_at old m) n) (has (block_at others m) n)) is)
       | inr other ↦ (λ n. ap (λ t. has (cond t b.block (block_at bs j)) n) (ne_eqb b.key j other) ∙ found bs (λ i d l. all (suc i) d (omega arith)) j (sym (ap (λ t. t || has (keys_of bs) j) (ne_eqb b.key j other)) ∙ here) n)
     ]
+
+pub changed_if_done : {R E : Type 0} (r : Result R E) (op : Operation) (old new others made : List Keyed) (keys : List ℕ) → keys_of made ≡ keys → All (IsMade (made_by op) old others) made → OnOk r (ReplacesAll old new made)
+    → ((k : ℕ) → has keys k ≡ false → Combines (made_by op) (block_at old k) (block_at others k) (block_at old k)) → OnOk r (CombinesKeyed (made_by op) old others new)
+changed_if_done (Ok x) op old new others made keys same each replaces stays = changed_combined op old new others made keys same each replaces stays
+changed_if_done (Err e) op old new others made keys same each replaces stays = tt
 
 pub made_ascend : (f : Bool → Bool → Bool) (xs ys made : List Keyed) → All (IsMade f xs ys) made → All (λ b. Ascends b.block) made
 made_ascend f xs ys made all k d inside = (all k d inside).ascends

@@ -5,6 +5,7 @@ pub mod Counted
 pub mod Cut
 pub mod Keys
 pub mod Made
+pub mod Merged
 pub mod Parts
 pub mod Ranged
 pub mod SetLeft

@@ -1,5 +1,5 @@
 -- Blocks that an operation makes, one key after another.
-use Rattle.std.proofs.Common.{◌≡◌, ℕ, zero, suc, ◌+◌, ◌<◌, ◌≤◌, Bool, true, false, cond, ◌||◌, nat_eq, List, [], ◌∷◌, ◌++◌, get_or, length, take, refl, sym, ◌∙◌, ap, subst, inl, inr, arith}
+use Rattle.std.proofs.Common.{◌≡◌, ℕ, zero, suc, ◌+◌, ◌<◌, ◌≤◌, Bool, true, false, cond, ◌||◌, nat_eq, List, [], ◌∷◌, ◌++◌, append-nil, get_or, length, take, refl, sym, ◌∙◌, ap, subst, inl, inr, arith}
 use Rattle.std.specs.Prelude.{◌↔◌, All}
 use Rattle.std.proofs.lemmas.Bool.{cases_Bool, cases_eq, eq-eqb, ne_eqb, or_parts}
 use Rattle.bit_blocks.specs.Numbers.{Ascends, AscendsIn, Combines, has}
@@ -52,11 +52,20 @@ pub not_empty : (xs : List ℕ) (told : Bool) → (told ≡ true) ↔ (xs ≡ []
 not_empty [] told empty out = absurd (let e : true ≡ false = sym (empty.1 refl) ∙ out in cc)
 not_empty (x ∷ xs) told empty out = omega arith
 
-pub pushed_keyed : (from : ℕ) (bs : List Keyed) (key : ℕ) (block : List ℕ) → AreKeyedFrom from bs → All (λ b. b.key < key) bs → from ≤ key → key < 65536 → Ascends block → 0 < length block → AreKeyedFrom from (bs ++ keyed key block ∷ [])
-pushed_keyed from [] key block h below low small up some = (low, small, up, some, tt)
-pushed_keyed from (b ∷ bs) key block h below low small up some =
+-- a block between those with smaller keys and those with greater ones
+pub keyed_between : (from : ℕ) (xs ys : List Keyed) (key : ℕ) (block : List ℕ) → AreKeyedFrom from (xs ++ ys) → All (λ b. b.key < key) xs → All (λ b. key < b.key) ys → from ≤ key → key < 65536 → Ascends block → 0 < length block
+    → AreKeyedFrom from (xs ++ keyed key block ∷ ys)
+keyed_between from [] ys key block h below above low small up some = (low, small, up, some, raised ys h above)
+  where
+    raised : (l : List Keyed) → AreKeyedFrom from l → All (λ b. key < b.key) l → AreKeyedFrom (key + 1) l
+    raised [] g all = tt
+    raised (b ∷ l) g all = let first = all 0 b (omega arith) in (omega arith, g.1, g.2, g.3, g.4)
+keyed_between from (b ∷ xs) ys key block h below above low small up some =
     let first = below 0 b (omega arith) in
-    (h.0, h.1, h.2, h.3, pushed_keyed (b.key + 1) bs key block h.4 (λ k d l. below (suc k) d (omega arith)) (omega arith) small up some)
+    (h.0, h.1, h.2, h.3, keyed_between (b.key + 1) xs ys key block h.4 (λ k d l. below (suc k) d (omega arith)) above (omega arith) small up some)
+
+pub pushed_keyed : (from : ℕ) (bs : List Keyed) (key : ℕ) (block : List ℕ) → AreKeyedFrom from bs → All (λ b. b.key < key) bs → from ≤ key → key < 65536 → Ascends block → 0 < length block → AreKeyedFrom from (bs ++ keyed key block ∷ [])
+pushed_keyed from bs key block h below low small up some = keyed_between from bs [] key block (subst (AreKeyedFrom from) (sym (append-nil bs)) h) below (λ k d inside. absurd (omega arith)) low small up some
 
 pub pushed_below : (bs : List Keyed) (key : ℕ) (block : List ℕ) → All (λ b. b.key < key) bs → All (λ b. b.key < key + 1) (bs ++ keyed key block ∷ [])
 pushed_below [] key block below zero d inside = omega arith
@@ -64,20 +73,24 @@ pushed_below [] key block below (suc k) d inside = absurd (omega arith)
 pushed_below (b ∷ bs) key block below zero d inside = let first = below 0 b (omega arith) in omega arith
 pushed_below (b ∷ bs) key block below (suc k) d inside = pushed_below bs key block (λ j e l. below (suc j) e (omega arith)) k d (omega arith)
 
-pub pushed_replaces : (bs : List Keyed) (key : ℕ) (block : List ℕ) → All (λ b. b.key < key) bs → Replaces bs (bs ++ keyed key block ∷ []) key block
-pushed_replaces [] key block below k = refl
-pushed_replaces (b ∷ bs) key block below k =
+-- what changes of blocks after others with smaller keys
+pub replaces_after : (xs us vs : List Keyed) (key : ℕ) (block : List ℕ) → All (λ b. b.key < key) xs → Replaces us vs key block → Replaces (xs ++ us) (xs ++ vs) key block
+replaces_after [] us vs key block below r k = r k
+replaces_after (b ∷ xs) us vs key block below r k =
     let first = below 0 b (omega arith) in
     elim (cases_eq b.key k) [
       | inl same ↦ (
           let apart : nat_eq key k ≡ false = ne_eqb key k (λ e. omega arith) in
-          ap (λ t. cond t b.block (block_at (bs ++ keyed key block ∷ []) k)) (eq-eqb b.key k same)
-          ∙ sym (ap (λ t. cond t block (block_at (b ∷ bs) k)) apart ∙ ap (λ t. cond t b.block (block_at bs k)) (eq-eqb b.key k same)))
-      | inr other ↦ ap (λ t. cond t b.block (block_at (bs ++ keyed key block ∷ []) k)) (ne_eqb b.key k other) ∙ pushed_replaces bs key block (λ j d l. below (suc j) d (omega arith)) k
-          ∙ sym (ap (λ l. cond (nat_eq key k) block l) (ap (λ t. cond t b.block (block_at bs k)) (ne_eqb b.key k other)))
+          ap (λ t. cond t b.block (block_at (xs ++ vs) k)) (eq-eqb b.key k same)
+          ∙ sym (ap (λ t. cond t block (block_at (b ∷ xs ++ us) k)) apart ∙ ap (λ t. cond t b.block (block_at (xs ++ us) k)) (eq-eqb b.key k same)))
+      | inr other ↦ ap (λ t. cond t b.block (block_at (xs ++ vs) k)) (ne_eqb b.key k other) ∙ replaces_after xs us vs key block (λ j d l. below (suc j) d (omega arith)) r k
+          ∙ sym (ap (λ l. cond (nat_eq key k) block l) (ap (λ t. cond t b.block (block_at (xs ++ us) k)) (ne_eqb b.key k other)))
     ]
 
-none_past : (bs : List Keyed) (key : ℕ) → All (λ b. b.key < key) bs → block_at bs key ≡ []
+pub pushed_replaces : (bs : List Keyed) (key : ℕ) (block : List ℕ) → All (λ b. b.key < key) bs → Replaces bs (bs ++ keyed key block ∷ []) key block
+pushed_replaces bs key block below = subst (λ l. Replaces l (bs ++ keyed key block ∷ []) key block) (append-nil bs) (replaces_after bs [] (keyed key block ∷ []) key block below (λ k. refl))
+
+pub none_past : (bs : List Keyed) (key : ℕ) → All (λ b. b.key < key) bs → block_at bs key ≡ []
 none_past [] key below = refl
 none_past (b ∷ bs) key below =
     let first = below 0 b (omega arith) in

@@ -9,7 +9,9 @@ ghost use Rattle.bit_roaring.specs.Places.{IsAbsent, IsKeyPlace, IsThere};
 pub(crate) mod ascending;
 pub(crate) mod changed;
 pub(crate) mod common;
+pub(crate) mod merged;
 pub(crate) mod ranges;
+pub(crate) mod replaced;
 
 use bit_blocks::{Block, Keyed, Operation, listed};
 use std::alloc::{AllocError, Global};

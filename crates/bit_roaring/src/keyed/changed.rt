@@ -1,163 +1,144 @@
-//! Blocks changed where they stand, by what an operation makes of them and of a few others.
-ghost use Rattle.std.specs.Prelude.{◌≡◌, ◌≤◌, ◌<◌, ◌+◌, All, IfOk, OnErr, OnOk, true, false, vec_capacity, vec_len};
-ghost use Rattle.bit_blocks.specs.Numbers.{Ascends};
+//! Blocks changed where they stand, by what an operation makes of them and of others.
+ghost use Rattle.std.specs.Prelude.{◌≡◌, ◌⊎◌, ℕ, [], All, IfOk, OnErr, OnOk, false, true};
+ghost use Rattle.bit_blocks.specs.Numbers.{Ascends, Combines, has};
 ghost use Rattle.bit_blocks.specs.Operation.{made_by};
-ghost use Rattle.bit_roaring.specs.Changes.{CombinesKeyed, IsMade, Replaces, ReplacesAll};
-ghost use Rattle.bit_roaring.specs.Keyed.{AreKeyed, keys_of};
-ghost use Rattle.bit_roaring.specs.Places.{IsAbsent, IsThere};
+ghost use Rattle.bit_roaring.specs.Changes.{CombinesKeyed, IsMade, ReplacesAll};
+ghost use Rattle.bit_roaring.specs.Keyed.{AreKeyed, block_at, keys_of};
 
-use crate::keyed::{combined_at, find, get};
-use bit_blocks::{Block, Keyed, Operation};
+use crate::keyed::merged::merge_all;
+use crate::keyed::replaced::replace_all;
+use crate::keyed::{combined_at, get, keys_of};
+use bit_blocks::{Keyed, Operation};
 use std::alloc::{AllocError, Global};
 
-// How many blocks may come or go where the others stand: each one moves all blocks after it.
-const FEW: usize = 128;
+// How many blocks may come or go one at a time, each of which moves all blocks after it.
+const FEW: usize = 4;
 
-// Puts what an operation makes of the blocks and of others in their place, and returns whether it did so: it does where
-// there are no more of the others, and few blocks come or go. Blocks with keys that none of the others has stay. Where
-// memory is refused, the blocks are as they were. Requires that the operation keeps a number of the left list alone.
-#[tactic(auto, using(crate::proofs::Changed::few_combined, crate::proofs::Changed::made_ascend))]
-pub(crate) fn combine_few(
+// Puts what an operation makes of the blocks and of others in their place. Blocks that it leaves as they are are not
+// copied. Where memory is refused, the blocks are as they were. Requires that the operation keeps a number of the left
+// list alone.
+#[tactic(auto, using(crate::proofs::Changed::made_ascend))]
+pub(crate) fn combine(
     blocks: &mut Vec<Keyed>,
     others: &[Keyed],
     operation: Operation,
-) -> Result<bool, AllocError>
+) -> Result<(), AllocError>
     requires left { AreKeyed blocks.old.items }
     requires right { AreKeyed others.now }
     requires keeps { made_by operation true false ≡ true }
     ensures keyed { AreKeyed blocks.new.items }
-    ensures members { IfOk result (λ done. done ≡ true → CombinesKeyed (made_by operation) blocks.old.items others.now blocks.new.items) }
-    ensures stays { IfOk result (λ done. done ≡ false → blocks.new.items ≡ blocks.old.items) }
+    ensures members { OnOk result (CombinesKeyed (made_by operation) blocks.old.items others.now blocks.new.items) }
     ensures refused { OnErr result (blocks.new.items ≡ blocks.old.items) }
 {
-    let few = others.len() <= blocks.len() && has_few_new(blocks, others, operation);
-    if !few {
-        return Ok(false);
-    }
-    let made = made_each(*blocks.allocator(), blocks, others, operation)?;
-    if !has_few_empty(&made) {
-        return Ok(false);
-    }
-    replace_all(blocks, made)?;
-    Ok(true)
+    let alloc = *blocks.allocator();
+    let keys = changed_keys(alloc, blocks, others, operation)?;
+    let made = made_each(alloc, blocks, others, &keys, operation)?;
+    put_all(blocks, made)
 }
 
-// Whether an operation makes few blocks with keys of the others alone.
-fn has_few_new(blocks: &[Keyed], others: &[Keyed], operation: Operation) -> bool
-    requires { AreKeyed blocks.now }
+// The keys of the blocks that an operation may change, which keeps a number of the left list alone.
+#[tactic(auto, using(crate::proofs::Changed::stays_without_key, crate::proofs::Changed::stays_unless_both, crate::proofs::Made::keys_ascend_in))]
+fn changed_keys(
+    alloc: Global,
+    left: &[Keyed],
+    right: &[Keyed],
+    operation: Operation,
+) -> Result<Vec<u16>, AllocError>
+    requires left { AreKeyed left.now }
+    requires right { AreKeyed right.now }
+    requires keeps { made_by operation true false ≡ true }
+    ensures ascends { IfOk result (λ keys. Ascends keys.items) }
+    ensures others { IfOk result (λ keys. (k : ℕ) → has keys.items k ≡ false → Combines (made_by operation) (block_at left.now k) (block_at right.now k) (block_at left.now k)) }
 {
-    let mut count = 0usize;
-    for keyed in others {
-        if operation.keeps_right() && get(blocks, keyed.key).is_none() {
-            count = count.saturating_add(1);
-        }
-        if count > FEW {
-            return false;
-        }
+    if operation.keeps_right() {
+        return keys_of(alloc, right);
     }
-    true
+    common_keys(alloc, left, right)
 }
 
-// Whether few of the blocks have no number.
-fn has_few_empty(blocks: &[Keyed]) -> bool {
-    let mut count = 0usize;
+// The keys that two lists of blocks have in common. Each key of the shorter list is looked for in the other.
+fn common_keys(alloc: Global, blocks: &[Keyed], others: &[Keyed]) -> Result<Vec<u16>, AllocError>
+    requires left { AreKeyed blocks.now }
+    requires right { AreKeyed others.now }
+    ensures ascends { IfOk result (λ keys. Ascends keys.items) }
+    ensures all { IfOk result (λ keys. (k : ℕ) → has keys.items k ≡ false → (block_at blocks.now k ≡ []) ⊎ (block_at others.now k ≡ [])) }
+{
+    if others.len() < blocks.len() {
+        keys_in(alloc, others, blocks)
+    } else {
+        keys_in(alloc, blocks, others)
+    }
+}
+
+// The keys of some blocks that others have too.
+#[tactic(auto, using(crate::proofs::Changed::no_keys_in, crate::proofs::Changed::key_found, crate::proofs::Changed::key_skipped, crate::proofs::Changed::keys_ascend_up, crate::proofs::Changed::one_has_none))]
+fn keys_in(alloc: Global, blocks: &[Keyed], others: &[Keyed]) -> Result<Vec<u16>, AllocError>
+    requires left { AreKeyed blocks.now }
+    requires right { AreKeyed others.now }
+    ensures ascends { IfOk result (λ keys. Ascends keys.items) }
+    ensures all { IfOk result (λ keys. (k : ℕ) → has keys.items k ≡ false → (block_at blocks.now k ≡ []) ⊎ (block_at others.now k ≡ [])) }
+{
+    let mut keys = Vec::new(alloc);
     for keyed in blocks {
-        if keyed.block.is_empty() {
-            count = count.saturating_add(1);
+        if get(others, keyed.key).is_none() {
+            continue;
         }
-        if count > FEW {
-            return false;
-        }
+        keys.push(keyed.key)?;
     }
-    true
+    Ok(keys)
 }
 
-// What an operation makes of each of the right blocks and the left one with its key, which may be no number.
+// What an operation makes of the left and the right block with each key, which may be no number.
 #[tactic(auto, using(crate::proofs::Changed::none_made_each, crate::proofs::Changed::one_made_each, crate::proofs::Changed::each_key))]
 fn made_each(
     alloc: Global,
     left: &[Keyed],
     right: &[Keyed],
+    keys: &[u16],
     operation: Operation,
 ) -> Result<Vec<Keyed>, AllocError>
     requires left { AreKeyed left.now }
     requires right { AreKeyed right.now }
-    ensures keys { IfOk result (λ made. keys_of made.items ≡ keys_of right.now) }
+    ensures keys { IfOk result (λ made. keys_of made.items ≡ keys.now) }
     ensures each { IfOk result (λ made. All (IsMade (made_by operation) left.now right.now) made.items) }
 {
-    let mut made = Vec::with_capacity(alloc, right.len())?;
-    for keyed in right {
-        let key = keyed.key;
-        let block = combined_at(alloc, left, right, key, operation)?;
-        made.push(Keyed { key, block })?;
+    let mut made = Vec::with_capacity(alloc, keys.len())?;
+    for key in keys {
+        let block = combined_at(alloc, left, right, *key, operation)?;
+        made.push(Keyed { key: *key, block })?;
     }
     Ok(made)
 }
 
 // Puts each block in the place of the one with its key, or takes that one out where the new one has no number. Where
 // memory is refused, the blocks are as they were.
-fn replace_all(blocks: &mut Vec<Keyed>, mut made: Vec<Keyed>) -> Result<(), AllocError>
+fn put_all(blocks: &mut Vec<Keyed>, made: Vec<Keyed>) -> Result<(), AllocError>
     requires keyed { AreKeyed blocks.old.items }
+    requires keys { Ascends (keys_of made.items) }
     requires ascend { All (λ b. Ascends b.block) made.items }
     ensures keyed { AreKeyed blocks.new.items }
     ensures replaces { OnOk result (ReplacesAll blocks.old.items blocks.new.items made.items) }
     ensures refused { OnErr result (blocks.new.items ≡ blocks.old.items) }
 {
-    blocks.reserve(made.len())?;
-    while let Some(keyed) = made.pop() {
-        replace(blocks, keyed.key, keyed.block);
-    }
-    Ok(())
-}
-
-// Puts a block in the place of the one with its key, or takes that one out where the block has no number. Requires room
-// for a block more.
-fn replace(blocks: &mut Vec<Keyed>, key: u16, block: Block)
-    requires keyed { AreKeyed blocks.old.items }
-    requires ascends { Ascends block }
-    requires room { vec_len blocks.old < vec_capacity blocks.old }
-    ensures keyed { AreKeyed blocks.new.items }
-    ensures replaces { Replaces blocks.old.items blocks.new.items key block }
-    ensures len { vec_len blocks.new ≤ vec_len blocks.old + 1 }
-    ensures capacity { vec_capacity blocks.old ≤ vec_capacity blocks.new }
-{
-    match find(blocks, key) {
-        Ok(place) => replace_at(blocks, place, key, block),
-        Err(place) => insert_some(blocks, place, key, block),
-    }
-}
-
-// Like `replace`, where a block with the key stands at `place`.
-fn replace_at(blocks: &mut Vec<Keyed>, place: usize, key: u16, block: Block)
-    requires keyed { AreKeyed blocks.old.items }
-    requires there { IsThere blocks.old.items key place }
-    requires ascends { Ascends block }
-    ensures keyed { AreKeyed blocks.new.items }
-    ensures replaces { Replaces blocks.old.items blocks.new.items key block }
-    ensures len { vec_len blocks.new ≤ vec_len blocks.old }
-    ensures capacity { vec_capacity blocks.old ≤ vec_capacity blocks.new }
-{
-    if block.is_empty() {
-        let _gone = blocks.remove(place);
+    if moves_few(blocks, &made) {
+        replace_all(blocks, made)
     } else {
-        blocks[place] = Keyed { key, block };
+        merge_all(blocks, made)
     }
 }
 
-// Like `replace`, where no block has the key, whose place is `place`.
-#[tactic(auto, using(crate::proofs::Changed::absent_replaces))]
-fn insert_some(blocks: &mut Vec<Keyed>, place: usize, key: u16, block: Block)
-    requires keyed { AreKeyed blocks.old.items }
-    requires absent { IsAbsent blocks.old.items key place }
-    requires ascends { Ascends block }
-    requires room { vec_len blocks.old < vec_capacity blocks.old }
-    ensures keyed { AreKeyed blocks.new.items }
-    ensures replaces { Replaces blocks.old.items blocks.new.items key block }
-    ensures len { vec_len blocks.new ≤ vec_len blocks.old + 1 }
-    ensures capacity { vec_capacity blocks.old ≤ vec_capacity blocks.new }
+// Whether few of the blocks that are put in the place of others come or go.
+fn moves_few(blocks: &[Keyed], made: &[Keyed]) -> bool
+    requires { AreKeyed blocks.now }
 {
-    if !block.is_empty() {
-        // There is room, so it is put in.
-        let _done = blocks.insert(place, Keyed { key, block });
+    let mut count = 0usize;
+    for keyed in made {
+        if get(blocks, keyed.key).is_some() == keyed.block.is_empty() {
+            count = count.saturating_add(1);
+        }
+        if count > FEW {
+            return false;
+        }
     }
+    true
 }

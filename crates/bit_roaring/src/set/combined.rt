@@ -5,7 +5,7 @@ ghost use Rattle.bit_blocks.specs.Operation.{made_by};
 ghost use Rattle.bit_blocks.specs.declared.operation.Operation.TheVariants as operations;
 
 use crate::keyed;
-use crate::keyed::changed::combine_few;
+use crate::keyed::changed::combine;
 use crate::set::RoaringSet;
 use bit_blocks::Operation;
 use std::alloc::AllocError;
@@ -49,18 +49,15 @@ impl RoaringSet {
         self.combined(other, Operation::SymmetricDifference)
     }
 
-    /// Puts what an operation makes of this set and another in its place. Where memory is refused, the set is as it was. If
-    /// few blocks come or go, only those that the other set has numbers of are made anew.
+    /// Puts what an operation makes of this set and another in its place. Where memory is refused, the set is as it was.
+    /// If it keeps the numbers of this set that the other has not, their blocks are not copied.
     #[tactic(auto, using(crate::proofs::Sets::sets_combined))]
     pub fn combine_with(&mut self, other: &Self, operation: Operation) -> Result<(), AllocError>
         ensures members { OnOk result (Combines (made_by operation) self.old other.now self.new) }
         ensures refused { OnErr result (self.new ≡ self.old) }
     {
         if operation.keeps_left() {
-            let done = combine_few(&mut self.blocks, &other.blocks, operation)?;
-            if done {
-                return Ok(());
-            }
+            return combine(&mut self.blocks, &other.blocks, operation);
         }
         *self = self.combined(other, operation)?;
         Ok(())

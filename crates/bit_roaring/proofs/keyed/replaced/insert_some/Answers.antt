@@ -4,8 +4,8 @@ use Rattle.bit_roaring.specs.Keyed.{AreKeyed}
 use Rattle.bit_roaring.proofs.Keys.{block_inserted, keyed}
 use Rattle.bit_roaring.proofs.Made.{not_empty}
 use Rattle.bit_roaring.proofs.Sets.{keyed_absent}
-use Rattle.bit_roaring.proofs.keyed.changed.insert_some.Goals as goal
-use Rattle.bit_roaring.proofs.keyed.changed.insert_some.Goals.{Joined-done}
+use Rattle.bit_roaring.proofs.keyed.replaced.insert_some.Goals as goal
+use Rattle.bit_roaring.proofs.keyed.replaced.insert_some.Goals.{Joined-done}
 
 put_in : (c : Joined-done) → c.insert-done.new.self.items ≡ insert c.args.blocks.now.items c.args.place (keyed c.args.key c.args.block)
 put_in c =

@@ -4,7 +4,7 @@ use Rattle.bit_roaring.specs.Changes.{Replaces}
 use Rattle.bit_roaring.specs.Keyed.{AreKeyed}
 use Rattle.bit_roaring.proofs.Keys.{block_removed, block_set, keyed, keyed_removed, keyed_set}
 use Rattle.bit_roaring.proofs.Made.{not_empty}
-use Rattle.bit_roaring.proofs.keyed.changed.replace_at.Goals as goal
+use Rattle.bit_roaring.proofs.keyed.replaced.replace_at.Goals as goal
 
 pub returns-then-is_empty-clause-keyed : goal.returns-then-is_empty-clause-keyed
 returns-then-is_empty-clause-keyed c = subst AreKeyed (sym c.remove-gone.ensures.items) (keyed_removed 0 c.args.blocks.now.items c.args.place c.requires.keyed)

@@ -129,6 +129,9 @@ static void run(const std::string &folder, uint64_t kind, const std::string &nam
   timed(work("iterated").c_str(), repetitions, none, [&](int) { return sum(a); }, count);
   timed(work("equal").c_str(), repetitions, [&] { return a.copy(); }, [&](Set &copy) { return (size_t)roaring_bitmap_equals(a.bits, copy.bits); }, count);
   auto copied = [&] { return a.copy(); };
+  timed(work("or_put").c_str(), repetitions, copied, [&](Set &set) { roaring_bitmap_or_inplace(set.bits, b.bits); return set.len(); }, count);
+  timed(work("and_kept").c_str(), repetitions, copied, [&](Set &set) { roaring_bitmap_and_inplace(set.bits, b.bits); return set.len(); }, count);
+  timed(work("all_taken").c_str(), repetitions, copied, [&](Set &set) { roaring_bitmap_andnot_inplace(set.bits, b.bits); return set.len(); }, count);
   Set few = made(kind, size * 10, 1000);
   Set some = made(kind, 0, size / 50);
   timed(work("few_put").c_str(), repetitions, copied, [&](Set &set) { for (int k = 0; k < 10; k++) roaring_bitmap_or_inplace(set.bits, few.bits); return set.len(); }, count);

@@ -7,7 +7,7 @@ use Rattle.std.proofs.lemmas.List.Edits.{length-insert}
 use Rattle.bit_blocks.specs.Numbers.{Ascends, AscendsIn, Gains, Loses, count_below, has}
 use Rattle.bit_blocks.proofs.Ascending.{above_all, at_least, at_place, counts_at_most, counts_first, none_below, same_numbers, skips_first}
 
-or_assoc : (a b c : Bool) → ((a || b) || c) ≡ (a || (b || c))
+pub or_assoc : (a b c : Bool) → ((a || b) || c) ≡ (a || (b || c))
 or_assoc true b c = refl
 or_assoc false b c = refl
 

@@ -1,3 +1,4 @@
+pub mod Absorbed
 pub mod Ascending
 pub mod Between
 pub mod Changes

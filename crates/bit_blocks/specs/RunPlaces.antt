@@ -1,8 +1,8 @@
 -- Where a number stands among runs.
-use Rattle.std.specs.Prelude.{◌≡◌, ℕ, ◌<◌, ◌≤◌, Bool, List, length, slice_index_or}
+use Rattle.std.specs.Prelude.{◌≡◌, ℕ, ◌+◌, ◌-◌, ◌<◌, ◌≤◌, Bool, ◌||◌, List, drop, length, slice_index_or, take}
 use Rattle.bit_blocks.specs.declared.ranged.Run.{Run}
 use Rattle.bit_blocks.specs.Numbers.{has}
-use Rattle.bit_blocks.specs.Runs.{run_numbers}
+use Rattle.bit_blocks.specs.Runs.{is_in_run, is_in_runs, run_numbers}
 
 -- the first i runs begin at k or before it, and the others after it
 pub record IsBegunBefore (rs : List Run) (k i : ℕ) : Type 0 where
@@ -28,3 +28,11 @@ pub record IsStretch (rs : List Run) (at upto : ℕ) (inside : Bool) : Type 0 wh
   pub some : at < upto
   pub most : upto ≤ 65536
   pub alike : (k : ℕ) → at ≤ k → k < upto → has (run_numbers rs) k ≡ inside
+
+-- a run has the numbers of another and of the runs from i to j, and is apart from those before i and from j on
+pub record Absorbs (rs : List Run) (i : ℕ) (r all : Run) (j : ℕ) : Type 0 where
+  pub within : (i ≤ j) × (j ≤ length rs)
+  pub ordered : (all.first ≤ all.last) × (all.last < 65536)
+  pub same : (k : ℕ) → is_in_run all k ≡ (is_in_run r k || is_in_runs (take (j - i) (drop i rs)) k)
+  pub before : (n : ℕ) (d : Run) → n < i → (slice_index_or rs n d).last + 1 < all.first
+  pub after : (d : Run) → j < length rs → all.last + 1 < (slice_index_or rs j d).first

@@ -250,10 +250,23 @@ fn combined_list(
     ensures members { IfOk result (λ made. Combines (made_by operation) numbers.now (numbers_of form.now) (numbers_of made)) }
     ensures form { IfOk result (λ made. IsForm made) }
 {
+    if let Form::Ranged(runs) = form {
+        if lie_in_runs(numbers) {
+            let others = ranged::runs_of(alloc, numbers)?;
+            return combined_runs(alloc, &others, runs, operation);
+        }
+    }
     if operation.keeps_right() {
         return changed_by_list(alloc, form, numbers, operation);
     }
     filtered_list(alloc, numbers, form, operation)
+}
+
+// Whether the numbers of a list take fewer bytes as runs.
+fn lie_in_runs(numbers: &[u16]) -> bool
+    requires { AreListed numbers.now }
+{
+    runs_pay(numbers.len(), listed::count_runs(numbers))
 }
 
 // Like `combined`, of a form and a list.
@@ -269,6 +282,12 @@ fn combined_with_list(
     ensures members { IfOk result (λ made. Combines (made_by operation) (numbers_of form.now) numbers.now (numbers_of made)) }
     ensures form { IfOk result (λ made. IsForm made) }
 {
+    if let Form::Ranged(runs) = form {
+        if lie_in_runs(numbers) {
+            let others = ranged::runs_of(alloc, numbers)?;
+            return combined_runs(alloc, runs, &others, operation);
+        }
+    }
     if operation.keeps_left() {
         return changed_by_list(alloc, form, numbers, operation);
     }
@@ -312,7 +331,7 @@ fn changed_by_list(
     form_of(alloc, bits)
 }
 
-// Like `combined`, of two lists of runs. What is made is kept as runs where they take fewer bytes.
+// Like `combined`, of two lists of runs.
 fn combined_runs(
     alloc: Global,
     left: &[Run],
@@ -325,6 +344,15 @@ fn combined_runs(
     ensures form { IfOk result (λ form. IsForm form) }
 {
     let runs = stretches::combined(alloc, left, right, operation)?;
+    form_of_runs(runs)
+}
+
+// Runs as they are where they take fewer bytes, and else as a list or as bits.
+fn form_of_runs(runs: Vec<Run>) -> Result<Form, AllocError>
+    requires { AreRuns runs.items }
+    ensures numbers { IfOk result (λ form. numbers_of form ≡ run_numbers runs.items) }
+    ensures form { IfOk result (λ form. IsForm form) }
+{
     let pays = runs_pay(ranged::count(&runs), runs.len());
     let mut form = Form::Ranged(runs);
     if !pays {
@@ -444,7 +472,8 @@ pub(crate) fn insert_range(form: &mut Form, first: u16, last: u16) -> Result<(),
             return Ok(());
         }
         Form::Ranged(runs) => {
-            *form = combined_runs(alloc, runs, &[Run { first, last }], Operation::Union)?;
+            let made = ranged::with_run(alloc, runs, Run { first, last })?;
+            *form = form_of_runs(made)?;
             return Ok(());
         }
         Form::Listed(numbers) => {
@@ -523,6 +552,12 @@ pub(crate) fn count_both(left: &Form, right: &Form) -> usize
     match (left, right) {
         (Form::Mapped(bits), Form::Mapped(others)) => mapped::count_both(bits, others),
         (Form::Ranged(runs), Form::Ranged(others)) => ranged::count_both(runs, others),
+        (Form::Listed(numbers), Form::Ranged(runs)) if runs.len() < numbers.len() => {
+            count_ranged(runs, left)
+        }
+        (Form::Ranged(runs), Form::Listed(numbers)) if numbers.len() <= runs.len() => {
+            count_listed(numbers, left)
+        }
         (Form::Listed(numbers), _) => count_listed(numbers, right),
         (Form::Ranged(runs), _) => count_ranged(runs, right),
         (Form::Mapped(_), Form::Listed(numbers)) => count_listed(numbers, left),

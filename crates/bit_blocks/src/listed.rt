@@ -17,6 +17,7 @@ pub(crate) const LISTED: usize = 4096;
 // some four times while a list grows. A list that becomes bits with its 4097th number has no use for more.
 fn room_beyond(count: usize) -> usize
     ensures some { 0 < result }
+    ensures doubles { count < 64 → result ≡ max 4 count }
     ensures little { 64 ≤ count → result ≤ count / 4 }
     ensures small { result ≤ max 4 count }
     ensures most { count < 4096 → count + result ≤ 4096 }
@@ -48,7 +49,8 @@ fn make_room(numbers: &mut Vec<u16>) -> Result<(), AllocError>
 
 // Gives back what a list has room for beyond the room that it would make.
 pub(crate) fn give_back(numbers: &mut Vec<u16>)
-    ensures { numbers.new.items ≡ numbers.old.items }
+    ensures same { numbers.new.items ≡ numbers.old.items }
+    ensures none { vec_len numbers.old ≡ 0 → vec_capacity numbers.new ≤ 4 }
 {
     let count = numbers.len();
     if numbers.capacity() > count + room_beyond(count) {

@@ -1,9 +1,9 @@
 //! Runs of numbers in a slice.
 ghost use Rattle.std.specs.Prelude.{◌≡◌, ◌≤◌, ◌+◌, ◌-◌, ◌↔◌, IfOk, IsTrue, length, slice_get};
 ghost use Rattle.std.specs.List.{range_with_len};
-ghost use Rattle.bit_blocks.specs.Numbers.{Ascends, count_below, count_where, has};
+ghost use Rattle.bit_blocks.specs.Numbers.{Ascends, GainsBetween, count_below, count_where, has};
 ghost use Rattle.bit_blocks.specs.Runs.{AreRuns, run_numbers};
-ghost use Rattle.bit_blocks.specs.RunPlaces.{IsBegunBefore, IsEndedBefore};
+ghost use Rattle.bit_blocks.specs.RunPlaces.{Absorbs, IsBegunBefore, IsEndedBefore};
 
 use crate::runs_left::RunsLeft;
 use std::alloc::{AllocError, Global};
@@ -164,6 +164,44 @@ pub(crate) fn one_run(alloc: Global, first: u16, last: u16) -> Result<Vec<Run>, 
     let mut runs = Vec::new(alloc);
     runs.push(Run { first, last })?;
     Ok(runs)
+}
+
+// A run with all runs from place `from` on that it meets or that are next to it, and the place of the first that is not.
+// Requires that the runs are in order and apart, and that those before `from` end before the number before the run.
+fn absorbed(runs: &[Run], from: usize, run: Run) -> (Run, usize)
+    requires runs { AreRuns runs.now }
+    requires run { run.first ≤ run.last }
+    requires within { from ≤ length runs.now }
+    requires place { IsEndedBefore runs.now (run.first - 1) from }
+    ensures { Absorbs runs.now from run result.0 result.1 }
+{
+    let mut all = run;
+    let mut upto = from;
+    while upto < runs.len() && runs[upto].first as usize <= all.last as usize + 1 {
+        let next = runs[upto];
+        all = Run {
+            first: all.first.min(next.first),
+            last: all.last.max(next.last),
+        };
+        upto += 1;
+    }
+    (all, upto)
+}
+
+// The runs with the numbers of one more. Requires that the runs are in order and apart.
+pub(crate) fn with_run(alloc: Global, runs: &[Run], run: Run) -> Result<Vec<Run>, AllocError>
+    requires runs { AreRuns runs.now }
+    requires run { run.first ≤ run.last }
+    ensures runs { IfOk result (λ made. AreRuns made.items) }
+    ensures gains { IfOk result (λ made. GainsBetween (run_numbers runs.now) (run_numbers made.items) run.first run.last) }
+{
+    let from = ended_before(runs, run.first.saturating_sub(1));
+    let (all, upto) = absorbed(runs, from, run);
+    let mut made = Vec::with_capacity(alloc, from + 1 + (runs.len() - upto))?;
+    made.extend_from_slice(&runs[..from])?;
+    made.push(all)?;
+    made.extend_from_slice(&runs[upto..])?;
+    Ok(made)
 }
 
 // A copy.

@@ -1,5 +1,5 @@
 -- Blocks that are merged with others.
-use Rattle.std.proofs.Common.{◌≡◌, ℕ, zero, suc, ◌+◌, ◌<◌, ◌≤◌, Bool, true, false, cond, ◌||◌, nat_eq, List, [], ◌∷◌, ◌++◌, append-nil, append_assoc, length, refl, sym, ◌∙◌, ap, subst, inl, inr, arith}
+use Rattle.std.proofs.Common.{◌≡◌, ℕ, zero, suc, ◌+◌, ◌<◌, ◌≤◌, false, cond, ◌||◌, nat_eq, List, [], ◌∷◌, ◌++◌, append-nil, append_assoc, length, refl, sym, ◌∙◌, ap, subst, inl, inr, arith}
 use Rattle.std.specs.Prelude.{All, IfNone, None, Option, Some, option_to_list}
 use Rattle.std.proofs.lemmas.Bool.{cases_Bool, cases_eq, eq-eqb, ne_eqb}
 use Rattle.bit_blocks.specs.Numbers.{Ascends, AscendsIn, has}
@@ -8,7 +8,7 @@ use Rattle.bit_blocks.proofs.Ascending.{ascends_append, below_all, few_numbers}
 use Rattle.bit_roaring.specs.Changes.{Replaces, ReplacesAll}
 use Rattle.bit_roaring.specs.Keyed.{AreKeyed, AreKeyedFrom, block_at, keys_of}
 use Rattle.bit_roaring.proofs.Changed.{keys_appended, unchanged_replaces}
-use Rattle.bit_roaring.proofs.Keys.{keyed, keyed_at_least, keyed_earlier, no_block_before}
+use Rattle.bit_roaring.proofs.Keys.{keyed_at_least, keyed_earlier, no_block_before}
 use Rattle.bit_roaring.proofs.Made.{keyed_between, keys_ascend_in, none_past, pushed_below, replaces_after}
 
 -- ---- how many blocks there are

@@ -94,6 +94,22 @@ fn an_operation_makes_a_list_or_bits(rt: HostRuntime) {
 }
 
 #[test]
+fn a_range_leaves_runs_as_runs(rt: HostRuntime) {
+    let mut block = ok(&rt, Block::from_range(rt.alloc(), 10, 19));
+    ok(&rt, block.insert_range(40, 49));
+    ok(&rt, block.insert_range(20, 30));
+    check(&rt, is_runs(&block));
+    check(&rt, block.count_runs() == 2);
+    ok(&rt, block.remove_range(12, 13));
+    check(&rt, is_runs(&block));
+    check(&rt, block.count_runs() == 3);
+    check(&rt, block.len() == 29);
+    ok(&rt, block.insert_range(11, 48));
+    check(&rt, block.count_runs() == 1);
+    check(&rt, block.len() == 40);
+}
+
+#[test]
 fn runs_make_runs_where_they_pay(rt: HostRuntime) {
     let low = ok(&rt, Block::from_range(rt.alloc(), 10, 19));
     let high = ok(&rt, Block::from_range(rt.alloc(), 20, 29));

@@ -25,6 +25,8 @@ mod grown;
 #[cfg(test)]
 mod listed;
 #[cfg(test)]
+mod many;
+#[cfg(test)]
 mod ranges;
 #[cfg(test)]
 mod refused;

@@ -1,4 +1,4 @@
-use Rattle.std.specs.Prelude.{◌+◌, ◌++◌, length, option_to_list, vec_capacity, vec_len}
+use Rattle.std.specs.Prelude.{◌++◌, option_to_list}
 use Rattle.std.specs.Vec.Iter.{into_iter_items}
 use Rattle.bit_roaring.proofs.Merged.{stops_at, stops_before, stops_past}
 use Rattle.bit_roaring.proofs.keyed.merged.move_before.Goals as goal

@@ -4,24 +4,12 @@ use Rattle.std.specs.Prelude.{All, IfNone, None, Option, Some, option_to_list}
 use Rattle.std.proofs.lemmas.Bool.{cases_Bool, cases_eq, eq-eqb, ne_eqb}
 use Rattle.bit_blocks.specs.Numbers.{Ascends, AscendsIn, has}
 use Rattle.bit_blocks.specs.declared.keyed.Keyed.{Keyed}
-use Rattle.bit_blocks.proofs.Ascending.{ascends_append, below_all, few_numbers}
+use Rattle.bit_blocks.proofs.Ascending.{ascends_append, below_all}
 use Rattle.bit_roaring.specs.Changes.{Replaces, ReplacesAll}
 use Rattle.bit_roaring.specs.Keyed.{AreKeyed, AreKeyedFrom, block_at, keys_of}
 use Rattle.bit_roaring.proofs.Changed.{keys_appended, unchanged_replaces}
 use Rattle.bit_roaring.proofs.Keys.{keyed_at_least, keyed_earlier, no_block_before}
-use Rattle.bit_roaring.proofs.Made.{keyed_between, keys_ascend_in, none_past, pushed_below, replaces_after}
-
--- ---- how many blocks there are
-
-keys_length : (bs : List Keyed) → length (keys_of bs) ≡ length bs
-keys_length [] = refl
-keys_length (b ∷ bs) = ap suc (keys_length bs)
-
-pub few_keys : (bs : List Keyed) → Ascends (keys_of bs) → length bs ≤ 65536
-few_keys bs up = let few = few_numbers 0 65536 (keys_of bs) (omega arith) up in let same = keys_length bs in omega arith
-
-pub few_blocks : (bs : List Keyed) → AreKeyed bs → length bs ≤ 65536
-few_blocks bs h = few_keys bs (keys_ascend_in 0 bs h)
+use Rattle.bit_roaring.proofs.Made.{keyed_between, none_past, pushed_below, replaces_after}
 
 -- ---- blocks with smaller keys, and those after them
 

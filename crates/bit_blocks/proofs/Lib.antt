@@ -7,6 +7,7 @@ pub mod Combined
 pub mod Edits
 pub mod Forms
 pub mod Edges
+pub mod Gaps
 pub mod Grouped
 pub mod Joined
 pub mod Merging

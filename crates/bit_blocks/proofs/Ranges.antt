@@ -1,8 +1,8 @@
 -- Numbers of a range put into lists and bits, and taken out of them.
 use Rattle.std.proofs.Common.{◌≡◌, ℕ, ◌+◌, ◌-◌, ◌<◌, ◌≤◌, Bool, true, false, cond, not, ◌&&◌, ◌||◌, leb, nat_eq, nat_lt, List, [], ◌∷◌, ◌++◌, append_assoc, drop, get_or, length, length-append, length-drop, length-take, replicate, take, refl, sym, ◌∙◌, ap, subst, inl, inr, arith}
 use Rattle.std.specs.List.{filter, range_with_len}
-use Rattle.std.proofs.Math.Bool.{and-false, or-false, or-true, or_comm}
-use Rattle.std.proofs.lemmas.Bool.{cases_Bool, cases_eq, cases_lt, eq-eqb, le-leb, le-ltb, lt-leb, lt-ltb, ne_eqb}
+use Rattle.std.proofs.Math.Bool.{and-false, and-true, or-false, or-true, or_comm}
+use Rattle.std.proofs.lemmas.Bool.{cases_Bool, cases_eq, cases_lt, eq-eqb, ne_eqb}
 use Rattle.std.proofs.lemmas.List.{take-append-drop}
 use Rattle.std.proofs.lemmas.List.FromFn.{length-range_with_len}
 use Rattle.bit_addressing.specs.Row.{put}
@@ -69,20 +69,6 @@ ascends_filter p from upto (x ∷ xs) h =
       | true ↦ (h.0, h.1, rest)
       | false ↦ ascends_earlier (x + 1) from upto (filter p xs) (omega arith) rest
     ]
-
--- a number outside of a range
-outside : (first last k : ℕ) → (nat_lt k first || nat_lt last k) ≡ not (is_between first last k)
-outside first last k = elim (cases_lt k first) [
-  | inl low ↦ ap (λ b. b || nat_lt last k) (lt-ltb k first low) ∙ sym (ap (λ b. not (b && leb k last)) (lt-leb first k low))
-  | inr high ↦ ap (λ b. b || nat_lt last k) (le-ltb k first high) ∙ elim (cases_lt last k) [
-    | inl past ↦ lt-ltb last k past ∙ sym (ap (λ b. not (b && leb k last)) (le-leb first k high) ∙ ap not (lt-leb k last past))
-    | inr within ↦ le-ltb last k within ∙ sym (ap (λ b. not (b && leb k last)) (le-leb first k high) ∙ ap not (le-leb k last within))
-  ]
-]
-
--- a list without the numbers of a range
-pub loses_kept : (first last : ℕ) (xs ys : List ℕ) → ys ≡ filter (λ k. nat_lt k first || nat_lt last k) xs → LosesBetween xs ys first last
-loses_kept first last xs ys is k = ap (λ l. has l k) is ∙ has_filter (λ j. nat_lt j first || nat_lt last j) xs k ∙ ap (λ b. has xs k && b) (outside first last k)
 
 -- all numbers as one run
 pub all_gained : (xs ys : List ℕ) (first last : ℕ) → Ascends xs → first ≡ 0 → last ≡ 65535 → ys ≡ range_with_len first (last + 1 - first) → GainsBetween xs ys first last
@@ -183,3 +169,64 @@ range_size xs ys first last ordered is =
     let taken = length-take a xs in
     let dropped = length-drop b xs in
     omega arith
+
+-- ---- a list without the numbers that are in a range
+
+-- what is left are two parts
+pub range_lost : (xs ys : List ℕ) (first last a b : ℕ) → Ascends xs → a ≡ count_below xs first → b ≡ count_below xs (last + 1) → a < b → ys ≡ take a xs ++ drop b xs → LosesBetween xs ys first last
+range_lost xs ys first last a b h begins ends some is k =
+    ap (λ l. has l k) is ∙ has_append (take a xs) (drop b xs) k ∙ elim (cases_lt k first) [
+      | inl low ↦ (
+          let none = above_all (last + 1) 65536 (drop b xs) k back (omega (arith, ordered)) in
+          let rest = above_all first 65536 (drop a xs) k (subst (λ n. AscendsIn first 65536 (drop n xs)) (sym begins) (ascends_back 0 65536 xs first h)) low in
+          ap (λ t. has (take a xs) k || t) none
+          ∙ sym (ap (λ t. has xs k && not t) (before_range first last k low) ∙ and-true (has xs k) ∙ has_parts xs a k ∙ ap (λ t. has (take a xs) k || t) rest))
+      | inr high ↦ (
+          let out = below_all 0 first (take a xs) k front high in
+          ap (λ t. t || has (drop b xs) k) out ∙ elim (cases_lt last k) [
+            | inl past ↦ (
+                let rest = below_all 0 (last + 1) (take b xs) k (subst (λ n. AscendsIn 0 (last + 1) (take n xs)) (sym ends) (ascends_front 0 65536 xs (last + 1) h)) (omega arith) in
+                sym (ap (λ t. has xs k && not t) (after_range first last k past) ∙ and-true (has xs k) ∙ has_parts xs b k ∙ ap (λ t. t || has (drop b xs) k) rest))
+            | inr within ↦ above_all (last + 1) 65536 (drop b xs) k back (omega arith) ∙ sym (ap (λ t. has xs k && not t) (in_between first last k high within) ∙ and-false (has xs k))
+          ])
+    ]
+  where
+    ordered : first ≤ last
+    ordered = elim (cases_lt last first) [
+      | inl less ↦ absurd (let more = below_up xs (last + 1) first (omega arith) in omega arith)
+      | inr fine ↦ fine
+    ]
+
+    front : AscendsIn 0 first (take a xs)
+    front = subst (λ n. AscendsIn 0 first (take n xs)) (sym begins) (ascends_front 0 65536 xs first h)
+
+    back : AscendsIn (last + 1) 65536 (drop b xs)
+    back = subst (λ n. AscendsIn (last + 1) 65536 (drop n xs)) (sym ends) (ascends_back 0 65536 xs (last + 1) h)
+
+-- no number is in the range
+pub none_lost : (xs : List ℕ) (first last a b : ℕ) → Ascends xs → a ≡ count_below xs first → b ≡ count_below xs (last + 1) → b ≤ a → LosesBetween xs xs first last
+none_lost xs first last a b h begins ends none k = elim (cases_lt k first) [
+  | inl low ↦ sym (ap (λ t. has xs k && not t) (before_range first last k low) ∙ and-true (has xs k))
+  | inr high ↦ elim (cases_lt last k) [
+    | inl past ↦ sym (ap (λ t. has xs k && not t) (after_range first last k past) ∙ and-true (has xs k))
+    | inr within ↦ (
+        let more = below_up xs first (last + 1) (omega arith) in
+        let same : count_below xs (last + 1) ≡ count_below xs first = omega arith in
+        let out = below_all 0 first (take (count_below xs first) xs) k (ascends_front 0 65536 xs first h) high in
+        let rest = above_all (last + 1) 65536 (drop (count_below xs first) xs) k (subst (λ n. AscendsIn (last + 1) 65536 (drop n xs)) same (ascends_back 0 65536 xs (last + 1) h)) (omega arith) in
+        let absent : has xs k ≡ false = has_parts xs (count_below xs first) k ∙ ap (λ t. t || has (drop (count_below xs first) xs) k) out ∙ rest in
+        absent ∙ sym (ap (λ t. t && not (is_between first last k)) absent))
+  ]
+]
+
+pub lost_ascends : (xs ys : List ℕ) (first last a b : ℕ) → Ascends xs → first < 65536 → a ≡ count_below xs first → b ≡ count_below xs (last + 1) → a < b → ys ≡ take a xs ++ drop b xs → Ascends ys
+lost_ascends xs ys first last a b h small begins ends some is =
+    subst Ascends (sym is) (ascends_append 0 first 65536 (take a xs) (drop b xs) (omega arith) (omega arith)
+    (subst (λ n. AscendsIn 0 first (take n xs)) (sym begins) (ascends_front 0 65536 xs first h))
+    (subst (λ n. AscendsIn first 65536 (drop n xs)) (sym ends) (ascends_earlier (last + 1) first 65536 (drop (count_below xs (last + 1)) xs) ordered (ascends_back 0 65536 xs (last + 1) h))))
+  where
+    ordered : first ≤ last + 1
+    ordered = elim (cases_lt (last + 1) first) [
+      | inl less ↦ absurd (let more = below_up xs (last + 1) first (omega arith) in omega arith)
+      | inr fine ↦ fine
+    ]

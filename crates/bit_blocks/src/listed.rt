@@ -1,5 +1,5 @@
 //! Ascending numbers in a slice: found, put in, taken out, combined and counted.
-ghost use Rattle.std.specs.Prelude.{◌≡◌, ◌↔◌, Bool, IsTrue, ◌++◌, ◌∷◌, [], if◌then◌else◌, ◌≤◌, ◌+◌, ◌-◌, ◌/◌, IfOk, MatchResult, OnErr, OnOk, Some, length, max, not, slice_get, true, false, vec_capacity, vec_len, ◌<◌};
+ghost use Rattle.std.specs.Prelude.{◌≡◌, ◌↔◌, Bool, IsTrue, ◌++◌, ◌∷◌, [], if◌then◌else◌, ◌≤◌, ◌+◌, ◌-◌, ◌/◌, IfOk, MatchResult, OnErr, OnOk, Some, length, max, not, slice_get, take, drop, true, false, vec_capacity, vec_len, ◌<◌};
 ghost use Rattle.std.specs.List.{range_with_len};
 ghost use Rattle.bit_blocks.specs.Operation.{ChangesAt, made_by};
 ghost use Rattle.bit_blocks.specs.Runs.{numbers_of_run, runs_of};
@@ -193,13 +193,32 @@ pub(crate) fn insert_range(numbers: &mut Vec<u16>, first: u16, last: u16) -> Res
     Ok(())
 }
 
+// Moves the numbers from place `upto` on to place `from`, in the place of those between.
+fn close_gap(numbers: &mut Vec<u16>, from: usize, upto: usize)
+    requires ordered { from ≤ upto }
+    requires within { upto ≤ vec_len numbers.old }
+    ensures { numbers.new.items ≡ take from numbers.old.items ++ drop upto numbers.old.items }
+{
+    let gap = upto - from;
+    let count = numbers.len();
+    for i in upto..count {
+        numbers[i - gap] = numbers[i];
+    }
+    numbers.truncate(count - gap);
+}
+
 // Takes out the numbers from `first` to `last`.
 pub(crate) fn remove_range(numbers: &mut Vec<u16>, first: u16, last: u16)
     requires { Ascends numbers.old.items }
     ensures loses { LosesBetween numbers.old.items numbers.new.items first last }
     ensures ascends { Ascends numbers.new.items }
 {
-    numbers.retain(|number| *number < first || last < *number);
+    let from = place_of(numbers, first);
+    let upto = place_after(numbers, last);
+    if upto <= from {
+        return;
+    }
+    close_gap(numbers, from, upto);
 }
 
 // Appends numbers, where `keeps` says so.

@@ -1,16 +1,19 @@
-use Rattle.std.proofs.Common.{ℕ, ◌||◌, nat_lt, sym, subst, rules}
-use Rattle.std.proofs.lemmas.Fn.{filter_same}
-use Rattle.bit_blocks.specs.Numbers.{Ascends}
-use Rattle.bit_blocks.proofs.Ranges.{ascends_filter, loses_kept}
+use Rattle.std.proofs.Common.{◌+◌, ◌∙◌, ap}
+use Rattle.bit_blocks.specs.Numbers.{count_below}
+use Rattle.bit_blocks.proofs.Ranges.{lost_ascends, none_lost, range_lost}
 use Rattle.bit_blocks.proofs.listed.remove_range.Goals as goal
+
+pub returns-then-upto-from-clause-loses : goal.returns-then-upto-from-clause-loses
+returns-then-upto-from-clause-loses c =
+    none_lost c.args.numbers.now.items c.args.first c.args.last c.place_of-from.result c.place_after-upto.result c.requires (c.place_of-from.ensures.value ∙ ap (λ l. count_below l c.args.first) c.deref.ensures.value)
+    (c.place_after-upto.ensures.value ∙ ap (λ l. count_below l (c.args.last + 1)) c.deref-2.ensures.value) c.if-upto-from.true
 
 pub returns-clause-loses : goal.returns-clause-loses
 returns-clause-loses c =
-    let outside = λ (k : ℕ). nat_lt k c.args.first || nat_lt c.args.last k in
-    loses_kept c.args.first c.args.last c.args.numbers.now.items c.retain.new.self.items (filter_same _ outside _ (λ x b q k. (search rules, search rules)) c.args.numbers.now.items c.retain.new.self.items c.retain.ensures.filtered)
+    range_lost c.args.numbers.now.items c.close_gap.new.numbers.items c.args.first c.args.last c.place_of-from.result c.place_after-upto.result c.requires (c.place_of-from.ensures.value ∙ ap (λ l. count_below l c.args.first) c.deref.ensures.value)
+    (c.place_after-upto.ensures.value ∙ ap (λ l. count_below l (c.args.last + 1)) c.deref-2.ensures.value) c.if-upto-from.false c.close_gap.ensures
 
 pub returns-clause-ascends : goal.returns-clause-ascends
 returns-clause-ascends c =
-    let outside = λ (k : ℕ). nat_lt k c.args.first || nat_lt c.args.last k in
-    let kept = filter_same _ outside _ (λ x b q k. (search rules, search rules)) c.args.numbers.now.items c.retain.new.self.items c.retain.ensures.filtered in
-    subst Ascends (sym kept) (ascends_filter outside 0 65536 c.args.numbers.now.items c.requires)
+    lost_ascends c.args.numbers.now.items c.close_gap.new.numbers.items c.args.first c.args.last c.place_of-from.result c.place_after-upto.result c.requires c.ranges.first.fits (c.place_of-from.ensures.value ∙ ap (λ l. count_below l c.args.first) c.deref.ensures.value)
+    (c.place_after-upto.ensures.value ∙ ap (λ l. count_below l (c.args.last + 1)) c.deref-2.ensures.value) c.if-upto-from.false c.close_gap.ensures

@@ -15,7 +15,7 @@ use Rattle.bit_blocks.proofs.Runs.{first_at_least, has_runs, run_ordered, runs_f
 
 -- ---- numbers of runs
 
-is_in_append : (xs ys : List Run) (k : ℕ) → is_in_runs (xs ++ ys) k ≡ (is_in_runs xs k || is_in_runs ys k)
+pub is_in_append : (xs ys : List Run) (k : ℕ) → is_in_runs (xs ++ ys) k ≡ (is_in_runs xs k || is_in_runs ys k)
 is_in_append [] ys k = refl
 is_in_append (r ∷ xs) ys k = ap (λ b. is_in_run r k || b) (is_in_append xs ys k) ∙ sym (or_assoc (is_in_run r k) (is_in_runs xs k) (is_in_runs ys k))
 
@@ -42,7 +42,7 @@ is_in_both r s k up also low high =
     ]
 
 -- between two runs a number is left out
-gap : (from : ℕ) (rs : List Run) (n j : ℕ) (d e : Run) → AreRunsFrom from rs → n < j → j < length rs → (get_or rs n d).last + 1 < (get_or rs j e).first
+pub gap : (from : ℕ) (rs : List Run) (n j : ℕ) (d e : Run) → AreRunsFrom from rs → n < j → j < length rs → (get_or rs n d).last + 1 < (get_or rs j e).first
 gap from [] n j d e h before inside = absurd (omega arith)
 gap from (r ∷ rs) n zero d e h before inside = absurd (omega arith)
 gap from (r ∷ rs) zero (suc j) d e h before inside = let low = first_at_least (r.last + 2) rs j e h.3 (omega arith) in omega arith

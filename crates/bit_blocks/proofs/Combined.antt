@@ -18,7 +18,7 @@ use Rattle.bit_blocks.proofs.Those.{those_empty, those_here, those_joined, those
 -- ---- stretches of one list
 
 -- a number that is past a run's end or before its beginning, whichever run it is, is in none
-in_no_run : (rs : List Run) (k : ℕ) → ((j : ℕ) (d : Run) → j < length rs → ((get_or rs j d).last < k) ⊎ (k < (get_or rs j d).first)) → is_in_runs rs k ≡ false
+pub in_no_run : (rs : List Run) (k : ℕ) → ((j : ℕ) (d : Run) → j < length rs → ((get_or rs j d).last < k) ⊎ (k < (get_or rs j d).first)) → is_in_runs rs k ≡ false
 in_no_run [] k out = refl
 in_no_run (r ∷ rs) k out =
     let rest = in_no_run rs k (λ j d l. out (suc j) d (omega arith)) in
@@ -27,7 +27,7 @@ in_no_run (r ∷ rs) k out =
       | inr before ↦ ap (λ b. (b && leb k r.last) || is_in_runs rs k) (lt-leb r.first k before) ∙ rest
     ]
 
-in_some_run : (rs : List Run) (k i : ℕ) (d : Run) → i < length rs → (get_or rs i d).first ≤ k → k ≤ (get_or rs i d).last → is_in_runs rs k ≡ true
+pub in_some_run : (rs : List Run) (k i : ℕ) (d : Run) → i < length rs → (get_or rs i d).first ≤ k → k ≤ (get_or rs i d).last → is_in_runs rs k ≡ true
 in_some_run [] k i d inside low high = absurd (omega arith)
 in_some_run (r ∷ rs) k zero d inside low high = ap (λ b. (b && leb k r.last) || is_in_runs rs k) (le-leb r.first k low) ∙ ap (λ b. b || is_in_runs rs k) (le-leb k r.last high)
 in_some_run (r ∷ rs) k (suc i) d inside low high = ap (λ b. is_in_run r k || b) (in_some_run rs k i d (omega arith) low high) ∙ or-true (is_in_run r k)
@@ -93,14 +93,14 @@ abbrev pub EndApart : List Run → ℕ → Type 0
 EndApart [] b = ⊤
 EndApart (r ∷ rs) b = (r.last + 2 ≤ b) × EndApart rs b
 
-apart_later : (rs : List Run) (b c : ℕ) → b ≤ c → EndApart rs b → EndApart rs c
+pub apart_later : (rs : List Run) (b c : ℕ) → b ≤ c → EndApart rs b → EndApart rs c
 apart_later [] b c low h = tt
 apart_later (r ∷ rs) b c low h = let here = h.0 in (omega arith, apart_later rs b c low h.1)
 
-below_some : (first upto : ℕ) → first < upto → run_below first upto ≡ record { first = first; last = upto - 1 } ∷ []
+pub below_some : (first upto : ℕ) → first < upto → run_below first upto ≡ record { first = first; last = upto - 1 } ∷ []
 below_some first upto some = ap (λ b. cond b (record { first = first; last = upto - 1 } ∷ []) []) (lt-ltb first upto some)
 
-below_none : (first upto : ℕ) → upto ≤ first → run_below first upto ≡ []
+pub below_none : (first upto : ℕ) → upto ≤ first → run_below first upto ≡ []
 below_none first upto none = ap (λ b. cond b (record { first = first; last = upto - 1 } ∷ []) []) (le-ltb first upto none)
 
 below_numbers : (first upto : ℕ) → run_numbers (run_below first upto) ≡ range_with_len first (upto - first)
@@ -109,14 +109,14 @@ below_numbers first upto = elim (cases_lt first upto) [
   | inr none ↦ (let size : 0 ≡ upto - first = omega arith in ap run_numbers (below_none first upto none) ∙ ap (range_with_len first) size)
 ]
 
-below_apart : (rs : List Run) (first upto at : ℕ) → first ≤ upto → upto < at → EndApart rs first → EndApart (rs ++ run_below first upto) at
+pub below_apart : (rs : List Run) (first upto at : ℕ) → first ≤ upto → upto < at → EndApart rs first → EndApart (rs ++ run_below first upto) at
 below_apart [] first upto at ordered low h = elim (cases_lt first upto) [
   | inl some ↦ subst (λ l. EndApart l at) (sym (below_some first upto some)) (omega arith, tt)
   | inr none ↦ subst (λ l. EndApart l at) (sym (below_none first upto none)) tt
 ]
 below_apart (r ∷ rs) first upto at ordered low h = let here = h.0 in (omega arith, below_apart rs first upto at ordered low h.1)
 
-below_runs : (from : ℕ) (rs : List Run) (first upto : ℕ) → upto ≤ 65536 → from ≤ first → AreRunsFrom from rs → EndApart rs first → AreRunsFrom from (rs ++ run_below first upto)
+pub below_runs : (from : ℕ) (rs : List Run) (first upto : ℕ) → upto ≤ 65536 → from ≤ first → AreRunsFrom from rs → EndApart rs first → AreRunsFrom from (rs ++ run_below first upto)
 below_runs from [] first upto most low h apart = elim (cases_lt first upto) [
   | inl some ↦ subst (AreRunsFrom from) (sym (below_some first upto some)) (low, omega arith, omega arith, tt)
   | inr none ↦ subst (AreRunsFrom from) (sym (below_none first upto none)) tt

@@ -2,6 +2,7 @@ pub mod Absorbed
 pub mod Ascending
 pub mod Between
 pub mod Changes
+pub mod Cleared
 pub mod Clipped
 pub mod Combined
 pub mod Edits

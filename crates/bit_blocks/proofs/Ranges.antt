@@ -1,7 +1,7 @@
 -- Numbers of a range put into lists and bits, and taken out of them.
 use Rattle.std.proofs.Common.{◌≡◌, ℕ, ◌+◌, ◌-◌, ◌<◌, ◌≤◌, Bool, true, false, cond, not, ◌&&◌, ◌||◌, leb, nat_eq, nat_lt, List, [], ◌∷◌, ◌++◌, append_assoc, drop, get_or, length, length-append, length-drop, length-take, replicate, take, refl, sym, ◌∙◌, ap, subst, inl, inr, arith}
 use Rattle.std.specs.List.{filter, range_with_len}
-use Rattle.std.proofs.Math.Bool.{and-false, and-true, or-false, or-true, or_comm}
+use Rattle.std.proofs.Math.Bool.{and-false, and-true, or-false, or-true}
 use Rattle.std.proofs.lemmas.Bool.{cases_Bool, cases_eq, cases_lt, eq-eqb, ne_eqb}
 use Rattle.std.proofs.lemmas.List.{take-append-drop}
 use Rattle.std.proofs.lemmas.List.FromFn.{length-range_with_len}
@@ -10,15 +10,13 @@ use Rattle.bit_slice.specs.Places.{ones_of}
 use Rattle.bit_blocks.specs.Bits.{AreBits}
 use Rattle.bit_blocks.specs.Numbers.{Ascends, AscendsIn, Combines, GainsBetween, LosesBetween, count_below, has, is_between}
 use Rattle.bit_blocks.specs.Operation.{made_by}
-use Rattle.bit_blocks.specs.Runs.{run_numbers}
 use Rattle.bit_blocks.specs.declared.operation.Operation.{Operation}
-use Rattle.bit_blocks.specs.declared.operation.Operation.TheVariants.{Union, Difference}
 use Rattle.bit_blocks.proofs.Ascending.{above_all, ascends_append, ascends_back, ascends_earlier, ascends_front, below_all, counts_at_most}
 use Rattle.bit_blocks.proofs.Between.{after_range, before_range, below_up, in_between}
 use Rattle.bit_blocks.proofs.Bits.{has_ones, in_range, item_filled, when_false, when_true}
 use Rattle.bit_blocks.proofs.Edits.{has_append}
 use Rattle.bit_blocks.proofs.Merging.{made_none, to_end}
-use Rattle.bit_blocks.proofs.Runs.{ascends_range, has_range, has_runs}
+use Rattle.bit_blocks.proofs.Runs.{ascends_range, has_range}
 
 -- the items of a range are those that a run of it has
 in_between_range : (first last a n k : ℕ) → a ≡ first → a + n ≡ last + 1 → (leb a k && nat_lt k (a + n)) ≡ is_between first last k
@@ -88,21 +86,6 @@ all_lost xs ys first last h low high is k = ap (λ l. has l k) is ∙ sym (elim 
   | inl less ↦ ap (λ b. has xs k && not b) (in_between first last k (omega arith) (omega arith)) ∙ and-false (has xs k)
   | inr more ↦ ap (λ b. b && not (is_between first last k)) (below_all 0 65536 xs k h more)
 ])
-
--- ---- a range as a run
-
--- whether a number is in the only run
-has_one_run : (first last k : ℕ) → first ≤ last → last < 65536 → has (run_numbers (record { first = first; last = last } ∷ [])) k ≡ is_between first last k
-has_one_run first last k ordered most =
-    has_runs 0 (record { first = first; last = last } ∷ []) k (omega arith, ordered, most, tt) ∙ or-false (is_between first last k)
-
--- the numbers of one run put into others
-pub run_gained : (xs ys : List ℕ) (first last : ℕ) → first ≤ last → last < 65536 → Combines (made_by Union) xs (run_numbers (record { first = first; last = last } ∷ [])) ys → GainsBetween xs ys first last
-run_gained xs ys first last ordered most made k = made k ∙ ap (λ b. has xs k || b) (has_one_run first last k ordered most) ∙ or_comm (has xs k) (is_between first last k)
-
--- and taken out of them
-pub run_lost : (xs ys : List ℕ) (first last : ℕ) → first ≤ last → last < 65536 → Combines (made_by Difference) xs (run_numbers (record { first = first; last = last } ∷ [])) ys → LosesBetween xs ys first last
-run_lost xs ys first last ordered most made k = made k ∙ ap (λ b. has xs k && not b) (has_one_run first last k ordered most)
 
 -- ---- a range in the place of the numbers of a list that are in it
 

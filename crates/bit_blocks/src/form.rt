@@ -453,7 +453,6 @@ pub(crate) fn remove(form: &mut Form, number: u16, many: bool) -> Result<(), All
 
 // Puts in the numbers from `first` to `last`. Where memory is refused, the numbers are as they were. All numbers are one
 // run.
-#[tactic(auto, using(crate::proofs::Ranges::run_gained))]
 pub(crate) fn insert_range(form: &mut Form, first: u16, last: u16) -> Result<(), AllocError>
     requires form { IsForm form.old }
     requires ordered { first ≤ last }
@@ -493,7 +492,6 @@ pub(crate) fn insert_range(form: &mut Form, first: u16, last: u16) -> Result<(),
 
 // Takes out the numbers from `first` to `last`. Where `many` says so, more than `LISTED` numbers stay. Where memory is
 // refused, the numbers are as they were. Where no number stays, no memory is taken.
-#[tactic(auto, using(crate::proofs::Ranges::run_lost))]
 pub(crate) fn remove_range(
     form: &mut Form,
     first: u16,
@@ -524,7 +522,8 @@ pub(crate) fn remove_range(
             }
         }
         Form::Ranged(runs) => {
-            *form = combined_runs(alloc, runs, &[Run { first, last }], Operation::Difference)?;
+            let made = ranged::without_run(alloc, runs, Run { first, last })?;
+            *form = form_of_runs(made)?;
             return Ok(());
         }
     }

@@ -1,8 +1,8 @@
 //! Runs of numbers in a slice.
-ghost use Rattle.std.specs.Prelude.{◌≡◌, ◌≤◌, ◌+◌, ◌-◌, ◌↔◌, IfOk, IsTrue, length, slice_get};
+ghost use Rattle.std.specs.Prelude.{◌≡◌, ◌≤◌, ◌+◌, ◌-◌, ◌↔◌, ◌++◌, IfOk, IsTrue, OnOk, length, slice_get};
 ghost use Rattle.std.specs.List.{range_with_len};
-ghost use Rattle.bit_blocks.specs.Numbers.{Ascends, GainsBetween, count_below, count_where, has};
-ghost use Rattle.bit_blocks.specs.Runs.{AreRuns, run_numbers};
+ghost use Rattle.bit_blocks.specs.Numbers.{Ascends, GainsBetween, LosesBetween, count_below, count_where, has};
+ghost use Rattle.bit_blocks.specs.Runs.{AreRuns, run_below, run_numbers};
 ghost use Rattle.bit_blocks.specs.RunPlaces.{Absorbs, IsBegunBefore, IsEndedBefore};
 
 use crate::runs_left::RunsLeft;
@@ -200,6 +200,45 @@ pub(crate) fn with_run(alloc: Global, runs: &[Run], run: Run) -> Result<Vec<Run>
     let mut made = Vec::with_capacity(alloc, from + 1 + (runs.len() - upto))?;
     made.extend_from_slice(&runs[..from])?;
     made.push(all)?;
+    made.extend_from_slice(&runs[upto..])?;
+    Ok(made)
+}
+
+// Appends the run of the numbers from `first` on that are below `upto`, if there are any.
+pub(crate) fn push_run(made: &mut Vec<Run>, first: usize, upto: usize) -> Result<(), AllocError>
+    requires { upto ≤ 65536 }
+    ensures { OnOk result (made.new.items ≡ made.old.items ++ run_below first upto) }
+{
+    if first < upto {
+        made.push(Run {
+            first: first as u16,
+            last: (upto - 1) as u16,
+        })?;
+    }
+    Ok(())
+}
+
+// The runs without the numbers of one. Requires that the runs are in order and apart.
+pub(crate) fn without_run(alloc: Global, runs: &[Run], run: Run) -> Result<Vec<Run>, AllocError>
+    requires runs { AreRuns runs.now }
+    requires run { run.first ≤ run.last }
+    ensures runs { IfOk result (λ made. AreRuns made.items) }
+    ensures loses { IfOk result (λ made. LosesBetween (run_numbers runs.now) (run_numbers made.items) run.first run.last) }
+{
+    let from = ended_before(runs, run.first);
+    let upto = place_of(runs, run.last);
+    if upto <= from {
+        let copy = copied(alloc, runs)?;
+        return Ok(copy);
+    }
+    let mut made = Vec::with_capacity(alloc, runs.len() + 1)?;
+    made.extend_from_slice(&runs[..from])?;
+    push_run(&mut made, runs[from].first as usize, run.first as usize)?;
+    push_run(
+        &mut made,
+        run.last as usize + 1,
+        runs[upto - 1].last as usize + 1,
+    )?;
     made.extend_from_slice(&runs[upto..])?;
     Ok(made)
 }

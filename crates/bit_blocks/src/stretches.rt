@@ -1,14 +1,14 @@
 //! Two lists of runs combined. They are read a stretch at a time, the numbers up to the next one where a run of either list
 //! begins or ends: each list has all of these, or none.
-ghost use Rattle.std.specs.Prelude.{◌≡◌, ◌≤◌, ◌<◌, ◌++◌, IfOk, OnOk, length};
+ghost use Rattle.std.specs.Prelude.{◌≤◌, ◌<◌, IfOk, length};
 ghost use Rattle.bit_blocks.specs.Numbers.{Combines};
 ghost use Rattle.bit_blocks.specs.Operation.{made_by};
-ghost use Rattle.bit_blocks.specs.Runs.{AreRuns, run_below, run_numbers};
+ghost use Rattle.bit_blocks.specs.Runs.{AreRuns, run_numbers};
 ghost use Rattle.bit_blocks.specs.RunPlaces.{EndBefore, IsEndedBefore, IsStretch};
 
 use crate::mapped::COUNT;
 use crate::operation::Operation;
-use crate::ranged::Run;
+use crate::ranged::{Run, push_run};
 use std::alloc::{AllocError, Global};
 
 // Whether `at` is in the runs, and a number above it: those in between are in the runs too, or none of them is. Requires that
@@ -44,20 +44,6 @@ fn advanced(runs: &[Run], i: usize, upto: usize) -> usize
         next += 1;
     }
     next
-}
-
-// Appends the run of the numbers from `first` on that are below `upto`, if there are any.
-fn push_run(made: &mut Vec<Run>, first: usize, upto: usize) -> Result<(), AllocError>
-    requires { upto ≤ 65536 }
-    ensures { OnOk result (made.new.items ≡ made.old.items ++ run_below first upto) }
-{
-    if first < upto {
-        made.push(Run {
-            first: first as u16,
-            last: (upto - 1) as u16,
-        })?;
-    }
-    Ok(())
 }
 
 // What an operation makes of two lists of runs. The last run, of the numbers from `first` on that are below `upto`, is appended

@@ -29,6 +29,8 @@ mod many;
 #[cfg(test)]
 mod ranges;
 #[cfg(test)]
+mod refusals;
+#[cfg(test)]
 mod refused;
 #[cfg(test)]
 mod sets;

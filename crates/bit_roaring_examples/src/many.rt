@@ -3,11 +3,16 @@ use crate::{check, ok};
 use bit_roaring::{Operation, RoaringSet};
 use std::process::Abort;
 
+// Whether a step divides a key.
+fn divides(step: u32, key: u32) -> bool {
+    step != 0 && key % step == 0
+}
+
 // The number 7 of each block below 600 whose key a step divides.
 fn sevens(rt: &(impl Abort + AllocGlobal), step: u32) -> RoaringSet {
     let mut set = RoaringSet::new(rt.alloc());
     for key in 0..600u32 {
-        if key % step == 0 {
+        if divides(step, key) {
             check(
                 rt,
                 ok(rt, set.insert(key.wrapping_mul(65536).wrapping_add(7))),
@@ -30,7 +35,7 @@ fn keeps(operation: Operation, left: bool, right: bool) -> bool {
 // Whether a set is what an operation makes of two of these sets: as many numbers, and each of them.
 fn is_made(set: &RoaringSet, operation: Operation, left: u32, right: u32, count: u64) -> bool {
     for key in 0..600u32 {
-        let is_in = keeps(operation, key % left == 0, key % right == 0);
+        let is_in = keeps(operation, divides(left, key), divides(right, key));
         if set.contains(key.wrapping_mul(65536).wrapping_add(7)) != is_in {
             return false;
         }

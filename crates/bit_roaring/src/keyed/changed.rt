@@ -33,7 +33,7 @@ pub(crate) fn combine(
     let alloc = *blocks.allocator();
     let keys = changed_keys(alloc, blocks, others, operation)?;
     let made = made_each(alloc, blocks, others, &keys, operation)?;
-    put_all(blocks, made)
+    put_all(blocks, made, operation)
 }
 
 // The keys of the blocks that an operation may change, which keeps a number of the left list alone.
@@ -50,24 +50,10 @@ fn changed_keys(
     ensures ascends { IfOk result (λ keys. Ascends keys.items) }
     ensures others { IfOk result (λ keys. (k : ℕ) → has keys.items k ≡ false → Combines (made_by operation) (block_at left.now k) (block_at right.now k) (block_at left.now k)) }
 {
-    if operation.keeps_right() {
+    if operation.keeps_right() || right.len() <= left.len() {
         return keys_of(alloc, right);
     }
-    common_keys(alloc, left, right)
-}
-
-// The keys that two lists of blocks have in common. Each key of the shorter list is looked for in the other.
-fn common_keys(alloc: Global, blocks: &[Keyed], others: &[Keyed]) -> Result<Vec<u16>, AllocError>
-    requires left { AreKeyed blocks.now }
-    requires right { AreKeyed others.now }
-    ensures ascends { IfOk result (λ keys. Ascends keys.items) }
-    ensures all { IfOk result (λ keys. (k : ℕ) → has keys.items k ≡ false → (block_at blocks.now k ≡ []) ⊎ (block_at others.now k ≡ [])) }
-{
-    if others.len() < blocks.len() {
-        keys_in(alloc, others, blocks)
-    } else {
-        keys_in(alloc, blocks, others)
-    }
+    keys_in(alloc, left, right)
 }
 
 // The keys of some blocks that others have too.
@@ -110,9 +96,13 @@ fn made_each(
     Ok(made)
 }
 
-// Puts each block in the place of the one with its key, or takes that one out where the new one has no number. Where
-// memory is refused, the blocks are as they were.
-fn put_all(blocks: &mut Vec<Keyed>, made: Vec<Keyed>) -> Result<(), AllocError>
+// Puts each block that an operation made in the place of the one with its key, or takes that one out where the new one
+// has no number. Where memory is refused, the blocks are as they were. Requires that the keys ascend.
+fn put_all(
+    blocks: &mut Vec<Keyed>,
+    made: Vec<Keyed>,
+    operation: Operation,
+) -> Result<(), AllocError>
     requires keyed { AreKeyed blocks.old.items }
     requires keys { Ascends (keys_of made.items) }
     requires ascend { All (λ b. Ascends b.block) made.items }
@@ -120,20 +110,23 @@ fn put_all(blocks: &mut Vec<Keyed>, made: Vec<Keyed>) -> Result<(), AllocError>
     ensures replaces { OnOk result (ReplacesAll blocks.old.items blocks.new.items made.items) }
     ensures refused { OnErr result (blocks.new.items ≡ blocks.old.items) }
 {
-    if moves_few(blocks, &made) {
+    if moves_few(blocks, &made, operation) {
         replace_all(blocks, made)
     } else {
         merge_all(blocks, made)
     }
 }
 
-// Whether few of the blocks that are put in the place of others come or go.
-fn moves_few(blocks: &[Keyed], made: &[Keyed]) -> bool
+// Whether few of the blocks that an operation made come or go. One that has a number comes only where the operation keeps
+// a number of the right list alone, so for others it is not looked for.
+fn moves_few(blocks: &[Keyed], made: &[Keyed], operation: Operation) -> bool
     requires { AreKeyed blocks.now }
 {
     let mut count = 0usize;
     for keyed in made {
-        if get(blocks, keyed.key).is_some() == keyed.block.is_empty() {
+        let is_empty = keyed.block.is_empty();
+        let may_move = is_empty || operation.keeps_right();
+        if may_move && get(blocks, keyed.key).is_some() == is_empty {
             count = count.saturating_add(1);
         }
         if count > FEW {

@@ -17,7 +17,8 @@ use Rattle.bit_blocks.specs.declared.operation.Operation.{Operation}
 use Rattle.bit_blocks.specs.declared.ranged.Run.{Run}
 use Rattle.bit_blocks.proofs.Runs.{has_runs}
 use Rattle.bit_addressing.proofs.lists.Put.{length-put as length_put, put_before, put_after, put_inside}
-use Rattle.bit_blocks.proofs.Ascending.{at_least, below_all, below_append, counts_first, none_below, same_numbers}
+use Rattle.bit_blocks.proofs.Ascending.{at_least, below_all, below_append, counts_first, few_numbers, none_below, same_numbers}
+use Rattle.bit_blocks.proofs.Edits.{length_gained, length_lost}
 use Rattle.bit_blocks.proofs.Those.{ascends_those, has_those, those_empty, those_joined, those_same}
 use Rattle.bit_blocks.proofs.Counting.{count_those}
 
@@ -28,6 +29,9 @@ ones_those bits n size = ap (λ m. filter (λ k. get_or bits k false) (range_wit
 
 pub ascends_ones : (bits : List Bool) → AreBits bits → Ascends (ones_of bits)
 ascends_ones bits size = subst Ascends (sym (ones_those bits 65536 size)) (ascends_those (λ k. get_or bits k false) 0 65536 65536 (omega arith))
+
+pub few_ones : (bits : List Bool) → AreBits bits → length (ones_of bits) ≤ 65536
+few_ones bits size = let few = few_numbers 0 65536 (ones_of bits) (omega arith) (ascends_ones bits size) in omega arith
 
 pub has_ones : (bits : List Bool) (k : ℕ) → AreBits bits → has (ones_of bits) k ≡ get_or bits k false
 has_ones bits k size = ap (λ l. has l k) (ones_those bits 65536 size) ∙ elim (cases_lt k 65536) [
@@ -202,6 +206,28 @@ length_set [] zero b = refl
 length_set [] (suc i) b = refl
 length_set (x ∷ l) zero b = refl
 length_set (x ∷ l) (suc i) b = ap suc (length_set l i b)
+
+-- a number that is written as it was
+as_it_was : (xs : List ℕ) (n k : ℕ) (b : Bool) → has xs n ≡ b → cond (nat_eq n k) b (has xs k) ≡ has xs k
+as_it_was xs n k b there = elim (cases_eq n k) [
+  | inl same ↦ ap (λ t. cond t b (has xs k)) (eq-eqb n k same) ∙ sym there ∙ ap (has xs) same
+  | inr other ↦ ap (λ t. cond t b (has xs k)) (ne_eqb n k other)
+]
+
+-- how many numbers a list has after one was put in, taken out or left
+length_written : (xs ys : List ℕ) (n : ℕ) (was is : Bool) → Ascends xs → Ascends ys → n < 65536 → has xs n ≡ was → ((k : ℕ) → has ys k ≡ cond (nat_eq n k) is (has xs k))
+    → length ys + cond {A = ℕ} was 1 0 ≡ length xs + cond {A = ℕ} is 1 0
+length_written xs ys n true true h g low at made = ap (λ l. length l + 1) (same_numbers 0 65536 ys xs g h (λ k. made k ∙ as_it_was xs n k true at))
+length_written xs ys n false false h g low at made = ap (λ l. length l + 0) (same_numbers 0 65536 ys xs g h (λ k. made k ∙ as_it_was xs n k false at))
+length_written xs ys n false true h g low at made = let e = length_gained xs ys n h g low at (λ k. made k ∙ when_true (nat_eq n k) (has xs k)) in omega arith
+length_written xs ys n true false h g low at made = let e = length_lost xs ys n h g at (λ k. made k ∙ when_false (nat_eq n k) (has xs k)) in omega arith
+
+-- how many items are true after one was written
+pub count_set : (bits : List Bool) (n : ℕ) (was is : Bool) → AreBits bits → n < 65536 → was ≡ has (ones_of bits) n → length (ones_of (set bits n is)) + cond {A = ℕ} was 1 0 ≡ length (ones_of bits) + cond {A = ℕ} is 1 0
+count_set bits n was is size low at =
+    let kept : AreBits (set bits n is) = length_set bits n is ∙ size in
+    length_written (ones_of bits) (ones_of (set bits n is)) n was is (ascends_ones bits size) (ascends_ones (set bits n is) kept) low (sym at)
+    (λ k. has_ones (set bits n is) k kept ∙ item_set bits n is k (omega arith) ∙ ap (cond (nat_eq n k) is) (sym (has_ones bits k size)))
 
 pub one_changed : (op : Operation) (old bits new : List Bool) (xs : List ℕ) (i n : ℕ) (bit : Bool) → ((b : Bool) → made_by op b false ≡ b) → Ascends xs → i < length xs → get_or xs i 0 ≡ n → n < 65536
     → AreChanged op old bits xs i → bit ≡ made_by op (has (ones_of bits) n) true → new ≡ set bits n bit → AreChanged op old new xs (i + 1)

@@ -1,22 +1,24 @@
 //! A set of numbers below 65536 that takes little memory.
-ghost use Rattle.std.specs.Prelude.{◌≡◌, ◌≤◌, ◌<◌, ◌+◌, ◌-◌, ◌↔◌, [], IfOk, IfSome, IsTrue, OnErr, OnOk, length, not, slice_get};
+ghost use Rattle.std.specs.Prelude.{◌≡◌, ◌≤◌, ◌<◌, ◌+◌, ◌-◌, ◌↔◌, Bool, [], IfOk, IfSome, IsTrue, OnErr, OnOk, false, length, not, slice_get};
 ghost use Rattle.std.specs.Iterator.{YieldsFirst, YieldsLast};
 ghost use Rattle.std.specs.Iterator.Runs.{YieldsInOrder, YieldsInReverse};
 ghost use Rattle.std.specs.List.{range_with_len};
 ghost use Rattle.bit_slice.specs.BitSlice.{len_of, list_of};
 ghost use Rattle.bit_slice.specs.Places.{ones_of};
+ghost use Rattle.bit_blocks.specs.Bits.{AreBits};
 ghost use Rattle.bit_blocks.specs.BlockLeft.{block_left};
 ghost use Rattle.bit_blocks.specs.Numbers.{Ascends, Combines, Gains, GainsBetween, Loses, LosesBetween, count_below, count_where, has, numbers_between};
 ghost use Rattle.bit_blocks.specs.Operation.{made_by};
 ghost use Rattle.bit_blocks.specs.Form.{IsForm, numbers_of};
 ghost use Rattle.bit_blocks.specs.Runs.{AreRuns, run_numbers, runs_of};
 
-use crate::form;
 use crate::form::Form;
 use crate::iter::BlockIter;
 use crate::listed::LISTED;
+use crate::mapped::Bits;
 use crate::operation::Operation;
 use crate::ranged::Run;
+use crate::{form, mapped};
 use bit_addressing::Lsb0;
 use bit_containers::{BitSlice, BitVec};
 use std::alloc::{AllocError, Global};
@@ -88,8 +90,9 @@ impl Block {
         requires { Ascends numbers.items }
         ensures numbers { IfOk result (λ b. b ≡ numbers.items) }
     {
+        let count = numbers.len();
         let form = form::of_list(numbers)?;
-        Ok(Block::of(form))
+        Ok(Block { form, count })
     }
 
     /// The numbers from `first` to `last`, as one run. Requires that `first` is at most `last`.
@@ -106,8 +109,9 @@ impl Block {
         requires { length bits.list ≡ 65536 }
         ensures numbers { IfOk result (λ b. b ≡ ones_of bits.list) }
     {
-        let form = form::form_of(alloc, bits)?;
-        Ok(Block::of(form))
+        let count = mapped::count(&bits);
+        let form = form::form_of_counted(alloc, bits, count)?;
+        Ok(Block { form, count })
     }
 
     /// The set of the numbers of runs. Requires that these are in order and apart. Takes no memory.
@@ -253,8 +257,41 @@ impl Block {
         ensures members { IfOk result (λ made. Combines (made_by operation) self.now other.now made) }
         ensures ascends { IfOk result (λ made. Ascends made) }
     {
-        let form = form::combined(alloc, &self.form, &other.form, operation)?;
-        Ok(Block::of(form))
+        match (&self.form, &other.form) {
+            (Form::Mapped(bits), Form::Listed(numbers)) if operation.keeps_left() => {
+                Block::changed(alloc, bits, self.count, numbers, operation)
+            }
+            (Form::Listed(numbers), Form::Mapped(bits)) if operation.keeps_right() => {
+                Block::changed(alloc, bits, other.count, numbers, operation)
+            }
+            _ => {
+                let form = form::combined(alloc, &self.form, &other.form, operation)?;
+                Ok(Block::of(form))
+            }
+        }
+    }
+
+    // Like `combined`, of bits of which `count` are true and a list, by an operation that leaves each number that is not of
+    // the list as it is.
+    #[tactic(auto, using(crate::proofs::Forms::ascends_form))]
+    fn changed(
+        alloc: Global,
+        bits: &Bits,
+        count: usize,
+        numbers: &[u16],
+        operation: Operation,
+    ) -> Result<Self, AllocError>
+        requires size { AreBits bits.now.list }
+        requires count { count ≡ length (ones_of bits.now.list) }
+        requires numbers { Ascends numbers.now }
+        requires keeps { (b : Bool) → made_by operation b false ≡ b }
+        ensures members { IfOk result (λ made. Combines (made_by operation) (ones_of bits.now.list) numbers.now made) }
+        ensures ascends { IfOk result (λ made. Ascends made) }
+    {
+        let mut bits = mapped::copied(bits)?;
+        let count = mapped::change_list(&mut bits, count, numbers, operation);
+        let form = form::form_of_counted(alloc, bits, count)?;
+        Ok(Block { form, count })
     }
 
     /// The count of numbers that are in another set too. Takes no memory.
@@ -378,8 +415,12 @@ impl Clone for Block {
     ghost is_infallible = { λ _. ⊥ };
 
     /// A copy, in the same form.
+    #[tactic(auto, using(crate::proofs::Forms::same_count))]
     fn clone(&self) -> Result<Self, AllocError> {
         let form = form::copied(&self.form)?;
-        Ok(Block::of(form))
+        Ok(Block {
+            form,
+            count: self.count,
+        })
     }
 }

@@ -128,7 +128,7 @@ fn bits_of_list(alloc: Global, numbers: &[u16]) -> Result<Bits, AllocError>
     ensures numbers { IfOk result (λ bits. ones_of bits.list ≡ numbers.now) }
 {
     let mut bits = mapped::empty(alloc)?;
-    mapped::change_list(&mut bits, numbers, Operation::Union);
+    let _count = mapped::change_list(&mut bits, 0, numbers, Operation::Union);
     Ok(bits)
 }
 
@@ -145,13 +145,24 @@ fn bits_of_runs(alloc: Global, runs: &[Run]) -> Result<Bits, AllocError>
 }
 
 // Bits as a list where that takes less, and else as they are.
-#[tactic(auto, using(crate::proofs::Bits::ascends_listed))]
 pub(crate) fn form_of(alloc: Global, bits: Bits) -> Result<Form, AllocError>
     requires { AreBits bits.list }
     ensures numbers { IfOk result (λ form. numbers_of form ≡ ones_of bits.list) }
     ensures form { IfOk result (λ form. IsForm form) }
 {
-    if mapped::count(&bits) <= LISTED {
+    let count = mapped::count(&bits);
+    form_of_counted(alloc, bits, count)
+}
+
+// Like `form_of`, of bits of which `count` are true.
+#[tactic(auto, using(crate::proofs::Bits::ascends_listed))]
+pub(crate) fn form_of_counted(alloc: Global, bits: Bits, count: usize) -> Result<Form, AllocError>
+    requires size { AreBits bits.list }
+    requires count { count ≡ length (ones_of bits.list) }
+    ensures numbers { IfOk result (λ form. numbers_of form ≡ ones_of bits.list) }
+    ensures form { IfOk result (λ form. IsForm form) }
+{
+    if count <= LISTED {
         let numbers = mapped::list_of(alloc, &bits)?;
         return Ok(Form::Listed(numbers));
     }
@@ -327,8 +338,8 @@ fn changed_by_list(
     ensures form { IfOk result (λ made. IsForm made) }
 {
     let mut bits = bits_of(alloc, form)?;
-    mapped::change_list(&mut bits, numbers, operation);
-    form_of(alloc, bits)
+    let count = mapped::change_list(&mut bits, count(form), numbers, operation);
+    form_of_counted(alloc, bits, count)
 }
 
 // Like `combined`, of two lists of runs.

@@ -1,5 +1,5 @@
 //! Numbers below 65536 as the true bits of a vector of that length.
-ghost use Rattle.std.specs.Prelude.{◌≡◌, ◌≤◌, ◌<◌, ◌||◌, ◌↔◌, ℕ, Bool, Some, true, [], IfOk, IsTrue, false, length, slice_get};
+ghost use Rattle.std.specs.Prelude.{◌≡◌, ◌≤◌, ◌<◌, ◌||◌, ◌↔◌, ℕ, Bool, Some, true, [], IfOk, IsTrue, false, length, set, slice_get};
 ghost use Rattle.bit_slice.specs.Places.{ones_of};
 ghost use Rattle.bit_blocks.specs.Bits.{AreBits};
 ghost use Rattle.bit_blocks.specs.Numbers.{Ascends, Combines, Gains, GainsBetween, Loses, LosesBetween, count_below, count_where, has};
@@ -125,33 +125,42 @@ pub(crate) fn remove_range(bits: &mut Bits, first: u16, last: u16)
     BitListMut::fill_range(bits, first as usize..last as usize + 1, false);
 }
 
-// Whether an operation keeps a number of the right set, where the bits are the left one. The number's bit is read only
-// where it decides.
-fn keeps_of_right(bits: &Bits, number: u16, operation: Operation) -> bool
-    requires { AreBits bits.now.list }
-    ensures { result ≡ made_by operation (has (ones_of bits.now.list) number) true }
+// Puts a number in, takes it out or leaves it, as an operation says of a number of the right set, where the bits are the
+// left one. Returns how many numbers there are then, of `count` before.
+#[tactic(auto, using(crate::proofs::Bits::count_set, crate::proofs::Bits::few_ones))]
+fn change(bits: &mut Bits, count: usize, number: u16, operation: Operation) -> usize
+    requires size { AreBits bits.old.list }
+    requires count { count ≡ length (ones_of bits.old.list) }
+    ensures list { bits.new.list ≡ set bits.old.list number (made_by operation (has (ones_of bits.old.list) number) true) }
+    ensures count { result ≡ length (ones_of bits.new.list) }
 {
-    match operation {
-        Operation::Union => true,
-        Operation::Intersection => contains(bits, number),
-        Operation::Difference => false,
-        Operation::SymmetricDifference => !contains(bits, number),
-    }
+    let was_there = contains(bits, number);
+    let is_there = operation.keeps(was_there, true);
+    BitListMut::set(bits, number as usize, is_there);
+    count + is_there as usize - was_there as usize
 }
 
-// Puts numbers in, takes them out or flips them, as an operation says. Requires that they ascend, and that the operation
-// leaves each other number as it is.
-pub(crate) fn change_list(bits: &mut Bits, numbers: &[u16], operation: Operation)
+// Puts numbers in, takes them out or flips them, as an operation says, and returns how many numbers there are then, of
+// `count` before. Requires that the numbers ascend, and that the operation leaves each other number as it is.
+pub(crate) fn change_list(
+    bits: &mut Bits,
+    count: usize,
+    numbers: &[u16],
+    operation: Operation,
+) -> usize
     requires size { AreBits bits.old.list }
+    requires count { count ≡ length (ones_of bits.old.list) }
     requires numbers { Ascends numbers.now }
     requires keeps { (b : Bool) → made_by operation b false ≡ b }
     ensures size { AreBits bits.new.list }
     ensures members { Combines (made_by operation) (ones_of bits.old.list) numbers.now (ones_of bits.new.list) }
+    ensures count { result ≡ length (ones_of bits.new.list) }
 {
+    let mut count = count;
     for number in numbers {
-        let bit = keeps_of_right(bits, *number, operation);
-        BitListMut::set(bits, *number as usize, bit);
+        count = change(bits, count, *number, operation);
     }
+    count
 }
 
 // Puts the numbers of runs in.

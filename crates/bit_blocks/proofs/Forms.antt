@@ -1,5 +1,6 @@
 -- What follows for the numbers of a form, and which changes leave it a good one.
-use Rattle.std.proofs.Common.{◌≡◌, ℕ, ◌+◌, ◌-◌, ◌<◌, ◌≤◌, Bool, true, false, List, length, sym, ◌∙◌, ap, inl, inr, arith}
+use Rattle.std.proofs.Common.{◌≡◌, ℕ, ◌+◌, ◌-◌, ◌<◌, ◌≤◌, Bool, true, false, ◌||◌, List, length, sym, ◌∙◌, ap, inl, inr, arith}
+use Rattle.std.proofs.Math.Bool.{or-true}
 use Rattle.std.proofs.lemmas.Bool.{cases_Bool}
 use Rattle.bit_slice.specs.Places.{ones_of}
 use Rattle.bit_blocks.specs.Bits.{AreBits}
@@ -15,7 +16,7 @@ use Rattle.bit_blocks.specs.declared.ranged.Run.{Run}
 use Rattle.bit_blocks.proofs.Ascending.{few_numbers}
 use Rattle.bit_blocks.proofs.Bits.{ascends_ones}
 use Rattle.bit_blocks.proofs.Runs.{ascends_runs}
-use Rattle.bit_blocks.proofs.Sizes.{count_cleared, count_filled, few_combined, few_of_left, no_fewer_filled, no_fewer_gained, no_more_cleared, no_more_lost, one_less_lost, one_more_gained}
+use Rattle.bit_blocks.proofs.Sizes.{count_cleared, count_filled, few_combined, few_in_either, few_of_left, no_fewer_filled, no_fewer_gained, no_more_cleared, no_more_lost, one_less_lost, one_more_gained}
 
 -- the numbers of a form ascend
 pub ascends_form : (form : Form) → IsForm form → Ascends (numbers_of form)
@@ -108,6 +109,16 @@ pub mapped_cleared : (xs ys : List Bool) (r : Run) → AreMapped xs → 4096 + c
     → AreBits ys → LosesBetween (ones_of xs) (ones_of ys) r.first r.last → AreMapped ys
 mapped_cleared xs ys r h many ordered most size loses =
     let less = count_cleared (ones_of xs) (ones_of ys) r (ascends_ones xs h.size) (ascends_ones ys size) ordered most loses in
+    record { size = size; many = omega arith }
+
+-- bits stay bits where more numbers are left than a list may have, even if all of another list are taken out
+pub mapped_changed : (op : Operation) (xs ys : List Bool) (numbers : List ℕ) → AreMapped xs → AreBits ys → Ascends numbers → made_by op true false ≡ true → 4096 + length numbers < length (ones_of xs)
+    → Combines (made_by op) (ones_of xs) numbers (ones_of ys) → AreMapped ys
+mapped_changed op xs ys numbers h size up keeps many made =
+    let least = few_in_either (ones_of ys) numbers (ones_of xs) (ascends_ones ys size) up (ascends_ones xs h.size) (λ k there. elim (cases_Bool (has numbers k)) [
+      | inl in_list ↦ ap (λ b. has (ones_of ys) k || b) in_list ∙ or-true (has (ones_of ys) k)
+      | inr out ↦ ap (λ b. b || has numbers k) (made k ∙ ap (λ b. made_by op b (has numbers k)) there ∙ ap (made_by op true) out ∙ keeps)
+    ]) in
     record { size = size; many = omega arith }
 
 -- ---- the form that takes the fewest bytes

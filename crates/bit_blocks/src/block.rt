@@ -1,5 +1,5 @@
 //! A set of numbers below 65536 that takes little memory.
-ghost use Rattle.std.specs.Prelude.{◌≡◌, ◌≤◌, ◌<◌, ◌+◌, ◌-◌, ◌↔◌, Bool, [], IfOk, IfSome, IsTrue, OnErr, OnOk, false, length, not, slice_get};
+ghost use Rattle.std.specs.Prelude.{◌≡◌, ◌≤◌, ◌<◌, ◌+◌, ◌-◌, ◌↔◌, Bool, [], IfOk, IfSome, IsTrue, MatchResult, OnErr, OnOk, false, length, not, slice_get};
 ghost use Rattle.std.specs.Iterator.{YieldsFirst, YieldsLast};
 ghost use Rattle.std.specs.Iterator.Runs.{YieldsInOrder, YieldsInReverse};
 ghost use Rattle.std.specs.List.{range_with_len};
@@ -12,6 +12,7 @@ ghost use Rattle.bit_blocks.specs.Operation.{made_by};
 ghost use Rattle.bit_blocks.specs.Form.{IsForm, numbers_of};
 ghost use Rattle.bit_blocks.specs.Runs.{AreRuns, run_numbers, runs_of};
 
+use crate::bit_block::BitBlock;
 use crate::form::Form;
 use crate::iter::BlockIter;
 use crate::listed::LISTED;
@@ -369,6 +370,27 @@ impl Block {
         Ok(bits)
     }
 
+    /// The same numbers, to be changed without memory, where they are kept as bits, and else the block in Err.
+    pub fn into_bits(self) -> Result<BitBlock, Self>
+        ensures { MatchResult result (λ bits. bits ≡ self) (λ block. block ≡ self) }
+    {
+        let Block { form, count } = self;
+        match form {
+            Form::Mapped(bits) => Ok(BitBlock { bits, count }),
+            form => Err(Block { form, count }),
+        }
+    }
+
+    /// The block whose bits `into_bits` gave.
+    pub fn from_bit_block(bits: BitBlock) -> Self
+        ensures { result ≡ bits }
+    {
+        Block {
+            form: Form::Mapped(bits.bits),
+            count: bits.count,
+        }
+    }
+
     /// The numbers as runs: as many numbers as possible in each.
     #[tactic(auto, using(crate::proofs::Joined::are_runs_of))]
     pub fn to_runs(&self, alloc: Global) -> Result<Vec<Run>, AllocError>
@@ -393,7 +415,7 @@ impl Block {
         ensures value { result ≡ length (runs_of self.now) }
         ensures few { result ≤ 32768 }
     {
-        form::count_runs(&self.form)
+        form::count_runs(&self.form, self.count)
     }
 
     /// Keeps the numbers in the form that takes the least memory: runs where they are fewer than half of the numbers, and
@@ -403,7 +425,7 @@ impl Block {
     pub fn optimize(&mut self) -> Result<(), AllocError>
         ensures { self.new ≡ self.old }
     {
-        form::optimize(&mut self.form)
+        form::optimize(&mut self.form, self.count)
     }
 }
 

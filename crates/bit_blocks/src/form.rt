@@ -737,16 +737,17 @@ pub(crate) fn copied(form: &Form) -> Result<Form, AllocError>
     }
 }
 
-// The count of runs, where as many numbers as possible are in each.
+// The count of runs of `count` numbers, where as many numbers as possible are in each.
 #[tactic(auto, using(crate::proofs::Joined::count_again, crate::proofs::Joined::few_runs_of, crate::proofs::Forms::ascends_form))]
-pub(crate) fn count_runs(form: &Form) -> usize
-    requires { IsForm form.now }
+pub(crate) fn count_runs(form: &Form, count: usize) -> usize
+    requires form { IsForm form.now }
+    requires count { count ≡ length (numbers_of form.now) }
     ensures value { result ≡ length (runs_of (numbers_of form.now)) }
     ensures few { result ≤ 32768 }
 {
     match form {
         Form::Listed(numbers) => listed::count_runs(numbers),
-        Form::Mapped(bits) => mapped::count_runs(bits),
+        Form::Mapped(bits) => mapped::count_runs(bits, count),
         Form::Ranged(runs) => runs.len(),
     }
 }
@@ -766,15 +767,16 @@ pub fn runs_pay(count: usize, runs: usize) -> bool
     }
 }
 
-// Keeps the numbers in the form that takes the fewest bytes. Where memory is refused, they are kept as they were.
+// Keeps `count` numbers in the form that takes the fewest bytes. Where memory is refused, they are kept as they were.
 #[tactic(auto, using(crate::proofs::Forms::ascends_form, crate::proofs::Forms::smallest_same))]
-pub(crate) fn optimize(form: &mut Form) -> Result<(), AllocError>
-    requires { IsForm form.old }
+pub(crate) fn optimize(form: &mut Form, count: usize) -> Result<(), AllocError>
+    requires form { IsForm form.old }
+    requires count { count ≡ length (numbers_of form.old) }
     ensures same { numbers_of form.new ≡ numbers_of form.old }
     ensures smallest { OnOk result (IsSmallest form.new) }
     ensures form { IsForm form.new }
 {
-    if runs_pay(count(form), count_runs(form)) {
+    if runs_pay(count, count_runs(form, count)) {
         make_ranged(form)
     } else {
         make_plain(form)

@@ -1,6 +1,7 @@
 //! Sets of numbers below 65536, kept as a list, as bits or as runs, whichever is small.
 #![tactic(auto)]
 
+mod bit_block;
 mod block;
 mod form;
 mod iter;
@@ -12,6 +13,7 @@ mod ranged;
 mod runs_left;
 mod stretches;
 
+pub use bit_block::BitBlock;
 pub use block::Block;
 pub use form::runs_pay;
 pub use iter::BlockIter;

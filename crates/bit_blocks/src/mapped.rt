@@ -240,15 +240,17 @@ pub(crate) fn are_same(bits: &Bits, others: &Bits) -> bool
     bits == others
 }
 
-// The count of runs, where as many numbers as possible are in each: one for each number that does not follow another. Each
-// bit is copied to the next index, since two lists of bits whose words begin alike are counted by whole words.
-pub(crate) fn count_runs(bits: &Bits) -> usize
-    requires { AreBits bits.now.list }
+// The count of runs of `count` numbers, where as many numbers as possible are in each: one for each number that does not
+// follow another. Each bit is copied to the next index, since two lists of bits whose words begin alike are counted by
+// whole words.
+pub(crate) fn count_runs(bits: &Bits, count: usize) -> usize
+    requires size { AreBits bits.now.list }
+    requires count { count ≡ length (ones_of bits.now.list) }
     ensures { result ≡ length (runs_of (ones_of bits.now.list)) }
 {
     let mut earlier = BitArray::<[u64; 1024], Lsb0>::zero();
     BitListMut::copy_into(&mut earlier, 1.., BitList::get_range(bits, ..COUNT - 1));
-    bits.count_ones() - bits.count_and(earlier.as_bitslice())
+    count - bits.count_and(earlier.as_bitslice())
 }
 
 // Where the run of true bits ends to which the one at `first` belongs: the index after its last bit.
@@ -272,7 +274,7 @@ pub(crate) fn runs_of(alloc: Global, bits: &Bits) -> Result<Vec<Run>, AllocError
     ensures runs { IfOk result (λ runs. AreRuns runs.items) }
     ensures numbers { IfOk result (λ runs. run_numbers runs.items ≡ ones_of bits.now.list) }
 {
-    let mut runs = Vec::with_capacity(alloc, count_runs(bits))?;
+    let mut runs = Vec::with_capacity(alloc, count_runs(bits, count(bits)))?;
     let mut from = 0;
     while let Some(first) = BitList::next_one(bits, from) {
         from = end_of_run(bits, first);

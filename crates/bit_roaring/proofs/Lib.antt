@@ -3,6 +3,7 @@ pub mod Bytes
 pub mod Changed
 pub mod Counted
 pub mod Cut
+pub mod InPlace
 pub mod Keys
 pub mod Made
 pub mod Merged

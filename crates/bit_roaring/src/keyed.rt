@@ -9,6 +9,7 @@ ghost use Rattle.bit_roaring.specs.Places.{IsAbsent, IsKeyPlace, IsThere};
 pub(crate) mod ascending;
 pub(crate) mod changed;
 pub(crate) mod common;
+pub(crate) mod in_place;
 pub(crate) mod merged;
 pub(crate) mod ranges;
 pub(crate) mod replaced;

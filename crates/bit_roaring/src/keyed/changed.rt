@@ -5,6 +5,7 @@ ghost use Rattle.bit_blocks.specs.Operation.{made_by};
 ghost use Rattle.bit_roaring.specs.Changes.{CombinesKeyed, IsMade, ReplacesAll};
 ghost use Rattle.bit_roaring.specs.Keyed.{AreKeyed, block_at, keys_of};
 
+use crate::keyed::in_place::change_each;
 use crate::keyed::merged::merge_all;
 use crate::keyed::replaced::replace_all;
 use crate::keyed::{combined_at, get, keys_of};
@@ -14,11 +15,34 @@ use std::alloc::{AllocError, Global};
 // How many blocks may come or go one at a time, each of which moves all blocks after it.
 const FEW: usize = 4;
 
+// How many blocks may be changed without memory, each by a call inside that for the one before it.
+const DEEPEST: usize = 1024;
+
 // Puts what an operation makes of the blocks and of others in their place. Blocks that it leaves as they are are not
-// copied. Where memory is refused, the blocks are as they were. Requires that the operation keeps a number of the left
-// list alone.
-#[tactic(auto, using(crate::proofs::Changed::made_ascend))]
+// copied, and where all that change are kept as bits and the others are lists, none is. Where memory is refused, the blocks
+// are as they were. Requires that the operation keeps a number of the left list alone.
 pub(crate) fn combine(
+    blocks: &mut Vec<Keyed>,
+    others: &[Keyed],
+    operation: Operation,
+) -> Result<(), AllocError>
+    requires left { AreKeyed blocks.old.items }
+    requires right { AreKeyed others.now }
+    requires keeps { made_by operation true false ≡ true }
+    ensures keyed { AreKeyed blocks.new.items }
+    ensures members { OnOk result (CombinesKeyed (made_by operation) blocks.old.items others.now blocks.new.items) }
+    ensures refused { OnErr result (blocks.new.items ≡ blocks.old.items) }
+{
+    let alloc = *blocks.allocator();
+    if others.len() <= DEEPEST && change_each(alloc, blocks, others, operation) {
+        return Ok(());
+    }
+    put_made(blocks, others, operation)
+}
+
+// Like `combine`, by new blocks.
+#[tactic(auto, using(crate::proofs::Changed::made_ascend))]
+fn put_made(
     blocks: &mut Vec<Keyed>,
     others: &[Keyed],
     operation: Operation,

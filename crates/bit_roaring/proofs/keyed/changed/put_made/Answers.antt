@@ -5,7 +5,7 @@ use Rattle.bit_blocks.specs.Operation.{made_by}
 use Rattle.bit_roaring.specs.Changes.{IsMade}
 use Rattle.bit_roaring.specs.Keyed.{block_at}
 use Rattle.bit_roaring.proofs.Changed.{changed_if_done}
-use Rattle.bit_roaring.proofs.keyed.changed.combine.Goals as goal
+use Rattle.bit_roaring.proofs.keyed.changed.put_made.Goals as goal
 
 pub returns-clause-members : goal.returns-clause-members
 returns-clause-members c =

@@ -23,6 +23,8 @@ mod forms;
 #[cfg(test)]
 mod grown;
 #[cfg(test)]
+mod in_place;
+#[cfg(test)]
 mod listed;
 #[cfg(test)]
 mod many;

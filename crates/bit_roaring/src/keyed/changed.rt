@@ -19,8 +19,8 @@ const FEW: usize = 4;
 const DEEPEST: usize = 1024;
 
 // Puts what an operation makes of the blocks and of others in their place. Blocks that it leaves as they are are not
-// copied, and where all that change are kept as bits and the others are lists, none is. Where memory is refused, the blocks
-// are as they were. Requires that the operation keeps a number of the left list alone.
+// copied, and none is where each that changes is kept as bits and each of the others as a list. Where memory is refused, the
+// blocks are as they were. Requires that the operation keeps a number of the left list alone.
 pub(crate) fn combine(
     blocks: &mut Vec<Keyed>,
     others: &[Keyed],

@@ -7,6 +7,7 @@ use Rattle.std.proofs.lemmas.List.{drop_more, take_all, take_more}
 use Rattle.bit_blocks.specs.Numbers.{Ascends, AscendsIn, Combines, has}
 use Rattle.bit_blocks.proofs.Ascending.{ascends_append, ascends_further}
 use Rattle.bit_blocks.proofs.Edits.{has_append}
+use Rattle.bit_blocks.proofs.Merging.{made_none}
 use Rattle.bit_blocks.specs.Operation.{made_by}
 use Rattle.bit_blocks.specs.declared.keyed.Keyed.{Keyed}
 use Rattle.bit_blocks.specs.declared.operation.Operation.{Operation}
@@ -24,16 +25,16 @@ has_pushed xs x k = has_append xs (x ∷ []) k ∙ ap (λ t. has xs k || t) (or-
 nor_last : (b : Bool) → {c : Bool} → c ≡ false → (b || c) ≡ b
 nor_last b {c} e = ap (λ t. b || t) e ∙ or-false b
 
--- the keys of the first i blocks that others have too
-pub record KeysIn (blocks others : List Keyed) (keys : List ℕ) (i : ℕ) : Type 0 where
+-- keys of the first i blocks, and what holds of the others
+pub record KeysIn (p : ℕ → Type 0) (blocks : List Keyed) (keys : List ℕ) (i : ℕ) : Type 0 where
   pub bound : ℕ
   pub small : bound ≤ 65536
   pub ascends : AscendsIn 0 bound keys
   pub rest : AreKeyedFrom bound (drop i blocks)
-  pub out : (k : ℕ) → has keys k ≡ false → has (keys_of (take i blocks)) k ≡ true → block_at others k ≡ []
+  pub out : (k : ℕ) → has keys k ≡ false → has (keys_of (take i blocks)) k ≡ true → p k
 
-pub no_keys_in : (blocks others : List Keyed) → AreKeyed blocks → KeysIn blocks others [] 0
-no_keys_in blocks others h = record {
+pub no_keys_in : (p : ℕ → Type 0) (blocks : List Keyed) → AreKeyed blocks → KeysIn p blocks [] 0
+no_keys_in p blocks h = record {
   bound = 0;
   small = omega arith;
   ascends = tt;
@@ -42,14 +43,14 @@ no_keys_in blocks others h = record {
 }
 
 -- the next block
-module _ (blocks others : List Keyed) (keys : List ℕ) (i : ℕ) (at : Keyed) (r : KeysIn blocks others keys i) (inside : i < length blocks) (is : at ≡ get_or blocks i at) where
+module _ (p : ℕ → Type 0) (blocks : List Keyed) (keys : List ℕ) (i : ℕ) (at : Keyed) (r : KeysIn p blocks keys i) (inside : i < length blocks) (is : at ≡ get_or blocks i at) where
   left : AreKeyedFrom r.bound (at ∷ drop (i + 1) blocks)
   left = subst (AreKeyedFrom r.bound) (drop_more blocks i at inside ∙ ap (λ b. b ∷ drop (i + 1) blocks) (sym is)) r.rest
 
   more : (k : ℕ) → has (keys_of (take (i + 1) blocks)) k ≡ (has (keys_of (take i blocks)) k || nat_eq at.key k)
   more k = ap (λ l. has l k) (keys_more blocks i at inside ∙ ap (λ b. keys_of (take i blocks) ++ b.key ∷ []) (sym is)) ∙ has_pushed (keys_of (take i blocks)) at.key k
 
-  pub key_found : KeysIn blocks others (keys ++ at.key ∷ []) (i + 1)
+  pub key_found : KeysIn p blocks (keys ++ at.key ∷ []) (i + 1)
   key_found = let first = left.0 in let small = left.1 in record {
     bound = at.key + 1;
     small = omega arith;
@@ -60,26 +61,34 @@ module _ (blocks others : List Keyed) (keys : List ℕ) (i : ℕ) (at : Keyed) (
         r.out k parts.0 (sym (nor_last (has (keys_of (take i blocks)) k) parts.1) ∙ sym (more k) ∙ here);
   }
 
-  pub key_skipped : block_at others at.key ≡ [] → KeysIn blocks others keys (i + 1)
-  key_skipped none = let first = left.0 in let small = left.1 in record {
+  pub key_skipped : p at.key → KeysIn p blocks keys (i + 1)
+  key_skipped holds = let first = left.0 in let small = left.1 in record {
     bound = at.key + 1;
     small = omega arith;
     ascends = ascends_further 0 r.bound (at.key + 1) keys (omega arith) r.ascends;
     rest = left.4;
     out = λ k out here. elim (cases_eq at.key k) [
-      | inl same ↦ ap (block_at others) (sym same) ∙ none
+      | inl same ↦ subst p same holds
       | inr other ↦ r.out k out (sym (nor_last (has (keys_of (take i blocks)) k) (ne_eqb at.key k other)) ∙ sym (more k) ∙ here)
     ];
   }
 
-pub keys_ascend_up : (blocks others : List Keyed) (keys : List ℕ) (i : ℕ) → KeysIn blocks others keys i → Ascends keys
-keys_ascend_up blocks others keys i r = ascends_further 0 r.bound 65536 keys r.small r.ascends
+pub keys_ascend_up : (p : ℕ → Type 0) (blocks : List Keyed) (keys : List ℕ) (i : ℕ) → KeysIn p blocks keys i → Ascends keys
+keys_ascend_up p blocks keys i r = ascends_further 0 r.bound 65536 keys r.small r.ascends
 
 -- a key that is not among those in common has no block on one side
-pub one_has_none : (blocks others : List Keyed) (keys : List ℕ) (i : ℕ) → KeysIn blocks others keys i → length blocks ≤ i → (k : ℕ) → has keys k ≡ false → (block_at blocks k ≡ []) ⊎ (block_at others k ≡ [])
+pub one_has_none : (blocks others : List Keyed) (keys : List ℕ) (i : ℕ) → KeysIn (λ k. block_at others k ≡ []) blocks keys i → length blocks ≤ i → (k : ℕ) → has keys k ≡ false → (block_at blocks k ≡ []) ⊎ (block_at others k ≡ [])
 one_has_none blocks others keys i r past k out = elim (cases_Bool (has (keys_of blocks) k)) [
   | inl here ↦ inr (r.out k out (ap (λ l. has l k) (keys_whole blocks i past) ∙ here))
   | inr absent ↦ inl (no_key blocks k absent)
+]
+
+-- a key that neither these blocks have nor new ones has no block among the others
+pub others_have_none : (op : Operation) (blocks others : List Keyed) (keys : List ℕ) (i : ℕ) → KeysIn (λ k. has (keys_of blocks) k ≡ true) others keys i → length others ≤ i
+    → (k : ℕ) → has keys k ≡ false → has (keys_of blocks) k ≡ false → Combines (made_by op) [] (block_at others k) []
+others_have_none op blocks others keys i r past k out absent = elim (cases_Bool (has (keys_of others) k)) [
+  | inl here ↦ absurd (let e : true ≡ false = sym (r.out k out (ap (λ l. has l k) (keys_whole others i past) ∙ here)) ∙ absent in cc)
+  | inr none ↦ (λ n. sym (ap (λ l. made_by op false (has l n)) (no_key others k none) ∙ made_none op))
 ]
 
 -- ---- blocks that stay as they are
@@ -185,12 +194,12 @@ module _ (old now whole front rest : List Keyed) (len room : ℕ) (b : Keyed) (r
 pub all_replaced : (old now whole front : List Keyed) (len room : ℕ) → ReplacedFrom old now whole front len room → front ≡ [] → ReplacesAll old now whole
 all_replaced old now whole front len room r none = subst (ReplacesAll old now) (sym (r.parts ∙ ap (λ l. l ++ r.gone) none)) r.replaces
 
--- blocks that were made for each key of a block that may change, and put in the place of others, are what the operation makes
-changed_combined : (op : Operation) (old new others made : List Keyed) (keys : List ℕ) → keys_of made ≡ keys → All (IsMade (made_by op) old others) made → ReplacesAll old new made
-    → ((k : ℕ) → has keys k ≡ false → Combines (made_by op) (block_at old k) (block_at others k) (block_at old k)) → CombinesKeyed (made_by op) old others new
-changed_combined op old new others made keys same each replaces stays k = elim (cases_Bool (has (keys_of made) k)) [
-  | inl here ↦ (λ n. ap (λ l. has l n) (replaces k ∙ ap (λ t. cond t (block_at made k) (block_at old k)) here) ∙ found made each k here n)
-  | inr out ↦ (λ n. ap (λ l. has l n) (replaces k ∙ ap (λ t. cond t (block_at made k) (block_at old k)) out) ∙ stays k (ap (λ l. has l k) (sym same) ∙ out) n)
+-- blocks that were made for each key of a block that may change, and put in the place of others, are what the operation makes, where the blocks of other keys are that already
+pub changed_combined : (op : Operation) (old now new others made : List Keyed) (keys : List ℕ) → keys_of made ≡ keys → All (IsMade (made_by op) old others) made → ReplacesAll now new made
+    → ((k : ℕ) → has keys k ≡ false → Combines (made_by op) (block_at old k) (block_at others k) (block_at now k)) → CombinesKeyed (made_by op) old others new
+changed_combined op old now new others made keys same each replaces stays k = elim (cases_Bool (has (keys_of made) k)) [
+  | inl here ↦ (λ n. ap (λ l. has l n) (replaces k ∙ ap (λ t. cond t (block_at made k) (block_at now k)) here) ∙ found made each k here n)
+  | inr out ↦ (λ n. ap (λ l. has l n) (replaces k ∙ ap (λ t. cond t (block_at made k) (block_at now k)) out) ∙ stays k (ap (λ l. has l k) (sym same) ∙ out) n)
 ]
   where
     found : (bs : List Keyed) → All (IsMade (made_by op) old others) bs → (j : ℕ) → has (keys_of bs) j ≡ true → Combines (made_by op) (block_at old j) (block_at others j) (block_at bs j)
@@ -202,7 +211,7 @@ changed_combined op old new others made keys same each replaces stays k = elim (
 
 pub changed_if_done : {R E : Type 0} (r : Result R E) (op : Operation) (old new others made : List Keyed) (keys : List ℕ) → keys_of made ≡ keys → All (IsMade (made_by op) old others) made → OnOk r (ReplacesAll old new made)
     → ((k : ℕ) → has keys k ≡ false → Combines (made_by op) (block_at old k) (block_at others k) (block_at old k)) → OnOk r (CombinesKeyed (made_by op) old others new)
-changed_if_done (Ok x) op old new others made keys same each replaces stays = changed_combined op old new others made keys same each replaces stays
+changed_if_done (Ok x) op old new others made keys same each replaces stays = changed_combined op old old new others made keys same each replaces stays
 changed_if_done (Err e) op old new others made keys same each replaces stays = tt
 
 pub made_ascend : (f : Bool → Bool → Bool) (xs ys made : List Keyed) → All (IsMade f xs ys) made → All (λ b. Ascends b.block) made

@@ -1,5 +1,5 @@
 -- What changes of blocks do.
-use Rattle.std.specs.Prelude.{◌≡◌, ℕ, ◌^◌, Bool, ◌||◌, nat_eq, if◌then◌else◌, List}
+use Rattle.std.specs.Prelude.{◌≡◌, ℕ, ◌^◌, Bool, true, ◌||◌, nat_eq, if◌then◌else◌, List}
 use Rattle.bit_blocks.specs.Numbers.{Ascends, AscendsIn, Combines, Gains, Loses, has}
 use Rattle.bit_roaring.specs.Keyed.{block_at, keys_of}
 use Rattle.bit_blocks.specs.declared.keyed.Keyed.{Keyed}
@@ -27,6 +27,10 @@ pub record LosesAt (old new : List Keyed) (key low : ℕ) : Type 0 where
 -- the block with each key has what f makes of those of two lists of blocks
 abbrev pub CombinesKeyed : (Bool → Bool → Bool) → List Keyed → List Keyed → List Keyed → Type 0
 CombinesKeyed f xs ys zs = (key : ℕ) → Combines f (block_at xs key) (block_at ys key) (block_at zs key)
+
+-- each block of the first list has become what f makes of it and of the block with its key in the second
+abbrev pub CombinesEach : (Bool → Bool → Bool) → List Keyed → List Keyed → List Keyed → Type 0
+CombinesEach f xs ys zs = (key : ℕ) → has (keys_of xs) key ≡ true → Combines f (block_at xs key) (block_at ys key) (block_at zs key)
 
 -- a block has what f makes of the blocks with its key in two lists of blocks
 pub record IsMade (f : Bool → Bool → Bool) (xs ys : List Keyed) (b : Keyed) : Type 0 where

@@ -73,15 +73,28 @@ fn a_list_among_bits(rt: HostRuntime) {
     check(&rt, set.contains(131073));
 }
 
-// The last of the blocks is not there, so none is changed where it stands.
+// The last of the blocks is not there: a union puts it in, and a difference leaves it out.
 #[test]
 fn a_block_after_bits(rt: HostRuntime) {
     let mut set = evens(&rt, 2);
     ok(&rt, set.union_with(&three(&rt, 1, 65537, 131073)));
     check(&rt, set.len() == 10003);
-    ok(&rt, set.difference_with(&three(&rt, 1, 65537, 131073)));
-    check(&rt, set.len() == 10000);
+    check(&rt, set.contains(131073));
+    ok(&rt, set.difference_with(&three(&rt, 1, 65537, 196609)));
+    check(&rt, set.len() == 10001);
     check(&rt, !set.contains(1));
+}
+
+// More new blocks than are put in one at a time.
+#[test]
+fn many_blocks_after_bits(rt: HostRuntime) {
+    let mut set = evens(&rt, 1);
+    let mut few = three(&rt, 1, 65537, 131073);
+    ok(&rt, few.union_with(&three(&rt, 196609, 262145, 327681)));
+    ok(&rt, set.symmetric_difference_with(&few));
+    check(&rt, set.len() == 5006);
+    check(&rt, set.contains(1));
+    check(&rt, set.contains(327681));
 }
 
 // As few numbers stay as a list has, so the block is not changed where it stands.

@@ -5,10 +5,10 @@ ghost use Rattle.bit_blocks.specs.Operation.{made_by};
 ghost use Rattle.bit_roaring.specs.Changes.{CombinesKeyed, IsMade, ReplacesAll};
 ghost use Rattle.bit_roaring.specs.Keyed.{AreKeyed, block_at, keys_of};
 
-use crate::keyed::in_place::change_each;
+use crate::keyed::in_place::change_all;
 use crate::keyed::merged::merge_all;
-use crate::keyed::replaced::replace_all;
-use crate::keyed::{combined_at, get, keys_of};
+use crate::keyed::replaced::{replace_all, replace_each};
+use crate::keyed::{combined_at, find, get, keys_of};
 use bit_blocks::{Keyed, Operation};
 use std::alloc::{AllocError, Global};
 
@@ -19,8 +19,8 @@ const FEW: usize = 4;
 const DEEPEST: usize = 1024;
 
 // Puts what an operation makes of the blocks and of others in their place. Blocks that it leaves as they are are not
-// copied, and none is where each that changes is kept as bits and each of the others as a list. Where memory is refused, the
-// blocks are as they were. Requires that the operation keeps a number of the left list alone.
+// copied, and none is where each that changes is kept as bits, the one of the others as a list, and few are new. Where
+// memory is refused, the blocks are as they were. Requires that the operation keeps a number of the left list alone.
 pub(crate) fn combine(
     blocks: &mut Vec<Keyed>,
     others: &[Keyed],
@@ -33,11 +33,59 @@ pub(crate) fn combine(
     ensures members { OnOk result (CombinesKeyed (made_by operation) blocks.old.items others.now blocks.new.items) }
     ensures refused { OnErr result (blocks.new.items ≡ blocks.old.items) }
 {
-    let alloc = *blocks.allocator();
-    if others.len() <= DEEPEST && change_each(alloc, blocks, others, operation) {
-        return Ok(());
+    if others.len() > DEEPEST || !may_change(blocks, others) {
+        return put_made(blocks, others, operation);
     }
-    put_made(blocks, others, operation)
+    let alloc = *blocks.allocator();
+    let keys = new_keys(alloc, blocks, others, operation)?;
+    if keys.len() > FEW {
+        return put_made(blocks, others, operation);
+    }
+    let made = made_each(alloc, blocks, others, &keys, operation)?;
+    blocks.reserve(made.len())?;
+    if !change_all(blocks, others, operation) {
+        return put_made(blocks, others, operation);
+    }
+    replace_each(blocks, made);
+    Ok(())
+}
+
+// Whether blocks are likely to be changed without memory: whether the first that has a key of the others is bits.
+fn may_change(blocks: &[Keyed], others: &[Keyed]) -> bool
+    requires { AreKeyed blocks.now }
+{
+    for keyed in others {
+        if let Some(block) = get(blocks, keyed.key) {
+            return block.as_bits().is_some();
+        }
+    }
+    false
+}
+
+// The keys of others that no block has, where an operation keeps a number of the right list alone, and else none.
+#[tactic(auto, using(crate::proofs::Changed::no_keys_in, crate::proofs::Changed::key_found))]
+fn new_keys(
+    alloc: Global,
+    blocks: &[Keyed],
+    others: &[Keyed],
+    operation: Operation,
+) -> Result<Vec<u16>, AllocError>
+    requires left { AreKeyed blocks.now }
+    requires right { AreKeyed others.now }
+    ensures ascends { IfOk result (λ keys. Ascends keys.items) }
+    ensures none { IfOk result (λ keys. (k : ℕ) → has keys.items k ≡ false → has (keys_of blocks.now) k ≡ false → Combines (made_by operation) [] (block_at others.now k) []) }
+{
+    let mut keys = Vec::new(alloc);
+    if !operation.keeps_right() {
+        return Ok(keys);
+    }
+    for keyed in others {
+        let Err(_) = find(blocks, keyed.key) else {
+            continue;
+        };
+        keys.push(keyed.key)?;
+    }
+    Ok(keys)
 }
 
 // Like `combine`, by new blocks.

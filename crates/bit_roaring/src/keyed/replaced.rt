@@ -10,7 +10,7 @@ use bit_blocks::{Block, Keyed};
 use std::alloc::AllocError;
 
 // Like `put_all`, one block at a time. Moves the blocks after each that comes or goes.
-pub(crate) fn replace_all(blocks: &mut Vec<Keyed>, mut made: Vec<Keyed>) -> Result<(), AllocError>
+pub(crate) fn replace_all(blocks: &mut Vec<Keyed>, made: Vec<Keyed>) -> Result<(), AllocError>
     requires keyed { AreKeyed blocks.old.items }
     requires ascend { All (λ b. Ascends b.block) made.items }
     ensures keyed { AreKeyed blocks.new.items }
@@ -18,10 +18,21 @@ pub(crate) fn replace_all(blocks: &mut Vec<Keyed>, mut made: Vec<Keyed>) -> Resu
     ensures refused { OnErr result (blocks.new.items ≡ blocks.old.items) }
 {
     blocks.reserve(made.len())?;
+    replace_each(blocks, made);
+    Ok(())
+}
+
+// Like `replace_all`, where there is room for all.
+pub(crate) fn replace_each(blocks: &mut Vec<Keyed>, mut made: Vec<Keyed>)
+    requires keyed { AreKeyed blocks.old.items }
+    requires ascend { All (λ b. Ascends b.block) made.items }
+    requires room { vec_len blocks.old + vec_len made ≤ vec_capacity blocks.old }
+    ensures keyed { AreKeyed blocks.new.items }
+    ensures replaces { ReplacesAll blocks.old.items blocks.new.items made.items }
+{
     while let Some(keyed) = made.pop() {
         replace(blocks, keyed.key, keyed.block);
     }
-    Ok(())
 }
 
 // Puts a block in the place of the one with its key, or takes that one out where the block has no number. Requires room

@@ -14,6 +14,23 @@ use std::marker::Model;
 ///
 /// In contracts it is the ascending list of its numbers.
 ///
+/// ```rust
+/// use bit_blocks::{Block, Operation};
+///
+/// let mut evens = Block::new(rt.alloc());
+/// for half in 0..5000u16 {
+///     evens.insert(2 * half)?;
+/// }
+/// if let Ok(mut bits) = evens.into_bits() {
+///     bits.change(&[1, 2, 3], Operation::Union);
+///     println!(&rt; "{} numbers", Block::from_bit_block(bits).len())?;
+/// }
+/// ```
+///
+/// ```text
+/// 5002 numbers
+/// ```
+///
 /// [`Block::into_bits`]: crate::Block::into_bits
 #[derive(Drop)]
 pub struct BitBlock {

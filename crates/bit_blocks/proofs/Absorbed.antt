@@ -1,9 +1,9 @@
 -- Runs with one more, which takes up those that it meets or that are next to it.
-use Rattle.std.proofs.Common.{◌≡◌, ℕ, zero, suc, ◌+◌, ◌-◌, ◌<◌, ◌≤◌, Bool, true, false, ◌||◌, List, [], ◌∷◌, ◌++◌, append_assoc, get_or, length, length-take, max, min, take, drop, refl, sym, ◌∙◌, ap, subst, inl, inr, arith}
+use Rattle.std.proofs.Common.{◌≡◌, ℕ, zero, suc, ◌+◌, ◌-◌, ◌<◌, ◌≤◌, Bool, true, false, ◌||◌, List, [], ◌∷◌, ◌++◌, get_or, length, length-take, max, min, take, drop, refl, sym, ◌∙◌, ap, subst, inl, inr, arith}
 use Rattle.std.proofs.Math.Bool.{or-false}
 use Rattle.std.proofs.Math.ListN.{drop_of_length-le}
 use Rattle.std.proofs.lemmas.Bool.{cases_lt}
-use Rattle.std.proofs.lemmas.List.{drop-drop, get_or-drop, get_or-take, length-drop, take-append-drop, take_all, take_more}
+use Rattle.std.proofs.lemmas.List.{drop-drop, get_or-drop, get_or-take, length-drop, take-append-drop, take_more}
 use Rattle.bit_blocks.specs.Numbers.{GainsBetween}
 use Rattle.bit_blocks.specs.RunPlaces.{Absorbs, IsEndedBefore}
 use Rattle.bit_blocks.specs.Runs.{AreRuns, AreRunsFrom, is_in_run, is_in_runs, run_numbers}
@@ -111,11 +111,6 @@ apart_runs from [] ys r h below low ordered most up = (low, ordered, most, up)
 apart_runs from (x ∷ xs) ys r h below low ordered most up =
     let first = below 0 x (omega arith) in
     (h.0, h.1, h.2, apart_runs (x.last + 2) xs ys r h.3 (λ n d l. below (suc n) d (omega arith)) (omega arith) ordered most up)
-
-pub with_run_made : (rs one two three : List Run) (i j : ℕ) (all : Run) → one ≡ take i rs → two ≡ one ++ all ∷ [] → three ≡ two ++ take (length rs - j) (drop j rs) → three ≡ take i rs ++ all ∷ drop j rs
-with_run_made rs one two three i j all front more back =
-    back ∙ ap (λ l. l ++ take (length rs - j) (drop j rs)) (more ∙ ap (λ l. l ++ all ∷ []) front) ∙ append_assoc (take i rs) (all ∷ []) (take (length rs - j) (drop j rs))
-    ∙ ap (λ l. take i rs ++ all ∷ l) (take_all (length rs - j) (drop j rs) (omega (arith, length-drop j rs)))
 
 module _ (rs made : List Run) (i j : ℕ) (r all : Run) (h : AreRuns rs) (a : Absorbs rs i r all j) (is : made ≡ take i rs ++ all ∷ drop j rs) where
   later : AreRunsFrom (all.last + 2) (drop j rs)

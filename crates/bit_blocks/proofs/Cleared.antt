@@ -1,9 +1,9 @@
 -- Runs without the numbers of one.
-use Rattle.std.proofs.Common.{◌≡◌, ℕ, zero, suc, ◌+◌, ◌-◌, ◌<◌, ◌≤◌, true, false, not, ◌&&◌, ◌||◌, List, [], ◌∷◌, ◌++◌, append-nil, get_or, length, length-take, take, drop, sym, ◌∙◌, ap, subst, inl, inr, arith}
+use Rattle.std.proofs.Common.{◌≡◌, ℕ, zero, suc, ◌+◌, ◌-◌, ◌<◌, ◌≤◌, true, false, not, ◌&&◌, ◌||◌, List, [], ◌∷◌, ◌++◌, append-nil, append_assoc, get_or, length, length-take, take, drop, sym, ◌∙◌, ap, subst, inl, inr, arith}
 use Rattle.std.proofs.Math.Bool.{and-false, and-true, or-false}
 use Rattle.std.proofs.Math.ListN.{drop_of_length-le}
 use Rattle.std.proofs.lemmas.Bool.{cases_lt}
-use Rattle.std.proofs.lemmas.List.{get_or-drop, get_or-take, get_or_default, length-drop, take-append-drop, take_all}
+use Rattle.std.proofs.lemmas.List.{get_or-drop, get_or-take, get_or_default, length-drop, take-append-drop}
 use Rattle.bit_blocks.specs.Numbers.{LosesBetween, has, is_between}
 use Rattle.bit_blocks.specs.RunPlaces.{IsBegunBefore, IsEndedBefore}
 use Rattle.bit_blocks.specs.Runs.{AreRuns, AreRunsFrom, is_in_runs, run_below, run_numbers}
@@ -50,12 +50,40 @@ past_below first upto k high = elim (cases_lt first upto) [
 
 -- ---- what is left of runs, some of which meet a range
 
--- what is left is made of four parts
-pub without_made : (rs one two three four : List Run) (i j a b c e : ℕ) → one ≡ take i rs → two ≡ one ++ run_below a b → three ≡ two ++ run_below c e → four ≡ three ++ take (length rs - j) (drop j rs)
-    → four ≡ ((take i rs ++ run_below a b) ++ run_below c e) ++ drop j rs
-without_made rs one two three four i j a b c e front left right back =
-    back ∙ ap (λ l. l ++ take (length rs - j) (drop j rs)) (right ∙ ap (λ l. l ++ run_below c e) (left ∙ ap (λ l. l ++ run_below a b) front))
-    ∙ ap (λ l. ((take i rs ++ run_below a b) ++ run_below c e) ++ l) (take_all (length rs - j) (drop j rs) (omega (arith, length-drop j rs)))
+-- the run after a range
+after_some : (last e : ℕ) → last < e → run_below (last + 1) (e + 1) ≡ record { first = last + 1; last = e } ∷ []
+after_some last e high = let end : (e + 1) - 1 ≡ e = omega arith in below_some (last + 1) (e + 1) (omega arith) ∙ ap (λ n. record { first = last + 1; last = n } ∷ []) end
+
+-- a part before the range and one after it stay
+pub both_left : (rs made : List Run) (i j a e first last : ℕ) → a < first → last < e → made ≡ take i rs ++ record { first = a; last = first - 1 } ∷ record { first = last + 1; last = e } ∷ drop j rs
+    → made ≡ ((take i rs ++ run_below a first) ++ run_below (last + 1) (e + 1)) ++ drop j rs
+both_left rs made i j a e first last low high is =
+    let front : List Run = record { first = a; last = first - 1 } ∷ [] in
+    let back : List Run = record { first = last + 1; last = e } ∷ [] in
+    is ∙ sym (ap (λ l. ((take i rs ++ l) ++ run_below (last + 1) (e + 1)) ++ drop j rs) (below_some a first low) ∙ ap (λ l. ((take i rs ++ front) ++ l) ++ drop j rs) (after_some last e high)
+    ∙ append_assoc (take i rs ++ front) back (drop j rs) ∙ append_assoc (take i rs) front (back ++ drop j rs))
+
+-- a part before the range stays
+pub front_left : (rs made : List Run) (i j a e first last : ℕ) → a < first → e ≤ last → made ≡ take i rs ++ record { first = a; last = first - 1 } ∷ drop j rs
+    → made ≡ ((take i rs ++ run_below a first) ++ run_below (last + 1) (e + 1)) ++ drop j rs
+front_left rs made i j a e first last low none is =
+    let front : List Run = record { first = a; last = first - 1 } ∷ [] in
+    is ∙ sym (ap (λ l. ((take i rs ++ l) ++ run_below (last + 1) (e + 1)) ++ drop j rs) (below_some a first low) ∙ ap (λ l. ((take i rs ++ front) ++ l) ++ drop j rs) (below_none (last + 1) (e + 1) (omega arith))
+    ∙ ap (λ l. l ++ drop j rs) (append-nil (take i rs ++ front)) ∙ append_assoc (take i rs) front (drop j rs))
+
+-- a part after the range stays
+pub back_left : (rs made : List Run) (i j a e first last : ℕ) → first ≤ a → last < e → made ≡ take i rs ++ record { first = last + 1; last = e } ∷ drop j rs
+    → made ≡ ((take i rs ++ run_below a first) ++ run_below (last + 1) (e + 1)) ++ drop j rs
+back_left rs made i j a e first last none high is =
+    let back : List Run = record { first = last + 1; last = e } ∷ [] in
+    is ∙ sym (ap (λ l. ((take i rs ++ l) ++ run_below (last + 1) (e + 1)) ++ drop j rs) (below_none a first none) ∙ ap (λ l. (l ++ run_below (last + 1) (e + 1)) ++ drop j rs) (append-nil (take i rs))
+    ∙ ap (λ l. (take i rs ++ l) ++ drop j rs) (after_some last e high) ∙ append_assoc (take i rs) back (drop j rs))
+
+-- no part of the runs that meet the range stays
+pub none_left : (rs made : List Run) (i j a e first last : ℕ) → first ≤ a → e ≤ last → made ≡ take i rs ++ drop j rs → made ≡ ((take i rs ++ run_below a first) ++ run_below (last + 1) (e + 1)) ++ drop j rs
+none_left rs made i j a e first last low high is =
+    is ∙ sym (ap (λ l. ((take i rs ++ l) ++ run_below (last + 1) (e + 1)) ++ drop j rs) (below_none a first low) ∙ ap (λ l. (l ++ run_below (last + 1) (e + 1)) ++ drop j rs) (append-nil (take i rs))
+    ∙ ap (λ l. (take i rs ++ l) ++ drop j rs) (below_none (last + 1) (e + 1) (omega arith)) ∙ ap (λ l. l ++ drop j rs) (append-nil (take i rs)))
 
 module _ (rs made : List Run) (first last i j a e : ℕ) (d f : Run) (h : AreRuns rs) (ordered : first ≤ last) (most : j ≤ length rs) (some : i < j) (ended : IsEndedBefore rs first i) (begun : IsBegunBefore rs last j)
     (begins : a ≡ (get_or rs i d).first) (ends : e ≡ (get_or rs (j - 1) f).last) (is : made ≡ ((take i rs ++ run_below a first) ++ run_below (last + 1) (e + 1)) ++ drop j rs) where

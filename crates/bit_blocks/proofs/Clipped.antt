@@ -1,17 +1,20 @@
 -- The numbers of runs that are in a range.
-use Rattle.std.proofs.Common.{◌≡◌, ℕ, zero, suc, ◌+◌, ◌-◌, ◌<◌, ◌≤◌, List, [], ◌∷◌, ◌++◌, append-nil, get_or, length, length-take, max, min, take, drop, refl, sym, ◌∙◌, ap, inl, inr, arith}
+use Rattle.std.proofs.Common.{◌≡◌, ℕ, zero, suc, ◌+◌, ◌-◌, ◌<◌, ◌≤◌, true, ◌&&◌, nat_eq, nat_lt, List, [], ◌∷◌, ◌++◌, append-nil, get_or, length, length-take, max, min, take, drop, refl, sym, ◌∙◌, ap, inl, inr, arith}
 use Rattle.std.specs.Prelude.{All}
 use Rattle.std.specs.List.{range_with_len}
-use Rattle.std.proofs.lemmas.Bool.{cases_lt}
-use Rattle.std.proofs.lemmas.List.{get_or-drop, get_or-take, length-drop}
-use Rattle.bit_blocks.specs.Numbers.{AscendsIn, numbers_between}
+use Rattle.std.proofs.Math.Bool.{and-true}
+use Rattle.std.proofs.lemmas.Bool.{and_parts, cases_lt, eqb-true, ltb-true}
+use Rattle.std.proofs.lemmas.List.{get_or-drop, get_or-take, get_or_default, length-drop}
+use Rattle.bit_blocks.specs.Numbers.{Ascends, AscendsIn, count_below, count_where, has, is_between, numbers_between}
 use Rattle.bit_blocks.specs.RunPlaces.{EachMeets, IsBegunBefore, IsEndedBefore}
 use Rattle.bit_blocks.specs.Runs.{AreRuns, AreRunsFrom, numbers_of_run, run_numbers}
 use Rattle.bit_blocks.specs.declared.ranged.Run.{Run}
-use Rattle.bit_blocks.proofs.Ascending.{ascends_earlier}
+use Rattle.bit_blocks.proofs.Ascending.{ascends_earlier, at_place, later}
 use Rattle.bit_blocks.proofs.Between.{after_range, all_between, before_range, between_append, in_between, leaves_first, takes_first}
+use Rattle.bit_blocks.proofs.Counting.{count_same, count_swapped}
 use Rattle.bit_blocks.proofs.LeftOfRuns.{last_run, no_range}
-use Rattle.bit_blocks.proofs.Runs.{all_ordered, ascends_range, first_at_least, run_ordered, runs_later}
+use Rattle.bit_blocks.proofs.Ranges.{has_filter}
+use Rattle.bit_blocks.proofs.Runs.{all_ordered, ascends_all, ascends_range, first_at_least, run_ordered, runs_later}
 
 -- the numbers of a range that are in another
 range_between : (first last a n : ℕ) → numbers_between first last (range_with_len a n) ≡ range_with_len (max a first) (min (a + n) (last + 1) - max a first)
@@ -175,3 +178,45 @@ several_clipped (r ∷ rs) first last from upto back_from back_upto d h some ord
     ∙ ap (λ l. l ++ numbers_between first last (numbers_of_run b)) (all_between (r.last + 2) b.first (run_numbers middle) first last (before_run (r.last + 2) rs n d h.3 (omega arith)) (omega arith) (omega arith))
     ∙ ap (λ l. run_numbers middle ++ l) (run_between b first last back_from back_upto back_up (omega arith) (omega arith)))
     ∙ sym (ap (λ m. range_with_len from (upto - from) ++ (run_numbers (take m rs) ++ range_with_len back_from (back_upto - back_from))) count))
+
+-- ---- runs beside a list
+
+has_between : (first last k : ℕ) (xs : List ℕ) → first ≤ k → k ≤ last → has (numbers_between first last xs) k ≡ has xs k
+has_between first last k xs low high = has_filter (λ k. is_between first last k) xs k ∙ ap (λ b. has xs k && b) (in_between first last k low high) ∙ and-true (has xs k)
+
+-- a number of a list lies between its first one and its last one
+within_ends : (xs : List ℕ) (k d : ℕ) → Ascends xs → has xs k ≡ true → (get_or xs 0 d ≤ k) × (k ≤ get_or xs (length xs - 1) d)
+within_ends xs k d h there =
+    let i = count_below xs k in
+    let at = and_parts (nat_lt i (length xs)) (nat_eq (get_or xs i 0) k) (sym (at_place 0 65536 xs k h) ∙ there) in
+    let inside : i < length xs = ltb-true i (length xs) at.0 in
+    let here : get_or xs i d ≡ k = get_or_default xs i d 0 inside ∙ eqb-true (get_or xs i 0) k at.1 in (
+      elim (cases_lt 0 i) [
+        | inl more ↦ (let low = later 0 65536 xs 0 i d h more inside in omega arith)
+        | inr first ↦ (let is : i ≡ 0 = omega arith in omega (arith, ap (λ n. get_or xs n d) is))
+      ],
+      elim (cases_lt i (length xs - 1)) [
+        | inl less ↦ (let high = later 0 65536 xs i (length xs - 1) d h less (omega arith) in omega arith)
+        | inr final ↦ (let is : i ≡ length xs - 1 = omega arith in omega (arith, ap (λ n. get_or xs n d) is))
+      ],
+    )
+
+-- and the first one is at most the last one
+pub ends_ordered : (xs : List ℕ) (first last d : ℕ) → Ascends xs → first ≡ get_or xs 0 d → last ≡ get_or xs (length xs - 1) d → first ≤ last
+ends_ordered xs first last d h begins ends = elim (cases_lt 0 (length xs - 1)) [
+  | inl more ↦ (let up = later 0 65536 xs 0 (length xs - 1) d h more (omega arith) in omega arith)
+  | inr one ↦ (let is : length xs - 1 ≡ 0 = omega arith in omega (arith, ap (λ n. get_or xs n d) is))
+]
+
+-- runs that have the same numbers from a list's first number to its last one have as many of the list
+pub count_met : (xs : List ℕ) (ps rs : List Run) (first last d : ℕ) → Ascends xs → AreRuns ps → AreRuns rs → first ≡ get_or xs 0 d → last ≡ get_or xs (length xs - 1) d
+    → numbers_between first last (run_numbers ps) ≡ numbers_between first last (run_numbers rs) → count_where (has xs) (run_numbers ps) ≡ count_where (has xs) (run_numbers rs)
+count_met xs ps rs first last d up h g begins ends same =
+    count_swapped 65536 (run_numbers ps) xs (ascends_all ps h) up ∙ count_same (has (run_numbers ps)) (has (run_numbers rs)) xs alike ∙ sym (count_swapped 65536 (run_numbers rs) xs (ascends_all rs g) up)
+  where
+    alike : (k : ℕ) → has xs k ≡ true → has (run_numbers ps) k ≡ has (run_numbers rs) k
+    alike k there =
+        let ends_at = within_ends xs k d up there in
+        let low : first ≤ k = omega (arith, ends_at.0) in
+        let high : k ≤ last = omega (arith, ends_at.1) in
+        sym (has_between first last k (run_numbers ps) low high) ∙ ap (λ l. has l k) same ∙ has_between first last k (run_numbers rs) low high

@@ -11,6 +11,7 @@ use Rattle.bit_blocks.specs.Numbers.{Combines, those}
 use Rattle.bit_blocks.specs.Operation.{made_by}
 use Rattle.bit_blocks.specs.Runs.{AreRuns, AreRunsFrom, is_in_run, is_in_runs, numbers_of_run, run_below, run_numbers}
 use Rattle.bit_blocks.specs.RunPlaces.{EndBefore, IsEndedBefore, IsStretch}
+use Rattle.bit_blocks.proofs.Absorbed.{gap}
 use Rattle.bit_blocks.proofs.Merging.{combines_those, kept, kept_where}
 use Rattle.bit_blocks.proofs.Runs.{ascends_all, firsts_ascend, has_runs, lasts_ascend, run_ordered}
 use Rattle.bit_blocks.proofs.Those.{those_empty, those_here, those_joined, those_none}
@@ -81,6 +82,11 @@ ended_here rs upto i d h before next = record {
       let same = ap (λ r. r.last) (get_or_default rs i d e (omega arith)) in
       omega arith;
 }
+
+-- one run more ends before a number, and the one after that does not
+pub one_ends : (rs : List Run) (upto i : ℕ) (d : Run) → AreRuns rs → i < length rs → EndBefore rs upto i → (get_or rs i d).last < upto → upto ≤ (get_or rs i d).last + 1 → IsEndedBefore rs upto (i + 1)
+one_ends rs upto i d h inside before low near =
+    ended_here rs upto (i + 1) d h (one_more_ends rs upto i d inside before low) (λ more. let apart = gap 0 rs i (i + 1) d d h (omega arith) more in let up = (run_ordered 0 rs (i + 1) d h more).0 in omega arith)
 
 -- ---- what was made
 

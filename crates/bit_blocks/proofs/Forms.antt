@@ -1,5 +1,5 @@
 -- What follows for the numbers of a form, and which changes leave it a good one.
-use Rattle.std.proofs.Common.{◌≡◌, ℕ, ◌+◌, ◌-◌, ◌<◌, ◌≤◌, Bool, true, false, ◌||◌, List, length, sym, ◌∙◌, ap, inl, inr, arith}
+use Rattle.std.proofs.Common.{◌≡◌, ℕ, ◌+◌, ◌-◌, ◌<◌, ◌≤◌, Bool, true, false, not, ◌||◌, List, length, sym, ◌∙◌, ap, inl, inr, arith}
 use Rattle.std.proofs.Math.Bool.{or-true}
 use Rattle.std.proofs.lemmas.Bool.{cases_Bool}
 use Rattle.bit_slice.specs.Places.{ones_of}
@@ -13,10 +13,11 @@ use Rattle.bit_blocks.specs.declared.form.Form.{Form}
 use Rattle.bit_blocks.specs.declared.form.Form.TheVariants.{Listed, Mapped, Ranged}
 use Rattle.bit_blocks.specs.declared.operation.Operation.{Operation}
 use Rattle.bit_blocks.specs.declared.ranged.Run.{Run}
-use Rattle.bit_blocks.proofs.Ascending.{few_numbers}
+use Rattle.bit_blocks.proofs.Ascending.{few_numbers, same_numbers}
 use Rattle.bit_blocks.proofs.Bits.{ascends_ones}
+use Rattle.bit_blocks.proofs.Edits.{gains_present, length_gained, length_lost, loses_absent}
 use Rattle.bit_blocks.proofs.Runs.{ascends_runs}
-use Rattle.bit_blocks.proofs.Sizes.{count_cleared, count_filled, few_combined, few_in_either, few_of_left, no_fewer_filled, no_fewer_gained, no_more_cleared, no_more_lost, one_less_lost, one_more_gained}
+use Rattle.bit_blocks.proofs.Sizes.{count_cleared, count_filled, few_combined, few_in_either, few_in_run, few_of_left, no_fewer_filled, no_fewer_gained, no_more_cleared, no_more_lost, one_less_lost, one_more_gained}
 
 -- the numbers of a form ascend
 pub ascends_form : (form : Form) → IsForm form → Ascends (numbers_of form)
@@ -36,6 +37,35 @@ same_count old new count was good same = record { good = good; size = was.size �
 pub few_of_block : (form : Form) (count : ℕ) → IsBlock form count → count ≤ 65536
 few_of_block form count was = let size = was.size in let few = few_of_form form was.good in omega arith
 
+-- the count after a number was put in that was not there
+pub gained_count : (old new : Form) (count n : ℕ) → IsBlock old count → IsForm new → n < 65536 → not (has (numbers_of old) n) ≡ true → Gains (numbers_of old) (numbers_of new) n → IsBlock new (count + 1)
+gained_count old new count n was good low is gains = elim (cases_Bool (has (numbers_of old) n)) [
+  | inl there ↦ absurd (let e : false ≡ true = sym (ap not there) ∙ is in cc)
+  | inr out ↦ (
+      let size = was.size in
+      let more = length_gained (numbers_of old) (numbers_of new) n (ascends_form old was.good) (ascends_form new good) low out gains in
+      record { good = good; size = omega arith })
+]
+
+-- and after one that was there
+pub same_gained : (old new : Form) (count n : ℕ) → IsBlock old count → IsForm new → not (has (numbers_of old) n) ≡ false → Gains (numbers_of old) (numbers_of new) n → IsBlock new count
+same_gained old new count n was good is gains = elim (cases_Bool (has (numbers_of old) n)) [
+  | inl there ↦ same_count old new count was good (same_numbers 0 65536 (numbers_of new) (numbers_of old) (ascends_form new good) (ascends_form old was.good) (λ k. gains k ∙ sym (gains_present (numbers_of old) n there k)))
+  | inr out ↦ absurd (let e : true ≡ false = sym (ap not out) ∙ is in cc)
+]
+
+-- the count after a number was taken out that was there
+pub lost_count : (old new : Form) (count n : ℕ) → IsBlock old count → IsForm new → has (numbers_of old) n ≡ true → Loses (numbers_of old) (numbers_of new) n → IsBlock new (count - 1)
+lost_count old new count n was good there loses =
+    let size = was.size in
+    let less = length_lost (numbers_of old) (numbers_of new) n (ascends_form old was.good) (ascends_form new good) there loses in
+    record { good = good; size = omega arith }
+
+-- and after one that was not
+pub same_lost : (old new : Form) (count n : ℕ) → IsBlock old count → IsForm new → has (numbers_of old) n ≡ false → Loses (numbers_of old) (numbers_of new) n → IsBlock new count
+same_lost old new count n was good out loses =
+    same_count old new count was good (same_numbers 0 65536 (numbers_of new) (numbers_of old) (ascends_form new good) (ascends_form old was.good) (λ k. loses k ∙ sym (loses_absent (numbers_of old) n out k)))
+
 -- the count after a range was put in, by how many of its numbers were there
 pub filled_count : (old new : Form) (count there next : ℕ) (r : Run) → IsBlock old count → IsForm new → r.first ≤ r.last → r.last < 65536 → there ≡ count_where (has (numbers_of old)) (numbers_of_run r)
     → GainsBetween (numbers_of old) (numbers_of new) r.first r.last → next + there ≡ count + (r.last + 1 - r.first) → IsBlock new next
@@ -44,6 +74,13 @@ filled_count old new count there next r was good ordered most is gains sum =
     let all = count_filled (numbers_of old) (numbers_of new) r (ascends_form old was.good) (ascends_form new good) ordered most gains in
     record { good = good; size = omega arith }
 
+-- no more numbers of a range are there than a block has
+pub few_cleared : (form : Form) (count gone : ℕ) (r : Run) → IsBlock form count → r.first ≤ r.last → r.last < 65536 → gone ≡ count_where (has (numbers_of form)) (numbers_of_run r) → gone ≤ count
+few_cleared form count gone r was ordered most is =
+    let size = was.size in
+    let few = few_in_run (numbers_of form) r (ascends_form form was.good) ordered most in
+    omega arith
+
 -- the numbers that are left and those of a range that was taken out are all
 cleared_all : (old new : Form) (count gone : ℕ) (r : Run) → IsBlock old count → IsForm new → r.first ≤ r.last → r.last < 65536 → gone ≡ count_where (has (numbers_of old)) (numbers_of_run r)
     → LosesBetween (numbers_of old) (numbers_of new) r.first r.last → length (numbers_of new) + gone ≡ count
@@ -51,10 +88,6 @@ cleared_all old new count gone r was good ordered most is loses =
     let size = was.size in
     let all = count_cleared (numbers_of old) (numbers_of new) r (ascends_form old was.good) (ascends_form new good) ordered most loses in
     omega arith
-
-pub few_cleared : (old new : Form) (count gone : ℕ) (r : Run) → IsBlock old count → IsForm new → r.first ≤ r.last → r.last < 65536 → gone ≡ count_where (has (numbers_of old)) (numbers_of_run r)
-    → LosesBetween (numbers_of old) (numbers_of new) r.first r.last → gone ≤ count
-few_cleared old new count gone r was good ordered most is loses = let all = cleared_all old new count gone r was good ordered most is loses in omega arith
 
 -- so this is the count after it was taken out
 pub cleared_count : (old new : Form) (count gone next : ℕ) (r : Run) → IsBlock old count → IsForm new → r.first ≤ r.last → r.last < 65536 → gone ≡ count_where (has (numbers_of old)) (numbers_of_run r)

@@ -8,7 +8,7 @@ pub mod Combined
 pub mod Edits
 pub mod Forms
 pub mod Edges
-pub mod Gaps
+pub mod Spliced
 pub mod Grouped
 pub mod Joined
 pub mod Merging

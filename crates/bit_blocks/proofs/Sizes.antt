@@ -7,7 +7,7 @@ use Rattle.bit_blocks.specs.Operation.{made_by}
 use Rattle.bit_blocks.specs.Runs.{numbers_of_run}
 use Rattle.bit_blocks.specs.declared.operation.Operation.{Operation}
 use Rattle.bit_blocks.specs.declared.ranged.Run.{Run}
-use Rattle.bit_blocks.proofs.Counting.{count_those}
+use Rattle.bit_blocks.proofs.Counting.{count_most, count_those, counted_swapped}
 use Rattle.bit_blocks.proofs.Merging.{made_none}
 use Rattle.bit_blocks.proofs.Runs.{ascends_runs, has_run, run_size}
 use Rattle.bit_blocks.proofs.Those.{those_empty, those_here, those_none, those_not_here, those_of}
@@ -112,6 +112,13 @@ same_sums p q r s a (suc n) same =
 run_counted : (xs : List ℕ) (r : Run) → r.first ≤ r.last → r.last < 65536 → count_where (has xs) (numbers_of_run r) ≡ length (those (λ k. has (numbers_of_run r) k && has xs k) 0 65536)
 run_counted xs r ordered most =
     ap (count_where (has xs)) (those_of 0 65536 (numbers_of_run r) 65536 (omega arith) (run_ascends r ordered most)) ∙ count_those (has (numbers_of_run r)) (has xs) 0 65536
+
+-- which are no more than the list has
+pub few_in_run : (xs : List ℕ) (r : Run) → Ascends xs → r.first ≤ r.last → r.last < 65536 → count_where (has xs) (numbers_of_run r) ≤ length xs
+few_in_run xs r h ordered most =
+    let swapped = counted_swapped (count_where (has xs) (numbers_of_run r)) xs (numbers_of_run r) h (run_ascends r ordered most) refl in
+    let few = count_most (has (numbers_of_run r)) xs in
+    omega arith
 
 -- a list gains the numbers of a range that it had not
 pub count_filled : (xs ys : List ℕ) (r : Run) → Ascends xs → Ascends ys → r.first ≤ r.last → r.last < 65536 → GainsBetween xs ys r.first r.last

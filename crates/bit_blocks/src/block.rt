@@ -15,7 +15,6 @@ ghost use Rattle.bit_blocks.specs.Runs.{AreRuns, run_numbers, runs_of};
 use crate::bit_block::BitBlock;
 use crate::form::Form;
 use crate::iter::BlockIter;
-use crate::listed::LISTED;
 use crate::mapped::Bits;
 use crate::operation::Operation;
 use crate::ranged::Run;
@@ -194,12 +193,11 @@ impl Block {
         ensures ascends { Ascends self.new }
         ensures refused { OnErr result (self.new ≡ self.old) }
     {
-        if self.contains(number) {
-            return Ok(false);
+        let new = form::insert(&mut self.form, number, self.count)?;
+        if new {
+            self.count += 1;
         }
-        form::insert(&mut self.form, number)?;
-        self.count += 1;
-        Ok(true)
+        Ok(new)
     }
 
     /// Takes a number out, and returns whether it was there. Where memory is refused, the set is as it was.
@@ -210,12 +208,11 @@ impl Block {
         ensures ascends { Ascends self.new }
         ensures refused { OnErr result (self.new ≡ self.old) }
     {
-        if !self.contains(number) {
-            return Ok(false);
+        let old = form::remove(&mut self.form, number, self.count)?;
+        if old {
+            self.count -= 1;
         }
-        form::remove(&mut self.form, number, self.count > LISTED + 1)?;
-        self.count -= 1;
-        Ok(true)
+        Ok(old)
     }
 
     /// Puts in the numbers from `first` to `last`, both included. Where memory is refused, the set is as it was. Requires
@@ -228,8 +225,9 @@ impl Block {
         ensures refused { OnErr result (self.new ≡ self.old) }
     {
         let there = form::count_in(&self.form, Run { first, last });
-        form::insert_range(&mut self.form, first, last)?;
-        self.count += (last - first) as usize + 1 - there;
+        let count = self.count + ((last - first) as usize + 1 - there);
+        form::insert_range(&mut self.form, first, last, count)?;
+        self.count = count;
         Ok(())
     }
 
@@ -243,8 +241,9 @@ impl Block {
         ensures refused { OnErr result (self.new ≡ self.old) }
     {
         let gone = form::count_in(&self.form, Run { first, last });
-        form::remove_range(&mut self.form, first, last, self.count > LISTED + gone)?;
-        self.count -= gone;
+        let count = self.count - gone;
+        form::remove_range(&mut self.form, first, last, count)?;
+        self.count = count;
         Ok(())
     }
 

@@ -1,5 +1,5 @@
 //! How the numbers of a block are kept.
-ghost use Rattle.std.specs.Prelude.{◌≡◌, ◌≤◌, ◌<◌, ◌+◌, ◌-◌, ◌/◌, ◌↔◌, Bool, IfOk, IfSome, IsTrue, OnErr, OnOk, false, length, slice_get, true};
+ghost use Rattle.std.specs.Prelude.{◌≡◌, ◌≤◌, ◌<◌, ◌+◌, ◌-◌, ◌/◌, ◌↔◌, Bool, IfOk, IfSome, IsTrue, OnErr, OnOk, false, length, not, slice_get, true};
 ghost use Rattle.std.specs.List.{range_with_len};
 ghost use Rattle.bit_slice.specs.BitSlice.{len_of, list_of};
 ghost use Rattle.bit_slice.specs.Places.{ones_of};
@@ -405,26 +405,52 @@ fn allocator(form: &Form) -> Global {
     }
 }
 
-// Puts in a number that is not there. Where memory is refused, the numbers are as they were.
-pub(crate) fn insert(form: &mut Form, number: u16) -> Result<(), AllocError>
+// Puts in a number, and returns whether it was not there. Where memory is refused, the numbers are as they were. Requires
+// that they are `count`.
+pub(crate) fn insert(form: &mut Form, number: u16, count: usize) -> Result<bool, AllocError>
     requires form { IsForm form.old }
+    requires count { count ≡ length (numbers_of form.old) }
+    ensures new { IfOk result (λ new. new ≡ not (has (numbers_of form.old) number)) }
     ensures gains { OnOk result (Gains (numbers_of form.old) (numbers_of form.new) number) }
     ensures refused { OnErr result (numbers_of form.new ≡ numbers_of form.old) }
     ensures form { IsForm form.new }
 {
     match form {
         Form::Listed(numbers) => {
-            let has_room = numbers.len() < LISTED;
+            let has_room = count < LISTED;
             if has_room {
-                listed::insert(numbers, number)?;
-                return Ok(());
+                let new = listed::insert(numbers, number)?;
+                return Ok(new);
             }
         }
-        Form::Mapped(bits) => {
-            mapped::insert(bits, number);
-            return Ok(());
-        }
+        Form::Mapped(bits) => return Ok(mapped::insert(bits, number)),
         Form::Ranged(_) => {}
+    }
+    if contains(form, number) {
+        return Ok(false);
+    }
+    insert_new(form, number, count)?;
+    Ok(true)
+}
+
+// Puts a number that is not there into runs, or into a list that has no room for it.
+fn insert_new(form: &mut Form, number: u16, count: usize) -> Result<(), AllocError>
+    requires form { IsForm form.old }
+    requires count { count ≡ length (numbers_of form.old) }
+    ensures gains { OnOk result (Gains (numbers_of form.old) (numbers_of form.new) number) }
+    ensures refused { OnErr result (numbers_of form.new ≡ numbers_of form.old) }
+    ensures form { IsForm form.new }
+{
+    if let Form::Ranged(runs) = form {
+        ranged::insert_run(
+            runs,
+            Run {
+                first: number,
+                last: number,
+            },
+        )?;
+        settle(form, count + 1);
+        return Ok(());
     }
     let alloc = allocator(form);
     let mut bits = bits_of(alloc, form)?;
@@ -433,27 +459,63 @@ pub(crate) fn insert(form: &mut Form, number: u16) -> Result<(), AllocError>
     Ok(())
 }
 
-// Takes a number out. Where `many` says so, more than `LISTED` numbers stay. Where memory is refused, the numbers are as
-// they were.
-pub(crate) fn remove(form: &mut Form, number: u16, many: bool) -> Result<(), AllocError>
+// Turns `count` numbers in runs into a list or bits where these take fewer bytes. Where memory is refused, they stay runs.
+fn settle(form: &mut Form, count: usize)
+    requires { IsForm form.old }
+    ensures same { numbers_of form.new ≡ numbers_of form.old }
+    ensures form { IsForm form.new }
+{
+    if let Form::Ranged(runs) = form {
+        if !runs_pay(count, runs.len()) {
+            let _refused = make_plain(form);
+        }
+    }
+}
+
+// Takes a number out, and returns whether it was there. Where memory is refused, the numbers are as they were. Requires
+// that they are `count`.
+pub(crate) fn remove(form: &mut Form, number: u16, count: usize) -> Result<bool, AllocError>
     requires form { IsForm form.old }
-    requires many { IsTrue many → 4097 < length (numbers_of form.old) }
+    requires count { count ≡ length (numbers_of form.old) }
+    ensures old { IfOk result (λ old. old ≡ has (numbers_of form.old) number) }
     ensures loses { OnOk result (Loses (numbers_of form.old) (numbers_of form.new) number) }
     ensures refused { OnErr result (numbers_of form.new ≡ numbers_of form.old) }
     ensures form { IsForm form.new }
 {
     match form {
-        Form::Listed(numbers) => {
-            listed::remove(numbers, number);
-            return Ok(());
-        }
+        Form::Listed(numbers) => return Ok(listed::remove(numbers, number)),
         Form::Mapped(bits) => {
+            let many = LISTED + 1 < count;
             if many {
-                mapped::remove(bits, number);
-                return Ok(());
+                return Ok(mapped::remove(bits, number));
             }
         }
         Form::Ranged(_) => {}
+    }
+    if !contains(form, number) {
+        return Ok(false);
+    }
+    remove_there(form, number, count)?;
+    Ok(true)
+}
+
+// Takes a number that is there out of runs, or out of bits of which at most `LISTED` stay.
+fn remove_there(form: &mut Form, number: u16, count: usize) -> Result<(), AllocError>
+    requires form { IsForm form.old }
+    ensures loses { OnOk result (Loses (numbers_of form.old) (numbers_of form.new) number) }
+    ensures refused { OnErr result (numbers_of form.new ≡ numbers_of form.old) }
+    ensures form { IsForm form.new }
+{
+    if let Form::Ranged(runs) = form {
+        ranged::remove_run(
+            runs,
+            Run {
+                first: number,
+                last: number,
+            },
+        )?;
+        settle(form, count.saturating_sub(1));
+        return Ok(());
     }
     let alloc = allocator(form);
     let mut bits = bits_of(alloc, form)?;
@@ -462,9 +524,14 @@ pub(crate) fn remove(form: &mut Form, number: u16, many: bool) -> Result<(), All
     Ok(())
 }
 
-// Puts in the numbers from `first` to `last`. Where memory is refused, the numbers are as they were. All numbers are one
-// run.
-pub(crate) fn insert_range(form: &mut Form, first: u16, last: u16) -> Result<(), AllocError>
+// Puts in the numbers from `first` to `last`, after which there are `count`. Where memory is refused, the numbers are as
+// they were. All numbers are one run.
+pub(crate) fn insert_range(
+    form: &mut Form,
+    first: u16,
+    last: u16,
+    count: usize,
+) -> Result<(), AllocError>
     requires form { IsForm form.old }
     requires ordered { first ≤ last }
     ensures gains { OnOk result (GainsBetween (numbers_of form.old) (numbers_of form.new) first last) }
@@ -482,8 +549,8 @@ pub(crate) fn insert_range(form: &mut Form, first: u16, last: u16) -> Result<(),
             return Ok(());
         }
         Form::Ranged(runs) => {
-            let made = ranged::with_run(alloc, runs, Run { first, last })?;
-            *form = form_of_runs(made)?;
+            ranged::insert_run(runs, Run { first, last })?;
+            settle(form, count);
             return Ok(());
         }
         Form::Listed(numbers) => {
@@ -501,17 +568,17 @@ pub(crate) fn insert_range(form: &mut Form, first: u16, last: u16) -> Result<(),
     Ok(())
 }
 
-// Takes out the numbers from `first` to `last`. Where `many` says so, more than `LISTED` numbers stay. Where memory is
-// refused, the numbers are as they were. Where no number stays, no memory is taken.
+// Takes out the numbers from `first` to `last`, after which there are `count`. Where memory is refused, the numbers are
+// as they were. Where no number stays, no memory is taken.
 pub(crate) fn remove_range(
     form: &mut Form,
     first: u16,
     last: u16,
-    many: bool,
+    count: usize,
 ) -> Result<(), AllocError>
     requires form { IsForm form.old }
     requires ordered { first ≤ last }
-    requires many { IsTrue many → 4096 + count_where (has (numbers_of form.old)) (range_with_len first (last + 1 - first)) < length (numbers_of form.old) }
+    requires count { count + count_where (has (numbers_of form.old)) (range_with_len first (last + 1 - first)) ≡ length (numbers_of form.old) }
     ensures loses { OnOk result (LosesBetween (numbers_of form.old) (numbers_of form.new) first last) }
     ensures refused { OnErr result (numbers_of form.new ≡ numbers_of form.old) }
     ensures form { IsForm form.new }
@@ -527,14 +594,15 @@ pub(crate) fn remove_range(
             return Ok(());
         }
         Form::Mapped(bits) => {
+            let many = LISTED < count;
             if many {
                 mapped::remove_range(bits, first, last);
                 return Ok(());
             }
         }
         Form::Ranged(runs) => {
-            let made = ranged::without_run(alloc, runs, Run { first, last })?;
-            *form = form_of_runs(made)?;
+            ranged::remove_run(runs, Run { first, last })?;
+            settle(form, count);
             return Ok(());
         }
     }
@@ -614,8 +682,33 @@ fn count_listed(numbers: &[u16], form: &Form) -> usize
     count
 }
 
+// The runs that have numbers from a list's first number to its last one, and all runs beside another form.
+#[tactic(auto, using(crate::proofs::Clipped::count_met, crate::proofs::Clipped::ends_ordered))]
+fn near<'a>(runs: &'a [Run], form: &Form) -> &'a [Run]
+    requires runs { AreRuns runs.now }
+    requires form { IsForm form.now }
+    ensures runs { AreRuns result.now }
+    ensures same { count_where (has (numbers_of form.now)) (run_numbers result.now) ≡ count_where (has (numbers_of form.now)) (run_numbers runs.now) }
+{
+    match form {
+        Form::Listed(numbers) if numbers.len() > 0 => {
+            ranged::meeting(runs, numbers[0], numbers[numbers.len() - 1])
+        }
+        _ => runs,
+    }
+}
+
 // The count of numbers of runs that are in a form too.
 fn count_ranged(runs: &[Run], form: &Form) -> usize
+    requires runs { AreRuns runs.now }
+    requires form { IsForm form.now }
+    ensures { result ≡ count_where (has (numbers_of form.now)) (run_numbers runs.now) }
+{
+    count_each(near(runs, form), form)
+}
+
+// Like `count_ranged`, by a look at each run.
+fn count_each(runs: &[Run], form: &Form) -> usize
     requires runs { AreRuns runs.now }
     requires form { IsForm form.now }
     ensures { result ≡ count_where (has (numbers_of form.now)) (run_numbers runs.now) }

@@ -11,6 +11,7 @@ mod mapped;
 mod operation;
 mod ranged;
 mod runs_left;
+mod splice;
 mod stretches;
 
 pub use bit_block::BitBlock;

@@ -7,6 +7,7 @@ ghost use Rattle.bit_blocks.specs.Numbers.{Ascends, Combines, Gains, GainsBetwee
 
 use crate::operation::Operation;
 use crate::ranged::Run;
+use crate::splice;
 use std::alloc::{AllocError, Global};
 
 // How many numbers a list may have that is not turned into bits: both take 8192 bytes then.
@@ -47,14 +48,14 @@ fn make_room(numbers: &mut Vec<u16>) -> Result<(), AllocError>
     Ok(())
 }
 
-// Gives back what a list has room for beyond the room that it would make.
-pub(crate) fn give_back(numbers: &mut Vec<u16>)
-    ensures same { numbers.new.items ≡ numbers.old.items }
-    ensures none { vec_len numbers.old ≡ 0 → vec_capacity numbers.new ≤ 4 }
+// Gives back what a vector has room for beyond the room that a list of as many numbers would make.
+pub(crate) fn give_back<T>(items: &mut Vec<T>)
+    ensures same { items.new.items ≡ items.old.items }
+    ensures none { vec_len items.old ≡ 0 → vec_capacity items.new ≤ 4 }
 {
-    let count = numbers.len();
-    if numbers.capacity() > count + room_beyond(count) {
-        numbers.shrink_to_fit();
+    let count = items.len();
+    if items.capacity() > count.saturating_add(room_beyond(count)) {
+        items.shrink_to_fit();
     }
 }
 
@@ -193,20 +194,6 @@ pub(crate) fn insert_range(numbers: &mut Vec<u16>, first: u16, last: u16) -> Res
     Ok(())
 }
 
-// Moves the numbers from place `upto` on to place `from`, in the place of those between.
-fn close_gap(numbers: &mut Vec<u16>, from: usize, upto: usize)
-    requires ordered { from ≤ upto }
-    requires within { upto ≤ vec_len numbers.old }
-    ensures { numbers.new.items ≡ take from numbers.old.items ++ drop upto numbers.old.items }
-{
-    let gap = upto - from;
-    let count = numbers.len();
-    for i in upto..count {
-        numbers[i - gap] = numbers[i];
-    }
-    numbers.truncate(count - gap);
-}
-
 // Takes out the numbers from `first` to `last`.
 pub(crate) fn remove_range(numbers: &mut Vec<u16>, first: u16, last: u16)
     requires { Ascends numbers.old.items }
@@ -218,7 +205,7 @@ pub(crate) fn remove_range(numbers: &mut Vec<u16>, first: u16, last: u16)
     if upto <= from {
         return;
     }
-    close_gap(numbers, from, upto);
+    splice::with_none(numbers, from, upto);
 }
 
 // Appends numbers, where `keeps` says so.

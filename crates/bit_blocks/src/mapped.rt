@@ -1,5 +1,5 @@
 //! Numbers below 65536 as the true bits of a vector of that length.
-ghost use Rattle.std.specs.Prelude.{◌≡◌, ◌≤◌, ◌<◌, ◌||◌, ◌↔◌, ℕ, Bool, Some, true, [], IfOk, IsTrue, false, length, set, slice_get};
+ghost use Rattle.std.specs.Prelude.{◌≡◌, ◌≤◌, ◌<◌, ◌||◌, ◌↔◌, ℕ, Bool, Some, true, [], IfOk, IsTrue, false, length, not, set, slice_get};
 ghost use Rattle.bit_slice.specs.Places.{ones_of};
 ghost use Rattle.bit_blocks.specs.Bits.{AreBits};
 ghost use Rattle.bit_blocks.specs.Numbers.{Ascends, Combines, Gains, GainsBetween, Loses, LosesBetween, count_below, count_where, has};
@@ -83,24 +83,30 @@ pub(crate) fn nth(bits: &Bits, k: usize) -> Option<u16>
     }
 }
 
-// Puts `number` in.
+// Puts `number` in, and returns whether it was not there.
 #[tactic(auto, using(crate::proofs::Bits::ones_gain))]
-pub(crate) fn insert(bits: &mut Bits, number: u16)
+pub(crate) fn insert(bits: &mut Bits, number: u16) -> bool
     requires { AreBits bits.old.list }
     ensures size { AreBits bits.new.list }
+    ensures new { result ≡ not (has (ones_of bits.old.list) number) }
     ensures gains { Gains (ones_of bits.old.list) (ones_of bits.new.list) number }
 {
+    let old = contains(bits, number);
     BitListMut::set(bits, number as usize, true);
+    !old
 }
 
-// Takes `number` out.
+// Takes `number` out, and returns whether it was there.
 #[tactic(auto, using(crate::proofs::Bits::ones_lose))]
-pub(crate) fn remove(bits: &mut Bits, number: u16)
+pub(crate) fn remove(bits: &mut Bits, number: u16) -> bool
     requires { AreBits bits.old.list }
     ensures size { AreBits bits.new.list }
+    ensures old { result ≡ has (ones_of bits.old.list) number }
     ensures loses { Loses (ones_of bits.old.list) (ones_of bits.new.list) number }
 {
+    let old = contains(bits, number);
     BitListMut::set(bits, number as usize, false);
+    old
 }
 
 // Puts in the numbers from `first` to `last`.

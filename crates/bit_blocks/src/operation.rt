@@ -56,11 +56,11 @@ impl Operation {
     pub(crate) fn keeps(self, in_left: bool, in_right: bool) -> bool
         ensures { result ≡ made_by self in_left in_right }
     {
-        match (in_left, in_right) {
-            (true, true) => self.keeps_both(),
-            (true, false) => self.keeps_left(),
-            (false, true) => self.keeps_right(),
-            (false, false) => false,
+        match self {
+            Operation::Union => in_left | in_right,
+            Operation::Intersection => in_left & in_right,
+            Operation::Difference => in_left & !in_right,
+            Operation::SymmetricDifference => in_left ^ in_right,
         }
     }
 }

@@ -1,11 +1,12 @@
 //! Runs of numbers in a slice.
-ghost use Rattle.std.specs.Prelude.{◌≡◌, ◌≤◌, ◌+◌, ◌-◌, ◌↔◌, ◌++◌, IfOk, IsTrue, OnOk, length, slice_get};
+ghost use Rattle.std.specs.Prelude.{◌≡◌, ◌≤◌, ◌+◌, ◌-◌, ◌↔◌, ◌++◌, IfOk, IsTrue, OnErr, OnOk, length, slice_get};
 ghost use Rattle.std.specs.List.{range_with_len};
-ghost use Rattle.bit_blocks.specs.Numbers.{Ascends, GainsBetween, LosesBetween, count_below, count_where, has};
+ghost use Rattle.bit_blocks.specs.Numbers.{Ascends, GainsBetween, LosesBetween, count_below, count_where, has, numbers_between};
 ghost use Rattle.bit_blocks.specs.Runs.{AreRuns, run_below, run_numbers};
-ghost use Rattle.bit_blocks.specs.RunPlaces.{Absorbs, IsBegunBefore, IsEndedBefore};
+ghost use Rattle.bit_blocks.specs.RunPlaces.{Absorbs, EachMeets, IsBegunBefore, IsEndedBefore};
 
 use crate::runs_left::RunsLeft;
+use crate::splice;
 use std::alloc::{AllocError, Global};
 
 /// A run of numbers that follow one another.
@@ -33,6 +34,19 @@ pub(crate) fn ended_before(runs: &[Run], number: u16) -> usize
     ensures split { IsEndedBefore runs.now number result }
 {
     runs.partition_point(|run| run.last < number)
+}
+
+// The runs that have numbers from `first` to `last`. Requires that the runs are in order and apart.
+pub(crate) fn meeting(runs: &[Run], first: u16, last: u16) -> &[Run]
+    requires runs { AreRuns runs.now }
+    requires ordered { first ≤ last }
+    ensures runs { AreRuns result.now }
+    ensures meet { EachMeets result.now first last }
+    ensures same { numbers_between first last (run_numbers result.now) ≡ numbers_between first last (run_numbers runs.now) }
+{
+    let from = ended_before(runs, first);
+    let upto = place_of(runs, last);
+    &runs[from..upto]
 }
 
 // Whether `number` is in one of the runs. Requires that they are in order and apart.
@@ -166,6 +180,20 @@ pub(crate) fn one_run(alloc: Global, first: u16, last: u16) -> Result<Vec<Run>, 
     Ok(runs)
 }
 
+// Appends the run of the numbers from `first` on that are below `upto`, if there are any.
+pub(crate) fn push_run(made: &mut Vec<Run>, first: usize, upto: usize) -> Result<(), AllocError>
+    requires { upto ≤ 65536 }
+    ensures { OnOk result (made.new.items ≡ made.old.items ++ run_below first upto) }
+{
+    if first < upto {
+        made.push(Run {
+            first: first as u16,
+            last: (upto - 1) as u16,
+        })?;
+    }
+    Ok(())
+}
+
 // A run with all runs from place `from` on that it meets or that are next to it, and the place of the first that is not.
 // Requires that the runs are in order and apart, and that those before `from` end before the number before the run.
 fn absorbed(runs: &[Run], from: usize, run: Run) -> (Run, usize)
@@ -188,59 +216,62 @@ fn absorbed(runs: &[Run], from: usize, run: Run) -> (Run, usize)
     (all, upto)
 }
 
-// The runs with the numbers of one more. Requires that the runs are in order and apart.
-pub(crate) fn with_run(alloc: Global, runs: &[Run], run: Run) -> Result<Vec<Run>, AllocError>
-    requires runs { AreRuns runs.now }
+// Puts in the numbers of a run. Where memory is refused, the runs are as they were. Requires that the runs are in order
+// and apart.
+pub(crate) fn insert_run(runs: &mut Vec<Run>, run: Run) -> Result<(), AllocError>
+    requires runs { AreRuns runs.old.items }
     requires run { run.first ≤ run.last }
-    ensures runs { IfOk result (λ made. AreRuns made.items) }
-    ensures gains { IfOk result (λ made. GainsBetween (run_numbers runs.now) (run_numbers made.items) run.first run.last) }
+    ensures runs { AreRuns runs.new.items }
+    ensures gains { OnOk result (GainsBetween (run_numbers runs.old.items) (run_numbers runs.new.items) run.first run.last) }
+    ensures refused { OnErr result (runs.new.items ≡ runs.old.items) }
 {
     let from = ended_before(runs, run.first.saturating_sub(1));
     let (all, upto) = absorbed(runs, from, run);
-    let mut made = Vec::with_capacity(alloc, from + 1 + (runs.len() - upto))?;
-    made.extend_from_slice(&runs[..from])?;
-    made.push(all)?;
-    made.extend_from_slice(&runs[upto..])?;
-    Ok(made)
-}
-
-// Appends the run of the numbers from `first` on that are below `upto`, if there are any.
-pub(crate) fn push_run(made: &mut Vec<Run>, first: usize, upto: usize) -> Result<(), AllocError>
-    requires { upto ≤ 65536 }
-    ensures { OnOk result (made.new.items ≡ made.old.items ++ run_below first upto) }
-{
-    if first < upto {
-        made.push(Run {
-            first: first as u16,
-            last: (upto - 1) as u16,
-        })?;
-    }
+    splice::with_one(runs, from, upto, all)?;
     Ok(())
 }
 
-// The runs without the numbers of one. Requires that the runs are in order and apart.
-pub(crate) fn without_run(alloc: Global, runs: &[Run], run: Run) -> Result<Vec<Run>, AllocError>
-    requires runs { AreRuns runs.now }
+// Takes out the numbers of a run. Where memory is refused, the runs are as they were. Requires that the runs are in order
+// and apart.
+pub(crate) fn remove_run(runs: &mut Vec<Run>, run: Run) -> Result<(), AllocError>
+    requires runs { AreRuns runs.old.items }
     requires run { run.first ≤ run.last }
-    ensures runs { IfOk result (λ made. AreRuns made.items) }
-    ensures loses { IfOk result (λ made. LosesBetween (run_numbers runs.now) (run_numbers made.items) run.first run.last) }
+    ensures runs { AreRuns runs.new.items }
+    ensures loses { OnOk result (LosesBetween (run_numbers runs.old.items) (run_numbers runs.new.items) run.first run.last) }
+    ensures refused { OnErr result (runs.new.items ≡ runs.old.items) }
 {
     let from = ended_before(runs, run.first);
     let upto = place_of(runs, run.last);
     if upto <= from {
-        let copy = copied(alloc, runs)?;
-        return Ok(copy);
+        return Ok(());
     }
-    let mut made = Vec::with_capacity(alloc, runs.len() + 1)?;
-    made.extend_from_slice(&runs[..from])?;
-    push_run(&mut made, runs[from].first as usize, run.first as usize)?;
-    push_run(
-        &mut made,
-        run.last as usize + 1,
-        runs[upto - 1].last as usize + 1,
-    )?;
-    made.extend_from_slice(&runs[upto..])?;
-    Ok(made)
+    let (first, last) = (runs[from].first, runs[upto - 1].last);
+    if first < run.first {
+        let front = Run {
+            first,
+            last: run.first - 1,
+        };
+        if run.last < last {
+            let back = Run {
+                first: run.last + 1,
+                last,
+            };
+            splice::with_two(runs, from, upto, front, back)?;
+            return Ok(());
+        }
+        splice::with_one(runs, from, upto, front)?;
+        return Ok(());
+    }
+    if run.last < last {
+        let back = Run {
+            first: run.last + 1,
+            last,
+        };
+        splice::with_one(runs, from, upto, back)?;
+        return Ok(());
+    }
+    splice::with_none(runs, from, upto);
+    Ok(())
 }
 
 // A copy.

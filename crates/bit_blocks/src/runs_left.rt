@@ -48,9 +48,7 @@ impl<'a> RunsLeft<'a> {
         requires ordered { first ≤ last }
         ensures { runs_left result ≡ numbers_between first last (run_numbers runs.now) }
     {
-        let from = ranged::ended_before(runs, first);
-        let upto = ranged::place_of(runs, last);
-        RunsLeft::clipped(&runs[from..upto], first, last)
+        RunsLeft::clipped(ranged::meeting(runs, first, last), first, last)
     }
 
     // The same of runs that all have some of these numbers.

@@ -1,11 +1,12 @@
 //! Two lists of runs combined. They are read a stretch at a time, the numbers up to the next one where a run of either list
 //! begins or ends: each list has all of these, or none.
-ghost use Rattle.std.specs.Prelude.{◌≤◌, ◌<◌, IfOk, length};
+ghost use Rattle.std.specs.Prelude.{◌≤◌, ◌<◌, ◌+◌, IfOk, length, slice_index_or};
 ghost use Rattle.bit_blocks.specs.Numbers.{Combines};
 ghost use Rattle.bit_blocks.specs.Operation.{made_by};
 ghost use Rattle.bit_blocks.specs.Runs.{AreRuns, run_numbers};
 ghost use Rattle.bit_blocks.specs.RunPlaces.{EndBefore, IsEndedBefore, IsStretch};
 
+use crate::listed::give_back;
 use crate::mapped::COUNT;
 use crate::operation::Operation;
 use crate::ranged::{Run, push_run};
@@ -18,7 +19,8 @@ fn stretch(runs: &[Run], i: usize, at: usize) -> (bool, usize)
     requires low { at < 65536 }
     requires within { i ≤ length runs.now }
     requires place { IsEndedBefore runs.now at i }
-    ensures { IsStretch runs.now at result.1 result.0 }
+    ensures stretch { IsStretch runs.now at result.1 result.0 }
+    ensures near { (d : Run) → i < length runs.now → result.1 ≤ (slice_index_or runs.now i d).last + 1 }
 {
     if i == runs.len() {
         return (false, COUNT);
@@ -31,19 +33,20 @@ fn stretch(runs: &[Run], i: usize, at: usize) -> (bool, usize)
     }
 }
 
-// The count of runs that end before `upto`, where at least `i` do.
+// The count of runs that end before `upto`, where at least `i` do, and the next one not before the number before it.
 fn advanced(runs: &[Run], i: usize, upto: usize) -> usize
     requires runs { AreRuns runs.now }
     requires within { i ≤ length runs.now }
     requires before { EndBefore runs.now upto i }
+    requires near { (d : Run) → i < length runs.now → upto ≤ (slice_index_or runs.now i d).last + 1 }
     ensures within { result ≤ length runs.now }
     ensures place { IsEndedBefore runs.now upto result }
 {
-    let mut next = i;
-    while next < runs.len() && (runs[next].last as usize) < upto {
-        next += 1;
+    if i < runs.len() && (runs[i].last as usize) < upto {
+        i + 1
+    } else {
+        i
     }
-    next
 }
 
 // What an operation makes of two lists of runs. The last run, of the numbers from `first` on that are below `upto`, is appended
@@ -59,7 +62,7 @@ pub(crate) fn combined(
     ensures runs { IfOk result (λ made. AreRuns made.items) }
     ensures members { IfOk result (λ made. Combines (made_by operation) (run_numbers left.now) (run_numbers right.now) (run_numbers made.items)) }
 {
-    let mut made = Vec::new(alloc);
+    let mut made = Vec::with_capacity(alloc, left.len().saturating_add(right.len()))?;
     let (mut i, mut j, mut at) = (0, 0, 0);
     let (mut first, mut upto) = (0, 0);
     while at < COUNT {
@@ -78,5 +81,6 @@ pub(crate) fn combined(
         at = end;
     }
     push_run(&mut made, first, upto)?;
+    give_back(&mut made);
     Ok(made)
 }

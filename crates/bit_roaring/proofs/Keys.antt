@@ -1,5 +1,5 @@
 -- Blocks by their keys.
-use Rattle.std.proofs.Common.{◌≡◌, ◌≢◌, ℕ, zero, suc, ◌+◌, ◌*◌, ◌/◌, ◌%◌, ◌^◌, ◌<◌, ◌≤◌, Bool, true, false, cond, ◌&&◌, ◌||◌, nat_eq, List, [], ◌∷◌, ◌++◌, get_or, insert, length, map, set, refl, sym, ◌∙◌, ap, subst, inl, inr, arith}
+use Rattle.std.proofs.Common.{◌≡◌, ◌≢◌, ℕ, zero, suc, ◌+◌, ◌-◌, ◌*◌, ◌/◌, ◌%◌, ◌^◌, ◌<◌, ◌≤◌, Bool, true, false, cond, ◌&&◌, ◌||◌, nat_eq, List, [], ◌∷◌, ◌++◌, get_or, insert, length, map, set, refl, sym, ◌∙◌, ap, subst, inl, inr, arith}
 use Rattle.std.specs.Prelude.{remove}
 use Rattle.std.specs.List.Sorted.{IsNonDecreasingBy}
 use Rattle.std.proofs.Math.Bool.{and-false, or-false}
@@ -235,6 +235,23 @@ item_inside : (bs : List Keyed) (i : ℕ) (d e : Keyed) → i < length bs → ge
 item_inside [] i d e inside = absurd (omega arith)
 item_inside (b ∷ bs) zero d e inside = refl
 item_inside (b ∷ bs) (suc i) d e inside = item_inside bs i d e (omega arith)
+
+-- a key has its place where the key before is below it, and the one there is not
+pub is_place : (bs : List Keyed) (key i : ℕ) → AreKeyed bs → i ≤ length bs → (0 < i → (d : Keyed) × ((get_or bs (i - 1) d).key < key)) → (i < length bs → (d : Keyed) × (key ≤ (get_or bs i d).key)) → IsKeyPlace bs key i
+is_place bs key i h within low high = record {
+  before = λ j e l.
+      let one = low (omega arith) in
+      let less = one.1 in
+      let same = ap (λ (b : Keyed). b.key) (item_inside bs (i - 1) one.0 e (omega arith)) in
+      let up = keys_ascend 0 bs h j (i - 1) e (omega arith) (omega arith) in
+      omega arith;
+  after = λ j e l inside.
+      let one = high (omega arith) in
+      let more = one.1 in
+      let same = ap (λ (b : Keyed). b.key) (item_inside bs i one.0 e (omega arith)) in
+      let up = keys_ascend 0 bs h i j e l inside in
+      omega arith;
+}
 
 pub is_there : (bs : List Keyed) (key i : ℕ) (d : Keyed) → AreKeyed bs → i < length bs → (get_or bs i d).key ≡ key → IsThere bs key i
 is_there bs key i d h inside at =

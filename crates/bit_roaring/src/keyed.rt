@@ -11,9 +11,11 @@ pub(crate) mod changed;
 pub(crate) mod common;
 pub(crate) mod in_place;
 pub(crate) mod merged;
+pub(crate) mod near;
 pub(crate) mod ranges;
 pub(crate) mod replaced;
 
+use crate::keyed::near::{Near, get_near};
 use bit_blocks::{Block, Keyed, Operation, listed};
 use std::alloc::{AllocError, Global};
 
@@ -22,7 +24,16 @@ pub(crate) fn find(blocks: &[Keyed], key: u16) -> Result<usize, usize>
     requires { AreKeyed blocks.now }
     ensures { MatchResult result (IsThere blocks.now key) (IsAbsent blocks.now key) }
 {
-    let place = place_of(blocks, key);
+    found_at(blocks, key, place_of(blocks, key))
+}
+
+// Like `find`, where the key's place is `place`.
+fn found_at(blocks: &[Keyed], key: u16, place: usize) -> Result<usize, usize>
+    requires keyed { AreKeyed blocks.now }
+    requires within { place ≤ length blocks.now }
+    requires place { IsKeyPlace blocks.now key place }
+    ensures { MatchResult result (IsThere blocks.now key) (IsAbsent blocks.now key) }
+{
     if place == blocks.len() {
         return Err(place);
     }
@@ -199,7 +210,8 @@ fn kept(alloc: Global, block: &Block, keeps: bool) -> Result<Block, AllocError>
     Ok(Block::new(alloc))
 }
 
-// The numbers of the block with a key that an operation makes of those of two lists of blocks.
+// The numbers of the block with a key that an operation makes of those of two lists of blocks, which are looked for near
+// two places.
 #[tactic(auto, using(crate::proofs::Made::combined_left, crate::proofs::Made::combined_right, crate::proofs::Made::combined_none, crate::proofs::Made::kept_ascends, crate::proofs::Keys::block_ascends))]
 pub(crate) fn combined_at(
     alloc: Global,
@@ -207,13 +219,16 @@ pub(crate) fn combined_at(
     right: &[Keyed],
     key: u16,
     operation: Operation,
+    near: &mut Near,
 ) -> Result<Block, AllocError>
     requires left { AreKeyed left.now }
     requires right { AreKeyed right.now }
     ensures members { IfOk result (λ block. Combines (made_by operation) (block_at left.now key) (block_at right.now key) block) }
     ensures ascends { IfOk result (λ block. Ascends block) }
 {
-    match (get(left, key), get(right, key)) {
+    let numbers = get_near(left, key, &mut near.left);
+    let others = get_near(right, key, &mut near.right);
+    match (numbers, others) {
         (Some(numbers), Some(others)) => numbers.combined(alloc, others, operation),
         (Some(numbers), None) => kept(alloc, numbers, operation.keeps_left()),
         (None, Some(others)) => kept(alloc, others, operation.keeps_right()),
@@ -235,8 +250,9 @@ pub(crate) fn combined(
 {
     let keys = keys_for(alloc, left, right, operation)?;
     let mut made = Vec::new(alloc);
+    let mut near = Near::default();
     for key in &keys {
-        let block = combined_at(alloc, left, right, *key, operation)?;
+        let block = combined_at(alloc, left, right, *key, operation, &mut near)?;
         push_some(&mut made, *key, block)?;
     }
     Ok(made)

@@ -7,8 +7,9 @@ ghost use Rattle.bit_roaring.specs.Keyed.{AreKeyed, block_at, keys_of};
 
 use crate::keyed::in_place::change_all;
 use crate::keyed::merged::merge_all;
+use crate::keyed::near::{Near, find_near, get_near};
 use crate::keyed::replaced::{replace_all, replace_each};
-use crate::keyed::{combined_at, find, get, keys_of};
+use crate::keyed::{combined_at, get, keys_of};
 use bit_blocks::{Keyed, Operation};
 use std::alloc::{AllocError, Global};
 
@@ -79,8 +80,9 @@ fn new_keys(
     if !operation.keeps_right() {
         return Ok(keys);
     }
+    let mut near = 0;
     for keyed in others {
-        let Err(_) = find(blocks, keyed.key) else {
+        let Err(_) = find_near(blocks, keyed.key, &mut near) else {
             continue;
         };
         keys.push(keyed.key)?;
@@ -137,8 +139,9 @@ fn keys_in(alloc: Global, blocks: &[Keyed], others: &[Keyed]) -> Result<Vec<u16>
     ensures all { IfOk result (λ keys. (k : ℕ) → has keys.items k ≡ false → (block_at blocks.now k ≡ []) ⊎ (block_at others.now k ≡ [])) }
 {
     let mut keys = Vec::new(alloc);
+    let mut near = 0;
     for keyed in blocks {
-        if get(others, keyed.key).is_none() {
+        if get_near(others, keyed.key, &mut near).is_none() {
             continue;
         }
         keys.push(keyed.key)?;
@@ -161,8 +164,9 @@ fn made_each(
     ensures each { IfOk result (λ made. All (IsMade (made_by operation) left.now right.now) made.items) }
 {
     let mut made = Vec::with_capacity(alloc, keys.len())?;
+    let mut near = Near::default();
     for key in keys {
-        let block = combined_at(alloc, left, right, *key, operation)?;
+        let block = combined_at(alloc, left, right, *key, operation, &mut near)?;
         made.push(Keyed { key: *key, block })?;
     }
     Ok(made)
@@ -195,10 +199,11 @@ fn moves_few(blocks: &[Keyed], made: &[Keyed], operation: Operation) -> bool
     requires { AreKeyed blocks.now }
 {
     let mut count = 0usize;
+    let mut near = 0;
     for keyed in made {
         let is_empty = keyed.block.is_empty();
         let may_move = is_empty || operation.keeps_right();
-        if may_move && get(blocks, keyed.key).is_some() == is_empty {
+        if may_move && get_near(blocks, keyed.key, &mut near).is_some() == is_empty {
             count = count.saturating_add(1);
         }
         if count > FEW {

@@ -3,7 +3,7 @@ ghost use Rattle.std.specs.Prelude.{◌≡◌, ◌≤◌, ◌<◌, ◌↔◌, �
 ghost use Rattle.bit_blocks.specs.Numbers.{Ascends, count_where, has};
 ghost use Rattle.bit_roaring.specs.Keyed.{AreKeyed, keyed_numbers, set_numbers};
 
-use crate::keyed::get;
+use crate::keyed::near::get_near;
 use bit_blocks::Keyed;
 
 // The count of numbers that are in both lists of blocks. Each block of the shorter list is looked for in the other.
@@ -28,21 +28,22 @@ fn count_in(blocks: &[Keyed], others: &[Keyed]) -> u64
     ensures { result ≡ count_where (has (set_numbers others.now)) (set_numbers blocks.now) }
 {
     let mut count = 0;
+    let mut near = 0;
     for keyed in blocks {
-        count += count_at(keyed, others);
+        count += count_at(keyed, others, &mut near);
     }
     count
 }
 
-// The count of numbers of a block that are in other blocks too.
-fn count_at(keyed: &Keyed, others: &[Keyed]) -> u64
+// The count of numbers of a block that are in other blocks too. The one with its key is looked for near a place.
+fn count_at(keyed: &Keyed, others: &[Keyed], near: &mut usize) -> u64
     requires key { keyed.now.key < 65536 }
     requires ascends { Ascends keyed.now.block }
     requires right { AreKeyed others.now }
     ensures value { result ≡ count_where (has (set_numbers others.now)) (keyed_numbers keyed.now) }
     ensures few { result ≤ length keyed.now.block }
 {
-    match get(others, keyed.key) {
+    match get_near(others, keyed.key, near) {
         None => 0,
         Some(other) => keyed.block.count_both(other) as u64,
     }
@@ -55,8 +56,9 @@ pub(crate) fn is_subset(blocks: &[Keyed], others: &[Keyed]) -> bool
     requires right { AreKeyed others.now }
     ensures { IsTrue result ↔ ((k : ℕ) → has (set_numbers blocks.now) k ≡ true → has (set_numbers others.now) k ≡ true) }
 {
+    let mut near = 0;
     for keyed in blocks {
-        if count_at(keyed, others) != keyed.block.len() as u64 {
+        if count_at(keyed, others, &mut near) != keyed.block.len() as u64 {
             return false;
         }
     }
@@ -84,8 +86,9 @@ fn has_none_in(blocks: &[Keyed], others: &[Keyed]) -> bool
     requires right { AreKeyed others.now }
     ensures { IsTrue result ↔ ((k : ℕ) → has (set_numbers blocks.now) k ≡ true → has (set_numbers others.now) k ≡ false) }
 {
+    let mut near = 0;
     for keyed in blocks {
-        if count_at(keyed, others) != 0 {
+        if count_at(keyed, others, &mut near) != 0 {
             return false;
         }
     }

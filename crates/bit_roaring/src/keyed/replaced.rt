@@ -5,7 +5,7 @@ ghost use Rattle.bit_roaring.specs.Changes.{Replaces, ReplacesAll};
 ghost use Rattle.bit_roaring.specs.Keyed.{AreKeyed};
 ghost use Rattle.bit_roaring.specs.Places.{IsAbsent, IsThere};
 
-use crate::keyed::find;
+use crate::keyed::near::find_near;
 use bit_blocks::{Block, Keyed};
 use std::alloc::AllocError;
 
@@ -30,14 +30,15 @@ pub(crate) fn replace_each(blocks: &mut Vec<Keyed>, mut made: Vec<Keyed>)
     ensures keyed { AreKeyed blocks.new.items }
     ensures replaces { ReplacesAll blocks.old.items blocks.new.items made.items }
 {
+    let mut near = blocks.len();
     while let Some(keyed) = made.pop() {
-        replace(blocks, keyed.key, keyed.block);
+        replace(blocks, keyed.key, keyed.block, &mut near);
     }
 }
 
-// Puts a block in the place of the one with its key, or takes that one out where the block has no number. Requires room
-// for a block more.
-fn replace(blocks: &mut Vec<Keyed>, key: u16, block: Block)
+// Puts a block in the place of the one with its key, or takes that one out where the block has no number. The key is
+// looked for near a place. Requires room for a block more.
+fn replace(blocks: &mut Vec<Keyed>, key: u16, block: Block, near: &mut usize)
     requires keyed { AreKeyed blocks.old.items }
     requires ascends { Ascends block }
     requires room { vec_len blocks.old < vec_capacity blocks.old }
@@ -46,7 +47,7 @@ fn replace(blocks: &mut Vec<Keyed>, key: u16, block: Block)
     ensures len { vec_len blocks.new ≤ vec_len blocks.old + 1 }
     ensures capacity { vec_capacity blocks.old ≤ vec_capacity blocks.new }
 {
-    match find(blocks, key) {
+    match find_near(blocks, key, near) {
         Ok(place) => replace_at(blocks, place, key, block),
         Err(place) => insert_some(blocks, place, key, block),
     }

@@ -8,7 +8,8 @@ returns-then-has_room-clause-form c =
     let numbers = c.in-Listed.numbers in
     let good : AreListed numbers.items = rw c.in-Listed.is at c.requires.form in
     let room = c.if-has_room.true in
-    listed_gained numbers.items c.insert.new.numbers.items c.args.number good.ascends (omega (arith, c.len-has_room.ensures, numbers.ok.0)) c.ranges.number.fits c.insert.ensures.ascends c.in_ok-insert-in-Listed.ensures.gains
+    let size = rw c.in-Listed.is at c.requires.count in
+    listed_gained numbers.items c.insert.new.numbers.items c.args.number good.ascends (omega (arith, size)) c.ranges.number.fits c.insert.ensures.ascends c.in_ok-new-in-Listed.ensures.gains
 
 pub returns-in-Mapped-clause-form : goal.returns-in-Mapped-clause-form
 returns-in-Mapped-clause-form c =

@@ -1,3 +1,4 @@
+use Rattle.std.proofs.Common.{arith}
 use Rattle.bit_blocks.specs.Form.{AreListed, AreMapped, numbers_of}
 use Rattle.bit_blocks.proofs.Forms.{ascends_form, listed_cleared, mapped_cleared}
 use Rattle.bit_blocks.proofs.Ranges.{all_lost}
@@ -17,6 +18,7 @@ pub returns-then-many-clause-form : goal.returns-then-many-clause-form
 returns-then-many-clause-form c =
     let good : AreMapped c.in-Mapped.bits.value.list = rw c.in-Mapped.is at c.requires.form in
     let loses = rw c.deref_mut.ensures.value at c.remove_range-then-many.ensures.loses in
-    let many = rw c.in-Mapped.is at c.requires.many c.if-many.true in
-    mapped_cleared c.in-Mapped.bits.value.list c.remove_range-then-many.new.bits.list (record { first = c.args.first; last = c.args.last }) good many c.requires.ordered c.ranges.last.fits
+    let size = rw c.in-Mapped.is at c.requires.count in
+    let many = c.if-many.true in
+    mapped_cleared c.in-Mapped.bits.value.list c.remove_range-then-many.new.bits.list (record { first = c.args.first; last = c.args.last }) good (omega (arith, size)) c.requires.ordered c.ranges.last.fits
     c.remove_range-then-many.ensures.size loses

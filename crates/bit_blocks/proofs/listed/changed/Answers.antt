@@ -16,5 +16,5 @@ returns-clause-few c =
     let left = c.args.left.now in
     let right = c.args.right.now in
     let made = c.loop-number.made.items in
-    few_combined op left right c.give_back.new.numbers.items c.requires.left c.requires.right (subst Ascends (sym c.give_back.ensures.same) c.loop-number.invariant.ascends)
+    few_combined op left right c.give_back.new.items.items c.requires.left c.requires.right (subst Ascends (sym c.give_back.ensures.same) c.loop-number.invariant.ascends)
     (subst (λ l. Combines (made_by op) left right l) (sym c.give_back.ensures.same) (all_changes op left made right c.loop-number.number-index c.loop-number-test.false c.loop-number.invariant))

@@ -48,13 +48,13 @@ all_kept c =
     ∙ ap (λ l. c.loop-i.made.items ++ cond (made_by c.args.operation true false) l []) (to_end left c.loop-i.i)))
 
 pub returns-clause-members : goal.returns-clause-members
-returns-clause-members c = combines_those c.args.operation c.args.left.now c.args.right.now c.give_back.new.numbers.items c.requires.left c.requires.right (c.give_back.ensures.same ∙ all_kept c)
+returns-clause-members c = combines_those c.args.operation c.args.left.now c.args.right.now c.give_back.new.items.items c.requires.left c.requires.right (c.give_back.ensures.same ∙ all_kept c)
 
 pub returns-clause-ascends : goal.returns-clause-ascends
-returns-clause-ascends c = ascends_made c.args.operation c.args.left.now c.args.right.now c.give_back.new.numbers.items (c.give_back.ensures.same ∙ all_kept c)
+returns-clause-ascends c = ascends_made c.args.operation c.args.left.now c.args.right.now c.give_back.new.items.items (c.give_back.ensures.same ∙ all_kept c)
 
 pub returns-clause-few : goal.returns-clause-few
 returns-clause-few c =
     let made = c.give_back.ensures.same ∙ all_kept c in
-    few_combined c.args.operation c.args.left.now c.args.right.now c.give_back.new.numbers.items c.requires.left c.requires.right (ascends_made c.args.operation c.args.left.now c.args.right.now c.give_back.new.numbers.items made)
-    (combines_those c.args.operation c.args.left.now c.args.right.now c.give_back.new.numbers.items c.requires.left c.requires.right made)
+    few_combined c.args.operation c.args.left.now c.args.right.now c.give_back.new.items.items c.requires.left c.requires.right (ascends_made c.args.operation c.args.left.now c.args.right.now c.give_back.new.items.items made)
+    (combines_those c.args.operation c.args.left.now c.args.right.now c.give_back.new.items.items c.requires.left c.requires.right made)

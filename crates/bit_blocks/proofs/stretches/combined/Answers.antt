@@ -9,7 +9,7 @@ loop-at-init c = record {
   j_within = omega arith;
   i_place = record { before = λ j d low. absurd (omega arith); after = λ j d low inside. omega arith };
   j_place = record { before = λ j d low. absurd (omega arith); after = λ j d low inside. omega arith };
-  made = rw c.new-made.ensures.items (nothing_made c.args.operation c.args.left.now c.args.right.now);
+  made = rw c.in_ok-made.ensures.items (nothing_made c.args.operation c.args.left.now c.args.right.now);
 }
 
 pub loop-at-preserved : goal.loop-at-preserved
@@ -26,8 +26,8 @@ loop-at-preserved c =
     let left_end : ℕ = c.stretch-in_left.result.1 in
     let right_end : ℕ = c.stretch-in_right.result.1 in
     let end = c.min-end.result in
-    let left = c.stretch-in_left.ensures in
-    let right = c.stretch-in_right.ensures in
+    let left = c.stretch-in_left.ensures.stretch in
+    let right = c.stretch-in_right.ensures.stretch in
     let g = c.loop-at.invariant.made in
     let is : end ≡ min left_end right_end = c.min-end.ensures in
     let some : at < left_end = left.some in
@@ -50,8 +50,14 @@ loop-at-preserved c =
 
 pub returns-clause-runs : goal.returns-clause-runs
 returns-clause-runs c =
-    rw c.in_ok-push_run-2.ensures (made_runs c.args.operation c.args.left.now c.args.right.now c.loop-at.made.items c.loop-at.first c.loop-at.upto c.loop-at.at c.loop-at.invariant.made)
+    rw (c.give_back.ensures.same ∙ c.in_ok-push_run-2.ensures) (made_runs c.args.operation c.args.left.now c.args.right.now c.loop-at.made.items c.loop-at.first c.loop-at.upto c.loop-at.at c.loop-at.invariant.made)
 
 pub returns-clause-members : goal.returns-clause-members
 returns-clause-members c =
-    rw c.in_ok-push_run-2.ensures (made_combines c.args.operation c.args.left.now c.args.right.now c.loop-at.made.items c.loop-at.first c.loop-at.upto c.loop-at.at c.loop-at.invariant.made c.requires.left c.requires.right (omega (arith, c.loop-at-test.false)))
+    rw (c.give_back.ensures.same ∙ c.in_ok-push_run-2.ensures) (made_combines c.args.operation c.args.left.now c.args.right.now c.loop-at.made.items c.loop-at.first c.loop-at.upto c.loop-at.at c.loop-at.invariant.made c.requires.left c.requires.right (omega (arith, c.loop-at-test.false)))
+
+pub advanced-i-requires-clause-near : goal.advanced-i-requires-clause-near
+advanced-i-requires-clause-near c = λ d inside. let most = c.stretch-in_left.ensures.near d inside in omega (arith, c.min-end.ensures)
+
+pub advanced-j-requires-clause-near : goal.advanced-j-requires-clause-near
+advanced-j-requires-clause-near c = λ d inside. let most = c.stretch-in_right.ensures.near d inside in omega (arith, c.min-end.ensures)

@@ -5,7 +5,7 @@ use Rattle.bit_blocks.specs.Runs.{numbers_of_run, run_numbers}
 use Rattle.bit_blocks.specs.declared.ranged.Run.{Run}
 use Rattle.bit_blocks.proofs.Counting.{count_append, count_most}
 use Rattle.bit_blocks.proofs.Runs.{few_in_runs, from_run, run_ordered}
-use Rattle.bit_blocks.proofs.form.count_ranged.Goals as goal
+use Rattle.bit_blocks.proofs.form.count_each.Goals as goal
 
 abbrev none : Run
 none = record { first = 0; last = 0 }

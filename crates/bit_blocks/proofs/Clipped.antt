@@ -181,7 +181,8 @@ several_clipped (r ∷ rs) first last from upto back_from back_upto d h some ord
 
 -- ---- runs beside a list
 
-has_between : (first last k : ℕ) (xs : List ℕ) → first ≤ k → k ≤ last → has (numbers_between first last xs) k ≡ has xs k
+-- a number of a range is in a list if it is in what the list has of the range
+pub has_between : (first last k : ℕ) (xs : List ℕ) → first ≤ k → k ≤ last → has (numbers_between first last xs) k ≡ has xs k
 has_between first last k xs low high = has_filter (λ k. is_between first last k) xs k ∙ ap (λ b. has xs k && b) (in_between first last k low high) ∙ and-true (has xs k)
 
 -- a number of a list lies between its first one and its last one

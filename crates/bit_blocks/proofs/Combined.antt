@@ -7,11 +7,12 @@ use Rattle.std.proofs.lemmas.Bool.{cases_lt, le-leb, lt-leb, lt-ltb, le-ltb}
 use Rattle.std.proofs.lemmas.List.{get_or_default}
 use Rattle.bit_blocks.specs.declared.operation.Operation.{Operation}
 use Rattle.bit_blocks.specs.declared.ranged.Run.{Run}
-use Rattle.bit_blocks.specs.Numbers.{Combines, those}
+use Rattle.bit_blocks.specs.Numbers.{Combines, has, numbers_between, those}
 use Rattle.bit_blocks.specs.Operation.{made_by}
 use Rattle.bit_blocks.specs.Runs.{AreRuns, AreRunsFrom, is_in_run, is_in_runs, numbers_of_run, run_below, run_numbers}
 use Rattle.bit_blocks.specs.RunPlaces.{EndBefore, IsEndedBefore, IsStretch}
 use Rattle.bit_blocks.proofs.Absorbed.{gap}
+use Rattle.bit_blocks.proofs.Clipped.{has_between}
 use Rattle.bit_blocks.proofs.Merging.{combines_those, kept, kept_where}
 use Rattle.bit_blocks.proofs.Runs.{ascends_all, firsts_ascend, has_runs, lasts_ascend, run_ordered}
 use Rattle.bit_blocks.proofs.Those.{those_empty, those_here, those_joined, those_none}
@@ -32,6 +33,41 @@ pub in_some_run : (rs : List Run) (k i : ℕ) (d : Run) → i < length rs → (g
 in_some_run [] k i d inside low high = absurd (omega arith)
 in_some_run (r ∷ rs) k zero d inside low high = ap (λ b. (b && leb k r.last) || is_in_runs rs k) (le-leb r.first k low) ∙ ap (λ b. b || is_in_runs rs k) (le-leb k r.last high)
 in_some_run (r ∷ rs) k (suc i) d inside low high = ap (λ b. is_in_run r k || b) (in_some_run rs k i d (omega arith) low high) ∙ or-true (is_in_run r k)
+
+-- a number of runs lies between the first one of the first run and the last one of the last run
+within_runs : (rs : List Run) (k : ℕ) (d : Run) → AreRuns rs → 0 < length rs → has (run_numbers rs) k ≡ true → ((get_or rs 0 d).first ≤ k) × (k ≤ (get_or rs (length rs - 1) d).last)
+within_runs rs k d h some there = (
+  elim (cases_lt k (get_or rs 0 d).first) [
+    | inl low ↦ absurd (let e : true ≡ false = sym there ∙ has_runs 0 rs k h ∙ in_no_run rs k (λ j e l.
+        let up = firsts_ascend 0 rs h 0 j e (omega arith) l in
+        let same = ap (λ (r : Run). r.first) (get_or_default rs 0 d e some) in
+        inr (omega arith)) in cc)
+    | inr fine ↦ fine
+  ],
+  elim (cases_lt (get_or rs (length rs - 1) d).last k) [
+    | inl high ↦ absurd (let e : true ≡ false = sym there ∙ has_runs 0 rs k h ∙ in_no_run rs k (λ j e l.
+        let up = lasts_ascend 0 rs h j (length rs - 1) e (omega arith) (omega arith) in
+        let same = ap (λ (r : Run). r.last) (get_or_default rs (length rs - 1) d e (omega arith)) in
+        inl (omega arith)) in cc)
+    | inr fine ↦ fine
+  ],
+)
+
+-- runs that have the same numbers from the first number of others to their last one have the same of these
+pub alike_beside : (rs ps os : List Run) (first last k : ℕ) (d : Run) → AreRuns os → 0 < length os → first ≡ (get_or os 0 d).first → last ≡ (get_or os (length os - 1) d).last
+    → numbers_between first last (run_numbers ps) ≡ numbers_between first last (run_numbers rs) → has (run_numbers os) k ≡ true → has (run_numbers ps) k ≡ has (run_numbers rs) k
+alike_beside rs ps os first last k d h some begins ends same there =
+    let at = within_runs os k d h some there in
+    let low : first ≤ k = omega (arith, at.0) in
+    let high : k ≤ last = omega (arith, at.1) in
+    sym (has_between first last k (run_numbers ps) low high) ∙ ap (λ l. has l k) same ∙ has_between first last k (run_numbers rs) low high
+
+-- and the first number is at most the last one
+pub runs_ordered : (rs : List Run) (first last : ℕ) (d : Run) → AreRuns rs → 0 < length rs → first ≡ (get_or rs 0 d).first → last ≡ (get_or rs (length rs - 1) d).last → first ≤ last
+runs_ordered rs first last d h some begins ends =
+    let up = (run_ordered 0 rs (length rs - 1) d h (omega arith)).0 in
+    let on = firsts_ascend 0 rs h 0 (length rs - 1) d (omega arith) (omega arith) in
+    omega arith
 
 module _ (rs : List Run) (at i : ℕ) (h : AreRuns rs) (g : IsEndedBefore rs at i) where
   pub past_all : at < 65536 → i ≡ length rs → IsStretch rs at 65536 false

@@ -1,5 +1,6 @@
 -- Operations that leave a number alone, and those whose sides can be exchanged.
-use Rattle.std.proofs.Common.{◌≡◌, ℕ, Bool, true, false, List, refl, sym, ◌∙◌}
+use Rattle.std.proofs.Common.{◌≡◌, ℕ, Bool, true, false, List, refl, sym, ◌∙◌, ap, inl, inr}
+use Rattle.std.proofs.lemmas.Bool.{cases_Bool}
 use Rattle.bit_blocks.specs.Numbers.{Combines, has}
 use Rattle.bit_blocks.specs.Operation.{made_by}
 use Rattle.bit_blocks.specs.declared.operation.Operation.{Operation}
@@ -40,3 +41,27 @@ swapped_by_right op xs ys zs right made k = made k ∙ swapped op (has xs k) (ha
 
 pub swapped_by_left : (op : Operation) (xs ys zs : List ℕ) → made_by op true false ≡ false → Combines (made_by op) ys xs zs → Combines (made_by op) xs ys zs
 swapped_by_left op xs ys zs left made k = made k ∙ swapped op (has xs k) (has ys k) (drops_right op left ∙ sym left)
+
+-- ---- numbers of one list alone that are not kept
+
+right_alone : (op : Operation) → made_by op false true ≡ false → (b : Bool) → made_by op false b ≡ false
+right_alone op drops true = drops
+right_alone op drops false = made_none op
+
+left_alone : (op : Operation) → made_by op true false ≡ false → (b : Bool) → made_by op b false ≡ false
+left_alone op drops true = drops
+left_alone op drops false = made_none op
+
+-- a right list that is another where the left one has numbers
+pub right_beside : (op : Operation) (xs ys zs made : List ℕ) → made_by op false true ≡ false → ((k : ℕ) → has xs k ≡ true → has zs k ≡ has ys k) → Combines (made_by op) xs zs made → Combines (made_by op) xs ys made
+right_beside op xs ys zs made drops alike combines k = combines k ∙ elim (cases_Bool (has xs k)) [
+  | inl there ↦ ap (made_by op (has xs k)) (alike k there)
+  | inr out ↦ ap (λ b. made_by op b (has zs k)) out ∙ right_alone op drops (has zs k) ∙ sym (ap (λ b. made_by op b (has ys k)) out ∙ right_alone op drops (has ys k))
+]
+
+-- and a left one
+pub left_beside : (op : Operation) (xs ys zs made : List ℕ) → made_by op true false ≡ false → ((k : ℕ) → has ys k ≡ true → has zs k ≡ has xs k) → Combines (made_by op) zs ys made → Combines (made_by op) xs ys made
+left_beside op xs ys zs made drops alike combines k = combines k ∙ elim (cases_Bool (has ys k)) [
+  | inl there ↦ ap (λ b. made_by op b (has ys k)) (alike k there)
+  | inr out ↦ ap (made_by op (has zs k)) out ∙ left_alone op drops (has zs k) ∙ sym (ap (made_by op (has xs k)) out ∙ left_alone op drops (has xs k))
+]

@@ -342,8 +342,35 @@ fn changed_by_list(
     form_of_counted(alloc, bits, count)
 }
 
-// Like `combined`, of two lists of runs.
+// Like `combined`, of two lists of runs. Those of the longer list that lie past the ends of the other are not looked at,
+// where the operation keeps none of their numbers.
+#[tactic(auto, using(crate::proofs::Operations::right_beside, crate::proofs::Operations::left_beside))]
 fn combined_runs(
+    alloc: Global,
+    left: &[Run],
+    right: &[Run],
+    operation: Operation,
+) -> Result<Form, AllocError>
+    requires left { AreRuns left.now }
+    requires right { AreRuns right.now }
+    ensures members { IfOk result (λ form. Combines (made_by operation) (run_numbers left.now) (run_numbers right.now) (numbers_of form)) }
+    ensures form { IfOk result (λ form. IsForm form) }
+{
+    if left.len() < right.len() && !operation.keeps_right() {
+        let near = ranged::beside(right, left);
+        let form = combined_all_runs(alloc, left, near, operation)?;
+        return Ok(form);
+    }
+    if right.len() < left.len() && !operation.keeps_left() {
+        let near = ranged::beside(left, right);
+        let form = combined_all_runs(alloc, near, right, operation)?;
+        return Ok(form);
+    }
+    combined_all_runs(alloc, left, right, operation)
+}
+
+// Like `combined_runs`, by a look at all runs.
+fn combined_all_runs(
     alloc: Global,
     left: &[Run],
     right: &[Run],

@@ -1,5 +1,5 @@
 //! Runs of numbers in a slice.
-ghost use Rattle.std.specs.Prelude.{◌≡◌, ◌≤◌, ◌+◌, ◌-◌, ◌↔◌, ◌++◌, IfOk, IsTrue, OnErr, OnOk, length, slice_get};
+ghost use Rattle.std.specs.Prelude.{◌≡◌, ◌≤◌, ◌+◌, ◌-◌, ◌↔◌, ◌++◌, ℕ, IfOk, IsTrue, OnErr, OnOk, length, slice_get, true};
 ghost use Rattle.std.specs.List.{range_with_len};
 ghost use Rattle.bit_blocks.specs.Numbers.{Ascends, GainsBetween, LosesBetween, count_below, count_where, has, numbers_between};
 ghost use Rattle.bit_blocks.specs.Runs.{AreRuns, run_below, run_numbers};
@@ -47,6 +47,22 @@ pub(crate) fn meeting(runs: &[Run], first: u16, last: u16) -> &[Run]
     let from = ended_before(runs, first);
     let upto = place_of(runs, last);
     &runs[from..upto]
+}
+
+// The runs that have numbers from the first one of others to their last one, and all runs where there are no others.
+// Requires that the runs of each are in order and apart.
+#[tactic(auto, using(crate::proofs::Combined::alike_beside, crate::proofs::Combined::runs_ordered))]
+pub(crate) fn beside<'a>(runs: &'a [Run], others: &[Run]) -> &'a [Run]
+    requires runs { AreRuns runs.now }
+    requires others { AreRuns others.now }
+    ensures runs { AreRuns result.now }
+    ensures alike { (k : ℕ) → has (run_numbers others.now) k ≡ true → has (run_numbers result.now) k ≡ has (run_numbers runs.now) k }
+{
+    let count = others.len();
+    if count == 0 {
+        return runs;
+    }
+    meeting(runs, others[0].first, others[count - 1].last)
 }
 
 // Whether `number` is in one of the runs. Requires that they are in order and apart.

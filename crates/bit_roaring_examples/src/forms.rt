@@ -58,7 +58,8 @@ fn a_range_is_runs_once_it_is_optimized(rt: HostRuntime) {
     ok(&rt, block.optimize());
     check(&rt, is_runs(&block));
     check(&rt, ok(&rt, block.remove(3000)));
-    check(&rt, is_bits(&block));
+    check(&rt, is_runs(&block));
+    check(&rt, block.count_runs() == 2);
 }
 
 #[test]
@@ -107,6 +108,43 @@ fn a_range_leaves_runs_as_runs(rt: HostRuntime) {
     ok(&rt, block.insert_range(11, 48));
     check(&rt, block.count_runs() == 1);
     check(&rt, block.len() == 40);
+}
+
+#[test]
+fn a_number_leaves_runs_as_runs(rt: HostRuntime) {
+    let mut block = ok(&rt, Block::from_range(rt.alloc(), 10, 19));
+    check(&rt, ok(&rt, block.insert(30)));
+    check(&rt, ok(&rt, block.insert(20)));
+    check(&rt, !ok(&rt, block.insert(20)));
+    check(&rt, ok(&rt, block.remove(15)));
+    check(&rt, !ok(&rt, block.remove(15)));
+    check(&rt, is_runs(&block));
+    check(&rt, block.count_runs() == 3);
+    check(&rt, block.len() == 11);
+}
+
+#[test]
+fn runs_that_no_longer_pay_are_a_list(rt: HostRuntime) {
+    let mut block = ok(&rt, Block::from_range(rt.alloc(), 10, 18));
+    check(&rt, ok(&rt, block.remove(12)));
+    check(&rt, ok(&rt, block.remove(15)));
+    check(&rt, is_runs(&block));
+    check(&rt, ok(&rt, block.remove(17)));
+    check(&rt, is_list(&block));
+    check(&rt, block.len() == 6);
+}
+
+#[test]
+fn runs_that_no_longer_pay_are_bits(rt: HostRuntime) {
+    let mut block = ok(&rt, Block::from_range(rt.alloc(), 0, 9999));
+    for third in 0..2047u16 {
+        check(
+            &rt,
+            ok(&rt, block.remove(third.wrapping_mul(3).wrapping_add(1))),
+        );
+    }
+    check(&rt, is_bits(&block));
+    check(&rt, block.len() == 7953);
 }
 
 #[test]

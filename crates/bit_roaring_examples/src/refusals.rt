@@ -1,5 +1,6 @@
 //! Sets whose changes are refused memory: each is as it was. Any request may be refused, those that make the sets too.
 use crate::check;
+use bit_blocks::Block;
 use bit_portable::ReadError;
 use bit_roaring::{Operation, RoaringSet};
 use std::alloc::{AllocError, Global};
@@ -78,6 +79,17 @@ fn refused_numbers(rt: HostRuntime) {
     match set.insert(9 * 65536) {
         Ok(new) => check(&rt, new && set.len() == 3),
         Err(_) => check(&rt, is_sevens(&set, 2)),
+    }
+}
+
+#[test]
+fn refused_numbers_in_runs(rt: HostRuntime) {
+    let Ok(mut block) = Block::from_range(rt.alloc(), 10, 19) else {
+        return;
+    };
+    match block.remove(15) {
+        Ok(old) => check(&rt, old && block.len() == 9),
+        Err(_) => check(&rt, block.contains(15) && block.len() == 10),
     }
 }
 

@@ -42,7 +42,8 @@ pub(crate) fn combine(
     if keys.len() > FEW {
         return put_made(blocks, others, operation);
     }
-    let made = made_each(alloc, blocks, others, &keys, operation)?;
+    let mut moves = 0;
+    let made = made_each(alloc, blocks, others, &keys, operation, &mut moves)?;
     blocks.reserve(made.len())?;
     if !change_all(blocks, others, operation) {
         return put_made(blocks, others, operation);
@@ -106,8 +107,9 @@ fn put_made(
 {
     let alloc = *blocks.allocator();
     let keys = changed_keys(alloc, blocks, others, operation)?;
-    let made = made_each(alloc, blocks, others, &keys, operation)?;
-    put_all(blocks, made, operation)
+    let mut moves = 0;
+    let made = made_each(alloc, blocks, others, &keys, operation, &mut moves)?;
+    put_all(blocks, made, moves <= FEW)
 }
 
 // The keys of the blocks that an operation may change, which keeps a number of the left list alone.
@@ -149,7 +151,8 @@ fn keys_in(alloc: Global, blocks: &[Keyed], others: &[Keyed]) -> Result<Vec<u16>
     Ok(keys)
 }
 
-// What an operation makes of the left and the right block with each key, which may be no number.
+// What an operation makes of the left and the right block with each key, which may be no number. Counts on in `moves` the
+// blocks that come or go.
 #[tactic(auto, using(crate::proofs::Changed::none_made_each, crate::proofs::Changed::one_made_each, crate::proofs::Changed::each_key))]
 fn made_each(
     alloc: Global,
@@ -157,6 +160,7 @@ fn made_each(
     right: &[Keyed],
     keys: &[u16],
     operation: Operation,
+    moves: &mut usize,
 ) -> Result<Vec<Keyed>, AllocError>
     requires left { AreKeyed left.now }
     requires right { AreKeyed right.now }
@@ -167,18 +171,19 @@ fn made_each(
     let mut near = Near::default();
     for key in keys {
         let block = combined_at(alloc, left, right, *key, operation, &mut near)?;
+        let was_there = near.left < left.len() && left[near.left].key == *key;
+        if was_there == block.is_empty() {
+            *moves = moves.saturating_add(1);
+        }
         made.push(Keyed { key: *key, block })?;
     }
     Ok(made)
 }
 
 // Puts each block that an operation made in the place of the one with its key, or takes that one out where the new one
-// has no number. Where memory is refused, the blocks are as they were. Requires that the keys ascend.
-fn put_all(
-    blocks: &mut Vec<Keyed>,
-    made: Vec<Keyed>,
-    operation: Operation,
-) -> Result<(), AllocError>
+// has no number: one at a time where `few` come or go, and else all in one pass. Where memory is refused, the blocks are
+// as they were. Requires that the keys ascend.
+fn put_all(blocks: &mut Vec<Keyed>, made: Vec<Keyed>, few: bool) -> Result<(), AllocError>
     requires keyed { AreKeyed blocks.old.items }
     requires keys { Ascends (keys_of made.items) }
     requires ascend { All (λ b. Ascends b.block) made.items }
@@ -186,29 +191,9 @@ fn put_all(
     ensures replaces { OnOk result (ReplacesAll blocks.old.items blocks.new.items made.items) }
     ensures refused { OnErr result (blocks.new.items ≡ blocks.old.items) }
 {
-    if moves_few(blocks, &made, operation) {
+    if few {
         replace_all(blocks, made)
     } else {
         merge_all(blocks, made)
     }
-}
-
-// Whether few of the blocks that an operation made come or go. One that has a number comes only where the operation keeps
-// a number of the right list alone, so for others it is not looked for.
-fn moves_few(blocks: &[Keyed], made: &[Keyed], operation: Operation) -> bool
-    requires { AreKeyed blocks.now }
-{
-    let mut count = 0usize;
-    let mut near = 0;
-    for keyed in made {
-        let is_empty = keyed.block.is_empty();
-        let may_move = is_empty || operation.keeps_right();
-        if may_move && get_near(blocks, keyed.key, &mut near).is_some() == is_empty {
-            count = count.saturating_add(1);
-        }
-        if count > FEW {
-            return false;
-        }
-    }
-    true
 }

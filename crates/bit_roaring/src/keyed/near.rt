@@ -6,9 +6,6 @@ ghost use Rattle.bit_roaring.specs.Places.{IsAbsent, IsKeyPlace, IsThere};
 use crate::keyed::{found_at, place_of};
 use bit_blocks::{Block, Keyed};
 
-// How many blocks are looked at on either side of a place, before the key is searched for among all of them.
-const STEPS: usize = 8;
-
 // Near which places the blocks of two lists are looked for. It says nothing of where they are found.
 #[derive(Default, Drop)]
 pub(crate) struct Near {
@@ -16,34 +13,33 @@ pub(crate) struct Near {
     pub(crate) right: usize,
 }
 
-// A place at or after `place`, at most `STEPS` away: the first whose key is not below `key`, if there is one.
-fn stepped_on(blocks: &[Keyed], key: u16, place: usize) -> usize
+// The key's place, if it is at `place` or after it, and else a place. It is looked for in steps that are twice as long each
+// time.
+fn place_after(blocks: &[Keyed], key: u16, place: usize) -> usize
     requires { place ≤ length blocks.now }
     ensures { result ≤ length blocks.now }
 {
-    let mut next = place;
-    for _ in 0..STEPS {
-        if next == blocks.len() || key <= blocks[next].key {
-            return next;
-        }
-        next += 1;
+    let (mut low, mut high, mut step) = (place, place, 1usize);
+    while high < blocks.len() && blocks[high].key < key {
+        low = high + 1;
+        high = low.saturating_add(step).min(blocks.len());
+        step = step.saturating_mul(2);
     }
-    next
+    low + blocks[low..high].partition_point(|keyed| keyed.key < key)
 }
 
-// A place at or before `place`, at most `STEPS` away: the last after a key that is below `key`, if there is one.
-fn stepped_back(blocks: &[Keyed], key: u16, place: usize) -> usize
+// Like `place_after`, if it is at `place` or before it.
+fn place_before(blocks: &[Keyed], key: u16, place: usize) -> usize
     requires { place ≤ length blocks.now }
     ensures { result ≤ length blocks.now }
 {
-    let mut next = place;
-    for _ in 0..STEPS {
-        if next == 0 || blocks[next - 1].key < key {
-            return next;
-        }
-        next -= 1;
+    let (mut low, mut high, mut step) = (place, place, 1usize);
+    while low > 0 && key <= blocks[low - 1].key {
+        high = low - 1;
+        low = high.saturating_sub(step);
+        step = step.saturating_mul(2);
     }
-    next
+    low + blocks[low..high].partition_point(|keyed| keyed.key < key)
 }
 
 // Whether a place is the key's: the key before it is below `key`, and its own is not.
@@ -67,8 +63,8 @@ fn place_near(blocks: &[Keyed], key: u16, near: usize) -> usize
     ensures within { result ≤ length blocks.now }
     ensures place { IsKeyPlace blocks.now key result }
 {
-    let next = stepped_on(blocks, key, near.min(blocks.len()));
-    let place = stepped_back(blocks, key, next);
+    let after = place_after(blocks, key, near.min(blocks.len()));
+    let place = place_before(blocks, key, after);
     if is_place(blocks, key, place) {
         return place;
     }

@@ -1,4 +1,3 @@
-use Rattle.std.proofs.Common.{◌≡◌, ◌++◌, ◌∷◌, drop, take}
 use Rattle.bit_blocks.proofs.Absorbed.{put_gains, put_runs}
 use Rattle.bit_blocks.proofs.ranged.insert_run.Goals as goal
 

@@ -1,15 +1,17 @@
 -- How many numbers a list has whose numbers are in others.
 use Rattle.std.proofs.Common.{◌≡◌, ℕ, zero, suc, ◌+◌, ◌-◌, ◌<◌, ◌≤◌, Bool, true, false, cond, not, ◌&&◌, ◌||◌, nat_eq, List, [], ◌∷◌, append-nil, length, refl, sym, ◌∙◌, ap, subst, inl, inr, arith}
 use Rattle.std.proofs.Math.Bool.{and-true, or-false, or-true}
-use Rattle.std.proofs.lemmas.Bool.{and_parts, cases_Bool}
+use Rattle.std.proofs.lemmas.Bool.{and_parts, cases_Bool, cases_eq, cases_lt, eq-eqb, ne_eqb}
 use Rattle.bit_blocks.specs.Numbers.{Ascends, Combines, Gains, GainsBetween, Loses, LosesBetween, count_where, has, is_between, those}
 use Rattle.bit_blocks.specs.Operation.{made_by}
-use Rattle.bit_blocks.specs.Runs.{numbers_of_run}
+use Rattle.bit_blocks.specs.Runs.{AreRuns, numbers_of_run, run_numbers}
 use Rattle.bit_blocks.specs.declared.operation.Operation.{Operation}
 use Rattle.bit_blocks.specs.declared.ranged.Run.{Run}
+use Rattle.bit_blocks.proofs.Between.{after_range, before_range, in_between}
 use Rattle.bit_blocks.proofs.Counting.{count_most, count_those, counted_swapped}
+use Rattle.bit_blocks.proofs.Edits.{length_gained, length_lost}
 use Rattle.bit_blocks.proofs.Merging.{made_none}
-use Rattle.bit_blocks.proofs.Runs.{ascends_runs, has_run, run_size}
+use Rattle.bit_blocks.proofs.Runs.{ascends_all, ascends_runs, has_run, run_size}
 use Rattle.bit_blocks.proofs.Those.{those_empty, those_here, those_none, those_not_here, those_of}
 
 -- no fewer pass from one number earlier on
@@ -176,3 +178,24 @@ few_of_left op xs ys zs h f drops made = few_within zs xs f h (λ k there. only_
     only_left true y kept = refl
     only_left false true kept = sym drops ∙ kept
     only_left false false kept = sym (made_none op) ∙ kept
+
+-- ---- a range of one number
+
+one_between : (n k : ℕ) → is_between n n k ≡ nat_eq n k
+one_between n k = elim (cases_eq n k) [
+  | inl same ↦ in_between n n k (omega arith) (omega arith) ∙ sym (eq-eqb n k same)
+  | inr other ↦ elim (cases_lt k n) [
+    | inl low ↦ before_range n n k low ∙ sym (ne_eqb n k other)
+    | inr high ↦ after_range n n k (omega arith) ∙ sym (ne_eqb n k other)
+  ]
+]
+
+-- the count of runs after a number was put in that was not there
+pub runs_gained : (rs ms : List Run) (n : ℕ) → AreRuns rs → AreRuns ms → n < 65536 → has (run_numbers rs) n ≡ false → GainsBetween (run_numbers rs) (run_numbers ms) n n → length (run_numbers ms) ≡ length (run_numbers rs) + 1
+runs_gained rs ms n h g low out gains =
+    length_gained (run_numbers rs) (run_numbers ms) n (ascends_all rs h) (ascends_all ms g) low out (λ k. gains k ∙ ap (λ b. b || has (run_numbers rs) k) (one_between n k))
+
+-- and after one was taken out that was
+pub runs_lost : (rs ms : List Run) (n : ℕ) → AreRuns rs → AreRuns ms → has (run_numbers rs) n ≡ true → LosesBetween (run_numbers rs) (run_numbers ms) n n → length (run_numbers ms) + 1 ≡ length (run_numbers rs)
+runs_lost rs ms n h g there loses =
+    length_lost (run_numbers rs) (run_numbers ms) n (ascends_all rs h) (ascends_all ms g) there (λ k. loses k ∙ ap (λ b. has (run_numbers rs) k && not b) (one_between n k))

@@ -464,6 +464,7 @@ pub(crate) fn insert(form: &mut Form, number: u16, count: usize) -> Result<bool,
 fn insert_new(form: &mut Form, number: u16, count: usize) -> Result<(), AllocError>
     requires form { IsForm form.old }
     requires count { count ≡ length (numbers_of form.old) }
+    requires new { has (numbers_of form.old) number ≡ false }
     ensures gains { OnOk result (Gains (numbers_of form.old) (numbers_of form.new) number) }
     ensures refused { OnErr result (numbers_of form.new ≡ numbers_of form.old) }
     ensures form { IsForm form.new }
@@ -488,7 +489,8 @@ fn insert_new(form: &mut Form, number: u16, count: usize) -> Result<(), AllocErr
 
 // Turns `count` numbers in runs into a list or bits where these take fewer bytes. Where memory is refused, they stay runs.
 fn settle(form: &mut Form, count: usize)
-    requires { IsForm form.old }
+    requires form { IsForm form.old }
+    requires count { count ≡ length (numbers_of form.old) }
     ensures same { numbers_of form.new ≡ numbers_of form.old }
     ensures form { IsForm form.new }
 {
@@ -529,6 +531,8 @@ pub(crate) fn remove(form: &mut Form, number: u16, count: usize) -> Result<bool,
 // Takes a number that is there out of runs, or out of bits of which at most `LISTED` stay.
 fn remove_there(form: &mut Form, number: u16, count: usize) -> Result<(), AllocError>
     requires form { IsForm form.old }
+    requires count { count ≡ length (numbers_of form.old) }
+    requires there { has (numbers_of form.old) number ≡ true }
     ensures loses { OnOk result (Loses (numbers_of form.old) (numbers_of form.new) number) }
     ensures refused { OnErr result (numbers_of form.new ≡ numbers_of form.old) }
     ensures form { IsForm form.new }
@@ -541,7 +545,7 @@ fn remove_there(form: &mut Form, number: u16, count: usize) -> Result<(), AllocE
                 last: number,
             },
         )?;
-        settle(form, count.saturating_sub(1));
+        settle(form, count - 1);
         return Ok(());
     }
     let alloc = allocator(form);
@@ -561,6 +565,7 @@ pub(crate) fn insert_range(
 ) -> Result<(), AllocError>
     requires form { IsForm form.old }
     requires ordered { first ≤ last }
+    requires count { count + count_where (has (numbers_of form.old)) (range_with_len first (last + 1 - first)) ≡ length (numbers_of form.old) + (last + 1 - first) }
     ensures gains { OnOk result (GainsBetween (numbers_of form.old) (numbers_of form.new) first last) }
     ensures refused { OnErr result (numbers_of form.new ≡ numbers_of form.old) }
     ensures form { IsForm form.new }

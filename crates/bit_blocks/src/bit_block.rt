@@ -9,8 +9,8 @@ use crate::mapped::Bits;
 use crate::operation::Operation;
 use std::marker::Model;
 
-/// A set of more than 4096 numbers below 65536 that is kept as bits: what [`Block::into_bits`] makes of a block. A change
-/// of it takes no memory, so many are changed, or none, once all blocks are known to be kept so.
+/// A set of more than 4096 numbers below 65536 that is kept as bits: what [`Block::into_bits`] makes of a block. Changing
+/// it takes no memory, so a caller can first turn all blocks that change into these, and then change every one of them.
 ///
 /// In contracts it is the ascending list of its numbers.
 ///

@@ -7,6 +7,7 @@ pub mod InPlace
 pub mod Keys
 pub mod Made
 pub mod Merged
+pub mod Nearest
 pub mod Parts
 pub mod Ranged
 pub mod SetLeft

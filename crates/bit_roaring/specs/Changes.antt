@@ -1,5 +1,5 @@
 -- What changes of blocks do.
-use Rattle.std.specs.Prelude.{◌≡◌, ℕ, ◌^◌, Bool, true, ◌||◌, nat_eq, if◌then◌else◌, List}
+use Rattle.std.specs.Prelude.{◌≡◌, ℕ, ◌^◌, Bool, true, ◌||◌, not, nat_eq, if◌then◌else◌, List}
 use Rattle.bit_blocks.specs.Numbers.{Ascends, AscendsIn, Combines, Gains, Loses, has}
 use Rattle.bit_roaring.specs.Keyed.{block_at, keys_of}
 use Rattle.bit_blocks.specs.declared.keyed.Keyed.{Keyed}
@@ -36,6 +36,10 @@ CombinesEach f xs ys zs = (key : ℕ) → has (keys_of xs) key ≡ true → Comb
 pub record IsMade (f : Bool → Bool → Bool) (xs ys : List Keyed) (b : Keyed) : Type 0 where
   pub combines : Combines f (block_at xs b.key) (block_at ys b.key) b.block
   pub ascends : Ascends b.block
+
+-- a number was taken out of a list that had it, or put into one that had it not
+abbrev pub Toggles : List ℕ → List ℕ → ℕ → Type 0
+Toggles old new number = (k : ℕ) → has new k ≡ (if nat_eq number k then not (has old k) else has old k)
 
 -- numbers were put into a set, in whatever order
 abbrev pub HasTaken : List ℕ → List ℕ → List ℕ → Type 0

@@ -1,5 +1,5 @@
 -- Numbers of a range.
-use Rattle.std.specs.Prelude.{◌≡◌, ℕ, ◌+◌, ◌/◌, ◌≤◌, Bool, ◌&&◌, ◌||◌, not, nat_le, nat_lt, List, [], ◌∷◌, length, slice_range, refl}
+use Rattle.std.specs.Prelude.{◌≡◌, ℕ, ◌+◌, ◌/◌, ◌≤◌, Bool, ◌&&◌, ◌||◌, not, if◌then◌else◌, nat_le, nat_lt, List, [], ◌∷◌, length, slice_range, refl}
 use Rattle.std.specs.List.{filter}
 use Rattle.bit_blocks.specs.Numbers.{has}
 use Rattle.bit_blocks.specs.Operation.{made_by}
@@ -24,6 +24,10 @@ GainsRange old new a b = (k : ℕ) → has new k ≡ (has old k || is_within a b
 -- the numbers from a up to b were taken out of a list
 abbrev pub LosesRange : List ℕ → List ℕ → ℕ → ℕ → Type 0
 LosesRange old new a b = (k : ℕ) → has new k ≡ (has old k && not (is_within a b k))
+
+-- of the numbers from a up to b those of a list were taken out, and the others put in
+abbrev pub TogglesRange : List ℕ → List ℕ → ℕ → ℕ → Type 0
+TogglesRange old new a b = (k : ℕ) → has new k ≡ (if is_within a b k then not (has old k) else has old k)
 
 -- a part of blocks: those with a key from `low` up to `high`
 pub record ArePart (blocks part : List Keyed) (low high : ℕ) : Type 0 where

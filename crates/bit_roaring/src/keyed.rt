@@ -10,6 +10,7 @@ pub(crate) mod ascending;
 pub(crate) mod changed;
 pub(crate) mod common;
 pub(crate) mod in_place;
+pub(crate) mod members;
 pub(crate) mod merged;
 pub(crate) mod near;
 pub(crate) mod ranges;

@@ -2,6 +2,7 @@
 ghost use Rattle.std.specs.Prelude.{◌≡◌, ◌≤◌, ◌<◌, ◌-◌, ◌↔◌, ◌^◌, ℕ, [], IfOk, IsTrue, OnErr, OnOk, false, length, not, slice_get, true};
 ghost use Rattle.std.specs.Iterator.{YieldsFirst, YieldsLast};
 ghost use Rattle.std.specs.Iterator.Runs.{YieldsInOrder, YieldsInReverse};
+ghost use Rattle.bit_roaring.specs.Changes.{Toggles};
 ghost use Rattle.bit_roaring.specs.SetLeft.{set_left};
 ghost use Rattle.bit_blocks.specs.Numbers.{AscendsIn, Combines, Gains, Loses, count_below, count_where, has};
 ghost use Rattle.bit_blocks.specs.Operation.{made_by};
@@ -10,6 +11,7 @@ mod bytes;
 mod collect;
 mod combined;
 mod counted;
+mod nearest;
 mod ranges;
 mod traits;
 
@@ -178,6 +180,25 @@ impl RoaringSet {
         )
     }
 
+    /// Takes a number out where it is there, and else puts it in. Returns whether it is in the set afterwards. Where memory
+    /// is refused, the set is as it was.
+    ///
+    /// ```text
+    /// of 2, 3: set.toggle(3)? == false leaves 2
+    /// ```
+    pub fn toggle(&mut self, number: u32) -> Result<bool, AllocError>
+        ensures now { IfOk result (λ now. now ≡ not (has self.old number)) }
+        ensures toggles { OnOk result (Toggles self.old self.new number) }
+        ensures refused { OnErr result (self.new ≡ self.old) }
+    {
+        if self.contains(number) {
+            self.remove(number)?;
+            return Ok(false);
+        }
+        self.insert(number)?;
+        Ok(true)
+    }
+
     /// The numbers, ascending, from both ends.
     pub fn iter(&self) -> SetIter<'_>
         ensures list { set_left result ≡ self.now }
@@ -185,6 +206,13 @@ impl RoaringSet {
         ensures runs_back { YieldsInReverse (YieldsLast set_left) set_left }
     {
         SetIter::of(&self.blocks)
+    }
+
+    /// The numbers, ascending, as a vector. Takes memory where there are some.
+    pub fn members(&self, alloc: Global) -> Result<Vec<u32>, AllocError>
+        ensures { IfOk result (λ members. members.items ≡ self.now) }
+    {
+        keyed::members::members(alloc, &self.blocks)
     }
 
     /// Keeps each block in the form that takes the least memory: runs, a list or bits. The set stays the same, also where

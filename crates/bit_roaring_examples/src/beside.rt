@@ -120,11 +120,18 @@ fn are_combined(
     check(rt, a.count_union(b) == all.len() as u64);
 }
 
+// That the numbers come as a vector too.
+fn are_members(rt: &(impl Abort + AllocGlobal), set: &RoaringSet, numbers: &[u32]) {
+    let members = ok(rt, set.members(rt.alloc()));
+    check(rt, members.as_slice() == numbers);
+}
+
 // Checks a set of one kind: as it is made, as it is optimized, and combined with another.
 fn stands(rt: &(impl Abort + AllocGlobal), kind: Numbers) {
     let numbers = sorted(rt, kind, 0, 12000);
     let mut set = set_of(rt, kind, 0, 12000);
     check(rt, is_as(&set, &numbers));
+    are_members(rt, &set, &numbers);
     check(rt, set == collected(rt, &numbers));
     let others = sorted(rt, kind, 6000, 18000);
     let other = set_of(rt, kind, 6000, 18000);
@@ -132,6 +139,7 @@ fn stands(rt: &(impl Abort + AllocGlobal), kind: Numbers) {
     ok(rt, set.optimize());
     check(rt, is_as(&set, &numbers));
     check(rt, is_back(&set, &numbers));
+    are_members(rt, &set, &numbers);
     are_combined(rt, &set, &other, &numbers, &others);
 }
 

@@ -1,5 +1,5 @@
 //! Functions over sets that prove with no file.
-ghost use Rattle.std.specs.Prelude.{◌≡◌, ◌≤◌, ◌-◌, ◌^◌, IfOk, length, slice_get, true};
+ghost use Rattle.std.specs.Prelude.{◌≡◌, ◌≤◌, ◌-◌, ◌^◌, [], ◌∷◌, IfOk, OnOk, Some, length, slice_get, true};
 ghost use Rattle.bit_blocks.specs.Numbers.{AscendsIn};
 
 use bit_blocks::Block;
@@ -58,4 +58,23 @@ pub fn same_rank(a: &Block, b: &Block, number: u16) -> bool
         return a.rank(number) == b.rank(number);
     }
     true
+}
+
+/// The least number of three is popped, and the others stay.
+pub fn popped(set: &mut RoaringSet) -> Result<Option<u32>, AllocError>
+    requires { set.old ≡ 2 ∷ 3 ∷ 70000 ∷ [] }
+    ensures least { IfOk result (λ least. least ≡ Some 2) }
+    ensures others { OnOk result (set.new ≡ 3 ∷ 70000 ∷ []) }
+{
+    set.pop_first()
+}
+
+/// No number lies between the nearest ones on both sides of a number that is not there.
+pub fn nearest(set: &RoaringSet, number: u32, between: u32) -> bool
+    ensures { result ≡ true }
+{
+    match (set.previous_at_most(number), set.next_at_least(number)) {
+        (Some(low), Some(high)) => between <= low || high <= between || !set.contains(between),
+        _ => true,
+    }
 }

@@ -29,6 +29,8 @@ mod listed;
 #[cfg(test)]
 mod many;
 #[cfg(test)]
+mod nearest;
+#[cfg(test)]
 mod ranges;
 #[cfg(test)]
 mod refusals;

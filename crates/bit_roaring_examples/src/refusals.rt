@@ -103,6 +103,38 @@ fn refused_ranges(rt: HostRuntime) {
 }
 
 #[test]
+fn refused_toggles(rt: HostRuntime) {
+    let Ok(mut set) = sevens(rt.alloc(), 2) else {
+        return;
+    };
+    let outcome = set.toggle_range(7..=200000);
+    is_changed(&rt, outcome, &set, 2, 199992);
+}
+
+// The last number of 4097 in a block makes bits a list.
+#[test]
+fn refused_pops(rt: HostRuntime) {
+    let Ok(mut set) = (0..4097u32).collect::<RoaringSet>(rt.alloc()) else {
+        return;
+    };
+    match set.pop_last() {
+        Ok(popped) => check(&rt, popped == Some(4096) && set.len() == 4096),
+        Err(_) => check(&rt, set.contains(4096) && set.len() == 4097),
+    }
+}
+
+#[test]
+fn refused_members(rt: HostRuntime) {
+    let Ok(set) = sevens(rt.alloc(), 2) else {
+        return;
+    };
+    match set.members(rt.alloc()) {
+        Ok(members) => check(&rt, members.as_slice() == [7, 65543].as_slice()),
+        Err(_) => check(&rt, is_sevens(&set, 2)),
+    }
+}
+
+#[test]
 fn refused_runs(rt: HostRuntime) {
     let Ok(mut set) = sevens(rt.alloc(), 2) else {
         return;

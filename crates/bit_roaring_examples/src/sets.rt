@@ -110,6 +110,8 @@ fn sets_are_compared(rt: HostRuntime) {
     let part = set_of(&rt, &[7, 4294967295]);
     check(&rt, part.is_subset(&a));
     check(&rt, !a.is_subset(&part));
+    check(&rt, a.is_superset(&part));
+    check(&rt, !part.is_superset(&a));
     check(&rt, none.is_subset(&b));
     check(&rt, !part.is_subset(&b));
     check(&rt, !part.is_disjoint(&b));

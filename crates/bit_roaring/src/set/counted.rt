@@ -43,6 +43,14 @@ impl RoaringSet {
         common::is_subset(&self.blocks, &other.blocks)
     }
 
+    /// Whether each number of the other set is in this one. Like `is_subset`, it stops at the first block with a number
+    /// that is not. Takes no memory.
+    pub fn is_superset(&self, other: &Self) -> bool
+        ensures { IsTrue result ↔ ((k : ℕ) → has other.now k ≡ true → has self.now k ≡ true) }
+    {
+        other.is_subset(self)
+    }
+
     /// Whether no number is in both sets. Stops at the first block with a number that is. Takes no memory.
     pub fn is_disjoint(&self, other: &Self) -> bool
         ensures { IsTrue result ↔ ((k : ℕ) → has self.now k ≡ true → has other.now k ≡ false) }

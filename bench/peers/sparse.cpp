@@ -5,6 +5,7 @@
 #include <cstdlib>
 #include <fstream>
 #include <iterator>
+#include <memory>
 #include <roaring/roaring.h>
 #include <string>
 #include <unistd.h>
@@ -91,6 +92,31 @@ static size_t taken(Set &set, uint64_t kind, uint64_t size) {
   return set.len();
 }
 
+static std::unique_ptr<uint32_t[]> members(const Set &set) {
+  std::unique_ptr<uint32_t[]> numbers(new uint32_t[set.len()]);
+  roaring_bitmap_to_uint32_array(set.bits, numbers.get());
+  return numbers;
+}
+
+static size_t sum_nearest(const Set &set, uint64_t kind, uint64_t size) {
+  size_t total = 0;
+  roaring_uint32_iterator_t left;
+  for (uint64_t k = 0; k < size; k++) {
+    roaring_init_iterator(set.bits, &left);
+    if (roaring_move_uint32_iterator_equalorlarger(&left, number(kind, k * 2))) total += left.current_value;
+  }
+  return total;
+}
+
+static size_t count_whole(const Set &set, uint64_t kind, uint64_t size) {
+  size_t found = 0;
+  for (uint64_t k = 0; k < size; k++) {
+    uint32_t first = number(kind, k * 2);
+    found += roaring_bitmap_contains_range(set.bits, first, last_of(first, 4));
+  }
+  return found;
+}
+
 static std::vector<char> written(const Set &set) {
   std::vector<char> bytes(roaring_bitmap_portable_size_in_bytes(set.bits));
   roaring_bitmap_portable_serialize(set.bits, bytes.data());
@@ -143,6 +169,10 @@ static void run(const std::string &folder, uint64_t kind, const std::string &nam
   timed(work("ranges_put").c_str(), repetitions, none, [&](int) { return ranges_put(kind, size / 100); }, len);
   timed(work("ranges_taken").c_str(), repetitions, copied, [&](Set &set) { return ranges_taken(set, kind, size / 100); }, count);
   timed(work("taken").c_str(), repetitions, copied, [&](Set &set) { return taken(set, kind, size / 2); }, count);
+  timed(work("members").c_str(), repetitions, none, [&](int) { return members(a); }, [&](auto &, auto &) { return a.len(); });
+  timed(work("nearest").c_str(), repetitions, none, [&](int) { return sum_nearest(a, kind, size); }, count);
+  timed(work("ranges_tested").c_str(), repetitions, none, [&](int) { return count_whole(a, kind, size); }, count);
+  timed(work("toggled").c_str(), repetitions, copied, [&](Set &set) { roaring_bitmap_flip_inplace(set.bits, 1000000, 3000000); return set.len(); }, count);
   timed(work("written").c_str(), repetitions, none, [&](int) { return written(a); }, [](auto &, std::vector<char> &bytes) { return bytes.size(); });
   auto bytes = written(a);
   timed(work("read").c_str(), repetitions, none, [&](int) { return Set(roaring_bitmap_portable_deserialize_safe(bytes.data(), bytes.size())); }, len);

@@ -2,6 +2,7 @@ pub mod Between
 pub mod Bytes
 pub mod Changed
 pub mod Counted
+pub mod Counts
 pub mod Cut
 pub mod InPlace
 pub mod Keys

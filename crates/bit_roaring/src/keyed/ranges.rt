@@ -5,9 +5,9 @@ ghost use Rattle.bit_blocks.specs.Numbers.{Ascends, has, numbers_between};
 ghost use Rattle.bit_blocks.specs.Operation.{made_by};
 ghost use Rattle.bit_roaring.specs.Keyed.{AreKeyed, block_at, set_numbers};
 ghost use Rattle.bit_roaring.specs.Places.{IsAbsent, IsKeyPlace, IsThere};
-ghost use Rattle.bit_roaring.specs.Ranges.{ArePart, ChangesPart, GainsRange, LosesRange, is_within};
+ghost use Rattle.bit_roaring.specs.Ranges.{ArePart, ChangesPart, GainsRange, LosesRange, is_within, numbers_within};
 
-use crate::keyed::{combined, find, get, place_of, push_some};
+use crate::keyed::{combined, count, find, get, place_of, push_some};
 use bit_blocks::{Block, BlockIter, Keyed, Operation};
 use std::alloc::{AllocError, Global};
 
@@ -82,6 +82,37 @@ pub(crate) fn blocks_between(blocks: &[Keyed], from: u16, upto: u16) -> &[Keyed]
 {
     let (start, end) = places_of(blocks, from + 1, upto - 1);
     &blocks[start..end]
+}
+
+// The count of numbers from `low` to `high` of the block with a key.
+fn count_at(blocks: &[Keyed], key: u16, low: u16, high: u16) -> u64
+    requires keyed { AreKeyed blocks.now }
+    requires ordered { low ≤ high }
+    ensures { result ≡ length (numbers_between low high (block_at blocks.now key)) }
+{
+    match get(blocks, key) {
+        None => 0,
+        Some(block) => {
+            // Proof only: the numbers ascend.
+            let _len = block.len();
+            (block.rank(high) - block.rank(low)) as u64 + u64::from(block.contains(high))
+        }
+    }
+}
+
+// The count of numbers from `first` to `last`. Goes through the blocks of the range alone.
+pub(crate) fn count_within(blocks: &[Keyed], first: u32, last: u32) -> u64
+    requires keyed { AreKeyed blocks.now }
+    requires ordered { first ≤ last }
+    ensures { result ≡ length (numbers_within first (last + 1) (set_numbers blocks.now)) }
+{
+    let (from, upto) = ((first / 65536) as u16, (last / 65536) as u16);
+    let (low, high) = ((first % 65536) as u16, (last % 65536) as u16);
+    if from == upto {
+        return count_at(blocks, from, low, high);
+    }
+    let between = count(blocks_between(blocks, from, upto));
+    count_at(blocks, from, low, 65535) + (between + count_at(blocks, upto, 0, high))
 }
 
 // Blocks that are to be put in the place of others: of those from `from` up to `upto`.

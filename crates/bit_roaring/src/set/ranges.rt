@@ -3,7 +3,7 @@ ghost use Rattle.std.specs.Prelude.{◌≡◌, ◌≤◌, ◌<◌, ◌+◌, ◌^
 ghost use Rattle.std.specs.Iterator.{YieldsFirst, YieldsLast};
 ghost use Rattle.std.specs.Iterator.Runs.{YieldsInOrder, YieldsInReverse};
 ghost use Rattle.std.specs.Range.Bound.{end_index, start_index};
-ghost use Rattle.bit_blocks.specs.Numbers.{count_below, has};
+ghost use Rattle.bit_blocks.specs.Numbers.{has};
 ghost use Rattle.bit_roaring.specs.Ranges.{GainsRange, LosesRange, TogglesRange, numbers_within};
 ghost use Rattle.bit_roaring.specs.SetLeft.{set_left};
 
@@ -120,8 +120,8 @@ impl RoaringSet {
         self.range(numbers).next().is_some()
     }
 
-    /// The count of numbers of a range of any kind that are in the set. Takes no memory. Requires that the range was not
-    /// iterated to its end.
+    /// The count of numbers of a range of any kind that are in the set. Goes through the blocks of the range alone. Takes no
+    /// memory. Requires that the range was not iterated to its end.
     ///
     /// ```text
     /// of 2, 3, 4, 7: set.count_in(3..8) == 3
@@ -164,31 +164,20 @@ impl RoaringSet {
         requires small { end ≤ 2 ^ 32 }
         ensures { IsTrue result ↔ ((k : ℕ) → start ≤ k → k < end → has self.now k ≡ true) }
     {
-        // Mostly one of the two ends tells, without the count of the blocks before.
-        if !self.contains(start as u32) || !self.contains((end - 1) as u32) {
+        // Mostly the first number tells, without a count.
+        if !self.contains(start as u32) {
             return false;
         }
         self.prove_order();
         self.count_between(start, end) == end - start
     }
 
-    // The count of numbers from `start` up to `end`. Requires that `start` is at most `end`.
+    // The count of numbers from `start` up to `end`. Requires that `start` is below `end`.
     fn count_between(&self, start: u64, end: u64) -> u64
-        requires ordered { start ≤ end }
+        requires some { start < end }
         requires small { end ≤ 2 ^ 32 }
         ensures { result ≡ length (numbers_within start end self.now) }
     {
-        self.count_before(end) - self.count_before(start)
-    }
-
-    // The count of numbers below `number`.
-    fn count_before(&self, number: u64) -> u64
-        requires { number ≤ 2 ^ 32 }
-        ensures { result ≡ count_below self.now number }
-    {
-        if number == 4294967296 {
-            return self.len();
-        }
-        self.rank(number as u32)
+        ranges::count_within(&self.blocks, start as u32, (end - 1) as u32)
     }
 }

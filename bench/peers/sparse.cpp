@@ -117,6 +117,15 @@ static size_t count_whole(const Set &set, uint64_t kind, uint64_t size) {
   return found;
 }
 
+static size_t sum_counted(const Set &set, uint64_t kind, uint64_t size) {
+  size_t total = 0;
+  for (uint64_t k = 0; k < size; k++) {
+    uint32_t first = number(kind, k * 2);
+    total += roaring_bitmap_range_cardinality(set.bits, first, last_of(first, 1000));
+  }
+  return total;
+}
+
 static std::vector<char> written(const Set &set) {
   std::vector<char> bytes(roaring_bitmap_portable_size_in_bytes(set.bits));
   roaring_bitmap_portable_serialize(set.bits, bytes.data());
@@ -172,6 +181,7 @@ static void run(const std::string &folder, uint64_t kind, const std::string &nam
   timed(work("members").c_str(), repetitions, none, [&](int) { return members(a); }, [&](auto &, auto &) { return a.len(); });
   timed(work("nearest").c_str(), repetitions, none, [&](int) { return sum_nearest(a, kind, size); }, count);
   timed(work("ranges_tested").c_str(), repetitions, none, [&](int) { return count_whole(a, kind, size); }, count);
+  timed(work("ranges_counted").c_str(), repetitions, none, [&](int) { return sum_counted(a, kind, size); }, count);
   timed(work("toggled").c_str(), repetitions, copied, [&](Set &set) { roaring_bitmap_flip_inplace(set.bits, 1000000, 3000000); return set.len(); }, count);
   timed(work("written").c_str(), repetitions, none, [&](int) { return written(a); }, [](auto &, std::vector<char> &bytes) { return bytes.size(); });
   auto bytes = written(a);

@@ -164,8 +164,8 @@ impl RoaringSet {
         requires small { end ≤ 2 ^ 32 }
         ensures { IsTrue result ↔ ((k : ℕ) → start ≤ k → k < end → has self.now k ≡ true) }
     {
-        // Mostly the first number tells, without a count.
-        if !self.contains(start as u32) {
+        // Mostly one of the two ends tells, without a count.
+        if !self.contains(start as u32) || !self.contains((end - 1) as u32) {
             return false;
         }
         self.prove_order();

@@ -108,20 +108,12 @@ static size_t sum_nearest(const Set &set, uint64_t kind, uint64_t size) {
   return total;
 }
 
-static size_t count_whole(const Set &set, uint64_t kind, uint64_t size) {
-  size_t found = 0;
-  for (uint64_t k = 0; k < size; k++) {
-    uint32_t first = number(kind, k * 2);
-    found += roaring_bitmap_contains_range(set.bits, first, last_of(first, 4));
-  }
-  return found;
-}
-
-static size_t sum_counted(const Set &set, uint64_t kind, uint64_t size) {
+// What a call says of ranges, in all.
+template <class Call> static size_t sum_of_ranges(const Set &set, uint64_t kind, uint64_t size, uint32_t more, Call call) {
   size_t total = 0;
   for (uint64_t k = 0; k < size; k++) {
     uint32_t first = number(kind, k * 2);
-    total += roaring_bitmap_range_cardinality(set.bits, first, last_of(first, 1000));
+    total += call(set.bits, first, last_of(first, more));
   }
   return total;
 }
@@ -180,8 +172,8 @@ static void run(const std::string &folder, uint64_t kind, const std::string &nam
   timed(work("taken").c_str(), repetitions, copied, [&](Set &set) { return taken(set, kind, size / 2); }, count);
   timed(work("members").c_str(), repetitions, none, [&](int) { return members(a); }, [&](auto &, auto &) { return a.len(); });
   timed(work("nearest").c_str(), repetitions, none, [&](int) { return sum_nearest(a, kind, size); }, count);
-  timed(work("ranges_tested").c_str(), repetitions, none, [&](int) { return count_whole(a, kind, size); }, count);
-  timed(work("ranges_counted").c_str(), repetitions, none, [&](int) { return sum_counted(a, kind, size); }, count);
+  timed(work("ranges_tested").c_str(), repetitions, none, [&](int) { return sum_of_ranges(a, kind, size, 4, roaring_bitmap_contains_range); }, count);
+  timed(work("ranges_counted").c_str(), repetitions, none, [&](int) { return sum_of_ranges(a, kind, size, 1000, roaring_bitmap_range_cardinality); }, count);
   timed(work("toggled").c_str(), repetitions, copied, [&](Set &set) { roaring_bitmap_flip_inplace(set.bits, 1000000, 3000000); return set.len(); }, count);
   timed(work("written").c_str(), repetitions, none, [&](int) { return written(a); }, [](auto &, std::vector<char> &bytes) { return bytes.size(); });
   auto bytes = written(a);

@@ -108,3 +108,8 @@ none_within (x ∷ xs) a b h = ap (λ t. cond t (x ∷ filter (is_within a b) xs
 
 pub within_none : (xs : List ℕ) (a b : ℕ) → b ≤ a → length (numbers_within a b xs) ≡ 0
 within_none xs a b h = ap length (none_within xs a b h)
+
+-- all numbers are below their bound
+pub all_below : (from upto : ℕ) (xs : List ℕ) (k : ℕ) → AscendsIn from upto xs → upto ≤ k → count_below xs k ≡ length xs
+all_below from upto [] k h high = refl
+all_below from upto (x ∷ xs) k h high = let below = h.1 in counts_first x xs k (omega arith) ∙ ap suc (all_below (x + 1) upto xs k h.2 high)
